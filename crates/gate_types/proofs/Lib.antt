@@ -1,0 +1,2 @@
+pub mod TapLemmas
+pub mod OnceLaw

@@ -1,0 +1,8 @@
+-- The counters: approvals, builds and orders each get the numbers 1, 2, 3 and so on.
+use Rattle.std.specs.Prelude.{ℕ}
+
+-- the last number drawn of each
+pub record Drawn : Type 0 where
+  pub approval : ℕ
+  pub build : ℕ
+  pub order : ℕ

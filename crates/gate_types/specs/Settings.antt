@@ -1,0 +1,38 @@
+-- The settings, and the tests that sound ones pass.
+use Rattle.std.specs.Prelude.{ℕ, Bool, true, ◌&&◌, ◌||◌, not, ◌==◌, nat_le, List, [], ◌∷◌, map, length}
+use Rattle.std.specs.List.{list_any, list_all}
+use Rattle.gate_types.specs.Names.{same_name}
+use Rattle.gate_types.specs.declared.config.Job.{Job}
+use Rattle.gate_types.specs.declared.config.Queue.{Queue}
+use Rattle.gate_types.specs.declared.config.Project.{Project}
+
+-- what a settings file says
+pub record Settings : Type 0 where
+  pub base : List ℕ
+  pub queues : List Queue
+  pub projects : List Project
+
+-- no name stands twice
+abbrev pub are_distinct : List (List ℕ) → Bool
+are_distinct [] = true
+are_distinct (n ∷ ns) = not (list_any (same_name n) ns) && are_distinct ns
+
+-- a queue of this name is there
+abbrev pub has_queue : List Queue → List ℕ → Bool
+has_queue queues name = list_any (λ q. same_name q.name name) queues
+
+-- a window up to 1,000, over a floor of 1 to 1,000; the window 0 has no bound
+abbrev pub is_sound_window : Queue → Bool
+is_sound_window q =
+    nat_le q.window 1000 && nat_le 1 q.floor && nat_le q.floor 1000 && (q.window == 0 || nat_le q.floor q.window)
+
+-- up to 32 jobs of different names, one of them voting
+abbrev pub are_sound_jobs : List Job → Bool
+are_sound_jobs jobs = nat_le (length jobs) 32 && are_distinct (map (λ j. j.name) jobs) && list_any (λ j. j.voting) jobs
+
+-- one queue, 1 to 256 projects of different names, each in a queue that is there
+abbrev pub are_sound : Settings → Bool
+are_sound s =
+    length s.queues == 1 && nat_le 1 (length s.projects) && nat_le (length s.projects) 256 &&
+    are_distinct (map (λ q. q.name) s.queues) && are_distinct (map (λ p. p.name) s.projects) &&
+    list_all is_sound_window s.queues && list_all (λ p. has_queue s.queues p.queue && are_sound_jobs p.jobs) s.projects

@@ -1,0 +1,143 @@
+//! The records of the gate's state.
+use crate::names::{Name, PathName, Text};
+use crate::numbers::{BuildNo, ChangeNo, Revision, Serial};
+use crate::sequence::Sequence;
+use std::marker::Model;
+
+/// A change at a revision.
+#[derive(Clone, Copy, Debug, PartialEq, Eq)]
+pub struct Entry {
+    pub change: ChangeNo,
+    pub revision: Revision,
+}
+
+/// How far a build has come.
+#[derive(Clone, Copy, Debug, PartialEq, Eq)]
+pub enum Outcome {
+    Running,
+    Success,
+    Failure,
+    Lost,
+}
+
+/// What a job of an item has come to.
+#[derive(Clone, Copy, Debug, PartialEq, Eq)]
+pub enum Slot {
+    Waiting,
+    Running,
+    Success,
+    Failure,
+}
+
+/// Why an item left its queue. `Landed` holds the landing's place among those of its queue, from 1.
+#[derive(Clone, Copy, Debug, PartialEq, Eq)]
+pub enum Verdict {
+    Landed(u64),
+    Failed,
+    Refused,
+    Needs,
+    Superseded,
+    Withdrawn,
+    Closed,
+}
+
+/// What has become of a change.
+#[derive(Clone, Copy, Debug, PartialEq, Eq)]
+pub enum Stage {
+    Open,
+    Landed,
+    Closed,
+}
+
+/// A change at its latest revision, with the changes that this revision needs (at most 32).
+#[derive(Debug, Drop)]
+pub struct Change {
+    pub number: ChangeNo,
+    pub project: PathName,
+    pub revision: Revision,
+    pub stage: Stage,
+    pub needs: Sequence<ChangeNo>,
+}
+
+/// A change in a queue, with the serial of the last item before it that isn't failing.
+#[derive(Clone, Copy, Debug, PartialEq, Eq)]
+pub struct Item {
+    pub serial: Serial,
+    pub change: ChangeNo,
+    pub revision: Revision,
+    pub ahead: Option<Serial>,
+    pub failing: bool,
+}
+
+/// A change that landed.
+#[derive(Clone, Copy, Debug, PartialEq, Eq)]
+pub struct Landing {
+    pub serial: Serial,
+    pub change: ChangeNo,
+    pub revision: Revision,
+}
+
+/// A build of a job of an item. It runs on the first `after` landings of its queue, then on
+/// `ahead`, then on its own change. Once it isn't `live`, its outcome decides nothing.
+#[derive(Debug, Drop)]
+pub struct Build {
+    pub number: BuildNo,
+    pub queue: Name,
+    pub serial: Serial,
+    pub change: ChangeNo,
+    pub revision: Revision,
+    pub job: Name,
+    pub after: u64,
+    pub ahead: Sequence<Entry>,
+    pub outcome: Outcome,
+    pub live: bool,
+}
+
+/// That an item left its queue, and why.
+#[derive(Clone, Copy, Debug, PartialEq, Eq)]
+pub struct Report {
+    pub serial: Serial,
+    pub change: ChangeNo,
+    pub revision: Revision,
+    pub verdict: Verdict,
+}
+
+/// The last number drawn of each kind, 0 at first: at most 10^15 each.
+#[derive(Clone, Copy, Debug, PartialEq, Eq)]
+pub struct Counters {
+    pub approval: u64,
+    pub build: u64,
+    pub order: u64,
+}
+
+impl Model for Counters {
+    ghost use Rattle.std.specs.Prelude.{◌≤◌};
+    ghost use Rattle.gate_types.specs.Counters.{Drawn};
+
+    ghost Value = { Drawn };
+
+    ghost view = { λ c. record { approval = c.approval; build = c.build; order = c.order } };
+
+    ghost invariant = { λ c. (c.approval ≤ 1000000000000000) × (c.build ≤ 1000000000000000) × (c.order ≤ 1000000000000000) };
+
+    ghost inverse = { λ d. record { approval = d.approval; build = d.build; order = d.order } };
+}
+
+/// A need of an item's change, and whether that change has landed.
+#[derive(Clone, Copy, Debug, PartialEq, Eq)]
+pub struct Need {
+    pub change: ChangeNo,
+    pub landed: bool,
+}
+
+/// The id of a delivery: a UUID.
+#[derive(Clone, Copy, Debug, PartialEq, Eq)]
+pub struct Id(pub [u8; 16]);
+
+/// What is kept of an accepted delivery: its canonical text and its reply's text.
+#[derive(Debug, Drop)]
+pub struct Kept {
+    pub id: Id,
+    pub said: Text,
+    pub reply: Text,
+}
