@@ -16,9 +16,11 @@ pub mod Choice
 pub mod Step
 pub mod JsonText
 pub mod Canonical
+pub mod OneText
 pub mod ReplyText
 pub mod Refusals
 pub mod Once
+pub mod Acting
 pub mod Evidence
 pub mod Lawful
 pub mod Columns
@@ -27,3 +29,9 @@ pub mod OrderList
 pub mod BuildText
 pub mod History
 pub mod Tap
+pub mod Script
+pub mod DeliveryExamples
+pub mod BuildExamples
+pub mod LandingExamples
+pub mod NeedExamples
+pub mod LimitExamples

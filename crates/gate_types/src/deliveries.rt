@@ -1,7 +1,7 @@
 //! Deliveries, and what the gate answers.
 use crate::names::{Message, PathName, Text};
 use crate::numbers::{BuildNo, ChangeNo, Revision, Serial};
-use crate::records::Build;
+use crate::records::{Build, Outcome};
 
 /// How a build ended, as a worker reports it.
 #[derive(Clone, Copy, Debug, PartialEq, Eq)]
@@ -9,6 +9,21 @@ pub enum Ending {
     Success,
     Failure,
     Lost,
+}
+
+impl From<Ending> for Outcome {
+    ghost use Rattle.std.specs.Prelude.{◌≡◌};
+    ghost use Rattle.gate_types.specs.Step.{outcome_of_ending};
+
+    ghost from_gives = { λ e o. o ≡ outcome_of_ending e };
+
+    fn from(ending: Ending) -> Outcome {
+        match ending {
+            Ending::Success => Outcome::Success,
+            Ending::Failure => Outcome::Failure,
+            Ending::Lost => Outcome::Lost,
+        }
+    }
 }
 
 /// What the forge or a worker tells the gate.

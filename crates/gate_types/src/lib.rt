@@ -1,12 +1,19 @@
 //! What every part of the gate speaks of: numbers and names in their ranges, records, settings,
-//! deliveries with their replies and refusals, edits, taps, and the one text of a delivery.
+//! deliveries with their replies and refusals, edits, taps, and the one text of a delivery. With them
+//! stand the definitions of all rules, laws of these, and worked examples.
 #![tactic(auto)]
 
+pub mod canonical;
 pub mod config;
 pub mod deliveries;
 pub mod edits;
+pub mod examples;
+pub mod laws;
 pub mod names;
 pub mod numbers;
 pub mod records;
+pub mod refusals;
 pub mod sequence;
 pub mod tap;
+#[cfg(test)]
+mod tests;

@@ -57,9 +57,8 @@ impl Name {
     pub fn copy(&self) -> Result<Self, NoMemory>
         ensures { IfOk result (λ n. n ≡ self.now) }
     {
-        Ok(Name {
-            text: self.text.clone()?,
-        })
+        let text = self.text.clone()?;
+        Ok(Name { text })
     }
 }
 
@@ -82,6 +81,15 @@ impl Model for PathName {
 }
 
 impl PathName {
+    ghost use Rattle.gate_types.specs.Names.{same_name};
+
+    /// Whether the two are the same bytes.
+    pub fn is(&self, other: &PathName) -> bool
+        ensures { result ≡ same_name self.now other.now }
+    {
+        self.text == other.text
+    }
+
     /// None where the text isn't of the form.
     pub fn new(text: String) -> Option<Self>
         ensures form { is_some result ≡ is_path_name (string_bytes text) }
@@ -111,9 +119,8 @@ impl PathName {
     pub fn copy(&self) -> Result<Self, NoMemory>
         ensures { IfOk result (λ n. n ≡ self.now) }
     {
-        Ok(PathName {
-            text: self.text.clone()?,
-        })
+        let text = self.text.clone()?;
+        Ok(PathName { text })
     }
 }
 
@@ -164,9 +171,8 @@ impl Base {
     pub fn copy(&self) -> Result<Self, NoMemory>
         ensures { IfOk result (λ n. n ≡ self.now) }
     {
-        Ok(Base {
-            text: self.text.clone()?,
-        })
+        let text = self.text.clone()?;
+        Ok(Base { text })
     }
 }
 
@@ -217,9 +223,8 @@ impl Message {
     pub fn copy(&self) -> Result<Self, NoMemory>
         ensures { IfOk result (λ n. n ≡ self.now) }
     {
-        Ok(Message {
-            text: self.text.clone()?,
-        })
+        let text = self.text.clone()?;
+        Ok(Message { text })
     }
 }
 
@@ -260,9 +265,8 @@ impl Text {
     pub fn copy(&self) -> Result<Self, NoMemory>
         ensures { IfOk result (λ t. t ≡ self.now) }
     {
-        Ok(Text {
-            text: self.text.clone()?,
-        })
+        let text = self.text.clone()?;
+        Ok(Text { text })
     }
 }
 
@@ -308,21 +312,24 @@ fn are_base_bytes(bytes: &[u8]) -> bool
     bytes.iter().all(|b| may_stand_in_base(*b))
 }
 
-fn has_name_form(text: &str) -> bool
+/// Whether a text has the form of a `Name`.
+pub fn has_name_form(text: &str) -> bool
     ensures { result ≡ is_name text.now }
 {
     let bytes = text.as_bytes();
     1 <= bytes.len() && bytes.len() <= 64 && is_alphanumeric(bytes[0]) && are_name_bytes(bytes)
 }
 
-fn has_path_form(text: &str) -> bool
+/// Whether a text has the form of a `PathName`.
+pub fn has_path_form(text: &str) -> bool
     ensures { result ≡ is_path_name text.now }
 {
     let bytes = text.as_bytes();
     1 <= bytes.len() && bytes.len() <= 64 && is_alphanumeric(bytes[0]) && are_path_bytes(bytes)
 }
 
-fn has_base_form(text: &str) -> bool
+/// Whether a text has the form of a `Base`.
+pub fn has_base_form(text: &str) -> bool
     ensures { result ≡ is_base text.now }
 {
     let bytes = text.as_bytes();

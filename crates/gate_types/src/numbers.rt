@@ -38,7 +38,8 @@ impl ChangeNo {
         ensures value { result ≡ self }
         ensures range { (1 ≤ self) × (self ≤ 999999999) }
     {
-        u64::from(self.number)
+        let ChangeNo { number } = self;
+        u64::from(number)
     }
 }
 
@@ -77,7 +78,8 @@ impl Revision {
         ensures value { result ≡ self }
         ensures range { (1 ≤ self) × (self ≤ 9999) }
     {
-        u64::from(self.number)
+        let Revision { number } = self;
+        u64::from(number)
     }
 }
 
@@ -114,7 +116,8 @@ impl Serial {
         ensures value { result ≡ self }
         ensures range { (1 ≤ self) × (self ≤ 1000000000000000) }
     {
-        self.number
+        let Serial { number } = self;
+        number
     }
 }
 
@@ -151,6 +154,7 @@ impl BuildNo {
         ensures value { result ≡ self }
         ensures range { (1 ≤ self) × (self ≤ 1000000000000000) }
     {
-        self.number
+        let BuildNo { number } = self;
+        number
     }
 }

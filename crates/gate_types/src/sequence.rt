@@ -1,5 +1,5 @@
 //! A list as contracts see it: the fields of records that a clause compares.
-ghost use Rattle.std.specs.Prelude.{◌≡◌, [], ◌∷◌, ◌++◌, OnOk, OnErr};
+ghost use Rattle.std.specs.Prelude.{◌≡◌, [], ◌∷◌, ◌++◌, OnOk, OnErr, IfErr};
 
 use std::alloc::{AllocFailed, Global};
 use std::marker::Model;
@@ -50,6 +50,7 @@ impl<T> Sequence<T> {
     pub fn push(&mut self, value: T) -> Result<(), AllocFailed<T>>
         ensures ok { OnOk result (self.new ≡ self.old ++ value ∷ []) }
         ensures err { OnErr result (self.new ≡ self.old) }
+        ensures given_back { IfErr result (λ e. e.value ≡ value) }
     {
         self.values.push(value)
     }

@@ -1,5 +1,5 @@
 //! A reader or writer that remembers whether it ever failed.
-ghost use Rattle.std.specs.Prelude.{◌≡◌, ◌<◌, ◌≤◌, ◌++◌, ◌∷◌, [], ℕ, true, false, take, length, MatchResult, OnOk, OnErr, IfOk};
+ghost use Rattle.std.specs.Prelude.{◌≡◌, ◌≤◌, ◌+◌, ◌++◌, ◌∷◌, [], ℕ, true, false, take, length, MatchResult, OnOk, OnErr, IfOk};
 ghost use Rattle.std.specs.Io.KnownBytes.{Appends, Consumes, IsAtEnd, Keeps};
 ghost use Rattle.gate_types.specs.Tap.{inside, has_failed, turns, ReadsOnce, WritesFront};
 
@@ -21,6 +21,7 @@ impl<T> Tap<T> {
     pub fn new(inner: T) -> Tap<T>
         ensures value { inside result ≡ inner }
         ensures unfailed { has_failed result ≡ false }
+        ensures turns { turns result ≡ 18446744073709551615 }
     {
         Tap {
             inner,
@@ -55,7 +56,7 @@ impl<R: Read> Tap<R> {
         ensures unfailed { OnOk result (has_failed self.new ≡ false) }
         ensures failed { OnErr result (has_failed self.new ≡ true) }
         ensures count { IfOk result (λ n. n ≤ length buf.new) }
-        ensures ends { OnOk result (turns self.new < turns self.old) }
+        ensures ends { OnOk result (turns self.old ≡ turns self.new + 1) }
     {
         if self.turns == 0 {
             self.failed = true;
@@ -82,6 +83,7 @@ impl<W: Write> Tap<W> {
         ensures unfailed { OnOk result (has_failed self.new ≡ false) }
         ensures err { OnErr result (WritesFront (W.contents (inside self.old)) (W.contents (inside self.new)) bytes.now) }
         ensures failed { OnErr result (has_failed self.new ≡ true) }
+        ensures turns { turns self.new ≡ turns self.old }
     {
         let mut at = 0;
         while at < bytes.len() {
@@ -107,6 +109,7 @@ impl<W: Write> Tap<W> {
         ensures unfailed { OnOk result (has_failed self.new ≡ false) }
         ensures err { OnErr result (WritesFront (W.contents (inside self.old)) (W.contents (inside self.new)) (text.now ++ 10 ∷ [])) }
         ensures failed { OnErr result (has_failed self.new ≡ true) }
+        ensures turns { turns self.new ≡ turns self.old }
     {
         self.write_all(text.as_bytes())?;
         self.write_all(b"\n")?;
