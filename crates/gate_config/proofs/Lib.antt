@@ -1,0 +1,3 @@
+pub mod DocumentLemmas
+pub mod ReadingLemmas
+pub mod SoundLemmas
