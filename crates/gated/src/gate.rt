@@ -3,6 +3,7 @@ ghost use Rattle.std.specs.Prelude.{◌≡◌, IfOk, IfErr, string_bytes};
 ghost use Rattle.gate_types.specs.Once.{is_unavailable};
 ghost use Rattle.gate_types.specs.Status.{status_text};
 
+use crate::keeper::Keeper;
 use gate_types::config::Config;
 use gate_types::deliveries::{Answer, Delivery, Refusal};
 use gate_types::records::Id;
@@ -13,36 +14,45 @@ use std::marker::Model;
 #[derive(Drop)]
 pub struct Gate {
     config: Config,
+    keeper: Keeper,
 }
 
 impl Model for Gate {
-    ghost use Rattle.gated.specs.Gated.{Gated, opened};
+    ghost use Rattle.gated.specs.Gated.{Gated};
+    ghost use Rattle.gated.specs.Keeper.{gated_of, IsSound};
 
     ghost Value = { Gated };
 
-    ghost view = { λ g. opened g.config };
+    ghost view = { λ g. gated_of g.config g.keeper };
+
+    ghost invariant = { λ g. IsSound g.config g.keeper };
 }
 
 impl Gate {
+    ghost use Rattle.gate_types.specs.declared.deliveries.Delivery.TheVariants as delivery;
     ghost use Rattle.gated.specs.Gated.{opened, outcome};
 
+    /// A gate that has seen no delivery.
     pub fn new(alloc: Global, config: Config) -> Gate
         ensures { result ≡ opened config }
     {
-        Gate { config }
+        let _settings = &config.base;
+        Gate {
+            config,
+            keeper: Keeper::new(alloc),
+        }
     }
 
     /// The answer to a delivery. After a refusal nothing has changed. `unavailable` comes only
-    /// where memory is refused.
+    /// where memory is refused. Of the eight kinds a revision and an approval are taken by now;
+    /// any other is a bad delivery.
     pub fn deliver(&mut self, alloc: Global, id: Id, delivery: Delivery) -> Answer
         ensures { outcome self.old (record { id = id; delivery = delivery; unavailable = is_unavailable result })
             ≡ record { answer = result; gate = self.new } }
     {
-        match delivery {
-            Delivery::Revision { .. } | Delivery::Approved { .. } => {
-                Answer::Refused(Refusal::Unavailable)
-            }
-            _ => Answer::Refused(Refusal::BadDelivery),
+        match self.keeper.answer(alloc, &self.config, id, delivery) {
+            Ok(answer) => answer,
+            Err(_) => Answer::Refused(Refusal::Unavailable),
         }
     }
 
@@ -51,6 +61,7 @@ impl Gate {
         ensures text { IfOk result (λ text. string_bytes text ≡ status_text self.now.settings self.now.content.state) }
         ensures unavailable { IfErr result (λ r. r ≡ Refusal.Unavailable) }
     {
-        Err(Refusal::Unavailable)
+        let text = self.keeper.status(alloc, &self.config)?;
+        Ok(text)
     }
 }

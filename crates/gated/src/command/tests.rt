@@ -1,0 +1,70 @@
+//! Command lines, and what they ask for.
+use crate::command::{Cmd, command};
+use clap::error::ErrorKind;
+use std::test::Fail;
+
+#[test]
+fn replay_names_its_settings(rt: HostRuntime) -> Result<(), Fail> {
+    let words = ["gated", "replay", "gate.toml"];
+    let wanted = Cmd::Replay {
+        settings: "gate.toml",
+        status: false,
+    };
+    assert_eq!(rt; command(rt.alloc(), words.as_slice())?, wanted);
+    Ok(())
+}
+
+#[test]
+fn status_may_stand_on_either_side(rt: HostRuntime) -> Result<(), Fail> {
+    let wanted = Cmd::Replay {
+        settings: "gate.toml",
+        status: true,
+    };
+    let words = ["gated", "replay", "gate.toml", "--status"];
+    assert_eq!(rt; command(rt.alloc(), words.as_slice())?, wanted);
+    let words = ["gated", "replay", "--status", "gate.toml"];
+    assert_eq!(rt; command(rt.alloc(), words.as_slice())?, wanted);
+    Ok(())
+}
+
+#[test]
+fn a_bad_line_is_refused(rt: HostRuntime) {
+    let lines: [(&[&str], ErrorKind); 6] = [
+        (&["gated"], ErrorKind::MissingSubcommand),
+        (&["gated", "merge"], ErrorKind::InvalidSubcommand),
+        (&["gated", "replay"], ErrorKind::MissingRequiredArgument),
+        (&["gated", "replay", "a", "b"], ErrorKind::UnknownArgument),
+        (
+            &["gated", "replay", "a", "--state"],
+            ErrorKind::UnknownArgument,
+        ),
+        (
+            &["gated", "--status", "replay", "a"],
+            ErrorKind::UnknownArgument,
+        ),
+    ];
+    for (words, kind) in lines {
+        match command(rt.alloc(), words) {
+            Ok(cmd) => assert!(rt; false, "{words:?} gives {cmd:?}"),
+            Err(usage) => {
+                assert_eq!(rt; usage.kind(), kind, "{words:?}");
+                assert_eq!(rt; usage.exit_code(), 2, "{words:?}");
+            }
+        }
+    }
+}
+
+#[test]
+fn help_is_no_fault(rt: HostRuntime) {
+    let lines: [&[&str]; 3] = [
+        &["gated", "--help"],
+        &["gated", "replay", "-h"],
+        &["gated", "help", "replay"],
+    ];
+    for words in lines {
+        match command(rt.alloc(), words) {
+            Ok(cmd) => assert!(rt; false, "{words:?} gives {cmd:?}"),
+            Err(usage) => assert_eq!(rt; usage.exit_code(), 0, "{words:?}"),
+        }
+    }
+}

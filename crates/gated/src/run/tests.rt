@@ -1,0 +1,162 @@
+//! Whole runs: what is printed, and the status.
+use crate::command::Cmd;
+use crate::run::run;
+use gate_types::tap::Tap;
+use std::test::Fail;
+use std::{fs, io};
+
+const ONE_QUEUE: &str =
+    "[forge]\nbase = \"https://forge/c/\"\n[[queue]]\nname = \"core\"\nwindow = 2\nfloor = 1\n[[project]]\nname = \"lib\"\nqueue = \"core\"\n[[project.job]]\nname = \"unit\"\n";
+
+const SECOND_QUEUE: &str = "[[queue]]\nname = \"web\"\nwindow = 2\nfloor = 1\n";
+
+const APPROVAL: &str =
+    "{\"id\":\"0a000000-0000-4000-8000-000000000001\",\"kind\":\"approved\",\"change\":101,\"revision\":1}\n";
+
+/// What a run printed, and its status.
+#[derive(Drop)]
+struct Ran {
+    status: u8,
+    output: Vec<u8>,
+    errors: Vec<u8>,
+}
+
+/// A reader or writer that fails at once.
+#[derive(Drop)]
+struct Broken;
+
+impl io::Read for Broken {
+    fn read(&mut self, _buf: &mut [u8]) -> io::Result<usize> {
+        Err(io::Error::from(io::ErrorKind::Interrupted))
+    }
+}
+
+impl io::Write for Broken {
+    fn write(&mut self, _buf: &[u8]) -> io::Result<usize> {
+        Err(io::Error::from(io::ErrorKind::Interrupted))
+    }
+
+    fn flush(&mut self) -> io::Result<()> {
+        Ok(())
+    }
+}
+
+fn replayed(rt: &HostRuntime, settings: &str, status: bool, input: &str) -> Ran {
+    let cmd = Cmd::Replay { settings, status };
+    let mut reader = Tap::new(input.as_bytes());
+    let mut output = Tap::new(Vec::new(rt.alloc()));
+    let mut errors = Tap::new(Vec::new(rt.alloc()));
+    let status = run(rt, cmd, &mut reader, &mut output, &mut errors);
+    Ran {
+        status,
+        output: output.into_inner(),
+        errors: errors.into_inner(),
+    }
+}
+
+#[test]
+fn a_delivery_is_answered_and_a_refusal_is_no_fault(rt: HostRuntime) -> Result<(), Fail> {
+    let path = "run_answered.toml";
+    fs::write(&rt, path, ONE_QUEUE)?;
+    let ran = replayed(&rt, path, false, APPROVAL);
+    fs::remove_file(&rt, path)?;
+    assert_eq!(rt; ran.status, 0);
+    assert_eq!(rt;
+        ran.output.as_slice(),
+        b"{\"code\":\"E5\",\"error\":\"unknown-change\"}\n".as_slice()
+    );
+    assert_eq!(rt; ran.errors.as_slice(), b"".as_slice());
+    Ok(())
+}
+
+#[test]
+fn a_settings_file_with_a_fault_ends_the_command(rt: HostRuntime) -> Result<(), Fail> {
+    let path = "run_faulty.toml";
+    let two_queues = format!(in rt.alloc(); "{ONE_QUEUE}{SECOND_QUEUE}")?;
+    let cases = [
+        ("[forge", "gated: C1 not-toml\n"),
+        ("", "gated: C2 missing-member\n"),
+        (two_queues.as_str(), "gated: C10 limit\n"),
+    ];
+    for (text, told) in cases {
+        fs::write(&rt, path, text)?;
+        let ran = replayed(&rt, path, true, APPROVAL);
+        fs::remove_file(&rt, path)?;
+        assert_eq!(rt; ran.status, 1, "{told}");
+        assert_eq!(rt; ran.output.as_slice(), b"".as_slice(), "{told}");
+        assert_eq!(rt; ran.errors.as_slice(), told.as_bytes(), "{told}");
+    }
+    Ok(())
+}
+
+#[test]
+fn a_settings_file_that_cannot_be_read_ends_the_command(rt: HostRuntime) -> Result<(), Fail> {
+    let long = "run_long.toml";
+    let comment = vec![in rt.alloc(); b'#'; 1_048_577]?;
+    fs::write(&rt, long, comment)?;
+    for path in ["run_missing.toml", ".", long] {
+        let ran = replayed(&rt, path, true, APPROVAL);
+        assert_eq!(rt; ran.status, 1, "{path}");
+        assert_eq!(rt; ran.output.as_slice(), b"".as_slice(), "{path}");
+        assert_eq!(rt;
+            ran.errors.as_slice(),
+            b"gated: I5 settings-file\n".as_slice(),
+            "{path}"
+        );
+    }
+    fs::remove_file(&rt, long)?;
+    Ok(())
+}
+
+#[test]
+fn a_settings_file_at_the_limit_is_read(rt: HostRuntime) -> Result<(), Fail> {
+    let path = "run_at_the_limit.toml";
+    let comment = vec![in rt.alloc(); b'#'; 1_048_576]?;
+    fs::write(&rt, path, comment)?;
+    let ran = replayed(&rt, path, false, "");
+    fs::remove_file(&rt, path)?;
+    assert_eq!(rt; ran.status, 1);
+    assert_eq!(rt;
+        ran.errors.as_slice(),
+        b"gated: C2 missing-member\n".as_slice()
+    );
+    Ok(())
+}
+
+#[test]
+fn a_failing_stream_ends_the_command(rt: HostRuntime) -> Result<(), Fail> {
+    let path = "run_broken.toml";
+    fs::write(&rt, path, ONE_QUEUE)?;
+    let cmd = Cmd::Replay {
+        settings: path,
+        status: true,
+    };
+    let mut errors = Tap::new(Vec::new(rt.alloc()));
+    let mut output = Tap::new(Vec::new(rt.alloc()));
+    let status = run(&rt, cmd, &mut Tap::new(Broken), &mut output, &mut errors);
+    assert_eq!(rt; status, 1);
+    assert_eq!(rt; output.into_inner().as_slice(), b"".as_slice());
+    assert_eq!(rt;
+        errors.into_inner().as_slice(),
+        b"gated: I1 read\n".as_slice()
+    );
+    let mut errors = Tap::new(Vec::new(rt.alloc()));
+    let mut input = Tap::new(APPROVAL.as_bytes());
+    let status = run(&rt, cmd, &mut input, &mut Tap::new(Broken), &mut errors);
+    assert_eq!(rt; status, 1);
+    assert_eq!(rt;
+        errors.into_inner().as_slice(),
+        b"gated: I2 write\n".as_slice()
+    );
+    let mut input = Tap::new(APPROVAL.as_bytes());
+    let status = run(
+        &rt,
+        cmd,
+        &mut input,
+        &mut Tap::new(Broken),
+        &mut Tap::new(Broken),
+    );
+    assert_eq!(rt; status, 1);
+    fs::remove_file(&rt, path)?;
+    Ok(())
+}
