@@ -5,9 +5,9 @@ use Rattle.gate_types.specs.Settings.{Settings}
 use Rattle.gate_types.specs.Status.{status_text}
 use Rattle.gate_types.specs.Tap.{WritesFront}
 use Rattle.gate_config.specs.Reading.{said_by}
-use Rattle.gated.specs.Gated.{Gated, opened}
-use Rattle.gated.specs.Lines.{lines_of}
-use Rattle.gated.specs.Replies.{Replayed}
+use Rattle.gate_core.specs.Gated.{Gated, opened}
+use Rattle.gate_core.specs.Lines.{lines_of}
+use Rattle.gate_core.specs.Replies.{Replayed}
 
 -- the longest settings file, in bytes
 abbrev pub settings_limit : ℕ

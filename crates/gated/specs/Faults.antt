@@ -3,8 +3,8 @@ use Rattle.std.specs.Prelude.{ℕ, List, [], ◌∷◌, ◌++◌, codes}
 use Rattle.gate_config.specs.Words.{word_of}
 use Rattle.gate_config.specs.declared.fault.ConfigFault.{ConfigFault}
 use Rattle.gate_config.specs.declared.fault.ConfigFault.TheVariants as config
-use Rattle.gated.specs.declared.fault.IoFault.{IoFault}
-use Rattle.gated.specs.declared.fault.IoFault.TheVariants as io
+use Rattle.gate_core.specs.declared.fault.IoFault.{IoFault}
+use Rattle.gate_core.specs.declared.fault.IoFault.TheVariants as io
 use Rattle.gated.specs.declared.run.fault.Fault.{Fault}
 use Rattle.gated.specs.declared.run.fault.Fault.TheVariants as fault
 

@@ -2,16 +2,6 @@
 #![tactic(auto)]
 
 mod command;
-mod engine;
-pub mod fault;
-#[cfg(test)]
-mod fixtures;
-pub mod gate;
-mod keeper;
-mod line;
-mod reading;
-pub mod replay;
-mod respond;
 mod run;
 
 use crate::command::{Usage, command};

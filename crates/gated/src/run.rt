@@ -11,8 +11,8 @@ mod fault;
 mod tests;
 
 use crate::command::Cmd;
-use crate::gate::Gate;
-use crate::replay::replay;
+use gate_core::gate::Gate;
+use gate_core::replay::replay;
 pub use fault::Fault;
 use gate_types::config::Config;
 use gate_types::tap::{Failed, Tap};

@@ -2,7 +2,7 @@
 ghost use Rattle.std.specs.Prelude.{◌≡◌};
 ghost use Rattle.gated.specs.Faults.{text_of, settings_text};
 
-use crate::fault::IoFault;
+use gate_core::fault::IoFault;
 use gate_config::ConfigFault;
 use gate_types::tap::Failed;
 

@@ -1,7 +1,7 @@
 use Rattle.std.proofs.Common.{rules, ap, ap₂, codes, false, ◌||◌, ◌≡◌, ◌∙◌}
 use Rattle.std.proofs.lemmas.Result.{IfOk-weaker}
 use Rattle.clap.specs.Simple.{app_of_fields}
-use Rattle.clap.specs.Words.{Rule, app_of, new_app, rule_of, with_rule}
+use Rattle.clap.specs.Words.{app_of, new_app, rule_of, with_rule}
 use Rattle.clap.specs.declared.builder.command.Command.TheViews.{out-Command as fields_of}
 use Rattle.gated.specs.CommandLine.{settings_rule, status_rule}
 use Rattle.gated.proofs.command.replay.Goals as goal

@@ -1,0 +1,14 @@
+pub mod RunLemmas
+pub mod ReadingLemmas
+pub mod ReplyLemmas
+pub mod PlaceLemmas
+pub mod TableLemmas
+pub mod QuietLemmas
+pub mod AdmitLemmas
+pub mod NeedLemmas
+pub mod StepLemmas
+pub mod StayLemmas
+pub mod ReviseLemmas
+pub mod OutcomeLemmas
+pub mod PadLemmas
+pub mod StatusLemmas

@@ -1,0 +1,253 @@
+-- Runs joined end to end, and lines of a text in two parts.
+use Rattle.std.proofs.Common.{◌≡◌, ℕ, ◌+◌, ◌<◌, List, [], ◌∷◌, ◌++◌, length, take, drop, Option, Some, None, arith, refl, sym, ap, ◌∙◌, subst, append_assoc, append-nil, length-append, cond, nat_eq, get_or, add-one, true, false}
+use Rattle.std.specs.Io.KnownBytes.{Appends, Consumes, IsAtEnd}
+use Rattle.std.specs.Io.Iter.{u64_saturate}
+use Rattle.std.proofs.KnownBytes.{Appends-trans, Appends-nil, Consumes-trans}
+use Rattle.std.proofs.Math.Seq.{drop-cons}
+use Rattle.gate_types.specs.Tap.{WritesFront}
+use Rattle.gate_core.specs.Line.{Holds}
+use Rattle.gate_core.specs.declared.line.Line.{Line}
+use Rattle.gate_core.specs.Lines.{whole_from, rest_from, lines_from, lines_of, last_line, IsKnown}
+use Rattle.gate_core.specs.Runs.{Answers, Runs, Fed, Broke}
+
+-- what a responder says to lines
+abbrev pub Replies : Type 0 → Type 1
+Replies S = S → List ℕ → List ℕ → S → Type 0
+
+pub runs_append : {S : Type 0} (replies : Replies S) (s : S) (a b : List (List ℕ)) (t u : List ℕ) (m e : S) → Runs replies s a t m → Runs replies m b u e → Runs replies s (a ++ b) (t ++ u) e
+runs_append replies s [] b t u m e (et, em) h = subst (λ x. Runs replies x b (t ++ u) e) em (subst (λ x. Runs replies m b (x ++ u) e) (sym et) h)
+runs_append replies s (l ∷ ls) b t u m e (said, more, mid, ans, et, rest) h =
+    (said, more ++ u, mid, ans, ap (λ x. x ++ u) et ∙ append_assoc (said ++ 10 ∷ []) more u, runs_append replies mid ls b more u m e rest h)
+
+pub fed_nil : {S : Type 0} (replies : Replies S) (s : S) (o : Option (List ℕ)) → Fed replies s [] s o o
+fed_nil replies s o = record { text = []; ran = (refl, refl); written = Appends-nil o }
+
+pub fed_append : {S : Type 0} (replies : Replies S) (s m e : S) (a b : List (List ℕ)) (o p q : Option (List ℕ)) → Fed replies s a m o p → Fed replies m b e p q → Fed replies s (a ++ b) e o q
+fed_append replies s m e a b o p q f h = record {
+  text = f.text ++ h.text;
+  ran = runs_append replies s a b f.text h.text m e f.ran h.ran;
+  written = Appends-trans o p q f.text h.text f.written h.written;
+}
+
+pub fed_one : {S : Type 0} (replies : Replies S) (s e : S) (line said : List ℕ) (o p : Option (List ℕ)) → Answers replies s line said e → Appends o p (said ++ 10 ∷ []) → Fed replies s (line ∷ []) e o p
+fed_one replies s e line said o p ans w = record {
+  text = (said ++ 10 ∷ []) ++ [];
+  ran = (said, [], e, ans, refl, (refl, refl));
+  written = subst (Appends o p) (sym (append-nil (said ++ 10 ∷ []))) w;
+}
+
+pub broke_after : {S : Type 0} (replies : Replies S) (s m e : S) (a b : List (List ℕ)) (o p q : Option (List ℕ)) → Fed replies s a m o p → Broke replies m b e p q → Broke replies s (a ++ b) e o q
+broke_after replies s m e a b o p q f h = record {
+  done = a ++ h.done;
+  line = h.line;
+  more = h.more;
+  split = ap (λ x. a ++ x) h.split ∙ sym (append_assoc a h.done (h.line ∷ h.more));
+  text = f.text ++ h.text;
+  mid = h.mid;
+  ran = runs_append replies s a h.done f.text h.text m h.mid f.ran h.ran;
+  said = h.said;
+  answered = h.answered;
+  at = h.at;
+  short = h.short;
+  written = subst (Appends o q) (sym (append_assoc f.text h.text (take h.at (h.said ++ 10 ∷ [])))) (Appends-trans o p q f.text (h.text ++ take h.at (h.said ++ 10 ∷ [])) f.written h.written);
+}
+
+pub broke_more : {S : Type 0} (replies : Replies S) (s e : S) (a b : List (List ℕ)) (o p : Option (List ℕ)) → Broke replies s a e o p → Broke replies s (a ++ b) e o p
+broke_more replies s e a b o p h = record {
+  done = h.done;
+  line = h.line;
+  more = h.more ++ b;
+  split = ap (λ x. x ++ b) h.split ∙ append_assoc h.done (h.line ∷ h.more) b;
+  text = h.text;
+  mid = h.mid;
+  ran = h.ran;
+  said = h.said;
+  answered = h.answered;
+  at = h.at;
+  short = h.short;
+  written = h.written;
+}
+
+pub broke_one : {S : Type 0} (replies : Replies S) (s e : S) (line said : List ℕ) (more : List (List ℕ)) (o p : Option (List ℕ)) → Answers replies s line said e → WritesFront o p (said ++ 10 ∷ []) → Broke replies s (line ∷ more) e o p
+broke_one replies s e line said more o p ans (n, short, w) = record {
+  done = [];
+  line = line;
+  more = more;
+  split = refl;
+  text = [];
+  mid = s;
+  ran = (refl, refl);
+  said = said;
+  answered = ans;
+  at = n;
+  short = short;
+  written = w;
+}
+
+pub whole-append : (begun xs ys : List ℕ) → whole_from begun (xs ++ ys) ≡ whole_from begun xs ++ whole_from (rest_from begun xs) ys
+whole-append begun [] ys = refl
+whole-append begun (b ∷ bs) ys = elim (nat_eq b 10) as (λ t. cond t (begun ∷ whole_from [] (bs ++ ys)) (whole_from (begun ++ b ∷ []) (bs ++ ys))
+    ≡ cond t (begun ∷ whole_from [] bs) (whole_from (begun ++ b ∷ []) bs) ++ whole_from (cond t (rest_from [] bs) (rest_from (begun ++ b ∷ []) bs)) ys) [
+      | true ↦ ap (λ l. begun ∷ l) (whole-append [] bs ys)
+      | false ↦ whole-append (begun ++ b ∷ []) bs ys
+    ]
+
+pub rest-append : (begun xs ys : List ℕ) → rest_from begun (xs ++ ys) ≡ rest_from (rest_from begun xs) ys
+rest-append begun [] ys = refl
+rest-append begun (b ∷ bs) ys = elim (nat_eq b 10) as (λ t. cond t (rest_from [] (bs ++ ys)) (rest_from (begun ++ b ∷ []) (bs ++ ys))
+    ≡ rest_from (cond t (rest_from [] bs) (rest_from (begun ++ b ∷ []) bs)) ys) [
+      | true ↦ rest-append [] bs ys
+      | false ↦ rest-append (begun ++ b ∷ []) bs ys
+    ]
+
+pub lines-append : (begun xs ys : List ℕ) → lines_from begun (xs ++ ys) ≡ whole_from begun xs ++ lines_from (rest_from begun xs) ys
+lines-append begun xs ys = ap (λ l. l ++ last_line (rest_from begun (xs ++ ys))) (whole-append begun xs ys)
+    ∙ append_assoc (whole_from begun xs) (whole_from (rest_from begun xs) ys) (last_line (rest_from begun (xs ++ ys)))
+    ∙ ap (λ r. whole_from begun xs ++ (whole_from (rest_from begun xs) ys ++ last_line r)) (rest-append begun xs ys)
+
+pub broke_known : {S : Type 0} (replies : Replies S) (s e : S) (o p a b : Option (List ℕ)) (front : List ℕ) → Consumes a b front → Broke replies s (whole_from [] front) e o p
+    → (input : List ℕ) × IsKnown a input × Broke replies s (lines_of input) e o p
+broke_known replies s e o p None b front h k = (front, tt, broke_more replies s e (whole_from [] front) (last_line (rest_from [] front)) o p k)
+broke_known replies s e o p (Some xs) None front h k = absurd h
+broke_known replies s e o p (Some xs) (Some ys) front h k = (
+  xs,
+  refl,
+  subst (λ l. Broke replies s (lines_of l) e o p) (sym h)
+      (subst (λ l. Broke replies s l e o p) (sym (lines-append [] front ys)) (broke_more replies s e (whole_from [] front) (lines_from (rest_from [] front) ys) o p k)),
+)
+
+pub known_end : (a b : Option (List ℕ)) (front : List ℕ) → Consumes a b front → IsAtEnd b → IsKnown a front
+known_end None b front h end = tt
+known_end (Some xs) None front h end = absurd h
+known_end (Some xs) (Some ys) front h end = h ∙ ap (λ l. front ++ l) end ∙ append-nil front
+
+pub last_some : (r : List ℕ) → (r ≡ [] → ⊥) → last_line r ≡ r ∷ []
+last_some [] h = absurd (h refl)
+last_some (b ∷ bs) h = refl
+
+-- how far a chunk has been fed
+pub record SoFar {S : Type 0} (replies : Replies S) (s : S) (begun bytes left : List ℕ) (after : S) (old new : Option (List ℕ)) (line : Line) (first count : ℕ) : Type 0 where
+  pub done : List (List ℕ)
+  pub now : List ℕ
+  pub whole : whole_from begun bytes ≡ done ++ whole_from now left
+  pub rest : rest_from begun bytes ≡ rest_from now left
+  pub holds : Holds line now
+  pub fed : Fed replies s done after old new
+  pub counted : count ≡ u64_saturate (first + length done)
+
+pub so_far_byte : {S : Type 0} (replies : Replies S) (s : S) (begun bytes : List ℕ) (b : ℕ) (left : List ℕ) (after : S) (old new : Option (List ℕ)) (line next : Line) (first count : ℕ)
+    → nat_eq b 10 ≡ false → ((now : List ℕ) → Holds line now → Holds next (now ++ b ∷ []))
+    → SoFar replies s begun bytes (b ∷ left) after old new line first count → SoFar replies s begun bytes left after old new next first count
+so_far_byte replies s begun bytes b left after old new line next first count other push h = record {
+  done = h.done;
+  fed = h.fed;
+  counted = h.counted;
+  now = h.now ++ b ∷ [];
+  whole = h.whole ∙ ap (λ t. h.done ++ cond t (h.now ∷ whole_from [] left) (whole_from (h.now ++ b ∷ []) left)) other;
+  rest = h.rest ∙ ap (λ t. cond t (rest_from [] left) (rest_from (h.now ++ b ∷ []) left)) other;
+  holds = push h.now h.holds;
+}
+
+pub so_far_line : {S : Type 0} (replies : Replies S) (s : S) (begun bytes : List ℕ) (b : ℕ) (left : List ℕ) (after last : S) (old new end : Option (List ℕ)) (line next : Line) (first count : ℕ)
+    → nat_eq b 10 ≡ true → ((now : List ℕ) → Holds line now → (said : List ℕ) × Answers replies after now said last × Appends new end (said ++ 10 ∷ [])) → Holds next []
+    → SoFar replies s begun bytes (b ∷ left) after old new line first count → SoFar replies s begun bytes left last old end next first (u64_saturate (count + 1))
+so_far_line replies s begun bytes b left after last old new end line next first count lf says empty h =
+    let said = says h.now h.holds in record {
+      done = h.done ++ h.now ∷ [];
+      now = [];
+      whole = h.whole ∙ ap (λ t. h.done ++ cond t (h.now ∷ whole_from [] left) (whole_from (h.now ++ b ∷ []) left)) lf ∙ sym (append_assoc h.done (h.now ∷ []) (whole_from [] left));
+      rest = h.rest ∙ ap (λ t. cond t (rest_from [] left) (rest_from (h.now ++ b ∷ []) left)) lf;
+      holds = empty;
+      fed = fed_append replies s after last h.done (h.now ∷ []) old new end h.fed (fed_one replies after last h.now said.0 new end said.1 said.2);
+      counted = omega (arith, h.counted, length-append h.done (h.now ∷ []));
+    }
+
+pub so_far_broke : {S : Type 0} (replies : Replies S) (s : S) (begun bytes : List ℕ) (b : ℕ) (left : List ℕ) (after last : S) (old new end : Option (List ℕ)) (line : Line) (first count : ℕ)
+    → nat_eq b 10 ≡ true → ((now : List ℕ) → Holds line now → (said : List ℕ) × Answers replies after now said last × WritesFront new end (said ++ 10 ∷ []))
+    → SoFar replies s begun bytes (b ∷ left) after old new line first count → Broke replies s (whole_from begun bytes) last old end
+so_far_broke replies s begun bytes b left after last old new end line first count lf says h =
+    let said = says h.now h.holds in
+    subst (λ l. Broke replies s l last old end) (sym (h.whole ∙ ap (λ t. h.done ++ cond t (h.now ∷ whole_from [] left) (whole_from (h.now ++ b ∷ []) left)) lf))
+    (broke_after replies s after last h.done (h.now ∷ whole_from [] left) old new end h.fed (broke_one replies after last h.now said.0 (whole_from [] left) new end said.1 said.2))
+
+pub drop_next : (l : List ℕ) (i : ℕ) → i < length l → drop i l ≡ get_or l i 0 ∷ drop (i + 1) l
+drop_next l i h = rw add-one (drop-cons l i 0 h)
+
+-- the whole state of a replay between two reads
+pub record Between {S : Type 0} (replies : Replies S) (s : S) (left now : Option (List ℕ)) (after : S) (old new : Option (List ℕ)) (line : Line) (count : ℕ) : Type 0 where
+  pub front : List ℕ
+  pub consumed : Consumes left now front
+  pub fed : Fed replies s (whole_from [] front) after old new
+  pub holds : Holds line (rest_from [] front)
+  pub counted : count ≡ u64_saturate (length (whole_from [] front))
+
+-- what feeding a chunk says
+abbrev pub Feeds : {S : Type 0} → Replies S → S → List ℕ → S → Option (List ℕ) → Option (List ℕ) → Line → Line → ℕ → ℕ → Type 0
+Feeds replies s chunk after old new line next count n = (begun : List ℕ) → Holds line begun →
+    Fed replies s (whole_from begun chunk) after old new × Holds next (rest_from begun chunk) × (n ≡ u64_saturate (count + length (whole_from begun chunk)))
+
+pub between_fed : {S : Type 0} (replies : Replies S) (s m e : S) (a b d o p q : Option (List ℕ)) (line next : Line) (count n : ℕ) (chunk : List ℕ)
+    → Between replies s a b m o p line count → Consumes b d chunk → Feeds replies m chunk e p q line next count n → Between replies s a d e o q next n
+between_fed replies s m e a b d o p q line next count n chunk h took feeds =
+    let f = feeds (rest_from [] h.front) h.holds in
+    let whole = whole-append [] h.front chunk in record {
+      front = h.front ++ chunk;
+      consumed = Consumes-trans a b d h.front chunk h.consumed took;
+      fed = subst (λ l. Fed replies s l e o q) (sym whole) (fed_append replies s m e (whole_from [] h.front) (whole_from (rest_from [] h.front) chunk) o p q h.fed f.0);
+      holds = subst (Holds next) (sym (rest-append [] h.front chunk)) f.1;
+      counted = omega (arith, h.counted, f.2, ap length whole, length-append (whole_from [] h.front) (whole_from (rest_from [] h.front) chunk));
+    }
+
+pub between_broke : {S : Type 0} (replies : Replies S) (s m e : S) (a b d o p q : Option (List ℕ)) (line : Line) (count : ℕ) (chunk : List ℕ)
+    → Between replies s a b m o p line count → Consumes b d chunk → ((begun : List ℕ) → Holds line begun → Broke replies m (whole_from begun chunk) e p q)
+    → (input : List ℕ) × IsKnown a input × Broke replies s (lines_of input) e o q
+between_broke replies s m e a b d o p q line count chunk h took broke =
+    broke_known replies s e o q a d (h.front ++ chunk) (Consumes-trans a b d h.front chunk h.consumed took)
+    (subst (λ l. Broke replies s l e o q) (sym (whole-append [] h.front chunk))
+    (broke_after replies s m e (whole_from [] h.front) (whole_from (rest_from [] h.front) chunk) o p q h.fed (broke (rest_from [] h.front) h.holds)))
+
+-- at the end, where something is left
+pub last_broke : {S : Type 0} (replies : Replies S) (s m e : S) (a b d o p q : Option (List ℕ)) (line : Line) (count : ℕ)
+    → Between replies s a b m o p line count → Consumes b d [] → IsAtEnd d → ((begun : List ℕ) → Holds line begun → begun ≡ [] → ⊥)
+    → ((begun : List ℕ) → Holds line begun → (said : List ℕ) × Answers replies m begun said e × WritesFront p q (said ++ 10 ∷ []))
+    → (input : List ℕ) × IsKnown a input × Broke replies s (lines_of input) e o q
+last_broke replies s m e a b d o p q line count h took end some says =
+    let rest = rest_from [] h.front in
+    let said = says rest h.holds in (
+      h.front,
+      known_end a d h.front (subst (Consumes a d) (append-nil h.front) (Consumes-trans a b d h.front [] h.consumed took)) end,
+      subst (λ l. Broke replies s (whole_from [] h.front ++ l) e o q) (sym (last_some rest (some rest h.holds)))
+          (broke_after replies s m e (whole_from [] h.front) (rest ∷ []) o p q h.fed (broke_one replies m e rest said.0 [] p q said.1 said.2)),
+    )
+
+abbrev pub Done : {S : Type 0} → Replies S → S → Option (List ℕ) → Option (List ℕ) → S → Option (List ℕ) → Option (List ℕ) → ℕ → Type 0
+Done replies s a d e o q n = (input : List ℕ) × Consumes a d input × IsAtEnd d × Fed replies s (lines_of input) e o q × (n ≡ u64_saturate (length (lines_of input)))
+
+pub last_done : {S : Type 0} (replies : Replies S) (s m e : S) (a b d o p q : Option (List ℕ)) (line : Line) (count : ℕ)
+    → Between replies s a b m o p line count → Consumes b d [] → IsAtEnd d → ((begun : List ℕ) → Holds line begun → begun ≡ [] → ⊥)
+    → ((begun : List ℕ) → Holds line begun → (said : List ℕ) × Answers replies m begun said e × Appends p q (said ++ 10 ∷ []))
+    → Done replies s a d e o q (u64_saturate (count + 1))
+last_done replies s m e a b d o p q line count h took end some says =
+    let rest = rest_from [] h.front in
+    let said = says rest h.holds in
+    let last = last_some rest (some rest h.holds) in (
+      h.front,
+      subst (Consumes a d) (append-nil h.front) (Consumes-trans a b d h.front [] h.consumed took),
+      end,
+      subst (λ l. Fed replies s (whole_from [] h.front ++ l) e o q) (sym last)
+          (fed_append replies s m e (whole_from [] h.front) (rest ∷ []) o p q h.fed (fed_one replies m e rest said.0 p q said.1 said.2)),
+      omega (arith, h.counted, ap length last, length-append (whole_from [] h.front) (last_line rest)),
+    )
+
+pub none_done : {S : Type 0} (replies : Replies S) (s m : S) (a b d o p : Option (List ℕ)) (line : Line) (count : ℕ)
+    → Between replies s a b m o p line count → Consumes b d [] → IsAtEnd d → ((begun : List ℕ) → Holds line begun → begun ≡ [])
+    → Done replies s a d m o p count
+none_done replies s m a b d o p line count h took end none =
+    let rest = rest_from [] h.front in
+    let last : lines_of h.front ≡ whole_from [] h.front = ap (λ r. whole_from [] h.front ++ last_line r) (none rest h.holds) ∙ append-nil (whole_from [] h.front) in (
+      h.front,
+      subst (Consumes a d) (append-nil h.front) (Consumes-trans a b d h.front [] h.consumed took),
+      end,
+      subst (λ l. Fed replies s l m o p) (sym last) h.fed,
+      h.counted ∙ ap (λ l. u64_saturate (length l)) (sym last),
+    )

@@ -1,0 +1,15 @@
+pub mod Gated
+pub mod Reading
+pub mod Limit
+pub mod Lines
+pub mod Replies
+pub mod Said
+pub mod Line
+pub mod Runs
+pub mod Places
+pub mod Tables
+pub mod Quiet
+pub mod Leaving
+pub mod Keeper
+pub mod Rulings
+pub mod QuietText

@@ -1,0 +1,35 @@
+-- Lines that are answered in turn.
+use Rattle.std.specs.Prelude.{◌≡◌, ◌⊎◌, ℕ, ◌<◌, ◌≤◌, List, [], ◌∷◌, ◌++◌, length, take, Option}
+use Rattle.std.specs.Io.KnownBytes.{Appends}
+use Rattle.gate_core.specs.Limit.{limit, too_large}
+
+-- a line within the limit is answered by its replies; a longer one is too large, and changes nothing
+abbrev pub Answers : {S : Type 0} → (S → List ℕ → List ℕ → S → Type 0) → S → List ℕ → List ℕ → S → Type 0
+Answers replies s line text after = ((length line ≤ limit) × replies s line text after) ⊎ ((limit < length line) × (text ≡ too_large) × (after ≡ s))
+
+-- the lines are answered in order, each by a text and an LF
+abbrev pub Runs : {S : Type 0} → (S → List ℕ → List ℕ → S → Type 0) → S → List (List ℕ) → List ℕ → S → Type 0
+Runs {S} replies s [] text after = (text ≡ []) × (after ≡ s)
+Runs {S} replies s (line ∷ lines) text after =
+    (said : List ℕ) × (more : List ℕ) × (mid : S) × Answers replies s line said mid × (text ≡ (said ++ 10 ∷ []) ++ more) × Runs replies mid lines more after
+
+-- the lines are answered, and their texts written
+pub record Fed {S : Type 0} (replies : S → List ℕ → List ℕ → S → Type 0) (s : S) (lines : List (List ℕ)) (after : S) (old new : Option (List ℕ)) : Type 0 where
+  pub text : List ℕ
+  pub ran : Runs replies s lines text after
+  pub written : Appends old new text
+
+-- the first of the lines are answered, and the last of these was cut in writing
+pub record Broke {S : Type 0} (replies : S → List ℕ → List ℕ → S → Type 0) (s : S) (lines : List (List ℕ)) (after : S) (old new : Option (List ℕ)) : Type 0 where
+  pub done : List (List ℕ)
+  pub line : List ℕ
+  pub more : List (List ℕ)
+  pub split : lines ≡ done ++ line ∷ more
+  pub text : List ℕ
+  pub mid : S
+  pub ran : Runs replies s done text mid
+  pub said : List ℕ
+  pub answered : Answers replies mid line said after
+  pub at : ℕ
+  pub short : at < length (said ++ 10 ∷ [])
+  pub written : Appends old new (text ++ take at (said ++ 10 ∷ []))

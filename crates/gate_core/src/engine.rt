@@ -1,0 +1,153 @@
+//! The engine: each line of a reader is answered by a line to a writer.
+ghost use Rattle.std.specs.Prelude.{◌≡◌, ◌≤◌, ◌+◌, ◌++◌, ◌∷◌, [], ℕ, List, OnOk, OnErr, IfOk, IsErrOf, true, false, length};
+ghost use Rattle.std.specs.Io.KnownBytes.{Appends, Consumes, IsAtEnd};
+ghost use Rattle.std.specs.Io.Iter.{u64_saturate};
+ghost use Rattle.gate_types.specs.Tap.{inside, has_failed, WritesFront};
+ghost use Rattle.gate_core.specs.Limit.{limit};
+ghost use Rattle.gate_core.specs.Line.{Holds};
+ghost use Rattle.gate_core.specs.Lines.{whole_from, rest_from, lines_of, IsKnown};
+ghost use Rattle.gate_core.specs.Runs.{Answers, Fed, Broke};
+ghost use Rattle.gate_core.specs.Said.{text_of};
+
+use crate::fault::IoFault;
+use crate::line::Line;
+use gate_types::tap::{Failed, Tap};
+use std::alloc::Global;
+use std::io::{Read, Write};
+
+#[cfg(test)]
+mod tests;
+
+/// What a line is answered by.
+#[derive(Drop)]
+pub enum Said {
+    Text(String),
+    Refused(&'static str),
+}
+
+/// What answers lines, one after another.
+pub trait Respond {
+    // the text for a line in a state, and the state after it
+    ghost replies: { Self → List ℕ → List ℕ → Self → Type 0 };
+
+    fn respond(&mut self, alloc: Global, line: &[u8]) -> Said
+        requires { length line.now ≤ limit }
+        ensures { replies self.old line.now (text_of result) self.new };
+}
+
+fn answer<G: Respond, W: Write>(
+    alloc: Global,
+    gate: &mut G,
+    line: &Line,
+    w: &mut Tap<W>,
+) -> Result<(), Failed>
+    requires { has_failed w.old ≡ false }
+    ensures ok { OnOk result ((begun : List ℕ) → Holds line.now begun → (said : List ℕ)
+        × Answers G.replies gate.old begun said gate.new
+        × Appends (W.contents (inside w.old)) (W.contents (inside w.new)) (said ++ 10 ∷ [])) }
+    ensures unfailed { OnOk result (has_failed w.new ≡ false) }
+    ensures err { OnErr result ((begun : List ℕ) → Holds line.now begun → (said : List ℕ)
+        × Answers G.replies gate.old begun said gate.new
+        × WritesFront (W.contents (inside w.old)) (W.contents (inside w.new)) (said ++ 10 ∷ [])) }
+    ensures failed { OnErr result (has_failed w.new ≡ true) }
+{
+    match line.get() {
+        None => w.write_line("{\"error\":\"too-large\"}")?,
+        Some(bytes) => match gate.respond(alloc, bytes) {
+            Said::Text(text) => w.write_line(text.as_str())?,
+            Said::Refused(text) => w.write_line(text)?,
+        },
+    }
+    Ok(())
+}
+
+fn feed<G: Respond, W: Write>(
+    alloc: Global,
+    gate: &mut G,
+    line: &mut Line,
+    bytes: &[u8],
+    w: &mut Tap<W>,
+    mut count: u64,
+) -> Result<u64, Failed>
+    requires { has_failed w.old ≡ false }
+    ensures ok { IfOk result (λ n. (begun : List ℕ) → Holds line.old begun →
+        Fed G.replies gate.old (whole_from begun bytes.now) gate.new
+        (W.contents (inside w.old)) (W.contents (inside w.new))
+        × Holds line.new (rest_from begun bytes.now)
+        × (n ≡ u64_saturate (count + length (whole_from begun bytes.now)))) }
+    ensures unfailed { OnOk result (has_failed w.new ≡ false) }
+    ensures err { OnErr result ((begun : List ℕ) → Holds line.old begun →
+        Broke G.replies gate.old (whole_from begun bytes.now) gate.new
+        (W.contents (inside w.old)) (W.contents (inside w.new))) }
+    ensures failed { OnErr result (has_failed w.new ≡ true) }
+{
+    for byte in bytes {
+        if *byte == b'\n' {
+            answer(alloc, gate, line, w)?;
+            line.clear();
+            count = count.saturating_add(1);
+        } else {
+            line.push(*byte);
+        }
+    }
+    Ok(count)
+}
+
+/// Answers each line of the reader by a line to the writer, and gives the number of lines.
+/// Each answer is written before the next read.
+pub fn answer_lines<G: Respond, R: Read, W: Write>(
+    alloc: Global,
+    gate: &mut G,
+    r: &mut Tap<R>,
+    w: &mut Tap<W>,
+) -> Result<u64, IoFault>
+    requires reader { has_failed r.old ≡ false }
+    requires writer { has_failed w.old ≡ false }
+    ensures ok { IfOk result (λ n. (input : List ℕ)
+        × Consumes (R.remaining (inside r.old)) (R.remaining (inside r.new)) input
+        × IsAtEnd (R.remaining (inside r.new))
+        × Fed G.replies gate.old (lines_of input) gate.new
+        (W.contents (inside w.old)) (W.contents (inside w.new))
+        × (n ≡ u64_saturate (length (lines_of input)))) }
+    ensures read { IsErrOf result IoFault.Read → (front : List ℕ)
+        × Consumes (R.remaining (inside r.old)) (R.remaining (inside r.new)) front
+        × Fed G.replies gate.old (whole_from [] front) gate.new
+        (W.contents (inside w.old)) (W.contents (inside w.new)) }
+    ensures write { IsErrOf result IoFault.Write → (input : List ℕ)
+        × IsKnown (R.remaining (inside r.old)) input
+        × Broke G.replies gate.old (lines_of input) gate.new
+        (W.contents (inside w.old)) (W.contents (inside w.new)) }
+    ensures memory { IsErrOf result IoFault.NoMemory →
+        (gate.new ≡ gate.old) × (r.new ≡ r.old) × (w.new ≡ w.old) }
+    ensures store { IsErrOf result IoFault.Store → ⊥ }
+    ensures unfailed { OnOk result (has_failed w.new ≡ false) }
+    ensures reader_failed { IsErrOf result IoFault.Read → has_failed r.new ≡ true }
+    ensures writer_failed { IsErrOf result IoFault.Write → has_failed w.new ≡ true }
+{
+    let mut line = match Line::new(alloc) {
+        Ok(line) => line,
+        Err(_) => return Err(IoFault::NoMemory),
+    };
+    let mut count = 0;
+    let mut buf = [0u8; 4096];
+    loop {
+        let n = match r.read(&mut buf) {
+            Ok(n) => n,
+            Err(_) => return Err(IoFault::Read),
+        };
+        if n == 0 {
+            break;
+        }
+        match feed(alloc, gate, &mut line, &buf[..n], w, count) {
+            Ok(n) => count = n,
+            Err(_) => return Err(IoFault::Write),
+        }
+    }
+    if !line.is_empty() {
+        if let Err(_) = answer(alloc, gate, &line, w) {
+            return Err(IoFault::Write);
+        }
+        count = count.saturating_add(1);
+    }
+    Ok(count)
+}

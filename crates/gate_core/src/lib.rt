@@ -1,0 +1,13 @@
+//! The gate: deliveries in, replies out, each exactly one step of the plain gate.
+#![tactic(auto)]
+
+mod engine;
+pub mod fault;
+#[cfg(test)]
+mod fixtures;
+pub mod gate;
+mod keeper;
+mod line;
+mod reading;
+pub mod replay;
+mod respond;

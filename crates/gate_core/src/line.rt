@@ -1,0 +1,65 @@
+//! The line that is being read.
+ghost use Rattle.std.specs.Prelude.{◌≡◌, ◌≤◌, ◌++◌, ◌∷◌, [], ℕ, List, OnErr, IfOk, IfSome, length, IsTrue, ◌↔◌, vec_len, vec_capacity};
+ghost use Rattle.gate_core.specs.Limit.{limit};
+
+use std::alloc::{AllocError, Global};
+
+/// The longest line that is acted on.
+pub const LIMIT: usize = 65536;
+
+/// What has come of a line, or that it is too long.
+#[derive(Drop)]
+pub struct Line {
+    bytes: Vec<u8>,
+    long: bool,
+    ghost room: { limit ≤ vec_capacity bytes },
+    ghost within: { vec_len bytes ≤ limit },
+}
+
+impl Line {
+    ghost use Rattle.gate_core.specs.Line.{Holds, Shows};
+
+    pub fn new(alloc: Global) -> Result<Line, AllocError>
+        ensures { IfOk result (λ line. Holds line []) }
+    {
+        Ok(Line {
+            bytes: Vec::with_capacity(alloc, LIMIT)?,
+            long: false,
+        })
+    }
+
+    pub fn push(&mut self, byte: u8)
+        ensures { (begun : List ℕ) → Holds self.old begun → Holds self.new (begun ++ byte ∷ []) }
+    {
+        if self.bytes.len() < LIMIT {
+            self.bytes.push_reserved(byte);
+        } else {
+            self.long = true;
+        }
+    }
+
+    pub fn clear(&mut self)
+        ensures { Holds self.new [] }
+    {
+        self.bytes.clear();
+        self.long = false;
+    }
+
+    /// The line, or nothing where it is too long.
+    pub fn get(&self) -> Option<&[u8]>
+        ensures within { IfSome result (λ s. length s.now ≤ limit) }
+        ensures shows { (begun : List ℕ) → Holds self.now begun → Shows result begun }
+    {
+        if self.long {
+            None
+        } else {
+            Some(self.bytes.as_slice())
+        }
+    }
+
+    pub fn is_empty(&self) -> bool
+        ensures { (begun : List ℕ) → Holds self.now begun → IsTrue result ↔ (begun ≡ []) }
+    {
+        self.bytes.is_empty()
+    }
+}

@@ -1,0 +1,66 @@
+//! A whole conversation: deliveries in, one a line, and replies out.
+ghost use Rattle.std.specs.Prelude.{◌≡◌, [], ℕ, List, OnOk, IfOk, IsErrOf, true, false, length};
+ghost use Rattle.std.specs.Io.KnownBytes.{Appends, Consumes, IsAtEnd};
+ghost use Rattle.std.specs.Io.Iter.{u64_saturate};
+ghost use Rattle.gate_types.specs.Tap.{inside, has_failed};
+ghost use Rattle.gate_core.specs.Lines.{whole_from, lines_of, IsKnown};
+ghost use Rattle.gate_core.specs.Gated.{Gated};
+ghost use Rattle.gate_core.specs.Replies.{Marked, Replayed, Cut, CallsAreAnswered};
+
+use crate::engine::answer_lines;
+use crate::fault::IoFault;
+use crate::gate::Gate;
+use gate_types::tap::Tap;
+use std::alloc::Global;
+use std::io::{Read, Write};
+
+#[cfg(test)]
+mod tests;
+
+/// Answers each line of the reader by one line to the writer: the reply to its delivery, a
+/// refusal, or `{"error":"too-large"}` where it has over 65,536 bytes and is skipped. A line ends
+/// at LF; a last line without LF counts if it isn't empty. Each answer is written before the next
+/// read, so give a writer that holds nothing back. The number of lines is given, at most
+/// `u64::MAX`.
+///
+/// `Read`: the reader failed; a line that was cut by this isn't acted on. `Write`: the writer
+/// failed within an answer, whose delivery stands. `NoMemory`: nothing was read or written.
+/// `Store`: never.
+pub fn replay<R: Read, W: Write>(
+    alloc: Global,
+    gate: &mut Gate,
+    r: &mut Tap<R>,
+    w: &mut Tap<W>,
+) -> Result<u64, IoFault>
+    requires reader { has_failed r.old ≡ false }
+    requires writer { has_failed w.old ≡ false }
+    ensures ok { IfOk result (λ n. (input : List ℕ)
+        × Consumes (R.remaining (inside r.old)) (R.remaining (inside r.new)) input
+        × IsAtEnd (R.remaining (inside r.new))
+        × (text : List ℕ) × Replayed gate.old (lines_of input) text gate.new
+        × Appends (W.contents (inside w.old)) (W.contents (inside w.new)) text
+        × (n ≡ u64_saturate (length (lines_of input)))) }
+    // the lines before the one that the error cut
+    ensures read { IsErrOf result IoFault.Read → (front : List ℕ)
+        × Consumes (R.remaining (inside r.old)) (R.remaining (inside r.new)) front
+        × (text : List ℕ) × Replayed gate.old (whole_from [] front) text gate.new
+        × Appends (W.contents (inside w.old)) (W.contents (inside w.new)) text }
+    ensures write { IsErrOf result IoFault.Write → (input : List ℕ)
+        × IsKnown (R.remaining (inside r.old)) input
+        × (text : List ℕ) × Cut gate.old (lines_of input) text gate.new
+        × Appends (W.contents (inside w.old)) (W.contents (inside w.new)) text }
+    ensures memory { IsErrOf result IoFault.NoMemory →
+        (gate.new ≡ gate.old) × (r.new ≡ r.old) × (w.new ≡ w.old) }
+    ensures store { IsErrOf result IoFault.Store → ⊥ }
+    ensures unfailed { OnOk result (has_failed w.new ≡ false) }
+    ensures reader_failed { IsErrOf result IoFault.Read → has_failed r.new ≡ true }
+    ensures writer_failed { IsErrOf result IoFault.Write → has_failed w.new ≡ true }
+{
+    answer_lines(alloc, gate, r, w)
+}
+
+/// The replies to those lines that are calls are the answers to these calls, each id acting once:
+/// repeats get the kept reply, and an id that was spent on another delivery is refused.
+pub fn calls_are_answered()
+    ensures { (g : Gated) (lines : List Marked) → CallsAreAnswered g lines }
+{}
