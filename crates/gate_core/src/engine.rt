@@ -15,9 +15,6 @@ use gate_types::tap::{Failed, Tap};
 use std::alloc::Global;
 use std::io::{Read, Write};
 
-#[cfg(test)]
-mod tests;
-
 /// What a line is answered by.
 #[derive(Drop)]
 pub enum Said {

@@ -3,8 +3,6 @@
 
 mod engine;
 pub mod fault;
-#[cfg(test)]
-mod fixtures;
 pub mod gate;
 mod keeper;
 mod line;

@@ -14,9 +14,6 @@ use gate_types::tap::Tap;
 use std::alloc::Global;
 use std::io::{Read, Write};
 
-#[cfg(test)]
-mod tests;
-
 /// Answers each line of the reader by one line to the writer: the reply to its delivery, a
 /// refusal, or `{"error":"too-large"}` where it has over 65,536 bytes and is skipped. A line ends
 /// at LF; a last line without LF counts if it isn't empty. Each answer is written before the next

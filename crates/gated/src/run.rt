@@ -11,9 +11,9 @@ mod fault;
 mod tests;
 
 use crate::command::Cmd;
+pub use fault::Fault;
 use gate_core::gate::Gate;
 use gate_core::replay::replay;
-pub use fault::Fault;
 use gate_types::config::Config;
 use gate_types::tap::{Failed, Tap};
 use std::alloc::Global;

@@ -2,8 +2,8 @@
 ghost use Rattle.std.specs.Prelude.{◌≡◌};
 ghost use Rattle.gated.specs.Faults.{text_of, settings_text};
 
-use gate_core::fault::IoFault;
 use gate_config::ConfigFault;
+use gate_core::fault::IoFault;
 use gate_types::tap::Failed;
 
 /// Why a command ended before it was done.

@@ -1,0 +1,13 @@
+//! Conversations with the gate over settings files: tests that cross crates.
+#![tactic(auto)]
+
+#[cfg(test)]
+mod conversations;
+#[cfg(test)]
+mod faults;
+#[cfg(test)]
+mod gates;
+#[cfg(test)]
+mod lines;
+#[cfg(test)]
+mod streams;
