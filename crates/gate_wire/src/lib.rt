@@ -1,0 +1,14 @@
+//! What the forge and the workers say, and what they are told: bytes become deliveries, commit
+//! messages the changes that they need, replies their texts. `docs/FORMATS.md` has the formats.
+#![tactic(auto)]
+
+mod door;
+mod footers;
+mod members;
+mod reading;
+mod replies;
+
+pub use door::Door;
+pub use footers::needs;
+pub use reading::read_delivery;
+pub use replies::write_reply;

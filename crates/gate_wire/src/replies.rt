@@ -1,0 +1,104 @@
+//! Writes the text of a reply.
+ghost use Rattle.std.specs.Prelude.{◌≡◌, ◌==◌, if◌then◌else◌, [], ◌++◌, map, codes, decimal, IfOk, OnOk, string_bytes};
+ghost use Rattle.gate_types.specs.JsonText.{array, object, entry as entry_piece};
+ghost use Rattle.gate_types.specs.ReplyText.{reply_member, reply_text};
+
+use gate_types::deliveries::Reply;
+use gate_types::names::NoMemory;
+use gate_types::numbers::Serial;
+use gate_types::records::{Build, Entry};
+use std::alloc::Global;
+
+#[cfg(test)]
+mod tests;
+
+/// Adds a separator, and a change at its revision.
+fn push_entry(
+    alloc: Global,
+    text: &mut String,
+    separator: &str,
+    entry: Entry,
+) -> Result<(), NoMemory>
+    ensures { OnOk result (string_bytes text.new ≡ string_bytes text.old ++ (separator.now ++ entry_piece entry [])) }
+{
+    let change = entry.change.get();
+    let revision = entry.revision.get();
+    let piece = format!(in alloc; "{separator}[{change},{revision}]")?;
+    text.push_str(piece.as_str())?;
+    Ok(())
+}
+
+/// What stands before an entry at a place.
+fn separator(place: usize) -> &'static str
+    ensures { result.now ≡ if place == 0 then [] else codes "," }
+{
+    if place == 0 { "" } else { "," }
+}
+
+/// The changes ahead of a build's own, as an array.
+fn ahead_text(alloc: Global, ahead: &[Entry]) -> Result<String, NoMemory>
+    ensures { IfOk result (λ s. string_bytes s ≡ array (map entry_piece ahead.now) []) }
+{
+    let mut text = String::from_str(alloc, "[")?;
+    for (place, entry) in ahead.iter().enumerate() {
+        push_entry(alloc, &mut text, separator(place), *entry)?;
+    }
+    text.push_str("]")?;
+    Ok(text)
+}
+
+/// The first members of the reply that gives a build.
+fn build_front(alloc: Global, after: u64, ahead: &str, build: u64) -> Result<String, NoMemory>
+    ensures { IfOk result (λ s. string_bytes s ≡ codes "{\"after\":" ++ (decimal after ++ (codes ",\"ahead\":" ++ (ahead.now ++ (codes ",\"build\":" ++ decimal build))))) }
+{
+    format!(in alloc; "{{\"after\":{after},\"ahead\":{ahead},\"build\":{build}")
+}
+
+fn build_text(alloc: Global, build: &Build) -> Result<String, NoMemory>
+    ensures { IfOk result (λ s. string_bytes s ≡ reply_text (Reply.Build build.now)) }
+{
+    let ahead = ahead_text(alloc, build.ahead.as_slice())?;
+    let front = build_front(alloc, build.after, ahead.as_str(), build.number.get())?;
+    let change = build.change.get();
+    let job = build.job.as_str();
+    let queue = build.queue.as_str();
+    let revision = build.revision.get();
+    let text = format!(in alloc;
+        "{front},\"change\":{change},\"job\":\"{job}\",\"queue\":\"{queue}\",\"reply\":\"build\",\"revision\":{revision}}}"
+    )?;
+    Ok(text)
+}
+
+fn queued_text(alloc: Global, order: Serial) -> Result<String, NoMemory>
+    ensures { IfOk result (λ s. string_bytes s ≡ reply_text (Reply.Queued order)) }
+{
+    let order = order.get();
+    format!(in alloc; "{{\"order\":{order},\"reply\":\"queued\"}}")
+}
+
+fn landed_text(alloc: Global, place: u64) -> Result<String, NoMemory>
+    ensures { IfOk result (λ s. string_bytes s ≡ reply_text (Reply.Landed place)) }
+{
+    format!(in alloc; "{{\"n\":{place},\"reply\":\"landed\"}}")
+}
+
+/// The text of a reply: compact JSON, members in byte order of their names, no line end.
+///
+/// # Errors
+///
+/// `NoMemory` where memory was refused.
+pub fn write_reply(alloc: Global, reply: &Reply) -> Result<String, NoMemory>
+    ensures { IfOk result (λ s. string_bytes s ≡ reply_text reply.now) }
+{
+    match reply {
+        Reply::Recorded => String::from_str(alloc, "{\"reply\":\"recorded\"}"),
+        Reply::Stale => String::from_str(alloc, "{\"reply\":\"stale\"}"),
+        Reply::Waiting => String::from_str(alloc, "{\"reply\":\"waiting\"}"),
+        Reply::Already => String::from_str(alloc, "{\"reply\":\"already\"}"),
+        Reply::Removed => String::from_str(alloc, "{\"reply\":\"removed\"}"),
+        Reply::Noted => String::from_str(alloc, "{\"reply\":\"noted\"}"),
+        Reply::Queued(order) => queued_text(alloc, *order),
+        Reply::Landed(place) => landed_text(alloc, *place),
+        Reply::Build(build) => build_text(alloc, build),
+    }
+}
