@@ -1,5 +1,5 @@
 -- A document without a fault says sound settings.
-use Rattle.std.proofs.Common.{◌≡◌, ℕ, List, [], ◌∷◌, map, length, Bool, true, false, not, ◌&&◌, ◌||◌, ◌==◌, nat_le, nat_lt, cond, Option, Some, None, refl, ap, sym, ◌∙◌, arith, subst}
+use Rattle.std.proofs.Common.{◌≡◌, ℕ, List, [], ◌∷◌, map, length, Bool, true, false, not, ◌&&◌, ◌||◌, nat_le, nat_lt, cond, Option, Some, None, refl, ap, sym, ◌∙◌, arith, subst}
 use Rattle.std.proofs.lemmas.Bool.{or_parts, and_parts, not-false}
 use Rattle.std.proofs.lemmas.Bool.Decides.{nat_tests}
 use Rattle.std.proofs.lemmas.List.{length-map}
@@ -11,7 +11,7 @@ use Rattle.gate_types.specs.Settings.{are_distinct, has_queue, is_sound_window, 
 use Rattle.gate_config.specs.Document.{queues_of, projects_of, jobs_of, name_of, queue_named_by, base_of, queue_of, job_of, project_of, settings_of, is_voting}
 use Rattle.gate_config.specs.Members.{misses_member, has_unknown_member}
 use Rattle.gate_config.specs.Kinds.{has_wrong_kind}
-use Rattle.gate_config.specs.Rules.{has_bad_name, has_bad_name_in_project, has_bad_name_anywhere, has_double, has_double_name, has_named, names_no_queue, is_bad_window, is_bad_queue, is_bad_project, has_bad_window, has_no_voting_job, has_too_many_jobs, most_queues, most_jobs, is_beyond_limits}
+use Rattle.gate_config.specs.Rules.{has_bad_name, has_bad_name_in_project, has_bad_name_anywhere, has_double, has_double_name, has_named, names_no_queue, is_bad_window, is_bad_queue, is_bad_project, has_bad_window, has_no_voting_job, has_too_many_jobs, most_jobs, is_beyond_limits}
 use Rattle.gate_config.specs.Faults.{fault_of}
 use Rattle.gate_config.specs.declared.fault.ConfigFault.{ConfigFault}
 use Rattle.gate_config.proofs.DocumentLemmas.{list_any_map}
@@ -101,10 +101,6 @@ names_of_jobs : (ds : List Data) → map (λ j. j.name) (map job_of ds) ≡ map 
 names_of_jobs [] = refl
 names_of_jobs (d ∷ ds) = ap (λ ns. name_of d ∷ ns) (names_of_jobs ds)
 
--- a list of this length is one of one queue
-one_queue : (n : ℕ) → (nat_le 1 n && nat_le n most_queues) ≡ true → (n == 1) ≡ true
-one_queue n h = grind (arith, nat_tests)
-
 few_jobs : (n : ℕ) → nat_lt most_jobs n ≡ false → nat_le n 32 ≡ true
 few_jobs n h = grind (arith, nat_tests)
 
@@ -140,12 +136,15 @@ settings_are_sound d r =
     let (queue_doubles, project_doubles) = or_parts _ _ doubles in
     let (counts, jobs) = or_parts _ _ r.limits in
     let (queues, projects) = or_parts _ _ counts in
-    let (some, most) = and_parts _ _ (not-false _ projects) in
+    let (a_queue, few_queues) = and_parts _ _ (not-false _ queues) in
+    let (a_project, few_projects) = and_parts _ _ (not-false _ projects) in
+    let m = length-map (queues_of d) queue_of in
     let n = length-map (projects_of d) project_of in
-    both _ _ (both _ _ (both _ _ (both _ _ (both _ _ (both _ _
-    (ap (λ n. n == 1) (length-map (queues_of d) queue_of) ∙ one_queue _ (not-false _ queues))
-    (ap (λ n. nat_le 1 n) n ∙ some))
-    (ap (λ n. nat_le n 256) n ∙ most))
+    both _ _ (both _ _ (both _ _ (both _ _ (both _ _ (both _ _ (both _ _
+    (ap (λ n. nat_le 1 n) m ∙ a_queue)
+    (ap (λ n. nat_le n 32) m ∙ few_queues))
+    (ap (λ n. nat_le 1 n) n ∙ a_project))
+    (ap (λ n. nat_le n 256) n ∙ few_projects))
     (ap are_distinct (names_of_queues (queues_of d)) ∙ not-false _ queue_doubles))
     (ap are_distinct (names_of_projects (projects_of d)) ∙ not-false _ project_doubles))
     (sound_windows (queues_of d) r.windows))

@@ -8,7 +8,7 @@ use Rattle.gate_config.specs.Document.{queues_of, projects_of, jobs_of, name_of,
 
 -- how many queues, projects, and jobs of a project there may be
 abbrev pub most_queues : ℕ
-most_queues = 1
+most_queues = 32
 
 abbrev pub most_projects : ℕ
 most_projects = 256

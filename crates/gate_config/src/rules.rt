@@ -14,7 +14,7 @@ use crate::document::{
 use gate_types::names::{has_base_form, has_name_form, has_path_form};
 use toml::Value;
 
-const MOST_QUEUES: usize = 1;
+const MOST_QUEUES: usize = 32;
 
 const MOST_PROJECTS: usize = 256;
 

@@ -1,6 +1,7 @@
 use super::{ConfigFault, read};
 use gate_types::config::Config;
 use std::alloc::{AllocError, Global};
+use std::process::Abort;
 use std::test::Fail;
 
 const SETTINGS: &str = r#"
@@ -9,6 +10,11 @@ base = "https://forge/c/"
 
 [[queue]]
 name = "core"
+window = 2
+floor = 1
+
+[[queue]]
+name = "web"
 window = 2
 floor = 1
 
@@ -24,6 +30,12 @@ voting = false
 [[project]]
 name = "app"
 queue = "core"
+[[project.job]]
+name = "unit"
+
+[[project]]
+name = "site"
+queue = "web"
 [[project.job]]
 name = "unit"
 "#;
@@ -70,7 +82,7 @@ fn reads_what_a_file_says(rt: HostRuntime) -> Result<(), Fail> {
         return Err(Fail::from("refused"));
     };
     let expected =
-        "base https://forge/c/\nqueue core 2 1\nproject lib core\njob unit true\njob docs false\nproject app core\njob unit true\n";
+        "base https://forge/c/\nqueue core 2 1\nqueue web 2 1\nproject lib core\njob unit true\njob docs false\nproject app core\njob unit true\nproject site web\njob unit true\n";
     assert_eq!(rt; outline(alloc, &config)?.as_str(), expected);
     Ok(())
 }
@@ -139,7 +151,7 @@ const QUEUES: &str = r#"2 [{}]
 8 [{name = 'q', floor = 0, window = 0}]
 8 [{name = 'q', floor = 6, window = 5}]
 0 [{name = 'q', floor = 5, window = 5}]
-10 [{name = 'q'}, {name = 'r'}]
+0 [{name = 'q'}, {name = 'r'}]
 6 [{name = 'r'}, {name = 'r'}]
 7 [{name = 'r', window = -1}]
 8 [{name = 'q', window = 5, floor = 4}, {name = 'r', floor = 30}]"#;
@@ -204,35 +216,34 @@ fn each_fault_alone(rt: HostRuntime) -> Result<(), Fail> {
     Ok(())
 }
 
+// The number of the least fault, and what stands in place of the values, with ` | ` between.
+const SEVERAL: &str = r#"10 | {base = 'b'} | [] | []
+2 | {} | 'q' | 'p'
+2 | {base = 1} | [{}] | [{name = 'p', queue = 'q', job = [{name = 'j'}]}]
+2 | {base = ''} | [{name = 'q', x = 1}] | [{name = 'p'}]
+3 | {base = 1} | [{name = 'q', x = 1}] | [{name = 'p', queue = 'q', job = [{name = 'j'}]}]
+3 | {base = ''} | [{name = 'q', window = '2'}] | [{name = 'p', queue = 'x', job = [{name = 'j', x = 1}]}]
+4 | {base = ''} | [{name = 'q', x = 1}] | [{name = 'p', queue = 'q', job = [{name = 'j'}]}]
+4 | {base = 'b'} | [{name = 'q', window = -1}] | [{name = 'p', queue = 'q', job = [], x = 1}]
+5 | {base = ''} | [{name = 'q'}, {name = 'q'}] | [{name = 'p', queue = 'q', job = [{name = 'j'}]}]
+5 | {base = 'b'} | [{name = '.'}, {name = '.'}] | [{name = 'p', queue = 'q', job = [{name = 'j'}]}]
+6 | {base = 'b'} | [{name = 'r'}, {name = 'r'}] | [{name = 'p', queue = 'q', job = [{name = 'j'}]}]
+6 | {base = 'b'} | [{name = 'q'}] | [{name = 'p', queue = 'x'}, {name = 'p', queue = 'y'}]
+7 | {base = 'b'} | [{name = 'q', window = -1}] | [{name = 'p', queue = 'r', job = [{name = 'j'}]}]
+7 | {base = 'b'} | [] | [{name = 'p', queue = 'q', job = [{name = 'j'}]}]
+8 | {base = 'b'} | [{name = 'q', window = -1}] | [{name = 'p', queue = 'q'}]
+8 | {base = 'b'} | [{name = 'q'}, {name = 'r', floor = 21}] | []
+9 | {base = 'b'} | [{name = 'q'}, {name = 'r'}] | [{name = 'p', queue = 'q'}]"#;
+
 #[test]
 fn of_several_faults_the_least_is_answered(rt: HostRuntime) -> Result<(), Fail> {
     let alloc = rt.alloc();
-    let documents = [
-        (FORGE, "[]", "[]", 10),
-        ("{base = 1}", "[{}]", PROJECT, 2),
-        ("{base = 1}", "[{name = 'q', x = 1}]", PROJECT, 3),
-        ("{base = ''}", "[{name = 'q', x = 1}]", PROJECT, 4),
-        ("{base = ''}", "[{name = 'q'}, {name = 'q'}]", PROJECT, 5),
-        (
-            FORGE,
-            "[{name = 'q', window = -1}]",
-            "[{name = 'p', queue = 'q'}]",
-            8,
-        ),
-        (
-            FORGE,
-            "[{name = 'q'}, {name = 'r'}]",
-            "[{name = 'p', queue = 'q'}]",
-            9,
-        ),
-    ];
-    for (forge, queue, project, number) in documents {
+    for line in SEVERAL.lines() {
+        let (number, values) = line.split_once(" | ").ok_or("a line")?;
+        let (forge, values) = values.split_once(" | ").ok_or("a line")?;
+        let (queue, project) = values.split_once(" | ").ok_or("a line")?;
         let text = document(alloc, forge, queue, project)?;
-        assert_eq!(rt;
-            fault_number(alloc, text.as_bytes()),
-            number,
-            "at {forge} {queue} {project}"
-        );
+        assert!(rt; is_number(alloc, text.as_str(), number)?, "at {line}");
     }
     Ok(())
 }
@@ -263,33 +274,108 @@ fn whole_files_with_faults(rt: HostRuntime) {
     assert_eq!(rt; fault_number(alloc, b"forge = {base = '\xff'}"), 1);
 }
 
-/// A document with so many projects, the first of them with so many jobs.
-fn of_size(alloc: Global, projects: u32, jobs: u32) -> Result<String, AllocError> {
-    let mut text = String::from_str(alloc, "forge = {base = 'b'}\nqueue = [{name = 'q'}]\n")?;
-    text.push_str("[[project]]\nname = 'p'\nqueue = 'q'\n")?;
+/// A document with so many queues and projects, the first project with so many jobs.
+fn of_size(alloc: Global, queues: u32, projects: u32, jobs: u32) -> Result<String, AllocError> {
+    let mut text = String::from_str(alloc, "forge = {base = 'b'}\n")?;
+    for queue in 0..queues {
+        text.push_str(format!(in alloc; "[[queue]]\nname = 'q{queue}'\n")?.as_str())?;
+    }
+    text.push_str("[[project]]\nname = 'p'\nqueue = 'q0'\n")?;
     for job in 0..jobs {
         text.push_str(format!(in alloc; "[[project.job]]\nname = 'j{job}'\n")?.as_str())?;
     }
     for project in 1..projects {
         text.push_str(format!(in alloc;
-            "[[project]]\nname = 'p{project}'\nqueue = 'q'\n[[project.job]]\nname = 'j'\n"
+            "[[project]]\nname = 'p{project}'\nqueue = 'q0'\n[[project.job]]\nname = 'j'\n"
         )?.as_str())?;
     }
     Ok(text)
 }
 
 #[test]
-fn projects_and_jobs_have_limits(rt: HostRuntime) -> Result<(), Fail> {
+fn queues_projects_and_jobs_have_limits(rt: HostRuntime) -> Result<(), Fail> {
     let alloc = rt.alloc();
-    for (projects, jobs, number) in [(256, 1, 0), (257, 1, 10), (1, 32, 0), (1, 33, 10)] {
-        let text = of_size(alloc, projects, jobs)?;
+    for (queues, projects, jobs, number) in [
+        (32, 1, 1, 0),
+        (33, 1, 1, 10),
+        (1, 256, 1, 0),
+        (1, 257, 1, 10),
+        (1, 1, 32, 0),
+        (1, 1, 33, 10),
+        (33, 1, 0, 9),
+    ] {
+        let text = of_size(alloc, queues, projects, jobs)?;
         assert_eq!(rt;
             fault_number(alloc, text.as_bytes()),
             number,
-            "at {projects} {jobs}"
+            "at {queues} {projects} {jobs}"
         );
     }
     Ok(())
+}
+
+/// The settings of a file have this text.
+fn has_text(rt: &impl Abort, alloc: Global, file: &str, text: &str) -> Result<(), Fail> {
+    let Ok(config) = read(alloc, file.as_bytes()) else {
+        return Err(Fail::from("refused"));
+    };
+    assert_eq!(rt; config.text(alloc)?.as_str(), text);
+    Ok(())
+}
+
+#[test]
+fn settings_have_one_text(rt: HostRuntime) -> Result<(), Fail> {
+    has_text(
+        &rt,
+        rt.alloc(),
+        r#"forge = {base = "https://forge/c/"}
+queue = [{floor = 1, window = 2, name = "core"}]
+project = [{queue = "core", name = "app", job = [{name = "unit"}]}]"#,
+        r#"{"base":"https://forge/c/","projects":[{"jobs":[{"name":"unit","voting":true}],"name":"app","queue":"core"}],"queues":[{"floor":1,"name":"core","window":2}]}"#,
+    )
+}
+
+#[test]
+fn the_text_keeps_the_order_of_the_file(rt: HostRuntime) -> Result<(), Fail> {
+    has_text(
+        &rt,
+        rt.alloc(),
+        r#"forge = {base = '"\'}
+queue = [{name = "z"}, {name = "a", window = 0}]
+project = [{queue = "a", name = "b/c", job = [{name = "y", voting = false}, {name = "x"}]}, {queue = "z", name = "a", job = [{name = "x"}]}]"#,
+        r#"{"base":"\"\\","projects":[{"jobs":[{"name":"y","voting":false},{"name":"x","voting":true}],"name":"b/c","queue":"a"},{"jobs":[{"name":"x","voting":true}],"name":"a","queue":"z"}],"queues":[{"floor":3,"name":"z","window":20},{"floor":3,"name":"a","window":0}]}"#,
+    )
+}
+
+/// Passes whichever one allocation is refused: the file's fault is want of memory then.
+#[test]
+fn a_refused_allocation_is_told(rt: HostRuntime) {
+    let alloc = rt.alloc();
+    let numbers = [
+        fault_number(alloc, SETTINGS.as_bytes()),
+        fault_number(alloc, b"[forge"),
+        fault_number(alloc, b""),
+    ];
+    let refused = numbers.iter().filter(|number| **number == 11).count();
+    assert!(rt; refused < 2);
+    for (number, wanted) in numbers.into_iter().zip([0, 1, 2]) {
+        assert!(rt; number == wanted || number == 11);
+    }
+}
+
+/// The same of the settings' text.
+#[test]
+fn a_refused_allocation_is_told_by_the_text(rt: HostRuntime) {
+    let alloc = rt.alloc();
+    let Ok(config) = read(
+        alloc,
+        b"forge = {base = 'b'}\nqueue = [{name = 'q'}]\nproject = [{name = 'p', queue = 'q', job = [{name = 'j'}]}]",
+    ) else {
+        return;
+    };
+    let first = config.text(alloc);
+    let second = config.text(alloc);
+    assert!(rt; first.is_ok() || second.is_ok());
 }
 
 #[test]

@@ -3,11 +3,13 @@ pub mod ReadingLemmas
 pub mod ReplyLemmas
 pub mod PlaceLemmas
 pub mod TableLemmas
+pub mod PlacedLemmas
+pub mod QueueLemmas
 pub mod QuietLemmas
 pub mod AdmitLemmas
 pub mod NeedLemmas
-pub mod StepLemmas
 pub mod StayLemmas
+pub mod StepLemmas
 pub mod ReviseLemmas
 pub mod OutcomeLemmas
 pub mod PadLemmas

@@ -18,16 +18,17 @@ use Rattle.gate_types.specs.Sweep.{Judged, judged_after, judged, judge, next_sta
 use Rattle.gate_types.specs.Window.{floor_of}
 use Rattle.gate_types.specs.Admit.{admit}
 use Rattle.gate_types.specs.Settle.{settle}
-use Rattle.gate_core.specs.Quiet.{the_queue, quiet, ArePlain}
+use Rattle.gate_core.specs.Placed.{Placed}
+use Rattle.gate_core.specs.Quiet.{quiet, Each, IsPlain}
 
 -- ---- needs
 
-needless_found : (c : Settings) (ks : List Change) (p : Change → Bool) (d : Change) → d.needs ≡ [] → ArePlain c ks → (unwrap_or (find p ks) d).needs ≡ []
+needless_found : (c : Settings) (ks : List Change) (p : Change → Bool) (d : Change) → d.needs ≡ [] → Each (IsPlain c) ks → (unwrap_or (find p ks) d).needs ≡ []
 needless_found c [] p d e h = e
 needless_found c (k ∷ ks) p d e h = elim (p k) as (λ b. (unwrap_or (cond b (Some k) (find p ks)) d).needs ≡ []) [ true ↦ h.0.needless | false ↦ needless_found c ks p d e h.1 ]
 
 -- no change needs anything
-pub needs-quiet : (c : Settings) (ks : List Change) (rd : List Ready) (it : List Item) (rp : List Report) (cn : Drawn) (n : ℕ) → ArePlain c ks → needs_of (quiet c ks rd it rp cn) n ≡ []
+pub needs-quiet : (c : Settings) (ks : List Change) (rd : List (Placed Ready)) (it : List (Placed Item)) (rp : List (Placed Report)) (cn : Drawn) (n : ℕ) → Each (IsPlain c) ks → needs_of (quiet c ks rd it rp cn) n ≡ []
 needs-quiet c ks rd it rp cn n h = ap (map (λ m. record { change = m; landed = _ })) (needless_found c ks (λ k. k.number == n) _ refl h)
 
 -- ---- places that need nothing
@@ -80,13 +81,18 @@ swept-free c s q floor js e =
     ap (λ l. swept_queue floor l q) e
     ∙ (λ k. record q { window = window-free floor q.window ps k; items = items-free c s q q.items k; reports = (ap (λ l. q.reports ++ l) (reports-free ps) ∙ append-nil q.reports) k })
 
-sweep-quiet : (c : Settings) (ks : List Change) (rd : List Ready) (it : List Item) (rp : List Report) (cn : Drawn) → ArePlain c ks → sweep c (rebase c (quiet c ks rd it rp cn)) ≡ quiet c ks rd it rp cn
+all_stay : (c : Settings) (s : State) (qs : List Queue) → s.builds ≡ [] → ((n : ℕ) → needs_of s n ≡ []) → map (λ q. swept_queue (floor_of c q) (judged c s q) q) qs ≡ qs
+all_stay c s [] b h = refl
+all_stay c s (q ∷ qs) b h =
+    let ps = map (place_of c s q) q.items in
+    let js : judged c s q ≡ map unjudged ps = (λ k. judged_after (b k) [] (places_after (b k) [] ps)) ∙ judged-free [] [] ps (free_places c s q q.items h) in
+    (λ k. swept-free c s q (floor_of c q) (judged c s q) js k ∷ all_stay c s qs b h k)
+
+sweep-quiet : (c : Settings) (ks : List Change) (rd : List (Placed Ready)) (it : List (Placed Item)) (rp : List (Placed Report)) (cn : Drawn) → Each (IsPlain c) ks → sweep c (rebase c (quiet c ks rd it rp cn)) ≡ quiet c ks rd it rp cn
 sweep-quiet c ks rd it rp cn h =
     let s = quiet c ks rd it rp cn in
-    let q : Queue = record { name = (the_queue c).name; window = (the_queue c).window; landings = []; items = it; reports = rp } in
-    let js : judged c s q ≡ map unjudged (map (place_of c s q) it) = judged-free [] [] (map (place_of c s q) it) (free_places c s q it (λ n. needs-quiet c ks rd it rp cn n h)) in
-    (λ k. record s { queues = swept-free c s q (floor_of c q) (judged c s q) js k ∷ [] })
+    (λ k. record s { queues = all_stay c s s.queues refl (λ n. needs-quiet c ks rd it rp cn n h) k })
 
 -- settling is admission alone
-pub settle-quiet : (c : Settings) (ks : List Change) (rd : List Ready) (it : List Item) (rp : List Report) (cn : Drawn) → ArePlain c ks → settle c (quiet c ks rd it rp cn) ≡ admit c (quiet c ks rd it rp cn)
+pub settle-quiet : (c : Settings) (ks : List Change) (rd : List (Placed Ready)) (it : List (Placed Item)) (rp : List (Placed Report)) (cn : Drawn) → Each (IsPlain c) ks → settle c (quiet c ks rd it rp cn) ≡ admit c (quiet c ks rd it rp cn)
 settle-quiet c ks rd it rp cn h = ap (admit c) (sweep-quiet c ks rd it rp cn h)

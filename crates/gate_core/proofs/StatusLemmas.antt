@@ -1,10 +1,11 @@
 -- The status text where nothing was built and nothing is needed.
-use Rattle.std.proofs.Common.{◌≡◌, ℕ, false, not, cond, ◌-◌, Option, Some, None, List, [], ◌∷◌, ◌++◌, map, length, refl, sym, ap, ◌∙◌, arith, append-nil, append_assoc, length-append}
+use Rattle.std.proofs.Common.{◌≡◌, ℕ, false, not, cond, ◌+◌, ◌-◌, Option, Some, None, List, [], ◌∷◌, ◌++◌, map, length, refl, sym, ap, ◌∙◌, arith, append-nil, append_assoc, length-append}
 use Rattle.std.specs.Prelude.{◌==◌, find, slice_get, codes, decimal, flat_map, unwrap_or}
 use Rattle.std.specs.Fmt.{digits}
 use Rattle.std.specs.List.{join_with_byte}
 use Rattle.std.specs.Option.{option_map, option_map_or}
 use Rattle.gate_types.specs.declared.config.Job.{Job}
+use Rattle.gate_types.specs.declared.config.Queue.{Queue as QueueSetting}
 use Rattle.gate_types.specs.declared.records.Change.{Change}
 use Rattle.gate_types.specs.declared.records.Report.{Report}
 use Rattle.gate_types.specs.Settings.{Settings}
@@ -12,11 +13,12 @@ use Rattle.gate_types.specs.Counters.{Drawn}
 use Rattle.gate_types.specs.State.{State, Queue, Item, Ready, change_of, project_of}
 use Rattle.gate_types.specs.Line.{Place}
 use Rattle.gate_types.specs.Slot.{are_met_by}
-use Rattle.gate_types.specs.Standing.{is_failing, places_after, place_of, ahead_of, with_ahead, needs_of}
+use Rattle.gate_types.specs.Standing.{is_failing, places, places_after, place_of, ahead_of, with_ahead, needs_of}
 use Rattle.gate_types.specs.Columns.{right, left, number_or_dash}
-use Rattle.gate_types.specs.Status.{job_column, item_row, waiting_row, status_text, standing_word}
-use Rattle.gate_core.specs.Quiet.{the_queue, quiet, ArePlain}
-use Rattle.gate_core.specs.QuietText.{queue_text, jobs_text, item_text, items_text, revision_in, waiting_text}
+use Rattle.gate_types.specs.Status.{job_column, item_row, queue_rows, waiting_row, status_text, standing_word}
+use Rattle.gate_core.specs.Placed.{Placed, of_queue}
+use Rattle.gate_core.specs.Quiet.{quiet, queues_from, Each, IsPlain}
+use Rattle.gate_core.specs.QuietText.{jobs_text, item_text, items_text, queues_text, revision_in, waiting_text}
 use Rattle.gate_core.proofs.QuietLemmas.{needs-quiet, is_failing-free}
 
 -- columns behind a first one
@@ -67,13 +69,13 @@ revision-found None d e = e
 revision-found (Some k) d e = refl
 
 -- the lines of waiting changes
-waiting-free : (c : Settings) (ks : List Change) (it : List Item) (rp : List Report) (cn : Drawn) (all rd : List Ready) → flat_map (waiting_row (quiet c ks all it rp cn)) rd ≡ waiting_text ks rd
+waiting-free : (c : Settings) (ks : List Change) (it : List (Placed Item)) (rp : List (Placed Report)) (cn : Drawn) (all rd : List (Placed Ready)) → flat_map (waiting_row (quiet c ks all it rp cn)) (map (λ r. r.row) rd) ≡ waiting_text ks rd
 waiting-free c ks it rp cn all [] = refl
 waiting-free c ks it rp cn all (r ∷ rs) =
     let s = quiet c ks all it rp cn in
-    let v : (change_of s r.change).revision ≡ revision_in ks r.change = revision-found (find (λ k. k.number == r.change) ks) _ refl in
-    (λ k. (codes "waiting" ++ 32 ∷ (decimal r.change ++ 32 ∷ decimal (v k)) ++ 10 ∷ []) ++ waiting-free c ks it rp cn all rs k)
-    ∙ ap (λ l. (codes "waiting " ++ l) ++ waiting_text ks rs) (append_assoc (decimal r.change) (32 ∷ decimal (revision_in ks r.change)) (10 ∷ []))
+    let v : (change_of s r.row.change).revision ≡ revision_in ks r.row.change = revision-found (find (λ k. k.number == r.row.change) ks) _ refl in
+    (λ k. (codes "waiting" ++ 32 ∷ (decimal r.row.change ++ 32 ∷ decimal (v k)) ++ 10 ∷ []) ++ waiting-free c ks it rp cn all rs k)
+    ∙ ap (λ l. (codes "waiting " ++ l) ++ waiting_text ks rs) (append_assoc (decimal r.row.change) (32 ∷ decimal (revision_in ks r.row.change)) (10 ∷ []))
 
 zero_text : decimal 0 ≡ 48 ∷ []
 unfolding digits
@@ -83,16 +85,23 @@ zero_text = refl
 abbrev header : List ℕ → List ℕ → List ℕ → List ℕ
 header name window landed = (codes "queue" ++ 32 ∷ (name ++ 32 ∷ (codes "window" ++ 32 ∷ (window ++ 32 ∷ (codes "landed" ++ 32 ∷ landed))))) ++ 10 ∷ []
 
-pieces : (name window rows waits end : List ℕ) → ((header name window (48 ∷ []) ++ rows) ++ []) ++ (waits ++ end) ≡ (codes "queue " ++ (name ++ (codes " window " ++ (window ++ codes " landed 0\n")))) ++ (rows ++ (waits ++ end))
-pieces name window rows waits end = simp (append_assoc, append-nil)
+pieces : (name window rows : List ℕ) → header name window (48 ∷ []) ++ rows ≡ (codes "queue " ++ (name ++ (codes " window " ++ (window ++ codes " landed 0\n")))) ++ rows
+pieces name window rows = simp append_assoc
+
+-- the lines of the queues, each with its items
+queues-free : (c : Settings) (s : State) (m : ℕ) (qs : List QueueSetting) (it : List (Placed Item)) (rp : List (Placed Report)) → s.builds ≡ [] → ((n : ℕ) → needs_of s n ≡ []) → flat_map (queue_rows c s) (queues_from m qs it rp) ≡ queues_text c s m qs it
+queues-free c s m [] it rp b h = refl
+queues-free c s m (q ∷ qs) it rp b h =
+    let r : Queue = record { name = q.name; window = q.window; landings = []; items = of_queue m it; reports = of_queue m rp } in
+    let items = items_text c s None (of_queue m it) in
+    let rows : flat_map (item_row s.builds) (places c s r) ≡ items = (λ k. flat_map (item_row (b k)) (places_after (b k) [] (map (place_of c s r) r.items))) ∙ rows-free c s r [] (of_queue m it) h in
+    (λ k. (header q.name (decimal q.window) (zero_text k) ++ rows k) ++ queues-free c s (m + 1) qs it rp b h k)
+    ∙ ap (λ l. l ++ queues_text c s (m + 1) qs it) (pieces q.name (decimal q.window) items)
 
 -- the status text, piece by piece
-pub status-quiet : (c : Settings) (ks : List Change) (rd : List Ready) (it : List Item) (rp : List Report) (cn : Drawn) → ArePlain c ks →
+pub status-quiet : (c : Settings) (ks : List Change) (rd : List (Placed Ready)) (it : List (Placed Item)) (rp : List (Placed Report)) (cn : Drawn) → Each (IsPlain c) ks →
     let s = quiet c ks rd it rp cn in
-    status_text c s ≡ queue_text (the_queue c).name (the_queue c).window ++ (items_text c s None it ++ (waiting_text ks rd ++ codes "end\n"))
+    status_text c s ≡ queues_text c s 0 c.queues it ++ (waiting_text ks rd ++ codes "end\n")
 status-quiet c ks rd it rp cn plain =
     let s = quiet c ks rd it rp cn in
-    let q : Queue = record { name = (the_queue c).name; window = (the_queue c).window; landings = []; items = it; reports = rp } in
-    let end = codes "end\n" in
-    (λ k. ((header q.name (decimal q.window) (zero_text k) ++ rows-free c s q [] it (λ n. needs-quiet c ks rd it rp cn n plain) k) ++ []) ++ (waiting-free c ks it rp cn rd rd k ++ end))
-    ∙ pieces q.name (decimal q.window) (items_text c s None it) (waiting_text ks rd) end
+    (λ k. queues-free c s 0 c.queues it rp refl (λ n. needs-quiet c ks rd it rp cn n plain) k ++ (waiting-free c ks it rp cn rd rd k ++ codes "end\n"))

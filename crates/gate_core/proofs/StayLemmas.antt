@@ -1,74 +1,77 @@
--- What stays true from one delivery to the next.
-use Rattle.std.proofs.Common.{◌≡◌, ℕ, Bool, true, false, not, ◌&&◌, ◌||◌, ◌<◌, ◌≤◌, List, [], ◌∷◌, ◌++◌, length, refl, sym, ◌∙◌, subst, inl, inr, arith, rules, length-append}
+-- What stays true from one approval to the next.
+use Rattle.std.proofs.Common.{◌≡◌, ℕ, false, not, cond, ◌+◌, ◌<◌, ◌≤◌, List, [], ◌∷◌, ◌++◌, length, refl, ap, ◌∙◌, subst, ⊎_elim, arith, append-nil}
 use Rattle.std.specs.Prelude.{◌==◌}
-use Rattle.std.proofs.lemmas.Bool.{eq-eqb, ne_eqb}
-use Rattle.std.proofs.lemmas.List.Folds.{list_any-append}
+use Rattle.std.specs.List.{list_any}
+use Rattle.std.proofs.lemmas.Bool.{eq-eqb}
+use Rattle.std.proofs.lemmas.Bool.Decides.{eqb_tells}
+use Rattle.std.proofs.lemmas.List.Elements.{filter-append}
 use Rattle.gate_types.specs.declared.records.Change.{Change}
 use Rattle.gate_types.specs.Settings.{Settings}
-use Rattle.gate_types.specs.State.{Item, Ready, has_change}
-use Rattle.gate_core.specs.Quiet.{IsQuiet, is_known, AreKnown, are_apart, AreAway}
-use Rattle.gate_core.specs.Rulings.{with_last, with_waiting}
-use Rattle.gate_core.proofs.AdmitLemmas.{and_left, and_right}
-use Rattle.gate_core.proofs.StepLemmas.{none_waits}
+use Rattle.gate_types.specs.State.{Item, Ready}
+use Rattle.gate_core.specs.Placed.{Placed, of_queue}
+use Rattle.gate_core.specs.Quiet.{IsQuiet, IsHome, AreAway, AreFull, holds}
+use Rattle.gate_core.specs.Leaving.{without_waiting}
+use Rattle.gate_core.proofs.PlacedLemmas.{or_left, or_right, not_true, eqb_swap, each-push, each-mapped, each-kept, length-push, holds-push, apart-push}
 
--- ---- one more at the end
+-- ---- the ready list
 
-pub known-push : {X : Type 0} (change : X → ℕ) (ks : List Change) (xs : List X) (x : X) → AreKnown change ks xs → is_known ks (change x) ≡ true → AreKnown change ks (xs ++ x ∷ [])
-known-push change ks [] x h k = (k, tt)
-known-push change ks (y ∷ ys) x h k = (h.0, known-push change ks ys x h.1 k)
+-- where a change doesn't wait, nothing is dropped
+pub unwaiting : (n : ℕ) (rd : List (Placed Ready)) → list_any (λ r. r.row.change == n) rd ≡ false → without_waiting n rd ≡ rd
+unwaiting n [] h = refl
+unwaiting n (r ∷ rs) h =
+    (λ k. cond (not (or_left (r.row.change == n) (list_any (λ r. r.row.change == n) rs) h k)) (r ∷ unwaiting n rs (or_right (r.row.change == n) (list_any (λ r. r.row.change == n) rs) h) k) (without_waiting n rs))
 
-pub eqb_swap : (a b : ℕ) → (a == b) ≡ false → (b == a) ≡ false
-eqb_swap a b h = ne_eqb b a (λ e. let same : (a == b) ≡ true = eq-eqb a b (sym e) in absurd (search rules))
+-- the last that waits is dropped again
+pub unwaiting_last : (rd : List (Placed Ready)) (w : Placed Ready) → list_any (λ r. r.row.change == w.row.change) rd ≡ false → without_waiting w.row.change (rd ++ w ∷ []) ≡ rd
+unwaiting_last rd w h =
+    filter-append (λ r. not (r.row.change == w.row.change)) rd (w ∷ [])
+    ∙ (λ k. unwaiting w.row.change rd h k ++ cond (not (eq-eqb w.row.change w.row.change refl k)) (w ∷ []) [])
+    ∙ append-nil rd
 
-pub or_left : (a b : Bool) → (a || b) ≡ false → a ≡ false
-or_left true b h = h
-or_left false b h = refl
+-- the others stay away from an item that enters
+pub away-entered : (it : List (Placed Item)) (i : Placed Item) (rd : List (Placed Ready)) → AreAway it rd → AreAway (it ++ i ∷ []) (without_waiting i.row.change rd)
+away-entered it i rd a =
+    each-kept (λ (r : Placed Ready). holds it r.row.change ≡ false) (λ (r : Placed Ready). holds (it ++ i ∷ []) r.row.change ≡ false) (λ r. not (r.row.change == i.row.change)) rd
+    (λ r t h. holds-push r.row.change it i h (eqb_swap r.row.change i.row.change (not_true (r.row.change == i.row.change) t))) a
 
-pub or_right : (a b : Bool) → (a || b) ≡ false → b ≡ false
-or_right true b h = absurd (search rules)
-or_right false b h = h
+-- full queues stay full
+pub full-entered : (it : List (Placed Item)) (i : Placed Item) (rd : List (Placed Ready)) → AreFull it rd → AreFull (it ++ i ∷ []) rd
+full-entered it i rd f =
+    each-mapped (λ (r : Placed Ready). 1000 ≤ length (of_queue r.queue it)) (λ (r : Placed Ready). 1000 ≤ length (of_queue r.queue (it ++ i ∷ []))) rd
+    (λ r h. omega (arith, h, length-push r.queue it i)) f
 
-pub apart-push : (it : List Item) (i : Item) → are_apart it ≡ true → has_change it i.change ≡ false → are_apart (it ++ i ∷ []) ≡ true
-apart-push [] i a h = refl
-apart-push (x ∷ xs) i a h =
-    let here : (i.change == x.change) ≡ false = eqb_swap x.change i.change (or_left (x.change == i.change) (has_change xs i.change) h) in
-    let there : has_change xs x.change ≡ false = not_true (has_change xs x.change) (and_left (not (has_change xs x.change)) (are_apart xs) a) in
-    let none : has_change (xs ++ i ∷ []) x.change ≡ false = list_any-append (λ j. j.change == x.change) xs (i ∷ []) ∙ (λ k. there k || (here k || false)) in
-    (λ k. not (none k) && apart-push xs i (and_right (not (has_change xs x.change)) (are_apart xs) a) (or_right (x.change == i.change) (has_change xs i.change) h) k)
-  where
-    not_true : (b : Bool) → not b ≡ true → b ≡ false
-    not_true true e = sym e
-    not_true false e = refl
+-- a queue that has room has none too many with one more
+pub room-entered : (it : List (Placed Item)) (i : Placed Item) → ((m : ℕ) → length (of_queue m it) ≤ 1000) → length (of_queue i.queue it) < 1000 → (m : ℕ) → length (of_queue m (it ++ i ∷ [])) ≤ 1000
+room-entered it i room here m = ⊎_elim
+    (λ t. let one = length-push m it i ∙ ap (λ b. length (of_queue m it) + cond b 1 0) t.0 in let at : length (of_queue m it) < 1000 = subst (λ p. length (of_queue p it) < 1000) t.1 here in omega (arith, one, at))
+    (λ t. let none = length-push m it i ∙ ap (λ b. length (of_queue m it) + cond b 1 0) t.0 in omega (arith, none, room m))
+    (eqb_tells i.queue m)
 
-away-push : (it : List Item) (rd : List Ready) (r : Ready) → AreAway it rd → has_change it r.change ≡ false → AreAway it (rd ++ r ∷ [])
-away-push it [] r a h = (h, tt)
-away-push it (x ∷ xs) r a h = (a.0, away-push it xs r a.1 h)
+-- ---- approvals
 
 -- an approved change entered
-pub stays-queued : (c : Settings) (ks : List Change) (rd : List Ready) (it : List Item) (n r serial : ℕ) → IsQuiet c ks rd it → is_known ks n ≡ true → has_change it n ≡ false → length it < 1000 → IsQuiet c ks rd (with_last serial n r it)
-stays-queued c ks rd it n r serial q known holds room =
-    let none : rd ≡ [] = none_waits c ks rd it q room in
-    let i : Item = record { serial = serial; change = n; revision = r } in
-    record {
-      settings = q.settings;
-      plain = q.plain;
-      items_known = known-push (λ i. i.change) ks it i q.items_known known;
-      ready_known = q.ready_known;
-      apart = apart-push it i q.apart holds;
-      away = subst (λ l. AreAway (with_last serial n r it) l) (sym none) tt;
-      room = omega (arith, length-append it (i ∷ []));
-      settled = inl none;
-    }
-
--- an approved change waits
-pub stays-waiting : (c : Settings) (ks : List Change) (rd : List Ready) (it : List Item) (n a : ℕ) → IsQuiet c ks rd it → is_known ks n ≡ true → has_change it n ≡ false → 1000 ≤ length it → IsQuiet c ks (with_waiting a n rd) it
-stays-waiting c ks rd it n a q known holds full = record {
+pub stays-queued : (c : Settings) (ks : List Change) (rd : List (Placed Ready)) (it : List (Placed Item)) (i : Placed Item) → IsQuiet c ks rd it → IsHome c ks i.queue i.row.change → list_any (λ r. r.row.change == i.row.change) rd ≡ false → holds it i.row.change ≡ false →
+    length (of_queue i.queue it) < 1000 → IsQuiet c ks rd (it ++ i ∷ [])
+stays-queued c ks rd it i q home waits held room = record {
   settings = q.settings;
   plain = q.plain;
-  items_known = q.items_known;
-  ready_known = known-push (λ r. r.change) ks rd (record { approval = a; change = n }) q.ready_known known;
+  items_home = each-push (λ (j : Placed Item). IsHome c ks j.queue j.row.change) it i q.items_home home;
+  ready_home = q.ready_home;
+  apart = apart-push it i q.apart held;
+  away = subst (AreAway (it ++ i ∷ [])) (unwaiting i.row.change rd waits) (away-entered it i rd q.away);
+  room = room-entered it i q.room room;
+  full = full-entered it i rd q.full;
+}
+
+-- an approved change waits
+pub stays-waiting : (c : Settings) (ks : List Change) (rd : List (Placed Ready)) (it : List (Placed Item)) (w : Placed Ready) → IsQuiet c ks rd it → IsHome c ks w.queue w.row.change → holds it w.row.change ≡ false → 1000 ≤ length (of_queue w.queue it) → IsQuiet c ks (rd ++ w ∷ []) it
+stays-waiting c ks rd it w q home held full = record {
+  settings = q.settings;
+  plain = q.plain;
+  items_home = q.items_home;
+  ready_home = each-push (λ (r : Placed Ready). IsHome c ks r.queue r.row.change) rd w q.ready_home home;
   apart = q.apart;
-  away = away-push it rd (record { approval = a; change = n }) q.away holds;
+  away = each-push (λ (r : Placed Ready). holds it r.row.change ≡ false) rd w q.away held;
   room = q.room;
-  settled = inr full;
+  full = each-push (λ (r : Placed Ready). 1000 ≤ length (of_queue r.queue it)) rd w q.full full;
 }

@@ -8,6 +8,7 @@ pub mod Line
 pub mod Runs
 pub mod Places
 pub mod Tables
+pub mod Placed
 pub mod Quiet
 pub mod Leaving
 pub mod Keeper

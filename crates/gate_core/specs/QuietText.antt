@@ -1,11 +1,13 @@
 -- The status text where nothing was built: every item is `ok`, and every job waits.
-use Rattle.std.specs.Prelude.{ℕ, ◌==◌, find, List, [], ◌∷◌, ◌++◌, Option, Some, codes, decimal, flat_map}
+use Rattle.std.specs.Prelude.{ℕ, ◌==◌, ◌+◌, find, List, [], ◌∷◌, ◌++◌, Option, Some, None, codes, decimal, flat_map}
 use Rattle.std.specs.Option.{option_map_or}
 use Rattle.gate_types.specs.declared.config.Job.{Job}
+use Rattle.gate_types.specs.declared.config.Queue.{Queue as QueueSetting}
 use Rattle.gate_types.specs.declared.records.Change.{Change}
 use Rattle.gate_types.specs.Settings.{Settings}
 use Rattle.gate_types.specs.State.{State, Item, Ready, project_of}
 use Rattle.gate_types.specs.Columns.{right, number_or_dash}
+use Rattle.gate_core.specs.Placed.{Placed, of_queue}
 
 -- the line of a queue in which nothing has landed
 abbrev pub queue_text : List ℕ → ℕ → List ℕ
@@ -26,12 +28,18 @@ abbrev pub items_text : Settings → State → Option ℕ → List Item → List
 items_text c s ahead [] = []
 items_text c s ahead (i ∷ is) = item_text i ahead (project_of c s i.change).jobs ++ items_text c s (Some i.serial) is
 
+-- the queues of the settings from a place on, each with its items
+abbrev pub queues_text : Settings → State → ℕ → List QueueSetting → List (Placed Item) → List ℕ
+queues_text c s place [] items = []
+queues_text c s place (q ∷ qs) items =
+    (queue_text q.name q.window ++ items_text c s None (of_queue place items)) ++ queues_text c s (place + 1) qs items
+
 -- the revision of a change, 0 where it is unknown
 abbrev pub revision_in : List Change → ℕ → ℕ
 revision_in changes n = option_map_or (λ k. k.revision) (find (λ k. k.number == n) changes) 0
 
 -- the lines of waiting changes
-abbrev pub waiting_text : List Change → List Ready → List ℕ
+abbrev pub waiting_text : List Change → List (Placed Ready) → List ℕ
 waiting_text changes [] = []
 waiting_text changes (r ∷ rs) =
-    (codes "waiting " ++ (decimal r.change ++ (32 ∷ (decimal (revision_in changes r.change) ++ 10 ∷ [])))) ++ waiting_text changes rs
+    (codes "waiting " ++ (decimal r.row.change ++ (32 ∷ (decimal (revision_in changes r.row.change) ++ 10 ∷ [])))) ++ waiting_text changes rs

@@ -7,7 +7,7 @@ use Rattle.gate_types.specs.Names.{same_name}
 use Rattle.gate_types.specs.Once.{is_unavailable}
 use Rattle.gate_types.specs.Settings.{Settings}
 use Rattle.gate_types.specs.Counters.{Drawn}
-use Rattle.gate_types.specs.State.{Item, Ready, is_landed}
+use Rattle.gate_types.specs.State.{is_landed}
 use Rattle.gate_types.specs.Step.{Stepped, accepted, refused}
 use Rattle.gate_core.specs.declared.keeper.Keeper.{Keeper}
 use Rattle.gate_core.specs.declared.keeper.rulings.ApprovalRuling.{ApprovalRuling}
@@ -22,14 +22,6 @@ use Rattle.gate_core.specs.Keeper.{state_of}
 
 -- ---- approvals
 
--- a change last in the ready list, under this approval number
-abbrev pub with_waiting : ℕ → ℕ → List Ready → List Ready
-with_waiting approval n ready = ready ++ record { approval = approval; change = n } ∷ []
-
--- a change last in the queue
-abbrev pub with_last : ℕ → ℕ → ℕ → List Item → List Item
-with_last serial n r items = items ++ record { serial = serial; change = n; revision = r } ∷ []
-
 -- the counters with one approval more, and with one order more
 abbrev pub approved_once : Drawn → Drawn
 approved_once d = record d { approval = d.approval + 1 }
@@ -38,21 +30,21 @@ abbrev pub ordered : ℕ → Drawn → Drawn
 ordered serial d = record d { order = serial }
 
 -- the step that a ruling on an approval stands for
-abbrev pub approval_step : Settings → Keeper → ℕ → ℕ → ApprovalRuling → Stepped
-approval_step c k n r (approval.Refused x) = refused x
-approval_step c k n r approval.Stale = accepted reply.Stale (state_of c k)
-approval_step c k n r approval.Already = accepted reply.Already (state_of c k)
-approval_step c k n r (approval.Queued serial) = accepted (reply.Queued serial)
-    (quiet (without_needs c) (changes_of k.changes) k.ready.items (with_last serial n r k.items.items) k.reports.items (ordered serial (approved_once k.counters)))
-approval_step c k n r approval.Waiting = accepted reply.Waiting
-    (quiet (without_needs c) (changes_of k.changes) (with_waiting (k.counters.approval + 1) n k.ready.items) k.items.items k.reports.items (approved_once k.counters))
+abbrev pub approval_step : Settings → Keeper → ApprovalRuling → Stepped
+approval_step c k (approval.Refused x) = refused x
+approval_step c k approval.Stale = accepted reply.Stale (state_of c k)
+approval_step c k approval.Already = accepted reply.Already (state_of c k)
+approval_step c k (approval.Queued i) = accepted (reply.Queued i.row.serial)
+    (quiet (without_needs c) (changes_of k.changes) k.ready.items (k.items.items ++ i ∷ []) k.reports.items (ordered i.row.serial (approved_once k.counters)))
+approval_step c k (approval.Waiting w) = accepted reply.Waiting
+    (quiet (without_needs c) (changes_of k.changes) (k.ready.items ++ w ∷ []) k.items.items k.reports.items (approved_once k.counters))
 
 -- and what stays true after it
-abbrev pub StaysApproved : Settings → Keeper → ℕ → ℕ → ApprovalRuling → Type 0
-StaysApproved c k n r (approval.Queued serial) = IsQuiet (without_needs c) (changes_of k.changes) k.ready.items (with_last serial n r k.items.items)
-StaysApproved c k n r approval.Waiting = IsQuiet (without_needs c) (changes_of k.changes) (with_waiting (k.counters.approval + 1) n k.ready.items) k.items.items
-StaysApproved c k n r (approval.Refused x) = is_unavailable (answer.Refused x) ≡ false
-StaysApproved c k n r _ = Unit {0}
+abbrev pub StaysApproved : Settings → Keeper → ApprovalRuling → Type 0
+StaysApproved c k (approval.Queued i) = IsQuiet (without_needs c) (changes_of k.changes) k.ready.items (k.items.items ++ i ∷ [])
+StaysApproved c k (approval.Waiting w) = IsQuiet (without_needs c) (changes_of k.changes) (k.ready.items ++ w ∷ []) k.items.items
+StaysApproved c k (approval.Refused x) = is_unavailable (answer.Refused x) ≡ false
+StaysApproved c k _ = Unit {0}
 
 -- ---- revisions
 
@@ -71,13 +63,13 @@ revision_step c k n project r revision.Stale = accepted reply.Stale (state_of c 
 revision_step c k n project r revision.Recorded = accepted reply.Recorded
     (quiet (without_needs c) (with_plain n project r (changes_of k.changes)) (without_waiting n k.ready.items) (without_item n k.items.items) (with_superseded n k.items.items k.reports.items) k.counters)
 revision_step c k n project r (revision.Admitting i) = accepted reply.Recorded
-    (quiet (without_needs c) (with_plain n project r (changes_of k.changes)) (without_waiting i.change (without_waiting n k.ready.items)) (without_item n k.items.items ++ i ∷ [])
-    (with_superseded n k.items.items k.reports.items) (ordered i.serial k.counters))
+    (quiet (without_needs c) (with_plain n project r (changes_of k.changes)) (without_waiting i.row.change (without_waiting n k.ready.items)) (without_item n k.items.items ++ i ∷ [])
+    (with_superseded n k.items.items k.reports.items) (ordered i.row.serial k.counters))
 
 -- and what stays true after it
 abbrev pub StaysRevised : Settings → Keeper → ℕ → List ℕ → ℕ → RevisionRuling → Type 0
 StaysRevised c k n project r revision.Recorded = IsQuiet (without_needs c) (with_plain n project r (changes_of k.changes)) (without_waiting n k.ready.items) (without_item n k.items.items)
 StaysRevised c k n project r (revision.Admitting i) =
-    IsQuiet (without_needs c) (with_plain n project r (changes_of k.changes)) (without_waiting i.change (without_waiting n k.ready.items)) (without_item n k.items.items ++ i ∷ [])
+    IsQuiet (without_needs c) (with_plain n project r (changes_of k.changes)) (without_waiting i.row.change (without_waiting n k.ready.items)) (without_item n k.items.items ++ i ∷ [])
 StaysRevised c k n project r (revision.Refused x) = is_unavailable (answer.Refused x) ≡ false
 StaysRevised c k n project r _ = Unit {0}

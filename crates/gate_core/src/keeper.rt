@@ -1,5 +1,6 @@
 //! All that a gate knows, in memory.
 pub mod changes;
+pub mod projects;
 pub mod queue;
 pub mod replies;
 pub mod rulings;
@@ -11,7 +12,7 @@ ghost use Rattle.gate_types.specs.Once.{kept_answer};
 ghost use Rattle.std.specs.Prelude.{◌≡◌, ◌<◌, ◌≤◌, ℕ, List, true, false, IfOk, OnOk, OnErr, string_bytes, option_copied};
 
 use crate::keeper::changes::Changes;
-use crate::keeper::queue::{Queued, Waiting, drop_waiting, leave};
+use crate::keeper::queue::{Left, Queued, Waiting, drop_waiting, leave};
 use crate::keeper::replies::Replies;
 use crate::keeper::rulings::{ApprovalRuling, RevisionRuling};
 use gate_types::canonical::canonical;
@@ -19,17 +20,17 @@ use gate_types::config::Config;
 use gate_types::deliveries::{Answer, Delivery, Refusal};
 use gate_types::names::{NoMemory, PathName, Text};
 use gate_types::numbers::{ChangeNo, Revision, Serial};
-use gate_types::records::{Change, Counters, Id, Kept, Report, Stage, Verdict};
+use gate_types::records::{Change, Counters, Id, Kept, Stage};
 use gate_types::sequence::Sequence;
 use std::alloc::Global;
 
-/// The changes, the queue with what left it, and the kept replies.
+/// The changes, the items of all queues with what left them, and the kept replies.
 #[derive(Drop)]
 pub struct Keeper {
     changes: Changes,
     ready: Vec<Waiting>,
     items: Vec<Queued>,
-    reports: Vec<Report>,
+    reports: Vec<Left>,
     replies: Replies,
     counters: Counters,
 }
@@ -190,7 +191,7 @@ impl Keeper {
         Ok(Answer::Said(answer))
     }
 
-    /// An approved change enters the queue.
+    /// An approved change enters its queue.
     fn enter(
         &mut self,
         alloc: Global,
@@ -201,8 +202,8 @@ impl Keeper {
     ) -> Result<Answer, NoMemory>
         requires sound { IsSound config.now self.old }
         requires more { self.old.counters.approval < 1000000000000000 }
-        requires stays { StaysApproved config.now self.old item.change item.revision (ApprovalRuling.Queued item.serial) }
-        ensures ok { IfOk result (λ a. Acted config.now self.old self.new id said (approval_step config.now self.old item.change item.revision (ApprovalRuling.Queued item.serial)) a) }
+        requires stays { StaysApproved config.now self.old (ApprovalRuling.Queued item) }
+        ensures ok { IfOk result (λ a. Acted config.now self.old self.new id said (approval_step config.now self.old (ApprovalRuling.Queued item)) a) }
         ensures err { OnErr result (content_of config.now self.new ≡ content_of config.now self.old) }
         ensures sound { IsSound config.now self.new }
     {
@@ -227,22 +228,20 @@ impl Keeper {
         config: &Config,
         id: Id,
         said: Text,
-        change: ChangeNo,
-        revision: Revision,
+        waiting: Waiting,
     ) -> Result<Answer, NoMemory>
         requires sound { IsSound config.now self.old }
         requires more { self.old.counters.approval < 1000000000000000 }
-        requires stays { StaysApproved config.now self.old change revision ApprovalRuling.Waiting }
-        ensures ok { IfOk result (λ a. Acted config.now self.old self.new id said (approval_step config.now self.old change revision ApprovalRuling.Waiting) a) }
+        requires stays { StaysApproved config.now self.old (ApprovalRuling.Waiting waiting) }
+        ensures ok { IfOk result (λ a. Acted config.now self.old self.new id said (approval_step config.now self.old (ApprovalRuling.Waiting waiting)) a) }
         ensures err { OnErr result (content_of config.now self.new ≡ content_of config.now self.old) }
         ensures sound { IsSound config.now self.new }
     {
         let (kept, answer) = self.prepare(alloc, id, said, "{\"reply\":\"waiting\"}")?;
+        self.ready.push_reserved(waiting);
         let counters = self.counters;
-        let approval = counters.approval + 1;
-        self.ready.push_reserved(Waiting { approval, change });
         self.counters = Counters {
-            approval,
+            approval: counters.approval + 1,
             build: counters.build,
             order: counters.order,
         };
@@ -275,18 +274,8 @@ impl Keeper {
                 said,
                 "{\"reply\":\"already\"}",
             ),
-            ApprovalRuling::Queued(serial) => self.enter(
-                alloc,
-                config,
-                id,
-                said,
-                Queued {
-                    serial,
-                    change,
-                    revision,
-                },
-            ),
-            ApprovalRuling::Waiting => self.wait(alloc, config, id, said, change, revision),
+            ApprovalRuling::Queued(item) => self.enter(alloc, config, id, said, item),
+            ApprovalRuling::Waiting(waiting) => self.wait(alloc, config, id, said, waiting),
         }
     }
 

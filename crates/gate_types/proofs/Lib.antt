@@ -1,4 +1,5 @@
 pub mod TapLemmas
+pub mod JoinLemmas
 pub mod OnceLaw
 pub mod DeliveryExamplesComputed
 pub mod BuildExamplesComputed

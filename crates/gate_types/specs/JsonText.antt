@@ -1,5 +1,6 @@
 -- Compact JSON: each piece of a text is given what stands behind it.
 use Rattle.std.specs.Prelude.{ℕ, Bool, if◌then◌else◌, List, [], ◌∷◌, ◌++◌, codes, decimal}
+use Rattle.std.specs.List.{join_by}
 use Rattle.json.specs.Print.{quoted}
 use Rattle.gate_types.specs.declared.records.Entry.{Entry}
 
@@ -32,6 +33,10 @@ joined (x ∷ y ∷ xs) rest = x (44 ∷ joined (y ∷ xs) rest)
 -- an array
 abbrev pub array : List Piece → Piece
 array items rest = 91 ∷ joined items (93 ∷ rest)
+
+-- the texts of values with commas between, in brackets
+abbrev pub listed : {X : Type 0} → (X → List ℕ) → List X → Piece
+listed text xs rest = 91 ∷ (join_by text (codes ",") xs ++ 93 ∷ rest)
 
 -- a member of an object
 abbrev pub member : List ℕ → Piece → Piece

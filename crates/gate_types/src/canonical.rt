@@ -1,21 +1,13 @@
 //! The one text of a delivery: its kind and members, without its id.
 ghost use Rattle.std.specs.Prelude.{◌≡◌, [], IfOk, string_bytes};
-ghost use Rattle.json.specs.Print.{quoted};
 ghost use Rattle.gate_types.specs.JsonText.{object};
 ghost use Rattle.gate_types.specs.Canonical.{canonical_text, ending_word, on_change, on_order_number};
 
 use crate::deliveries::{Delivery, Ending};
+use crate::json_text::quote;
 use crate::names::{NoMemory, PathName};
 use crate::numbers::{BuildNo, ChangeNo, Revision, Serial};
-use serde_json::Value;
 use std::alloc::Global;
-
-/// A text in JSON's quotes.
-fn quote(alloc: Global, text: &str) -> Result<String, NoMemory>
-    ensures { IfOk result (λ s. string_bytes s ≡ quoted text.now) }
-{
-    Value::try_from_str(alloc, text)?.to_string(alloc)
-}
 
 fn revision_text(
     alloc: Global,

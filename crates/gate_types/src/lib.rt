@@ -8,12 +8,14 @@ pub mod config;
 pub mod deliveries;
 pub mod edits;
 pub mod examples;
+mod json_text;
 pub mod laws;
 pub mod names;
 pub mod numbers;
 pub mod records;
 pub mod refusals;
 pub mod sequence;
+mod settings_text;
 pub mod tap;
 #[cfg(test)]
 mod tests;

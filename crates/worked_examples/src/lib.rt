@@ -10,4 +10,6 @@ mod gates;
 #[cfg(test)]
 mod lines;
 #[cfg(test)]
+mod queues;
+#[cfg(test)]
 mod streams;

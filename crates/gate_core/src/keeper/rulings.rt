@@ -2,13 +2,14 @@
 ghost use Rattle.std.specs.Prelude.{◌≡◌, ℕ, List, true, false};
 
 use crate::keeper::Keeper;
-use crate::keeper::queue::{Queued, first_other, holds, waits};
-use gate_types::config::{Config, Project};
+use crate::keeper::projects::{has_project, queue_of};
+use crate::keeper::queue::{Queued, Waiting, count_in, first_other, holds, item_of, waits};
+use gate_types::config::Config;
 use gate_types::deliveries::Refusal;
 use gate_types::names::PathName;
 use gate_types::numbers::{ChangeNo, Revision, Serial};
 
-/// The items that a queue has room for.
+/// The items that each queue has room for.
 const QUEUE_LIMIT: usize = 1_000;
 
 /// The last number that a counter draws.
@@ -20,9 +21,10 @@ pub enum ApprovalRuling {
     Refused(Refusal),
     Stale,
     Already,
-    /// It enters the queue under this serial.
-    Queued(Serial),
-    Waiting,
+    /// It enters its queue.
+    Queued(Queued),
+    /// Its queue is full, and it waits.
+    Waiting(Waiting),
 }
 
 /// What becomes of a revision.
@@ -52,8 +54,8 @@ impl Keeper {
     ) -> ApprovalRuling
         requires { IsSound config.now self.now }
         ensures step { step (without_needs config.now) (state_of config.now self.now) (delivery.Approved change revision)
-            ≡ approval_step config.now self.now change revision result }
-        ensures stays { StaysApproved config.now self.now change revision result }
+            ≡ approval_step config.now self.now result }
+        ensures stays { StaysApproved config.now self.now result }
     {
         let Some(known) = self.changes.get(change) else {
             return ApprovalRuling::Refused(Refusal::UnknownChange);
@@ -73,11 +75,21 @@ impl Keeper {
         if counters.approval == LAST_NUMBER {
             return ApprovalRuling::Refused(Refusal::Exhausted);
         }
-        if QUEUE_LIMIT <= self.items.len() {
-            return ApprovalRuling::Waiting;
+        let queue = queue_of(config, &known.project);
+        if QUEUE_LIMIT <= count_in(self.items.as_slice(), queue) {
+            return ApprovalRuling::Waiting(Waiting {
+                queue,
+                approval: counters.approval + 1,
+                change,
+            });
         }
         match Serial::new(counters.order + 1) {
-            Some(serial) => ApprovalRuling::Queued(serial),
+            Some(serial) => ApprovalRuling::Queued(Queued {
+                queue,
+                serial,
+                change,
+                revision,
+            }),
             None => ApprovalRuling::Refused(Refusal::Exhausted),
         }
     }
@@ -128,10 +140,10 @@ impl Keeper {
             ≡ revision_step config.now self.now change project.now revision result }
         ensures stays { StaysRevised config.now self.now change project.now revision result }
     {
-        if !holds(self.items.as_slice(), change) {
+        let Some(item) = item_of(self.items.as_slice(), change) else {
             return RevisionRuling::Recorded;
-        }
-        let Some(next) = first_other(self.ready.as_slice(), change) else {
+        };
+        let Some(next) = first_other(self.ready.as_slice(), item.queue, change) else {
             return RevisionRuling::Recorded;
         };
         let Some(known) = self.changes.get(next.change) else {
@@ -140,6 +152,7 @@ impl Keeper {
         let counters = self.counters;
         match Serial::new(counters.order + 1) {
             Some(serial) => RevisionRuling::Admitting(Queued {
+                queue: next.queue,
                 serial,
                 change: next.change,
                 revision: known.revision,
@@ -147,17 +160,4 @@ impl Keeper {
             None => RevisionRuling::Refused(Refusal::Exhausted),
         }
     }
-}
-
-ghost use Rattle.gate_types.specs.Step.{has_project};
-
-/// Whether the settings have a project.
-fn has_project(config: &Config, name: &PathName) -> bool
-    ensures { result ≡ has_project config.now name.now }
-{
-    config
-        .projects
-        .as_slice()
-        .iter()
-        .any(|project| project.name.is(name))
 }

@@ -1,13 +1,12 @@
 //! The status text, where nothing was built.
-ghost use Rattle.std.specs.Prelude.{◌≡◌, ℕ, List, ◌++◌, ◌∷◌, [], codes, decimal, find, option_copied, option_map, IfOk, string_bytes, flat_map};
+ghost use Rattle.std.specs.Prelude.{◌≡◌, ℕ, List, ◌++◌, ◌∷◌, [], codes, decimal, option_map, IfOk, string_bytes, flat_map};
 ghost use Rattle.gate_types.specs.Columns.{right, number_or_dash};
-ghost use Rattle.gate_types.specs.Names.{same_name};
-ghost use Rattle.gate_core.specs.Quiet.{the_queue};
 ghost use Rattle.gate_core.specs.QuietText.{queue_text, jobs_text, item_text};
 
 use crate::keeper::Keeper;
+use crate::keeper::projects::project_named;
 use crate::keeper::queue::Queued;
-use gate_types::config::{Config, Job, Project};
+use gate_types::config::{Config, Job};
 use gate_types::names::NoMemory;
 use gate_types::numbers::{ChangeNo, Serial};
 use std::alloc::Global;
@@ -19,19 +18,9 @@ fn queue_line(alloc: Global, name: &str, window: u32) -> Result<String, NoMemory
     format!(in alloc; "queue {name} window {window} landed 0\n")
 }
 
-/// The line of the queue.
-fn header_text(alloc: Global, config: &Config) -> Result<String, NoMemory>
-    ensures { IfOk result (λ s. string_bytes s ≡ queue_text (the_queue config.now).name (the_queue config.now).window) }
-{
-    match config.queues.as_slice().first() {
-        Some(queue) => queue_line(alloc, queue.name.as_str(), queue.window),
-        None => queue_line(alloc, "", 0),
-    }
-}
-
 /// Numbers right in 6, 9 and 4 places.
 fn numbers_text(alloc: Global, item: Queued) -> Result<String, NoMemory>
-    ensures { IfOk result (λ s. string_bytes s ≡ right 6 (decimal item.serial) ++ (32 ∷ (right 9 (decimal item.change) ++ (32 ∷ right 4 (decimal item.revision))))) }
+    ensures { IfOk result (λ s. string_bytes s ≡ right 6 (decimal item.row.serial) ++ (32 ∷ (right 9 (decimal item.row.change) ++ (32 ∷ right 4 (decimal item.row.revision))))) }
 {
     let serial = item.serial.get();
     let change = item.change.get();
@@ -72,23 +61,12 @@ pub fn item_text(
     ahead: Option<Serial>,
     jobs: &[Job],
 ) -> Result<String, NoMemory>
-    ensures { IfOk result (λ s. string_bytes s ≡ item_text item ahead jobs.now) }
+    ensures { IfOk result (λ s. string_bytes s ≡ item_text item.row ahead jobs.now) }
 {
     let numbers = numbers_text(alloc, item)?;
     let ahead = ahead_text(alloc, ahead)?;
     let jobs = jobs_text(alloc, jobs)?;
     format!(in alloc; "{numbers} {ahead} ok     {jobs}\n")
-}
-
-/// The project of a name.
-fn project_named<'c>(config: &'c Config, name: &str) -> Option<&'c Project>
-    ensures { option_copied result ≡ find (λ p. same_name p.name name.now) config.now.projects }
-{
-    config
-        .projects
-        .as_slice()
-        .iter()
-        .find(|project| project.name.as_str() == name)
 }
 
 impl Keeper {
@@ -97,8 +75,9 @@ impl Keeper {
     ghost use Rattle.gate_types.specs.Status.{status_text};
     ghost use Rattle.gate_core.specs.Gated.{without_needs};
     ghost use Rattle.gate_core.specs.Keeper.{state_of, IsSound};
+    ghost use Rattle.gate_core.specs.Placed.{of_queue};
     ghost use Rattle.gate_core.specs.Tables.{changes_of, IsSoundTable};
-    ghost use Rattle.gate_core.specs.QuietText.{items_text, revision_in, waiting_text};
+    ghost use Rattle.gate_core.specs.QuietText.{items_text, queues_text, revision_in, waiting_text};
 
     /// The jobs of a change's project, none where it is unknown.
     fn jobs_of<'k>(&'k self, config: &'k Config, change: ChangeNo) -> &'k [Job]
@@ -126,17 +105,34 @@ impl Keeper {
         }
     }
 
-    /// The lines of the items.
-    fn items_text(&self, alloc: Global, config: &Config) -> Result<String, NoMemory>
+    /// The lines of the items that stand in the queue at a place.
+    fn items_text(&self, alloc: Global, config: &Config, queue: usize) -> Result<String, NoMemory>
         requires { IsSoundTable self.now.changes }
-        ensures { IfOk result (λ s. string_bytes s ≡ items_text (without_needs config.now) (state_of config.now self.now) None self.now.items.items) }
+        ensures { IfOk result (λ s. string_bytes s ≡ items_text (without_needs config.now) (state_of config.now self.now) None (of_queue queue self.now.items.items)) }
     {
         let mut text = String::new(alloc);
         let mut ahead = None;
         for item in self.items.as_slice() {
-            let line = item_text(alloc, *item, ahead, self.jobs_of(config, item.change))?;
+            if item.queue == queue {
+                let line = item_text(alloc, *item, ahead, self.jobs_of(config, item.change))?;
+                text.push_str(line.as_str())?;
+                ahead = Some(item.serial);
+            }
+        }
+        Ok(text)
+    }
+
+    /// The lines of the queues, each with its items behind it.
+    fn queues_text(&self, alloc: Global, config: &Config) -> Result<String, NoMemory>
+        requires { IsSoundTable self.now.changes }
+        ensures { IfOk result (λ s. string_bytes s ≡ queues_text (without_needs config.now) (state_of config.now self.now) 0 config.now.queues self.now.items.items) }
+    {
+        let mut text = String::new(alloc);
+        for (place, queue) in config.queues.as_slice().iter().enumerate() {
+            let line = queue_line(alloc, queue.name.as_str(), queue.window)?;
+            let items = self.items_text(alloc, config, place)?;
             text.push_str(line.as_str())?;
-            ahead = Some(item.serial);
+            text.push_str(items.as_str())?;
         }
         Ok(text)
     }
@@ -161,9 +157,8 @@ impl Keeper {
         requires { IsSound config.now self.now }
         ensures { IfOk result (λ s. string_bytes s ≡ status_text (without_needs config.now) (state_of config.now self.now)) }
     {
-        let header = header_text(alloc, config)?;
-        let items = self.items_text(alloc, config)?;
+        let queues = self.queues_text(alloc, config)?;
         let waiting = self.waiting_text(alloc)?;
-        format!(in alloc; "{header}{items}{waiting}end\n")
+        format!(in alloc; "{queues}{waiting}end\n")
     }
 }

@@ -10,6 +10,4 @@ invariant_of-result c =
     c.new.ensures.sound c.args.config sound
 
 pub returns : goal.returns
-returns c =
-    let sound : are_sound c.args.config ≡ true = subst (λ (s : Settings). are_sound s ≡ true) c.config.view_is c.config.invariant in
-    (λ k. record { settings = without_needs c.args.config; content = (c.new.ensures.content c.args.config ∙ start-quiet c.args.config sound) k })
+returns c = (λ k. record { settings = without_needs c.args.config; content = (c.new.ensures.content c.args.config ∙ start-quiet c.args.config) k })

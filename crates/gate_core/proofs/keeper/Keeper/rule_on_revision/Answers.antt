@@ -5,7 +5,7 @@ use Rattle.gate_types.specs.State.{is_landed}
 use Rattle.gate_types.specs.Step.{has_project, is_known_and}
 use Rattle.gate_core.specs.Keeper.{state_of}
 use Rattle.gate_core.specs.Rulings.{is_other_project, is_old}
-use Rattle.gate_core.proofs.StepLemmas.{found_plain}
+use Rattle.gate_core.proofs.PlacedLemmas.{each-found}
 use Rattle.gate_core.proofs.ReviseLemmas.{revision_stale}
 use Rattle.gate_core.proofs.keeper.Keeper.rule_on_revision.Goals as goal
 
@@ -13,7 +13,7 @@ pub rule_on_place-requires-clause-fresh : goal.rule_on_place-requires-clause-fre
 rule_on_place-requires-clause-fresh c =
     let k = c.in-Some.known.now in
     let above : nat_le c.args.revision k.revision ≡ false = search rules in
-    let unlanded = (found_plain _ _ _ k (sym c.in-Some.ensures) c.requires.quiet.plain).unlanded in
+    let unlanded = (each-found _ _ _ k (sym c.in-Some.ensures) c.requires.quiet.plain).unlanded in
     ap (λ o. option_map_or (is_old c.args.revision) o false) (sym c.in-Some.ensures) ∙ (λ j. above j || unlanded j)
 
 pub returns-then-get-clause-step : goal.returns-then-get-clause-step

@@ -1,0 +1,11 @@
+use Rattle.std.proofs.Common.{map, codes, ap, ◌∙◌, arith}
+use Rattle.std.proofs.lemmas.List.{take_all}
+use Rattle.std.specs.Prelude.{string_bytes}
+use Rattle.gate_types.specs.SettingsText.{project_text}
+use Rattle.gate_types.proofs.JoinLemmas.{joined_as}
+use Rattle.gate_types.proofs.settings_text.project_texts.Goals as goal
+
+pub returns : goal.returns
+returns c =
+    let all = take_all c.loop-project.project-index c.args.projects.now (omega arith) in
+    (rw c.deref.ensures.value at c.in_ok-join.ensures.ok) ∙ joined_as string_bytes project_text (codes ",") _ _ (c.loop-project.invariant ∙ ap (map project_text) all)
