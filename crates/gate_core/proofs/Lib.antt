@@ -1,5 +1,4 @@
 pub mod RunLemmas
-pub mod ReadingLemmas
 pub mod ReplyLemmas
 pub mod PlaceLemmas
 pub mod TableLemmas

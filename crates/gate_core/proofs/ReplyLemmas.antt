@@ -13,10 +13,11 @@ use Rattle.gate_types.specs.Settings.{Settings}
 use Rattle.gate_types.specs.declared.deliveries.Answer.TheVariants as answer
 use Rattle.gate_types.specs.Once.{Content, Call, once, next_content, answer_of, answer_text, answers, is_unavailable}
 use Rattle.gate_types.specs.Refusals.{refusal_text}
-use Rattle.gate_core.specs.Gated.{Gated, Outcome, outcome}
-use Rattle.gate_core.proofs.ReadingLemmas.{taken}
+use Rattle.gate_core.specs.Gated.{Gated, Outcome, outcome, is_taken}
 use Rattle.gate_core.specs.Limit.{limit, too_large}
-use Rattle.gate_core.specs.Reading.{says}
+use Rattle.gate_wire.specs.declared.door.Door.TheVariants as door
+use Rattle.gate_wire.specs.Reading.{says}
+use Rattle.gate_core.specs.Heard.{if_taken, heard}
 use Rattle.gate_core.specs.Runs.{Answers, Runs, Broke}
 use Rattle.gate_core.specs.Replies.{CallsAreAnswered, call_replies, Marked, is_too_long, call_read, call_of, calls_of, gate_after, text_read, reply_to, replies, Told, Replayed, Cut}
 
@@ -29,7 +30,7 @@ abbrev gate_by : Bool → Bool → Gated → Result (Id × Delivery) Refusal →
 gate_by long u g r = record g { content = once g.settings g.content ((if long then [] else call_read u r) ++ []) }
 
 -- a line is told of by what its reply and its gate are
-told_by : (g after : Gated) (line text : List ℕ) (u long : Bool) (r : Result (Id × Delivery) Refusal) → is_too_long line ≡ long → says line ≡ r
+told_by : (g after : Gated) (line text : List ℕ) (u long : Bool) (r : Result (Id × Delivery) Refusal) → is_too_long line ≡ long → heard line ≡ r
     → text ≡ reply_by long u g r → after ≡ gate_by long u g r → Told g line text after
 told_by g after line text u long r hl hr said stands = record {
   unavailable = u;
@@ -48,19 +49,34 @@ answered : (c : Settings) (x : Content) (id : Id) (d : Delivery) (u : Bool)
 answered c x id d true = refl
 answered c x id d false = refl
 
+-- what a line says, by whether its kind is taken
+heard_by : (line : List ℕ) (x : Id × Delivery) (t : Bool) → says door.Any line ≡ Ok x → is_taken x.1 ≡ t → heard line ≡ (if t then Ok x else Err refusal.BadDelivery)
+heard_by line x t said e = ap if_taken said ∙ ap (λ t. if t then Ok x else Err refusal.BadDelivery) e
+
+-- the outcome of a call, by whether its kind is taken
+abbrev outcome_by : Gated → Call → Bool → Outcome
+outcome_by g k t =
+    if t then record { answer = answer_of g.settings g.content k; gate = record g { content = next_content g.settings g.content k } }
+    else record { answer = answer.Refused refusal.BadDelivery; gate = g }
+
+-- a line that says a delivery, by the outcome of its call and by whether its kind is taken
+told_by_kind : (g after : Gated) (line : List ℕ) (id : Id) (d : Delivery) (a : Answer) (t : Bool) → length line ≤ limit → heard line ≡ (if t then Ok (id, d) else Err refusal.BadDelivery)
+    → outcome_by g (record { id = id; delivery = d; unavailable = is_unavailable a }) t ≡ record { answer = a; gate = after } → Told g line (answer_text a) after
+told_by_kind g after line id d a true short said e =
+    let u = is_unavailable a in
+    told_by g after line (answer_text a) u false (Ok (id, d)) (fits line short) said
+    (ap (λ p. answer_text p.answer) (sym e) ∙ answered g.settings g.content id d u)
+    (ap (λ p. p.gate) (sym e))
+told_by_kind g after line id d a false short said e =
+    told_by g after line (answer_text a) false false (Err refusal.BadDelivery) (fits line short) said
+    (ap (λ p. answer_text p.answer) (sym e))
+    (ap (λ p. p.gate) (sym e))
+
 -- a line that says a delivery, by the outcome of its call
-pub told_call : (g after : Gated) (line : List ℕ) (id : Id) (d : Delivery) (a : Answer) → length line ≤ limit → says line ≡ Ok (id, d)
+pub told_call : (g after : Gated) (line : List ℕ) (id : Id) (d : Delivery) (a : Answer) → length line ≤ limit → says door.Any line ≡ Ok (id, d)
     → outcome g (record { id = id; delivery = d; unavailable = is_unavailable a }) ≡ record { answer = a; gate = after } → Told g line (answer_text a) after
 told_call g after line id d a short said e =
-    let u = is_unavailable a in
-    let k : Call = record { id = id; delivery = d; unavailable = u } in
-    let o : Outcome = record { answer = answer_of g.settings g.content k; gate = record g { content = next_content g.settings g.content k } } in
-    let other : Outcome = record { answer = answer.Refused refusal.BadDelivery; gate = g } in
-    let end : Outcome = record { answer = a; gate = after } in
-    let whole : o ≡ end = sym (ap (λ t. if t then o else other) (taken line (id, d) said)) ∙ e in
-    told_by g after line (answer_text a) u false (Ok (id, d)) (fits line short) said
-    (ap (λ p. answer_text p.answer) (sym whole) ∙ answered g.settings g.content id d u)
-    (ap (λ p. p.gate) (sym whole))
+    told_by_kind g after line id d a (is_taken d) short (heard_by line (id, d) (is_taken d) said refl) e
 
 -- a line over the limit is
 long : (line : List ℕ) → limit < length line → is_too_long line ≡ true
@@ -69,7 +85,7 @@ long line h = search rules
 -- a line that the engine answers, too long or not
 answers_told : (g after : Gated) (line text : List ℕ) → Answers Told g line text after → Told g line text after
 answers_told g after line text (inl (short, h)) = h
-answers_told g after line text (inr (over, said, stays)) = told_by g after line text false true (says line) (long line over) refl said stays
+answers_told g after line text (inr (over, said, stays)) = told_by g after line text false true (heard line) (long line over) refl said stays
 
 -- lines in two parts, one after the other
 pub gate_after-append : (g : Gated) (ms ns : List Marked) → gate_after (gate_after g ms) ns ≡ gate_after g (ms ++ ns)
@@ -129,4 +145,4 @@ adds_answer g ms false u (Ok x) rest =
 
 pub calls_answered : (g : Gated) (ms : List Marked) → CallsAreAnswered g ms
 calls_answered g [] = refl
-calls_answered g (m ∷ ms) = adds_answer g ms (is_too_long m.line) m.unavailable (says m.line) (λ h. calls_answered h ms)
+calls_answered g (m ∷ ms) = adds_answer g ms (is_too_long m.line) m.unavailable (heard m.line) (λ h. calls_answered h ms)

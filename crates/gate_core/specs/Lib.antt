@@ -1,5 +1,5 @@
 pub mod Gated
-pub mod Reading
+pub mod Heard
 pub mod Limit
 pub mod Lines
 pub mod Replies

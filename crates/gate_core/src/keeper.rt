@@ -9,6 +9,7 @@ pub mod status;
 ghost use Rattle.gate_core.specs.Rulings.{ordered};
 ghost use Rattle.gate_core.specs.Gated.{is_taken};
 ghost use Rattle.gate_types.specs.Once.{kept_answer};
+ghost use Rattle.gate_types.specs.ReplyText.{reply_text};
 ghost use Rattle.std.specs.Prelude.{◌≡◌, ◌<◌, ◌≤◌, ℕ, List, true, false, IfOk, OnOk, OnErr, string_bytes, option_copied};
 
 use crate::keeper::changes::Changes;
@@ -17,11 +18,12 @@ use crate::keeper::replies::Replies;
 use crate::keeper::rulings::{ApprovalRuling, RevisionRuling};
 use gate_types::canonical::canonical;
 use gate_types::config::Config;
-use gate_types::deliveries::{Answer, Delivery, Refusal};
+use gate_types::deliveries::{Answer, Delivery, Refusal, Reply};
 use gate_types::names::{NoMemory, PathName, Text};
 use gate_types::numbers::{ChangeNo, Revision, Serial};
 use gate_types::records::{Change, Counters, Id, Kept, Stage};
 use gate_types::sequence::Sequence;
+use gate_wire::write_reply;
 use std::alloc::Global;
 
 /// The changes, the items of all queues with what left them, and the kept replies.
@@ -153,21 +155,18 @@ impl Keeper {
         alloc: Global,
         id: Id,
         said: Text,
-        reply: &str,
+        reply: &Reply,
     ) -> Result<(Kept, Text), NoMemory>
         requires changes { IsSoundTable self.old.changes }
         requires replies { IsSoundReplies self.old.replies }
         ensures same { IsSame self.old self.new }
         ensures room { OnOk result (HasRoom self.new) }
-        ensures kept { IfOk result (λ made. made.0 ≡ record { id = id; said = said; reply = reply.now }) }
-        ensures answer { IfOk result (λ made. made.1 ≡ reply.now) }
+        ensures kept { IfOk result (λ made. made.0 ≡ record { id = id; said = said; reply = reply_text reply.now }) }
+        ensures answer { IfOk result (λ made. made.1 ≡ reply_text reply.now) }
     {
-        let kept = Kept {
-            id,
-            said,
-            reply: Text::new(String::from_str(alloc, reply)?),
-        };
-        let answer = Text::new(String::from_str(alloc, reply)?);
+        let reply = Text::new(write_reply(alloc, reply)?);
+        let answer = reply.copy()?;
+        let kept = Kept { id, said, reply };
         self.make_room()?;
         Ok((kept, answer))
     }
@@ -179,10 +178,10 @@ impl Keeper {
         config: &Config,
         id: Id,
         said: Text,
-        reply: &str,
+        reply: &Reply,
     ) -> Result<Answer, NoMemory>
         requires { IsSound config.now self.old }
-        ensures ok { IfOk result (λ a. Keeps config.now self.old self.new id said reply.now a) }
+        ensures ok { IfOk result (λ a. Keeps config.now self.old self.new id said (reply_text reply.now) a) }
         ensures err { OnErr result (content_of config.now self.new ≡ content_of config.now self.old) }
         ensures sound { IsSound config.now self.new }
     {
@@ -207,15 +206,13 @@ impl Keeper {
         ensures err { OnErr result (content_of config.now self.new ≡ content_of config.now self.old) }
         ensures sound { IsSound config.now self.new }
     {
-        let serial = item.serial.get();
-        let reply = format!(in alloc; "{{\"order\":{serial},\"reply\":\"queued\"}}")?;
-        let (kept, answer) = self.prepare(alloc, id, said, reply.as_str())?;
+        let (kept, answer) = self.prepare(alloc, id, said, &Reply::Queued(item.serial))?;
         self.items.push_reserved(item);
         let counters = self.counters;
         self.counters = Counters {
             approval: counters.approval + 1,
             build: counters.build,
-            order: serial,
+            order: item.serial.get(),
         };
         self.replies.push(kept);
         Ok(Answer::Said(answer))
@@ -237,7 +234,7 @@ impl Keeper {
         ensures err { OnErr result (content_of config.now self.new ≡ content_of config.now self.old) }
         ensures sound { IsSound config.now self.new }
     {
-        let (kept, answer) = self.prepare(alloc, id, said, "{\"reply\":\"waiting\"}")?;
+        let (kept, answer) = self.prepare(alloc, id, said, &Reply::Waiting)?;
         self.ready.push_reserved(waiting);
         let counters = self.counters;
         self.counters = Counters {
@@ -266,14 +263,8 @@ impl Keeper {
     {
         match self.rule_on_approval(config, change, revision) {
             ApprovalRuling::Refused(refusal) => Ok(Answer::Refused(refusal)),
-            ApprovalRuling::Stale => self.keep(alloc, config, id, said, "{\"reply\":\"stale\"}"),
-            ApprovalRuling::Already => self.keep(
-                alloc,
-                config,
-                id,
-                said,
-                "{\"reply\":\"already\"}",
-            ),
+            ApprovalRuling::Stale => self.keep(alloc, config, id, said, &Reply::Stale),
+            ApprovalRuling::Already => self.keep(alloc, config, id, said, &Reply::Already),
             ApprovalRuling::Queued(item) => self.enter(alloc, config, id, said, item),
             ApprovalRuling::Waiting(waiting) => self.wait(alloc, config, id, said, waiting),
         }
@@ -317,7 +308,7 @@ impl Keeper {
         ensures err { OnErr result (content_of config.now self.new ≡ content_of config.now self.old) }
         ensures sound { IsSound config.now self.new }
     {
-        let (kept, answer) = self.prepare(alloc, id, said, "{\"reply\":\"recorded\"}")?;
+        let (kept, answer) = self.prepare(alloc, id, said, &Reply::Recorded)?;
         self.put_revision(alloc, revised);
         self.replies.push(kept);
         Ok(Answer::Said(answer))
@@ -339,7 +330,7 @@ impl Keeper {
         ensures err { OnErr result (content_of config.now self.new ≡ content_of config.now self.old) }
         ensures sound { IsSound config.now self.new }
     {
-        let (kept, answer) = self.prepare(alloc, id, said, "{\"reply\":\"recorded\"}")?;
+        let (kept, answer) = self.prepare(alloc, id, said, &Reply::Recorded)?;
         self.put_revision(alloc, revised);
         drop_waiting(&mut self.ready, item.change);
         self.items.push_reserved(item);
@@ -366,7 +357,7 @@ impl Keeper {
         match self.rule_on_revision(config, revised.change, &revised.project, revised.revision) {
             RevisionRuling::Refused(refusal) => Ok(Answer::Refused(refusal)),
             RevisionRuling::Stale => {
-                let answer = self.keep(alloc, config, id, said, "{\"reply\":\"stale\"}")?;
+                let answer = self.keep(alloc, config, id, said, &Reply::Stale)?;
                 Ok(answer)
             }
             RevisionRuling::Recorded => self.record(alloc, config, id, said, revised),

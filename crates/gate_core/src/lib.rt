@@ -6,6 +6,5 @@ pub mod fault;
 pub mod gate;
 mod keeper;
 mod line;
-mod reading;
 pub mod replay;
 mod respond;

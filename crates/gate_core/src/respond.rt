@@ -1,8 +1,8 @@
 //! The gate as what answers lines.
 use crate::engine::{Respond, Said};
 use crate::gate::Gate;
-use crate::reading::read_delivery;
 use gate_types::deliveries::Answer;
+use gate_wire::{Door, read_delivery};
 use std::alloc::Global;
 
 impl Respond for Gate {
@@ -11,7 +11,7 @@ impl Respond for Gate {
     ghost replies = { Told };
 
     fn respond(&mut self, alloc: Global, line: &[u8]) -> Said {
-        match read_delivery(alloc, line) {
+        match read_delivery(alloc, line, Door::Any) {
             Ok((id, delivery)) => match self.deliver(alloc, id, delivery) {
                 Answer::Said(text) => Said::Text(text.into_string()),
                 Answer::Refused(refusal) => Said::Refused(refusal.text()),

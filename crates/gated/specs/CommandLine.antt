@@ -4,7 +4,7 @@ use Rattle.std.specs.Str.{bytes_eq}
 use Rattle.clap.specs.Words.{App, Row, Rule, Text, new_app, new_rule, with_rule, with_subcommand, first_of}
 use Rattle.clap.specs.declared.builder.action.ArgAction.TheVariants.{SetTrue}
 use Rattle.gated.specs.declared.command.Cmd.{Cmd}
-use Rattle.gated.specs.declared.command.Cmd.TheVariants.{Replay}
+use Rattle.gated.specs.declared.command.Cmd.TheVariants.{Check, Replay}
 
 -- the settings file, a word that has to be there
 abbrev pub settings_rule : Rule
@@ -13,6 +13,10 @@ settings_rule = record (new_rule (codes "settings")) { required = true; value_na
 -- the flag `--status`
 abbrev pub status_rule : Rule
 status_rule = record (new_rule (codes "status")) { long = Some (codes "status"); action = Some SetTrue }
+
+-- `check SETTINGS`
+abbrev pub check : App
+check = with_rule (new_app (codes "check")) settings_rule
 
 -- `replay SETTINGS [--status]`
 abbrev pub replay : App
@@ -24,14 +28,16 @@ bare = new_app (codes "gated")
 
 -- the program's command line, where a command has to be given
 abbrev pub gated : App
-gated = with_subcommand (record bare { top = record bare.top { subcommand_required = true } }) replay.top
+gated = with_subcommand (with_subcommand (record bare { top = record bare.top { subcommand_required = true } }) check.top) replay.top
 
 -- what a command line says
 pub data Said : Type 0 where
+  check_of : Text → Said
   replay_of : Text → Bool → Said
 
 abbrev pub said : Option Cmd → Option Said
 said None = None
+said (Some (Check settings)) = Some (check_of settings.now)
 said (Some (Replay settings status)) = Some (replay_of settings.now status)
 
 -- a flag was given
@@ -41,8 +47,10 @@ is_set (Some text) = bytes_eq text (codes "true")
 
 -- what a subcommand and its rows say
 abbrev pub said_of : Text × List Row → Option Said
-said_of (name, rows) = if bytes_eq name (codes "replay") then option_map (λ s. replay_of s (is_set (first_of (codes "status") rows))) (first_of (codes "settings") rows)
-    else None
+said_of (name, rows) =
+    if bytes_eq name (codes "check") then option_map check_of (first_of (codes "settings") rows) else (
+    if bytes_eq name (codes "replay") then option_map (λ s. replay_of s (is_set (first_of (codes "status") rows))) (first_of (codes "settings") rows)
+    else None)
 
 abbrev pub says : Option Cmd → Option (Text × List Row) → Type 0
 says cmd rows = said cmd ≡ option_and_then said_of rows

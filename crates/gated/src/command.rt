@@ -1,8 +1,8 @@
 //! The command line.
-ghost use Rattle.std.specs.Prelude.{◌≡◌, IfOk, IfErr, Some, map, is_some, true, false, option_map, option_and_then};
-ghost use Rattle.clap.specs.Words.{app_of, shape_of, subcommand_of, subcommand_rows_of, rows_of, found_of, first_of, kind_of, takes};
+ghost use Rattle.std.specs.Prelude.{◌≡◌, codes, IfOk, IfErr, Some, map, is_some, true, false, option_map, option_and_then};
+ghost use Rattle.clap.specs.Words.{app_of, rule_of, shape_of, subcommand_of, subcommand_rows_of, rows_of, found_of, first_of, kind_of, takes};
 ghost use Rattle.clap.specs.declared.builder.command.Command.TheViews.{out-Command as fields_of};
-ghost use Rattle.gated.specs.CommandLine.{gated, replay, is_set, said, says, said_of};
+ghost use Rattle.gated.specs.CommandLine.{gated, check, replay, settings_rule, is_set, said, says, said_of};
 
 use clap::error::ErrorKind;
 use clap::{Arg, ArgAction, ArgMatches, Command, Error};
@@ -15,6 +15,8 @@ mod tests;
 /// What the program is asked to do.
 #[derive(Clone, Copy, Debug, PartialEq, Eq)]
 pub enum Cmd<'a> {
+    /// Reads the settings of a file, and prints how many queues, projects and jobs they have.
+    Check { settings: &'a str },
     /// Answers the deliveries of standard input over the settings of a file, then prints the
     /// status if that is asked for.
     Replay { settings: &'a str, status: bool },
@@ -51,23 +53,39 @@ fn app<'a>(alloc: Global) -> Result<Command<'a>, AllocError>
             "The gate of a code forge: decides which approved changes may land, and in which order.",
         )
         .subcommand_required(true)
+        .subcommand(check(alloc)?)?
         .subcommand(replay(alloc)?)
+}
+
+/// The settings file, which each command names.
+fn settings<'a>(alloc: Global) -> Arg<'a>
+    ensures rule { rule_of result ≡ settings_rule }
+    ensures local { result.global ≡ false }
+{
+    Arg::new(alloc, "settings")
+        .value_name("SETTINGS")
+        .help("The settings file, a TOML document")
+        .required(true)
+}
+
+fn check<'a>(alloc: Global) -> Result<Command<'a>, AllocError>
+    ensures { IfOk result (λ c. (app_of c ≡ check) × ((fields_of c).has_globals ≡ false)) }
+{
+    Command::new(alloc, "check")
+        .about("Reads the settings file, and prints how many queues, projects and jobs it has.")
+        .arg(settings(alloc))
 }
 
 fn replay<'a>(alloc: Global) -> Result<Command<'a>, AllocError>
     ensures { IfOk result (λ c. (app_of c ≡ replay) × ((fields_of c).has_globals ≡ false)) }
 {
-    let settings = Arg::new(alloc, "settings")
-        .value_name("SETTINGS")
-        .help("The settings file, a TOML document")
-        .required(true);
     let status = Arg::new(alloc, "status")
         .long("status")
         .help("Print the status text after the last reply")
         .action(ArgAction::SetTrue);
     Command::new(alloc, "replay")
         .about("Answers each line of standard input, a delivery, by a line on standard output.")
-        .arg(settings)?
+        .arg(settings(alloc))?
         .arg(status)
 }
 
@@ -83,16 +101,33 @@ fn read<'a>(matches: &ArgMatches<'a>) -> Option<Cmd<'a>>
 fn entered<'a>(name: &str, inner: &ArgMatches<'a>) -> Option<Cmd<'a>>
     ensures { said result ≡ said_of (name.now, rows_of (found_of inner.now)) }
 {
-    if name == "replay" {
-        match value(inner, "settings") {
-            Some(settings) => Some(Cmd::Replay {
-                settings,
-                status: is_set(inner, "status"),
-            }),
-            None => None,
-        }
+    if name == "check" {
+        checking(inner)
+    } else if name == "replay" {
+        replaying(inner)
     } else {
         None
+    }
+}
+
+fn checking<'a>(inner: &ArgMatches<'a>) -> Option<Cmd<'a>>
+    ensures { said result ≡ said_of (codes "check", rows_of (found_of inner.now)) }
+{
+    match value(inner, "settings") {
+        Some(settings) => Some(Cmd::Check { settings }),
+        None => None,
+    }
+}
+
+fn replaying<'a>(inner: &ArgMatches<'a>) -> Option<Cmd<'a>>
+    ensures { said result ≡ said_of (codes "replay", rows_of (found_of inner.now)) }
+{
+    match value(inner, "settings") {
+        Some(settings) => Some(Cmd::Replay {
+            settings,
+            status: is_set(inner, "status"),
+        }),
+        None => None,
     }
 }
 

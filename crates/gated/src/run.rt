@@ -1,16 +1,18 @@
 //! Does what a command line asks for.
-ghost use Rattle.std.specs.Prelude.{◌≡◌, ◌⊎◌, ◌≤◌, Bool, OnOk, IfOk, length, false};
+ghost use Rattle.std.specs.Prelude.{◌≡◌, ◌⊎◌, ◌≤◌, ℕ, List, Option, OnOk, IfOk, length, false};
 ghost use Rattle.std.specs.Io.KnownBytes.{Appends};
 ghost use Rattle.gate_types.specs.Status.{status_text};
 ghost use Rattle.gate_types.specs.Tap.{inside, has_failed};
-ghost use Rattle.gated.specs.Doing.{Replays, HasSettings, Tells, settings_limit};
+ghost use Rattle.gated.specs.Doing.{Does, Checks, Replays, HasSettings, Tells, settings_limit};
 ghost use Rattle.gated.specs.Faults.{line_of};
 
+mod check;
 mod fault;
 #[cfg(test)]
 mod tests;
 
 use crate::command::Cmd;
+use crate::run::check::check_text;
 pub use fault::Fault;
 use gate_core::gate::Gate;
 use gate_core::replay::replay;
@@ -38,7 +40,7 @@ pub fn run<F: Files + AllocGlobal, R: Read, W: Write, E: Write>(
     requires writer { has_failed output.old ≡ false }
     requires teller { has_failed errors.old ≡ false }
     ensures status { (result ≡ 0) ⊎ (result ≡ 1) }
-    ensures done { result ≡ 0 → (errors.new ≡ errors.old) × (asked : Bool) × Replays asked
+    ensures done { result ≡ 0 → (errors.new ≡ errors.old) × Does cmd.entry
         (R.remaining (inside input.old)) (R.remaining (inside input.new))
         (W.contents (inside output.old)) (W.contents (inside output.new)) }
     // all of the fault's line, or a beginning where the writer has failed
@@ -71,13 +73,28 @@ fn perform<F: Files + AllocGlobal, R: Read, W: Write>(
 ) -> Result<(), Fault>
     requires reader { has_failed input.old ≡ false }
     requires writer { has_failed output.old ≡ false }
-    ensures { OnOk result ((asked : Bool) × Replays asked
+    ensures { OnOk result (Does cmd.entry
         (R.remaining (inside input.old)) (R.remaining (inside input.new))
         (W.contents (inside output.old)) (W.contents (inside output.new))) }
 {
     match cmd {
+        Cmd::Check { settings } => checked(rt, settings, output)?,
         Cmd::Replay { settings, status } => replayed(rt, settings, status, input, output)?,
     }
+    Ok(())
+}
+
+fn checked<F: Files + AllocGlobal, W: Write>(
+    rt: &F,
+    settings: &str,
+    output: &mut Tap<W>,
+) -> Result<(), Fault>
+    requires { has_failed output.old ≡ false }
+    ensures { OnOk result ((left : Option (List ℕ)) → Checks left left (W.contents (inside output.old)) (W.contents (inside output.new))) }
+{
+    let config = settings_of(rt, settings)?;
+    let text = check_text(rt.alloc(), &config)?;
+    output.write_line(text.as_str())?;
     Ok(())
 }
 

@@ -4,6 +4,16 @@ use clap::error::ErrorKind;
 use std::test::Fail;
 
 #[test]
+fn check_names_its_settings(rt: HostRuntime) -> Result<(), Fail> {
+    let words = ["gated", "check", "gate.toml"];
+    let wanted = Cmd::Check {
+        settings: "gate.toml",
+    };
+    assert_eq!(rt; command(rt.alloc(), words.as_slice())?, wanted);
+    Ok(())
+}
+
+#[test]
 fn replay_names_its_settings(rt: HostRuntime) -> Result<(), Fail> {
     let words = ["gated", "replay", "gate.toml"];
     let wanted = Cmd::Replay {
@@ -29,9 +39,14 @@ fn status_may_stand_on_either_side(rt: HostRuntime) -> Result<(), Fail> {
 
 #[test]
 fn a_bad_line_is_refused(rt: HostRuntime) {
-    let lines: [(&[&str], ErrorKind); 6] = [
+    let lines: [(&[&str], ErrorKind); 8] = [
         (&["gated"], ErrorKind::MissingSubcommand),
         (&["gated", "merge"], ErrorKind::InvalidSubcommand),
+        (&["gated", "check"], ErrorKind::MissingRequiredArgument),
+        (
+            &["gated", "check", "a", "--status"],
+            ErrorKind::UnknownArgument,
+        ),
         (&["gated", "replay"], ErrorKind::MissingRequiredArgument),
         (&["gated", "replay", "a", "b"], ErrorKind::UnknownArgument),
         (
@@ -56,8 +71,9 @@ fn a_bad_line_is_refused(rt: HostRuntime) {
 
 #[test]
 fn help_is_no_fault(rt: HostRuntime) {
-    let lines: [&[&str]; 3] = [
+    let lines: [&[&str]; 4] = [
         &["gated", "--help"],
+        &["gated", "check", "--help"],
         &["gated", "replay", "-h"],
         &["gated", "help", "replay"],
     ];

@@ -5,6 +5,7 @@ ghost use Rattle.gated.specs.Faults.{text_of, settings_text};
 use gate_config::ConfigFault;
 use gate_core::fault::IoFault;
 use gate_types::tap::Failed;
+use std::alloc::AllocError;
 
 /// Why a command ended before it was done.
 #[derive(Clone, Copy, Debug, PartialEq, Eq)]
@@ -82,6 +83,16 @@ impl From<IoFault> for Fault {
             IoFault::NoMemory => Fault::NoMemory,
             IoFault::Store => Fault::Store,
         }
+    }
+}
+
+impl From<AllocError> for Fault {
+    ghost use Rattle.gated.specs.declared.run.fault.Fault.TheVariants.{NoMemory};
+
+    ghost from_gives = { λ _ f. f ≡ NoMemory };
+
+    fn from(_: AllocError) -> Fault {
+        Fault::NoMemory
     }
 }
 

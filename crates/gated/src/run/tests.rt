@@ -8,7 +8,45 @@ use std::{fs, io};
 const ONE_QUEUE: &str =
     "[forge]\nbase = \"https://forge/c/\"\n[[queue]]\nname = \"core\"\nwindow = 2\nfloor = 1\n[[project]]\nname = \"lib\"\nqueue = \"core\"\n[[project.job]]\nname = \"unit\"\n";
 
-const SECOND_QUEUE: &str = "[[queue]]\nname = \"web\"\nwindow = 2\nfloor = 1\n";
+/// Two queues, three projects and four jobs.
+const TWO_QUEUES: &str = r#"[forge]
+base = "https://forge/c/"
+
+[[queue]]
+name = "core"
+window = 2
+floor = 1
+
+[[queue]]
+name = "web"
+window = 2
+floor = 1
+
+[[project]]
+name = "lib"
+queue = "core"
+[[project.job]]
+name = "unit"
+[[project.job]]
+name = "docs"
+voting = false
+
+[[project]]
+name = "app"
+queue = "core"
+[[project.job]]
+name = "unit"
+
+[[project]]
+name = "site"
+queue = "web"
+[[project.job]]
+name = "unit"
+"#;
+
+/// Its first queue has a floor above its window.
+const HIGH_FLOOR: &str =
+    "forge = {base = 'b'}\nqueue = [{name = 'core', window = 2, floor = 3}]\nproject = [{name = 'lib', queue = 'core', job = [{name = 'unit'}]}]\n";
 
 const APPROVAL: &str =
     "{\"id\":\"0a000000-0000-4000-8000-000000000001\",\"kind\":\"approved\",\"change\":101,\"revision\":1}\n";
@@ -41,8 +79,8 @@ impl io::Write for Broken {
     }
 }
 
-fn replayed(rt: &HostRuntime, settings: &str, status: bool, input: &str) -> Ran {
-    let cmd = Cmd::Replay { settings, status };
+/// What a command does over an input.
+fn done_by(rt: &HostRuntime, cmd: Cmd<'_>, input: &str) -> Ran {
     let mut reader = Tap::new(input.as_bytes());
     let mut output = Tap::new(Vec::new(rt.alloc()));
     let mut errors = Tap::new(Vec::new(rt.alloc()));
@@ -52,6 +90,63 @@ fn replayed(rt: &HostRuntime, settings: &str, status: bool, input: &str) -> Ran 
         output: output.into_inner(),
         errors: errors.into_inner(),
     }
+}
+
+fn replayed(rt: &HostRuntime, settings: &str, status: bool, input: &str) -> Ran {
+    done_by(rt, Cmd::Replay { settings, status }, input)
+}
+
+/// What a check of a settings file with this text prints, and its status.
+fn checked(rt: &HostRuntime, path: &str, text: &str) -> Result<Ran, Fail> {
+    fs::write(rt, path, text)?;
+    let ran = done_by(rt, Cmd::Check { settings: path }, "");
+    fs::remove_file(rt, path)?;
+    Ok(ran)
+}
+
+#[test]
+fn a_check_counts_what_the_settings_have(rt: HostRuntime) -> Result<(), Fail> {
+    let ran = checked(&rt, "check_counts.toml", TWO_QUEUES)?;
+    assert_eq!(rt; ran.status, 0);
+    assert_eq!(rt;
+        ran.output.as_slice(),
+        b"ok: 2 queues, 3 projects, 4 jobs\n".as_slice()
+    );
+    assert_eq!(rt; ran.errors.as_slice(), b"".as_slice());
+    Ok(())
+}
+
+#[test]
+fn a_check_tells_the_fault(rt: HostRuntime) -> Result<(), Fail> {
+    let cases = [
+        ("", "gated: C2 missing-member\n"),
+        ("[forge", "gated: C1 not-toml\n"),
+        (HIGH_FLOOR, "gated: C8 bad-window\n"),
+    ];
+    for (text, told) in cases {
+        let ran = checked(&rt, "check_faults.toml", text)?;
+        assert_eq!(rt; ran.status, 1, "{told}");
+        assert_eq!(rt; ran.output.as_slice(), b"".as_slice(), "{told}");
+        assert_eq!(rt; ran.errors.as_slice(), told.as_bytes(), "{told}");
+    }
+    Ok(())
+}
+
+#[test]
+fn an_empty_replay_shows_each_queue(rt: HostRuntime) -> Result<(), Fail> {
+    let path = "run_empty.toml";
+    fs::write(&rt, path, TWO_QUEUES)?;
+    let silent = replayed(&rt, path, false, "");
+    let shown = replayed(&rt, path, true, "");
+    fs::remove_file(&rt, path)?;
+    assert_eq!(rt; silent.status, 0);
+    assert_eq!(rt; silent.output.as_slice(), b"".as_slice());
+    assert_eq!(rt; shown.status, 0);
+    assert_eq!(rt;
+        shown.output.as_slice(),
+        b"queue core window 2 landed 0\nqueue web window 2 landed 0\nend\n".as_slice()
+    );
+    Ok(())
 }
 
 #[test]
@@ -72,11 +167,10 @@ fn a_delivery_is_answered_and_a_refusal_is_no_fault(rt: HostRuntime) -> Result<(
 #[test]
 fn a_settings_file_with_a_fault_ends_the_command(rt: HostRuntime) -> Result<(), Fail> {
     let path = "run_faulty.toml";
-    let two_queues = format!(in rt.alloc(); "{ONE_QUEUE}{SECOND_QUEUE}")?;
     let cases = [
         ("[forge", "gated: C1 not-toml\n"),
         ("", "gated: C2 missing-member\n"),
-        (two_queues.as_str(), "gated: C10 limit\n"),
+        (HIGH_FLOOR, "gated: C8 bad-window\n"),
     ];
     for (text, told) in cases {
         fs::write(&rt, path, text)?;

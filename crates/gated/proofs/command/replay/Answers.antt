@@ -8,11 +8,10 @@ use Rattle.gated.proofs.command.replay.Goals as goal
 
 pub returns : goal.returns
 returns c =
-    let settings : rule_of c.required-settings.result ≡ settings_rule = search rules in
     let status : rule_of c.action-status.result ≡ status_rule = search rules in
-    let about : app_of c.about.result ≡ new_app (codes "replay") = ap app_of_fields c.about.ensures ∙ c.new-3.ensures.app in
-    let local : (fields_of c.about.result).has_globals ≡ false = ap (λ f. f.has_globals) c.about.ensures ∙ c.new-3.ensures.local in
+    let about : app_of c.about.result ≡ new_app (codes "replay") = ap app_of_fields c.about.ensures ∙ c.new-2.ensures.app in
+    let local : (fields_of c.about.result).has_globals ≡ false = ap (λ f. f.has_globals) c.about.ensures ∙ c.new-2.ensures.local in
     let given : app_of c.in_ok-arg.field-0 ≡ with_rule (new_app (codes "replay")) settings_rule =
-    c.in_ok-arg.ensures.shape (search rules) ∙ ap₂ with_rule about settings in
+    c.in_ok-arg.ensures.shape (search rules) ∙ ap₂ with_rule about c.settings.ensures.rule in
     let still : (fields_of c.in_ok-arg.field-0).has_globals ≡ false = c.in_ok-arg.ensures.globals ∙ ap₂ (λ a b. a || b) local (search rules) in
     IfOk-weaker c.arg-2.result _ _ (λ r h. (h.shape (search rules) ∙ ap₂ with_rule given status, h.globals ∙ ap₂ (λ a b. a || b) still (search rules))) c.arg-2.ensures
