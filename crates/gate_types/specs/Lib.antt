@@ -25,6 +25,7 @@ pub mod Evidence
 pub mod Lawful
 pub mod SettingsText
 pub mod Columns
+pub mod Rows
 pub mod Status
 pub mod OrderList
 pub mod BuildText
