@@ -1,0 +1,13 @@
+pub mod FollowLemmas
+pub mod SharedLemmas
+pub mod PlaceLemmas
+pub mod Ordered
+pub mod Folds
+pub mod Keeps
+pub mod Stays
+pub mod Builds
+pub mod Settled
+pub mod Choosing
+pub mod LawLemmas
+pub mod ChoiceLaw
+pub mod OneByOne

@@ -1,0 +1,63 @@
+-- The place of an item, by its parts.
+use Rattle.std.proofs.Common.{◌≡◌, ℕ, ◌+◌, ◌<◌, ◌≤◌, Option, Some, None, List, ◌∷◌, ◌++◌, length, get_or, drop, refl, sym, ap, ◌∙◌, add-one, drop-cons, append_assoc, arith}
+use Rattle.gate_types.specs.declared.records.Item.{Item as ItemRow}
+use Rattle.gate_types.specs.declared.records.Landing.{Landing}
+use Rattle.gate_types.specs.declared.records.Build.{Build}
+use Rattle.gate_types.specs.declared.records.Verdict.{Verdict}
+use Rattle.gate_types.specs.declared.records.Verdict.TheVariants as verdict
+use Rattle.gate_types.specs.declared.edits.Edit.{Edit}
+use Rattle.gate_types.specs.State.{Item}
+use Rattle.gate_types.specs.Line.{Place}
+use Rattle.gate_types.specs.Standing.{with_ahead, next_ahead}
+use Rattle.gate_types.specs.Sweep.{verdict_of, judge, next_staying, next_window}
+use Rattle.gate_types.specs.Rows.{item_of}
+use Rattle.gate_queue.specs.Edits.{edits_at, edits_after, next_reports, window_behind, window_after}
+use Rattle.gate_queue.specs.declared.facts.ItemFacts.{ItemFacts}
+use Rattle.gate_queue.specs.Facts.{place_by, place_behind, places_by}
+
+-- a place with those parts
+abbrev pub with_parts : List Item → List Landing → Item → ItemFacts → Place
+with_parts ahead landings i f = record { landings = landings; ahead = ahead; item = i; needs = f.needs.now; jobs = f.jobs.now }
+
+pub place_is : (ahead a : List Item) (landings : List Landing) (i : ItemRow) (q : Item) (f : ItemFacts) → a ≡ ahead → q ≡ item_of i → with_parts a landings q f ≡ place_behind ahead landings i f
+place_is ahead a landings i q f ea eq = λ k. with_parts (ea k) landings (eq k) f
+
+-- the places from one on are the one there and those behind it
+pub places-drop : (ls : List Landing) (items : List ItemRow) (fs : List ItemFacts) (i : ℕ) (d : ItemRow) (e : ItemFacts) → i < length items → i < length fs →
+    places_by ls (drop i items) (drop i fs) ≡ place_by ls (get_or items i d) (get_or fs i e) ∷ places_by ls (drop (i + 1) items) (drop (i + 1) fs)
+places-drop ls items fs i d e p q = rw (add-one, drop-cons items i d, drop-cons fs i e) refl
+
+pub window_same : (floor w : ℕ) (i : Item) (v : Option Verdict) → window_behind floor w v ≡ next_window floor w (record { item = i; verdict = v })
+window_same floor w i None = refl
+window_same floor w i (Some verdict.Failed) = refl
+window_same floor w i (Some verdict.Needs) = refl
+window_same floor w i (Some verdict.Refused) = refl
+window_same floor w i (Some verdict.Superseded) = refl
+window_same floor w i (Some verdict.Withdrawn) = refl
+window_same floor w i (Some verdict.Closed) = refl
+window_same floor w i (Some (verdict.Landed n)) = refl
+
+-- one more item, for the edits
+pub edits_after_more : (name : List ℕ) (builds : List Build) (n m : ℕ) (ahead ahead' staying staying' : List Item) (p : Place) (ps rest : List Place) (old new all : List Edit) →
+    rest ≡ p ∷ ps → ahead' ≡ next_ahead builds (with_ahead ahead p) → staying' ≡ next_staying staying (judge builds staying (with_ahead ahead p)) →
+    new ≡ old ++ edits_at name builds n staying (with_ahead ahead p) → m ≡ next_reports n (verdict_of builds staying (with_ahead ahead p)) →
+    old ++ edits_after name builds n ahead staying rest ≡ all → new ++ edits_after name builds m ahead' staying' ps ≡ all
+edits_after_more name builds n m ahead ahead' staying staying' p ps rest old new all er ea es en em h =
+    (λ k. en k ++ edits_after name builds (em k) (ea k) (es k) ps)
+    ∙ append_assoc old (edits_at name builds n staying (with_ahead ahead p)) _
+    ∙ sym (ap (λ r. old ++ edits_after name builds n ahead staying r) er)
+    ∙ h
+
+-- and for the window
+pub window_after_more : (builds : List Build) (floor w v : ℕ) (ahead ahead' staying staying' : List Item) (p : Place) (ps rest : List Place) (all : ℕ) →
+    rest ≡ p ∷ ps → ahead' ≡ next_ahead builds (with_ahead ahead p) → staying' ≡ next_staying staying (judge builds staying (with_ahead ahead p)) →
+    v ≡ window_behind floor w (verdict_of builds staying (with_ahead ahead p)) →
+    window_after builds floor w ahead staying rest ≡ all → window_after builds floor v ahead' staying' ps ≡ all
+window_after_more builds floor w v ahead ahead' staying staying' p ps rest all er ea es ev h =
+    (λ k. window_after builds floor ((ev ∙ window_same floor w p.item (verdict_of builds staying (with_ahead ahead p))) k) (ea k) (es k) ps)
+    ∙ sym (ap (λ r. window_after builds floor w ahead staying r) er)
+    ∙ h
+
+pub next_reports-le : (n : ℕ) (v : Option Verdict) → next_reports n v ≤ n + 1
+next_reports-le n None = omega arith
+next_reports-le n (Some v) = omega arith

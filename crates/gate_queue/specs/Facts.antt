@@ -1,0 +1,32 @@
+-- The places of a queue's items, by what is known of it.
+use Rattle.std.specs.Prelude.{List, [], ◌∷◌}
+use Rattle.gate_types.specs.declared.records.Item.{Item as ItemRow}
+use Rattle.gate_types.specs.declared.records.Landing.{Landing}
+use Rattle.gate_types.specs.State.{Item}
+use Rattle.gate_types.specs.Line.{Place}
+use Rattle.gate_types.specs.Standing.{with_ahead}
+use Rattle.gate_types.specs.Rows.{item_of}
+use Rattle.gate_queue.specs.declared.facts.ItemFacts.{ItemFacts}
+use Rattle.gate_queue.specs.declared.place.Place.{Place as CodePlace}
+
+-- the place of an item, as far as its line asks for it
+abbrev pub place_before : List Landing → List Item → Item → Place
+place_before landings ahead i = record { landings = landings; ahead = ahead; item = i; needs = []; jobs = [] }
+
+-- the place of an item, before what is ahead is known
+abbrev pub place_by : List Landing → ItemRow → ItemFacts → Place
+place_by landings i f = record { landings = landings; ahead = []; item = item_of i; needs = f.needs.now; jobs = f.jobs.now }
+
+-- the same, once what is ahead is known
+abbrev pub place_behind : List Item → List Landing → ItemRow → ItemFacts → Place
+place_behind ahead landings i f = with_ahead ahead (place_by landings i f)
+
+-- the places of the items, each with the facts that go with it
+abbrev pub places_by : List Landing → List ItemRow → List ItemFacts → List Place
+places_by landings [] fs = []
+places_by landings (i ∷ items) [] = []
+places_by landings (i ∷ items) (f ∷ fs) = place_by landings i f ∷ places_by landings items fs
+
+-- the place that a place in the code stands for
+abbrev pub place_of : CodePlace → Place
+place_of p = record { landings = p.landings.now; ahead = p.ahead.now; item = p.item; needs = p.needs.now; jobs = p.jobs.now }

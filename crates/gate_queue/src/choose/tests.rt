@@ -1,0 +1,132 @@
+//! Small queues, with the build that is due in each worked out by hand from the rules.
+use crate::choose::choose;
+use crate::facts::{ItemJobs, Jobs};
+use crate::fixtures::{
+    BuildCase, ItemCase, Unmade, builds_of, docs, item, items_of, jobs_of, unit,
+};
+use gate_types::config::Job;
+use gate_types::names::NoMemory;
+use gate_types::records::Outcome::{Failure, Lost, Running, Success};
+use std::alloc::Global;
+use std::process::Abort;
+
+const LIB: &[(&str, bool)] = &[("unit", true), ("docs", false)];
+
+const APP: &[(&str, bool)] = &[("unit", true)];
+
+fn jobs_told<'a>(
+    alloc: Global,
+    all: &'a [Vec<Job>],
+    blocked: u64,
+) -> Result<Vec<ItemJobs<'a>>, NoMemory> {
+    let mut told = Vec::new(alloc);
+    for (place, jobs) in all.iter().enumerate() {
+        let is_blocked = place as u64 == blocked;
+        told.push(ItemJobs {
+            jobs,
+            blocked: is_blocked,
+        })?;
+    }
+    Ok(told)
+}
+
+fn all_jobs(alloc: Global, cases: &[ItemCase]) -> Result<Vec<Vec<Job>>, Unmade> {
+    let mut all = Vec::new(alloc);
+    for case in cases {
+        all.push(jobs_of(alloc, case)?)?;
+    }
+    Ok(all)
+}
+
+/// The serial and the job's place, or 0 and 0; the item at the place `blocked` is blocked.
+fn chosen(
+    rt: &impl Abort,
+    alloc: Global,
+    cases: &[ItemCase],
+    runs: &[BuildCase],
+    blocked: u64,
+    window: u32,
+) -> Result<(u64, usize), Unmade> {
+    let items = items_of(alloc, cases)?;
+    let builds = builds_of(alloc, runs)?;
+    let all = all_jobs(alloc, cases)?;
+    let told = jobs_told(alloc, &all, blocked)?;
+    assert_eq!(rt; told.len(), items.len());
+    let jobs = Jobs { items: &told };
+    Ok(choose(&items, &builds, window, &jobs).map_or((0, 0), |(serial, job)| (serial.get(), job)))
+}
+
+const NONE: u64 = 99;
+
+#[test]
+fn an_empty_queue_has_no_build_due(rt: HostRuntime) -> Result<(), Unmade> {
+    assert_eq!(rt; chosen(&rt, rt.alloc(), &[], &[], NONE, 0)?, (0, 0));
+    Ok(())
+}
+
+#[test]
+fn builds_are_given_front_to_back(rt: HostRuntime) -> Result<(), Unmade> {
+    let cases = [
+        item(1, 101, &[], LIB),
+        item(2, 102, &[], APP),
+        item(3, 103, &[], LIB),
+    ];
+    let runs = [
+        unit(1, 1, 101, 0, &[], Running),
+        docs(2, 1, 101, 0, &[], Success),
+        unit(3, 2, 102, 0, &[101], Running),
+        unit(4, 3, 103, 0, &[101, 102], Failure),
+    ];
+    for (begun, wanted) in [
+        (0, (1, 0)),
+        (1, (1, 1)),
+        (2, (2, 0)),
+        (3, (3, 0)),
+        (4, (3, 1)),
+    ] {
+        assert_eq!(rt;
+            chosen(&rt, rt.alloc(), &cases, &runs[..begun], NONE, 3)?,
+            wanted
+        );
+    }
+    Ok(())
+}
+
+#[test]
+fn the_window_bounds_the_items_that_are_tested(rt: HostRuntime) -> Result<(), Unmade> {
+    let cases = [item(1, 101, &[], APP), item(2, 102, &[], APP)];
+    let runs = [unit(1, 1, 101, 0, &[], Running)];
+    for (window, wanted) in [(0, (2, 0)), (1, (0, 0)), (2, (2, 0)), (1000, (2, 0))] {
+        assert_eq!(rt;
+            chosen(&rt, rt.alloc(), &cases, &runs, NONE, window)?,
+            wanted
+        );
+    }
+    Ok(())
+}
+
+#[test]
+fn a_blocked_item_gets_no_build_and_keeps_its_place(rt: HostRuntime) -> Result<(), Unmade> {
+    let cases = [item(1, 101, &[], APP), item(2, 102, &[], APP)];
+    for (window, wanted) in [(0, (2, 0)), (1, (0, 0)), (2, (2, 0))] {
+        assert_eq!(rt; chosen(&rt, rt.alloc(), &cases, &[], 0, window)?, wanted);
+    }
+    Ok(())
+}
+
+#[test]
+fn a_lost_build_is_tried_three_times(rt: HostRuntime) -> Result<(), Unmade> {
+    let cases = [item(1, 101, &[], APP)];
+    let runs = [
+        unit(1, 1, 101, 0, &[], Lost),
+        unit(2, 1, 101, 0, &[], Lost),
+        unit(3, 1, 101, 0, &[], Lost),
+    ];
+    for (lost, wanted) in [(0, (1, 0)), (1, (1, 0)), (2, (1, 0)), (3, (0, 0))] {
+        assert_eq!(rt;
+            chosen(&rt, rt.alloc(), &cases, &runs[..lost], NONE, 2)?,
+            wanted
+        );
+    }
+    Ok(())
+}

@@ -1,0 +1,119 @@
+//! The edits of one item.
+ghost use Rattle.std.specs.Prelude.{◌≡◌, ◌<◌, ◌+◌, ◌^◌, ◌++◌, Option, option_map, is_some, slice_get, length, ◌-◌, OnOk, IfOk};
+ghost use Rattle.gate_types.specs.Slot as rules;
+ghost use Rattle.gate_types.specs.Standing.{is_failing};
+ghost use Rattle.gate_types.specs.Sweep as sweep;
+ghost use Rattle.gate_queue.specs.Facts.{place_of};
+ghost use Rattle.gate_queue.specs.Edits as edits_of;
+
+use crate::judge::{Judged, judge};
+use crate::line::ran_on_line;
+use crate::place::{Place, Queued};
+use gate_types::edits::Edit;
+use gate_types::names::{Name, NoMemory};
+use gate_types::numbers::Serial;
+use gate_types::records::{Build, Item, Outcome, Report, Verdict};
+use gate_types::sequence::Sequence;
+use std::alloc::Global;
+
+/// Whether a build of the item stops being live: it doesn't count, or it runs while the item goes.
+fn is_stopped(place: &Place, blocked: bool, going: bool, build: &Build) -> bool
+    requires { blocked ≡ rules.is_blocked (place_of place.now) }
+    ensures { result ≡ edits_of.stops (place_of place.now) going build.now }
+{
+    if !build.live || build.serial != place.item.serial {
+        return false;
+    }
+    if going && matches!(build.outcome, Outcome::Running) {
+        return true;
+    }
+    blocked || !ran_on_line(place, build)
+}
+
+/// Stops the builds of an item that don't count, and those that run while it goes.
+fn push_stops(
+    edits: &mut Sequence<Edit>,
+    place: &Place,
+    blocked: bool,
+    going: bool,
+    builds: &[Build],
+) -> Result<(), NoMemory>
+    requires { blocked ≡ rules.is_blocked (place_of place.now) }
+    ensures { OnOk result (edits.new ≡ edits.old ++ edits_of.stop_edits builds.now (place_of place.now) going) }
+{
+    for build in builds {
+        if is_stopped(place, blocked, going, build) {
+            edits.push(Edit::StopBuild(build.number))?;
+        }
+    }
+    Ok(())
+}
+
+/// Puts the row of an item that stays, or reports one that goes behind that many reports and drops it.
+fn push_item(
+    edits: &mut Sequence<Edit>,
+    name: &Name,
+    reports: u64,
+    row: Item,
+    verdict: Option<Verdict>,
+) -> Result<(), NoMemory>
+    requires { reports + 1 < 2 ^ 64 }
+    ensures { OnOk result (edits.new ≡ edits.old ++ edits_of.item_edits name.now reports row verdict) }
+{
+    let queue = name.copy()?;
+    let Some(verdict) = verdict else {
+        edits.push(Edit::PutItem { queue, item: row })?;
+        return Ok(());
+    };
+    edits.push(Edit::PutReport {
+        queue,
+        place: reports + 1,
+        report: Report {
+            serial: row.serial,
+            change: row.change,
+            revision: row.revision,
+            verdict,
+        },
+    })?;
+    edits.push(Edit::DropItem(row.serial))?;
+    Ok(())
+}
+
+/// The serial of the last of some items.
+fn last_serial(items: &[Queued]) -> Option<Serial>
+    ensures { result ≡ option_map (λ i. i.serial) (slice_get items.now (length items.now - 1)) }
+{
+    match items.last() {
+        Some(item) => Some(item.serial),
+        None => None,
+    }
+}
+
+/// Adds the edits of an item, behind that many reports of its queue, and says what the rules say of it.
+pub fn push_edits(
+    alloc: Global,
+    edits: &mut Sequence<Edit>,
+    name: &Name,
+    reports: u64,
+    place: &Place,
+    staying: &[Queued],
+    builds: &[Build],
+) -> Result<Judged, NoMemory>
+    requires { reports + 1 < 2 ^ 64 }
+    ensures edits { OnOk result (edits.new ≡ edits.old ++ edits_of.edits_at name.now builds.now reports staying.now (place_of place.now)) }
+    ensures failing { IfOk result (λ j. j.failing ≡ is_failing builds.now (place_of place.now)) }
+    ensures verdict { IfOk result (λ j. j.verdict ≡ sweep.verdict_of builds.now staying.now (place_of place.now)) }
+{
+    let judged = judge(alloc, place, staying, builds)?;
+    let going = judged.verdict.is_some();
+    push_stops(edits, place, judged.blocked, going, builds)?;
+    let row = Item {
+        serial: place.item.serial,
+        change: place.item.change,
+        revision: place.item.revision,
+        ahead: last_serial(place.ahead),
+        failing: judged.failing,
+    };
+    push_item(edits, name, reports, row, judged.verdict)?;
+    Ok(judged)
+}

@@ -1,0 +1,38 @@
+//! What the rules of a queue ask for beside its items and builds.
+ghost use Rattle.std.specs.Prelude.{◌≤◌};
+
+use gate_types::config::{Job, Queue};
+use gate_types::records::{Landing, Need};
+
+/// What is known of an item's change: its needs, each with whether it has landed, and the jobs of
+/// its project.
+#[derive(Clone, Copy, Debug)]
+pub struct ItemFacts<'a> {
+    pub needs: &'a [Need],
+    pub jobs: &'a [Job],
+}
+
+/// What is known of a queue: its settings, its window, what has landed in it, and how many reports
+/// it has made, at most 10^15. `items` goes place by place with the queue's items.
+#[derive(Clone, Copy, Debug)]
+pub struct Facts<'a> {
+    pub settings: &'a Queue,
+    pub window: u32,
+    pub landings: &'a [Landing],
+    pub items: &'a [ItemFacts<'a>],
+    pub reports: u64,
+    pub ghost reports_in_range: { reports ≤ 1000000000000000 },
+}
+
+/// The jobs of an item's project, and whether the item is blocked.
+#[derive(Clone, Copy, Debug)]
+pub struct ItemJobs<'a> {
+    pub jobs: &'a [Job],
+    pub blocked: bool,
+}
+
+/// What a choice asks for: `items` goes place by place with the queue's items.
+#[derive(Clone, Copy, Debug)]
+pub struct Jobs<'a> {
+    pub items: &'a [ItemJobs<'a>],
+}

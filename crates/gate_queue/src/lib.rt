@@ -1,0 +1,18 @@
+//! The rules of one queue of a speculative merge gate, over plain lists: which builds count, which
+//! items fail and which of them go, how many may be tested at once, and which build is due. Nothing
+//! is stored here, and nothing is kept between two calls.
+#![tactic(auto)]
+
+pub mod choose;
+mod edits;
+pub mod facts;
+#[cfg(test)]
+mod fixtures;
+mod judge;
+pub mod laws;
+mod line;
+mod place;
+pub mod settle;
+mod shared;
+mod slots;
+pub mod window;

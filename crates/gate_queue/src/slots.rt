@@ -1,0 +1,134 @@
+//! What the jobs of an item have come to.
+ghost use Rattle.std.specs.Prelude.{◌≡◌, false, ◌&&◌, IfOk, count_by};
+ghost use Rattle.std.specs.List.{list_any};
+ghost use Rattle.gate_types.specs.Names.{same_name};
+ghost use Rattle.gate_types.specs.Slot as rules;
+ghost use Rattle.gate_types.specs.Standing.{are_finished};
+ghost use Rattle.gate_queue.specs.Facts.{place_of};
+
+use crate::line::ran_on_line;
+use crate::place::Place;
+use gate_types::config::Job;
+use gate_types::names::{Name, NoMemory};
+use gate_types::records::{Build, Outcome, Slot};
+use std::alloc::Global;
+
+/// Whether two names are the same bytes.
+pub fn same_name(a: &Name, b: &Name) -> bool
+    ensures { result ≡ same_name a.now b.now }
+{
+    a.as_str() == b.as_str()
+}
+
+/// Whether a build counts for an item that isn't blocked.
+pub fn counts(place: &Place, build: &Build) -> bool
+    requires { rules.is_blocked (place_of place.now) ≡ false }
+    ensures { result ≡ rules.counts (place_of place.now) build.now }
+{
+    build.live && build.serial == place.item.serial && ran_on_line(place, build)
+}
+
+/// The outcomes of the job's builds that count.
+fn outcomes_of(
+    alloc: Global,
+    place: &Place,
+    builds: &[Build],
+    job: &Job,
+) -> Result<Vec<Outcome>, NoMemory>
+    requires { rules.is_blocked (place_of place.now) ≡ false }
+    ensures { IfOk result (λ found. found.items ≡ rules.outcomes_of builds.now (place_of place.now) job.now) }
+{
+    let mut found: Vec<Outcome> = Vec::new(alloc);
+    for build in builds {
+        if counts(place, build) && same_name(&build.job, &job.name) {
+            found.push(build.outcome)?;
+        }
+    }
+    Ok(found)
+}
+
+fn has_success(outcomes: &[Outcome]) -> bool
+    ensures { result ≡ list_any rules.is_success outcomes.now }
+{
+    outcomes.iter().any(|o| matches!(o, Outcome::Success))
+}
+
+fn has_failure(outcomes: &[Outcome]) -> bool
+    ensures { result ≡ list_any rules.is_failure outcomes.now }
+{
+    outcomes.iter().any(|o| matches!(o, Outcome::Failure))
+}
+
+fn has_running(outcomes: &[Outcome]) -> bool
+    ensures { result ≡ list_any rules.is_running outcomes.now }
+{
+    outcomes.iter().any(|o| matches!(o, Outcome::Running))
+}
+
+fn count_lost(outcomes: &[Outcome]) -> usize
+    ensures { result ≡ count_by rules.is_lost outcomes.now }
+{
+    outcomes
+        .iter()
+        .filter(|o| matches!(o, Outcome::Lost))
+        .count()
+}
+
+fn slot_of_outcomes(outcomes: &[Outcome]) -> Slot
+    ensures { result ≡ rules.slot_of_outcomes outcomes.now }
+{
+    if has_success(outcomes) {
+        Slot::Success
+    } else if has_failure(outcomes) || count_lost(outcomes) >= 3 {
+        Slot::Failure
+    } else if has_running(outcomes) {
+        Slot::Running
+    } else {
+        Slot::Waiting
+    }
+}
+
+fn slot_of(alloc: Global, place: &Place, builds: &[Build], job: &Job) -> Result<Slot, NoMemory>
+    requires { rules.is_blocked (place_of place.now) ≡ false }
+    ensures { IfOk result (λ slot. slot ≡ rules.slot_of builds.now (place_of place.now) job.now) }
+{
+    let outcomes = outcomes_of(alloc, place, builds, job)?;
+    Ok(slot_of_outcomes(&outcomes))
+}
+
+fn is_failed(slot: Slot) -> bool
+    ensures { result ≡ rules.is_failed_slot slot }
+{
+    matches!(slot, Slot::Failure)
+}
+
+fn is_finished(slot: Slot) -> bool
+    ensures { result ≡ rules.is_finished slot }
+{
+    matches!(slot, Slot::Success | Slot::Failure)
+}
+
+/// What the jobs of an item say of it.
+#[derive(Clone, Copy, Debug)]
+pub struct Marks {
+    /// A voting job has failed.
+    pub failed: bool,
+    /// Each job has ended.
+    pub finished: bool,
+}
+
+/// What the jobs say of an item that isn't blocked.
+pub fn marks_of(alloc: Global, place: &Place, builds: &[Build]) -> Result<Marks, NoMemory>
+    requires { rules.is_blocked (place_of place.now) ≡ false }
+    ensures failed { IfOk result (λ marks. marks.failed ≡ list_any (λ j. j.voting && rules.is_failed_slot (rules.slot_of builds.now (place_of place.now) j)) place.now.jobs.now) }
+    ensures finished { IfOk result (λ marks. marks.finished ≡ are_finished builds.now (place_of place.now)) }
+{
+    let mut failed = false;
+    let mut finished = true;
+    for job in place.jobs {
+        let slot = slot_of(alloc, place, builds, job)?;
+        failed = failed || job.voting && is_failed(slot);
+        finished = finished && is_finished(slot);
+    }
+    Ok(Marks { failed, finished })
+}
