@@ -38,7 +38,7 @@ no_more true false true true true h = absurd (true≢false (sym (h refl)))
 counts_kept : (p : Place) (test : Build → Bool) (b : Build) → (counts p b ≡ true → test b ≡ true) → counts p (keeps test b) ≡ counts p b
 counts_kept p test b h = no_more b.live (test b) (b.serial == p.item.serial) (not (is_blocked p)) (same_entries (ran_on p.landings b) (line p)) h
 
-map-cond : {A B : Type 0} (f : A → B) (t : Bool) (x : A) (xs : List A) → map f (cond t (x ∷ xs) xs) ≡ cond t (f x ∷ map f xs) (map f xs)
+pub map-cond : {A B : Type 0} (f : A → B) (t : Bool) (x : A) (xs : List A) → map f (cond t (x ∷ xs) xs) ≡ cond t (f x ∷ map f xs) (map f xs)
 map-cond f true x xs = refl
 map-cond f false x xs = refl
 

@@ -42,10 +42,10 @@ or_right : (x y z : Bool) → (x || y ≡ true → z ≡ true) → y ≡ true �
 or_right true y z h e = h refl
 or_right false y z h e = h e
 
-passes_left : (test : Build → Bool) (ps qs : List Place) → PassesAll test (ps ++ qs) → PassesAll test ps
+pub passes_left : (test : Build → Bool) (ps qs : List Place) → PassesAll test (ps ++ qs) → PassesAll test ps
 passes_left test ps qs h b = or_left (list_any (λ p. counts p b) ps) (list_any (λ p. counts p b) qs) (test b) (λ e. h b (list_any-append (λ p. counts p b) ps qs ∙ e))
 
-passes_right : (test : Build → Bool) (ps qs : List Place) → PassesAll test (ps ++ qs) → PassesAll test qs
+pub passes_right : (test : Build → Bool) (ps qs : List Place) → PassesAll test (ps ++ qs) → PassesAll test qs
 passes_right test ps qs h b = or_right (list_any (λ p. counts p b) ps) (list_any (λ p. counts p b) qs) (test b) (λ e. h b (list_any-append (λ p. counts p b) ps qs ∙ e))
 
 queues_kept : (c : Settings) (s : State) (qs : List Queue) → PassesAll (stays_live (all_places c s)) (flat_map (places c s) qs) → flat_map (places c (rebase c s)) qs ≡ flat_map (places c s) qs
@@ -57,7 +57,7 @@ queues_kept c s (q ∷ qs) h =
     ∙ (λ k. places_kept s.builds [] (map (place_of c s q) q.items) test (passes_left test (places c s q) (flat_map (places c s) qs) both) k ++ queues_kept c s qs (passes_right test (places c s q) (flat_map (places c s) qs) both) k)
     ∙ sym (flat_map-cons (places c s) q qs)
 
-all_pass : (c : Settings) (s : State) → PassesAll (stays_live (all_places c s)) (all_places c s)
+pub all_pass : (c : Settings) (s : State) → PassesAll (stays_live (all_places c s)) (all_places c s)
 all_pass c s b e = either (not (list_any (λ p. p.item.serial == b.serial) (all_places c s))) (list_any (λ p. counts p b) (all_places c s)) e
 
 pub rebase_keeps_marks : RebaseKeepsMarks
@@ -98,4 +98,4 @@ pub what_goes_stands_in_no_line : WhatGoesStandsInNoLine
 what_goes_stands_in_no_line c s q r =
     let ps = map (place_of c s q) q.items in
     let rp = ahead_rise s.builds 0 [] ps (items_rise c s q q.items 0 (rises (λ (i : Item). i.serial) q.items r)) in
-    none_goes s.builds [] [] ps (goes (judged c s q)) (λ n h. h) (All-nil _) (goes_tells s.builds 0 [] (places c s q) rp)
+    none_goes s.builds [] [] ps (goes (judged c s q)) (λ n h. h) (All-nil (λ (i : Item). not (goes (judged c s q) i.serial) ≡ true)) (goes_tells s.builds 0 [] (places c s q) rp)

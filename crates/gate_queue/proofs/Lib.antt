@@ -11,3 +11,4 @@ pub mod Choosing
 pub mod LawLemmas
 pub mod ChoiceLaw
 pub mod OneByOne
+pub mod WholeState

@@ -2,6 +2,7 @@ pub mod Facts
 pub mod Settles
 pub mod Chooses
 pub mod Laws
+pub mod Whole
 pub mod Examples
 pub mod Edits
 pub mod Follows

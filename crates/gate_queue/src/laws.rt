@@ -2,6 +2,7 @@
 //! when they run.
 ghost use Rattle.gate_queue.specs.Chooses.{FirstChoiceIsGiven};
 ghost use Rattle.gate_queue.specs.Laws.{RebaseKeepsMarks, WhatGoesStandsInNoLine, OneSweepIsOneByOne};
+ghost use Rattle.gate_queue.specs.Whole.{EachQueueIsSettledByItself};
 ghost use Rattle.gate_queue.specs.Examples.{TwoItemsAreSettled};
 
 /// A rebase changes what is ahead of no item, no slot and no failing mark.
@@ -17,6 +18,12 @@ pub fn what_goes_stands_in_no_line()
 /// One sweep of a queue is the same as removing one item after another, with a new look between.
 pub fn one_sweep_is_one_by_one()
     ensures { OneSweepIsOneByOne }
+{}
+
+/// The rows of a queue, after a rebase and then a sweep of the whole state, are those that settling the
+/// queue by itself leaves, given all live builds of its items and no build of another queue's.
+pub fn each_queue_is_settled_by_itself()
+    ensures { EachQueueIsSettledByItself }
 {}
 
 /// The first choice of a queue is the build that a worker is given first in it.
