@@ -12,6 +12,8 @@ mod judge;
 pub mod laws;
 mod line;
 mod place;
+#[cfg(test)]
+mod scenes;
 pub mod settle;
 mod shared;
 mod slots;

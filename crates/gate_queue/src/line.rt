@@ -134,3 +134,6 @@ pub fn ran_on_line(place: &Place, build: &Build) -> bool
 {
     is_line(place.landings, place.shared, place.ahead, place.item, build)
 }
+
+#[cfg(test)]
+mod tests;
