@@ -10,6 +10,5 @@ pub mod NeedLemmas
 pub mod StayLemmas
 pub mod StepLemmas
 pub mod ReviseLemmas
-pub mod OutcomeLemmas
 pub mod PadLemmas
 pub mod StatusLemmas

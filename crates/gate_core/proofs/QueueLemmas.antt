@@ -2,6 +2,7 @@
 use Rattle.std.proofs.Common.{◌≡◌, ℕ, Bool, true, false, not, ◌&&◌, ◌||◌, cond, ◌+◌, ◌<◌, ◌≤◌, Some, None, List, [], ◌∷◌, ◌++◌, map, filter, length, refl, sym, ap, ◌∙◌, ⊎_elim, arith, rules, append-nil, append_assoc}
 use Rattle.std.specs.Prelude.{◌==◌, nat_lt, unwrap_or, find, flat_map}
 use Rattle.std.specs.List.{list_any, position_or_len, position}
+use Rattle.std.proofs.Math.Bool.{or-true}
 use Rattle.std.proofs.lemmas.Bool.{eq-eqb, ne_eqb, false≢true, ltb-false}
 use Rattle.std.proofs.lemmas.Bool.Decides.{eqb_tells}
 use lib.Pointwise.{bytes_decides}
@@ -164,12 +165,8 @@ pub queued-some : (n p m : ℕ) (qs : List QueueSetting) (it : List (Placed Item
 queued-some n p m [] it rp h low high = absurd (omega (arith, low, high))
 queued-some n p m (q ∷ qs) it rp h low high = ⊎_elim
     (λ t. ap (λ b. b || list_any (λ q. has_change q.items n) (queues_from (p + 1) qs it rp)) (ap (λ l. has_change (of_queue l it) n) t.1 ∙ h))
-    (λ t. ap (λ b. has_change (of_queue p it) n || b) (queued-some n (p + 1) m qs it rp h (omega (arith, low, t.1)) (omega (arith, high))) ∙ or_true (has_change (of_queue p it) n))
+    (λ t. ap (λ b. has_change (of_queue p it) n || b) (queued-some n (p + 1) m qs it rp h (omega (arith, low, t.1)) (omega (arith, high))) ∙ or-true (has_change (of_queue p it) n))
     (eqb_tells p m)
-  where
-    or_true : (b : Bool) → (b || true) ≡ true
-    or_true true = refl
-    or_true false = refl
 
 -- an item of a change stands in some queue
 pub stands_in : (n : ℕ) (it : List (Placed Item)) → holds it n ≡ true → (i : Placed Item) × (find (λ i. i.row.change == n) it ≡ Some i) × (has_change (of_queue i.queue it) n ≡ true)
@@ -177,11 +174,7 @@ stands_in n [] h = absurd (false≢true h)
 stands_in n (x ∷ xs) h = either (x.row.change == n) refl h (λ e. stands_in n xs e)
   where
     among : (i : Placed Item) (b : Bool) → has_change (of_queue i.queue xs) n ≡ true → has_change (map (λ y. y.row) (cond b (x ∷ filter (λ y. y.queue == i.queue) xs) (filter (λ y. y.queue == i.queue) xs))) n ≡ true
-    among i true e = ap (λ b. x.row.change == n || b) e ∙ or_true (x.row.change == n)
-      where
-        or_true : (b : Bool) → (b || true) ≡ true
-        or_true true = refl
-        or_true false = refl
+    among i true e = ap (λ b. x.row.change == n || b) e ∙ or-true (x.row.change == n)
     among i false e = e
 
     first : (x.row.change == n) ≡ true → has_change (of_queue x.queue (x ∷ xs)) n ≡ true

@@ -187,14 +187,6 @@ tested c s n name r there changed old submitting needed =
 no_needs : (c : Settings) (message : List ℕ) → c.base ≡ 10 ∷ [] → needs c.base message ≡ []
 no_needs c message e = ap (λ b. needs b message) e ∙ needs-none message
 
-pub project_unknown : (c : Settings) (s : State) (n r : ℕ) (name message : List ℕ) → has_project c name ≡ false → step c s (delivery.Revision n name r message) ≡ refused refusal.UnknownProject
-project_unknown c s n r name message h =
-    ap (settled_step c) (ap (λ b. tested c s n name r b (is_known_and s n (is_other_project name)) (is_known_and s n (is_old r)) (is_submitting c s n) (needs c.base message)) h)
-
-pub project_changed : (c : Settings) (s : State) (n r : ℕ) (name message : List ℕ) → has_project c name ≡ true → is_known_and s n (is_other_project name) ≡ true → step c s (delivery.Revision n name r message) ≡ refused refusal.ProjectChanged
-project_changed c s n r name message h o =
-    ap (settled_step c) (λ k. tested c s n name r (h k) (o k) (is_known_and s n (is_old r)) (is_submitting c s n) (needs c.base message))
-
 pub revision_stale : (c : Settings) (ks : List Change) (rd : List (Placed Ready)) (it : List (Placed Item)) (rp : List (Placed Report)) (d : Drawn) (n r : ℕ) (name message : List ℕ) → IsQuiet c ks rd it → InRange d → has_project c name ≡ true →
     let s = quiet c ks rd it rp d in is_known_and s n (is_other_project name) ≡ false → is_known_and s n (is_old r) ≡ true → step c s (delivery.Revision n name r message) ≡ accepted reply.Stale s
 revision_stale c ks rd it rp d n r name message q range h o l =

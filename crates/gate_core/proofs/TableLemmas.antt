@@ -158,6 +158,3 @@ numbers_push m n rows x place here none e f = record {
 
 pub numbers_set : (m : Numbers) (rows : List Change) (x : Change) (i : ℕ) → get nat_eq m x.number ≡ Some i → FindsNumbers m rows → FindsNumbers m (set rows i x)
 numbers_set m rows x i e f = record { at = λ q. f.at q ∙ sym (place_set number_of x q rows i (sym (f.at x.number) ∙ e)) }
-
-pub numbers_same : (m n : Numbers) (rows : List Change) → ((q : ℕ) → get nat_eq n q ≡ get nat_eq m q) → FindsNumbers m rows → FindsNumbers n rows
-numbers_same m n rows e f = record { at = λ q. e q ∙ f.at q }
