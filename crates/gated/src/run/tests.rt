@@ -2,6 +2,7 @@
 use crate::command::Cmd;
 use crate::run::run;
 use gate_types::tap::Tap;
+use std::alloc::Global;
 use std::test::Fail;
 use std::{fs, io};
 
@@ -44,12 +45,14 @@ queue = "web"
 name = "unit"
 "#;
 
-/// Its first queue has a floor above its window.
-const HIGH_FLOOR: &str =
-    "forge = {base = 'b'}\nqueue = [{name = 'core', window = 2, floor = 3}]\nproject = [{name = 'lib', queue = 'core', job = [{name = 'unit'}]}]\n";
-
 const APPROVAL: &str =
     "{\"id\":\"0a000000-0000-4000-8000-000000000001\",\"kind\":\"approved\",\"change\":101,\"revision\":1}\n";
+
+/// The same settings, with a floor above the window of the first queue.
+fn with_a_high_floor(alloc: Global) -> Result<String, Fail> {
+    let (front, rest) = TWO_QUEUES.split_once("floor = 1").ok_or("no floor")?;
+    Ok(format!(in alloc; "{front}floor = 3{rest}")?)
+}
 
 /// What a run printed, and its status.
 #[derive(Drop)]
@@ -118,10 +121,11 @@ fn a_check_counts_what_the_settings_have(rt: HostRuntime) -> Result<(), Fail> {
 
 #[test]
 fn a_check_tells_the_fault(rt: HostRuntime) -> Result<(), Fail> {
+    let high = with_a_high_floor(rt.alloc())?;
     let cases = [
         ("", "gated: C2 missing-member\n"),
         ("[forge", "gated: C1 not-toml\n"),
-        (HIGH_FLOOR, "gated: C8 bad-window\n"),
+        (high.as_str(), "gated: C8 bad-window\n"),
     ];
     for (text, told) in cases {
         let ran = checked(&rt, "check_faults.toml", text)?;
@@ -167,10 +171,11 @@ fn a_delivery_is_answered_and_a_refusal_is_no_fault(rt: HostRuntime) -> Result<(
 #[test]
 fn a_settings_file_with_a_fault_ends_the_command(rt: HostRuntime) -> Result<(), Fail> {
     let path = "run_faulty.toml";
+    let high = with_a_high_floor(rt.alloc())?;
     let cases = [
         ("[forge", "gated: C1 not-toml\n"),
         ("", "gated: C2 missing-member\n"),
-        (HIGH_FLOOR, "gated: C8 bad-window\n"),
+        (high.as_str(), "gated: C8 bad-window\n"),
     ];
     for (text, told) in cases {
         fs::write(&rt, path, text)?;
