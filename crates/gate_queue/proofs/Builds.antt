@@ -34,7 +34,7 @@ or_assoc : (x y z : Bool) → (x || y) || z ≡ x || (y || z)
 or_assoc true y z = refl
 or_assoc false y z = refl
 
-or_false : (x : Bool) → x || false ≡ x
+pub or_false : (x : Bool) → x || false ≡ x
 or_false true = refl
 or_false false = refl
 

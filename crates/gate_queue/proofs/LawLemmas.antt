@@ -1,5 +1,5 @@
 -- The laws of a rebase and a sweep, proved.
-use Rattle.std.proofs.Common.{◌≡◌, ℕ, suc, Bool, true, false, not, ◌||◌, cond, List, [], ◌∷◌, ◌++◌, map, refl, sym, ap, ◌∙◌, subst, true≢false}
+use Rattle.std.proofs.Common.{◌≡◌, ℕ, suc, Bool, true, false, not, cond, List, [], ◌∷◌, ◌++◌, map, refl, sym, ap, ◌∙◌, subst, true≢false}
 use Rattle.std.specs.Prelude.{◌==◌}
 use Rattle.std.specs.List.{list_any, flat_map, All, AllPass}
 use Rattle.std.proofs.lemmas.List.Elements.{All-cons, All-nil, All-head, All-tail}
@@ -17,7 +17,7 @@ use Rattle.gate_types.specs.Sweep.{judged, judged_after, judge, next_staying, go
 use Rattle.gate_queue.specs.Laws.{RebaseKeepsMarks, WhatGoesStandsInNoLine}
 use Rattle.gate_queue.specs.Examples.{TwoItemsAreSettled}
 use Rattle.gate_queue.proofs.Ordered.{RiseFrom, Tells, place_serial, rises, ahead_rise}
-use Rattle.gate_queue.proofs.Keeps.{keeps, PassesAll, passes_first, passes_rest, places_kept, failing_kept, slot_kept, either}
+use Rattle.gate_queue.proofs.Keeps.{keeps, PassesAll, passes_first, passes_rest, places_kept, failing_kept, slot_kept, either, or_left, or_right}
 use Rattle.gate_queue.proofs.Stays.{Among, among_next, goes_failing}
 use Rattle.gate_queue.proofs.Settled.{goes_tells}
 
@@ -33,14 +33,6 @@ slots_all bs (p ∷ ps) test h = All-cons (λ p. (j : Job) → slot_of (map (kee
 marks_all : (bs : List Build) (ps : List Place) (test : Build → Bool) → PassesAll test ps → All (λ p. is_failing (map (keeps test) bs) p ≡ is_failing bs p) ps
 marks_all bs [] test h = All-nil _
 marks_all bs (p ∷ ps) test h = All-cons (λ p. is_failing (map (keeps test) bs) p ≡ is_failing bs p) p ps (failing_kept bs p test (passes_first test p ps h)) (marks_all bs ps test (passes_rest test p ps h))
-
-or_left : (x y z : Bool) → (x || y ≡ true → z ≡ true) → x ≡ true → z ≡ true
-or_left true y z h e = h refl
-or_left false y z h e = absurd (true≢false (sym e))
-
-or_right : (x y z : Bool) → (x || y ≡ true → z ≡ true) → y ≡ true → z ≡ true
-or_right true y z h e = h refl
-or_right false y z h e = h e
 
 pub passes_left : (test : Build → Bool) (ps qs : List Place) → PassesAll test (ps ++ qs) → PassesAll test ps
 passes_left test ps qs h b = or_left (list_any (λ p. counts p b) ps) (list_any (λ p. counts p b) qs) (test b) (λ e. h b (list_any-append (λ p. counts p b) ps qs ∙ e))

@@ -16,6 +16,7 @@ use Rattle.gate_queue.specs.Settles.{verdicts}
 use Rattle.gate_queue.specs.Laws.{Scan, report_on, swept, without, one_out, OneSweepIsOneByOne}
 use Rattle.gate_queue.proofs.Ordered.{RiseFrom, place_serial, rises, ahead_rise}
 use Rattle.gate_queue.proofs.Folds.{stayers}
+use Rattle.gate_queue.proofs.Builds.{or_false}
 use Rattle.gate_queue.proofs.Keeps.{verdict_kept}
 use Rattle.gate_queue.proofs.Stays.{Among, among_next, goes_failing, at_place, runs_on, stayer_passes}
 
@@ -114,10 +115,6 @@ one_report x js = by_verdict x.verdict
     by_verdict : (v : Option Verdict) → filter_map report_on (record { item = x.item; verdict = v } ∷ js) ≡ filter_map report_on (record { item = x.item; verdict = v } ∷ []) ++ filter_map report_on js
     by_verdict None = refl
     by_verdict (Some v) = refl
-
-or_false : (x : Bool) → x || false ≡ x
-or_false true = refl
-or_false false = refl
 
 off : (g : Bool) → g && false || false ≡ false
 off true = refl
