@@ -6,6 +6,7 @@ pub mod Folds
 pub mod Keeps
 pub mod Stays
 pub mod Builds
+pub mod OwnEdits
 pub mod Settled
 pub mod Choosing
 pub mod LawLemmas

@@ -1,9 +1,12 @@
 -- What settling leaves of a queue: the rows of a rebase and then a sweep.
-use Rattle.std.specs.Prelude.{ℕ, ◌&&◌, not, ◌≡◌, List, [], map, filter, length}
+use Rattle.std.specs.List.{AllPass, list_any}
+use Rattle.std.specs.Prelude.{ℕ, Bool, false, ◌==◌, ◌&&◌, not, ◌≡◌, List, [], map, filter, length}
 use Rattle.gate_types.specs.declared.records.Item.{Item as ItemRow}
 use Rattle.gate_types.specs.declared.records.Build.{Build}
 use Rattle.gate_types.specs.declared.records.Report.{Report}
 use Rattle.gate_types.specs.declared.edits.Edit.{Edit}
+use Rattle.gate_types.specs.declared.edits.Edit.TheVariants as edit
+use Rattle.gate_types.specs.Names.{same_name}
 use Rattle.gate_types.specs.State.{Queue}
 use Rattle.gate_types.specs.Line.{Place}
 use Rattle.gate_types.specs.Standing.{places_after}
@@ -58,8 +61,28 @@ stored_rows facts items builds reports = record {
   reports = numbered 0 reports;
 }
 
--- the edits make the stored rows those of a rebase and then a sweep, whatever the reports that stand
+-- an item of this serial is among these
+abbrev pub has_item : List ItemRow → ℕ → Bool
+has_item items serial = list_any (λ i. i.serial == serial) items
+
+-- a build of this number is among these
+abbrev pub has_build : List Build → ℕ → Bool
+has_build builds number = list_any (λ b. b.number == number) builds
+
+-- an edit is a queue's own: under its name, of one of its items, or of one of the builds
+abbrev pub is_own : List ℕ → List ItemRow → List Build → Edit → Bool
+is_own name items builds (edit.PutItem queue i) = same_name queue name && has_item items i.serial
+is_own name items builds (edit.DropItem serial) = has_item items serial
+is_own name items builds (edit.PutReport queue n r) = same_name queue name && has_item items r.serial
+is_own name items builds (edit.StopBuild number) = has_build builds number
+is_own name items builds (edit.SetWindow queue w) = same_name queue name
+is_own name items builds _ = false
+
+-- the edits make the stored rows those of a rebase and then a sweep, whatever the reports that stand, and each
+-- of them is the queue's own
 pub record Settles (facts : Facts) (items : List ItemRow) (builds : List Build) (edits : List Edit) : Type 0 where
   pub rows : (reports : List Report) → length reports ≡ facts.reports →
       fold_edits (stored_rows facts items builds reports) edits
-      ≡ settled_rows facts.settings.now.floor (places_by facts.landings.now items facts.items.now) builds (queue_by facts items reports)
+      ≡ settled_rows facts.settings.now.floor (places_by facts.landings.now items facts.items.now) builds
+      (queue_by facts items reports)
+  pub own : AllPass (is_own facts.settings.now.name items builds) edits
