@@ -13,8 +13,9 @@ use Rattle.gate_types.specs.declared.records.Slot.TheVariants as slot
 use Rattle.gate_types.specs.Names.{same_name}
 use Rattle.gate_types.specs.Line.{Place, same_entries, line, ran_on}
 use Rattle.gate_types.specs.Slot.{is_success, is_failure, is_lost, is_running, is_blocked, counts, outcomes_of, slot_of, is_waiting_slot}
+use Rattle.gate_types.specs.Window.{within_window}
 use Rattle.gate_queue.specs.declared.facts.ItemJobs.{ItemJobs}
-use Rattle.gate_queue.specs.Chooses.{first_waiting, first_choice, below_window, TellOf, live_builds_count}
+use Rattle.gate_queue.specs.Chooses.{first_waiting, first_choice, TellOf, live_builds_count}
 use Rattle.gate_queue.specs.Waiting.{is_of, waits, waiting_job, choice_by}
 
 counts_is : (l s n q : Bool) → not (l && s) || (l && s && n && q) ≡ true → (l && s && n && q) ≡ (l && s)
@@ -130,7 +131,7 @@ choice_all bs (p ∷ ps) (i ∷ items) [] t h = absurd t
 choice_all bs (p ∷ ps) (i ∷ items) (j ∷ jobs) t h =
     λ k. elim (job_is p i j bs t.0 t.1 t.2 (first_passes bs p ps h) k) [ Some n ↦ Some (sym t.0 k, n) | None ↦ choice_all bs ps items jobs t.3 (All-tail (λ x. live_builds_count bs x ≡ true) p ps h) k ]
 
-pub chooses : (w : ℕ) (bs : List Build) (ps : List Place) (items : List ItemRow) (jobs : List ItemJobs) → TellOf ps items jobs → AllPass (live_builds_count bs) ps → choice_by bs (below_window w items) jobs ≡ first_choice bs (below_window w ps)
+pub chooses : (w : ℕ) (bs : List Build) (ps : List Place) (items : List ItemRow) (jobs : List ItemJobs) → TellOf ps items jobs → AllPass (live_builds_count bs) ps → choice_by bs (within_window w items) jobs ≡ first_choice bs (within_window w ps)
 chooses w bs ps items jobs t h = by_bound (w == 0)
   where
     by_bound : (b : Bool) → choice_by bs (cond b items (take w items)) jobs ≡ first_choice bs (cond b ps (take w ps))

@@ -1,5 +1,5 @@
 -- Which build of a queue is due.
-use Rattle.std.specs.Prelude.{ℕ, Bool, ◌&&◌, ◌||◌, not, ◌==◌, ◌≡◌, ◌+◌, if◌then◌else◌, List, [], ◌∷◌, map, take, slice_get, find, Option, Some, None, option_map, option_and_then}
+use Rattle.std.specs.Prelude.{ℕ, Bool, ◌&&◌, ◌||◌, not, ◌==◌, ◌≡◌, ◌+◌, if◌then◌else◌, List, [], ◌∷◌, map, slice_get, find, Option, Some, None, option_map, option_and_then}
 use Rattle.std.specs.List.{AllPass, list_all, position}
 use Rattle.std.specs.List.Sorted.{IsStrictlyIncreasing}
 use Rattle.gate_types.specs.declared.records.Item.{Item as ItemRow}
@@ -9,6 +9,7 @@ use Rattle.gate_types.specs.State.{Queue, State}
 use Rattle.gate_types.specs.Line.{Place}
 use Rattle.gate_types.specs.Slot.{is_blocked, counts, slot_of, is_waiting_slot}
 use Rattle.gate_types.specs.Standing.{places}
+use Rattle.gate_types.specs.Window.{within_window}
 use Rattle.gate_types.specs.Choice.{build_for, choices}
 use Rattle.gate_queue.specs.declared.facts.ItemJobs.{ItemJobs}
 
@@ -20,10 +21,6 @@ first_waiting builds p = if is_blocked p then None else position (λ j. is_waiti
 abbrev pub first_choice : List Build → List Place → Option (ℕ × ℕ)
 first_choice builds [] = None
 first_choice builds (p ∷ ps) = elim (first_waiting builds p) [ Some j ↦ Some (p.item.serial, j) | None ↦ first_choice builds ps ]
-
--- those below the window, and all of them where it is 0
-abbrev pub below_window : {X : Type 0} → ℕ → List X → List X
-below_window window xs = if window == 0 then xs else take window xs
 
 -- items and jobs tell of the places: their serials, their jobs, whether they are blocked
 abbrev pub TellOf : List Place → List ItemRow → List ItemJobs → Type 0
@@ -37,7 +34,7 @@ live_builds_count builds p = list_all (λ b. not (b.live && b.serial == p.item.s
 
 -- the choice is the first one, of all places of which items and jobs tell, if each live build counts
 pub record Chooses (items : List ItemRow) (builds : List Build) (window : ℕ) (jobs : List ItemJobs) (choice : Option (ℕ × ℕ)) : Type 0 where
-  pub first : (ps : List Place) → TellOf ps items jobs → AllPass (live_builds_count builds) ps → choice ≡ first_choice builds (below_window window ps)
+  pub first : (ps : List Place) → TellOf ps items jobs → AllPass (live_builds_count builds) ps → choice ≡ first_choice builds (within_window window ps)
 
 -- the build that a choice tells of
 abbrev pub build_of_choice : State → Queue → List Place → ℕ × ℕ → Option Build
@@ -47,4 +44,4 @@ build_of_choice s q ps choice =
 -- the first choice is that of the build that a worker is given first in a queue
 abbrev pub FirstChoiceIsGiven : Type 0
 FirstChoiceIsGiven = (c : Settings) (s : State) (q : Queue) → IsStrictlyIncreasing (map (λ i. i.serial) q.items) →
-    slice_get (choices c s q) 0 ≡ option_and_then (build_of_choice s q (places c s q)) (first_choice s.builds (below_window q.window (places c s q)))
+    slice_get (choices c s q) 0 ≡ option_and_then (build_of_choice s q (places c s q)) (first_choice s.builds (within_window q.window (places c s q)))

@@ -2,7 +2,8 @@
 ghost use Rattle.std.specs.Prelude.{◌≡◌, ◌&&◌, ◌≤◌, not, count_by, length};
 ghost use Rattle.std.specs.List.{list_any, position};
 ghost use Rattle.gate_types.specs.Slot.{is_lost};
-ghost use Rattle.gate_queue.specs.Chooses.{Chooses, below_window};
+ghost use Rattle.gate_types.specs.Window.{within_window};
+ghost use Rattle.gate_queue.specs.Chooses.{Chooses};
 ghost use Rattle.gate_queue.specs.Waiting as waiting;
 
 use crate::facts::{ItemJobs, Jobs};
@@ -68,9 +69,9 @@ fn waiting_job(builds: &[Build], item: &Item, about: &ItemJobs) -> Option<usize>
     first_waiting(item.serial, builds, about.jobs)
 }
 
-/// The items below the window, and all of them where it is 0.
+/// The items within the window, and all of them where it is 0.
 fn open_items(items: &[Item], window: u32) -> &[Item]
-    ensures { result.now ≡ below_window window items.now }
+    ensures { result.now ≡ within_window window items.now }
 {
     let open = window as usize;
     if open == 0 || items.len() <= open {

@@ -1,5 +1,5 @@
 -- Which build a worker is given.
-use Rattle.std.specs.Prelude.{ℕ, true, ◌==◌, if◌then◌else◌, ◌+◌, List, [], map, filter, take, length, slice_get, Option, flat_map}
+use Rattle.std.specs.Prelude.{ℕ, true, if◌then◌else◌, ◌+◌, List, [], map, filter, length, slice_get, Option, flat_map}
 use Rattle.gate_types.specs.declared.config.Job.{Job}
 use Rattle.gate_types.specs.Settings.{Settings}
 use Rattle.gate_types.specs.declared.records.Build.{Build}
@@ -8,10 +8,7 @@ use Rattle.gate_types.specs.State.{Queue, State}
 use Rattle.gate_types.specs.Line.{Place, item_entry, landings_below}
 use Rattle.gate_types.specs.Slot.{is_blocked, slot_of, is_waiting_slot}
 use Rattle.gate_types.specs.Standing.{places}
-
--- the places below the window, and all of them where it is 0
-abbrev pub within_window : Queue → List Place → List Place
-within_window q ps = if q.window == 0 then ps else take q.window ps
+use Rattle.gate_types.specs.Window.{within_window}
 
 -- a build of a job of an item, on what is ahead of it now
 abbrev pub build_for : ℕ → Queue → Place → Job → Build
@@ -35,7 +32,7 @@ builds_for s q p =
 
 -- the builds that might start in a queue
 abbrev pub choices : Settings → State → Queue → List Build
-choices c s q = flat_map (builds_for s q) (within_window q (places c s q))
+choices c s q = flat_map (builds_for s q) (within_window q.window (places c s q))
 
 -- the first of all
 abbrev pub choose : Settings → State → Option Build
