@@ -8,7 +8,7 @@ use Rattle.gate_types.specs.declared.records.Need.{Need}
 use Rattle.gate_types.specs.declared.records.Outcome.{Outcome}
 use Rattle.gate_types.specs.declared.records.Outcome.TheVariants as outcome
 use Rattle.gate_types.specs.declared.records.Verdict.TheVariants as verdict
-use Rattle.gate_types.specs.State.{Item}
+use Rattle.gate_types.specs.State.{Item, Queue}
 use Rattle.gate_types.specs.Line.{Place}
 use Rattle.gate_types.specs.Rows.{Rows, ReportRow}
 use Rattle.gate_types.specs.Script.{core, unit, docs}
@@ -20,7 +20,13 @@ item serial change = record { serial = serial; change = change; revision = 1 }
 
 -- its place, with its needs and jobs
 abbrev place : ℕ → ℕ → List Need → List Job → Place
-place serial change needs jobs = record { landings = []; ahead = []; item = item serial change; needs = needs; jobs = jobs }
+place serial change needs jobs = record {
+  landings = [];
+  ahead = [];
+  item = item serial change;
+  needs = needs;
+  jobs = jobs;
+}
 
 -- 101 of a project with the jobs `unit` and `docs`, then 102 of one with `unit` alone, with its needs
 abbrev two : List Need → List Place
@@ -49,20 +55,43 @@ runs a b c live =
 
 -- the rows of the queue `core`
 abbrev rows : ℕ → List ItemRow → List Build → List ReportRow → Rows
-rows window items builds reports = record { name = core; window = window; items = items; builds = builds; reports = reports }
+rows window items builds reports = record {
+  name = core;
+  window = window;
+  items = items;
+  builds = builds;
+  reports = reports;
+}
 
 -- the row of an item
 abbrev row : ℕ → ℕ → Option ℕ → Bool → ItemRow
-row serial change ahead failing = record { serial = serial; change = change; revision = 1; ahead = ahead; failing = failing }
+row serial change ahead failing = record {
+  serial = serial;
+  change = change;
+  revision = 1;
+  ahead = ahead;
+  failing = failing;
+}
 
--- what settling leaves of the two items under the window 2
+-- the queue of the two items under the window 2
+abbrev queue : Queue
+queue = record {
+  name = core;
+  window = 2;
+  landings = [];
+  items = item 1 101 ∷ item 2 102 ∷ [];
+  reports = [];
+}
+
+-- what settling leaves of it
 abbrev left : List Need → Outcome → Outcome → Outcome → Rows
-left needs a b c = settled_rows 1 (two needs) (runs a b c true) (record { name = core; window = 2; landings = []; items = item 1 101 ∷ item 2 102 ∷ []; reports = [] })
+left needs a b c = settled_rows 1 (two needs) (runs a b c true) queue
 
 -- one settling of two items
 pub record TwoItemsAreSettled : Type 0 where
   pub first_fails : left [] outcome.Failure outcome.Running outcome.Running
-      ≡ rows 2 (row 1 101 None true ∷ row 2 102 None false ∷ []) (runs outcome.Failure outcome.Running outcome.Running false) []
+      ≡ rows 2 (row 1 101 None true ∷ row 2 102 None false ∷ [])
+      (runs outcome.Failure outcome.Running outcome.Running false) []
   pub first_goes : left [] outcome.Failure outcome.Success outcome.Running
       ≡ rows 1 (row 2 102 None false ∷ []) (runs outcome.Failure outcome.Success outcome.Running false)
       (record { place = 1; report = record { serial = 1; change = 101; revision = 1; verdict = verdict.Failed } } ∷ [])
@@ -71,4 +100,5 @@ pub record TwoItemsAreSettled : Type 0 where
       (record { place = 1; report = record { serial = 1; change = 101; revision = 1; verdict = verdict.Failed } } ∷
       record { place = 2; report = record { serial = 2; change = 102; revision = 1; verdict = verdict.Needs } } ∷ [])
   pub nobody_fails : left [] outcome.Running outcome.Failure outcome.Running
-      ≡ rows 2 (row 1 101 None false ∷ row 2 102 (Some 1) false ∷ []) (runs outcome.Running outcome.Failure outcome.Running true) []
+      ≡ rows 2 (row 1 101 None false ∷ row 2 102 (Some 1) false ∷ [])
+      (runs outcome.Running outcome.Failure outcome.Running true) []

@@ -7,7 +7,7 @@ use Rattle.gate_types.specs.Line.{Place}
 use Rattle.gate_types.specs.Standing.{with_ahead}
 use Rattle.gate_types.specs.Rows.{item_of}
 use Rattle.gate_queue.specs.declared.facts.ItemFacts.{ItemFacts}
-use Rattle.gate_queue.specs.declared.place.Place.{Place as CodePlace}
+use Rattle.gate_queue.specs.declared.context.ItemContext.{ItemContext}
 
 -- the place of an item, as far as its line asks for it
 abbrev pub place_before : List Landing → List Item → Item → Place
@@ -15,7 +15,13 @@ place_before landings ahead i = record { landings = landings; ahead = ahead; ite
 
 -- the place of an item, before what is ahead is known
 abbrev pub place_by : List Landing → ItemRow → ItemFacts → Place
-place_by landings i f = record { landings = landings; ahead = []; item = item_of i; needs = f.needs.now; jobs = f.jobs.now }
+place_by landings i f = record {
+  landings = landings;
+  ahead = [];
+  item = item_of i;
+  needs = f.needs.now;
+  jobs = f.jobs.now;
+}
 
 -- the same, once what is ahead is known
 abbrev pub place_behind : List Item → List Landing → ItemRow → ItemFacts → Place
@@ -27,6 +33,12 @@ places_by landings [] fs = []
 places_by landings (i ∷ items) [] = []
 places_by landings (i ∷ items) (f ∷ fs) = place_by landings i f ∷ places_by landings items fs
 
--- the place that a place in the code stands for
-abbrev pub place_of : CodePlace → Place
-place_of p = record { landings = p.landings.now; ahead = p.ahead.now; item = p.item; needs = p.needs.now; jobs = p.jobs.now }
+-- the place that an item's context stands for
+abbrev pub place_of : ItemContext → Place
+place_of c = record {
+  landings = c.landings.now;
+  ahead = c.ahead.now;
+  item = c.item;
+  needs = c.needs.now;
+  jobs = c.jobs.now;
+}

@@ -18,8 +18,10 @@ use Rattle.gate_queue.specs.Settles.{verdicts, swept_builds, staying_places}
 -- a rebase changes what is ahead of no item, no slot and no failing mark
 pub record RebaseKeepsMarks : Type 0 where
   pub places : (c : Settings) (s : State) → all_places c (rebase c s) ≡ all_places c s
-  pub slots : (c : Settings) (s : State) → All (λ p. (j : Job) → slot_of (rebase c s).builds p j ≡ slot_of s.builds p j) (all_places c s)
-  pub marks : (c : Settings) (s : State) → All (λ p. is_failing (rebase c s).builds p ≡ is_failing s.builds p) (all_places c s)
+  pub slots : (c : Settings) (s : State) →
+      All (λ p. (j : Job) → slot_of (rebase c s).builds p j ≡ slot_of s.builds p j) (all_places c s)
+  pub marks : (c : Settings) (s : State) →
+      All (λ p. is_failing (rebase c s).builds p ≡ is_failing s.builds p) (all_places c s)
 
 -- no item that goes is ahead of another
 abbrev pub WhatGoesStandsInNoLine : Type 0
@@ -65,4 +67,5 @@ all_out floor q = fold (λ t _. one_out floor t) q q.places
 
 -- one sweep is the same as removal one by one with a new look between
 abbrev pub OneSweepIsOneByOne : Type 0
-OneSweepIsOneByOne = (floor : ℕ) (q : Scan) → IsStrictlyIncreasing (map (λ p. p.item.serial) q.places) → all_out floor q ≡ swept floor q
+OneSweepIsOneByOne = (floor : ℕ) (q : Scan) → IsStrictlyIncreasing (map (λ p. p.item.serial) q.places) →
+    all_out floor q ≡ swept floor q

@@ -7,3 +7,5 @@ pub mod Examples
 pub mod Edits
 pub mod Follows
 pub mod Waiting
+pub mod Shared
+pub mod Visits

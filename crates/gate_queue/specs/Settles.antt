@@ -35,7 +35,8 @@ staying_places js ps = filter (λ p. not (goes js p.item.serial)) ps
 -- the rows after a sweep by these verdicts, the columns worked out anew
 abbrev pub swept_rows : ℕ → List Judged → List Place → List Build → Queue → Rows
 swept_rows floor js ps builds q =
-    rows_of (places_after (swept_builds js builds) [] (staying_places js ps)) (swept_builds js builds) (swept_queue floor js q)
+    let left = swept_builds js builds in
+    rows_of (places_after left [] (staying_places js ps)) left (swept_queue floor js q)
 
 -- the rows after a rebase and then a sweep, both of the whole queue by one state
 abbrev pub settled_rows : ℕ → List Place → List Build → Queue → Rows

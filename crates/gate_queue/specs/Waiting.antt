@@ -15,7 +15,8 @@ is_of serial job b = b.live && b.serial == serial && same_name b.job job.name
 -- all of them are lost, fewer than three
 abbrev pub waits : ℕ → List Build → Job → Bool
 waits serial builds job =
-    not (list_any (λ b. is_of serial job b && not (is_lost b.outcome)) builds) && nat_lt (count_by (λ b. is_of serial job b && is_lost b.outcome) builds) 3
+    not (list_any (λ b. is_of serial job b && not (is_lost b.outcome)) builds) &&
+    nat_lt (count_by (λ b. is_of serial job b && is_lost b.outcome) builds) 3
 
 -- the first waiting job of an item
 abbrev pub waiting_job : List Build → ItemRow → ItemJobs → Option ℕ
@@ -25,4 +26,5 @@ waiting_job builds i j = if j.blocked then None else position (waits i.serial bu
 abbrev pub choice_by : List Build → List ItemRow → List ItemJobs → Option (ℕ × ℕ)
 choice_by builds [] jobs = None
 choice_by builds (i ∷ items) [] = None
-choice_by builds (i ∷ items) (j ∷ jobs) = elim (waiting_job builds i j) [ Some n ↦ Some (i.serial, n) | None ↦ choice_by builds items jobs ]
+choice_by builds (i ∷ items) (j ∷ jobs) =
+    elim (waiting_job builds i j) [ Some n ↦ Some (i.serial, n) | None ↦ choice_by builds items jobs ]

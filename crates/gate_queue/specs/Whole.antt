@@ -37,5 +37,7 @@ rows_in c s pick q = record (rows_of (places c s q) s.builds q) { builds = picke
 -- the rows of a queue in the state after a rebase and then a sweep are those that settling the queue by itself leaves
 abbrev pub EachQueueIsSettledByItself : Type 0
 EachQueueIsSettledByItself = (c : Settings) (s : State) (before after : List Queue) (q : Queue) (pick : ℕ → Bool) →
-    s.queues ≡ before ++ q ∷ after → IsStrictlyIncreasing (map (λ i. i.serial) q.items) → AllPass (is_picked_rightly pick (before ++ after) q) s.builds →
-    rows_in c (sweep c (rebase c s)) pick (swept_of c s q) ≡ settled_rows (floor_of c q) (map (place_of c s q) q.items) (picked pick s.builds) q
+    s.queues ≡ before ++ q ∷ after → IsStrictlyIncreasing (map (λ i. i.serial) q.items) →
+    AllPass (is_picked_rightly pick (before ++ after) q) s.builds →
+    rows_in c (sweep c (rebase c s)) pick (swept_of c s q)
+    ≡ settled_rows (floor_of c q) (map (place_of c s q) q.items) (picked pick s.builds) q

@@ -52,14 +52,14 @@ fn waits(serial: Serial, builds: &[Build], job: &Job) -> bool
     count_lost(serial, builds, job) < 3
 }
 
-/// The place of the first waiting job.
+/// The index of the first waiting job.
 fn first_waiting(serial: Serial, builds: &[Build], jobs: &[Job]) -> Option<usize>
     ensures { result ≡ position (waiting.waits serial builds.now) jobs.now }
 {
     jobs.iter().position(|job| waits(serial, builds, job))
 }
 
-/// The place of the first waiting job of an item, unless it is blocked.
+/// The index of the first waiting job of an item, unless it is blocked.
 fn waiting_job(builds: &[Build], item: &Item, about: &ItemJobs) -> Option<usize>
     ensures { result ≡ waiting.waiting_job builds.now item.now about.now }
 {
@@ -86,17 +86,17 @@ fn choose_among(items: &[Item], builds: &[Build], jobs: &[ItemJobs]) -> Option<(
     requires { length items.now ≤ length jobs.now }
     ensures { result ≡ waiting.choice_by builds.now items.now jobs.now }
 {
-    for (place, item) in items.iter().enumerate() {
-        if let Some(job) = waiting_job(builds, item, &jobs[place]) {
+    for (index, item) in items.iter().enumerate() {
+        if let Some(job) = waiting_job(builds, item, &jobs[index]) {
             return Some((item.serial, job));
         }
     }
     None
 }
 
-/// The item and the place of its job, from 0, that the next build of the queue is for: of the items
-/// whose place, from 0, is below the window (of all items where it is 0), the first that isn't blocked
-/// and has a waiting job, and the first such job. None where there is none. Each live build of an item
+/// The item and the index of its job, from 0, that the next build of the queue is for: of the items
+/// within the window (of all items where it is 0), the first that isn't blocked and has a waiting job,
+/// and the first such job. None where there is none. Each live build of an item
 /// is to count for it, as after a settling; then the live builds of the items are all that `builds`
 /// must hold.
 pub fn choose(items: &[Item], builds: &[Build], window: u32, jobs: &Jobs) -> Option<(Serial, usize)>

@@ -1,14 +1,14 @@
 //! The edits of one item.
-ghost use Rattle.std.specs.Prelude.{◌≡◌, ◌<◌, ◌+◌, ◌^◌, ◌++◌, Option, option_map, is_some, slice_get, length, ◌-◌, OnOk, IfOk};
+ghost use Rattle.std.specs.Prelude.{◌≡◌, ◌<◌, ◌+◌, ◌-◌, ◌^◌, ◌++◌, option_map, slice_get, length, OnOk, IfOk};
 ghost use Rattle.gate_types.specs.Slot as rules;
 ghost use Rattle.gate_types.specs.Standing.{is_failing};
 ghost use Rattle.gate_types.specs.Sweep as sweep;
 ghost use Rattle.gate_queue.specs.Facts.{place_of};
 ghost use Rattle.gate_queue.specs.Edits as edits_of;
 
-use crate::judge::{Judged, judge};
+use crate::context::{BareItem, ItemContext};
+use crate::judge::{Ruling, judge};
 use crate::line::ran_on_line;
-use crate::place::{Place, Queued};
 use gate_types::edits::Edit;
 use gate_types::names::{Name, NoMemory};
 use gate_types::numbers::Serial;
@@ -17,32 +17,32 @@ use gate_types::sequence::Sequence;
 use std::alloc::Global;
 
 /// Whether a build of the item stops being live: it doesn't count, or it runs while the item goes.
-fn is_stopped(place: &Place, blocked: bool, going: bool, build: &Build) -> bool
-    requires { blocked ≡ rules.is_blocked (place_of place.now) }
-    ensures { result ≡ edits_of.stops (place_of place.now) going build.now }
+fn is_stopped(context: &ItemContext, blocked: bool, going: bool, build: &Build) -> bool
+    requires { blocked ≡ rules.is_blocked (place_of context.now) }
+    ensures { result ≡ edits_of.stops (place_of context.now) going build.now }
 {
-    if !build.live || build.serial != place.item.serial {
+    if !build.live || build.serial != context.item.serial {
         return false;
     }
     if going && matches!(build.outcome, Outcome::Running) {
         return true;
     }
-    blocked || !ran_on_line(place, build)
+    blocked || !ran_on_line(context, build)
 }
 
 /// Stops the builds of an item that don't count, and those that run while it goes.
 fn push_stops(
     edits: &mut Sequence<Edit>,
-    place: &Place,
+    context: &ItemContext,
     blocked: bool,
     going: bool,
     builds: &[Build],
 ) -> Result<(), NoMemory>
-    requires { blocked ≡ rules.is_blocked (place_of place.now) }
-    ensures { OnOk result (edits.new ≡ edits.old ++ edits_of.stop_edits builds.now (place_of place.now) going) }
+    requires { blocked ≡ rules.is_blocked (place_of context.now) }
+    ensures { OnOk result (edits.new ≡ edits.old ++ edits_of.stop_edits builds.now (place_of context.now) going) }
 {
     for build in builds {
-        if is_stopped(place, blocked, going, build) {
+        if is_stopped(context, blocked, going, build) {
             edits.push(Edit::StopBuild(build.number))?;
         }
     }
@@ -80,7 +80,7 @@ fn push_item(
 }
 
 /// The serial of the last of some items.
-fn last_serial(items: &[Queued]) -> Option<Serial>
+fn last_serial(items: &[BareItem]) -> Option<Serial>
     ensures { result ≡ option_map (λ i. i.serial) (slice_get items.now (length items.now - 1)) }
 {
     match items.last() {
@@ -95,25 +95,26 @@ pub fn push_edits(
     edits: &mut Sequence<Edit>,
     name: &Name,
     reports: u64,
-    place: &Place,
-    staying: &[Queued],
+    context: &ItemContext,
+    staying: &[BareItem],
     builds: &[Build],
-) -> Result<Judged, NoMemory>
+) -> Result<Ruling, NoMemory>
     requires { reports + 1 < 2 ^ 64 }
-    ensures edits { OnOk result (edits.new ≡ edits.old ++ edits_of.edits_at name.now builds.now reports staying.now (place_of place.now)) }
-    ensures failing { IfOk result (λ j. j.failing ≡ is_failing builds.now (place_of place.now)) }
-    ensures verdict { IfOk result (λ j. j.verdict ≡ sweep.verdict_of builds.now staying.now (place_of place.now)) }
+    ensures edits { let more = edits_of.edits_at name.now builds.now reports staying.now (place_of context.now) in
+        OnOk result (edits.new ≡ edits.old ++ more) }
+    ensures failing { IfOk result (λ j. j.failing ≡ is_failing builds.now (place_of context.now)) }
+    ensures verdict { IfOk result (λ j. j.verdict ≡ sweep.verdict_of builds.now staying.now (place_of context.now)) }
 {
-    let judged = judge(alloc, place, staying, builds)?;
-    let going = judged.verdict.is_some();
-    push_stops(edits, place, judged.blocked, going, builds)?;
+    let ruling = judge(alloc, context, staying, builds)?;
+    let going = ruling.verdict.is_some();
+    push_stops(edits, context, ruling.blocked, going, builds)?;
     let row = Item {
-        serial: place.item.serial,
-        change: place.item.change,
-        revision: place.item.revision,
-        ahead: last_serial(place.ahead),
-        failing: judged.failing,
+        serial: context.item.serial,
+        change: context.item.change,
+        revision: context.item.revision,
+        ahead: last_serial(context.ahead),
+        failing: ruling.failing,
     };
-    push_item(edits, name, reports, row, judged.verdict)?;
-    Ok(judged)
+    push_item(edits, name, reports, row, ruling.verdict)?;
+    Ok(ruling)
 }

@@ -13,7 +13,7 @@ pub struct ItemFacts<'a> {
 }
 
 /// What is known of a queue: its settings, its window, what has landed in it, and how many reports
-/// it has made, at most 10^15. `items` goes place by place with the queue's items.
+/// it has made, at most 10^15. `items` has those of each of the queue's items, in order.
 #[derive(Clone, Copy, Debug)]
 pub struct Facts<'a> {
     pub settings: &'a Queue,
@@ -31,7 +31,7 @@ pub struct ItemJobs<'a> {
     pub blocked: bool,
 }
 
-/// What a choice asks for: `items` goes place by place with the queue's items.
+/// What a choice asks for: `items` has the jobs of each of the queue's items, in order.
 #[derive(Clone, Copy, Debug)]
 pub struct Jobs<'a> {
     pub items: &'a [ItemJobs<'a>],

@@ -5,7 +5,7 @@ ghost use Rattle.gate_types.specs.Standing.{is_failing};
 ghost use Rattle.gate_types.specs.Sweep as sweep;
 ghost use Rattle.gate_queue.specs.Facts.{place_of};
 
-use crate::place::{Place, Queued, are_met_by};
+use crate::context::{BareItem, ItemContext, are_met_by};
 use crate::slots::marks_of;
 use gate_types::names::NoMemory;
 use gate_types::records::{Build, Verdict};
@@ -13,14 +13,15 @@ use std::alloc::Global;
 
 /// What the rules say of an item.
 #[derive(Clone, Copy, Debug)]
-pub struct Judged {
+pub struct Ruling {
     pub blocked: bool,
     pub failing: bool,
     pub verdict: Option<Verdict>,
 }
 
 fn verdict_of(met: bool, failed: bool) -> Option<Verdict>
-    ensures { result ≡ (if not met then Option.Some Verdict.Needs else (if failed then Option.Some Verdict.Failed else Option.None)) }
+    ensures { let unless_needs = (if failed then Option.Some Verdict.Failed else Option.None) in
+        result ≡ (if not met then Option.Some Verdict.Needs else unless_needs) }
 {
     if !met {
         Some(Verdict::Needs)
@@ -34,25 +35,25 @@ fn verdict_of(met: bool, failed: bool) -> Option<Verdict>
 /// Judges an item by the builds and by the items before it that stay.
 pub fn judge(
     alloc: Global,
-    place: &Place,
-    staying: &[Queued],
+    context: &ItemContext,
+    staying: &[BareItem],
     builds: &[Build],
-) -> Result<Judged, NoMemory>
-    ensures blocked { IfOk result (λ j. j.blocked ≡ rules.is_blocked (place_of place.now)) }
-    ensures failing { IfOk result (λ j. j.failing ≡ is_failing builds.now (place_of place.now)) }
-    ensures verdict { IfOk result (λ j. j.verdict ≡ sweep.verdict_of builds.now staying.now (place_of place.now)) }
+) -> Result<Ruling, NoMemory>
+    ensures blocked { IfOk result (λ j. j.blocked ≡ rules.is_blocked (place_of context.now)) }
+    ensures failing { IfOk result (λ j. j.failing ≡ is_failing builds.now (place_of context.now)) }
+    ensures verdict { IfOk result (λ j. j.verdict ≡ sweep.verdict_of builds.now staying.now (place_of context.now)) }
 {
-    let met = are_met_by(staying, place.needs);
-    if !are_met_by(place.ahead, place.needs) {
-        return Ok(Judged {
+    let met = are_met_by(staying, context.needs);
+    if !are_met_by(context.ahead, context.needs) {
+        return Ok(Ruling {
             blocked: true,
             failing: true,
             verdict: verdict_of(met, false),
         });
     }
-    let marks = marks_of(alloc, place, builds)?;
-    let failed = marks.failed && place.ahead.is_empty() && marks.finished;
-    Ok(Judged {
+    let marks = marks_of(alloc, context, builds)?;
+    let failed = marks.failed && context.ahead.is_empty() && marks.finished;
+    Ok(Ruling {
         blocked: false,
         failing: marks.failed,
         verdict: verdict_of(met, failed),

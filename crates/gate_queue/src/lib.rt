@@ -4,6 +4,7 @@
 #![tactic(auto)]
 
 pub mod choose;
+mod context;
 mod edits;
 pub mod facts;
 #[cfg(test)]
@@ -11,7 +12,6 @@ mod fixtures;
 mod judge;
 pub mod laws;
 mod line;
-mod place;
 #[cfg(test)]
 mod scenes;
 pub mod settle;

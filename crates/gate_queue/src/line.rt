@@ -1,11 +1,11 @@
-//! Whether a build ran on the line of an item, compared in place.
-ghost use Rattle.std.specs.Prelude.{◌≡◌, ◌≤◌, ◌+◌, true, nat_lt, [], ◌∷◌, ◌++◌, map, filter, take, drop, length, slice_get, IfSome};
-ghost use Rattle.std.specs.List.{list_all};
+//! Whether a build ran on the line of an item, compared without building the line.
+ghost use Rattle.std.specs.Prelude.{◌≡◌, ◌≤◌, ◌+◌, true, nat_lt, [], ◌∷◌, ◌++◌, map, filter, drop, length, slice_get, IfSome};
 ghost use Rattle.gate_types.specs.Line.{same_entries, line, ran_on, landed_entry, item_entry};
 ghost use Rattle.gate_queue.specs.Facts.{place_of, place_before};
 ghost use Rattle.gate_queue.specs.Follows.{has_entry, Follows};
+ghost use Rattle.gate_queue.specs.Shared.{are_below};
 
-use crate::place::{Place, Queued};
+use crate::context::{BareItem, ItemContext};
 use gate_types::numbers::Serial;
 use gate_types::records::{Build, Entry, Landing};
 
@@ -18,7 +18,7 @@ fn landed_entry(landing: &Landing) -> Entry
     }
 }
 
-fn item_entry(item: &Queued) -> Entry
+fn item_entry(item: &BareItem) -> Entry
     ensures { result ≡ item_entry item.now }
 {
     Entry {
@@ -56,8 +56,8 @@ fn has_entry(landings: &[Landing], build: &Build, n: usize, entry: Entry) -> boo
     }
 }
 
-/// Goes along those of the last landings that are on the line of a serial, from the place `from` of
-/// what the build ran on: the place behind them, or none where it ran on something else.
+/// Goes along those of the last landings that are on the line of a serial, from the entry `from` of
+/// what the build ran on: the number of the entry behind them, or none where it ran on something else.
 fn behind_landings(
     landings: &[Landing],
     last: &[Landing],
@@ -66,7 +66,8 @@ fn behind_landings(
     from: usize,
 ) -> Option<usize>
     requires { from + length last.now ≤ length landings.now }
-    ensures follows { Follows (ran_on landings.now build.now) from (map landed_entry (filter (λ l. nat_lt l.serial serial) last.now)) result }
+    ensures follows { let below = filter (λ l. nat_lt l.serial serial) last.now in
+        Follows (ran_on landings.now build.now) from (map landed_entry below) result }
     ensures within { IfSome result (λ n. n ≤ length landings.now) }
 {
     let mut n = from;
@@ -81,8 +82,13 @@ fn behind_landings(
     Some(n)
 }
 
-/// The same for the items ahead, from the place `from` of what the build ran on.
-fn behind_items(landings: &[Landing], ahead: &[Queued], build: &Build, from: usize) -> Option<usize>
+/// The same for the items ahead, from the entry `from` of what the build ran on.
+fn behind_items(
+    landings: &[Landing],
+    ahead: &[BareItem],
+    build: &Build,
+    from: usize,
+) -> Option<usize>
     requires { from ≤ length landings.now }
     ensures follows { Follows (ran_on landings.now build.now) from (map item_entry ahead.now) result }
     ensures within { IfSome result (λ n. n ≤ from + length ahead.now) }
@@ -98,9 +104,16 @@ fn behind_items(landings: &[Landing], ahead: &[Queued], build: &Build, from: usi
 }
 
 /// Whether the items ahead and then the item itself are all that is left of what the build ran on.
-fn is_rest(landings: &[Landing], ahead: &[Queued], item: Queued, build: &Build, from: usize) -> bool
+fn is_rest(
+    landings: &[Landing],
+    ahead: &[BareItem],
+    item: BareItem,
+    build: &Build,
+    from: usize,
+) -> bool
     requires { from ≤ length landings.now }
-    ensures { result ≡ same_entries (drop from (ran_on landings.now build.now)) (map item_entry ahead.now ++ item_entry item ∷ []) }
+    ensures { let rest = map item_entry ahead.now ++ item_entry item ∷ [] in
+        result ≡ same_entries (drop from (ran_on landings.now build.now)) rest }
 {
     let Some(own) = behind_items(landings, ahead, build, from) else {
         return false;
@@ -114,11 +127,11 @@ fn is_rest(landings: &[Landing], ahead: &[Queued], item: Queued, build: &Build, 
 fn is_line(
     landings: &[Landing],
     shared: usize,
-    ahead: &[Queued],
-    item: Queued,
+    ahead: &[BareItem],
+    item: BareItem,
     build: &Build,
 ) -> bool
-    requires { list_all (λ l. nat_lt l.serial item.serial) (take shared landings.now) ≡ true }
+    requires { are_below shared landings.now item.serial ≡ true }
     ensures { result ≡ same_entries (ran_on landings.now build.now) (line (place_before landings.now ahead.now item)) }
 {
     let from = landings.len().min(shared).min(build.after as usize);
@@ -129,10 +142,16 @@ fn is_line(
 }
 
 /// Whether the build ran on the item's line.
-pub fn ran_on_line(place: &Place, build: &Build) -> bool
-    ensures { result ≡ same_entries (ran_on place.now.landings.now build.now) (line (place_of place.now)) }
+pub fn ran_on_line(context: &ItemContext, build: &Build) -> bool
+    ensures { result ≡ same_entries (ran_on context.now.landings.now build.now) (line (place_of context.now)) }
 {
-    is_line(place.landings, place.shared, place.ahead, place.item, build)
+    is_line(
+        context.landings,
+        context.shared,
+        context.ahead,
+        context.item,
+        build,
+    )
 }
 
 #[cfg(test)]

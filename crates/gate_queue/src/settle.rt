@@ -1,16 +1,15 @@
 //! Settling one queue.
-ghost use Rattle.std.specs.Prelude.{◌≡◌, ◌<◌, ◌≤◌, ◌+◌, ◌^◌, true, nat_lt, if◌then◌else◌, is_some, take, map, length, [], ◌∷◌, ◌++◌, OnOk, IfOk};
-ghost use Rattle.std.specs.List.{list_all};
+ghost use Rattle.std.specs.Prelude.{◌≡◌, ◌<◌, ◌≤◌, ◌+◌, ◌^◌, true, if◌then◌else◌, map, length, [], ◌∷◌, ◌++◌, OnOk, IfOk};
 ghost use Rattle.std.specs.List.Sorted.{IsStrictlyIncreasing};
-ghost use Rattle.gate_types.specs.Standing as standing;
-ghost use Rattle.gate_types.specs.Sweep as sweep;
-ghost use Rattle.gate_queue.specs.Facts.{places_by, place_behind};
+ghost use Rattle.gate_queue.specs.Facts.{place_behind};
+ghost use Rattle.gate_queue.specs.Shared.{are_below};
 ghost use Rattle.gate_queue.specs.Edits as edits_of;
+ghost use Rattle.gate_queue.specs.Visits.{Visits};
 ghost use Rattle.gate_queue.specs.Settles.{Settles};
 
+use crate::context::{BareItem, ItemContext};
 use crate::edits::push_edits;
 use crate::facts::{Facts, ItemFacts};
-use crate::place::{Place, Queued};
 use crate::shared::shared_with;
 use crate::window::shrink;
 use gate_types::edits::Edit;
@@ -53,7 +52,8 @@ fn push_unless<T: Drop>(items: &mut Vec<T>, item: T, skip: bool) -> Result<(), N
 
 /// Sets the window, where it isn't that of the facts.
 fn push_window(edits: &mut Sequence<Edit>, facts: &Facts, window: u32) -> Result<(), NoMemory>
-    ensures { OnOk result (edits.new ≡ edits.old ++ edits_of.window_edits facts.now.settings.now.name facts.now.window window) }
+    ensures { let known = facts.now in
+        OnOk result (edits.new ≡ edits.old ++ edits_of.window_edits known.settings.now.name known.window window) }
 {
     if facts.window != window {
         let queue = facts.settings.name.copy()?;
@@ -66,8 +66,8 @@ fn push_window(edits: &mut Sequence<Edit>, facts: &Facts, window: u32) -> Result
 /// window, the number of reports, and how many first landings have serials below `below`.
 #[derive(Drop)]
 struct Pass {
-    ahead: Vec<Queued>,
-    staying: Vec<Queued>,
+    ahead: Vec<BareItem>,
+    staying: Vec<BareItem>,
     edits: Sequence<Edit>,
     window: u32,
     reports: u64,
@@ -85,37 +85,34 @@ impl Pass {
         about: &ItemFacts,
     ) -> Result<(), NoMemory>
         requires room { self.old.reports + 1 < 2 ^ 64 }
-        requires shared { list_all (λ l. nat_lt l.serial self.old.below) (take self.old.shared facts.now.landings.now) ≡ true }
-        ensures ahead { OnOk result (self.new.ahead.items ≡ standing.next_ahead builds.now (place_behind self.old.ahead.items facts.now.landings.now item.now about.now)) }
-        ensures staying { OnOk result (self.new.staying.items ≡ sweep.next_staying self.old.staying.items (sweep.judge builds.now self.old.staying.items (place_behind self.old.ahead.items facts.now.landings.now item.now about.now))) }
-        ensures edits { OnOk result (self.new.edits ≡ self.old.edits ++ edits_of.edits_at facts.now.settings.now.name builds.now self.old.reports self.old.staying.items (place_behind self.old.ahead.items facts.now.landings.now item.now about.now)) }
-        ensures window { OnOk result (self.new.window ≡ edits_of.window_behind facts.now.settings.now.floor self.old.window (sweep.verdict_of builds.now self.old.staying.items (place_behind self.old.ahead.items facts.now.landings.now item.now about.now))) }
-        ensures reports { OnOk result (self.new.reports ≡ edits_of.next_reports self.old.reports (sweep.verdict_of builds.now self.old.staying.items (place_behind self.old.ahead.items facts.now.landings.now item.now about.now))) }
-        ensures shared { OnOk result (list_all (λ l. nat_lt l.serial self.new.below) (take self.new.shared facts.now.landings.now) ≡ true) }
+        requires shared { are_below self.old.shared facts.now.landings.now self.old.below ≡ true }
+        ensures visited { let place = place_behind self.old.ahead.items facts.now.landings.now item.now about.now in
+            OnOk result (Visits facts.now builds.now place self.old self.new) }
+        ensures shared { OnOk result (are_below self.new.shared facts.now.landings.now self.new.below ≡ true) }
     {
-        let queued = Queued::of(item);
+        let bare = BareItem::of(item);
         let shared = shared_with(facts.landings, self.shared, self.below, item.serial);
-        let place = Place {
+        let context = ItemContext {
             landings: facts.landings,
             ahead: &self.ahead,
-            item: queued,
+            item: bare,
             needs: about.needs,
             jobs: about.jobs,
             shared,
         };
-        let judged = push_edits(
+        let ruling = push_edits(
             alloc,
             &mut self.edits,
             &facts.settings.name,
             self.reports,
-            &place,
+            &context,
             &self.staying,
             builds,
         )?;
-        push_unless(&mut self.ahead, queued, judged.failing)?;
-        push_unless(&mut self.staying, queued, judged.verdict.is_some())?;
-        self.window = window_behind(self.window, facts.settings.floor, judged.verdict);
-        self.reports = reports_behind(self.reports, judged.verdict);
+        push_unless(&mut self.ahead, bare, ruling.failing)?;
+        push_unless(&mut self.staying, bare, ruling.verdict.is_some())?;
+        self.window = window_behind(self.window, facts.settings.floor, ruling.verdict);
+        self.reports = reports_behind(self.reports, ruling.verdict);
         self.shared = shared;
         self.below = item.serial.get();
         Ok(())
@@ -130,7 +127,7 @@ fn edits_for(
     facts: &Facts,
 ) -> Result<Sequence<Edit>, NoMemory>
     requires { length facts.now.items.now ≡ length items.now }
-    ensures { IfOk result (λ edits. edits ≡ edits_of.edits_of_queue facts.now.settings.now.name facts.now.settings.now.floor facts.now.window facts.now.reports builds.now (places_by facts.now.landings.now items.now facts.now.items.now)) }
+    ensures { IfOk result (λ edits. edits ≡ edits_of.edits_by facts.now items.now builds.now) }
 {
     let mut pass = Pass {
         ahead: Vec::new(alloc),
@@ -141,8 +138,8 @@ fn edits_for(
         shared: 0,
         below: 0,
     };
-    for (place, item) in items.iter().enumerate() {
-        let about = &facts.items[place];
+    for (index, item) in items.iter().enumerate() {
+        let about = &facts.items[index];
         pass.visit(alloc, facts, builds, item, about)?;
     }
     let Pass {

@@ -1,14 +1,14 @@
 //! How many landings of a queue stand on the line of an item.
-ghost use Rattle.std.specs.Prelude.{◌≡◌, true, nat_lt, take};
-ghost use Rattle.std.specs.List.{list_all};
+ghost use Rattle.std.specs.Prelude.{◌≡◌, true};
+ghost use Rattle.gate_queue.specs.Shared.{are_below};
 
 use gate_types::numbers::Serial;
 use gate_types::records::Landing;
 
 /// Some first landings with lower serials, where the first `known` have.
 fn shared_from(landings: &[Landing], known: usize, serial: Serial) -> usize
-    requires { list_all (λ l. nat_lt l.serial serial) (take known landings.now) ≡ true }
-    ensures { list_all (λ l. nat_lt l.serial serial) (take result landings.now) ≡ true }
+    requires { are_below known landings.now serial ≡ true }
+    ensures { are_below result landings.now serial ≡ true }
 {
     let mut shared = landings.len().min(known);
     for landing in &landings[shared..] {
@@ -23,8 +23,8 @@ fn shared_from(landings: &[Landing], known: usize, serial: Serial) -> usize
 /// Some first landings with serials below `serial`, where the first `known` have serials below `below`:
 /// as many as there are before the first that hasn't, if the serials rise from call to call.
 pub fn shared_with(landings: &[Landing], known: usize, below: u64, serial: Serial) -> usize
-    requires { list_all (λ l. nat_lt l.serial below) (take known landings.now) ≡ true }
-    ensures { list_all (λ l. nat_lt l.serial serial) (take result landings.now) ≡ true }
+    requires { are_below known landings.now below ≡ true }
+    ensures { are_below result landings.now serial ≡ true }
 {
     if below <= serial.get() {
         shared_from(landings, known, serial)

@@ -6,8 +6,8 @@ ghost use Rattle.gate_types.specs.Slot as rules;
 ghost use Rattle.gate_types.specs.Standing.{are_finished};
 ghost use Rattle.gate_queue.specs.Facts.{place_of};
 
+use crate::context::ItemContext;
 use crate::line::ran_on_line;
-use crate::place::Place;
 use gate_types::config::Job;
 use gate_types::names::{Name, NoMemory};
 use gate_types::records::{Build, Outcome, Slot};
@@ -21,26 +21,26 @@ pub fn same_name(a: &Name, b: &Name) -> bool
 }
 
 /// Whether a build counts for an item that isn't blocked.
-pub fn counts(place: &Place, build: &Build) -> bool
-    requires { rules.is_blocked (place_of place.now) ≡ false }
-    ensures { result ≡ rules.counts (place_of place.now) build.now }
+pub fn counts(context: &ItemContext, build: &Build) -> bool
+    requires { rules.is_blocked (place_of context.now) ≡ false }
+    ensures { result ≡ rules.counts (place_of context.now) build.now }
 {
-    build.live && build.serial == place.item.serial && ran_on_line(place, build)
+    build.live && build.serial == context.item.serial && ran_on_line(context, build)
 }
 
 /// The outcomes of the job's builds that count.
 fn outcomes_of(
     alloc: Global,
-    place: &Place,
+    context: &ItemContext,
     builds: &[Build],
     job: &Job,
 ) -> Result<Vec<Outcome>, NoMemory>
-    requires { rules.is_blocked (place_of place.now) ≡ false }
-    ensures { IfOk result (λ found. found.items ≡ rules.outcomes_of builds.now (place_of place.now) job.now) }
+    requires { rules.is_blocked (place_of context.now) ≡ false }
+    ensures { IfOk result (λ found. found.items ≡ rules.outcomes_of builds.now (place_of context.now) job.now) }
 {
     let mut found: Vec<Outcome> = Vec::new(alloc);
     for build in builds {
-        if counts(place, build) && same_name(&build.job, &job.name) {
+        if counts(context, build) && same_name(&build.job, &job.name) {
             found.push(build.outcome)?;
         }
     }
@@ -88,11 +88,16 @@ fn slot_of_outcomes(outcomes: &[Outcome]) -> Slot
     }
 }
 
-fn slot_of(alloc: Global, place: &Place, builds: &[Build], job: &Job) -> Result<Slot, NoMemory>
-    requires { rules.is_blocked (place_of place.now) ≡ false }
-    ensures { IfOk result (λ slot. slot ≡ rules.slot_of builds.now (place_of place.now) job.now) }
+fn slot_of(
+    alloc: Global,
+    context: &ItemContext,
+    builds: &[Build],
+    job: &Job,
+) -> Result<Slot, NoMemory>
+    requires { rules.is_blocked (place_of context.now) ≡ false }
+    ensures { IfOk result (λ slot. slot ≡ rules.slot_of builds.now (place_of context.now) job.now) }
 {
-    let outcomes = outcomes_of(alloc, place, builds, job)?;
+    let outcomes = outcomes_of(alloc, context, builds, job)?;
     Ok(slot_of_outcomes(&outcomes))
 }
 
@@ -118,15 +123,17 @@ pub struct Marks {
 }
 
 /// What the jobs say of an item that isn't blocked.
-pub fn marks_of(alloc: Global, place: &Place, builds: &[Build]) -> Result<Marks, NoMemory>
-    requires { rules.is_blocked (place_of place.now) ≡ false }
-    ensures failed { IfOk result (λ marks. marks.failed ≡ list_any (λ j. j.voting && rules.is_failed_slot (rules.slot_of builds.now (place_of place.now) j)) place.now.jobs.now) }
-    ensures finished { IfOk result (λ marks. marks.finished ≡ are_finished builds.now (place_of place.now)) }
+pub fn marks_of(alloc: Global, context: &ItemContext, builds: &[Build]) -> Result<Marks, NoMemory>
+    requires { rules.is_blocked (place_of context.now) ≡ false }
+    ensures failed { let slot = rules.slot_of builds.now (place_of context.now) in
+        let jobs = context.now.jobs.now in
+        IfOk result (λ marks. marks.failed ≡ list_any (λ j. j.voting && rules.is_failed_slot (slot j)) jobs) }
+    ensures finished { IfOk result (λ marks. marks.finished ≡ are_finished builds.now (place_of context.now)) }
 {
     let mut failed = false;
     let mut finished = true;
-    for job in place.jobs {
-        let slot = slot_of(alloc, place, builds, job)?;
+    for job in context.jobs {
+        let slot = slot_of(alloc, context, builds, job)?;
         failed = failed || job.voting && is_failed(slot);
         finished = finished && is_finished(slot);
     }

@@ -7,5 +7,5 @@ use Rattle.gate_queue.proofs.slots.marks_of.Given as goal
 
 abbrev pub invariant-loop-job : goal.invariant-loop-job
 invariant-loop-job l =
-    (l.failed ≡ list_any (λ j. j.voting && is_failed_slot (slot_of l.builds (place_of l.place) j)) (take l.job-index l.place.jobs.now)) ×
-    (l.finished ≡ list_all (λ j. is_finished (slot_of l.builds (place_of l.place) j)) (take l.job-index l.place.jobs.now))
+    (l.failed ≡ list_any (λ j. j.voting && is_failed_slot (slot_of l.builds (place_of l.context) j)) (take l.job-index l.context.jobs.now)) ×
+    (l.finished ≡ list_all (λ j. is_finished (slot_of l.builds (place_of l.context) j)) (take l.job-index l.context.jobs.now))

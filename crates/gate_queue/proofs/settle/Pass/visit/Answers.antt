@@ -5,34 +5,20 @@ use Rattle.gate_queue.specs.Edits.{edits_at, window_behind, next_reports}
 use Rattle.gate_queue.proofs.PlaceLemmas.{place_is}
 use Rattle.gate_queue.proofs.settle.Pass.visit.Goals as goal
 
-pub returns-clause-ahead : goal.returns-clause-ahead
-returns-clause-ahead c =
-    let e = place_is _ _ c.args.facts.now.landings.now c.args.item.now _ c.args.about.now c.deref.ensures.value c.of-queued.ensures in
-    let old = c.args.self.now.ahead.items in
-    c.in_ok-push_unless.ensures
-    ∙ (λ k. if (c.in_ok-judged.ensures.failing ∙ ap (is_failing c.args.builds.now) e) k then old else old ++ c.of-queued.ensures k ∷ [])
-
-pub returns-clause-staying : goal.returns-clause-staying
-returns-clause-staying c =
-    let e = place_is _ _ c.args.facts.now.landings.now c.args.item.now _ c.args.about.now c.deref.ensures.value c.of-queued.ensures in
-    let old = c.args.self.now.staying.items in
-    c.in_ok-push_unless-2.ensures
-    ∙ (λ k. if (c.is_some.ensures ∙ ap is_some (c.in_ok-judged.ensures.verdict ∙ (λ j. verdict_of c.args.builds.now (c.deref-2.ensures.value j) (e j)))) k then old else old ++ c.of-queued.ensures k ∷ [])
-
-pub returns-clause-edits : goal.returns-clause-edits
-returns-clause-edits c =
-    let e = place_is _ _ c.args.facts.now.landings.now c.args.item.now _ c.args.about.now c.deref.ensures.value c.of-queued.ensures in
-    c.in_ok-judged.ensures.edits
-    ∙ (λ k. c.args.self.now.edits ++ edits_at c.args.facts.now.settings.now.name c.args.builds.now c.args.self.now.reports (c.deref-2.ensures.value k) (e k))
-
-pub returns-clause-window : goal.returns-clause-window
-returns-clause-window c =
-    let e = place_is _ _ c.args.facts.now.landings.now c.args.item.now _ c.args.about.now c.deref.ensures.value c.of-queued.ensures in
-    c.window_behind-self.ensures
-    ∙ ap (window_behind c.args.facts.now.settings.now.floor c.args.self.now.window) (c.in_ok-judged.ensures.verdict ∙ (λ j. verdict_of c.args.builds.now (c.deref-2.ensures.value j) (e j)))
-
-pub returns-clause-reports : goal.returns-clause-reports
-returns-clause-reports c =
-    let e = place_is _ _ c.args.facts.now.landings.now c.args.item.now _ c.args.about.now c.deref.ensures.value c.of-queued.ensures in
-    c.reports_behind-self.ensures.value
-    ∙ ap (next_reports c.args.self.now.reports) (c.in_ok-judged.ensures.verdict ∙ (λ j. verdict_of c.args.builds.now (c.deref-2.ensures.value j) (e j)))
+pub returns-clause-visited : goal.returns-clause-visited
+returns-clause-visited c =
+    let facts = c.args.facts.now in
+    let old = c.args.self.now in
+    let builds = c.args.builds.now in
+    let ruling = c.in_ok-ruling.ensures in
+    let place = place_is _ _ facts.landings.now c.args.item.now _ c.args.about.now c.deref.ensures.value c.of-bare.ensures in
+    let verdict = ruling.verdict ∙ (λ k. verdict_of builds (c.deref-2.ensures.value k) (place k)) in
+    record {
+      ahead = c.in_ok-push_unless.ensures
+          ∙ (λ k. if (ruling.failing ∙ ap (is_failing builds) place) k then old.ahead.items else old.ahead.items ++ c.of-bare.ensures k ∷ []);
+      staying = c.in_ok-push_unless-2.ensures
+          ∙ (λ k. if (c.is_some.ensures ∙ ap is_some verdict) k then old.staying.items else old.staying.items ++ c.of-bare.ensures k ∷ []);
+      edits = ruling.edits ∙ (λ k. old.edits ++ edits_at facts.settings.now.name builds old.reports (c.deref-2.ensures.value k) (place k));
+      window = c.window_behind-self.ensures ∙ ap (window_behind facts.settings.now.floor old.window) verdict;
+      reports = c.reports_behind-self.ensures.value ∙ ap (next_reports old.reports) verdict;
+    }

@@ -1,39 +1,39 @@
-//! An item with all that its rules ask for, and whether a build ran on its line.
-ghost use Rattle.std.specs.Prelude.{◌≡◌, ℕ, true, nat_lt, take};
-ghost use Rattle.std.specs.List.{list_all};
+//! An item with all that its rules ask for.
+ghost use Rattle.std.specs.Prelude.{◌≡◌, true};
 ghost use Rattle.gate_types.specs.State.{has_change};
 ghost use Rattle.gate_types.specs.Slot.{are_met_by};
+ghost use Rattle.gate_queue.specs.Shared.{are_below};
 
 use gate_types::config::Job;
 use gate_types::numbers::{ChangeNo, Revision, Serial};
 use gate_types::records::{Entry, Item, Landing, Need};
 use std::marker::Model;
 
-/// A change in a queue.
+/// An item without what is worked out of it: what is ahead, and whether it fails.
 #[derive(Clone, Copy, Debug, PartialEq, Eq)]
-pub struct Queued {
+pub struct BareItem {
     pub serial: Serial,
     pub change: ChangeNo,
     pub revision: Revision,
 }
 
-impl Model for Queued {
+impl Model for BareItem {
     ghost use Rattle.gate_types.specs.State.{Item};
 
     ghost Value = { Item };
 
-    ghost view = { λ q. record { serial = q.serial; change = q.change; revision = q.revision } };
+    ghost view = { λ i. record { serial = i.serial; change = i.change; revision = i.revision } };
 
     ghost inverse = { λ i. record { serial = i.serial; change = i.change; revision = i.revision } };
 }
 
-impl Queued {
+impl BareItem {
     ghost use Rattle.gate_types.specs.Rows.{item_of};
 
     pub fn of(item: &Item) -> Self
         ensures { result ≡ item_of item.now }
     {
-        Queued {
+        BareItem {
             serial: item.serial,
             change: item.change,
             revision: item.revision,
@@ -44,25 +44,25 @@ impl Queued {
 /// An item, the landings of its queue, the items before it that aren't failing, the needs of its
 /// change, the jobs of its project. The first `shared` landings have lower serials.
 #[derive(Clone, Copy, Debug)]
-pub struct Place<'a> {
+pub struct ItemContext<'a> {
     pub landings: &'a [Landing],
-    pub ahead: &'a [Queued],
-    pub item: Queued,
+    pub ahead: &'a [BareItem],
+    pub item: BareItem,
     pub needs: &'a [Need],
     pub jobs: &'a [Job],
     pub shared: usize,
-    ghost shared_is_below: { list_all (λ l. nat_lt l.serial item.serial) (take shared landings.now) ≡ true },
+    ghost shared_is_below: { are_below shared landings.now item.serial ≡ true },
 }
 
 /// Whether a change is that of one of some items.
-fn has_change(items: &[Queued], change: ChangeNo) -> bool
+fn has_change(items: &[BareItem], change: ChangeNo) -> bool
     ensures { result ≡ has_change items.now change }
 {
     items.iter().any(|item| item.change == change)
 }
 
 /// Whether each need has landed or is one of some items.
-pub fn are_met_by(items: &[Queued], needs: &[Need]) -> bool
+pub fn are_met_by(items: &[BareItem], needs: &[Need]) -> bool
     ensures { result ≡ are_met_by items.now needs.now }
 {
     needs
