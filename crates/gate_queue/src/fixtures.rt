@@ -6,7 +6,7 @@ use gate_types::config::{Job, Queue};
 use gate_types::edits::Edit;
 use gate_types::names::Name;
 use gate_types::numbers::{BuildNo, ChangeNo, Revision, Serial};
-use gate_types::records::{Build, Entry, Item, Landing, Need, Outcome, Verdict};
+use gate_types::records::{Build, Entry, Item, Landing, Need, Outcome, Report, Verdict};
 use gate_types::sequence::Sequence;
 use std::alloc::{AllocError, AllocFailed, Global};
 
@@ -213,37 +213,51 @@ fn word(verdict: Verdict) -> &'static str {
     }
 }
 
+fn item_line(alloc: Global, queue: &Name, item: &Item) -> Result<String, AllocError> {
+    let (queue, serial) = (queue.as_str(), item.serial.get());
+    let (change, revision) = (item.change.get(), item.revision.get());
+    let ahead = item.ahead.map_or(0, |ahead| ahead.get());
+    let state = if item.failing { "failing" } else { "ok" };
+    format!(in alloc; "put {queue} {serial} {change},{revision} {ahead} {state}\n")
+}
+
+fn report_line(
+    alloc: Global,
+    queue: &Name,
+    place: u64,
+    report: &Report,
+) -> Result<String, AllocError> {
+    let (queue, serial) = (queue.as_str(), report.serial.get());
+    let (change, revision) = (report.change.get(), report.revision.get());
+    let verdict = word(report.verdict);
+    format!(in alloc; "report {queue} {place} {serial} {change},{revision} {verdict}\n")
+}
+
 fn line(alloc: Global, edit: &Edit) -> Result<String, AllocError> {
     match edit {
-        Edit::PutItem { queue: _, item } => {
-            let serial = item.serial.get();
-            let ahead = item.ahead.map_or(0, |ahead| ahead.get());
-            let state = if item.failing { "failing" } else { "ok" };
-            format!(in alloc; "put {serial} {ahead} {state}\n")
-        }
+        Edit::PutItem { queue, item } => item_line(alloc, queue, item),
         Edit::DropItem(serial) => {
             let serial = serial.get();
             format!(in alloc; "drop {serial}\n")
         }
         Edit::PutReport {
-            queue: _,
+            queue,
             place,
             report,
-        } => {
-            let serial = report.serial.get();
-            let verdict = word(report.verdict);
-            format!(in alloc; "report {place} {serial} {verdict}\n")
-        }
+        } => report_line(alloc, queue, *place, report),
         Edit::StopBuild(number) => {
             let number = number.get();
             format!(in alloc; "stop {number}\n")
         }
-        Edit::SetWindow { queue: _, window } => format!(in alloc; "window {window}\n"),
+        Edit::SetWindow { queue, window } => {
+            let queue = queue.as_str();
+            format!(in alloc; "window {queue} {window}\n")
+        }
         _ => "other\n".to_string(alloc),
     }
 }
 
-/// The edits, a line each; 0 stands for no item ahead.
+/// The edits, a line each with all that it says; 0 stands for no item ahead.
 pub fn lines(alloc: Global, edits: &[Edit]) -> Result<String, AllocError> {
     let mut text = String::new(alloc);
     for edit in edits {

@@ -20,8 +20,8 @@ fn jobs_told<'a>(
     blocked: u64,
 ) -> Result<Vec<ItemJobs<'a>>, NoMemory> {
     let mut told = Vec::new(alloc);
-    for (place, jobs) in all.iter().enumerate() {
-        let is_blocked = place as u64 == blocked;
+    for (index, jobs) in all.iter().enumerate() {
+        let is_blocked = index as u64 == blocked;
         told.push(ItemJobs {
             jobs,
             blocked: is_blocked,
@@ -38,7 +38,7 @@ fn all_jobs(alloc: Global, cases: &[ItemCase]) -> Result<Vec<Vec<Job>>, Unmade> 
     Ok(all)
 }
 
-/// The serial and the job's place, or 0 and 0; the item at the place `blocked` is blocked.
+/// The serial and the job's index, or 0 and 0; the item of the index `blocked` is blocked.
 fn chosen(
     rt: &impl Abort,
     alloc: Global,
@@ -56,7 +56,7 @@ fn chosen(
     Ok(choose(&items, &builds, window, &jobs).map_or((0, 0), |(serial, job)| (serial.get(), job)))
 }
 
-const NONE: u64 = 99;
+const NONE: u64 = 9999;
 
 #[test]
 fn an_empty_queue_has_no_build_due(rt: HostRuntime) -> Result<(), Unmade> {
@@ -125,6 +125,27 @@ fn a_lost_build_is_tried_three_times(rt: HostRuntime) -> Result<(), Unmade> {
     for (lost, wanted) in [(0, (1, 0)), (1, (1, 0)), (2, (1, 0)), (3, (0, 0))] {
         assert_eq!(rt;
             chosen(&rt, rt.alloc(), &cases, &runs[..lost], NONE, 2)?,
+            wanted
+        );
+    }
+    Ok(())
+}
+
+/// A queue at the limit: the first 999 of 1,000 items have failed, each on a line of its own change alone, since no
+/// non-failing item is before it. So the next build is that of the last item, where the window holds all 1,000, and there
+/// is none where it holds 999: failing items count for it too.
+#[test]
+fn the_last_of_1000_items_is_given_a_build(rt: HostRuntime) -> Result<(), Unmade> {
+    let mut cases = Vec::new(rt.alloc());
+    let mut runs = Vec::new(rt.alloc());
+    for serial in 1..1000 {
+        cases.push(item(serial, 1000 + serial, &[], APP))?;
+        runs.push(unit(serial, serial, 1000 + serial, 0, &[], Failure))?;
+    }
+    cases.push(item(1000, 2000, &[], APP))?;
+    for (window, wanted) in [(0, (1000, 0)), (1000, (1000, 0)), (999, (0, 0))] {
+        assert_eq!(rt;
+            chosen(&rt, rt.alloc(), &cases, &runs, NONE, window)?,
             wanted
         );
     }

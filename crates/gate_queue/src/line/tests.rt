@@ -20,7 +20,7 @@ fn a_success_behind_a_landed_item_still_counts(rt: HostRuntime) -> Result<(), Un
         landed,
         &rows,
         &runs,
-        "put 2 0 ok\nput 3 2 ok\n",
+        "put core 2 102,1 0 ok\nput core 3 103,1 2 ok\n",
     )
 }
 
@@ -46,7 +46,7 @@ fn a_build_counts_where_the_lists_are_the_same_however_they_are_cut(
         landed,
         &[item(4, 104, &[], APP)],
         &runs,
-        "stop 3\nstop 4\nstop 5\nput 4 0 ok\n",
+        "stop 3\nstop 4\nstop 5\nput core 4 104,1 0 ok\n",
     )
 }
 
@@ -67,7 +67,7 @@ fn a_landing_that_overtook_an_item_is_not_on_its_line(rt: HostRuntime) -> Result
         landed,
         &[item(1, 101, &[], LIB)],
         &runs,
-        "stop 2\nput 1 0 failing\n",
+        "stop 2\nput core 1 101,1 0 failing\n",
     )
 }
 
@@ -85,9 +85,16 @@ fn three_losses_fail_and_two_do_not(rt: HostRuntime) -> Result<(), Unmade> {
         PLAIN,
         &alone,
         &runs,
-        "report 1 1 failed\ndrop 1\nwindow 1\n",
+        "report core 1 1 101,1 failed\ndrop 1\nwindow core 1\n",
     )?;
-    settles(&rt, rt.alloc(), PLAIN, &alone, &runs[..2], "put 1 0 ok\n")
+    settles(
+        &rt,
+        rt.alloc(),
+        PLAIN,
+        &alone,
+        &runs[..2],
+        "put core 1 101,1 0 ok\n",
+    )
 }
 
 #[test]
@@ -106,7 +113,7 @@ fn losses_on_two_lines_arent_added(rt: HostRuntime) -> Result<(), Unmade> {
         PLAIN,
         &rows,
         &runs,
-        "put 1 0 failing\nstop 3\nstop 4\nput 2 0 ok\n",
+        "put core 1 101,1 0 failing\nstop 3\nstop 4\nput core 2 102,1 0 ok\n",
     )
 }
 
@@ -122,6 +129,6 @@ fn one_success_outweighs_failures(rt: HostRuntime) -> Result<(), Unmade> {
         PLAIN,
         &[item(1, 101, &[], APP)],
         &runs,
-        "put 1 0 ok\n",
+        "put core 1 101,1 0 ok\n",
     )
 }

@@ -12,7 +12,7 @@ fn a_failure_resets_the_item_behind_it(rt: HostRuntime) -> Result<(), Unmade> {
         rt.alloc(),
         &[],
         [Failure, Running, Running],
-        "put 1 0 failing\nstop 3\nput 2 0 ok\n",
+        "put core 1 101,1 0 failing\nstop 3\nput core 2 102,1 0 ok\n",
     )
 }
 
@@ -23,7 +23,7 @@ fn an_item_that_has_failed_goes_when_its_last_job_ends(rt: HostRuntime) -> Resul
         rt.alloc(),
         &[],
         [Failure, Success, Running],
-        "report 1 1 failed\ndrop 1\nstop 3\nput 2 0 ok\nwindow 1\n",
+        "report core 1 1 101,1 failed\ndrop 1\nstop 3\nput core 2 102,1 0 ok\nwindow core 1\n",
     )
 }
 
@@ -34,7 +34,7 @@ fn an_item_goes_with_its_need(rt: HostRuntime) -> Result<(), Unmade> {
         rt.alloc(),
         &[(101, false)],
         [Failure, Success, Running],
-        "report 1 1 failed\ndrop 1\nstop 3\nreport 2 2 needs\ndrop 2\nwindow 1\n",
+        "report core 1 1 101,1 failed\ndrop 1\nstop 3\nreport core 2 2 102,1 needs\ndrop 2\nwindow core 1\n",
     )
 }
 
@@ -45,7 +45,7 @@ fn a_job_that_doesnt_vote_decides_nothing(rt: HostRuntime) -> Result<(), Unmade>
         rt.alloc(),
         &[],
         [Running, Failure, Running],
-        "put 1 0 ok\nput 2 1 ok\n",
+        "put core 1 101,1 0 ok\nput core 2 102,1 1 ok\n",
     )
 }
 
@@ -67,7 +67,7 @@ fn a_cycle_goes_and_leaves_the_window(rt: HostRuntime) -> Result<(), Unmade> {
         PLAIN,
         &rows,
         &[],
-        "report 1 1 needs\ndrop 1\nreport 2 2 needs\ndrop 2\nreport 3 3 needs\ndrop 3\n",
+        "report core 1 1 201,1 needs\ndrop 1\nreport core 2 2 202,1 needs\ndrop 2\nreport core 3 3 203,1 needs\ndrop 3\n",
     )
 }
 
@@ -85,7 +85,7 @@ fn a_need_is_met_by_a_landing_or_an_item_before(rt: HostRuntime) -> Result<(), U
         PLAIN,
         &rows,
         &[unit(1, 2, 102, 0, &[101], Success)],
-        "put 1 0 ok\nput 2 1 ok\nreport 1 3 needs\ndrop 3\nput 4 2 ok\n",
+        "put core 1 101,1 0 ok\nput core 2 102,1 1 ok\nreport core 1 3 103,1 needs\ndrop 3\nput core 4 104,1 2 ok\n",
     )
 }
 
@@ -96,7 +96,7 @@ fn an_item_whose_need_is_failing_is_blocked_and_stays(rt: HostRuntime) -> Result
         rt.alloc(),
         &[(101, false)],
         [Failure, Running, Success],
-        "put 1 0 failing\nstop 3\nput 2 0 failing\n",
+        "put core 1 101,1 0 failing\nstop 3\nput core 2 102,1 0 failing\n",
     )
 }
 
@@ -118,7 +118,7 @@ fn a_failure_behind_an_item_stays(rt: HostRuntime) -> Result<(), Unmade> {
         PLAIN,
         &rows,
         &runs,
-        "put 1 0 ok\nput 2 1 failing\nstop 3\nput 3 1 ok\n",
+        "put core 1 101,1 0 ok\nput core 2 102,1 1 failing\nstop 3\nput core 3 103,1 1 ok\n",
     )
 }
 
@@ -153,7 +153,7 @@ fn each_failure_shrinks_the_window(rt: HostRuntime) -> Result<(), Unmade> {
         &rt,
         rt.alloc(),
         scene,
-        "report 8 4 failed\ndrop 4\nreport 9 5 failed\ndrop 5\nput 6 0 ok\nwindow 2\n",
+        "report core 8 4 104,1 failed\ndrop 4\nreport core 9 5 105,1 failed\ndrop 5\nput core 6 106,1 0 ok\nwindow core 2\n",
     )
 }
 
@@ -169,10 +169,29 @@ fn a_window_at_its_floor_or_of_0_stays(rt: HostRuntime) -> Result<(), Unmade> {
             &rt,
             rt.alloc(),
             scene,
-            "report 1 4 failed\ndrop 4\nreport 2 5 failed\ndrop 5\nput 6 0 ok\n",
+            "report core 1 4 104,1 failed\ndrop 4\nreport core 2 5 105,1 failed\ndrop 5\nput core 6 106,1 0 ok\n",
         )?;
     }
     Ok(())
+}
+
+/// A queue at the limit: of 1,000 items, 1 to 1,000 with the changes 1001 to 2000, the first has failed. It goes, the
+/// second has no item ahead, each later one has the one before it ahead, and the window of 2 halves.
+#[test]
+fn a_full_queue_is_settled(rt: HostRuntime) -> Result<(), Unmade> {
+    let mut rows = Vec::new(rt.alloc());
+    let mut wanted = "report core 1 1 1001,1 failed\ndrop 1\n".to_string(rt.alloc())?;
+    rows.push(item(1, 1001, &[], APP))?;
+    for serial in 2..1001 {
+        let change = 1000 + serial;
+        let ahead = if serial == 2 { 0 } else { serial - 1 };
+        rows.push(item(serial, change, &[], APP))?;
+        let put = format!(in rt.alloc(); "put core {serial} {change},1 {ahead} ok\n")?;
+        wanted.push_str(put.as_str())?;
+    }
+    wanted.push_str("window core 1\n")?;
+    let runs = [unit(1, 1, 1001, 0, &[], Failure)];
+    settles(&rt, rt.alloc(), PLAIN, &rows, &runs, wanted.as_str())
 }
 
 /// Passes whichever one allocation is refused: one settling answers that there is no memory then, and
@@ -186,7 +205,7 @@ fn a_refused_allocation_is_told(rt: HostRuntime) -> Result<(), Unmade> {
             rt.alloc(),
             &[(101, false)],
             [Failure, Success, Running],
-            "report 1 1 failed\ndrop 1\nstop 3\nreport 2 2 needs\ndrop 2\nwindow 1\n",
+            "report core 1 1 101,1 failed\ndrop 1\nstop 3\nreport core 2 2 102,1 needs\ndrop 2\nwindow core 1\n",
         );
         match settled {
             Ok(()) => {}
