@@ -13,11 +13,11 @@ use Rattle.gate_types.specs.Window.{within_window}
 use Rattle.gate_types.specs.Choice.{build_for, choices}
 use Rattle.gate_queue.specs.declared.facts.ItemJobs.{ItemJobs}
 
--- the place of the first waiting job of an item, unless it is blocked
+-- the index of the first waiting job of an item, unless it is blocked
 abbrev pub first_waiting : List Build → Place → Option ℕ
 first_waiting builds p = if is_blocked p then None else position (λ j. is_waiting_slot (slot_of builds p j)) p.jobs
 
--- the serial of the first of these items that has one, and that job's place
+-- the serial of the first of these items that has one, and that job's index
 abbrev pub first_choice : List Build → List Place → Option (ℕ × ℕ)
 first_choice builds [] = None
 first_choice builds (p ∷ ps) =

@@ -8,7 +8,7 @@ use Rattle.gate_types.specs.Line.{same_entries}
 abbrev pub has_entry : List Entry → ℕ → Entry → Bool
 has_entry ran n e = option_map_or (λ x. x.change == e.change && x.revision == e.revision) (slice_get ran n) false
 
--- from one place on these entries follow, up to the place that was found, if they do
+-- from the entry of one index on these follow, up to the index that was found, if they do
 pub record Follows (ran : List Entry) (from : ℕ) (entries : List Entry) (found : Option ℕ) : Type 0 where
   pub rest : (tail : List Entry) →
       same_entries (drop from ran) (entries ++ tail) ≡ option_map_or (λ n. same_entries (drop n ran) tail) found false
