@@ -1,5 +1,5 @@
 -- What the tables hold of one queue, and what an edit makes of that.
-use Rattle.std.specs.Prelude.{ℕ, Bool, false, not, ◌==◌, if◌then◌else◌, suc, List, [], ◌∷◌, map, filter, fold}
+use Rattle.std.specs.Prelude.{ℕ, false, not, ◌==◌, if◌then◌else◌, suc, List, [], ◌∷◌, map, filter, fold}
 use Rattle.gate_types.specs.declared.records.Item.{Item as ItemRow}
 use Rattle.gate_types.specs.declared.records.Build.{Build}
 use Rattle.gate_types.specs.declared.records.Outcome.{Outcome}
