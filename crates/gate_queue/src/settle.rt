@@ -158,8 +158,8 @@ fn edits_for(
 /// The edits that settle a queue: a rebase and then a sweep of it, each by one state. Whatever the
 /// columns of the items say, they are written anew for each item that stays; one that goes is reported
 /// and dropped, front to back; builds that don't count, and running builds of items that go, are
-/// stopped; the window is set where it changed. No row but the queue's own is touched. `builds` holds at least all live builds of the items.
-/// `NoMemory` where memory was refused.
+/// stopped; the window is set where it changed. No row but the queue's own is touched. `builds` holds
+/// at least all live builds of the items. `NoMemory` where memory was refused.
 pub fn settle(
     alloc: Global,
     items: &[Item],

@@ -131,9 +131,9 @@ fn a_lost_build_is_tried_three_times(rt: HostRuntime) -> Result<(), Unmade> {
     Ok(())
 }
 
-/// A queue at the limit: the first 999 of 1,000 items have failed, each on a line of its own change alone, since no
-/// non-failing item is before it. So the next build is that of the last item, where the window holds all 1,000, and there
-/// is none where it holds 999: failing items count for it too.
+/// A queue at the limit: the first 999 of 1,000 items have failed, each on a line of its own change
+/// alone, since no non-failing item is before it. So the next build is that of the last item, where the
+/// window holds all 1,000, and there is none where it holds 999: failing items count for it too.
 #[test]
 fn the_last_of_1000_items_is_given_a_build(rt: HostRuntime) -> Result<(), Unmade> {
     let mut cases = Vec::new(rt.alloc());
