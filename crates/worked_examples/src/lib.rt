@@ -13,3 +13,5 @@ mod lines;
 mod queues;
 #[cfg(test)]
 mod streams;
+#[cfg(test)]
+mod turns;

@@ -1,0 +1,79 @@
+//! Who speaks when: over pipes the other side waits for an answer before it sends its next line.
+use crate::gates::new_gate;
+use gate_core::replay::replay;
+use gate_types::tap::Tap;
+use std::cell::Cell;
+use std::io;
+use std::io::{Read, Write};
+use std::test::Fail;
+
+/// How many lines were given and answered, and whether a read came while an answer was owed.
+#[derive(Drop)]
+struct Talk {
+    given: Cell<usize>,
+    answered: Cell<usize>,
+    owed: Cell<bool>,
+}
+
+/// Gives so many lines, one a read.
+#[derive(Drop)]
+struct Asking<'a> {
+    talk: &'a Talk,
+    lines: usize,
+}
+
+impl Read for Asking<'_> {
+    fn read(&mut self, buf: &mut [u8]) -> io::Result<usize> {
+        let given = self.talk.given.get();
+        if self.talk.answered.get() < given {
+            self.talk.owed.set(true);
+        }
+        if given >= self.lines {
+            return Ok(0);
+        }
+        self.talk.given.set(given.saturating_add(1));
+        let n = buf.len().min(3);
+        b"{}\n".as_slice().read(&mut buf[..n])
+    }
+}
+
+/// Counts the answers by their ends.
+#[derive(Drop)]
+struct Answering<'a> {
+    talk: &'a Talk,
+}
+
+impl Write for Answering<'_> {
+    fn write(&mut self, buf: &[u8]) -> io::Result<usize> {
+        if buf.contains(&b'\n') {
+            let answered = self.talk.answered.get();
+            self.talk.answered.set(answered.saturating_add(1));
+        }
+        Ok(buf.len())
+    }
+
+    fn flush(&mut self) -> io::Result<()> {
+        Ok(())
+    }
+}
+
+/// An engine that holds an answer back until it has read again would wait for ever over pipes.
+#[test]
+fn no_answer_is_held_back_over_a_read(rt: HostRuntime) -> Result<(), Fail> {
+    let talk = Talk {
+        given: Cell::new(0),
+        answered: Cell::new(0),
+        owed: Cell::new(false),
+    };
+    let mut gate = new_gate(rt.alloc())?;
+    let mut r = Tap::new(Asking {
+        talk: &talk,
+        lines: 5,
+    });
+    let mut w = Tap::new(Answering { talk: &talk });
+    let count = replay(rt.alloc(), &mut gate, &mut r, &mut w)?;
+    assert_eq!(rt; count, 5);
+    assert_eq!(rt; talk.answered.get(), 5);
+    assert!(rt; !talk.owed.get());
+    Ok(())
+}
