@@ -14,4 +14,6 @@ mod queues;
 #[cfg(test)]
 mod streams;
 #[cfg(test)]
+mod taps;
+#[cfg(test)]
 mod turns;
