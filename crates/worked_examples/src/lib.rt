@@ -12,6 +12,8 @@ mod lines;
 #[cfg(test)]
 mod queues;
 #[cfg(test)]
+mod sizes;
+#[cfg(test)]
 mod streams;
 #[cfg(test)]
 mod taps;
