@@ -1,5 +1,5 @@
 //! Inputs as large as the limits allow: a body that gives up from some size on fails here.
-use crate::gates::{new_gate, tells};
+use crate::gates::{new_gate, said, tells};
 use std::alloc::{AllocError, Global};
 use std::fmt::Write;
 use std::test::Fail;
@@ -46,7 +46,8 @@ fn each_of_20_000_replies_is_kept(rt: HostRuntime) -> Result<(), Fail> {
         writeln!(lines, "{line}")?;
         answers.push_str(RECORDED)?;
     }
-    tells(&rt, alloc, &mut gate, lines.as_str(), answers.as_str())?;
+    let written = said(alloc, &mut gate, lines.as_str())?;
+    assert!(rt; written.as_slice() == answers.as_bytes());
     for change in [1, 2, 10_000, 20_000] {
         let line = first_revision(alloc, change, "")?;
         tells(&rt, alloc, &mut gate, line.as_str(), RECORDED)?;
