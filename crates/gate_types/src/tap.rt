@@ -1,7 +1,6 @@
 //! A reader or writer that remembers whether it ever failed.
 ghost use Rattle.std.specs.Prelude.{◌≡◌, ◌≤◌, ◌+◌, ◌++◌, ◌∷◌, [], ℕ, true, false, take, length, MatchResult, OnOk, OnErr, IfOk};
-ghost use Rattle.std.specs.Io.KnownBytes.{Appends, Consumes, IsAtEnd, Keeps};
-ghost use Rattle.gate_types.specs.Tap.{inside, has_failed, turns, ReadsOnce, WritesFront};
+ghost use Rattle.gate_types.specs.Tap.{inside, has_failed, turns, ReadsOnce, Took, TookFront};
 
 use std::io::{Read, Write};
 
@@ -52,7 +51,7 @@ impl<R: Read> Tap<R> {
     /// One read. Nothing is lost where it fails.
     pub fn read(&mut self, buf: &mut [u8]) -> Result<usize, Failed>
         requires { has_failed self.old ≡ false }
-        ensures bytes { ReadsOnce (R.remaining (inside self.old)) (R.remaining (inside self.new)) result buf.new }
+        ensures bytes { ReadsOnce R.remaining self.old self.new result buf.new }
         ensures unfailed { OnOk result (has_failed self.new ≡ false) }
         ensures failed { OnErr result (has_failed self.new ≡ true) }
         ensures count { IfOk result (λ n. n ≤ length buf.new) }
@@ -79,9 +78,9 @@ impl<W: Write> Tap<W> {
     /// Writes all the bytes, or a beginning of them where the writer fails.
     pub fn write_all(&mut self, bytes: &[u8]) -> Result<(), Failed>
         requires { has_failed self.old ≡ false }
-        ensures ok { OnOk result (Appends (W.contents (inside self.old)) (W.contents (inside self.new)) bytes.now) }
+        ensures ok { OnOk result (Took W.contents self.old self.new bytes.now) }
         ensures unfailed { OnOk result (has_failed self.new ≡ false) }
-        ensures err { OnErr result (WritesFront (W.contents (inside self.old)) (W.contents (inside self.new)) bytes.now) }
+        ensures err { OnErr result (TookFront W.contents self.old self.new bytes.now) }
         ensures failed { OnErr result (has_failed self.new ≡ true) }
         ensures turns { turns self.new ≡ turns self.old }
     {
@@ -105,9 +104,9 @@ impl<W: Write> Tap<W> {
     /// Writes a text and an LF, or a beginning of these where the writer fails.
     pub fn write_line(&mut self, text: &str) -> Result<(), Failed>
         requires { has_failed self.old ≡ false }
-        ensures ok { OnOk result (Appends (W.contents (inside self.old)) (W.contents (inside self.new)) (text.now ++ 10 ∷ [])) }
+        ensures ok { OnOk result (Took W.contents self.old self.new (text.now ++ 10 ∷ [])) }
         ensures unfailed { OnOk result (has_failed self.new ≡ false) }
-        ensures err { OnErr result (WritesFront (W.contents (inside self.old)) (W.contents (inside self.new)) (text.now ++ 10 ∷ [])) }
+        ensures err { OnErr result (TookFront W.contents self.old self.new (text.now ++ 10 ∷ [])) }
         ensures failed { OnErr result (has_failed self.new ≡ true) }
         ensures turns { turns self.new ≡ turns self.old }
     {
