@@ -1,3 +1,4 @@
+pub mod LineLemmas
 pub mod RunLemmas
 pub mod ReplyLemmas
 pub mod PlaceLemmas

@@ -2,6 +2,7 @@
 use Rattle.std.proofs.Common.{◌≡◌, ℕ, ◌<◌, ◌≤◌, Bool, true, false, List, [], ◌∷◌, ◌++◌, map, length, take, Option, Result, Ok, Err, inl, inr, rules, refl, sym, ap, ◌∙◌, subst}
 use Rattle.std.specs.Bool.{if◌then◌else◌}
 use Rattle.std.specs.Io.KnownBytes.{Appends}
+use Rattle.std.proofs.lemmas.List.{length-map}
 use Rattle.std.proofs.lemmas.List.Concat.{flat_map-append}
 use Rattle.std.proofs.lemmas.List.Sums.{fold-append}
 use Rattle.gate_types.specs.declared.records.Id.{Id}
@@ -107,8 +108,8 @@ replayed_of_runs g (line ∷ lines) text after (said, more, mid, answers, joined
     }
 
 -- what the engine broke off is cut
-pub cut_of_broke : (g : Gated) (lines : List (List ℕ)) (after : Gated) (old new : Option (List ℕ)) → Broke Told g lines after old new
-    → (text : List ℕ) × Cut g lines text after × Appends old new text
+pub cut_of_broke : (g : Gated) (lines : List (List ℕ)) (after : Gated) (old new : Option (List ℕ)) (b : Broke Told g lines after old new)
+    → (text : List ℕ) × (cut : Cut g lines text after) × (length cut.done ≡ length b.done) × Appends old new text
 cut_of_broke g lines after old new b =
     let done = replayed_of_runs g b.done b.text b.mid b.ran in
     let told = answers_told b.mid after b.line b.said b.answered in
@@ -125,6 +126,7 @@ cut_of_broke g lines after old new b =
         said = ap (λ s. s ++ take b.at (b.said ++ 10 ∷ [])) done.said ∙ ap (λ s. replies g done.marked ++ take b.at (s ++ 10 ∷ [])) reply;
         stands = told.stands ∙ ap (λ h. gate_after h (m ∷ [])) done.stands ∙ gate_after-append g done.marked (m ∷ []);
       },
+      sym (length-map done.marked (λ m. m.line)) ∙ ap length done.every_line,
       b.written,
     )
 

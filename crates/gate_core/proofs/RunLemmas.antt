@@ -1,13 +1,18 @@
 -- Runs joined end to end, and lines of a text in two parts.
-use Rattle.std.proofs.Common.{◌≡◌, ℕ, ◌+◌, ◌<◌, List, [], ◌∷◌, ◌++◌, length, take, drop, Option, Some, None, arith, refl, sym, ap, ◌∙◌, subst, append_assoc, append-nil, length-append, cond, nat_eq, get_or, add-one, true, false}
-use Rattle.std.specs.Io.KnownBytes.{Appends, Consumes, IsAtEnd}
+use Rattle.std.proofs.Common.{◌≡◌, ℕ, ◌+◌, ◌<◌, ◌≤◌, List, [], ◌∷◌, ◌++◌, length, take, drop, Option, arith, inl, inr, refl, sym, ap, ◌∙◌, subst, append_assoc, append-nil, length-append, cond, nat_eq, get_or, add-one, true, false}
+use Rattle.std.specs.Io.KnownBytes.{Appends, Consumes, IsAtEnd, Keeps}
 use Rattle.std.specs.Io.Iter.{u64_saturate}
-use Rattle.std.proofs.KnownBytes.{Appends-trans, Appends-nil, Consumes-trans}
+use Rattle.std.proofs.KnownBytes.{Appends-trans, Appends-nil, Consumes-trans, Consumes-kept}
 use Rattle.std.proofs.Math.Seq.{drop-cons}
-use Rattle.gate_types.specs.Tap.{WritesFront}
+use Rattle.std.proofs.lemmas.List.{length-take}
+use Rattle.gate_types.specs.declared.tap.Tap.{Tap}
+use Rattle.gate_types.specs.Tap.{inside, WritesFront}
 use Rattle.gate_core.specs.Line.{Holds}
 use Rattle.gate_core.specs.declared.line.Line.{Line}
-use Rattle.gate_core.specs.Lines.{whole_from, rest_from, lines_from, lines_of, last_line, IsKnown}
+use Rattle.gate_core.specs.Gathered.{whole_from, rest_from}
+use Rattle.gate_core.specs.Limit.{longest_read}
+use Rattle.gate_core.specs.Lines.{whole_lines, lines_of, ReadFor}
+use Rattle.gate_core.proofs.LineLemmas.{whole_gathered, lines_gathered, if_some, if_some_some}
 use Rattle.gate_core.specs.Runs.{Answers, Runs, Fed, Broke}
 
 -- what a responder says to lines
@@ -52,22 +57,6 @@ broke_after replies s m e a b o p q f h = record {
   written = subst (Appends o q) (sym (append_assoc f.text h.text (take h.at (h.said ++ 10 ∷ [])))) (Appends-trans o p q f.text (h.text ++ take h.at (h.said ++ 10 ∷ [])) f.written h.written);
 }
 
-pub broke_more : {S : Type 0} (replies : Replies S) (s e : S) (a b : List (List ℕ)) (o p : Option (List ℕ)) → Broke replies s a e o p → Broke replies s (a ++ b) e o p
-broke_more replies s e a b o p h = record {
-  done = h.done;
-  line = h.line;
-  more = h.more ++ b;
-  split = ap (λ x. x ++ b) h.split ∙ append_assoc h.done (h.line ∷ h.more) b;
-  text = h.text;
-  mid = h.mid;
-  ran = h.ran;
-  said = h.said;
-  answered = h.answered;
-  at = h.at;
-  short = h.short;
-  written = h.written;
-}
-
 pub broke_one : {S : Type 0} (replies : Replies S) (s e : S) (line said : List ℕ) (more : List (List ℕ)) (o p : Option (List ℕ)) → Answers replies s line said e → WritesFront o p (said ++ 10 ∷ []) → Broke replies s (line ∷ more) e o p
 broke_one replies s e line said more o p ans (n, short, w) = record {
   done = [];
@@ -99,31 +88,6 @@ rest-append begun (b ∷ bs) ys = elim (nat_eq b 10) as (λ t. cond t (rest_from
       | true ↦ rest-append [] bs ys
       | false ↦ rest-append (begun ++ b ∷ []) bs ys
     ]
-
-pub lines-append : (begun xs ys : List ℕ) → lines_from begun (xs ++ ys) ≡ whole_from begun xs ++ lines_from (rest_from begun xs) ys
-lines-append begun xs ys = ap (λ l. l ++ last_line (rest_from begun (xs ++ ys))) (whole-append begun xs ys)
-    ∙ append_assoc (whole_from begun xs) (whole_from (rest_from begun xs) ys) (last_line (rest_from begun (xs ++ ys)))
-    ∙ ap (λ r. whole_from begun xs ++ (whole_from (rest_from begun xs) ys ++ last_line r)) (rest-append begun xs ys)
-
-pub broke_known : {S : Type 0} (replies : Replies S) (s e : S) (o p a b : Option (List ℕ)) (front : List ℕ) → Consumes a b front → Broke replies s (whole_from [] front) e o p
-    → (input : List ℕ) × IsKnown a input × Broke replies s (lines_of input) e o p
-broke_known replies s e o p None b front h k = (front, tt, broke_more replies s e (whole_from [] front) (last_line (rest_from [] front)) o p k)
-broke_known replies s e o p (Some xs) None front h k = absurd h
-broke_known replies s e o p (Some xs) (Some ys) front h k = (
-  xs,
-  refl,
-  subst (λ l. Broke replies s (lines_of l) e o p) (sym h)
-      (subst (λ l. Broke replies s l e o p) (sym (lines-append [] front ys)) (broke_more replies s e (whole_from [] front) (lines_from (rest_from [] front) ys) o p k)),
-)
-
-pub known_end : (a b : Option (List ℕ)) (front : List ℕ) → Consumes a b front → IsAtEnd b → IsKnown a front
-known_end None b front h end = tt
-known_end (Some xs) None front h end = absurd h
-known_end (Some xs) (Some ys) front h end = h ∙ ap (λ l. front ++ l) end ∙ append-nil front
-
-pub last_some : (r : List ℕ) → (r ≡ [] → ⊥) → last_line r ≡ r ∷ []
-last_some [] h = absurd (h refl)
-last_some (b ∷ bs) h = refl
 
 -- how far a chunk has been fed
 pub record SoFar {S : Type 0} (replies : Replies S) (s : S) (begun bytes left : List ℕ) (after : S) (old new : Option (List ℕ)) (line : Line) (first count : ℕ) : Type 0 where
@@ -186,9 +150,9 @@ abbrev pub Feeds : {S : Type 0} → Replies S → S → List ℕ → S → Optio
 Feeds replies s chunk after old new line next count n = (begun : List ℕ) → Holds line begun →
     Fed replies s (whole_from begun chunk) after old new × Holds next (rest_from begun chunk) × (n ≡ u64_saturate (count + length (whole_from begun chunk)))
 
-pub between_fed : {S : Type 0} (replies : Replies S) (s m e : S) (a b d o p q : Option (List ℕ)) (line next : Line) (count n : ℕ) (chunk : List ℕ)
+pub between_fed : {S : Type 0} {replies : Replies S} {s m e : S} {a b d o p q : Option (List ℕ)} {line next : Line} {count n : ℕ} (chunk : List ℕ)
     → Between replies s a b m o p line count → Consumes b d chunk → Feeds replies m chunk e p q line next count n → Between replies s a d e o q next n
-between_fed replies s m e a b d o p q line next count n chunk h took feeds =
+between_fed {replies = replies} {s = s} {m = m} {e = e} {a = a} {b = b} {d = d} {o = o} {p = p} {q = q} {next = next} chunk h took feeds =
     let f = feeds (rest_from [] h.front) h.holds in
     let whole = whole-append [] h.front chunk in record {
       front = h.front ++ chunk;
@@ -198,56 +162,100 @@ between_fed replies s m e a b d o p q line next count n chunk h took feeds =
       counted = omega (arith, h.counted, f.2, ap length whole, length-append (whole_from [] h.front) (whole_from (rest_from [] h.front) chunk));
     }
 
-pub between_broke : {S : Type 0} (replies : Replies S) (s m e : S) (a b d o p q : Option (List ℕ)) (line : Line) (count : ℕ) (chunk : List ℕ)
-    → Between replies s a b m o p line count → Consumes b d chunk → ((begun : List ℕ) → Holds line begun → Broke replies m (whole_from begun chunk) e p q)
-    → (input : List ℕ) × IsKnown a input × Broke replies s (lines_of input) e o q
-between_broke replies s m e a b d o p q line count chunk h took broke =
-    broke_known replies s e o q a d (h.front ++ chunk) (Consumes-trans a b d h.front chunk h.consumed took)
-    (subst (λ l. Broke replies s l e o q) (sym (whole-append [] h.front chunk))
-    (broke_after replies s m e (whole_from [] h.front) (whole_from (rest_from [] h.front) chunk) o p q h.fed (broke (rest_from [] h.front) h.holds)))
+-- the lines where something stands behind the last LF
+every_line_is : (front : List ℕ) → (rest_from [] front ≡ [] → ⊥) → whole_from [] front ++ rest_from [] front ∷ [] ≡ lines_of front
+every_line_is front some =
+    ap (λ l. whole_from [] front ++ l) (sym (if_some_some (rest_from [] front) some)) ∙ lines_gathered front
+
+-- what a cut answer leaves behind: the lines up to it ran, and no more was read than it took
+abbrev pub Stops : {S T : Type 0} → Replies S → S → (T → Option (List ℕ)) → Tap T → Tap T → S → Option (List ℕ) → Option (List ℕ) → Type 0
+Stops replies s left r t e o q = (lines : List (List ℕ)) × (broke : Broke replies s lines e o q) × ReadFor left r t lines (length broke.done)
+
+-- what is read into a buffer is no longer than it
+pub one_read : (n : ℕ) (buf : List ℕ) → length buf ≡ longest_read → length (take n buf) ≤ longest_read
+one_read n buf size = omega (arith, length-take n buf)
+
+pub between_broke : {S T : Type 0} {replies : Replies S} {s m e : S} {left : T → Option (List ℕ)} {r t : Tap T} {b o p q : Option (List ℕ)} {line : Line} {count : ℕ} (chunk : List ℕ)
+    → Between replies s (left (inside r)) b m o p line count → Consumes b (left (inside t)) chunk → length chunk ≤ longest_read
+    → ((begun : List ℕ) → Holds line begun → Broke replies m (whole_from begun chunk) e p q) → Stops replies s left r t e o q
+unfolding broke_after
+between_broke {replies = replies} {s = s} {m = m} {e = e} {left = left} {r = r} {t = t} {b = b} {o = o} {p = p} {q = q} chunk h took short broke =
+    let rest = rest_from [] h.front in
+    let stopped = broke rest h.holds in
+    let whole = whole_from [] h.front in (
+      whole ++ whole_from rest chunk,
+      broke_after replies s m e whole (whole_from rest chunk) o p q h.fed stopped,
+      record {
+        before = h.front;
+        chunk = chunk;
+        read = Consumes-trans (left (inside r)) b (left (inside t)) h.front chunk h.consumed took;
+        one_read = short;
+        every_line = inl (sym (whole-append [] h.front chunk) ∙ whole_gathered (h.front ++ chunk));
+        needed = omega (arith, ap length (whole_gathered h.front), length-append whole stopped.done);
+      },
+    )
 
 -- at the end, where something is left
-pub last_broke : {S : Type 0} (replies : Replies S) (s m e : S) (a b d o p q : Option (List ℕ)) (line : Line) (count : ℕ)
-    → Between replies s a b m o p line count → Consumes b d [] → IsAtEnd d → ((begun : List ℕ) → Holds line begun → begun ≡ [] → ⊥)
+pub last_broke : {S T : Type 0} {replies : Replies S} {s m e : S} {left : T → Option (List ℕ)} {r t : Tap T} {b o p q : Option (List ℕ)} {line : Line} {count : ℕ}
+    → Between replies s (left (inside r)) b m o p line count → Consumes b (left (inside t)) [] → IsAtEnd (left (inside t)) → ((begun : List ℕ) → Holds line begun → begun ≡ [] → ⊥)
     → ((begun : List ℕ) → Holds line begun → (said : List ℕ) × Answers replies m begun said e × WritesFront p q (said ++ 10 ∷ []))
-    → (input : List ℕ) × IsKnown a input × Broke replies s (lines_of input) e o q
-last_broke replies s m e a b d o p q line count h took end some says =
+    → Stops replies s left r t e o q
+unfolding broke_after broke_one
+last_broke {replies = replies} {s = s} {m = m} {e = e} {left = left} {r = r} {t = t} {b = b} {o = o} {p = p} {q = q} h took end some says =
     let rest = rest_from [] h.front in
-    let said = says rest h.holds in (
-      h.front,
-      known_end a d h.front (subst (Consumes a d) (append-nil h.front) (Consumes-trans a b d h.front [] h.consumed took)) end,
-      subst (λ l. Broke replies s (whole_from [] h.front ++ l) e o q) (sym (last_some rest (some rest h.holds)))
-          (broke_after replies s m e (whole_from [] h.front) (rest ∷ []) o p q h.fed (broke_one replies m e rest said.0 [] p q said.1 said.2)),
+    let said = says rest h.holds in
+    let whole = whole_from [] h.front in (
+      whole ++ rest ∷ [],
+      broke_after replies s m e whole (rest ∷ []) o p q h.fed (broke_one replies m e rest said.0 [] p q said.1 said.2),
+      record {
+        before = h.front;
+        chunk = [];
+        read = Consumes-trans (left (inside r)) b (left (inside t)) h.front [] h.consumed took;
+        one_read = omega arith;
+        every_line = inr (every_line_is h.front (some rest h.holds) ∙ ap lines_of (sym (append-nil h.front)), end);
+        needed = omega (arith, ap length (whole_gathered h.front), length-append whole []);
+      },
     )
 
 abbrev pub Done : {S : Type 0} → Replies S → S → Option (List ℕ) → Option (List ℕ) → S → Option (List ℕ) → Option (List ℕ) → ℕ → Type 0
 Done replies s a d e o q n = (input : List ℕ) × Consumes a d input × IsAtEnd d × Fed replies s (lines_of input) e o q × (n ≡ u64_saturate (length (lines_of input)))
 
-pub last_done : {S : Type 0} (replies : Replies S) (s m e : S) (a b d o p q : Option (List ℕ)) (line : Line) (count : ℕ)
+pub last_done : {S : Type 0} {replies : Replies S} {s m e : S} {a b o p q : Option (List ℕ)} (d : Option (List ℕ)) {line : Line} {count : ℕ}
     → Between replies s a b m o p line count → Consumes b d [] → IsAtEnd d → ((begun : List ℕ) → Holds line begun → begun ≡ [] → ⊥)
     → ((begun : List ℕ) → Holds line begun → (said : List ℕ) × Answers replies m begun said e × Appends p q (said ++ 10 ∷ []))
     → Done replies s a d e o q (u64_saturate (count + 1))
-last_done replies s m e a b d o p q line count h took end some says =
+last_done {replies = replies} {s = s} {m = m} {e = e} {a = a} {b = b} {o = o} {p = p} {q = q} d h took end some says =
     let rest = rest_from [] h.front in
     let said = says rest h.holds in
-    let last = last_some rest (some rest h.holds) in (
+    let whole = whole_from [] h.front in
+    let every_line = every_line_is h.front (some rest h.holds) in (
       h.front,
       subst (Consumes a d) (append-nil h.front) (Consumes-trans a b d h.front [] h.consumed took),
       end,
-      subst (λ l. Fed replies s (whole_from [] h.front ++ l) e o q) (sym last)
-          (fed_append replies s m e (whole_from [] h.front) (rest ∷ []) o p q h.fed (fed_one replies m e rest said.0 p q said.1 said.2)),
-      omega (arith, h.counted, ap length last, length-append (whole_from [] h.front) (last_line rest)),
+      subst (λ l. Fed replies s l e o q) every_line
+          (fed_append replies s m e whole (rest ∷ []) o p q h.fed (fed_one replies m e rest said.0 p q said.1 said.2)),
+      omega (arith, h.counted, ap length (sym every_line), length-append whole (rest ∷ [])),
     )
 
-pub none_done : {S : Type 0} (replies : Replies S) (s m : S) (a b d o p : Option (List ℕ)) (line : Line) (count : ℕ)
+pub none_done : {S : Type 0} {replies : Replies S} {s m : S} {a b o p : Option (List ℕ)} (d : Option (List ℕ)) {line : Line} {count : ℕ}
     → Between replies s a b m o p line count → Consumes b d [] → IsAtEnd d → ((begun : List ℕ) → Holds line begun → begun ≡ [])
     → Done replies s a d m o p count
-none_done replies s m a b d o p line count h took end none =
+none_done {replies = replies} {s = s} {m = m} {a = a} {b = b} {o = o} {p = p} d h took end none =
     let rest = rest_from [] h.front in
-    let last : lines_of h.front ≡ whole_from [] h.front = ap (λ r. whole_from [] h.front ++ last_line r) (none rest h.holds) ∙ append-nil (whole_from [] h.front) in (
+    let whole = whole_from [] h.front in
+    let every_line : whole ≡ lines_of h.front = sym (append-nil whole) ∙ ap (λ r. whole ++ if_some r) (sym (none rest h.holds)) ∙ lines_gathered h.front in (
       h.front,
       subst (Consumes a d) (append-nil h.front) (Consumes-trans a b d h.front [] h.consumed took),
       end,
-      subst (λ l. Fed replies s l m o p) (sym last) h.fed,
-      h.counted ∙ ap (λ l. u64_saturate (length l)) (sym last),
+      subst (λ l. Fed replies s l m o p) every_line h.fed,
+      h.counted ∙ ap (λ l. u64_saturate (length l)) every_line,
     )
+
+abbrev pub Unfinished : {S : Type 0} → Replies S → S → Option (List ℕ) → Option (List ℕ) → S → Option (List ℕ) → Option (List ℕ) → Type 0
+Unfinished replies s a d e o q = (front : List ℕ) × Consumes a d front × Fed replies s (whole_lines front) e o q
+
+-- at a read that fails
+pub between_failed : {S : Type 0} {replies : Replies S} {s m : S} {a b o p : Option (List ℕ)} (d : Option (List ℕ)) {line : Line} {count : ℕ}
+    → Between replies s a b m o p line count → Keeps b d → Unfinished replies s a d m o p
+between_failed {replies = replies} {s = s} {m = m} {a = a} {b = b} {o = o} {p = p} d h kept =
+    (h.front, Consumes-kept a b d h.front h.consumed kept, subst (λ l. Fed replies s l m o p) (whole_gathered h.front) h.fed)

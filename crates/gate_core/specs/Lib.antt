@@ -2,6 +2,7 @@ pub mod Gated
 pub mod Heard
 pub mod Limit
 pub mod Lines
+pub mod Gathered
 pub mod Replies
 pub mod Said
 pub mod Line

@@ -1,30 +1,35 @@
--- The lines of an input.
-use Rattle.std.specs.Prelude.{◌≡◌, ℕ, List, [], ◌∷◌, ◌++◌, if◌then◌else◌, ◌==◌, Option, Some, None, ⊤}
+-- The lines of an input, and how far it was read.
+use Rattle.std.specs.Prelude.{◌≡◌, ◌⊎◌, ℕ, ◌≤◌, ◌-◌, ◌==◌, List, ◌++◌, length, take, drop, filter, nat_lt, Option}
+use Rattle.std.specs.List.{slice_split}
+use Rattle.gate_types.specs.declared.tap.Tap.{Tap}
+use Rattle.gate_types.specs.Tap.{Gave, IsReadOut}
+use Rattle.gate_core.specs.Limit.{longest_read}
 
--- the lines that end at an LF, each without it, where begun is what the first of them began with
-abbrev pub whole_from : List ℕ → List ℕ → List (List ℕ)
-whole_from begun [] = []
-whole_from begun (b ∷ bs) = if b == 10 then begun ∷ whole_from [] bs else whole_from (begun ++ b ∷ []) bs
+-- what stands before, between and behind the LFs
+abbrev pub pieces : List ℕ → List (List ℕ)
+pieces input = slice_split (λ b. b == 10) input
 
--- what stands behind the last LF
-abbrev pub rest_from : List ℕ → List ℕ → List ℕ
-rest_from begun [] = begun
-rest_from begun (b ∷ bs) = if b == 10 then rest_from [] bs else rest_from (begun ++ b ∷ []) bs
+-- the lines that an LF ended, each without it: all pieces but the last
+abbrev pub whole_lines : List ℕ → List (List ℕ)
+whole_lines input = take (length (pieces input) - 1) (pieces input)
 
--- what stands behind the last LF counts as a line if it isn't empty
+-- the last piece, if it isn't empty
 abbrev pub last_line : List ℕ → List (List ℕ)
-last_line [] = []
-last_line (b ∷ bs) = (b ∷ bs) ∷ []
+last_line input = filter (λ piece. nat_lt 0 (length piece)) (drop (length (pieces input) - 1) (pieces input))
 
--- the lines, where begun is what the first of them began with
-abbrev pub lines_from : List ℕ → List ℕ → List (List ℕ)
-lines_from begun bytes = whole_from begun bytes ++ last_line (rest_from begun bytes)
-
--- the lines of an input
+-- the lines of an input: what stands behind the last LF counts as one if it isn't empty
 abbrev pub lines_of : List ℕ → List (List ℕ)
-lines_of input = lines_from [] input
+lines_of input = whole_lines input ++ last_line input
 
--- the bytes of a reader, if they are known, are these
-abbrev pub IsKnown : Option (List ℕ) → List ℕ → Type 0
-IsKnown None input = ⊤
-IsKnown (Some bytes) input = bytes ≡ input
+-- the lines of what a tap's reader gave: the last may lack its LF only where the reader is at its end
+abbrev pub AreLinesRead : {T : Type 0} → (T → Option (List ℕ)) → Tap T → List ℕ → List (List ℕ) → Type 0
+AreLinesRead left tap read lines = (lines ≡ whole_lines read) ⊎ ((lines ≡ lines_of read) × IsReadOut left tap)
+
+-- a tap's reader gave these lines, and its last read was needed: line n, counted from 0, wasn't whole before
+pub record ReadFor {T : Type 0} (left : T → Option (List ℕ)) (old new : Tap T) (lines : List (List ℕ)) (n : ℕ) : Type 0 where
+  pub before : List ℕ
+  pub chunk : List ℕ
+  pub read : Gave left old new (before ++ chunk)
+  pub one_read : length chunk ≤ longest_read
+  pub every_line : AreLinesRead left new (before ++ chunk) lines
+  pub needed : length (whole_lines before) ≤ n

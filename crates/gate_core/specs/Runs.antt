@@ -1,6 +1,8 @@
 -- Lines that are answered in turn.
 use Rattle.std.specs.Prelude.{◌≡◌, ◌⊎◌, ℕ, ◌<◌, ◌≤◌, List, [], ◌∷◌, ◌++◌, length, take, Option}
 use Rattle.std.specs.Io.KnownBytes.{Appends}
+use Rattle.gate_types.specs.declared.tap.Tap.{Tap}
+use Rattle.gate_types.specs.Tap.{inside}
 use Rattle.gate_core.specs.Limit.{limit, too_large}
 
 -- a line within the limit is answered by its replies; a longer one is too large, and changes nothing
@@ -33,3 +35,10 @@ pub record Broke {S : Type 0} (replies : S → List ℕ → List ℕ → S → T
   pub at : ℕ
   pub short : at < length (said ++ 10 ∷ [])
   pub written : Appends old new (text ++ take at (said ++ 10 ∷ []))
+
+-- the same, written to a tap's writer
+abbrev pub FedTo : {S T : Type 0} → (T → Option (List ℕ)) → (S → List ℕ → List ℕ → S → Type 0) → S → List (List ℕ) → S → Tap T → Tap T → Type 0
+FedTo held replies s lines after old new = Fed replies s lines after (held (inside old)) (held (inside new))
+
+abbrev pub BrokeTo : {S T : Type 0} → (T → Option (List ℕ)) → (S → List ℕ → List ℕ → S → Type 0) → S → List (List ℕ) → S → Tap T → Tap T → Type 0
+BrokeTo held replies s lines after old new = Broke replies s lines after (held (inside old)) (held (inside new))

@@ -1,12 +1,12 @@
 //! The engine: each line of a reader is answered by a line to a writer.
 ghost use Rattle.std.specs.Prelude.{◌≡◌, ◌≤◌, ◌+◌, ◌++◌, ◌∷◌, [], ℕ, List, OnOk, OnErr, IfOk, IsErrOf, true, false, length};
-ghost use Rattle.std.specs.Io.KnownBytes.{Appends, Consumes, IsAtEnd};
 ghost use Rattle.std.specs.Io.Iter.{u64_saturate};
-ghost use Rattle.gate_types.specs.Tap.{inside, has_failed, WritesFront};
+ghost use Rattle.gate_types.specs.Tap.{has_failed, Gave, IsReadOut, Took, TookFront};
 ghost use Rattle.gate_core.specs.Limit.{limit};
 ghost use Rattle.gate_core.specs.Line.{Holds};
-ghost use Rattle.gate_core.specs.Lines.{whole_from, rest_from, lines_of, IsKnown};
-ghost use Rattle.gate_core.specs.Runs.{Answers, Fed, Broke};
+ghost use Rattle.gate_core.specs.Gathered.{whole_from, rest_from};
+ghost use Rattle.gate_core.specs.Lines.{whole_lines, lines_of, ReadFor};
+ghost use Rattle.gate_core.specs.Runs.{Answers, FedTo, BrokeTo};
 ghost use Rattle.gate_core.specs.Said.{text_of};
 
 use crate::fault::IoFault;
@@ -14,6 +14,9 @@ use crate::line::Line;
 use gate_types::tap::{Failed, Tap};
 use std::alloc::Global;
 use std::io::{Read, Write};
+
+/// The most bytes that are read at once.
+const LONGEST_READ: usize = 4096;
 
 /// What a line is answered by.
 #[derive(Drop)]
@@ -41,11 +44,11 @@ fn answer<G: Respond, W: Write>(
     requires { has_failed w.old ≡ false }
     ensures ok { OnOk result ((begun : List ℕ) → Holds line.now begun → (said : List ℕ)
         × Answers G.replies gate.old begun said gate.new
-        × Appends (W.contents (inside w.old)) (W.contents (inside w.new)) (said ++ 10 ∷ [])) }
+        × Took W.contents w.old w.new (said ++ 10 ∷ [])) }
     ensures unfailed { OnOk result (has_failed w.new ≡ false) }
     ensures err { OnErr result ((begun : List ℕ) → Holds line.now begun → (said : List ℕ)
         × Answers G.replies gate.old begun said gate.new
-        × WritesFront (W.contents (inside w.old)) (W.contents (inside w.new)) (said ++ 10 ∷ [])) }
+        × TookFront W.contents w.old w.new (said ++ 10 ∷ [])) }
     ensures failed { OnErr result (has_failed w.new ≡ true) }
 {
     match line.get() {
@@ -68,14 +71,12 @@ fn feed<G: Respond, W: Write>(
 ) -> Result<u64, Failed>
     requires { has_failed w.old ≡ false }
     ensures ok { IfOk result (λ n. (begun : List ℕ) → Holds line.old begun →
-        Fed G.replies gate.old (whole_from begun bytes.now) gate.new
-        (W.contents (inside w.old)) (W.contents (inside w.new))
+        FedTo W.contents G.replies gate.old (whole_from begun bytes.now) gate.new w.old w.new
         × Holds line.new (rest_from begun bytes.now)
         × (n ≡ u64_saturate (count + length (whole_from begun bytes.now)))) }
     ensures unfailed { OnOk result (has_failed w.new ≡ false) }
     ensures err { OnErr result ((begun : List ℕ) → Holds line.old begun →
-        Broke G.replies gate.old (whole_from begun bytes.now) gate.new
-        (W.contents (inside w.old)) (W.contents (inside w.new))) }
+        BrokeTo W.contents G.replies gate.old (whole_from begun bytes.now) gate.new w.old w.new) }
     ensures failed { OnErr result (has_failed w.new ≡ true) }
 {
     for byte in bytes {
@@ -101,32 +102,30 @@ pub fn answer_lines<G: Respond, R: Read, W: Write>(
     requires reader { has_failed r.old ≡ false }
     requires writer { has_failed w.old ≡ false }
     ensures ok { IfOk result (λ n. (input : List ℕ)
-        × Consumes (R.remaining (inside r.old)) (R.remaining (inside r.new)) input
-        × IsAtEnd (R.remaining (inside r.new))
-        × Fed G.replies gate.old (lines_of input) gate.new
-        (W.contents (inside w.old)) (W.contents (inside w.new))
+        × Gave R.remaining r.old r.new input × IsReadOut R.remaining r.new
+        × FedTo W.contents G.replies gate.old (lines_of input) gate.new w.old w.new
         × (n ≡ u64_saturate (length (lines_of input)))) }
     ensures read { IsErrOf result IoFault.Read → (front : List ℕ)
-        × Consumes (R.remaining (inside r.old)) (R.remaining (inside r.new)) front
-        × Fed G.replies gate.old (whole_from [] front) gate.new
-        (W.contents (inside w.old)) (W.contents (inside w.new)) }
-    ensures write { IsErrOf result IoFault.Write → (input : List ℕ)
-        × IsKnown (R.remaining (inside r.old)) input
-        × Broke G.replies gate.old (lines_of input) gate.new
-        (W.contents (inside w.old)) (W.contents (inside w.new)) }
+        × Gave R.remaining r.old r.new front
+        × FedTo W.contents G.replies gate.old (whole_lines front) gate.new w.old w.new }
+    ensures write { IsErrOf result IoFault.Write → (lines : List (List ℕ))
+        × (broke : BrokeTo W.contents G.replies gate.old lines gate.new w.old w.new)
+        × ReadFor R.remaining r.old r.new lines (length broke.done) }
     ensures memory { IsErrOf result IoFault.NoMemory →
         (gate.new ≡ gate.old) × (r.new ≡ r.old) × (w.new ≡ w.old) }
     ensures store { IsErrOf result IoFault.Store → ⊥ }
     ensures unfailed { OnOk result (has_failed w.new ≡ false) }
-    ensures reader_failed { IsErrOf result IoFault.Read → has_failed r.new ≡ true }
-    ensures writer_failed { IsErrOf result IoFault.Write → has_failed w.new ≡ true }
+    ensures reader_failed { IsErrOf result IoFault.Read →
+        (has_failed r.new ≡ true) × (has_failed w.new ≡ false) }
+    ensures writer_failed { IsErrOf result IoFault.Write →
+        (has_failed r.new ≡ false) × (has_failed w.new ≡ true) }
 {
     let mut line = match Line::new(alloc) {
         Ok(line) => line,
         Err(_) => return Err(IoFault::NoMemory),
     };
     let mut count = 0;
-    let mut buf = [0u8; 4096];
+    let mut buf = [0u8; LONGEST_READ];
     loop {
         let n = match r.read(&mut buf) {
             Ok(n) => n,

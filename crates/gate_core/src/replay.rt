@@ -1,9 +1,8 @@
 //! A whole conversation: deliveries in, one a line, and replies out.
 ghost use Rattle.std.specs.Prelude.{◌≡◌, [], ℕ, List, OnOk, IfOk, IsErrOf, true, false, length};
-ghost use Rattle.std.specs.Io.KnownBytes.{Appends, Consumes, IsAtEnd};
 ghost use Rattle.std.specs.Io.Iter.{u64_saturate};
-ghost use Rattle.gate_types.specs.Tap.{inside, has_failed};
-ghost use Rattle.gate_core.specs.Lines.{whole_from, lines_of, IsKnown};
+ghost use Rattle.gate_types.specs.Tap.{has_failed, Gave, IsReadOut, Took};
+ghost use Rattle.gate_core.specs.Lines.{whole_lines, lines_of, ReadFor};
 ghost use Rattle.gate_core.specs.Gated.{Gated};
 ghost use Rattle.gate_core.specs.Replies.{Marked, Replayed, Cut, CallsAreAnswered};
 
@@ -21,8 +20,8 @@ use std::io::{Read, Write};
 /// `u64::MAX`.
 ///
 /// `Read`: the reader failed; a line that was cut by this isn't acted on. `Write`: the writer
-/// failed within an answer, whose delivery stands. `NoMemory`: nothing was read or written.
-/// `Store`: never.
+/// failed within an answer, whose delivery stands, and nothing more was read. `NoMemory`: nothing
+/// was read or written. `Store`: never.
 pub fn replay<R: Read, W: Write>(
     alloc: Global,
     gate: &mut Gate,
@@ -32,26 +31,28 @@ pub fn replay<R: Read, W: Write>(
     requires reader { has_failed r.old ≡ false }
     requires writer { has_failed w.old ≡ false }
     ensures ok { IfOk result (λ n. (input : List ℕ)
-        × Consumes (R.remaining (inside r.old)) (R.remaining (inside r.new)) input
-        × IsAtEnd (R.remaining (inside r.new))
+        × Gave R.remaining r.old r.new input × IsReadOut R.remaining r.new
         × (text : List ℕ) × Replayed gate.old (lines_of input) text gate.new
-        × Appends (W.contents (inside w.old)) (W.contents (inside w.new)) text
+        × Took W.contents w.old w.new text
         × (n ≡ u64_saturate (length (lines_of input)))) }
     // the lines before the one that the error cut
     ensures read { IsErrOf result IoFault.Read → (front : List ℕ)
-        × Consumes (R.remaining (inside r.old)) (R.remaining (inside r.new)) front
-        × (text : List ℕ) × Replayed gate.old (whole_from [] front) text gate.new
-        × Appends (W.contents (inside w.old)) (W.contents (inside w.new)) text }
-    ensures write { IsErrOf result IoFault.Write → (input : List ℕ)
-        × IsKnown (R.remaining (inside r.old)) input
-        × (text : List ℕ) × Cut gate.old (lines_of input) text gate.new
-        × Appends (W.contents (inside w.old)) (W.contents (inside w.new)) text }
+        × Gave R.remaining r.old r.new front
+        × (text : List ℕ) × Replayed gate.old (whole_lines front) text gate.new
+        × Took W.contents w.old w.new text }
+    // the lines up to the one whose answer was cut, and no read beyond the one that ended it
+    ensures write { IsErrOf result IoFault.Write → (lines : List (List ℕ))
+        × (text : List ℕ) × (cut : Cut gate.old lines text gate.new)
+        × ReadFor R.remaining r.old r.new lines (length cut.done)
+        × Took W.contents w.old w.new text }
     ensures memory { IsErrOf result IoFault.NoMemory →
         (gate.new ≡ gate.old) × (r.new ≡ r.old) × (w.new ≡ w.old) }
     ensures store { IsErrOf result IoFault.Store → ⊥ }
     ensures unfailed { OnOk result (has_failed w.new ≡ false) }
-    ensures reader_failed { IsErrOf result IoFault.Read → has_failed r.new ≡ true }
-    ensures writer_failed { IsErrOf result IoFault.Write → has_failed w.new ≡ true }
+    ensures reader_failed { IsErrOf result IoFault.Read →
+        (has_failed r.new ≡ true) × (has_failed w.new ≡ false) }
+    ensures writer_failed { IsErrOf result IoFault.Write →
+        (has_failed r.new ≡ false) × (has_failed w.new ≡ true) }
 {
     answer_lines(alloc, gate, r, w)
 }

@@ -1,4 +1,6 @@
+use Rattle.std.proofs.Common.{subst, sym}
 use Rattle.std.proofs.lemmas.Result.{IfOk-weaker}
+use Rattle.gate_core.specs.Lines.{ReadFor}
 use Rattle.gate_core.proofs.ReplyLemmas.{replayed_of_runs, cut_of_broke}
 use Rattle.gate_core.proofs.replay.replay.Goals as goal
 
@@ -14,5 +16,5 @@ returns-clause-read g c = λ failed.
 pub returns-clause-write : goal.returns-clause-write
 returns-clause-write g c = λ failed.
     let h = c.answer_lines.ensures.write failed in
-    let cut = cut_of_broke _ _ _ _ _ h.2 in
-    (h.0, h.1, cut.0, cut.1, cut.2)
+    let cut = cut_of_broke _ _ _ _ _ h.1 in
+    (h.0, cut.0, cut.1, subst (ReadFor _ _ _ _) (sym cut.2) h.2, cut.3)
