@@ -14,7 +14,7 @@ use Rattle.gate_types.specs.Settings.{Settings}
 use Rattle.gate_types.specs.declared.deliveries.Answer.TheVariants as answer
 use Rattle.gate_types.specs.Once.{Content, Call, once, next_content, answer_of, answer_text, answers, is_unavailable}
 use Rattle.gate_types.specs.Refusals.{refusal_text}
-use Rattle.gate_core.specs.Gated.{Gated, Outcome, outcome, is_taken}
+use Rattle.gate_core.specs.Gated.{Gated, Delivered, delivered, is_taken}
 use Rattle.gate_core.specs.Limit.{limit, too_large}
 use Rattle.gate_wire.specs.declared.door.Door.TheVariants as door
 use Rattle.gate_wire.specs.Reading.{says}
@@ -54,15 +54,15 @@ answered c x id d false = refl
 heard_by : (line : List ℕ) (x : Id × Delivery) (t : Bool) → says door.Any line ≡ Ok x → is_taken x.1 ≡ t → heard line ≡ (if t then Ok x else Err refusal.BadDelivery)
 heard_by line x t said e = ap if_taken said ∙ ap (λ t. if t then Ok x else Err refusal.BadDelivery) e
 
--- the outcome of a call, by whether its kind is taken
-abbrev outcome_by : Gated → Call → Bool → Outcome
-outcome_by g k t =
+-- what a call gives, by whether its kind is taken
+abbrev delivered_by : Gated → Call → Bool → Delivered
+delivered_by g k t =
     if t then record { answer = answer_of g.settings g.content k; gate = record g { content = next_content g.settings g.content k } }
     else record { answer = answer.Refused refusal.BadDelivery; gate = g }
 
--- a line that says a delivery, by the outcome of its call and by whether its kind is taken
+-- a line that says a delivery, by what its call gives and by whether its kind is taken
 told_by_kind : (g after : Gated) (line : List ℕ) (id : Id) (d : Delivery) (a : Answer) (t : Bool) → length line ≤ limit → heard line ≡ (if t then Ok (id, d) else Err refusal.BadDelivery)
-    → outcome_by g (record { id = id; delivery = d; unavailable = is_unavailable a }) t ≡ record { answer = a; gate = after } → Told g line (answer_text a) after
+    → delivered_by g (record { id = id; delivery = d; unavailable = is_unavailable a }) t ≡ record { answer = a; gate = after } → Told g line (answer_text a) after
 told_by_kind g after line id d a true short said e =
     let u = is_unavailable a in
     told_by g after line (answer_text a) u false (Ok (id, d)) (fits line short) said
@@ -73,9 +73,9 @@ told_by_kind g after line id d a false short said e =
     (ap (λ p. answer_text p.answer) (sym e))
     (ap (λ p. p.gate) (sym e))
 
--- a line that says a delivery, by the outcome of its call
+-- a line that says a delivery, by what its call gives
 pub told_call : (g after : Gated) (line : List ℕ) (id : Id) (d : Delivery) (a : Answer) → length line ≤ limit → says door.Any line ≡ Ok (id, d)
-    → outcome g (record { id = id; delivery = d; unavailable = is_unavailable a }) ≡ record { answer = a; gate = after } → Told g line (answer_text a) after
+    → delivered g (record { id = id; delivery = d; unavailable = is_unavailable a }) ≡ record { answer = a; gate = after } → Told g line (answer_text a) after
 told_call g after line id d a short said e =
     told_by_kind g after line id d a (is_taken d) short (heard_by line (id, d) (is_taken d) said refl) e
 

@@ -28,13 +28,13 @@ is_taken (delivery.Approved change revision) = true
 is_taken _ = false
 
 -- the answer to a call, and the gate after it
-pub record Outcome : Type 0 where
+pub record Delivered : Type 0 where
   pub answer : Answer
   pub gate : Gated
 
 -- a call of the plain gate; a kind that isn't taken is a bad delivery
-abbrev pub outcome : Gated → Call → Outcome
-outcome g k =
+abbrev pub delivered : Gated → Call → Delivered
+delivered g k =
     if is_taken k.delivery
     then record { answer = answer_of g.settings g.content k; gate = record g { content = next_content g.settings g.content k } }
     else record { answer = answer.Refused refusal.BadDelivery; gate = g }

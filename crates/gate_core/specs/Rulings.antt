@@ -34,14 +34,14 @@ abbrev pub approval_step : Settings → Keeper → ApprovalRuling → Stepped
 approval_step c k (approval.Refused x) = refused x
 approval_step c k approval.Stale = accepted reply.Stale (state_of c k)
 approval_step c k approval.Already = accepted reply.Already (state_of c k)
-approval_step c k (approval.Queued i) = accepted (reply.Queued i.row.serial)
+approval_step c k (approval.Entering i) = accepted (reply.Queued i.row.serial)
     (quiet (without_needs c) (changes_of k.changes) k.ready.items (k.items.items ++ i ∷ []) k.reports.items (ordered i.row.serial (approved_once k.counters)))
 approval_step c k (approval.Waiting w) = accepted reply.Waiting
     (quiet (without_needs c) (changes_of k.changes) (k.ready.items ++ w ∷ []) k.items.items k.reports.items (approved_once k.counters))
 
 -- and what stays true after it
 abbrev pub StaysApproved : Settings → Keeper → ApprovalRuling → Type 0
-StaysApproved c k (approval.Queued i) = IsQuiet (without_needs c) (changes_of k.changes) k.ready.items (k.items.items ++ i ∷ [])
+StaysApproved c k (approval.Entering i) = IsQuiet (without_needs c) (changes_of k.changes) k.ready.items (k.items.items ++ i ∷ [])
 StaysApproved c k (approval.Waiting w) = IsQuiet (without_needs c) (changes_of k.changes) (k.ready.items ++ w ∷ []) k.items.items
 StaysApproved c k (approval.Refused x) = is_unavailable (answer.Refused x) ≡ false
 StaysApproved c k _ = Unit {0}

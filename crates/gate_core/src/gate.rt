@@ -30,7 +30,7 @@ impl Model for Gate {
 
 impl Gate {
     ghost use Rattle.gate_types.specs.declared.deliveries.Delivery.TheVariants as delivery;
-    ghost use Rattle.gate_core.specs.Gated.{opened, outcome};
+    ghost use Rattle.gate_core.specs.Gated.{opened, delivered};
 
     /// A gate that has seen no delivery.
     pub fn new(alloc: Global, config: Config) -> Gate
@@ -47,7 +47,7 @@ impl Gate {
     /// where memory is refused. Of the eight kinds a revision and an approval are taken by now;
     /// any other is a bad delivery.
     pub fn deliver(&mut self, alloc: Global, id: Id, delivery: Delivery) -> Answer
-        ensures { outcome self.old (record { id = id; delivery = delivery; unavailable = is_unavailable result })
+        ensures { delivered self.old (record { id = id; delivery = delivery; unavailable = is_unavailable result })
             ≡ record { answer = result; gate = self.new } }
     {
         match self.keeper.answer(alloc, &self.config, id, delivery) {

@@ -13,7 +13,7 @@ ghost use Rattle.gate_types.specs.ReplyText.{reply_text};
 ghost use Rattle.std.specs.Prelude.{◌≡◌, ◌<◌, ◌≤◌, ℕ, List, true, false, IfOk, OnOk, OnErr, string_bytes, option_copied};
 
 use crate::keeper::changes::Changes;
-use crate::keeper::queue::{Left, Queued, Waiting, drop_waiting, leave};
+use crate::keeper::queue::{Left, QueueItem, Waiting, drop_waiting, leave};
 use crate::keeper::replies::Replies;
 use crate::keeper::rulings::{ApprovalRuling, RevisionRuling};
 use gate_types::canonical::canonical;
@@ -31,7 +31,7 @@ use std::alloc::Global;
 pub struct Keeper {
     changes: Changes,
     ready: Vec<Waiting>,
-    items: Vec<Queued>,
+    items: Vec<QueueItem>,
     reports: Vec<Left>,
     replies: Replies,
     counters: Counters,
@@ -64,7 +64,7 @@ impl Keeper {
     ghost use Rattle.gate_types.specs.declared.deliveries.Delivery.TheVariants as delivery;
     ghost use Rattle.gate_types.specs.Step.{step};
     ghost use Rattle.gate_types.specs.Once.{is_unavailable};
-    ghost use Rattle.gate_core.specs.Gated.{without_needs, outcome, is_taken};
+    ghost use Rattle.gate_core.specs.Gated.{without_needs, delivered, is_taken};
     ghost use Rattle.gate_core.specs.Keeper.{gated_of, state_of, content_of, IsSound, IsSame, HasRoom, Keeps, Acted, IsRevised};
     ghost use Rattle.gate_core.specs.Quiet.{are_apart};
     ghost use Rattle.gate_types.specs.Once.{kept_for};
@@ -80,7 +80,7 @@ impl Keeper {
         delivery: Delivery,
     ) -> Result<Answer, NoMemory>
         requires { IsSound config.now self.old }
-        ensures ok { IfOk result (λ a. outcome (gated_of config.now self.old) (record { id = id; delivery = delivery; unavailable = false }) ≡ record { answer = a; gate = gated_of config.now self.new }) }
+        ensures ok { IfOk result (λ a. delivered (gated_of config.now self.old) (record { id = id; delivery = delivery; unavailable = false }) ≡ record { answer = a; gate = gated_of config.now self.new }) }
         ensures told { IfOk result (λ a. is_unavailable a ≡ false) }
         ensures taken { OnErr result (is_taken delivery ≡ true) }
         ensures err { OnErr result (content_of config.now self.new ≡ content_of config.now self.old) }
@@ -197,12 +197,12 @@ impl Keeper {
         config: &Config,
         id: Id,
         said: Text,
-        item: Queued,
+        item: QueueItem,
     ) -> Result<Answer, NoMemory>
         requires sound { IsSound config.now self.old }
         requires more { self.old.counters.approval < 1000000000000000 }
-        requires stays { StaysApproved config.now self.old (ApprovalRuling.Queued item) }
-        ensures ok { IfOk result (λ a. Acted config.now self.old self.new id said (approval_step config.now self.old (ApprovalRuling.Queued item)) a) }
+        requires stays { StaysApproved config.now self.old (ApprovalRuling.Entering item) }
+        ensures ok { IfOk result (λ a. Acted config.now self.old self.new id said (approval_step config.now self.old (ApprovalRuling.Entering item)) a) }
         ensures err { OnErr result (content_of config.now self.new ≡ content_of config.now self.old) }
         ensures sound { IsSound config.now self.new }
     {
@@ -265,7 +265,7 @@ impl Keeper {
             ApprovalRuling::Refused(refusal) => Ok(Answer::Refused(refusal)),
             ApprovalRuling::Stale => self.keep(alloc, config, id, said, &Reply::Stale),
             ApprovalRuling::Already => self.keep(alloc, config, id, said, &Reply::Already),
-            ApprovalRuling::Queued(item) => self.enter(alloc, config, id, said, item),
+            ApprovalRuling::Entering(item) => self.enter(alloc, config, id, said, item),
             ApprovalRuling::Waiting(waiting) => self.wait(alloc, config, id, said, waiting),
         }
     }
@@ -322,7 +322,7 @@ impl Keeper {
         id: Id,
         said: Text,
         revised: Revised,
-        item: Queued,
+        item: QueueItem,
     ) -> Result<Answer, NoMemory>
         requires sound { IsSound config.now self.old }
         requires stays { StaysRevised config.now self.old revised.change revised.project revised.revision (RevisionRuling.Admitting item) }

@@ -11,7 +11,7 @@ use std::marker::Model;
 
 /// A change in a queue.
 #[derive(Clone, Copy, Debug, PartialEq, Eq)]
-pub struct Queued {
+pub struct QueueItem {
     /// The place of the queue among those of the settings.
     pub queue: usize,
     pub serial: Serial,
@@ -19,7 +19,7 @@ pub struct Queued {
     pub revision: Revision,
 }
 
-impl Model for Queued {
+impl Model for QueueItem {
     ghost use Rattle.gate_types.specs.State.{Item};
     ghost use Rattle.gate_core.specs.Placed.{Placed};
 
@@ -70,28 +70,28 @@ impl Model for Left {
 }
 
 /// Whether a change stands among items.
-pub fn holds(items: &[Queued], change: ChangeNo) -> bool
+pub fn holds(items: &[QueueItem], change: ChangeNo) -> bool
     ensures { result ≡ holds items.now change }
 {
     items.iter().any(|item| item.change == change)
 }
 
 /// How many of the items stand in the queue at a place.
-pub fn count_in(items: &[Queued], queue: usize) -> usize
+pub fn count_in(items: &[QueueItem], queue: usize) -> usize
     ensures { result ≡ length (of_queue queue items.now) }
 {
     items.iter().filter(|item| item.queue == queue).count()
 }
 
 /// The item of a change.
-pub fn item_of(items: &[Queued], change: ChangeNo) -> Option<Queued>
+pub fn item_of(items: &[QueueItem], change: ChangeNo) -> Option<QueueItem>
     ensures { result ≡ find (λ i. i.row.change == change) items.now }
 {
     items.iter().copied().find(|item| item.change == change)
 }
 
 /// Drops the item of a change.
-pub fn drop_item(items: &mut Vec<Queued>, change: ChangeNo)
+pub fn drop_item(items: &mut Vec<QueueItem>, change: ChangeNo)
     ensures items { items.new.items ≡ without_item change items.old.items }
     ensures capacity { vec_capacity items.new ≡ vec_capacity items.old }
 {
@@ -121,7 +121,7 @@ pub fn drop_waiting(ready: &mut Vec<Waiting>, change: ChangeNo)
 }
 
 /// The item of a change leaves, superseded, with a report.
-pub fn leave(items: &mut Vec<Queued>, reports: &mut Vec<Left>, change: ChangeNo)
+pub fn leave(items: &mut Vec<QueueItem>, reports: &mut Vec<Left>, change: ChangeNo)
     requires apart { are_apart items.old.items ≡ true }
     requires room { vec_len reports.old < vec_capacity reports.old }
     ensures items { items.new.items ≡ without_item change items.old.items }

@@ -3,7 +3,7 @@ ghost use Rattle.std.specs.Prelude.{◌≡◌, ℕ, List, true, false};
 
 use crate::keeper::Keeper;
 use crate::keeper::projects::{has_project, queue_of};
-use crate::keeper::queue::{Queued, Waiting, count_in, first_other, holds, item_of, waits};
+use crate::keeper::queue::{QueueItem, Waiting, count_in, first_other, holds, item_of, waits};
 use gate_types::config::Config;
 use gate_types::deliveries::Refusal;
 use gate_types::names::PathName;
@@ -22,7 +22,7 @@ pub enum ApprovalRuling {
     Stale,
     Already,
     /// It enters its queue.
-    Queued(Queued),
+    Entering(QueueItem),
     /// Its queue is full, and it waits.
     Waiting(Waiting),
 }
@@ -34,7 +34,7 @@ pub enum RevisionRuling {
     Stale,
     Recorded,
     /// It is recorded, and a waiting change enters the place that its item leaves.
-    Admitting(Queued),
+    Admitting(QueueItem),
 }
 
 impl Keeper {
@@ -84,7 +84,7 @@ impl Keeper {
             });
         }
         match Serial::new(counters.order + 1) {
-            Some(serial) => ApprovalRuling::Queued(Queued {
+            Some(serial) => ApprovalRuling::Entering(QueueItem {
                 queue,
                 serial,
                 change,
@@ -151,7 +151,7 @@ impl Keeper {
         };
         let counters = self.counters;
         match Serial::new(counters.order + 1) {
-            Some(serial) => RevisionRuling::Admitting(Queued {
+            Some(serial) => RevisionRuling::Admitting(QueueItem {
                 queue: next.queue,
                 serial,
                 change: next.change,

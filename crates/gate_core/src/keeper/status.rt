@@ -5,7 +5,7 @@ ghost use Rattle.gate_core.specs.QuietText.{queue_text, jobs_text, item_text};
 
 use crate::keeper::Keeper;
 use crate::keeper::projects::project_named;
-use crate::keeper::queue::Queued;
+use crate::keeper::queue::QueueItem;
 use gate_types::config::{Config, Job};
 use gate_types::names::NoMemory;
 use gate_types::numbers::{ChangeNo, Serial};
@@ -19,7 +19,7 @@ fn queue_line(alloc: Global, name: &str, window: u32) -> Result<String, NoMemory
 }
 
 /// Numbers right in 6, 9 and 4 places.
-fn numbers_text(alloc: Global, item: Queued) -> Result<String, NoMemory>
+fn numbers_text(alloc: Global, item: QueueItem) -> Result<String, NoMemory>
     ensures { IfOk result (λ s. string_bytes s ≡ right 6 (decimal item.row.serial) ++ (32 ∷ (right 9 (decimal item.row.change) ++ (32 ∷ right 4 (decimal item.row.revision))))) }
 {
     let serial = item.serial.get();
@@ -57,7 +57,7 @@ fn jobs_text(alloc: Global, jobs: &[Job]) -> Result<String, NoMemory>
 /// The line of an item.
 pub fn item_text(
     alloc: Global,
-    item: Queued,
+    item: QueueItem,
     ahead: Option<Serial>,
     jobs: &[Job],
 ) -> Result<String, NoMemory>
