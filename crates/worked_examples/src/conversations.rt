@@ -1,15 +1,12 @@
 //! Conversations with a gate, with the answers typed from its rules.
-use crate::gates::{new_gate, shows, tells};
-use gate_core::gate::Gate;
-use std::alloc::{AllocError, Global};
-use std::process::Abort;
+use crate::gates::{WAITING, approves, fills, new_gate, shows, shows_ends, tells};
 use std::test::Fail;
 
 #[test]
 fn the_empty_gate_has_a_queue(rt: HostRuntime) -> Result<(), Fail> {
     shows(
         &rt,
-        rt.alloc(),
+        new_gate(rt.alloc())?,
         "",
         "",
         "queue core window 2 landed 0\nend\n",
@@ -20,7 +17,7 @@ fn the_empty_gate_has_a_queue(rt: HostRuntime) -> Result<(), Fail> {
 fn what_is_no_delivery_is_refused(rt: HostRuntime) -> Result<(), Fail> {
     shows(
         &rt,
-        rt.alloc(),
+        new_gate(rt.alloc())?,
         "nul\n\n{}\n[]",
         r#"{"code":"E1","error":"bad-json"}
 {"code":"E1","error":"bad-json"}
@@ -35,7 +32,7 @@ fn what_is_no_delivery_is_refused(rt: HostRuntime) -> Result<(), Fail> {
 fn a_refused_delivery_does_not_spend_its_id(rt: HostRuntime) -> Result<(), Fail> {
     shows(
         &rt,
-        rt.alloc(),
+        new_gate(rt.alloc())?,
         r#"{"id":"00000000-0000-4000-8000-000000000001","kind":"approved","change":101,"revision":1}
 {"id":"00000000-0000-4000-8000-000000000002","kind":"revision","change":101,"project":"lib","revision":1,"message":""}
 {"id":"00000000-0000-4000-8000-000000000001","kind":"approved","change":101,"revision":1}
@@ -52,7 +49,7 @@ fn a_refused_delivery_does_not_spend_its_id(rt: HostRuntime) -> Result<(), Fail>
 fn a_repeat_gets_the_kept_reply(rt: HostRuntime) -> Result<(), Fail> {
     shows(
         &rt,
-        rt.alloc(),
+        new_gate(rt.alloc())?,
         r#"{"id":"00000000-0000-4000-8000-000000000001","kind":"revision","change":101,"project":"lib","revision":1,"message":""}
 {"id":"00000000-0000-4000-8000-000000000002","kind":"revision","change":102,"project":"app","revision":1,"message":""}
 {"id":"0a000000-0000-4000-8000-000000000002","kind":"approved","change":101,"revision":1}
@@ -73,7 +70,7 @@ fn a_repeat_gets_the_kept_reply(rt: HostRuntime) -> Result<(), Fail> {
 fn an_id_serves_one_delivery(rt: HostRuntime) -> Result<(), Fail> {
     shows(
         &rt,
-        rt.alloc(),
+        new_gate(rt.alloc())?,
         r#"{"id":"00000000-0000-4000-8000-000000000001","kind":"revision","change":101,"project":"lib","revision":1,"message":""}
 {"id":"0a000000-0000-4000-8000-000000000002","kind":"approved","change":101,"revision":1}
 {"id":"0a000000-0000-4000-8000-000000000002","kind":"approved","change":101,"revision":2}
@@ -104,7 +101,6 @@ fn a_new_revision_supersedes_the_item(rt: HostRuntime) -> Result<(), Fail> {
     let mut gate = new_gate(rt.alloc())?;
     tells(
         &rt,
-        rt.alloc(),
         &mut gate,
         SUPERSEDED,
         r#"{"reply":"recorded"}
@@ -122,7 +118,6 @@ fn a_new_revision_supersedes_the_item(rt: HostRuntime) -> Result<(), Fail> {
     );
     tells(
         &rt,
-        rt.alloc(),
         &mut gate,
         r#"{"id":"00000000-0000-4000-8000-000000000007","kind":"approved","change":101,"revision":2}"#,
         "{\"order\":3,\"reply\":\"queued\"}\n",
@@ -134,7 +129,7 @@ fn a_new_revision_supersedes_the_item(rt: HostRuntime) -> Result<(), Fail> {
 fn each_refusal_of_a_revision_and_an_approval(rt: HostRuntime) -> Result<(), Fail> {
     shows(
         &rt,
-        rt.alloc(),
+        new_gate(rt.alloc())?,
         r#"{"id":"00000000-0000-4000-8000-000000000001","kind":"revision","change":101,"project":"site","revision":2,"message":""}
 {"id":"00000000-0000-4000-8000-000000000002","kind":"revision","change":101,"project":"lib","revision":2,"message":""}
 {"id":"00000000-0000-4000-8000-000000000003","kind":"revision","change":101,"project":"app","revision":3,"message":""}
@@ -167,62 +162,19 @@ fn each_refusal_of_a_revision_and_an_approval(rt: HostRuntime) -> Result<(), Fai
     )
 }
 
-/// The lines by which a change is made known and approved.
-fn approving(alloc: Global, change: u32) -> Result<String, AllocError> {
-    format!(in alloc;
-        "{{\"id\":\"0a000000-0000-4000-8000-{change:012}\",\"kind\":\"revision\",\"change\":{change},\"project\":\"lib\",\"revision\":1,\"message\":\"\"}}
-{{\"id\":\"0b000000-0000-4000-8000-{change:012}\",\"kind\":\"approved\",\"change\":{change},\"revision\":1}}\n"
-    )
-}
-
-/// A change becomes known and approved, and gets the order of its number.
-fn queues(rt: &impl Abort, alloc: Global, gate: &mut Gate, change: u32) -> Result<(), Fail> {
-    let lines = approving(alloc, change)?;
-    let answers = format!(in alloc;
-        "{{\"reply\":\"recorded\"}}\n{{\"order\":{change},\"reply\":\"queued\"}}\n"
-    )?;
-    tells(rt, alloc, gate, lines.as_str(), answers.as_str())?;
-    Ok(())
-}
-
-/// The status begins and ends so.
-fn shows_ends(
-    rt: &impl Abort,
-    alloc: Global,
-    gate: &Gate,
-    front: &str,
-    back: &str,
-) -> Result<(), Fail> {
-    let status = gate.status(alloc)?;
-    assert!(rt; status.as_str().starts_with(front));
-    assert!(rt; status.as_str().ends_with(back));
-    Ok(())
-}
-
 #[test]
 fn a_full_queue_lets_the_next_change_wait(rt: HostRuntime) -> Result<(), Fail> {
     let mut gate = new_gate(rt.alloc())?;
-    for change in 1..1001 {
-        queues(&rt, rt.alloc(), &mut gate, change)?;
-    }
-    let lines = approving(rt.alloc(), 1001)?;
-    tells(
-        &rt,
-        rt.alloc(),
-        &mut gate,
-        lines.as_str(),
-        "{\"reply\":\"recorded\"}\n{\"reply\":\"waiting\"}\n",
-    )?;
+    fills(&rt, &mut gate, "lib", 1..1001)?;
+    approves(&rt, &mut gate, "lib", 1001, WAITING)?;
     shows_ends(
         &rt,
-        rt.alloc(),
         &gate,
         "queue core window 2 landed 0\n     1         1    1      - ok      unit=waiting docs=waiting\n     2         2    1      1 ok ",
         "\n  1000      1000    1    999 ok      unit=waiting docs=waiting\nwaiting 1001 1\nend\n",
     )?;
     tells(
         &rt,
-        rt.alloc(),
         &mut gate,
         r#"{"id":"0c000000-0000-4000-8000-000000000001","kind":"approved","change":1001,"revision":1}
 {"id":"0c000000-0000-4000-8000-000000000002","kind":"revision","change":1,"project":"lib","revision":2,"message":""}
@@ -232,7 +184,6 @@ fn a_full_queue_lets_the_next_change_wait(rt: HostRuntime) -> Result<(), Fail> {
     )?;
     shows_ends(
         &rt,
-        rt.alloc(),
         &gate,
         "queue core window 2 landed 0\n     2         2    1      - ok      unit=waiting docs=waiting\n     3         3    1      2 ok ",
         "\n  1001      1001    1   1000 ok      unit=waiting docs=waiting\nwaiting 1 2\nend\n",

@@ -1,5 +1,5 @@
 //! Conversations in which a reader, a writer or memory fails.
-use crate::gates::{new_gate, said, tells};
+use crate::gates::{UNAVAILABLE, new_gate, said, tells};
 use crate::streams::{Failing, Narrow};
 use gate_core::fault::IoFault;
 use gate_core::gate::Gate;
@@ -21,8 +21,6 @@ const OTHERS: &str =
     r#"{"id":"00000000-0000-4000-8000-000000000001","kind":"approved","change":103,"revision":1}
 {"id":"00000000-0000-4000-8000-000000000002","kind":"approved","change":103,"revision":1}
 "#;
-
-const UNAVAILABLE: &str = "{\"code\":\"E15\",\"error\":\"unavailable\"}\n";
 
 /// The count, and what a writer takes that fails after some bytes.
 fn taken_by(alloc: Global, gate: &mut Gate, left: usize) -> (Result<u64, IoFault>, Vec<u8>) {
@@ -50,7 +48,11 @@ fn written_after(alloc: Global, gate: &mut Gate, left: usize) -> (Result<u64, Io
 }
 
 /// So many of the lines' ids are spent, and the lines get their answers, new or kept.
-fn continues(rt: &impl Abort, alloc: Global, gate: &mut Gate, spent: usize) -> Result<(), IoFault> {
+fn continues(
+    rt: &(impl Abort + AllocGlobal),
+    gate: &mut Gate,
+    spent: usize,
+) -> Result<(), IoFault> {
     let answers = match spent {
         0 =>
             "{\"code\":\"E5\",\"error\":\"unknown-change\"}\n{\"code\":\"E5\",\"error\":\"unknown-change\"}\n",
@@ -59,8 +61,8 @@ fn continues(rt: &impl Abort, alloc: Global, gate: &mut Gate, spent: usize) -> R
         _ =>
             "{\"code\":\"E4\",\"error\":\"id-reused\"}\n{\"code\":\"E4\",\"error\":\"id-reused\"}\n",
     };
-    tells(rt, alloc, gate, OTHERS, answers)?;
-    tells(rt, alloc, gate, LINES, ANSWERS)
+    tells(rt, gate, OTHERS, answers)?;
+    tells(rt, gate, LINES, ANSWERS)
 }
 
 #[test]
@@ -80,7 +82,7 @@ fn after_a_write_error_the_delivery_stands(rt: HostRuntime) -> Result<(), Fail> 
             "after {left} bytes"
         );
         let spent = if left < 21 { 1 } else { 2 };
-        continues(&rt, rt.alloc(), &mut gate, spent)?;
+        continues(&rt, &mut gate, spent)?;
     }
     Ok(())
 }
@@ -97,7 +99,7 @@ fn a_line_that_a_read_error_cut_is_new_later(rt: HostRuntime) -> Result<(), Fail
             ANSWERS.as_bytes().starts_with(written.as_slice()),
             "after {left} reads"
         );
-        continues(&rt, rt.alloc(), &mut gate, spent)?;
+        continues(&rt, &mut gate, spent)?;
     }
     Ok(())
 }

@@ -1,14 +1,28 @@
-//! Gates over settings files, and what they are told.
+//! What all tests share: settings, gates over them, what they are told and what they show.
 use gate_config::{ConfigFault, read};
 use gate_core::fault::IoFault;
 use gate_core::gate::Gate;
 use gate_core::replay::replay;
 use gate_types::tap::Tap;
-use std::alloc::Global;
+use std::alloc::{AllocError, Global};
+use std::ops::Range;
 use std::process::Abort;
 use std::test::Fail;
 
-const SETTINGS: &str = r#"
+pub const BAD_JSON: &str = "{\"code\":\"E1\",\"error\":\"bad-json\"}\n";
+
+pub const BAD_DELIVERY: &str = "{\"code\":\"E2\",\"error\":\"bad-delivery\"}\n";
+
+pub const UNAVAILABLE: &str = "{\"code\":\"E15\",\"error\":\"unavailable\"}\n";
+
+pub const TOO_LARGE: &str = "{\"error\":\"too-large\"}\n";
+
+pub const RECORDED: &str = "{\"reply\":\"recorded\"}\n";
+
+pub const WAITING: &str = "{\"reply\":\"waiting\"}\n";
+
+/// The queue `core` with its projects `lib` and `app`.
+const CORE: &str = r#"
 [forge]
 base = "https://forge/c/"
 
@@ -33,9 +47,48 @@ queue = "core"
 name = "unit"
 "#;
 
-/// A gate with the queue `core` and its projects `lib` and `app`.
+/// A second queue, `web`, with its project `site`.
+const WEB: &str = r#"
+[[queue]]
+name = "web"
+window = 2
+floor = 1
+
+[[project]]
+name = "site"
+queue = "web"
+[[project.job]]
+name = "unit"
+"#;
+
+/// A gate with the queue `core`.
 pub fn new_gate(alloc: Global) -> Result<Gate, ConfigFault> {
-    Ok(Gate::new(alloc, read(alloc, SETTINGS.as_bytes())?))
+    Ok(Gate::new(alloc, read(alloc, CORE.as_bytes())?))
+}
+
+/// A gate with the queues `core` and `web`.
+pub fn gate_of_two_queues(alloc: Global) -> Result<Gate, Fail> {
+    let settings = format!(in alloc; "{CORE}{WEB}")?;
+    Ok(Gate::new(alloc, read(alloc, settings.as_bytes())?))
+}
+
+/// The first revision of a change, under an id with the change's number.
+pub fn revising(
+    alloc: Global,
+    project: &str,
+    change: u32,
+    message: &str,
+) -> Result<String, AllocError> {
+    format!(in alloc;
+        "{{\"id\":\"0a000000-0000-4000-8000-{change:012}\",\"kind\":\"revision\",\"change\":{change},\"project\":\"{project}\",\"revision\":1,\"message\":\"{message}\"}}"
+    )
+}
+
+/// The approval of a change's first revision, under an id with the change's number.
+pub fn approving(alloc: Global, change: u32) -> Result<String, AllocError> {
+    format!(in alloc;
+        "{{\"id\":\"0b000000-0000-4000-8000-{change:012}\",\"kind\":\"approved\",\"change\":{change},\"revision\":1}}"
+    )
 }
 
 /// What a gate writes for lines.
@@ -51,28 +104,71 @@ pub fn said(alloc: Global, gate: &mut Gate, lines: &str) -> Result<Vec<u8>, IoFa
 
 /// The lines get the answers.
 pub fn tells(
-    rt: &impl Abort,
-    alloc: Global,
+    rt: &(impl Abort + AllocGlobal),
     gate: &mut Gate,
     lines: &str,
     answers: &str,
 ) -> Result<(), IoFault> {
-    let written = said(alloc, gate, lines)?;
+    let written = said(rt.alloc(), gate, lines)?;
     assert_eq!(rt; written.as_slice(), answers.as_bytes());
     Ok(())
 }
 
-/// The lines get the answers, and leave the status.
+/// The lines get the answers from a new gate, and leave the status.
 pub fn shows(
-    rt: &impl Abort,
-    alloc: Global,
+    rt: &(impl Abort + AllocGlobal),
+    mut gate: Gate,
     lines: &str,
     answers: &str,
     status: &str,
 ) -> Result<(), Fail> {
-    let mut gate = new_gate(alloc)?;
-    tells(rt, alloc, &mut gate, lines, answers)?;
-    let text = gate.status(alloc)?;
+    tells(rt, &mut gate, lines, answers)?;
+    let text = gate.status(rt.alloc())?;
     assert_eq!(rt; text.as_str(), status);
+    Ok(())
+}
+
+/// The status begins and ends so.
+pub fn shows_ends(
+    rt: &(impl Abort + AllocGlobal),
+    gate: &Gate,
+    front: &str,
+    back: &str,
+) -> Result<(), Fail> {
+    let status = gate.status(rt.alloc())?;
+    assert!(rt; status.as_str().starts_with(front));
+    assert!(rt; status.as_str().ends_with(back));
+    Ok(())
+}
+
+/// A change becomes known and approved, and its approval gets this answer.
+pub fn approves(
+    rt: &(impl Abort + AllocGlobal),
+    gate: &mut Gate,
+    project: &str,
+    change: u32,
+    answer: &str,
+) -> Result<(), Fail> {
+    tells(
+        rt,
+        gate,
+        revising(rt.alloc(), project, change, "")?.as_str(),
+        RECORDED,
+    )?;
+    tells(rt, gate, approving(rt.alloc(), change)?.as_str(), answer)?;
+    Ok(())
+}
+
+/// These changes are queued, each under its number as its order.
+pub fn fills(
+    rt: &(impl Abort + AllocGlobal),
+    gate: &mut Gate,
+    project: &str,
+    changes: Range<u32>,
+) -> Result<(), Fail> {
+    for change in changes {
+        let answer = format!(in rt.alloc(); "{{\"order\":{change},\"reply\":\"queued\"}}\n")?;
+        approves(rt, gate, project, change, answer.as_str())?;
+    }
     Ok(())
 }

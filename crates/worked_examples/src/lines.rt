@@ -1,5 +1,5 @@
 //! How the input is cut into lines.
-use crate::gates::new_gate;
+use crate::gates::{BAD_JSON, TOO_LARGE, new_gate};
 use crate::streams::Failing;
 use gate_core::fault::IoFault;
 use gate_core::replay::replay;
@@ -16,10 +16,6 @@ const OUTPUT: &str = r#"{"code":"E2","error":"bad-delivery"}
 {"code":"E2","error":"bad-delivery"}
 {"code":"E2","error":"bad-delivery"}
 "#;
-
-const BAD_JSON: &str = "{\"code\":\"E1\",\"error\":\"bad-json\"}\n";
-
-const TOO_LARGE: &str = "{\"error\":\"too-large\"}\n";
 
 /// The number of lines, and what is written.
 fn answered<R: Read + Drop>(alloc: Global, input: R) -> Result<(u64, Vec<u8>), Fail> {

@@ -1,21 +1,7 @@
 //! Inputs as large as the limits allow: a body that gives up from some size on fails here.
-use crate::gates::{new_gate, said, tells};
+use crate::gates::{BAD_DELIVERY, RECORDED, TOO_LARGE, new_gate, revising, said, tells};
 use std::alloc::{AllocError, Global};
-use std::fmt::Write;
 use std::test::Fail;
-
-const RECORDED: &str = "{\"reply\":\"recorded\"}\n";
-
-const TOO_LARGE: &str = "{\"error\":\"too-large\"}\n";
-
-const BAD_DELIVERY: &str = "{\"code\":\"E2\",\"error\":\"bad-delivery\"}\n";
-
-/// The first revision of a change, under the change's number as its id.
-fn first_revision(alloc: Global, change: u32, message: &str) -> Result<String, AllocError> {
-    format!(in alloc;
-        "{{\"id\":\"0a000000-0000-4000-8000-{change:012}\",\"kind\":\"revision\",\"change\":{change},\"project\":\"lib\",\"revision\":1,\"message\":\"{message}\"}}"
-    )
-}
 
 /// So many letters.
 fn letters(alloc: Global, count: usize) -> Result<String, AllocError> {
@@ -42,15 +28,16 @@ fn each_of_20_000_replies_is_kept(rt: HostRuntime) -> Result<(), Fail> {
     let mut lines = String::new(alloc);
     let mut answers = String::new(alloc);
     for change in 1..20_001 {
-        let line = first_revision(alloc, change, "")?;
-        writeln!(lines, "{line}")?;
+        let line = revising(alloc, "lib", change, "")?;
+        lines.push_str(line.as_str())?;
+        lines.push('\n')?;
         answers.push_str(RECORDED)?;
     }
     let written = said(alloc, &mut gate, lines.as_str())?;
     assert!(rt; written.as_slice() == answers.as_bytes());
     for change in [1, 2, 10_000, 20_000] {
-        let line = first_revision(alloc, change, "")?;
-        tells(&rt, alloc, &mut gate, line.as_str(), RECORDED)?;
+        let line = revising(alloc, "lib", change, "")?;
+        tells(&rt, &mut gate, line.as_str(), RECORDED)?;
     }
     Ok(())
 }
@@ -60,12 +47,12 @@ fn a_message_of_16_384_bytes_is_taken(rt: HostRuntime) -> Result<(), Fail> {
     let alloc = rt.alloc();
     let mut gate = new_gate(alloc)?;
     let message = letters(alloc, 16_384)?;
-    let line = first_revision(alloc, 1, message.as_str())?;
-    tells(&rt, alloc, &mut gate, line.as_str(), RECORDED)?;
-    tells(&rt, alloc, &mut gate, line.as_str(), RECORDED)?;
+    let line = revising(alloc, "lib", 1, message.as_str())?;
+    tells(&rt, &mut gate, line.as_str(), RECORDED)?;
+    tells(&rt, &mut gate, line.as_str(), RECORDED)?;
     let message = letters(alloc, 16_385)?;
-    let line = first_revision(alloc, 2, message.as_str())?;
-    tells(&rt, alloc, &mut gate, line.as_str(), BAD_DELIVERY)?;
+    let line = revising(alloc, "lib", 2, message.as_str())?;
+    tells(&rt, &mut gate, line.as_str(), BAD_DELIVERY)?;
     Ok(())
 }
 
@@ -73,9 +60,9 @@ fn a_message_of_16_384_bytes_is_taken(rt: HostRuntime) -> Result<(), Fail> {
 fn a_delivery_of_65_536_bytes_is_taken(rt: HostRuntime) -> Result<(), Fail> {
     let alloc = rt.alloc();
     let mut gate = new_gate(alloc)?;
-    let line = padded(first_revision(alloc, 1, "")?, 65_536)?;
-    tells(&rt, alloc, &mut gate, line.as_str(), RECORDED)?;
-    let line = padded(first_revision(alloc, 2, "")?, 65_537)?;
-    tells(&rt, alloc, &mut gate, line.as_str(), TOO_LARGE)?;
+    let line = padded(revising(alloc, "lib", 1, "")?, 65_536)?;
+    tells(&rt, &mut gate, line.as_str(), RECORDED)?;
+    let line = padded(revising(alloc, "lib", 2, "")?, 65_537)?;
+    tells(&rt, &mut gate, line.as_str(), TOO_LARGE)?;
     Ok(())
 }
