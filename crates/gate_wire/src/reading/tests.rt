@@ -414,11 +414,10 @@ fn a_path_name_has_at_most_64_bytes(rt: HostRuntime) -> Result<(), Fail> {
     let alloc = rt.alloc();
     for (count, is_read) in [(63, true), (64, true), (65, false)] {
         let name = String::from_utf8(vec![in alloc; b'a'; count]?).map_err(|_| "no text")?;
-        let text = format!(in alloc;
-            "{{\"id\":\"6ba7b8109dad11d180b400c04fd430c8\",\"kind\":\"take\",\"worker\":\"{name}\"}}"
-        )?;
-        let said = said(alloc, text.as_str().as_bytes(), Door::Worker)?;
-        assert_eq!(rt; said.as_str() != "E2", is_read, "{count}");
+        let members = format!(in alloc; "\"kind\":\"take\",\"worker\":\"{name}\"")?;
+        let whole = format!(in alloc; "{{{members}}}")?;
+        let wanted = if is_read { whole.as_str() } else { "E2" };
+        say_by(&rt, alloc, Door::Worker, &[(members.as_str(), wanted)])?;
     }
     Ok(())
 }
@@ -436,22 +435,31 @@ fn a_message_has_at_most_16384_bytes(rt: HostRuntime) -> Result<(), Fail> {
         ("é", false),
         ("\\u00e9", false),
     ] {
-        let text = format!(in alloc;
-            "{{\"id\":\"6ba7b8109dad11d180b400c04fd430c8\",\"kind\":\"revision\",\"change\":1,\"project\":\"a\",\"revision\":1,\"message\":\"{begin}{tail}\"}}"
+        let members = format!(in alloc;
+            "\"change\":1,\"kind\":\"revision\",\"message\":\"{begin}{tail}\",\"project\":\"a\",\"revision\":1"
         )?;
-        let said = said(alloc, text.as_str().as_bytes(), Door::Any)?;
-        assert_eq!(rt; said.as_str() != "E2", is_read, "{tail}");
+        let whole = format!(in alloc; "{{{members}}}")?;
+        let wanted = if is_read { whole.as_str() } else { "E2" };
+        say_by(&rt, alloc, Door::Any, &[(members.as_str(), wanted)])?;
     }
     Ok(())
 }
 
-/// The id's bytes, where a text is one.
-fn id_of(alloc: Global, text: &str) -> Result<Option<[u8; 16]>, AllocError> {
-    let line = format!(in alloc; "{{\"id\":\"{text}\",\"kind\":\"landed\",\"order\":1}}")?;
-    match read_delivery(alloc, line.as_str().as_bytes(), Door::Forge) {
-        Ok((id, _delivery)) => Ok(Some(id.0)),
-        Err(_) => Ok(None),
-    }
+/// A delivery under an id.
+fn landed(alloc: Global, id: &str) -> Result<String, AllocError> {
+    format!(in alloc; "{{\"id\":\"{id}\",\"kind\":\"landed\",\"order\":1}}")
+}
+
+/// The text is read as this id, and the delivery under it as it stands.
+fn has_id(rt: &(impl Abort + AllocGlobal), text: &str, bytes: [u8; 16]) -> Result<(), Fail> {
+    let line = landed(rt.alloc(), text)?;
+    let Ok((id, delivery)) = read_delivery(rt.alloc(), line.as_str().as_bytes(), Door::Forge) else {
+        return Err(Fail::from("refused"));
+    };
+    assert_eq!(rt; id.0, bytes, "{text}");
+    let said = canonical(rt.alloc(), &delivery)?;
+    assert_eq!(rt; said.as_str(), r#"{"kind":"landed","order":1}"#, "{text}");
+    Ok(())
 }
 
 #[test]
@@ -469,11 +477,9 @@ fn an_id_is_read_in_each_form(rt: HostRuntime) -> Result<(), Fail> {
         "urn:uuid:6ba7b810-9dad-11d1-80b4-00c04fd430c8",
         "URN:UUID:6BA7B810-9DAD-11D1-80B4-00C04FD430C8",
     ] {
-        assert_eq!(rt; id_of(rt.alloc(), form)?, Some(bytes), "{form}");
+        has_id(&rt, form, bytes)?;
     }
-    let nil = id_of(rt.alloc(), "00000000-0000-0000-0000-000000000000")?;
-    assert_eq!(rt; nil, Some([0; 16]));
-    Ok(())
+    has_id(&rt, "00000000-0000-0000-0000-000000000000", [0; 16])
 }
 
 #[test]
@@ -492,7 +498,8 @@ fn what_is_no_id_is_refused(rt: HostRuntime) -> Result<(), Fail> {
         " 6ba7b8109dad11d180b400c04fd430c8",
         "6ba7b810-9dad-11d1-80b4-00c04fd430c8\\n",
     ] {
-        assert_eq!(rt; id_of(rt.alloc(), form)?, None, "{form}");
+        let line = landed(rt.alloc(), form)?;
+        say(&rt, rt.alloc(), Door::Forge, &[(line.as_str(), "E2")])?;
     }
     Ok(())
 }
