@@ -1,4 +1,4 @@
-"""Writes N lines of deliveries: half revisions, half approvals, a tenth of all repeats."""
+"""Writes N lines of deliveries over so many changes: half revisions, half approvals, a tenth of all repeats."""
 import sys
 
 
@@ -26,8 +26,9 @@ def lines(count, changes):
 
 def main():
     count = int(sys.argv[1])
-    # few enough changes to stand in a queue, and enough that no revision is past 9,999
-    for text in lines(count, 500):
+    # 500 changes stand in a queue, and are enough that no revision is past 9,999
+    changes = int(sys.argv[2]) if len(sys.argv) > 2 else 500
+    for text in lines(count, changes):
         print(text)
 
 

@@ -1,5 +1,5 @@
 #!/bin/sh
-# Lines a second of `gated replay`, by default for 1,000, 10,000 and 100,000 lines.
+# Lines a second of `gated replay`, by default for 1,000, 10,000 and 100,000 lines over CHANGES changes, or 500.
 set -eu
 top=$(cd "$(dirname "$0")/.." && pwd)
 program=$top/crates/gated/out/gated
@@ -13,7 +13,7 @@ fi
 work=$(mktemp -d)
 trap 'rm -rf "$work"' EXIT
 for count; do
-    python3 "$top/bench/lines.py" "$count" >"$work/lines"
+    python3 "$top/bench/lines.py" "$count" "${CHANGES:-500}" >"$work/lines"
     python3 - "$program" "$settings" "$work/lines" "$count" <<'PYTHON'
 import subprocess
 import sys
