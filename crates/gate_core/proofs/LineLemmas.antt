@@ -18,11 +18,11 @@ gathered : (begun bytes : List ℕ) → HasNoEnd begun → whole_from begun byte
 gathered begun [] none = sym (ap pieces (append-nil begun) ∙ slice_split_none is_end begun none)
 gathered begun (b ∷ bs) none =
     let at_end : is_end b ≡ true → begun ∷ (whole_from [] bs ++ rest_from [] bs ∷ []) ≡ pieces (begun ++ b ∷ bs) =
-        λ e. ap (λ l. begun ∷ l) (gathered [] bs (All-nil _)) ∙ sym (slice_split_at is_end begun b bs none e) in
+    λ e. ap (λ l. begun ∷ l) (gathered [] bs (All-nil _)) ∙ sym (slice_split_at is_end begun b bs none e) in
     let within : is_end b ≡ false → whole_from (begun ++ b ∷ []) bs ++ rest_from (begun ++ b ∷ []) bs ∷ [] ≡ pieces (begun ++ b ∷ bs) =
-        λ e. gathered (begun ++ b ∷ []) bs (All-append (λ x. is_end x ≡ false) begun (b ∷ []) none (All-cons (λ x. is_end x ≡ false) b [] e (All-nil (λ x. is_end x ≡ false)))) ∙ ap pieces (append_assoc begun (b ∷ []) bs) in
+    λ e. gathered (begun ++ b ∷ []) bs (All-append (λ x. is_end x ≡ false) begun (b ∷ []) none (All-cons (λ x. is_end x ≡ false) b [] e (All-nil (λ x. is_end x ≡ false)))) ∙ ap pieces (append_assoc begun (b ∷ []) bs) in
     (elim (is_end b) as (λ t. is_end b ≡ t → cond t (begun ∷ whole_from [] bs) (whole_from (begun ++ b ∷ []) bs)
-        ++ cond t (rest_from [] bs) (rest_from (begun ++ b ∷ []) bs) ∷ [] ≡ pieces (begun ++ b ∷ bs)) [
+    ++ cond t (rest_from [] bs) (rest_from (begun ++ b ∷ []) bs) ∷ [] ≡ pieces (begun ++ b ∷ bs)) [
       | true ↦ at_end
       | false ↦ within
     ]) refl

@@ -13,35 +13,31 @@ use Rattle.gate_core.specs.Gathered.{whole_from, rest_from}
 use Rattle.gate_core.specs.Limit.{longest_read}
 use Rattle.gate_core.specs.Lines.{whole_lines, lines_of, ReadFor}
 use Rattle.gate_core.proofs.LineLemmas.{whole_gathered, lines_gathered, if_some, if_some_some}
-use Rattle.gate_core.specs.Runs.{Answers, Runs, Fed, Broke}
+use Rattle.gate_core.specs.Runs.{Replying, Answers, Runs, Fed, Broke}
 
--- what a responder says to lines
-abbrev pub Replies : Type 0 → Type 1
-Replies S = S → List ℕ → List ℕ → S → Type 0
-
-pub runs_append : {S : Type 0} (replies : Replies S) (s : S) (a b : List (List ℕ)) (t u : List ℕ) (m e : S) → Runs replies s a t m → Runs replies m b u e → Runs replies s (a ++ b) (t ++ u) e
+pub runs_append : {S : Type 0} (replies : Replying S) (s : S) (a b : List (List ℕ)) (t u : List ℕ) (m e : S) → Runs replies s a t m → Runs replies m b u e → Runs replies s (a ++ b) (t ++ u) e
 runs_append replies s [] b t u m e (et, em) h = subst (λ x. Runs replies x b (t ++ u) e) em (subst (λ x. Runs replies m b (x ++ u) e) (sym et) h)
 runs_append replies s (l ∷ ls) b t u m e (said, more, mid, ans, et, rest) h =
     (said, more ++ u, mid, ans, ap (λ x. x ++ u) et ∙ append_assoc (said ++ 10 ∷ []) more u, runs_append replies mid ls b more u m e rest h)
 
-pub fed_nil : {S : Type 0} (replies : Replies S) (s : S) (o : Option (List ℕ)) → Fed replies s [] s o o
+pub fed_nil : {S : Type 0} (replies : Replying S) (s : S) (o : Option (List ℕ)) → Fed replies s [] s o o
 fed_nil replies s o = record { text = []; ran = (refl, refl); written = Appends-nil o }
 
-pub fed_append : {S : Type 0} (replies : Replies S) (s m e : S) (a b : List (List ℕ)) (o p q : Option (List ℕ)) → Fed replies s a m o p → Fed replies m b e p q → Fed replies s (a ++ b) e o q
+pub fed_append : {S : Type 0} (replies : Replying S) (s m e : S) (a b : List (List ℕ)) (o p q : Option (List ℕ)) → Fed replies s a m o p → Fed replies m b e p q → Fed replies s (a ++ b) e o q
 fed_append replies s m e a b o p q f h = record {
   text = f.text ++ h.text;
   ran = runs_append replies s a b f.text h.text m e f.ran h.ran;
   written = Appends-trans o p q f.text h.text f.written h.written;
 }
 
-pub fed_one : {S : Type 0} (replies : Replies S) (s e : S) (line said : List ℕ) (o p : Option (List ℕ)) → Answers replies s line said e → Appends o p (said ++ 10 ∷ []) → Fed replies s (line ∷ []) e o p
+pub fed_one : {S : Type 0} (replies : Replying S) (s e : S) (line said : List ℕ) (o p : Option (List ℕ)) → Answers replies s line said e → Appends o p (said ++ 10 ∷ []) → Fed replies s (line ∷ []) e o p
 fed_one replies s e line said o p ans w = record {
   text = (said ++ 10 ∷ []) ++ [];
   ran = (said, [], e, ans, refl, (refl, refl));
   written = subst (Appends o p) (sym (append-nil (said ++ 10 ∷ []))) w;
 }
 
-pub broke_after : {S : Type 0} (replies : Replies S) (s m e : S) (a b : List (List ℕ)) (o p q : Option (List ℕ)) → Fed replies s a m o p → Broke replies m b e p q → Broke replies s (a ++ b) e o q
+pub broke_after : {S : Type 0} (replies : Replying S) (s m e : S) (a b : List (List ℕ)) (o p q : Option (List ℕ)) → Fed replies s a m o p → Broke replies m b e p q → Broke replies s (a ++ b) e o q
 broke_after replies s m e a b o p q f h = record {
   done = a ++ h.done;
   line = h.line;
@@ -57,7 +53,7 @@ broke_after replies s m e a b o p q f h = record {
   written = subst (Appends o q) (sym (append_assoc f.text h.text (take h.at (h.said ++ 10 ∷ [])))) (Appends-trans o p q f.text (h.text ++ take h.at (h.said ++ 10 ∷ [])) f.written h.written);
 }
 
-pub broke_one : {S : Type 0} (replies : Replies S) (s e : S) (line said : List ℕ) (more : List (List ℕ)) (o p : Option (List ℕ)) → Answers replies s line said e → WritesFront o p (said ++ 10 ∷ []) → Broke replies s (line ∷ more) e o p
+pub broke_one : {S : Type 0} (replies : Replying S) (s e : S) (line said : List ℕ) (more : List (List ℕ)) (o p : Option (List ℕ)) → Answers replies s line said e → WritesFront o p (said ++ 10 ∷ []) → Broke replies s (line ∷ more) e o p
 broke_one replies s e line said more o p ans (n, short, w) = record {
   done = [];
   line = line;
@@ -90,7 +86,7 @@ rest-append begun (b ∷ bs) ys = elim (nat_eq b 10) as (λ t. cond t (rest_from
     ]
 
 -- how far a chunk has been fed
-pub record SoFar {S : Type 0} (replies : Replies S) (s : S) (begun bytes left : List ℕ) (after : S) (old new : Option (List ℕ)) (line : Line) (first count : ℕ) : Type 0 where
+pub record SoFar {S : Type 0} (replies : Replying S) (s : S) (begun bytes left : List ℕ) (after : S) (old new : Option (List ℕ)) (line : Line) (first count : ℕ) : Type 0 where
   pub done : List (List ℕ)
   pub now : List ℕ
   pub whole : whole_from begun bytes ≡ done ++ whole_from now left
@@ -99,7 +95,7 @@ pub record SoFar {S : Type 0} (replies : Replies S) (s : S) (begun bytes left : 
   pub fed : Fed replies s done after old new
   pub counted : count ≡ u64_saturate (first + length done)
 
-pub so_far_byte : {S : Type 0} (replies : Replies S) (s : S) (begun bytes : List ℕ) (b : ℕ) (left : List ℕ) (after : S) (old new : Option (List ℕ)) (line next : Line) (first count : ℕ)
+pub so_far_byte : {S : Type 0} (replies : Replying S) (s : S) (begun bytes : List ℕ) (b : ℕ) (left : List ℕ) (after : S) (old new : Option (List ℕ)) (line next : Line) (first count : ℕ)
     → nat_eq b 10 ≡ false → ((now : List ℕ) → Holds line now → Holds next (now ++ b ∷ []))
     → SoFar replies s begun bytes (b ∷ left) after old new line first count → SoFar replies s begun bytes left after old new next first count
 so_far_byte replies s begun bytes b left after old new line next first count other push h = record {
@@ -112,7 +108,7 @@ so_far_byte replies s begun bytes b left after old new line next first count oth
   holds = push h.now h.holds;
 }
 
-pub so_far_line : {S : Type 0} (replies : Replies S) (s : S) (begun bytes : List ℕ) (b : ℕ) (left : List ℕ) (after last : S) (old new end : Option (List ℕ)) (line next : Line) (first count : ℕ)
+pub so_far_line : {S : Type 0} (replies : Replying S) (s : S) (begun bytes : List ℕ) (b : ℕ) (left : List ℕ) (after last : S) (old new end : Option (List ℕ)) (line next : Line) (first count : ℕ)
     → nat_eq b 10 ≡ true → ((now : List ℕ) → Holds line now → (said : List ℕ) × Answers replies after now said last × Appends new end (said ++ 10 ∷ [])) → Holds next []
     → SoFar replies s begun bytes (b ∷ left) after old new line first count → SoFar replies s begun bytes left last old end next first (u64_saturate (count + 1))
 so_far_line replies s begun bytes b left after last old new end line next first count lf says empty h =
@@ -126,7 +122,7 @@ so_far_line replies s begun bytes b left after last old new end line next first 
       counted = omega (arith, h.counted, length-append h.done (h.now ∷ []));
     }
 
-pub so_far_broke : {S : Type 0} (replies : Replies S) (s : S) (begun bytes : List ℕ) (b : ℕ) (left : List ℕ) (after last : S) (old new end : Option (List ℕ)) (line : Line) (first count : ℕ)
+pub so_far_broke : {S : Type 0} (replies : Replying S) (s : S) (begun bytes : List ℕ) (b : ℕ) (left : List ℕ) (after last : S) (old new end : Option (List ℕ)) (line : Line) (first count : ℕ)
     → nat_eq b 10 ≡ true → ((now : List ℕ) → Holds line now → (said : List ℕ) × Answers replies after now said last × WritesFront new end (said ++ 10 ∷ []))
     → SoFar replies s begun bytes (b ∷ left) after old new line first count → Broke replies s (whole_from begun bytes) last old end
 so_far_broke replies s begun bytes b left after last old new end line first count lf says h =
@@ -138,7 +134,7 @@ pub drop_next : (l : List ℕ) (i : ℕ) → i < length l → drop i l ≡ get_o
 drop_next l i h = rw add-one (drop-cons l i 0 h)
 
 -- the whole state of a replay between two reads
-pub record Between {S : Type 0} (replies : Replies S) (s : S) (left now : Option (List ℕ)) (after : S) (old new : Option (List ℕ)) (line : Line) (count : ℕ) : Type 0 where
+pub record Between {S : Type 0} (replies : Replying S) (s : S) (left now : Option (List ℕ)) (after : S) (old new : Option (List ℕ)) (line : Line) (count : ℕ) : Type 0 where
   pub front : List ℕ
   pub consumed : Consumes left now front
   pub fed : Fed replies s (whole_from [] front) after old new
@@ -146,11 +142,11 @@ pub record Between {S : Type 0} (replies : Replies S) (s : S) (left now : Option
   pub counted : count ≡ u64_saturate (length (whole_from [] front))
 
 -- what feeding a chunk says
-abbrev pub Feeds : {S : Type 0} → Replies S → S → List ℕ → S → Option (List ℕ) → Option (List ℕ) → Line → Line → ℕ → ℕ → Type 0
+abbrev pub Feeds : {S : Type 0} → Replying S → S → List ℕ → S → Option (List ℕ) → Option (List ℕ) → Line → Line → ℕ → ℕ → Type 0
 Feeds replies s chunk after old new line next count n = (begun : List ℕ) → Holds line begun →
     Fed replies s (whole_from begun chunk) after old new × Holds next (rest_from begun chunk) × (n ≡ u64_saturate (count + length (whole_from begun chunk)))
 
-pub between_fed : {S : Type 0} {replies : Replies S} {s m e : S} {a b d o p q : Option (List ℕ)} {line next : Line} {count n : ℕ} (chunk : List ℕ)
+pub between_fed : {S : Type 0} {replies : Replying S} {s m e : S} {a b d o p q : Option (List ℕ)} {line next : Line} {count n : ℕ} (chunk : List ℕ)
     → Between replies s a b m o p line count → Consumes b d chunk → Feeds replies m chunk e p q line next count n → Between replies s a d e o q next n
 between_fed {replies = replies} {s = s} {m = m} {e = e} {a = a} {b = b} {d = d} {o = o} {p = p} {q = q} {next = next} chunk h took feeds =
     let f = feeds (rest_from [] h.front) h.holds in
@@ -168,14 +164,14 @@ every_line_is front some =
     ap (λ l. whole_from [] front ++ l) (sym (if_some_some (rest_from [] front) some)) ∙ lines_gathered front
 
 -- what a cut answer leaves behind: the lines up to it ran, and no more was read than it took
-abbrev pub Stops : {S T : Type 0} → Replies S → S → (T → Option (List ℕ)) → Tap T → Tap T → S → Option (List ℕ) → Option (List ℕ) → Type 0
+abbrev pub Stops : {S T : Type 0} → Replying S → S → (T → Option (List ℕ)) → Tap T → Tap T → S → Option (List ℕ) → Option (List ℕ) → Type 0
 Stops replies s left r t e o q = (lines : List (List ℕ)) × (broke : Broke replies s lines e o q) × ReadFor left r t lines (length broke.done)
 
 -- what is read into a buffer is no longer than it
 pub one_read : (n : ℕ) (buf : List ℕ) → length buf ≡ longest_read → length (take n buf) ≤ longest_read
 one_read n buf size = omega (arith, length-take n buf)
 
-pub between_broke : {S T : Type 0} {replies : Replies S} {s m e : S} {left : T → Option (List ℕ)} {r t : Tap T} {b o p q : Option (List ℕ)} {line : Line} {count : ℕ} (chunk : List ℕ)
+pub between_broke : {S T : Type 0} {replies : Replying S} {s m e : S} {left : T → Option (List ℕ)} {r t : Tap T} {b o p q : Option (List ℕ)} {line : Line} {count : ℕ} (chunk : List ℕ)
     → Between replies s (left (inside r)) b m o p line count → Consumes b (left (inside t)) chunk → length chunk ≤ longest_read
     → ((begun : List ℕ) → Holds line begun → Broke replies m (whole_from begun chunk) e p q) → Stops replies s left r t e o q
 unfolding broke_after
@@ -196,7 +192,7 @@ between_broke {replies = replies} {s = s} {m = m} {e = e} {left = left} {r = r} 
     )
 
 -- at the end, where something is left
-pub last_broke : {S T : Type 0} {replies : Replies S} {s m e : S} {left : T → Option (List ℕ)} {r t : Tap T} {b o p q : Option (List ℕ)} {line : Line} {count : ℕ}
+pub last_broke : {S T : Type 0} {replies : Replying S} {s m e : S} {left : T → Option (List ℕ)} {r t : Tap T} {b o p q : Option (List ℕ)} {line : Line} {count : ℕ}
     → Between replies s (left (inside r)) b m o p line count → Consumes b (left (inside t)) [] → IsAtEnd (left (inside t)) → ((begun : List ℕ) → Holds line begun → begun ≡ [] → ⊥)
     → ((begun : List ℕ) → Holds line begun → (said : List ℕ) × Answers replies m begun said e × WritesFront p q (said ++ 10 ∷ []))
     → Stops replies s left r t e o q
@@ -217,10 +213,10 @@ last_broke {replies = replies} {s = s} {m = m} {e = e} {left = left} {r = r} {t 
       },
     )
 
-abbrev pub Done : {S : Type 0} → Replies S → S → Option (List ℕ) → Option (List ℕ) → S → Option (List ℕ) → Option (List ℕ) → ℕ → Type 0
+abbrev pub Done : {S : Type 0} → Replying S → S → Option (List ℕ) → Option (List ℕ) → S → Option (List ℕ) → Option (List ℕ) → ℕ → Type 0
 Done replies s a d e o q n = (input : List ℕ) × Consumes a d input × IsAtEnd d × Fed replies s (lines_of input) e o q × (n ≡ u64_saturate (length (lines_of input)))
 
-pub last_done : {S : Type 0} {replies : Replies S} {s m e : S} {a b o p q : Option (List ℕ)} (d : Option (List ℕ)) {line : Line} {count : ℕ}
+pub last_done : {S : Type 0} {replies : Replying S} {s m e : S} {a b o p q : Option (List ℕ)} (d : Option (List ℕ)) {line : Line} {count : ℕ}
     → Between replies s a b m o p line count → Consumes b d [] → IsAtEnd d → ((begun : List ℕ) → Holds line begun → begun ≡ [] → ⊥)
     → ((begun : List ℕ) → Holds line begun → (said : List ℕ) × Answers replies m begun said e × Appends p q (said ++ 10 ∷ []))
     → Done replies s a d e o q (u64_saturate (count + 1))
@@ -237,7 +233,7 @@ last_done {replies = replies} {s = s} {m = m} {e = e} {a = a} {b = b} {o = o} {p
       omega (arith, h.counted, ap length (sym every_line), length-append whole (rest ∷ [])),
     )
 
-pub none_done : {S : Type 0} {replies : Replies S} {s m : S} {a b o p : Option (List ℕ)} (d : Option (List ℕ)) {line : Line} {count : ℕ}
+pub none_done : {S : Type 0} {replies : Replying S} {s m : S} {a b o p : Option (List ℕ)} (d : Option (List ℕ)) {line : Line} {count : ℕ}
     → Between replies s a b m o p line count → Consumes b d [] → IsAtEnd d → ((begun : List ℕ) → Holds line begun → begun ≡ [])
     → Done replies s a d m o p count
 none_done {replies = replies} {s = s} {m = m} {a = a} {b = b} {o = o} {p = p} d h took end none =
@@ -251,11 +247,11 @@ none_done {replies = replies} {s = s} {m = m} {a = a} {b = b} {o = o} {p = p} d 
       h.counted ∙ ap (λ l. u64_saturate (length l)) every_line,
     )
 
-abbrev pub Unfinished : {S : Type 0} → Replies S → S → Option (List ℕ) → Option (List ℕ) → S → Option (List ℕ) → Option (List ℕ) → Type 0
+abbrev pub Unfinished : {S : Type 0} → Replying S → S → Option (List ℕ) → Option (List ℕ) → S → Option (List ℕ) → Option (List ℕ) → Type 0
 Unfinished replies s a d e o q = (front : List ℕ) × Consumes a d front × Fed replies s (whole_lines front) e o q
 
 -- at a read that fails
-pub between_failed : {S : Type 0} {replies : Replies S} {s m : S} {a b o p : Option (List ℕ)} (d : Option (List ℕ)) {line : Line} {count : ℕ}
+pub between_failed : {S : Type 0} {replies : Replying S} {s m : S} {a b o p : Option (List ℕ)} (d : Option (List ℕ)) {line : Line} {count : ℕ}
     → Between replies s a b m o p line count → Keeps b d → Unfinished replies s a d m o p
 between_failed {replies = replies} {s = s} {m = m} {a = a} {b = b} {o = o} {p = p} d h kept =
     (h.front, Consumes-kept a b d h.front h.consumed kept, subst (λ l. Fed replies s l m o p) (whole_gathered h.front) h.fed)

@@ -6,7 +6,8 @@ use Rattle.gate_core.specs.declared.line.Line.{Line}
 
 -- it has these bytes, or knows that they are too many
 pub record Holds (line : Line) (begun : List ℕ) : Type 0 where
-  pub state : ((line.long ≡ false) × (line.bytes.items ≡ begun)) ⊎ ((line.long ≡ true) × (line.bytes.items ≡ [] → ⊥) × (limit < length begun))
+  pub state : ((line.long ≡ false) × (line.bytes.items ≡ begun))
+      ⊎ ((line.long ≡ true) × (line.bytes.items ≡ [] → ⊥) × (limit < length begun))
 
 -- it is given, or known to be too long
 abbrev pub Shows : Option (Bor (List ℕ)) → List ℕ → Type 0

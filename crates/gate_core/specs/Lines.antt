@@ -26,7 +26,8 @@ abbrev pub AreLinesRead : {T : Type 0} → (T → Option (List ℕ)) → Tap T �
 AreLinesRead left tap read lines = (lines ≡ whole_lines read) ⊎ ((lines ≡ lines_of read) × IsReadOut left tap)
 
 -- a tap's reader gave these lines, and its last read was needed: line n, counted from 0, wasn't whole before
-pub record ReadFor {T : Type 0} (left : T → Option (List ℕ)) (old new : Tap T) (lines : List (List ℕ)) (n : ℕ) : Type 0 where
+pub record ReadFor {T : Type 0} (left : T → Option (List ℕ)) (old new : Tap T) (lines : List (List ℕ)) (n : ℕ)
+    : Type 0 where
   pub before : List ℕ
   pub chunk : List ℕ
   pub read : Gave left old new (before ++ chunk)
