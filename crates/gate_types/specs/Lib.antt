@@ -23,6 +23,7 @@ pub mod Once
 pub mod Acting
 pub mod Evidence
 pub mod Lawful
+pub mod Forms
 pub mod SettingsText
 pub mod Columns
 pub mod Rows
