@@ -1,0 +1,182 @@
+-- What an accepted delivery is answered is of its form.
+use Rattle.std.proofs.Common.{◌≡◌, ℕ, ◌+◌, ◌≤◌, Bool, true, false, not, ◌&&◌, ◌||◌, cond, Option, Some, None, List, [], ◌∷◌, fold, length, refl, sym, ap, ◌∙◌, subst, arith}
+use Rattle.std.specs.Prelude.{◌==◌, nat_lt, nat_le, find}
+use Rattle.std.specs.Option.{option_map_or}
+use Rattle.std.specs.List.{flat_map}
+use Rattle.std.proofs.lemmas.Bool.{and_parts, leb-true}
+use Rattle.gate_types.specs.declared.records.Build.{Build}
+use Rattle.gate_types.specs.declared.records.Change.{Change}
+use Rattle.gate_types.specs.declared.deliveries.Delivery.{Delivery}
+use Rattle.gate_types.specs.declared.deliveries.Delivery.TheVariants as delivery
+use Rattle.gate_types.specs.declared.deliveries.Refusal.TheVariants as refusal
+use Rattle.gate_types.specs.declared.deliveries.Reply.{Reply}
+use Rattle.gate_types.specs.declared.deliveries.Reply.TheVariants as reply
+use Rattle.gate_types.specs.Names.{same_name}
+use Rattle.gate_types.specs.Needs.{needs}
+use Rattle.gate_types.specs.Counters.{Drawn}
+use Rattle.gate_types.specs.Settings.{Settings, are_sound}
+use Rattle.gate_types.specs.State.{Item, Queue, Ready, State, known_change, is_open, is_landed, is_queued, is_ready}
+use Rattle.gate_types.specs.Slot.{is_running}
+use Rattle.gate_types.specs.Rebase.{rebase}
+use Rattle.gate_types.specs.Sweep.{sweep}
+use Rattle.gate_types.specs.Admit.{may_enter, entered, admit_one}
+use Rattle.gate_types.specs.Settle.{settle}
+use Rattle.gate_types.specs.SubmitOrder.{Order, shown_order, is_submitting}
+use Rattle.gate_types.specs.Choice.{choose}
+use Rattle.gate_types.specs.Step.{Stepped, accepted, refused, on_known, has_project, is_known_and, approval_reply, made_ready, with_landing, build_of, raw_step, step, settled_step, is_exhausted}
+use Rattle.gate_types.specs.Lawful.{IsSound, IsLawful}
+use Rattle.gate_types.specs.Forms.{is_item_in_form, is_queue_in_form, is_drawn_number, is_reply_in_form, are_settings_in_form, are_counters_in_form, IsInForm}
+use Rattle.gate_laws.specs.InForm.{ReplyIsInForm}
+use Rattle.gate_laws.proofs.Members.{In, every, all_from, from_flat, found}
+use Rattle.gate_laws.proofs.OrderFacts.{shows}
+use Rattle.gate_laws.proofs.AfterLanding.{Submitted, is_after, after_landing, here_after, landed_here}
+use Rattle.gate_laws.proofs.SettledIsAtRest.{settled_is_at_rest}
+use Rattle.gate_laws.proofs.RunIsLawful.{raw_step_is_sound}
+use Rattle.gate_laws.proofs.Chosen.{chosen}
+use Rattle.gate_laws.proofs.Shapes.{BuildShape, Shaped, shaped_from, up_to, build_to}
+use Rattle.gate_laws.proofs.FewRows.{few_landings, item_drawn, tops}
+use Rattle.gate_laws.proofs.ChosenShape.{chosen_shape}
+use Rattle.gate_laws.proofs.LandedShape.{landings_long, after_shaped}
+use Rattle.gate_laws.proofs.StepIsInForm.{step_is_in_form}
+
+-- ---- what is said of a reply before settling
+
+-- the serial of an item once it is settled, the place of a landing, a build under the last number drawn
+abbrev RawReply : Settings → Reply → State → Type 0
+RawReply c (reply.Queued n) u = (q : Queue) × In q (settle c u).queues × (i : Item) × In i q.items × (i.serial ≡ n)
+RawReply c (reply.Landed n) u = (1 ≤ n) × (n ≤ 1000000000000000)
+RawReply c (reply.Build b) u = BuildShape c b × (b.serial ≤ 1000000000000000) × (b.number ≡ u.counters.build)
+RawReply c _ u = Unit {0}
+
+-- of the reply and the state that a delivery is accepted with, if it is
+abbrev OnReply : (Reply → State → Type 0) → Stepped → Type 0
+OnReply P (accepted r t) = P r t
+OnReply P (refused r) = Unit {0}
+
+on_reply : (P : Reply → State → Type 0) (x : Stepped) → OnReply P x → (r : Reply) (t : State) → x ≡ accepted r t → P r t
+on_reply P x h r t e = subst (OnReply P) e h
+
+on_test : (P : Reply → State → Type 0) (b : Bool) (x y : Stepped) → OnReply P x → OnReply P y → OnReply P (cond b x y)
+on_test P true x y h k = h
+on_test P false x y h k = k
+
+on_some : {X : Type 0} (P : Reply → State → Type 0) (o : Option X) (f : X → Stepped) (none : Stepped) → ((x : X) → o ≡ Some x → OnReply P (f x)) → OnReply P none → OnReply P (option_map_or f o none)
+on_some P None f none h k = k
+on_some P (Some x) f none h k = h x refl
+
+on_change : (P : Reply → State → Type 0) (s : State) (n r : ℕ) (f : Change → Stepped) → ((k : Change) → OnReply P (f k)) → OnReply P (on_known s n r f)
+on_change P s n r f h =
+    on_some P (known_change s n) (λ k. cond (nat_lt k.revision r) (refused refusal.UnknownRevision) (f k)) (refused refusal.UnknownChange)
+    (λ k e. on_test P (nat_lt k.revision r) (refused refusal.UnknownRevision) (f k) tt (h k)) tt
+
+-- ---- kind by kind
+
+-- a change that waits, or stands in a queue
+approval_replied : (c : Settings) (n : ℕ) (u : State) → RawReply c (approval_reply n (settle c u)) u
+approval_replied c n u = by_item (find (λ i. i.change == n) (flat_map (λ q. q.items) (settle c u).queues)) refl
+  where
+    by_item : (o : Option Item) → find (λ i. i.change == n) (flat_map (λ q. q.items) (settle c u).queues) ≡ o → RawReply c (option_map_or (λ i. reply.Queued i.serial) o reply.Waiting) u
+    by_item None e = tt
+    by_item (Some i) e =
+        let is = found (λ i. i.change == n) (flat_map (λ q. q.items) (settle c u).queues) i e in
+        let x = from_flat (λ (q : Queue). q.items) (settle c u).queues i is.0 in
+        (x.0, x.1, i, x.2, refl)
+
+closed_replied : (c : Settings) (u : State) (b : Bool) → RawReply c (cond b reply.Removed reply.Recorded) u
+closed_replied c u true = tt
+closed_replied c u false = tt
+
+-- an order that is shown lands
+landed_is : (c : Settings) (s : State) (number : ℕ) (o : Order) → shown_order c s number ≡ Some o → raw_step c s (delivery.Landed number) ≡ accepted (reply.Landed (length o.queue.landings + 1)) (with_landing (length o.queue.landings + 1) o s)
+landed_is c s number o e = ap (λ (x : Option Order). option_map_or (λ (y : Order). accepted (reply.Landed (length y.queue.landings + 1)) (with_landing (length y.queue.landings + 1) y s)) x (refused refusal.NoOrder)) e
+
+each_replied : (c : Settings) (s : State) → are_sound c ≡ true → are_settings_in_form c ≡ true → IsLawful c s → Shaped c s → (d : Delivery) → OnReply (RawReply c) (raw_step c s d)
+each_replied c s w f h k (delivery.Revision n name r message) =
+    on_test (RawReply c) (not (has_project c name)) _ _ tt (
+    on_test (RawReply c) (is_known_and s n (λ k. not (same_name k.project name))) _ _ tt (
+    on_test (RawReply c) (is_known_and s n (λ k. nat_le r k.revision || is_landed k)) _ _ tt (
+    on_test (RawReply c) (is_submitting c s n) _ _ tt (
+    on_test (RawReply c) (nat_lt 32 (length (needs c.base message))) _ _ tt tt))))
+each_replied c s w f h k (delivery.Approved n r) = on_change (RawReply c) s n r _ (λ k.
+    on_test (RawReply c) (nat_lt r k.revision || not (is_open k)) _ _ tt (
+    on_test (RawReply c) (is_ready s n || is_queued s n) _ _ tt (approval_replied c n (made_ready n s))))
+each_replied c s w f h k (delivery.Withdrawn n r) = on_change (RawReply c) s n r _ (λ k.
+    on_test (RawReply c) (nat_lt r k.revision) _ _ tt (
+    on_test (RawReply c) (is_submitting c s n) _ _ tt (
+    on_test (RawReply c) (is_queued s n) _ _ tt (
+    on_test (RawReply c) (is_ready s n) _ _ tt tt))))
+each_replied c s w f h k (delivery.Closed n r) = on_change (RawReply c) s n r _ (λ k.
+    on_test (RawReply c) (nat_lt r k.revision || not (is_open k)) _ _ tt (
+    on_test (RawReply c) (is_submitting c s n) _ _ tt (closed_replied c _ (is_queued s n))))
+each_replied c s w f h k (delivery.Landed number) = on_some (RawReply c) (shown_order c s number) _ _ (λ o e.
+    let n = length o.queue.landings + 1 in
+    let submitted : Submitted c s o = record { settings = w; sound = h.sound; shows = shows c s number o e; needs = settled_is_at_rest.needs_before c s h.settled } in
+    let u = after_landing n o s in
+    let sound = subst (IsSound c) (is_after n o s) (raw_step_is_sound c s (delivery.Landed number) (reply.Landed n) (with_landing n o s) w h (landed_is c s number o e)) in
+    let few = few_landings c u sound (after_shaped c s o submitted k) (landed_here n o o.queue) (here_after c s o n submitted) in
+    let long = landings_long o.queue.landings (record { serial = o.item.serial; change = o.item.change; revision = o.item.revision }) in
+    let order = (tops s h.not_exhausted).order in
+    (omega arith, omega (arith, few, long, order))) tt
+each_replied c s w f h k (delivery.Refused number) = on_some (RawReply c) (shown_order c s number) _ _ (λ o e. tt) tt
+each_replied c s w f h k (delivery.Take worker) = on_some (RawReply c) (choose c s) _ _ (λ b e.
+    let t = tops s h.not_exhausted in
+    let x = chosen c s b e in
+    let drawn = item_drawn c s h.sound x.queue x.there x.item x.item_in in
+    let serial : b.serial ≡ x.item.serial = ap (λ (y : Build). y.serial) (sym x.same) ∙ ap (λ p. p.item.serial) (sym x.is_place) in
+    let order = t.order in
+    (chosen_shape c s f h.sound t k b e, omega (arith, drawn, serial, order), refl)) tt
+each_replied c s w f h k (delivery.Result n e) = on_some (RawReply c) (build_of s n) _ _ (λ b g. on_test (RawReply c) (b.live && is_running b.outcome) _ _ tt tt) tt
+
+-- ---- the law
+
+-- admission draws no number of a build
+build_drawn_one : (c : Settings) (s : State) → (admit_one c s).counters.build ≡ s.counters.build
+build_drawn_one c s = by_found (find (may_enter c s) s.ready)
+  where
+    by_found : (o : Option Ready) → (option_map_or (entered c s) o s).counters.build ≡ s.counters.build
+    by_found None = refl
+    by_found (Some r) = refl
+
+builds_as_drawn : (c : Settings) (s : State) (rs : List Ready) → (fold (λ t _. admit_one c t) s rs).counters.build ≡ s.counters.build
+builds_as_drawn c s [] = refl
+builds_as_drawn c s (r ∷ rs) = builds_as_drawn c (admit_one c s) rs ∙ build_drawn_one c s
+
+settled_builds : (c : Settings) (u : State) → (settle c u).counters.build ≡ u.counters.build
+settled_builds c u = let t = sweep c (rebase c u) in builds_as_drawn c t t.ready
+
+build_top : (d : Drawn) → are_counters_in_form d ≡ true → d.build ≤ 1000000000000000
+build_top d f =
+    let last = and_parts (nat_le d.approval 1000000000000000 && nat_le d.build 1000000000000000) (nat_le d.order 1000000000000000) f in
+    leb-true d.build 1000000000000000 (and_parts (nat_le d.approval 1000000000000000) (nat_le d.build 1000000000000000) last.0).1
+
+-- the reply, by what the settled state keeps to
+from_raw : (c : Settings) (u : State) (r : Reply) → RawReply c r u → IsInForm c (settle c u) → is_reply_in_form c r ≡ true
+from_raw c u reply.Recorded h f = refl
+from_raw c u reply.Stale h f = refl
+from_raw c u reply.Waiting h f = refl
+from_raw c u reply.Already h f = refl
+from_raw c u reply.Removed h f = refl
+from_raw c u reply.Noted h f = refl
+from_raw c u (reply.Queued n) h f =
+    let p5 = and_parts _ _ (every (λ q. is_queue_in_form q ≡ true) (settle c u).queues f.queues h.0 h.1) in
+    let p4 = and_parts _ _ p5.0 in
+    let items = and_parts _ _ p4.0 in
+    let p2 = and_parts _ _ (all_from is_item_in_form h.0.items items.1 h.2 h.3) in
+    let serial = and_parts _ _ p2.0 in
+    subst (λ m. is_drawn_number m ≡ true) h.4 serial.0
+from_raw c u (reply.Landed n) h f = up_to 1000000000000000 n h.0 h.1
+from_raw c u (reply.Build b) h f =
+    let top = build_top (settle c u).counters f.counters in
+    let same = settled_builds c u in
+    let number = h.2 in
+    build_to c b (omega (arith, top, same, number)) h.1 h.0
+
+replied : (c : Settings) (x : Stepped) → OnReply (RawReply c) x → OnReply (λ r t. IsInForm c t → is_reply_in_form c r ≡ true) (settled_step c x)
+replied c (accepted said u) h =
+    on_test (λ r t. IsInForm c t → is_reply_in_form c r ≡ true) (is_exhausted (settle c u)) (refused refusal.Exhausted) (accepted said (settle c u)) tt (from_raw c u said h)
+replied c (refused r) h = tt
+
+pub reply_is_in_form : ReplyIsInForm
+reply_is_in_form c s d r t w f h k v e =
+    on_reply (λ q u. IsInForm c u → is_reply_in_form c q ≡ true) (step c s d) (replied c (raw_step c s d) (each_replied c s w f h (shaped_from c s k) d)) r t e
+    (step_is_in_form c s d r t w f h k v e)
