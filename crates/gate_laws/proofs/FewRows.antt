@@ -1,7 +1,7 @@
 -- Each report, landing, build, ready change has a number of its own among those drawn, so there are at most so many.
-use Rattle.std.proofs.Common.{◌≡◌, ℕ, ◌+◌, ◌≤◌, ◌<◌, true, false, Option, Some, None, List, [], ◌∷◌, map, length, sym, ap, ◌∙◌, subst, inl, inr, arith}
+use Rattle.std.proofs.Common.{◌≡◌, ℕ, ◌+◌, ◌≤◌, ◌<◌, true, false, Option, Some, None, List, [], ◌∷◌, map, length, ap, ◌∙◌, subst, inl, inr, arith}
 use Rattle.std.specs.Prelude.{nat_le, nat_eq, filter_map, max}
-use Rattle.std.specs.List.{flat_map, list_any, cons_option}
+use Rattle.std.specs.List.{flat_map, list_any, cons_option, enumerate_from}
 use Rattle.std.specs.List.Sorted.{IsStrictlyIncreasing}
 use Rattle.std.proofs.lemmas.Bool.{and_parts, eq-eqb, eqb-true, leb-true, ltb-false}
 use Rattle.std.proofs.lemmas.Bool.Decides.{eqb_tells}
@@ -12,18 +12,18 @@ use Rattle.gate_types.specs.declared.records.Build.{Build}
 use Rattle.gate_types.specs.declared.records.Change.{Change}
 use Rattle.gate_types.specs.declared.records.Landing.{Landing}
 use Rattle.gate_types.specs.declared.records.Report.{Report}
-use Rattle.gate_types.specs.declared.records.Verdict.{Verdict}
-use Rattle.gate_types.specs.declared.records.Verdict.TheVariants as verdict
 use Rattle.gate_types.specs.Settings.{Settings}
 use Rattle.gate_types.specs.State.{Item, Queue, Ready, State}
 use Rattle.gate_types.specs.Step.{is_exhausted}
-use Rattle.gate_types.specs.Lawful.{IsSound, serials_of, drawn_serials, landing_of}
+use Rattle.gate_types.specs.Lawful.{IsSound, serials_of, drawn_serials, landing_of, TellsLandings}
 use Rattle.gate_types.specs.Forms.{is_change_number, is_change_in_form}
 use Rattle.gate_laws.specs.InForm.{RowsAreFew}
-use Rattle.gate_laws.proofs.Members.{In, every, all, any_from, from_map, to_map, to_left, to_right, to_flat, from_filter_map}
+use Rattle.gate_laws.proofs.Members.{In, every, all, any_from, from_map, to_map, to_left, to_right, to_flat}
 use Rattle.gate_laws.proofs.Counts.{times, hits, misses, times-append, times_out, distinct_from, distinct_to}
 use Rattle.gate_laws.proofs.Rising.{Rising, rising}
 use Rattle.gate_laws.proofs.Alone.{item_serials, report_serials}
+use Rattle.gate_laws.proofs.Told.{length-told}
+use Rattle.gate_laws.proofs.Serials.{landing_report}
 use Rattle.gate_laws.proofs.Shapes.{Shaped, shaped_from, least, most}
 use Rattle.gate_laws.proofs.RowShapes.{map_long}
 
@@ -80,32 +80,10 @@ item_drawn c s h q mq i mi = drawn c s h i.serial (of_queue s q mq i.serial (to_
 pub report_drawn : (c : Settings) (s : State) → IsSound c s → (q : Queue) → In q s.queues → (r : Report) → In r q.reports → r.serial ≤ s.counters.order
 report_drawn c s h q mq r mr = drawn c s h r.serial (of_queue s q mq r.serial (to_right (item_serials q) (report_serials q) r.serial (to_map (λ (j : Report). j.serial) q.reports r mr)))
 
--- a landing has its report's serial
-landing_serial : (r : Report) (l : Landing) → landing_of r ≡ Some l → r.serial ≡ l.serial
-landing_serial r l e = by_verdict r.verdict e
-  where
-    none_some : (z : Landing) → None ≡ Some z → ⊥
-    none_some z q = cc
-
-    by_verdict : (v : Verdict) → landing_of (record r { verdict = v }) ≡ Some l → r.serial ≡ l.serial
-    by_verdict (verdict.Landed n) k =
-        let x : Landing = record { serial = r.serial; change = r.change; revision = r.revision } in
-        let same : x ≡ l = cc in
-        ap (λ (y : Landing). y.serial) same
-    by_verdict verdict.Failed k = absurd (none_some l k)
-    by_verdict verdict.Refused k = absurd (none_some l k)
-    by_verdict verdict.Needs k = absurd (none_some l k)
-    by_verdict verdict.Superseded k = absurd (none_some l k)
-    by_verdict verdict.Withdrawn k = absurd (none_some l k)
-    by_verdict verdict.Closed k = absurd (none_some l k)
-
-told_landings : (c : Settings) (s : State) → IsSound c s → (q : Queue) → In q s.queues → filter_map landing_of q.reports ≡ q.landings
-told_landings c s h q mq = every (λ (q : Queue). filter_map landing_of q.reports ≡ q.landings) s.queues h.reports_tell_landings q mq
-
 pub landing_drawn : (c : Settings) (s : State) → IsSound c s → (q : Queue) → In q s.queues → (l : Landing) → In l q.landings → l.serial ≤ s.counters.order
 landing_drawn c s h q mq l ml =
-    let x = from_filter_map landing_of q.reports l (subst (In l) (sym (told_landings c s h q mq)) ml) in
-    subst (λ n. n ≤ s.counters.order) (landing_serial x.0 l x.2) (report_drawn c s h q mq x.0 x.1)
+    let x = landing_report c s h q mq l ml in
+    subst (λ n. n ≤ s.counters.order) x.2 (report_drawn c s h q mq x.0 x.1)
 
 pub build_drawn : (c : Settings) (s : State) → IsSound c s → (b : Build) → In b s.builds → b.serial ≤ s.counters.order
 build_drawn c s h b m = drawn c s h b.serial (to_right (flat_map serials_of s.queues) (map (λ b. b.serial) s.builds) b.serial (to_map (λ (b : Build). b.serial) s.builds b m))
@@ -143,8 +121,10 @@ pub few_landings : (c : Settings) (s : State) → IsSound c s → Shaped c s →
 few_landings c s h k q mq =
     let reports = few_reports c s h k q mq in
     let less = filter_map_short landing_of q.reports in
-    let same : length (filter_map landing_of q.reports) ≡ length q.landings = ap length (told_landings c s h q mq) in
-    omega (arith, reports, less, same)
+    let same : length (filter_map landing_of q.reports) ≡ length (enumerate_from 1 q.landings) =
+    ap length (every TellsLandings s.queues h.reports_tell_landings q mq) in
+    let long = length-told 1 q.landings in
+    omega (arith, reports, less, same, long)
 
 -- ---- the tops
 

@@ -5,4 +5,3 @@ pub mod Orders
 pub mod Runs
 pub mod Landings
 pub mod InForm
-pub mod Reports
