@@ -18,19 +18,21 @@ StartIsInForm = (c : Settings) → are_sound c ≡ true → are_settings_in_form
 
 -- an accepted delivery in form leaves a lawful state in form
 abbrev pub StepIsInForm : Type 0
-StepIsInForm = (c : Settings) (s : State) (d : Delivery) (r : Reply) (t : State) → are_sound c ≡ true → are_settings_in_form c ≡ true →
-    IsLawful c s → IsInForm c s → is_delivery_in_form d ≡ true → step c s d ≡ accepted r t → IsInForm c t
+StepIsInForm = (c : Settings) (s : State) (d : Delivery) (r : Reply) (t : State) →
+    are_sound c ≡ true → are_settings_in_form c ≡ true → IsLawful c s → IsInForm c s → is_delivery_in_form d ≡ true →
+    step c s d ≡ accepted r t → IsInForm c t
 
 -- so is its reply
 abbrev pub ReplyIsInForm : Type 0
-ReplyIsInForm = (c : Settings) (s : State) (d : Delivery) (r : Reply) (t : State) → are_sound c ≡ true → are_settings_in_form c ≡ true →
-    IsLawful c s → IsInForm c s → is_delivery_in_form d ≡ true → step c s d ≡ accepted r t → is_reply_in_form c r ≡ true
+ReplyIsInForm = (c : Settings) (s : State) (d : Delivery) (r : Reply) (t : State) →
+    are_sound c ≡ true → are_settings_in_form c ≡ true → IsLawful c s → IsInForm c s → is_delivery_in_form d ≡ true →
+    step c s d ≡ accepted r t → is_reply_in_form c r ≡ true
 
 -- a sound state in form has few rows
 abbrev pub RowsAreFew : Type 0
 RowsAreFew = (c : Settings) (s : State) → IsSound c s → IsInForm c s → HasFewRows s
 
--- the text of what a build in form ran on ahead of its change
+-- the text of what was ahead of a build in form is short
 abbrev pub AheadIsShort : Type 0
 AheadIsShort = (c : Settings) (b : Build) → is_build_in_form c b ≡ true → length (array (map entry b.ahead) []) ≤ 40000
 
@@ -40,9 +42,12 @@ EmptyIsInForm = (c : Settings) → are_sound c ≡ true → are_settings_in_form
 
 -- a call in form leaves it so
 abbrev pub NextContentIsInForm : Type 0
-NextContentIsInForm = (c : Settings) (x : Content) (k : Call) → are_sound c ≡ true → are_settings_in_form c ≡ true →
-    IsLawful c x.state → IsContentInForm c x → is_call_in_form k ≡ true → IsContentInForm c (next_content c x k)
+NextContentIsInForm = (c : Settings) (x : Content) (k : Call) →
+    are_sound c ≡ true → are_settings_in_form c ≡ true → IsLawful c x.state → IsContentInForm c x →
+    is_call_in_form k ≡ true → IsContentInForm c (next_content c x k)
 
 -- so does any list of calls from the empty gate
 abbrev pub RunIsInForm : Type 0
-RunIsInForm = (c : Settings) (calls : List Call) → are_sound c ≡ true → are_settings_in_form c ≡ true → AllPass is_call_in_form calls → IsContentInForm c (once c (empty c) calls)
+RunIsInForm = (c : Settings) (calls : List Call) →
+    are_sound c ≡ true → are_settings_in_form c ≡ true → AllPass is_call_in_form calls →
+    IsContentInForm c (once c (empty c) calls)

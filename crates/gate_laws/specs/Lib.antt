@@ -1,7 +1,7 @@
 pub mod Rest
 pub mod Settling
-pub mod Touch
-pub mod Orders
 pub mod Runs
 pub mod Landings
+pub mod Orders
+pub mod Touch
 pub mod InForm
