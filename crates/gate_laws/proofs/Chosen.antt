@@ -1,5 +1,5 @@
 -- What a chosen build is for.
-use Rattle.std.proofs.Common.{◌≡◌, ℕ, ◌+◌, Bool, true, false, cond, Some, List, [], map, filter, take, refl}
+use Rattle.std.proofs.Common.{◌≡◌, ℕ, ◌+◌, Bool, true, false, cond, Some, List, [], map, filter, take, refl, sym, ap}
 use Rattle.std.specs.Prelude.{◌==◌, Contains}
 use Rattle.std.specs.List.{flat_map}
 use Rattle.std.proofs.lemmas.List.Elements.{All-take, All-contains, All-contains_itself}
@@ -14,6 +14,7 @@ use Rattle.gate_types.specs.Window.{within_window}
 use Rattle.gate_types.specs.Choice.{build_for, builds_for, choices, choose}
 use Rattle.gate_laws.proofs.Members.{In, from_map, from_filter, from_flat, contains_in, in_contains, got}
 use Rattle.gate_laws.proofs.Places.{item_of_place}
+use Rattle.gate_types.specs.declared.records.Outcome.TheVariants as outcome
 
 -- a build for a waiting job of an item that isn't blocked
 pub record Chosen (c : Settings) (s : State) (b : Build) : Type 0 where
@@ -71,3 +72,6 @@ chosen c s b h =
         let x = from_map (build_for (s.counters.build + 1) q p) (filter (λ j. is_waiting_slot (slot_of s.builds p j)) p.jobs) b m in
         let y = from_filter (λ j. is_waiting_slot (slot_of s.builds p j)) p.jobs x.0 x.1 in
         (x.0, y.0, u, y.1, x.2)
+
+pub chosen_runs : (c : Settings) (s : State) (b : Build) → Chosen c s b → b.outcome ≡ outcome.Running
+chosen_runs c s b h = ap (λ (x : Build). x.outcome) (sym h.same)

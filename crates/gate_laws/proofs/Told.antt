@@ -18,9 +18,9 @@ use Rattle.gate_laws.proofs.Members.{In}
 -- ---- reports that tell of no landing
 
 -- put last, they change nothing of what is told
-pub none_told : (old new : List Report) → filter_map landing_of new ≡ [] →
+pub unlanded_told : (old new : List Report) → filter_map landing_of new ≡ [] →
     filter_map landing_of (old ++ new) ≡ filter_map landing_of old
-none_told old new none =
+unlanded_told old new none =
     filter_map-append landing_of old new ∙ ap (λ l. filter_map landing_of old ++ l) none ∙ append-nil (filter_map landing_of old)
 
 -- a verdict of no landing
@@ -28,21 +28,21 @@ abbrev pub TellsNoLanding : Verdict → Type 0
 TellsNoLanding v = (i : Item) → landing_of (report_of v i) ≡ None
 
 -- the reports of items that leave under one
-pub none_left : (v : Verdict) → TellsNoLanding v → (is : List Item) → filter_map landing_of (map (report_of v) is) ≡ []
-none_left v h [] = refl
-none_left v h (i ∷ is) = ap (λ o. cons_option o (filter_map landing_of (map (report_of v) is))) (h i) ∙ none_left v h is
+pub unlanded_left : (v : Verdict) → TellsNoLanding v → (is : List Item) → filter_map landing_of (map (report_of v) is) ≡ []
+unlanded_left v h [] = refl
+unlanded_left v h (i ∷ is) = ap (λ o. cons_option o (filter_map landing_of (map (report_of v) is))) (h i) ∙ unlanded_left v h is
 
 -- the report on an item that a sweep takes
 abbrev pub report_on : Judged → Option Report
 report_on j = option_map (λ v. report_of v j.item) j.verdict
 
 -- the reports of a sweep
-pub none_swept : (bs : List Build) (staying : List Item) (ps : List Place) →
+pub unlanded_swept : (bs : List Build) (staying : List Item) (ps : List Place) →
     filter_map landing_of (filter_map report_on (judged_after bs staying ps)) ≡ []
-none_swept bs staying [] = refl
-none_swept bs staying (p ∷ ps) =
+unlanded_swept bs staying [] = refl
+unlanded_swept bs staying (p ∷ ps) =
     let next = next_staying staying (judge bs staying p) in
-    by_tests (not (are_met_by staying p.needs)) (has_failed bs p) (judged_after bs next ps) (none_swept bs next ps)
+    by_tests (not (are_met_by staying p.needs)) (has_failed bs p) (judged_after bs next ps) (unlanded_swept bs next ps)
   where
     by_tests : (a b : Bool) (js : List Judged) → filter_map landing_of (filter_map report_on js) ≡ [] →
         (let v = cond a (Some verdict.Needs) (cond b (Some verdict.Failed) None) in
