@@ -12,9 +12,9 @@ use Rattle.gate_types.specs.Slot.{is_blocked, slot_of, is_waiting_slot}
 use Rattle.gate_types.specs.Standing.{with_ahead, place_of, places}
 use Rattle.gate_types.specs.Window.{within_window}
 use Rattle.gate_types.specs.Choice.{build_for, builds_for, choices, choose}
+use Rattle.gate_types.specs.declared.records.Outcome.TheVariants as outcome
 use Rattle.gate_laws.proofs.Members.{In, from_map, from_filter, from_flat, contains_in, in_contains, got}
 use Rattle.gate_laws.proofs.Places.{item_of_place}
-use Rattle.gate_types.specs.declared.records.Outcome.TheVariants as outcome
 
 -- a build for a waiting job of an item that isn't blocked
 pub record Chosen (c : Settings) (s : State) (b : Build) : Type 0 where
@@ -33,7 +33,9 @@ pub record Chosen (c : Settings) (s : State) (b : Build) : Type 0 where
   pub same : build_for (s.counters.build + 1) queue place job ≡ b
 
 in_take : {X : Type 0} (n : ℕ) (xs : List X) (x : X) → In x (take n xs) → In x xs
-in_take n xs x m = contains_in xs x (All-contains (Contains xs) (take n xs) x (All-take (Contains xs) n xs (All-contains_itself xs)) (in_contains (take n xs) x m))
+in_take n xs x m = contains_in xs x
+    (All-contains (Contains xs) (take n xs) x (All-take (Contains xs) n xs (All-contains_itself xs))
+    (in_contains (take n xs) x m))
 
 in_window : (q : Queue) (ps : List Place) (p : Place) → In p (within_window q.window ps) → In p ps
 in_window q ps p m = by_window (q.window == 0) m
@@ -65,11 +67,15 @@ chosen c s b h =
       same = z.4;
     }
   where
-    by_blocked : (q : Queue) (p : Place) (t : Bool) → is_blocked p ≡ t → In b (cond t [] (map (build_for (s.counters.build + 1) q p) (filter (λ j. is_waiting_slot (slot_of s.builds p j)) p.jobs))) →
-        (j : Job) × In j p.jobs × (is_blocked p ≡ false) × (is_waiting_slot (slot_of s.builds p j) ≡ true) × (build_for (s.counters.build + 1) q p j ≡ b)
+    by_blocked : (q : Queue) (p : Place) (t : Bool) → is_blocked p ≡ t →
+        In b (cond t [] (map (build_for (s.counters.build + 1) q p)
+        (filter (λ j. is_waiting_slot (slot_of s.builds p j)) p.jobs))) →
+        (j : Job) × In j p.jobs × (is_blocked p ≡ false) × (is_waiting_slot (slot_of s.builds p j) ≡ true) × (build_for
+        (s.counters.build + 1) q p j ≡ b)
     by_blocked q p true u m = absurd m
     by_blocked q p false u m =
-        let x = from_map (build_for (s.counters.build + 1) q p) (filter (λ j. is_waiting_slot (slot_of s.builds p j)) p.jobs) b m in
+        let x = from_map (build_for (s.counters.build + 1) q p)
+        (filter (λ j. is_waiting_slot (slot_of s.builds p j)) p.jobs) b m in
         let y = from_filter (λ j. is_waiting_slot (slot_of s.builds p j)) p.jobs x.0 x.1 in
         (x.0, y.0, u, y.1, x.2)
 

@@ -25,39 +25,50 @@ use Rattle.gate_laws.proofs.FewRows.{few_landings, Tops}
 -- ---- names
 
 -- a queue has a name of the settings
-pub queue_set : (c : Settings) (s : State) → IsSound c s → are_settings_in_form c ≡ true → (q : Queue) → In q s.queues → (has_queue c.queues q.name ≡ true) × (is_name q.name ≡ true)
+pub queue_set : (c : Settings) (s : State) → IsSound c s → are_settings_in_form c ≡ true → (q : Queue) → In q s.queues →
+    (has_queue c.queues q.name ≡ true) × (is_name q.name ≡ true)
 queue_set c s h f q m =
-    let x = from_map (λ (r : QueueSetting). r.name) c.queues q.name (subst (In q.name) h.queues_are_set (to_map (λ (r : Queue). r.name) s.queues q m)) in
+    let x = from_map (λ (r : QueueSetting). r.name) c.queues q.name
+    (subst (In q.name) h.queues_are_set (to_map (λ (r : Queue). r.name) s.queues q m)) in
     let last = and_parts _ _ f in
-    let first = and_parts _ _ last.0 in
-    (any_to (λ (r : QueueSetting). same_name r.name q.name) c.queues x.0 x.1 (same_name_of x.0.name q.name x.2), subst (λ n. is_name n ≡ true) x.2 (all_from (λ (r : QueueSetting). is_name r.name) c.queues first.1 x.0 x.1))
+    let first = and_parts _ _ last.0 in (
+      any_to (λ (r : QueueSetting). same_name r.name q.name) c.queues x.0 x.1 (same_name_of x.0.name q.name x.2),
+      subst (λ n. is_name n ≡ true) x.2 (all_from (λ (r : QueueSetting). is_name r.name) c.queues first.1 x.0 x.1),
+    )
 
 -- so has a job of a change
-job_set : (c : Settings) (s : State) (n : ℕ) → are_settings_in_form c ≡ true → (j : Job) → In j (project_of c s n).jobs → is_name j.name ≡ true
+job_set : (c : Settings) (s : State) (n : ℕ) → are_settings_in_form c ≡ true → (j : Job) →
+    In j (project_of c s n).jobs → is_name j.name ≡ true
 job_set c s n f j m = by_project (find (λ p. same_name p.name (change_of s n).project) c.projects) refl m
   where
-    by_project : (o : Option Project) → find (λ p. same_name p.name (change_of s n).project) c.projects ≡ o → In j (unwrap_or o (record { name = []; queue = []; jobs = [] })).jobs → is_name j.name ≡ true
+    by_project : (o : Option Project) → find (λ p. same_name p.name (change_of s n).project) c.projects ≡ o →
+        In j (unwrap_or o (record { name = []; queue = []; jobs = [] })).jobs → is_name j.name ≡ true
     by_project None e k = absurd k
     by_project (Some p) e k =
         let last = and_parts _ _ f in
-        let form = all_from is_project_in_form c.projects last.1 p (found (λ p. same_name p.name (change_of s n).project) c.projects p e).0 in
+        let form = all_from is_project_in_form c.projects last.1 p
+        (found (λ p. same_name p.name (change_of s n).project) c.projects p e).0 in
         let jobs = and_parts _ _ form in
         all_from (λ (j : Job). is_name j.name) p.jobs jobs.1 j k
 
 -- ---- what is ahead
 
 -- it was ahead before, or is of a place before
-ahead_from : (bs : List Build) (ahead : List Item) (ps : List Place) (p : Place) → In p (places_after bs ahead ps) → (i : Item) → In i p.ahead → In i ahead ⊎ In i (map (λ (r : Place). r.item) ps)
+ahead_from : (bs : List Build) (ahead : List Item) (ps : List Place) (p : Place) → In p (places_after bs ahead ps) →
+    (i : Item) → In i p.ahead → In i ahead ⊎ In i (map (λ (r : Place). r.item) ps)
 ahead_from bs ahead [] p m i k = absurd m
 ahead_from bs ahead (r ∷ rs) p m i k = elim m [
   | inl e ↦ inl (subst (λ (x : Place). In i x.ahead) (sym e) k)
-  | inr n ↦ by_failing (is_failing bs (with_ahead ahead r)) (ahead_from bs (next_ahead bs (with_ahead ahead r)) rs p n i k)
+  | inr n ↦ by_failing (is_failing bs (with_ahead ahead r))
+      (ahead_from bs (next_ahead bs (with_ahead ahead r)) rs p n i k)
 ]
   where
-    by_failing : (b : Bool) → In i (cond b ahead (ahead ++ r.item ∷ [])) ⊎ In i (map (λ (r : Place). r.item) rs) → In i ahead ⊎ In i (r.item ∷ map (λ (r : Place). r.item) rs)
+    by_failing : (b : Bool) → In i (cond b ahead (ahead ++ r.item ∷ [])) ⊎ In i (map (λ (r : Place). r.item) rs) →
+        In i ahead ⊎ In i (r.item ∷ map (λ (r : Place). r.item) rs)
     by_failing true w = elim w [ inl a ↦ inl a | inr x ↦ inr (inr x) ]
     by_failing false w = elim w [
-      | inl a ↦ (elim (from_append ahead (r.item ∷ []) i a) [ inl x ↦ inl x | inr x ↦ (elim x [ inl e ↦ inr (inl e) | inr z ↦ absurd z ]) ])
+      | inl a ↦ (elim (from_append ahead (r.item ∷ []) i a)
+          [ inl x ↦ inl x | inr x ↦ (elim x [ inl e ↦ inr (inl e) | inr z ↦ absurd z ]) ])
       | inr x ↦ inr (inr x)
     ]
 
@@ -66,19 +77,22 @@ push_long [] i = refl
 push_long (j ∷ js) i = let e = push_long js i in omega (arith, e)
 
 -- no more than there are places
-ahead_short : (bs : List Build) (ahead : List Item) (ps : List Place) (p : Place) → In p (places_after bs ahead ps) → length p.ahead ≤ length ahead + length ps
+ahead_short : (bs : List Build) (ahead : List Item) (ps : List Place) (p : Place) → In p (places_after bs ahead ps) →
+    length p.ahead ≤ length ahead + length ps
 ahead_short bs ahead [] p m = absurd m
 ahead_short bs ahead (r ∷ rs) p m = elim m [
   | inl e ↦ (let same : length ahead ≡ length p.ahead = ap (λ (x : Place). length x.ahead) e in omega (arith, same))
   | inr n ↦ by_failing (is_failing bs (with_ahead ahead r)) (ahead_short bs (next_ahead bs (with_ahead ahead r)) rs p n)
 ]
   where
-    by_failing : (b : Bool) → length p.ahead ≤ length (cond b ahead (ahead ++ r.item ∷ [])) + length rs → length p.ahead ≤ length ahead + length (r ∷ rs)
+    by_failing : (b : Bool) → length p.ahead ≤ length (cond b ahead (ahead ++ r.item ∷ [])) + length rs →
+        length p.ahead ≤ length ahead + length (r ∷ rs)
     by_failing true h = omega (arith, h)
     by_failing false h = let more = push_long ahead r.item in omega (arith, h, more)
 
 -- what is ahead in a queue is of its items
-ahead_in : (c : Settings) (s : State) (q : Queue) (p : Place) → In p (places c s q) → (i : Item) → In i p.ahead → In i q.items
+ahead_in : (c : Settings) (s : State) (q : Queue) (p : Place) → In p (places c s q) → (i : Item) →
+    In i p.ahead → In i q.items
 ahead_in c s q p m i k = elim (ahead_from s.builds [] (map (place_of c s q) q.items) p m i k) [
   | inl z ↦ absurd z
   | inr w ↦ (
@@ -93,7 +107,8 @@ ahead_in c s q p m i k = elim (ahead_from s.builds [] (map (place_of c s q) q.it
 entry_to : (i : Item) → NumberedItem i → is_entry_in_form (item_entry i) ≡ true
 entry_to i n = and_from (is_change_number i.change) (is_revision_number i.revision) n.1 n.2
 
-pub chosen_shape : (c : Settings) (s : State) → are_settings_in_form c ≡ true → IsSound c s → Tops s → Shaped c s → (b : Build) → choose c s ≡ Some b → BuildShape c b
+pub chosen_shape : (c : Settings) (s : State) → are_settings_in_form c ≡ true → IsSound c s → Tops s → Shaped c s →
+    (b : Build) → choose c s ≡ Some b → BuildShape c b
 chosen_shape c s f h t k b e =
     let x = chosen c s b e in
     let p = with_ahead x.ahead (place_of c s x.queue x.item) in
@@ -118,12 +133,14 @@ chosen_shape c s f h t k b e =
         few = omega (arith, ahead, places, room, entries);
         entries = all_to is_entry_in_form (map item_entry x.ahead) (λ y m.
             let z = from_map item_entry x.ahead y m in
-            subst (λ w. is_entry_in_form w ≡ true) z.2 (entry_to z.0 (q.items z.0 (ahead_in c s x.queue p within z.0 z.1))));
+            subst (λ w. is_entry_in_form w ≡ true) z.2
+            (entry_to z.0 (q.items z.0 (ahead_in c s x.queue p within z.0 z.1))));
       },
       q.items x.item x.item_in,
     )
 
-pub take_shaped : (c : Settings) (s : State) → are_settings_in_form c ≡ true → IsSound c s → Tops s → Shaped c s → (b : Build) → choose c s ≡ Some b → Shaped c (with_build b s)
+pub take_shaped : (c : Settings) (s : State) → are_settings_in_form c ≡ true → IsSound c s → Tops s → Shaped c s →
+    (b : Build) → choose c s ≡ Some b → Shaped c (with_build b s)
 take_shaped c s f h t k b e = record {
   changes = k.changes;
   ready = k.ready;

@@ -2,10 +2,10 @@
 use Rattle.std.proofs.Common.{◌≡◌, ℕ, zero, suc, ◌<◌, ◌≤◌, true, false, not, ◌&&◌, Option, Some, None, List, [], ◌∷◌, get_or, length, refl, sym, ap, ◌∙◌, inl, inr, arith, true≢false}
 use Rattle.std.specs.Prelude.{AllPairs, ◌≢◌, is_some, nat_eq, nat_le}
 use Rattle.std.specs.Str.{is_utf8}
-use lib.Pointwise.{pointwise, bytes_decides}
 use Rattle.std.proofs.lemmas.Bool.{and_parts, and_from, cond_both, not-true, le-leb}
 use Rattle.std.proofs.lemmas.List.Elements.{All-nil, All-push}
 use Rattle.std.proofs.lemmas.List.Quantifiers.{all_pairs_push}
+use lib.Pointwise.{pointwise, bytes_decides}
 use Rattle.gate_types.specs.declared.records.Id.{Id}
 use Rattle.gate_types.specs.declared.records.Kept.{Kept}
 use Rattle.gate_types.specs.declared.deliveries.Delivery.{Delivery}
@@ -36,7 +36,8 @@ is_none (Some x) e = absurd (true≢false e)
 new_id : (x : Content) (k : Call) → may_act x k ≡ true → (z : Kept) → In z x.kept → z.id ≢ k.id
 new_id x k e z m same =
     let both = and_parts (not k.unavailable) (not (is_some (kept_for k.id x.kept))) e in
-    let none = not_found (λ (y : Kept). pointwise nat_eq y.id.0 k.id.0) x.kept (is_none (kept_for k.id x.kept) (not-true (is_some (kept_for k.id x.kept)) both.1)) z m in
+    let none = not_found (λ (y : Kept). pointwise nat_eq y.id.0 k.id.0) x.kept
+    (is_none (kept_for k.id x.kept) (not-true (is_some (kept_for k.id x.kept)) both.1)) z m in
     true≢false (sym ((bytes_decides z.id.0 k.id.0).1 (ap (λ (i : Id). i.0) same)) ∙ none)
 
 in_get : (xs : List Kept) (k : ℕ) (d : Kept) → k < length xs → In (get_or xs k d) xs
@@ -56,14 +57,20 @@ said_in_form : (d : Delivery) → is_delivery_in_form d ≡ true → is_text_in_
 said_in_form d h = text_in_form (canonical_text d) (canonical_is_utf8 d h) (said_short d h)
 
 replied_in_form : (c : Settings) (r : Reply) → is_reply_in_form c r ≡ true → is_text_in_form (reply_text r) ≡ true
-replied_in_form c r h = let few = reply_short c r h in text_in_form (reply_text r) (reply_is_utf8 c r h) (omega (arith, few))
+replied_in_form c r h = let few = reply_short c r h in
+    text_in_form (reply_text r) (reply_is_utf8 c r h) (omega (arith, few))
 
 -- ---- the laws
 
 pub empty_is_in_form : EmptyIsInForm
-empty_is_in_form c w f = record { state = start_is_in_form c w f; kept = All-nil (λ k. is_kept_in_form k ≡ true); ids_differ = none_kept }
+empty_is_in_form c w f = record {
+  state = start_is_in_form c w f;
+  kept = All-nil (λ k. is_kept_in_form k ≡ true);
+  ids_differ = none_kept;
+}
 
-after_call : (c : Settings) (x : Content) (k : Call) → are_sound c ≡ true → are_settings_in_form c ≡ true → IsLawful c x.state → IsContentInForm c x → is_call_in_form k ≡ true → may_act x k ≡ true →
+after_call : (c : Settings) (x : Content) (k : Call) → are_sound c ≡ true → are_settings_in_form c ≡ true →
+    IsLawful c x.state → IsContentInForm c x → is_call_in_form k ≡ true → may_act x k ≡ true →
     (y : Stepped) → step c x.state k.delivery ≡ y → IsContentInForm c (content_after x k y)
 after_call c x k w f l h v new (accepted r t) e =
     let both = and_parts (is_id_in_form k.id) (is_delivery_in_form k.delivery) v in
@@ -72,30 +79,40 @@ after_call c x k w f l h v new (accepted r t) e =
       state = step_is_in_form c x.state k.delivery r t w f l h.state both.1 e;
       kept = All-push (λ z. is_kept_in_form z ≡ true) x.kept row h.kept
           (and_from (is_id_in_form k.id && is_text_in_form (canonical_text k.delivery)) (is_text_in_form (reply_text r))
-          (and_from (is_id_in_form k.id) (is_text_in_form (canonical_text k.delivery)) both.0 (said_in_form k.delivery both.1))
+          (and_from (is_id_in_form k.id) (is_text_in_form (canonical_text k.delivery)) both.0
+          (said_in_form k.delivery both.1))
           (replied_in_form c r (reply_is_in_form c x.state k.delivery r t w f l h.state both.1 e)));
-      ids_differ = all_pairs_push (λ (z u : Kept). z.id ≢ u.id) x.kept row h.ids_differ (λ i d b. new_id x k new (get_or x.kept i d) (in_get x.kept i d b));
+      ids_differ = all_pairs_push (λ (z u : Kept). z.id ≢ u.id) x.kept row h.ids_differ
+          (λ i d b. new_id x k new (get_or x.kept i d) (in_get x.kept i d b));
     }
 after_call c x k w f l h v new (refused r) e = h
 
 pub next_content_is_in_form : NextContentIsInForm
 next_content_is_in_form c x k w f l h v =
-    cond_both (may_act x k) (content_after x k (step c x.state k.delivery)) x (IsContentInForm c) (λ e. after_call c x k w f l h v e (step c x.state k.delivery) refl) (λ e. h)
+    cond_both (may_act x k) (content_after x k (step c x.state k.delivery)) x (IsContentInForm c)
+    (λ e. after_call c x k w f l h v e (step c x.state k.delivery) refl) (λ e. h)
 
 -- ---- any calls
 
-lawful_call : (c : Settings) (x : Content) (k : Call) → are_sound c ≡ true → IsLawful c x.state → (y : Stepped) → step c x.state k.delivery ≡ y → IsLawful c (content_after x k y).state
+lawful_call : (c : Settings) (x : Content) (k : Call) → are_sound c ≡ true → IsLawful c x.state → (y : Stepped) →
+    step c x.state k.delivery ≡ y → IsLawful c (content_after x k y).state
 lawful_call c x k w l (accepted r t) e = step_is_lawful c x.state k.delivery r t w l e
 lawful_call c x k w l (refused r) e = l
 
-next_lawful : (c : Settings) (x : Content) (k : Call) → are_sound c ≡ true → IsLawful c x.state → IsLawful c (next_content c x k).state
+next_lawful : (c : Settings) (x : Content) (k : Call) → are_sound c ≡ true → IsLawful c x.state →
+    IsLawful c (next_content c x k).state
 next_lawful c x k w l =
-    cond_both (may_act x k) (content_after x k (step c x.state k.delivery)) x (λ (y : Content). IsLawful c y.state) (λ e. lawful_call c x k w l (step c x.state k.delivery) refl) (λ e. l)
+    cond_both (may_act x k) (content_after x k (step c x.state k.delivery)) x (λ (y : Content). IsLawful c y.state)
+    (λ e. lawful_call c x k w l (step c x.state k.delivery) refl) (λ e. l)
 
-from_in_form : (c : Settings) → are_sound c ≡ true → are_settings_in_form c ≡ true → (calls : List Call) (x : Content) → IsLawful c x.state → IsContentInForm c x → ((k : Call) → In k calls → is_call_in_form k ≡ true) → IsContentInForm c (once c x calls)
+from_in_form : (c : Settings) → are_sound c ≡ true → are_settings_in_form c ≡ true → (calls : List Call) (x : Content) →
+    IsLawful c x.state → IsContentInForm c x → ((k : Call) → In k calls → is_call_in_form k ≡ true) →
+    IsContentInForm c (once c x calls)
 from_in_form c w f [] x l h v = h
 from_in_form c w f (k ∷ ks) x l h v =
-    from_in_form c w f ks (next_content c x k) (next_lawful c x k w l) (next_content_is_in_form c x k w f l h (v k (inl refl))) (λ z m. v z (inr m))
+    from_in_form c w f ks (next_content c x k) (next_lawful c x k w l)
+    (next_content_is_in_form c x k w f l h (v k (inl refl))) (λ z m. v z (inr m))
 
 pub run_is_in_form : RunIsInForm
-run_is_in_form c calls w f v = from_in_form c w f calls (empty c) (start_lawful c) (empty_is_in_form c w f) (every (λ k. is_call_in_form k ≡ true) calls v)
+run_is_in_form c calls w f v = from_in_form c w f calls (empty c) (start_lawful c) (empty_is_in_form c w f)
+    (every (λ k. is_call_in_form k ≡ true) calls v)

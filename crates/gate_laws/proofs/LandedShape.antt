@@ -23,29 +23,44 @@ landings_long [] l = refl
 landings_long (k ∷ ks) l = let e = landings_long ks l in omega (arith, e)
 
 -- the order's queue
-here_shape : (c : Settings) (s : State) (o : Order) → Submitted c s o → Shaped c s → WholeQueue (landed_here (length o.queue.landings + 1) o o.queue)
+here_shape : (c : Settings) (s : State) (o : Order) → Submitted c s o → Shaped c s →
+    WholeQueue (landed_here (length o.queue.landings + 1) o o.queue)
 here_shape c s o k h =
     let n = length o.queue.landings + 1 in
     let q = h.queues o.queue k.shows.queue_in in
     let i = o.item in
-    let long = landings_long o.queue.landings (record { serial = i.serial; change = i.change; revision = i.revision }) in
-    shape_more n (length (o.queue.landings ++ record { serial = i.serial; change = i.change; revision = i.revision } ∷ [])) (omega (arith, long)) (landed_here n o o.queue)
+    let long = landings_long o.queue.landings (record { serial = i.serial; change = i.change; revision = i.revision })
+    in
+    shape_more n (length (o.queue.landings ++ record {
+      serial = i.serial;
+      change = i.change;
+      revision = i.revision;
+    } ∷ [])) (omega (arith, long)) (landed_here n o o.queue)
     (landed_shape n i (left_queue (verdict.Landed n) i.change o.queue) (q.items i (item_in c s o k))
-    (left_shape (verdict.Landed n) i.change n o.queue (λ j m. (omega arith, omega arith)) (shape_more (length o.queue.landings) n (omega arith) o.queue q)))
+    (left_shape (verdict.Landed n) i.change n o.queue (λ j m. (omega arith, omega arith))
+    (shape_more (length o.queue.landings) n (omega arith) o.queue q)))
 
 -- any other queue loses no item
-there_shape : (c : Settings) (s : State) (o : Order) (n : ℕ) → Submitted c s o → Shaped c s → (r : Queue) → In r s.queues → same_name r.name o.queue.name ≡ false → WholeQueue (left_queue (verdict.Landed n) o.item.change r)
-there_shape c s o n k h r m e = left_shape (verdict.Landed n) o.item.change (length r.landings) r (λ j g. absurd (subst (In j) (gone_none c s o k r m e) g)) (h.queues r m)
+there_shape : (c : Settings) (s : State) (o : Order) (n : ℕ) → Submitted c s o → Shaped c s → (r : Queue) →
+    In r s.queues → same_name r.name o.queue.name ≡ false → WholeQueue (left_queue (verdict.Landed n) o.item.change r)
+there_shape c s o n k h r m e =
+    left_shape (verdict.Landed n) o.item.change (length r.landings) r
+    (λ j g. absurd (subst (In j) (gone_none c s o k r m e) g)) (h.queues r m)
 
-pub after_shaped : (c : Settings) (s : State) (o : Order) → Submitted c s o → Shaped c s → Shaped c (after_landing (length o.queue.landings + 1) o s)
+pub after_shaped : (c : Settings) (s : State) (o : Order) → Submitted c s o → Shaped c s →
+    Shaped c (after_landing (length o.queue.landings + 1) o s)
 after_shaped c s o k h =
     let n = length o.queue.landings + 1 in
     record {
       changes = λ x m. elim (from_put (λ j. j.number) (landed_change s o.item.change) s.changes x m) [
-        | inl e ↦ subst (λ y. is_change_in_form y ≡ true) e (h.changes (change_of s o.item.change) (open_known s o.item.change (order_open c s o k)).1)
+        | inl e ↦ subst (λ y. is_change_in_form y ≡ true) e
+            (h.changes (change_of s o.item.change) (open_known s o.item.change (order_open c s o k)).1)
         | inr i ↦ h.changes x i
       ];
       ready = h.ready;
-      queues = queues_shaped (queue_after n o) s.queues (λ q m. by_queue c s o n k WholeQueue (here_shape c s o k h) (there_shape c s o n k h) q m);
-      builds = builds_shaped c (λ b. with_live (b.live && not (is_running b.outcome && leaving o.item.change s b.serial)) b) (λ b x. x) s.builds h.builds;
+      queues = queues_shaped (queue_after n o) s.queues (λ q m. by_queue c s o n k WholeQueue (here_shape c s o k h)
+          (there_shape c s o n k h) q m);
+      builds = builds_shaped c
+          (λ b. with_live (b.live && not (is_running b.outcome && leaving o.item.change s b.serial)) b)
+          (λ b x. x) s.builds h.builds;
     }

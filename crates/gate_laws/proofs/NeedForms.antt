@@ -33,7 +33,8 @@ value_small : (ds : List ℕ) → list_all is_ascii_digit ds ≡ true → length
 value_small ds h few = omega (arith, digits_value-lt 10 ds (all_digits ds h), pow-le-pow_right {n = 10} (lit< tt) few)
 
 -- above 0 where the first digit is
-value_positive : (ds : List ℕ) → list_all is_ascii_digit ds ≡ true → nat_lt 48 (slice_index ds 0) ≡ true → 1 ≤ digits_value 10 ds
+value_positive : (ds : List ℕ) → list_all is_ascii_digit ds ≡ true → nat_lt 48 (slice_index ds 0) ≡ true →
+    1 ≤ digits_value 10 ds
 value_positive [] h above = absurd (cc)
 value_positive (c ∷ cs) h above =
     let p = and_parts (is_ascii_digit c) (list_all is_ascii_digit cs) h in
@@ -43,12 +44,14 @@ value_positive (c ∷ cs) h above =
     omega (arith, d.2, least, more)
 
 number_in_form : (ds : List ℕ) (n : ℕ) → number_of ds ≡ Some n → is_change_number n ≡ true
-number_in_form ds n h = by_test (list_all is_ascii_digit ds && nat_le (length ds) 9 && nat_lt 48 (slice_index ds 0)) refl h
+number_in_form ds n h =
+    by_test (list_all is_ascii_digit ds && nat_le (length ds) 9 && nat_lt 48 (slice_index ds 0)) refl h
   where
     none_some : (m : ℕ) → None ≡ Some m → ⊥
     none_some m q = cc
 
-    by_test : (b : Bool) → list_all is_ascii_digit ds && nat_le (length ds) 9 && nat_lt 48 (slice_index ds 0) ≡ b → then_some b (digits_value 10 ds) ≡ Some n → is_change_number n ≡ true
+    by_test : (b : Bool) → list_all is_ascii_digit ds && nat_le (length ds) 9 && nat_lt 48 (slice_index ds 0) ≡ b →
+        then_some b (digits_value 10 ds) ≡ Some n → is_change_number n ≡ true
     by_test false e k = absurd (none_some n k)
     by_test true e k =
         let last = and_parts (list_all is_ascii_digit ds && nat_le (length ds) 9) (nat_lt 48 (slice_index ds 0)) e in
@@ -61,7 +64,8 @@ number_in_form ds n h = by_test (list_all is_ascii_digit ds && nat_le (length ds
 -- ---- needs
 
 named_in_form : (base line : List ℕ) (n : ℕ) → named_change base line ≡ Some n → is_change_number n ≡ true
-named_in_form base line n h = by_digits (option_and_then (after_base base) (option_map without_blanks (after_footer (without_end line)))) h
+named_in_form base line n h =
+    by_digits (option_and_then (after_base base) (option_map without_blanks (after_footer (without_end line)))) h
   where
     none_some : (m : ℕ) → None ≡ Some m → ⊥
     none_some m q = cc
@@ -71,13 +75,16 @@ named_in_form base line n h = by_digits (option_and_then (after_base base) (opti
     by_digits (Some ds) k = number_in_form ds n k
 
 -- what was found is found, or is among the rest
-from_numbers : (ns found : List ℕ) (n : ℕ) → In n (fold with_number found ns) → (In n found → is_change_number n ≡ true) → (In n ns → is_change_number n ≡ true) → is_change_number n ≡ true
+from_numbers : (ns found : List ℕ) (n : ℕ) → In n (fold with_number found ns) →
+    (In n found → is_change_number n ≡ true) → (In n ns → is_change_number n ≡ true) → is_change_number n ≡ true
 from_numbers [] found n m f g = f m
-from_numbers (x ∷ xs) found n m f g = from_numbers xs (with_number found x) n m (by_found (list_any (λ k. k == x) found)) (λ k. g (inr k))
+from_numbers (x ∷ xs) found n m f g =
+    from_numbers xs (with_number found x) n m (by_found (list_any (λ k. k == x) found)) (λ k. g (inr k))
   where
     by_found : (b : Bool) → In n (cond b found (found ++ x ∷ [])) → is_change_number n ≡ true
     by_found true k = f k
-    by_found false k = elim (from_append found (x ∷ []) n k) [ inl o ↦ f o | inr w ↦ (elim w [ inl e ↦ g (inl e) | inr z ↦ absurd z ]) ]
+    by_found false k = elim (from_append found (x ∷ []) n k)
+        [ inl o ↦ f o | inr w ↦ (elim w [ inl e ↦ g (inl e) | inr z ↦ absurd z ]) ]
 
 pub needs_in_form : (base message : List ℕ) → list_all is_change_number (needs base message) ≡ true
 needs_in_form base message =

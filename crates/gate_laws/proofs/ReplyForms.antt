@@ -34,7 +34,8 @@ use Rattle.gate_laws.proofs.SettledIsAtRest.{settled_is_at_rest}
 use Rattle.gate_laws.proofs.RunIsLawful.{raw_step_is_sound}
 use Rattle.gate_laws.proofs.Chosen.{chosen}
 use Rattle.gate_laws.proofs.Shapes.{BuildShape, Shaped, shaped_from, up_to, build_to}
-use Rattle.gate_laws.proofs.FewRows.{few_landings, item_drawn, tops}
+use Rattle.gate_laws.proofs.Drawn.{item_drawn}
+use Rattle.gate_laws.proofs.FewRows.{few_landings, tops}
 use Rattle.gate_laws.proofs.ChosenShape.{chosen_shape}
 use Rattle.gate_laws.proofs.LandedShape.{landings_long, after_shaped}
 use Rattle.gate_laws.proofs.StepIsInForm.{step_is_in_form}
@@ -60,13 +61,16 @@ on_test : (P : Reply → State → Type 0) (b : Bool) (x y : Stepped) → OnRepl
 on_test P true x y h k = h
 on_test P false x y h k = k
 
-on_some : {X : Type 0} (P : Reply → State → Type 0) (o : Option X) (f : X → Stepped) (none : Stepped) → ((x : X) → o ≡ Some x → OnReply P (f x)) → OnReply P none → OnReply P (option_map_or f o none)
+on_some : {X : Type 0} (P : Reply → State → Type 0) (o : Option X) (f : X → Stepped) (none : Stepped) →
+    ((x : X) → o ≡ Some x → OnReply P (f x)) → OnReply P none → OnReply P (option_map_or f o none)
 on_some P None f none h k = k
 on_some P (Some x) f none h k = h x refl
 
-on_change : (P : Reply → State → Type 0) (s : State) (n r : ℕ) (f : Change → Stepped) → ((k : Change) → OnReply P (f k)) → OnReply P (on_known s n r f)
+on_change : (P : Reply → State → Type 0) (s : State) (n r : ℕ) (f : Change → Stepped) →
+    ((k : Change) → OnReply P (f k)) → OnReply P (on_known s n r f)
 on_change P s n r f h =
-    on_some P (known_change s n) (λ k. cond (nat_lt k.revision r) (refused refusal.UnknownRevision) (f k)) (refused refusal.UnknownChange)
+    on_some P (known_change s n) (λ k. cond (nat_lt k.revision r) (refused refusal.UnknownRevision) (f k))
+    (refused refusal.UnknownChange)
     (λ k e. on_test P (nat_lt k.revision r) (refused refusal.UnknownRevision) (f k) tt (h k)) tt
 
 -- ---- kind by kind
@@ -75,7 +79,8 @@ on_change P s n r f h =
 approval_replied : (c : Settings) (n : ℕ) (u : State) → RawReply c (approval_reply n (settle c u)) u
 approval_replied c n u = by_item (find (λ i. i.change == n) (flat_map (λ q. q.items) (settle c u).queues)) refl
   where
-    by_item : (o : Option Item) → find (λ i. i.change == n) (flat_map (λ q. q.items) (settle c u).queues) ≡ o → RawReply c (option_map_or (λ i. reply.Queued i.serial) o reply.Waiting) u
+    by_item : (o : Option Item) → find (λ i. i.change == n) (flat_map (λ q. q.items) (settle c u).queues) ≡ o →
+        RawReply c (option_map_or (λ i. reply.Queued i.serial) o reply.Waiting) u
     by_item None e = tt
     by_item (Some i) e =
         let is = found (λ i. i.change == n) (flat_map (λ q. q.items) (settle c u).queues) i e in
@@ -87,10 +92,15 @@ closed_replied c u true = tt
 closed_replied c u false = tt
 
 -- an order that is shown lands
-landed_is : (c : Settings) (s : State) (number : ℕ) (o : Order) → shown_order c s number ≡ Some o → raw_step c s (delivery.Landed number) ≡ accepted (reply.Landed (length o.queue.landings + 1)) (with_landing (length o.queue.landings + 1) o s)
-landed_is c s number o e = ap (λ (x : Option Order). option_map_or (λ (y : Order). accepted (reply.Landed (length y.queue.landings + 1)) (with_landing (length y.queue.landings + 1) y s)) x (refused refusal.NoOrder)) e
+landed_is : (c : Settings) (s : State) (number : ℕ) (o : Order) → shown_order c s number ≡ Some o →
+    raw_step c s (delivery.Landed number) ≡ accepted (reply.Landed (length o.queue.landings + 1))
+    (with_landing (length o.queue.landings + 1) o s)
+landed_is c s number o e =
+    ap (λ (x : Option Order). option_map_or (λ (y : Order). accepted (reply.Landed (length y.queue.landings + 1))
+    (with_landing (length y.queue.landings + 1) y s)) x (refused refusal.NoOrder)) e
 
-each_replied : (c : Settings) (s : State) → are_sound c ≡ true → are_settings_in_form c ≡ true → IsLawful c s → Shaped c s → (d : Delivery) → OnReply (RawReply c) (raw_step c s d)
+each_replied : (c : Settings) (s : State) → are_sound c ≡ true → are_settings_in_form c ≡ true → IsLawful c s →
+    Shaped c s → (d : Delivery) → OnReply (RawReply c) (raw_step c s d)
 each_replied c s w f h k (delivery.Revision n name r message) =
     on_test (RawReply c) (not (has_project c name)) _ _ tt (
     on_test (RawReply c) (is_known_and s n (λ k. not (same_name k.project name))) _ _ tt (
@@ -110,11 +120,20 @@ each_replied c s w f h k (delivery.Closed n r) = on_change (RawReply c) s n r _ 
     on_test (RawReply c) (is_submitting c s n) _ _ tt (closed_replied c _ (is_queued s n))))
 each_replied c s w f h k (delivery.Landed number) = on_some (RawReply c) (shown_order c s number) _ _ (λ o e.
     let n = length o.queue.landings + 1 in
-    let submitted : Submitted c s o = record { settings = w; sound = h.sound; shows = shows c s number o e; needs = settled_is_at_rest.needs_before c s h.settled } in
+    let submitted : Submitted c s o =
+    record {
+      settings = w;
+      sound = h.sound;
+      shows = shows c s number o e;
+      needs = settled_is_at_rest.needs_before c s h.settled;
+    } in
     let u = after_landing n o s in
-    let sound = subst (IsSound c) (is_after n o s) (raw_step_is_sound c s (delivery.Landed number) (reply.Landed n) (with_landing n o s) w h (landed_is c s number o e)) in
-    let few = few_landings c u sound (after_shaped c s o submitted k) (landed_here n o o.queue) (here_after c s o n submitted) in
-    let long = landings_long o.queue.landings (record { serial = o.item.serial; change = o.item.change; revision = o.item.revision }) in
+    let sound = subst (IsSound c) (is_after n o s) (raw_step_is_sound c s (delivery.Landed number) (reply.Landed n)
+    (with_landing n o s) w h (landed_is c s number o e)) in
+    let few = few_landings c u sound (after_shaped c s o submitted k) (landed_here n o o.queue)
+    (here_after c s o n submitted) in
+    let long = landings_long o.queue.landings
+    (record { serial = o.item.serial; change = o.item.change; revision = o.item.revision }) in
     let order = (tops s h.not_exhausted).order in
     (omega arith, omega (arith, few, long, order))) tt
 each_replied c s w f h k (delivery.Refused number) = on_some (RawReply c) (shown_order c s number) _ _ (λ o e. tt) tt
@@ -122,10 +141,12 @@ each_replied c s w f h k (delivery.Take worker) = on_some (RawReply c) (choose c
     let t = tops s h.not_exhausted in
     let x = chosen c s b e in
     let drawn = item_drawn c s h.sound x.queue x.there x.item x.item_in in
-    let serial : b.serial ≡ x.item.serial = ap (λ (y : Build). y.serial) (sym x.same) ∙ ap (λ p. p.item.serial) (sym x.is_place) in
+    let serial : b.serial ≡ x.item.serial = ap (λ (y : Build). y.serial) (sym x.same)
+    ∙ ap (λ p. p.item.serial) (sym x.is_place) in
     let order = t.order in
     (chosen_shape c s f h.sound t k b e, omega (arith, drawn, serial, order), refl)) tt
-each_replied c s w f h k (delivery.Result n e) = on_some (RawReply c) (build_of s n) _ _ (λ b g. on_test (RawReply c) (b.live && is_running b.outcome) _ _ tt tt) tt
+each_replied c s w f h k (delivery.Result n e) =
+    on_some (RawReply c) (build_of s n) _ _ (λ b g. on_test (RawReply c) (b.live && is_running b.outcome) _ _ tt tt) tt
 
 -- ---- the law
 
@@ -137,7 +158,8 @@ build_drawn_one c s = by_found (find (may_enter c s) s.ready)
     by_found None = refl
     by_found (Some r) = refl
 
-builds_as_drawn : (c : Settings) (s : State) (rs : List Ready) → (fold (λ t _. admit_one c t) s rs).counters.build ≡ s.counters.build
+builds_as_drawn : (c : Settings) (s : State) (rs : List Ready) →
+    (fold (λ t _. admit_one c t) s rs).counters.build ≡ s.counters.build
 builds_as_drawn c s [] = refl
 builds_as_drawn c s (r ∷ rs) = builds_as_drawn c (admit_one c s) rs ∙ build_drawn_one c s
 
@@ -146,11 +168,14 @@ settled_builds c u = let t = sweep c (rebase c u) in builds_as_drawn c t t.ready
 
 build_top : (d : Drawn) → are_counters_in_form d ≡ true → d.build ≤ 1000000000000000
 build_top d f =
-    let last = and_parts (nat_le d.approval 1000000000000000 && nat_le d.build 1000000000000000) (nat_le d.order 1000000000000000) f in
-    leb-true d.build 1000000000000000 (and_parts (nat_le d.approval 1000000000000000) (nat_le d.build 1000000000000000) last.0).1
+    let last = and_parts (nat_le d.approval 1000000000000000 && nat_le d.build 1000000000000000)
+    (nat_le d.order 1000000000000000) f in
+    leb-true d.build 1000000000000000
+    (and_parts (nat_le d.approval 1000000000000000) (nat_le d.build 1000000000000000) last.0).1
 
 -- the reply, by what the settled state keeps to
-from_raw : (c : Settings) (u : State) (r : Reply) → RawReply c r u → IsInForm c (settle c u) → is_reply_in_form c r ≡ true
+from_raw : (c : Settings) (u : State) (r : Reply) → RawReply c r u → IsInForm c (settle c u) →
+    is_reply_in_form c r ≡ true
 from_raw c u reply.Recorded h f = refl
 from_raw c u reply.Stale h f = refl
 from_raw c u reply.Waiting h f = refl
@@ -171,12 +196,15 @@ from_raw c u (reply.Build b) h f =
     let number = h.2 in
     build_to c b (omega (arith, top, same, number)) h.1 h.0
 
-replied : (c : Settings) (x : Stepped) → OnReply (RawReply c) x → OnReply (λ r t. IsInForm c t → is_reply_in_form c r ≡ true) (settled_step c x)
+replied : (c : Settings) (x : Stepped) → OnReply (RawReply c) x →
+    OnReply (λ r t. IsInForm c t → is_reply_in_form c r ≡ true) (settled_step c x)
 replied c (accepted said u) h =
-    on_test (λ r t. IsInForm c t → is_reply_in_form c r ≡ true) (is_exhausted (settle c u)) (refused refusal.Exhausted) (accepted said (settle c u)) tt (from_raw c u said h)
+    on_test (λ r t. IsInForm c t → is_reply_in_form c r ≡ true) (is_exhausted (settle c u)) (refused refusal.Exhausted)
+    (accepted said (settle c u)) tt (from_raw c u said h)
 replied c (refused r) h = tt
 
 pub reply_is_in_form : ReplyIsInForm
 reply_is_in_form c s d r t w f h k v e =
-    on_reply (λ q u. IsInForm c u → is_reply_in_form c q ≡ true) (step c s d) (replied c (raw_step c s d) (each_replied c s w f h (shaped_from c s k) d)) r t e
+    on_reply (λ q u. IsInForm c u → is_reply_in_form c q ≡ true) (step c s d)
+    (replied c (raw_step c s d) (each_replied c s w f h (shaped_from c s k) d)) r t e
     (step_is_in_form c s d r t w f h k v e)

@@ -80,13 +80,15 @@ most top n h = leb-true n top (and_parts (nat_le 1 n) (nat_le n top) h).1
 pub up_to : (top n : ℕ) → 1 ≤ n → n ≤ top → is_up_to top n ≡ true
 up_to top n l m = and_from (nat_le 1 n) (nat_le n top) (le-leb 1 n l) (le-leb n top m)
 
-numbered_from : (serial change revision : ℕ) → is_drawn_number serial && is_change_number change && is_revision_number revision ≡ true → Numbered serial change revision
+numbered_from : (serial change revision : ℕ) → is_drawn_number serial && is_change_number change &&
+    is_revision_number revision ≡ true → Numbered serial change revision
 numbered_from serial change revision h =
     let last = and_parts (is_drawn_number serial && is_change_number change) (is_revision_number revision) h in
     let first = and_parts (is_drawn_number serial) (is_change_number change) last.0 in
     (least 1000000000000000 serial first.0, first.1, last.1)
 
-numbered_to : (serial change revision : ℕ) → serial ≤ 1000000000000000 → Numbered serial change revision → is_drawn_number serial && is_change_number change && is_revision_number revision ≡ true
+numbered_to : (serial change revision : ℕ) → serial ≤ 1000000000000000 → Numbered serial change revision →
+    is_drawn_number serial && is_change_number change && is_revision_number revision ≡ true
 numbered_to serial change revision m n =
     and_from (is_drawn_number serial && is_change_number change) (is_revision_number revision)
     (and_from (is_drawn_number serial) (is_change_number change) (up_to 1000000000000000 serial n.0 m) n.1) n.2
@@ -111,7 +113,8 @@ tells_to m verdict.Closed h = refl
 
 report_from : (m : ℕ) (r : Report) → is_report_in_form m r ≡ true → ReportShape m r
 report_from m r h =
-    let both = and_parts (is_drawn_number r.serial && is_change_number r.change && is_revision_number r.revision) (is_verdict_in_form m r.verdict) h in
+    let both = and_parts (is_drawn_number r.serial && is_change_number r.change && is_revision_number r.revision)
+    (is_verdict_in_form m r.verdict) h in
     (numbered_from r.serial r.change r.revision both.0, tells_from m r.verdict both.1)
 
 queue_from : (q : Queue) → is_queue_in_form q ≡ true → QueueShape (length q.landings) q
@@ -126,7 +129,8 @@ queue_from q h =
       room = leb-true (length q.items) 1000 b.1;
       items = λ i m. numbered_from i.serial i.change i.revision (all_from is_item_in_form q.items c.1 i m);
       landings = λ l m. numbered_from l.serial l.change l.revision (all_from is_landing_in_form q.landings d.1 l m);
-      reports = λ r m. report_from (length q.landings) r (all_from (is_report_in_form (length q.landings)) q.reports e.1 r m);
+      reports = λ r m. report_from (length q.landings) r
+          (all_from (is_report_in_form (length q.landings)) q.reports e.1 r m);
     }
 
 pub build_from : (c : Settings) (b : Build) → is_build_in_form c b ≡ true → BuildShape c b
@@ -173,23 +177,32 @@ landing_to l m n = numbered_to l.serial l.change l.revision m n
 
 pub report_to : (m : ℕ) (r : Report) → r.serial ≤ 1000000000000000 → ReportShape m r → is_report_in_form m r ≡ true
 report_to m r t h =
-    and_from (is_drawn_number r.serial && is_change_number r.change && is_revision_number r.revision) (is_verdict_in_form m r.verdict)
+    and_from (is_drawn_number r.serial && is_change_number r.change && is_revision_number r.revision)
+    (is_verdict_in_form m r.verdict)
     (numbered_to r.serial r.change r.revision t h.0) (tells_to m r.verdict h.1)
 
 pub ready_to : (r : Ready) → r.approval ≤ 1000000000000000 → ReadyShape r → is_ready_in_form r ≡ true
-ready_to r t h = and_from (is_drawn_number r.approval) (is_change_number r.change) (up_to 1000000000000000 r.approval h.0 t) h.1
+ready_to r t h = and_from (is_drawn_number r.approval) (is_change_number r.change)
+    (up_to 1000000000000000 r.approval h.0 t) h.1
 
-pub build_to : (c : Settings) (b : Build) → b.number ≤ 1000000000000000 → b.serial ≤ 1000000000000000 → BuildShape c b → is_build_in_form c b ≡ true
+pub build_to : (c : Settings) (b : Build) → b.number ≤ 1000000000000000 → b.serial ≤ 1000000000000000 → BuildShape c b →
+    is_build_in_form c b ≡ true
 build_to c b n t h =
     and_from _ _ (and_from _ _ (and_from _ _ (and_from _ _ (and_from _ _ (and_from _ _ (and_from _ _
     (up_to 1000000000000000 b.number h.0.counted n) h.0.in_queue) h.0.queue_name) h.0.job_name)
-    (numbered_to b.serial b.change b.revision t h.1)) (le-leb b.after 1000000000000000 h.0.base)) (le-leb (length b.ahead) 1000 h.0.few)) h.0.entries
+    (numbered_to b.serial b.change b.revision t h.1)) (le-leb b.after 1000000000000000 h.0.base))
+    (le-leb (length b.ahead) 1000 h.0.few)) h.0.entries
 
 -- a queue, by the tops of its serials
-pub queue_to : (q : Queue) → is_name q.name ≡ true → ((i : Item) → In i q.items → i.serial ≤ 1000000000000000) → ((l : Landing) → In l q.landings → l.serial ≤ 1000000000000000) →
-    ((r : Report) → In r q.reports → r.serial ≤ 1000000000000000) → QueueShape (length q.landings) q → is_queue_in_form q ≡ true
+pub queue_to : (q : Queue) → is_name q.name ≡ true → ((i : Item) → In i q.items → i.serial ≤ 1000000000000000) →
+    ((l : Landing) → In l q.landings → l.serial ≤ 1000000000000000) →
+    ((r : Report) → In r q.reports → r.serial ≤ 1000000000000000) → QueueShape (length q.landings) q →
+    is_queue_in_form q ≡ true
 queue_to q name ti tl tr h =
-    and_from _ _ (and_from _ _ (and_from _ _ (and_from _ _ (and_from _ _ name (le-leb q.window 1000 h.window)) (le-leb (length q.items) 1000 h.room))
+    and_from _ _ (and_from _ _
+    (and_from _ _ (and_from _ _ (and_from _ _ name (le-leb q.window 1000 h.window))
+    (le-leb (length q.items) 1000 h.room))
     (all_to is_item_in_form q.items (λ i m. item_to i (ti i m) (h.items i m))))
     (all_to is_landing_in_form q.landings (λ l m. landing_to l (tl l m) (h.landings l m))))
-    (all_to (is_report_in_form (length q.landings)) q.reports (λ r m. report_to (length q.landings) r (tr r m) (h.reports r m)))
+    (all_to (is_report_in_form (length q.landings)) q.reports
+    (λ r m. report_to (length q.landings) r (tr r m) (h.reports r m)))

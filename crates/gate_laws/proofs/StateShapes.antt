@@ -37,7 +37,8 @@ abbrev pub WholeQueue : Queue → Type 0
 WholeQueue q = QueueShape (length q.landings) q
 
 -- queues that change one by one
-pub queues_shaped : (f : Queue → Queue) (qs : List Queue) → ((q : Queue) → In q qs → WholeQueue (f q)) → (q : Queue) → In q (map f qs) → WholeQueue q
+pub queues_shaped : (f : Queue → Queue) (qs : List Queue) → ((q : Queue) → In q qs → WholeQueue (f q)) → (q : Queue) →
+    In q (map f qs) → WholeQueue q
 queues_shaped f qs h q m = let x = from_map f qs q m in subst WholeQueue x.2 (h x.0 x.1)
 
 -- ---- settling
@@ -54,12 +55,16 @@ pub sweep_shaped : (c : Settings) (s : State) → are_sound c ≡ true → Shape
 sweep_shaped c s w h = record {
   changes = h.changes;
   ready = h.ready;
-  queues = queues_shaped (λ q. swept_queue (floor_of c q) (judged c s q) q) s.queues (λ q m. swept_shape c s (floor_of c q) (length q.landings) q (floor_small c w q) (h.queues q m));
-  builds = builds_shaped c (λ b. with_live (b.live && not (is_running b.outcome && goes (flat_map (judged c s) s.queues) b.serial)) b) (λ b x. x) s.builds h.builds;
+  queues = queues_shaped (λ q. swept_queue (floor_of c q) (judged c s q) q) s.queues
+      (λ q m. swept_shape c s (floor_of c q) (length q.landings) q (floor_small c w q) (h.queues q m));
+  builds = builds_shaped c
+      (λ b. with_live (b.live && not (is_running b.outcome && goes (flat_map (judged c s) s.queues) b.serial)) b)
+      (λ b x. x) s.builds h.builds;
 }
 
 -- the revision of an open change
-open_revision : (c : Settings) (s : State) (n : ℕ) → Shaped c s → is_open (change_of s n) ≡ true → is_revision_number (change_of s n).revision ≡ true
+open_revision : (c : Settings) (s : State) (n : ℕ) → Shaped c s → is_open (change_of s n) ≡ true →
+    is_revision_number (change_of s n).revision ≡ true
 open_revision c s n h o =
     let form = h.changes (change_of s n) (open_known s n o).1 in
     let p4 = and_parts _ _ form in
@@ -75,16 +80,19 @@ record Room (c : Settings) (s : State) (r : Ready) : Type 0 where
 
 room_of : (c : Settings) (s : State) (r : Ready) → may_enter c s r ≡ true → Room c s r
 room_of c s r h =
-    let x = any_from (λ q. same_name q.name (project_of c s r.change).queue && nat_lt (length q.items) 1000 && are_met_by q.items (needs_of s r.change)) s.queues h in
+    let x = any_from (λ q. same_name q.name (project_of c s r.change).queue && nat_lt (length q.items) 1000 &&
+    are_met_by q.items (needs_of s r.change)) s.queues h in
     let last = and_parts _ _ x.2 in
     let first = and_parts _ _ last.0 in
     record { queue = x.0; there = x.1; named = first.0; room = ltb-true (length x.0.items) 1000 first.1 }
 
-entered_shaped : (c : Settings) (s : State) (r : Ready) → are_sound c ≡ true → IsSound c s → Shaped c s → In r s.ready → may_enter c s r ≡ true → Shaped c (entered c s r)
+entered_shaped : (c : Settings) (s : State) (r : Ready) → are_sound c ≡ true → IsSound c s → Shaped c s → In r s.ready →
+    may_enter c s r ≡ true → Shaped c (entered c s r)
 entered_shaped c s r w k h mr e = record {
   changes = h.changes;
   ready = λ x m. h.ready x (from_filter (λ (x : Ready). not (x.change == r.change)) s.ready x m).0;
-  queues = queues_shaped (λ q. cond (same_name q.name name) (with_item i q) q) s.queues (λ q m. by_name q m (same_name q.name name) refl);
+  queues = queues_shaped (λ q. cond (same_name q.name name) (with_item i q) q) s.queues
+      (λ q m. by_name q m (same_name q.name name) refl);
   builds = h.builds;
 }
   where
@@ -98,13 +106,22 @@ entered_shaped c s r w k h mr e = record {
     here = room_of c s r e
 
     numbered : NumberedItem i
-    numbered = (omega arith, (h.ready r mr).1, open_revision c s r.change h (every (λ x. is_open (change_of s x.change) ≡ true) s.ready k.ready_are_open r mr))
+    numbered = (
+      omega arith,
+      (h.ready r mr).1,
+      open_revision c s r.change h (every (λ x. is_open (change_of s x.change) ≡ true) s.ready k.ready_are_open r mr),
+    )
 
-    by_name : (q : Queue) → In q s.queues → (b : Bool) → same_name q.name name ≡ b → WholeQueue (cond b (with_item i q) q)
+    by_name : (q : Queue) → In q s.queues → (b : Bool) → same_name q.name name ≡ b →
+        WholeQueue (cond b (with_item i q) q)
     by_name q m false f = h.queues q m
     by_name q m true f =
-        let same : q ≡ here.queue = name_alone c s w k q here.queue m here.there (same_name_of q.name here.queue.name (same_name_is q.name name f ∙ sym (same_name_is here.queue.name name here.named))) in
-        entered_shape (length q.landings) i q (subst (λ (x : Queue). length x.items < 1000) (sym same) here.room) numbered (h.queues q m)
+        let same : q ≡ here.queue =
+        name_alone c s w k q here.queue m here.there
+        (same_name_of q.name here.queue.name (same_name_is q.name name f
+        ∙ sym (same_name_is here.queue.name name here.named))) in
+        entered_shape (length q.landings) i q (subst (λ (x : Queue). length x.items < 1000) (sym same) here.room)
+        numbered (h.queues q m)
 
 one_shaped : (c : Settings) (s : State) → are_sound c ≡ true → IsSound c s → Shaped c s → Shaped c (admit_one c s)
 one_shaped c s w k h = by_found (find (may_enter c s) s.ready) refl
@@ -113,36 +130,44 @@ one_shaped c s w k h = by_found (find (may_enter c s) s.ready) refl
     by_found None e = h
     by_found (Some r) e = let is = found (may_enter c s) s.ready r e in entered_shaped c s r w k h is.0 is.1
 
-all_shaped : (c : Settings) (s : State) (rs : List Ready) → are_sound c ≡ true → IsSound c s → Shaped c s → Shaped c (fold (λ t _. admit_one c t) s rs)
+all_shaped : (c : Settings) (s : State) (rs : List Ready) → are_sound c ≡ true → IsSound c s → Shaped c s →
+    Shaped c (fold (λ t _. admit_one c t) s rs)
 all_shaped c s [] w k h = h
 all_shaped c s (r ∷ rs) w k h = all_shaped c (admit_one c s) rs w (one_sound c s w k) (one_shaped c s w k h)
 
 pub settle_shaped : (c : Settings) (s : State) → are_sound c ≡ true → IsSound c s → Shaped c s → Shaped c (settle c s)
 settle_shaped c s w k h =
     let t = sweep c (rebase c s) in
-    all_shaped c t t.ready w (sweep_is_sound c (rebase c s) (rebase_is_sound c s k)) (sweep_shaped c (rebase c s) w (rebase_shaped c s h))
+    all_shaped c t t.ready w (sweep_is_sound c (rebase c s) (rebase_is_sound c s k))
+    (sweep_shaped c (rebase c s) w (rebase_shaped c s h))
 
 -- ---- parts of deliveries
 
 -- an item leaves, other than by landing
-pub leave_shaped : (c : Settings) (s : State) (v : Verdict) (n : ℕ) → ((m : ℕ) → TellsOf m v) → Shaped c s → Shaped c (leave v n s)
+pub leave_shaped : (c : Settings) (s : State) (v : Verdict) (n : ℕ) → ((m : ℕ) → TellsOf m v) → Shaped c s →
+    Shaped c (leave v n s)
 leave_shaped c s v n t h = record {
   changes = h.changes;
   ready = h.ready;
-  queues = queues_shaped (left_queue v n) s.queues (λ q m. left_shape v n (length q.landings) q (λ i k. t (length q.landings)) (h.queues q m));
-  builds = builds_shaped c (λ b. with_live (b.live && not (is_running b.outcome && leaving n s b.serial)) b) (λ b x. x) s.builds h.builds;
+  queues = queues_shaped (left_queue v n) s.queues
+      (λ q m. left_shape v n (length q.landings) q (λ i k. t (length q.landings)) (h.queues q m));
+  builds = builds_shaped c (λ b. with_live (b.live && not (is_running b.outcome && leaving n s b.serial)) b)
+      (λ b x. x) s.builds h.builds;
 }
 
-pub put_shaped : (c : Settings) (s : State) (k : Change) → is_change_in_form k ≡ true → Shaped c s → Shaped c (put_change k s)
+pub put_shaped : (c : Settings) (s : State) (k : Change) → is_change_in_form k ≡ true → Shaped c s →
+    Shaped c (put_change k s)
 put_shaped c s k f h = record {
-  changes = λ x m. elim (from_put (λ (j : Change). j.number) k s.changes x m) [ inl e ↦ subst (λ y. is_change_in_form y ≡ true) e f | inr n ↦ h.changes x n ];
+  changes = λ x m. elim (from_put (λ (j : Change). j.number) k s.changes x m)
+      [ inl e ↦ subst (λ y. is_change_in_form y ≡ true) e f | inr n ↦ h.changes x n ];
   ready = h.ready;
   queues = h.queues;
   builds = h.builds;
 }
 
 -- a change that is known, at another stage
-pub stage_shaped : (c : Settings) (s : State) (g : Stage) (n : ℕ) → In (change_of s n) s.changes → Shaped c s → Shaped c (with_stage g n s)
+pub stage_shaped : (c : Settings) (s : State) (g : Stage) (n : ℕ) → In (change_of s n) s.changes → Shaped c s →
+    Shaped c (with_stage g n s)
 stage_shaped c s g n m h = put_shaped c s (record (change_of s n) { stage = g }) (h.changes (change_of s n) m) h
 
 pub unready_shaped : (c : Settings) (s : State) (n : ℕ) → Shaped c s → Shaped c (without_ready n s)
@@ -153,7 +178,8 @@ unready_shaped c s n h = record {
   builds = h.builds;
 }
 
-pub ready_shaped : (c : Settings) (s : State) (n : ℕ) → is_change_number n ≡ true → Shaped c s → Shaped c (made_ready n s)
+pub ready_shaped : (c : Settings) (s : State) (n : ℕ) → is_change_number n ≡ true → Shaped c s →
+    Shaped c (made_ready n s)
 ready_shaped c s n f h = record {
   changes = h.changes;
   ready = λ r m. elim (from_append s.ready (record { approval = s.counters.approval + 1; change = n } ∷ []) r m) [
@@ -165,18 +191,21 @@ ready_shaped c s n f h = record {
 }
 
 -- a smaller window
-pub shrunk_shaped : (c : Settings) (s : State) (name : List ℕ) → are_sound c ≡ true → Shaped c s → Shaped c (change_queue name (shrunk_queue c) s)
+pub shrunk_shaped : (c : Settings) (s : State) (name : List ℕ) → are_sound c ≡ true → Shaped c s →
+    Shaped c (change_queue name (shrunk_queue c) s)
 shrunk_shaped c s name w h = record {
   changes = h.changes;
   ready = h.ready;
-  queues = queues_shaped (λ q. cond (same_name q.name name) (shrunk_queue c q) q) s.queues (λ q m. by_name q m (same_name q.name name));
+  queues = queues_shaped (λ q. cond (same_name q.name name) (shrunk_queue c q) q) s.queues
+      (λ q m. by_name q m (same_name q.name name));
   builds = h.builds;
 }
   where
     by_name : (q : Queue) → In q s.queues → (b : Bool) → WholeQueue (cond b (shrunk_queue c q) q)
     by_name q m true =
         let old = h.queues q m in
-        window_shape (length q.landings) (shrink q.window (floor_of c q)) q (shrunk_small q.window (floor_of c q) old.window (floor_small c w q)) old
+        window_shape (length q.landings) (shrink q.window (floor_of c q)) q
+        (shrunk_small q.window (floor_of c q) old.window (floor_small c w q)) old
     by_name q m false = h.queues q m
 
 -- a build ends
@@ -185,7 +214,8 @@ end_shaped c s e n h = record {
   changes = h.changes;
   ready = h.ready;
   queues = h.queues;
-  builds = builds_shaped c (λ b. cond (b.number == n) (with_ending e b) b) (λ b x. by_number b x (b.number == n)) s.builds h.builds;
+  builds = builds_shaped c (λ b. cond (b.number == n) (with_ending e b) b) (λ b x. by_number b x (b.number == n))
+      s.builds h.builds;
 }
   where
     by_number : (b : Build) → BuildShape c b → (t : Bool) → BuildShape c (cond t (with_ending e b) b)

@@ -32,7 +32,8 @@ use Rattle.gate_laws.proofs.Shapes.{Shaped, shaped_from, ready_to, build_to, que
 use Rattle.gate_laws.proofs.StateShapes.{WholeQueue, settle_shaped, leave_shaped, put_shaped, stage_shaped, unready_shaped, ready_shaped, shrunk_shaped, end_shaped}
 use Rattle.gate_laws.proofs.RowShapes.{windows_of}
 use Rattle.gate_laws.proofs.NeedForms.{needs_in_form}
-use Rattle.gate_laws.proofs.FewRows.{item_drawn, report_drawn, landing_drawn, build_drawn, tops}
+use Rattle.gate_laws.proofs.Drawn.{item_drawn, report_drawn, landing_drawn, build_drawn}
+use Rattle.gate_laws.proofs.FewRows.{tops}
 use Rattle.gate_laws.proofs.ChosenShape.{queue_set, take_shaped}
 use Rattle.gate_laws.proofs.LandedShape.{after_shaped}
 
@@ -47,7 +48,8 @@ form_of c s f h k =
     record {
       changes = all (λ x. is_change_in_form x ≡ true) s.changes k.changes;
       ready = all (λ r. is_ready_in_form r ≡ true) s.ready (λ r m.
-          let top = leb-true r.approval s.counters.approval (every (λ r. nat_le r.approval s.counters.approval ≡ true) s.ready h.sound.approvals_are_drawn r m) in
+          let top = leb-true r.approval s.counters.approval
+          (every (λ r. nat_le r.approval s.counters.approval ≡ true) s.ready h.sound.approvals_are_drawn r m) in
           ready_to r (omega (arith, top, approval)) (k.ready r m));
       queues = all (λ q. is_queue_in_form q ≡ true) s.queues (λ q m.
           queue_to q (queue_set c s h.sound f q m).1
@@ -56,55 +58,78 @@ form_of c s f h k =
           (λ r n. let top = report_drawn c s h.sound q m r n in omega (arith, top, order))
           (k.queues q m));
       builds = all (λ b. is_build_in_form c b ≡ true) s.builds (λ b m.
-          let number = leb-true b.number s.counters.build (every (λ b. nat_le b.number s.counters.build ≡ true) s.builds h.sound.builds_are_drawn b m) in
+          let number = leb-true b.number s.counters.build
+          (every (λ b. nat_le b.number s.counters.build ≡ true) s.builds h.sound.builds_are_drawn b m) in
           let serial = build_drawn c s h.sound b m in
           build_to c b (omega (arith, number, build)) (omega (arith, serial, order)) (k.builds b m));
-      counters = and_from _ _ (and_from _ _ (le-leb s.counters.approval 1000000000000000 approval) (le-leb s.counters.build 1000000000000000 build)) (le-leb s.counters.order 1000000000000000 order);
+      counters = and_from _ _ (and_from _ _ (le-leb s.counters.approval 1000000000000000 approval)
+          (le-leb s.counters.build 1000000000000000 build)) (le-leb s.counters.order 1000000000000000 order);
     }
 
 -- ---- kind by kind, before settling
 
 -- a change as a revision tells it
-new_in_form : (c : Settings) (n : ℕ) (name : List ℕ) (r : ℕ) (message : List ℕ) → is_delivery_in_form (delivery.Revision n name r message) ≡ true → nat_lt 32 (length (needs c.base message)) ≡ false →
+new_in_form : (c : Settings) (n : ℕ) (name : List ℕ) (r : ℕ) (message : List ℕ) →
+    is_delivery_in_form (delivery.Revision n name r message) ≡ true →
+    nat_lt 32 (length (needs c.base message)) ≡ false →
     is_change_in_form (new_revision c n name r message) ≡ true
 new_in_form c n name r message d few =
     let p4 = and_parts _ _ d in
     let p3 = and_parts _ _ p4.0 in
     let top = ltb-false 32 (length (needs c.base message)) few in
-    and_from (is_change_number n && is_path_name name && is_revision_number r && nat_le (length (needs c.base message)) 32) (list_all is_change_number (needs c.base message))
-    (and_from (is_change_number n && is_path_name name && is_revision_number r) (nat_le (length (needs c.base message)) 32) p3.0 (le-leb (length (needs c.base message)) 32 top))
+    and_from (is_change_number n && is_path_name name && is_revision_number r && nat_le (length (needs c.base message))
+    32) (list_all is_change_number (needs c.base message))
+    (and_from (is_change_number n && is_path_name name && is_revision_number r)
+    (nat_le (length (needs c.base message)) 32) p3.0 (le-leb (length (needs c.base message)) 32 top))
     (needs_in_form c.base message)
 
-revision_shaped : (c : Settings) (s : State) (n : ℕ) (name : List ℕ) (r : ℕ) (message : List ℕ) → is_delivery_in_form (delivery.Revision n name r message) ≡ true → Shaped c s → OnAccepted (Shaped c) (raw_revision c s n name r message)
+revision_shaped : (c : Settings) (s : State) (n : ℕ) (name : List ℕ) (r : ℕ) (message : List ℕ) →
+    is_delivery_in_form (delivery.Revision n name r message) ≡ true → Shaped c s →
+    OnAccepted (Shaped c) (raw_revision c s n name r message)
 revision_shaped c s n name r message d h =
     on_test (Shaped c) (not (has_project c name)) _ _ (λ b. tt) (λ b.
     on_test (Shaped c) (is_known_and s n (λ k. not (same_name k.project name))) _ _ (λ a. tt) (λ a.
     on_test (Shaped c) (is_known_and s n (λ k. nat_le r k.revision || is_landed k)) _ _ (λ l. h) (λ l.
     on_test (Shaped c) (is_submitting c s n) _ _ (λ m. tt) (λ m.
     on_test (Shaped c) (nat_lt 32 (length (needs c.base message))) _ _ (λ o. tt) (λ o.
-    put_shaped c (without_ready n (leave verdict.Superseded n s)) (new_revision c n name r message) (new_in_form c n name r message d o)
+    put_shaped c (without_ready n (leave verdict.Superseded n s)) (new_revision c n name r message)
+    (new_in_form c n name r message d o)
     (unready_shaped c (leave verdict.Superseded n s) n (leave_shaped c s verdict.Superseded n (λ m. tt) h)))))))
 
-each_shaped : (c : Settings) (s : State) → are_sound c ≡ true → are_settings_in_form c ≡ true → IsLawful c s → Shaped c s → (d : Delivery) → is_delivery_in_form d ≡ true → OnAccepted (Shaped c) (raw_step c s d)
+each_shaped : (c : Settings) (s : State) → are_sound c ≡ true → are_settings_in_form c ≡ true → IsLawful c s →
+    Shaped c s → (d : Delivery) → is_delivery_in_form d ≡ true → OnAccepted (Shaped c) (raw_step c s d)
 each_shaped c s w f h k (delivery.Revision n name r message) d = revision_shaped c s n name r message d k
-each_shaped c s w f h k (delivery.Approved n r) d = each_approved (Shaped c) c s n r k (λ o a b. ready_shaped c s n (and_parts (is_change_number n) (is_revision_number r) d).0 k)
-each_shaped c s w f h k (delivery.Withdrawn n r) d = each_withdrawn (Shaped c) c s n r k (λ a. leave_shaped c s verdict.Withdrawn n (λ m. tt) k) (unready_shaped c s n k)
+each_shaped c s w f h k (delivery.Approved n r) d =
+    each_approved (Shaped c) c s n r k
+    (λ o a b. ready_shaped c s n (and_parts (is_change_number n) (is_revision_number r) d).0 k)
+each_shaped c s w f h k (delivery.Withdrawn n r) d =
+    each_withdrawn (Shaped c) c s n r k (λ a. leave_shaped c s verdict.Withdrawn n (λ m. tt) k) (unready_shaped c s n k)
 each_shaped c s w f h k (delivery.Closed n r) d = each_closed (Shaped c) c s n r k (λ x e a b.
-    stage_shaped c (without_ready n (leave verdict.Closed n s)) stage.Closed n (subst (λ y. In y s.changes) (sym (known_is s n x e)) (found (λ y. y.number == n) s.changes x e).0)
+    stage_shaped c (without_ready n (leave verdict.Closed n s)) stage.Closed n
+    (subst (λ y. In y s.changes) (sym (known_is s n x e)) (found (λ y. y.number == n) s.changes x e).0)
     (unready_shaped c (leave verdict.Closed n s) n (leave_shaped c s verdict.Closed n (λ m. tt) k)))
 each_shaped c s w f h k (delivery.Landed number) d = each_landed (Shaped c) c s number (λ o e.
     subst (Shaped c) (sym (is_after (length o.queue.landings + 1) o s))
-    (after_shaped c s o (record { settings = w; sound = h.sound; shows = shows c s number o e; needs = settled_is_at_rest.needs_before c s h.settled }) k))
+    (after_shaped c s o (record {
+      settings = w;
+      sound = h.sound;
+      shows = shows c s number o e;
+      needs = settled_is_at_rest.needs_before c s h.settled;
+    }) k))
 each_shaped c s w f h k (delivery.Refused number) d = each_refused (Shaped c) c s number (λ o e.
-    shrunk_shaped c (leave verdict.Refused o.item.change s) o.queue.name w (leave_shaped c s verdict.Refused o.item.change (λ m. tt) k))
-each_shaped c s w f h k (delivery.Take worker) d = each_take (Shaped c) c s (λ b e. take_shaped c s f h.sound (tops s h.not_exhausted) k b e)
+    shrunk_shaped c (leave verdict.Refused o.item.change s) o.queue.name w
+    (leave_shaped c s verdict.Refused o.item.change (λ m. tt) k))
+each_shaped c s w f h k (delivery.Take worker) d =
+    each_take (Shaped c) c s (λ b e. take_shaped c s f h.sound (tops s h.not_exhausted) k b e)
 each_shaped c s w f h k (delivery.Result n e) d = each_result (Shaped c) s n e k (λ a x y. end_shaped c s e n k)
 
 -- ---- settled
 
-settled_shaped : (c : Settings) → are_sound c ≡ true → (x : Stepped) → OnAccepted (IsSound c) x → OnAccepted (Shaped c) x → OnAccepted (Shaped c) (settled_step c x)
+settled_shaped : (c : Settings) → are_sound c ≡ true → (x : Stepped) → OnAccepted (IsSound c) x →
+    OnAccepted (Shaped c) x → OnAccepted (Shaped c) (settled_step c x)
 settled_shaped c w (accepted said t) h k =
-    on_test (Shaped c) (is_exhausted (settle c t)) (refused refusal.Exhausted) (accepted said (settle c t)) (λ e. tt) (λ e. settle_shaped c t w h k)
+    on_test (Shaped c) (is_exhausted (settle c t)) (refused refusal.Exhausted) (accepted said (settle c t)) (λ e. tt)
+    (λ e. settle_shaped c t w h k)
 settled_shaped c w (refused r) h k = tt
 
 -- what is said of each accepted state is said of the one there is
@@ -116,7 +141,9 @@ pub step_is_in_form : StepIsInForm
 step_is_in_form c s d r t w f h k v e =
     form_of c t f (step_is_lawful c s d r t w h e)
     (on_accepted (Shaped c) (step c s d)
-    (settled_shaped c w (raw_step c s d) (to_accepted (IsSound c) (raw_step c s d) (λ q u g. raw_step_is_sound c s d q u w h g)) (each_shaped c s w f h (shaped_from c s k) d v)) r t e)
+    (settled_shaped c w (raw_step c s d)
+    (to_accepted (IsSound c) (raw_step c s d) (λ q u g. raw_step_is_sound c s d q u w h g))
+    (each_shaped c s w f h (shaped_from c s k) d v)) r t e)
 
 -- ---- the start
 
@@ -126,7 +153,13 @@ start_queue c w q m =
     let p3 = and_parts _ _ sound in
     let p2 = and_parts _ _ p3.0 in
     let p1 = and_parts _ _ p2.0 in
-    record { window = leb-true q.window 1000 p1.0; room = omega arith; items = λ i n. absurd n; landings = λ l n. absurd n; reports = λ r n. absurd n }
+    record {
+      window = leb-true q.window 1000 p1.0;
+      room = omega arith;
+      items = λ i n. absurd n;
+      landings = λ l n. absurd n;
+      reports = λ r n. absurd n;
+    }
 
 start_shaped : (c : Settings) → are_sound c ≡ true → Shaped c (start c)
 start_shaped c w = record {

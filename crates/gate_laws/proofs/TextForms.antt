@@ -37,8 +37,10 @@ name_low b h = grind (arith, nat_tests)
 path_low : (b : ℕ) → is_path_byte b ≡ true → b < 128
 path_low b h = grind (arith, nat_tests)
 
-low_utf8 : (test : ℕ → Bool) → ((b : ℕ) → test b ≡ true → b < 128) → (text : List ℕ) → list_all test text ≡ true → IsUtf8 text
-low_utf8 test low text h = IsUtf8-from_ascii text (IsAscii-from_all text (all (λ b. b < 128) text (λ b m. low b (all_from test text h b m))))
+low_utf8 : (test : ℕ → Bool) → ((b : ℕ) → test b ≡ true → b < 128) → (text : List ℕ) →
+    list_all test text ≡ true → IsUtf8 text
+low_utf8 test low text h =
+    IsUtf8-from_ascii text (IsAscii-from_all text (all (λ b. b < 128) text (λ b m. low b (all_from test text h b m))))
 
 name_utf8 : (text : List ℕ) → is_name text ≡ true → IsUtf8 text
 name_utf8 text h = let last = and_parts _ _ h in low_utf8 is_name_byte name_low text last.1
@@ -56,28 +58,35 @@ AllKeep [] = Unit {0}
 AllKeep (p ∷ ps) = KeepsUtf8 p × AllKeep ps
 
 number_keeps : (n : ℕ) → n ≤ 1000000000000000 → KeepsUtf8 (number n)
-number_keeps n h rest u = IsUtf8-append (decimal n) rest (IsUtf8-from_ascii (decimal n) (IsAscii-decimal n (omega (arith, h)))) u
+number_keeps n h rest u =
+    IsUtf8-append (decimal n) rest (IsUtf8-from_ascii (decimal n) (IsAscii-decimal n (omega (arith, h)))) u
 
 plain_keeps : (text : List ℕ) → IsUtf8 text → KeepsUtf8 (plain text)
-plain_keeps text t rest u = one 34 (omega arith) (text ++ 34 ∷ rest) (IsUtf8-append text (34 ∷ rest) t (one 34 (omega arith) rest u))
+plain_keeps text t rest u =
+    one 34 (omega arith) (text ++ 34 ∷ rest) (IsUtf8-append text (34 ∷ rest) t (one 34 (omega arith) rest u))
 
 escaped_keeps : (text : List ℕ) → IsUtf8 text → KeepsUtf8 (escaped text)
 escaped_keeps text t rest u = IsUtf8-append (quoted text) rest (IsUtf8-quoted text t) u
 
 member_keeps : (name : List ℕ) (value : Piece) → IsUtf8 name → KeepsUtf8 value → KeepsUtf8 (member name value)
 member_keeps name value n v rest u =
-    one 34 (omega arith) (name ++ 34 ∷ 58 ∷ value rest) (IsUtf8-append name (34 ∷ 58 ∷ value rest) n (one 34 (omega arith) (58 ∷ value rest) (one 58 (omega arith) (value rest) (v rest u))))
+    one 34 (omega arith) (name ++ 34 ∷ 58 ∷ value rest)
+    (IsUtf8-append name (34 ∷ 58 ∷ value rest) n
+    (one 34 (omega arith) (58 ∷ value rest) (one 58 (omega arith) (value rest) (v rest u))))
 
 joined_keep : (ps : List Piece) → AllKeep ps → KeepsUtf8 (joined ps)
 joined_keep [] h rest u = u
 joined_keep (p ∷ []) h rest u = h.0 rest u
-joined_keep (p ∷ q ∷ ps) h rest u = h.0 (44 ∷ joined (q ∷ ps) rest) (one 44 (omega arith) (joined (q ∷ ps) rest) (joined_keep (q ∷ ps) h.1 rest u))
+joined_keep (p ∷ q ∷ ps) h rest u =
+    h.0 (44 ∷ joined (q ∷ ps) rest) (one 44 (omega arith) (joined (q ∷ ps) rest) (joined_keep (q ∷ ps) h.1 rest u))
 
 array_keeps : (ps : List Piece) → AllKeep ps → KeepsUtf8 (array ps)
-array_keeps ps h rest u = one 91 (omega arith) (joined ps (93 ∷ rest)) (joined_keep ps h (93 ∷ rest) (one 93 (omega arith) rest u))
+array_keeps ps h rest u =
+    one 91 (omega arith) (joined ps (93 ∷ rest)) (joined_keep ps h (93 ∷ rest) (one 93 (omega arith) rest u))
 
 object_utf8 : (ps : List Piece) → AllKeep ps → IsUtf8 (object ps [])
-object_utf8 ps h = one 123 (omega arith) (joined ps (125 ∷ [])) (joined_keep ps h (125 ∷ []) (one 125 (omega arith) [] IsUtf8-nil))
+object_utf8 ps h = one 123 (omega arith) (joined ps (125 ∷ []))
+    (joined_keep ps h (125 ∷ []) (one 125 (omega arith) [] IsUtf8-nil))
 
 -- ---- numbers in form
 
@@ -95,19 +104,34 @@ drawn_fits n h = most 1000000000000000 n h
 kind_keeps : (word : List ℕ) → IsUtf8 word → KeepsUtf8 (kind word)
 kind_keeps word w = member_keeps (codes "kind") (plain word) (IsUtf8-are_ascii (codes "kind") refl) (plain_keeps word w)
 
-change_keeps : (word : List ℕ) (n r : ℕ) → IsUtf8 word → is_change_number n && is_revision_number r ≡ true → IsUtf8 (object (on_change word n r) [])
+change_keeps : (word : List ℕ) (n r : ℕ) → IsUtf8 word → is_change_number n && is_revision_number r ≡ true →
+    IsUtf8 (object (on_change word n r) [])
 change_keeps word n r w h =
     let both = and_parts (is_change_number n) (is_revision_number r) h in
     object_utf8 (on_change word n r) (
-      member_keeps (codes "change") (number n) (IsUtf8-are_ascii (codes "change") refl) (number_keeps n (change_fits n both.0)),
+      member_keeps (codes "change") (number n) (IsUtf8-are_ascii (codes "change") refl)
+          (number_keeps n (change_fits n both.0)),
       (
         kind_keeps word w,
-        (member_keeps (codes "revision") (number r) (IsUtf8-are_ascii (codes "revision") refl) (number_keeps r (revision_fits r both.1)), tt),
+        (
+          member_keeps (codes "revision") (number r) (IsUtf8-are_ascii (codes "revision") refl)
+              (number_keeps r (revision_fits r both.1)),
+          tt,
+        ),
       ),
     )
 
-order_keeps : (word : List ℕ) (n : ℕ) → IsUtf8 word → is_drawn_number n ≡ true → IsUtf8 (object (on_order_number word n) [])
-order_keeps word n w h = object_utf8 (on_order_number word n) (kind_keeps word w, (member_keeps (codes "order") (number n) (IsUtf8-are_ascii (codes "order") refl) (number_keeps n (drawn_fits n h)), tt))
+order_keeps : (word : List ℕ) (n : ℕ) → IsUtf8 word → is_drawn_number n ≡ true →
+    IsUtf8 (object (on_order_number word n) [])
+order_keeps word n w h =
+    object_utf8 (on_order_number word n) (
+      kind_keeps word w,
+      (
+        member_keeps (codes "order") (number n) (IsUtf8-are_ascii (codes "order") refl)
+            (number_keeps n (drawn_fits n h)),
+        tt,
+      ),
+    )
 
 ending_utf8 : (e : Ending) → IsUtf8 (ending_word e)
 ending_utf8 ending.Success = IsUtf8-are_ascii (codes "success") refl
@@ -121,32 +145,48 @@ said_utf8 (delivery.Revision n name r message) h =
     let p2 = and_parts _ _ p3.0 in
     let p1 = and_parts _ _ p2.0 in
     object_utf8 (delivery_members (delivery.Revision n name r message)) (
-      member_keeps (codes "change") (number n) (IsUtf8-are_ascii (codes "change") refl) (number_keeps n (change_fits n p1.0)),
+      member_keeps (codes "change") (number n) (IsUtf8-are_ascii (codes "change") refl)
+          (number_keeps n (change_fits n p1.0)),
       (
         kind_keeps (codes "revision") (IsUtf8-are_ascii (codes "revision") refl),
         (
-          member_keeps (codes "message") (escaped message) (IsUtf8-are_ascii (codes "message") refl) (escaped_keeps message (IsUtf8-from_is_utf8 message p4.1)),
+          member_keeps (codes "message") (escaped message) (IsUtf8-are_ascii (codes "message") refl)
+              (escaped_keeps message (IsUtf8-from_is_utf8 message p4.1)),
           (
-            member_keeps (codes "project") (escaped name) (IsUtf8-are_ascii (codes "project") refl) (escaped_keeps name (path_utf8 name p1.1)),
-            (member_keeps (codes "revision") (number r) (IsUtf8-are_ascii (codes "revision") refl) (number_keeps r (revision_fits r p2.1)), tt),
+            member_keeps (codes "project") (escaped name) (IsUtf8-are_ascii (codes "project") refl)
+                (escaped_keeps name (path_utf8 name p1.1)),
+            (
+              member_keeps (codes "revision") (number r) (IsUtf8-are_ascii (codes "revision") refl)
+                  (number_keeps r (revision_fits r p2.1)),
+              tt,
+            ),
           ),
         ),
       ),
     )
 said_utf8 (delivery.Approved n r) h = change_keeps (codes "approved") n r (IsUtf8-are_ascii (codes "approved") refl) h
-said_utf8 (delivery.Withdrawn n r) h = change_keeps (codes "withdrawn") n r (IsUtf8-are_ascii (codes "withdrawn") refl) h
+said_utf8 (delivery.Withdrawn n r) h =
+    change_keeps (codes "withdrawn") n r (IsUtf8-are_ascii (codes "withdrawn") refl) h
 said_utf8 (delivery.Closed n r) h = change_keeps (codes "closed") n r (IsUtf8-are_ascii (codes "closed") refl) h
 said_utf8 (delivery.Landed n) h = order_keeps (codes "landed") n (IsUtf8-are_ascii (codes "landed") refl) h
 said_utf8 (delivery.Refused n) h = order_keeps (codes "refused") n (IsUtf8-are_ascii (codes "refused") refl) h
 said_utf8 (delivery.Take worker) h = object_utf8 (delivery_members (delivery.Take worker)) (
   kind_keeps (codes "take") (IsUtf8-are_ascii (codes "take") refl),
-  (member_keeps (codes "worker") (escaped worker) (IsUtf8-are_ascii (codes "worker") refl) (escaped_keeps worker (path_utf8 worker h)), tt),
+  (
+    member_keeps (codes "worker") (escaped worker) (IsUtf8-are_ascii (codes "worker") refl)
+        (escaped_keeps worker (path_utf8 worker h)),
+    tt,
+  ),
 )
 said_utf8 (delivery.Result n e) h = object_utf8 (delivery_members (delivery.Result n e)) (
   member_keeps (codes "build") (number n) (IsUtf8-are_ascii (codes "build") refl) (number_keeps n (drawn_fits n h)),
   (
     kind_keeps (codes "result") (IsUtf8-are_ascii (codes "result") refl),
-    (member_keeps (codes "outcome") (plain (ending_word e)) (IsUtf8-are_ascii (codes "outcome") refl) (plain_keeps (ending_word e) (ending_utf8 e)), tt),
+    (
+      member_keeps (codes "outcome") (plain (ending_word e)) (IsUtf8-are_ascii (codes "outcome") refl)
+          (plain_keeps (ending_word e) (ending_utf8 e)),
+      tt,
+    ),
   ),
 )
 
@@ -156,16 +196,21 @@ canonical_is_utf8 d h = is_utf8-from_IsUtf8 (canonical_text d) (said_utf8 d h)
 -- ---- replies
 
 word_keeps : (word : List ℕ) → IsUtf8 word → KeepsUtf8 (reply_member word)
-word_keeps word w = member_keeps (codes "reply") (plain word) (IsUtf8-are_ascii (codes "reply") refl) (plain_keeps word w)
+word_keeps word w = member_keeps (codes "reply") (plain word) (IsUtf8-are_ascii (codes "reply") refl)
+    (plain_keeps word w)
 
 entry_keeps : (e : Entry) → is_entry_in_form e ≡ true → KeepsUtf8 (entry e)
 entry_keeps e h =
     let both = and_parts (is_change_number e.change) (is_revision_number e.revision) h in
-    array_keeps (number e.change ∷ number e.revision ∷ []) (number_keeps e.change (change_fits e.change both.0), (number_keeps e.revision (revision_fits e.revision both.1), tt))
+    array_keeps (number e.change ∷ number e.revision ∷ []) (
+      number_keeps e.change (change_fits e.change both.0),
+      (number_keeps e.revision (revision_fits e.revision both.1), tt),
+    )
 
 entries_keep : (es : List Entry) → list_all is_entry_in_form es ≡ true → AllKeep (map entry es)
 entries_keep [] h = tt
-entries_keep (e ∷ es) h = let both = and_parts (is_entry_in_form e) (list_all is_entry_in_form es) h in (entry_keeps e both.0, entries_keep es both.1)
+entries_keep (e ∷ es) h = let both = and_parts (is_entry_in_form e) (list_all is_entry_in_form es) h in
+    (entry_keeps e both.0, entries_keep es both.1)
 
 build_utf8 : (c : Settings) (b : Build) → is_build_in_form c b ≡ true → IsUtf8 (reply_text (reply.Build b))
 build_utf8 c b h =
@@ -178,20 +223,30 @@ build_utf8 c b h =
     let p2 = and_parts _ _ p3.0 in
     let p1 = and_parts _ _ p2.0 in
     object_utf8 (reply_members (reply.Build b)) (
-      member_keeps (codes "after") (number b.after) (IsUtf8-are_ascii (codes "after") refl) (number_keeps b.after f.0.base),
+      member_keeps (codes "after") (number b.after) (IsUtf8-are_ascii (codes "after") refl)
+          (number_keeps b.after f.0.base),
       (
-        member_keeps (codes "ahead") (array (map entry b.ahead)) (IsUtf8-are_ascii (codes "ahead") refl) (array_keeps (map entry b.ahead) (entries_keep b.ahead f.0.entries)),
+        member_keeps (codes "ahead") (array (map entry b.ahead)) (IsUtf8-are_ascii (codes "ahead") refl)
+            (array_keeps (map entry b.ahead) (entries_keep b.ahead f.0.entries)),
         (
-          member_keeps (codes "build") (number b.number) (IsUtf8-are_ascii (codes "build") refl) (number_keeps b.number (drawn_fits b.number p1.0)),
+          member_keeps (codes "build") (number b.number) (IsUtf8-are_ascii (codes "build") refl)
+              (number_keeps b.number (drawn_fits b.number p1.0)),
           (
-            member_keeps (codes "change") (number b.change) (IsUtf8-are_ascii (codes "change") refl) (number_keeps b.change (change_fits b.change f.1.1)),
+            member_keeps (codes "change") (number b.change) (IsUtf8-are_ascii (codes "change") refl)
+                (number_keeps b.change (change_fits b.change f.1.1)),
             (
-              member_keeps (codes "job") (plain b.job) (IsUtf8-are_ascii (codes "job") refl) (plain_keeps b.job (name_utf8 b.job f.0.job_name)),
+              member_keeps (codes "job") (plain b.job) (IsUtf8-are_ascii (codes "job") refl)
+                  (plain_keeps b.job (name_utf8 b.job f.0.job_name)),
               (
-                member_keeps (codes "queue") (plain b.queue) (IsUtf8-are_ascii (codes "queue") refl) (plain_keeps b.queue (name_utf8 b.queue f.0.queue_name)),
+                member_keeps (codes "queue") (plain b.queue) (IsUtf8-are_ascii (codes "queue") refl)
+                    (plain_keeps b.queue (name_utf8 b.queue f.0.queue_name)),
                 (
                   word_keeps (codes "build") (IsUtf8-are_ascii (codes "build") refl),
-                  (member_keeps (codes "revision") (number b.revision) (IsUtf8-are_ascii (codes "revision") refl) (number_keeps b.revision (revision_fits b.revision f.1.2)), tt),
+                  (
+                    member_keeps (codes "revision") (number b.revision) (IsUtf8-are_ascii (codes "revision") refl)
+                        (number_keeps b.revision (revision_fits b.revision f.1.2)),
+                    tt,
+                  ),
                 ),
               ),
             ),

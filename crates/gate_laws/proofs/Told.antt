@@ -21,16 +21,19 @@ use Rattle.gate_laws.proofs.Members.{In}
 pub unlanded_told : (old new : List Report) → filter_map landing_of new ≡ [] →
     filter_map landing_of (old ++ new) ≡ filter_map landing_of old
 unlanded_told old new none =
-    filter_map-append landing_of old new ∙ ap (λ l. filter_map landing_of old ++ l) none ∙ append-nil (filter_map landing_of old)
+    filter_map-append landing_of old new ∙ ap (λ l. filter_map landing_of old ++ l) none
+    ∙ append-nil (filter_map landing_of old)
 
 -- a verdict of no landing
 abbrev pub TellsNoLanding : Verdict → Type 0
 TellsNoLanding v = (i : Item) → landing_of (report_of v i) ≡ None
 
 -- the reports of items that leave under one
-pub unlanded_left : (v : Verdict) → TellsNoLanding v → (is : List Item) → filter_map landing_of (map (report_of v) is) ≡ []
+pub unlanded_left : (v : Verdict) → TellsNoLanding v → (is : List Item) →
+    filter_map landing_of (map (report_of v) is) ≡ []
 unlanded_left v h [] = refl
-unlanded_left v h (i ∷ is) = ap (λ o. cons_option o (filter_map landing_of (map (report_of v) is))) (h i) ∙ unlanded_left v h is
+unlanded_left v h (i ∷ is) = ap (λ o. cons_option o (filter_map landing_of (map (report_of v) is))) (h i)
+    ∙ unlanded_left v h is
 
 -- the report on an item that a sweep takes
 abbrev pub report_on : Judged → Option Report
