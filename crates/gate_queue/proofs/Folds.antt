@@ -17,6 +17,7 @@ use Rattle.gate_types.specs.Sweep.{Judged, judge, judged_after, verdict_of, next
 use Rattle.gate_types.specs.Rows.{Rows, ReportRow, row_of, numbered, edited, edited_items, edited_builds, edited_reports, edited_window, fold_edits}
 use Rattle.gate_queue.specs.Edits.{stops, stop_edits, item_edits, edits_at, edits_after, next_reports}
 use Rattle.gate_queue.proofs.Ordered.{RiseFrom, AllBelow, GoWith, Tells, row_serial}
+use Rattle.gate_laws.proofs.Stays.{stayers}
 
 -- each part of the rows is edited by itself
 pub fold_parts : (r : Rows) (edits : List Edit) → fold_edits r edits ≡ record {
@@ -164,10 +165,6 @@ items_own name n done i x (Some v) rest e h r =
     ap (λ s. filter (λ j. not (j.serial == s)) (done ++ i ∷ rest)) e
     ∙ drop_there done i rest h r
     ∙ ap (λ d. d ++ rest) (sym (append-nil done))
-
--- the places of the items that stay
-abbrev pub stayers : (ℕ → Bool) → List Place → List Place
-stayers leaves ps = filter (λ p. not (leaves p.item.serial)) ps
 
 kept_cons : (done tail : List ItemRow) (bs : List Build) (p : Place) (v : Option Verdict) (leaves : ℕ → Bool) (ps : List Place) → leaves p.item.serial ≡ is_some v →
     (done ++ kept v (row_of bs p)) ++ (map (row_of bs) (stayers leaves ps) ++ tail) ≡ done ++ (map (row_of bs) (stayers leaves (p ∷ ps)) ++ tail)

@@ -1,24 +1,23 @@
 -- The laws of a rebase and a sweep, proved.
-use Rattle.std.proofs.Common.{◌≡◌, ℕ, suc, Bool, true, false, not, cond, List, [], ◌∷◌, ◌++◌, map, refl, sym, ap, ◌∙◌, subst, true≢false}
-use Rattle.std.specs.Prelude.{◌==◌}
-use Rattle.std.specs.List.{list_any, flat_map, All, AllPass}
+use Rattle.std.proofs.Common.{◌≡◌, ℕ, suc, Bool, true, false, not, cond, List, [], ◌∷◌, ◌++◌, map, refl, sym, ap, ◌∙◌, true≢false}
+use Rattle.std.specs.List.{All, AllPass}
 use Rattle.std.proofs.lemmas.List.Elements.{All-cons, All-nil, All-head, All-tail}
-use Rattle.std.proofs.lemmas.List.Folds.{list_any-append}
-use Rattle.std.proofs.lemmas.List.Concat.{flat_map-cons}
 use Rattle.gate_types.specs.declared.config.Job.{Job}
 use Rattle.gate_types.specs.declared.records.Build.{Build}
 use Rattle.gate_types.specs.Settings.{Settings}
 use Rattle.gate_types.specs.State.{Item, Queue, State}
 use Rattle.gate_types.specs.Line.{Place}
-use Rattle.gate_types.specs.Slot.{slot_of, counts}
+use Rattle.gate_types.specs.Slot.{slot_of}
 use Rattle.gate_types.specs.Standing.{is_failing, places, all_places, places_after, place_of, with_ahead, next_ahead}
 use Rattle.gate_types.specs.Rebase.{rebase, stays_live}
 use Rattle.gate_types.specs.Sweep.{judged, judged_after, judge, next_staying, goes}
 use Rattle.gate_queue.specs.Laws.{RebaseKeepsMarks, WhatGoesStandsInNoLine}
 use Rattle.gate_queue.specs.Examples.{TwoItemsAreSettled}
 use Rattle.gate_queue.proofs.Ordered.{RiseFrom, Tells, place_serial, rises, ahead_rise}
-use Rattle.gate_queue.proofs.Keeps.{keeps, PassesAll, passes_first, passes_rest, places_kept, failing_kept, slot_kept, either, or_left, or_right}
-use Rattle.gate_queue.proofs.Stays.{Among, among_next, goes_failing}
+use Rattle.gate_laws.proofs.Members.{all}
+use Rattle.gate_laws.proofs.Stays.{Among, among_next, goes_failing}
+use Rattle.gate_laws.proofs.AfterRebase.{all_places_rebased}
+use Rattle.gate_queue.proofs.Keeps.{passes_at, all_alike, slot_kept, rebase_passes}
 use Rattle.gate_queue.proofs.Settled.{goes_tells}
 
 pub two_items_are_settled : TwoItemsAreSettled
@@ -26,37 +25,15 @@ two_items_are_settled = record { first_fails = refl; first_goes = refl; both_go 
 
 -- ---- a rebase
 
-slots_all : (bs : List Build) (ps : List Place) (test : Build → Bool) → PassesAll test ps → All (λ p. (j : Job) → slot_of (map (keeps test) bs) p j ≡ slot_of bs p j) ps
-slots_all bs [] test h = All-nil _
-slots_all bs (p ∷ ps) test h = All-cons (λ p. (j : Job) → slot_of (map (keeps test) bs) p j ≡ slot_of bs p j) p ps (slot_kept bs p test (passes_first test p ps h)) (slots_all bs ps test (passes_rest test p ps h))
-
-marks_all : (bs : List Build) (ps : List Place) (test : Build → Bool) → PassesAll test ps → All (λ p. is_failing (map (keeps test) bs) p ≡ is_failing bs p) ps
-marks_all bs [] test h = All-nil _
-marks_all bs (p ∷ ps) test h = All-cons (λ p. is_failing (map (keeps test) bs) p ≡ is_failing bs p) p ps (failing_kept bs p test (passes_first test p ps h)) (marks_all bs ps test (passes_rest test p ps h))
-
-pub passes_left : (test : Build → Bool) (ps qs : List Place) → PassesAll test (ps ++ qs) → PassesAll test ps
-passes_left test ps qs h b = or_left (list_any (λ p. counts p b) ps) (list_any (λ p. counts p b) qs) (test b) (λ e. h b (list_any-append (λ p. counts p b) ps qs ∙ e))
-
-pub passes_right : (test : Build → Bool) (ps qs : List Place) → PassesAll test (ps ++ qs) → PassesAll test qs
-passes_right test ps qs h b = or_right (list_any (λ p. counts p b) ps) (list_any (λ p. counts p b) qs) (test b) (λ e. h b (list_any-append (λ p. counts p b) ps qs ∙ e))
-
-queues_kept : (c : Settings) (s : State) (qs : List Queue) → PassesAll (stays_live (all_places c s)) (flat_map (places c s) qs) → flat_map (places c (rebase c s)) qs ≡ flat_map (places c s) qs
-queues_kept c s [] h = refl
-queues_kept c s (q ∷ qs) h =
-    let test = stays_live (all_places c s) in
-    let both = subst (PassesAll test) (flat_map-cons (places c s) q qs) h in
-    flat_map-cons (places c (rebase c s)) q qs
-    ∙ (λ k. places_kept s.builds [] (map (place_of c s q) q.items) test (passes_left test (places c s q) (flat_map (places c s) qs) both) k ++ queues_kept c s qs (passes_right test (places c s q) (flat_map (places c s) qs) both) k)
-    ∙ sym (flat_map-cons (places c s) q qs)
-
-pub all_pass : (c : Settings) (s : State) → PassesAll (stays_live (all_places c s)) (all_places c s)
-all_pass c s b e = either (not (list_any (λ p. p.item.serial == b.serial) (all_places c s))) (list_any (λ p. counts p b) (all_places c s)) e
-
 pub rebase_keeps_marks : RebaseKeepsMarks
 rebase_keeps_marks = record {
-  places = λ c s. queues_kept c s s.queues (all_pass c s);
-  slots = λ c s. slots_all s.builds (all_places c s) (stays_live (all_places c s)) (all_pass c s);
-  marks = λ c s. marks_all s.builds (all_places c s) (stays_live (all_places c s)) (all_pass c s);
+  places = all_places_rebased;
+  slots = λ c s. let ps = all_places c s in let test = stays_live ps in
+      all (λ p. (j : Job) → slot_of (rebase c s).builds p j ≡ slot_of s.builds p j) ps
+      (λ p m. slot_kept s.builds p test (passes_at test ps (rebase_passes ps) p m));
+  marks = λ c s. let ps = all_places c s in
+      all (λ p. is_failing (rebase c s).builds p ≡ is_failing s.builds p) ps
+      (λ p m. (all_alike s.builds ps (stays_live ps) (rebase_passes ps) p m).failing);
 }
 
 -- ---- a sweep

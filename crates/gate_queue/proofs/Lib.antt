@@ -4,7 +4,6 @@ pub mod PlaceLemmas
 pub mod Ordered
 pub mod Folds
 pub mod Keeps
-pub mod Stays
 pub mod Builds
 pub mod OwnEdits
 pub mod Settled

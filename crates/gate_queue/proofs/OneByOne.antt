@@ -15,10 +15,10 @@ use Rattle.gate_types.specs.Sweep.{Judged, judge, judged_after, next_staying, ne
 use Rattle.gate_queue.specs.Settles.{verdicts}
 use Rattle.gate_queue.specs.Laws.{Scan, report_on, swept, without, one_out, OneSweepIsOneByOne}
 use Rattle.gate_queue.proofs.Ordered.{RiseFrom, place_serial, rises, ahead_rise}
-use Rattle.gate_queue.proofs.Folds.{stayers}
 use Rattle.gate_queue.proofs.Builds.{or_false}
-use Rattle.gate_queue.proofs.Keeps.{verdict_kept}
-use Rattle.gate_queue.proofs.Stays.{Among, among_next, goes_failing, at_place, runs_on, stayer_passes}
+use Rattle.gate_laws.proofs.Alike.{verdict_alike}
+use Rattle.gate_laws.proofs.StoppedRuns.{stopped_alike}
+use Rattle.gate_laws.proofs.Stays.{Among, among_next, goes_failing, at_place, stayers}
 
 -- a test passes only items that go
 abbrev Only : (ℕ → Bool) → List Judged → Type 0
@@ -48,7 +48,7 @@ verdicts_left bs staying (p ∷ ps) leaves o = by_place (leaves p.item.serial) r
         judged_after (without_runs leaves bs) staying (cond (not t) (p ∷ stayers leaves ps) (stayers leaves ps)) ≡ cond (not t) (judge bs staying p ∷ left_of leaves (judged_after bs (next_staying staying (judge bs staying p)) ps)) (left_of leaves (judged_after bs (next_staying staying (judge bs staying p)) ps))
     by_place true e g h = ap (λ (u : Bool). judged_after (without_runs leaves bs) (cond u staying (staying ++ p.item ∷ [])) (stayers leaves ps)) (sym (g refl)) ∙ h
     by_place false e g h =
-        (λ k. let j : Judged = record { item = p.item; verdict = verdict_kept bs staying p (runs_on leaves) (stayer_passes leaves p e) k } in j ∷ judged_after (without_runs leaves bs) (next_staying staying j) (stayers leaves ps))
+        (λ k. let j : Judged = record { item = p.item; verdict = verdict_alike (without_runs leaves bs) bs staying p (stopped_alike leaves bs p) k } in j ∷ judged_after (without_runs leaves bs) (next_staying staying j) (stayers leaves ps))
         ∙ ap (λ l. judge bs staying p ∷ l) h
 
 -- ---- the first that goes, apart from the others

@@ -1,5 +1,5 @@
 -- Rows, builds and places in order, and rows that go with places.
-use Rattle.std.proofs.Common.{◌≡◌, ℕ, ◌-◌, get_or, ⊎_elim, suc, ◌+◌, ◌<◌, ◌≤◌, Bool, List, [], ◌∷◌, map, length, is_some, arith, refl, sym, ap, ◌∙◌, subst}
+use Rattle.std.proofs.Common.{◌≡◌, ℕ, ◌-◌, get_or, ⊎_elim, suc, ◌+◌, ◌<◌, ◌≤◌, Bool, List, [], ◌∷◌, map, length, arith, refl, sym, ap, ◌∙◌, subst}
 use Rattle.std.specs.Prelude.{All, AllPairs}
 use Rattle.std.proofs.lemmas.List.Kept.{AllPairs-from_increasing}
 use Rattle.std.specs.List.Sorted.{IsStrictlyIncreasing}
@@ -14,6 +14,8 @@ use Rattle.gate_types.specs.Sweep.{Judged}
 use Rattle.gate_queue.specs.declared.facts.ItemFacts.{ItemFacts}
 use Rattle.gate_types.specs.declared.records.Landing.{Landing}
 use Rattle.gate_queue.specs.Facts.{places_by}
+use Rattle.std.specs.List.{AllByRecursion as Each}
+use Rattle.gate_laws.proofs.Stays.{Tells as TellsOf}
 
 -- numbers are at least n, and rise
 abbrev pub RiseFrom : {X : Type 0} → (X → ℕ) → ℕ → List X → Type 0
@@ -43,8 +45,7 @@ GoWith (i ∷ is) (p ∷ ps) = (i.serial ≡ p.item.serial) × GoWith is ps
 
 -- a test tells which of these go
 abbrev pub Tells : (ℕ → Bool) → List Judged → Type 0
-Tells leaves [] = Unit {0}
-Tells leaves (j ∷ js) = (leaves j.item.serial ≡ is_some j.verdict) × Tells leaves js
+Tells leaves = Each (TellsOf leaves)
 
 -- a list of numbers that rises, by its recursion
 numbers_rise : (n : ℕ) (ns : List ℕ) → AllPairs (λ x y. x < y) ns → All (λ x. n ≤ x) ns → RiseFrom (λ x. x) n ns

@@ -18,10 +18,12 @@ use Rattle.gate_types.specs.Rows.{numbered, row_of, fold_edits, edited_items, ed
 use Rattle.gate_queue.specs.Edits.{edits_after, window_edits, edits_of_queue}
 use Rattle.gate_queue.specs.Settles.{rebased, verdicts, swept_rows, settled_rows}
 use Rattle.gate_queue.proofs.Ordered.{RiseFrom, GoWith, Tells, row_serial, place_serial, build_number, places_rise, ahead_rise, ahead_with}
-use Rattle.gate_queue.proofs.Folds.{fold_parts, same_self, edits_along, along, window_fold, reports_fold, items_fold, stayers, reports_of}
+use Rattle.gate_queue.proofs.Folds.{fold_parts, same_self, edits_along, along, window_fold, reports_fold, items_fold, reports_of}
 use Rattle.gate_queue.proofs.Builds.{builds_fold}
-use Rattle.gate_queue.proofs.Keeps.{keeps, places_kept, verdicts_kept, row_kept, rebase_passes, passes_first, passes_rest, PassesAll}
-use Rattle.gate_queue.proofs.Stays.{places_stay, rows_stay}
+use Rattle.gate_laws.proofs.Members.{from_filter}
+use Rattle.gate_laws.proofs.Keeps.{keeps}
+use Rattle.gate_laws.proofs.Stays.{stayers, places_stay}
+use Rattle.gate_queue.proofs.Keeps.{PassesAll, all_alike, places_kept, verdicts_kept, rebase_passes, rows_alike, rows_stay}
 
 -- an item of another serial isn't told of
 goes_none : (bs : List Build) (n m : ℕ) (staying : List Item) (ps : List Place) → n < m → RiseFrom place_serial m ps → goes (judged_after bs staying ps) n ≡ false
@@ -81,20 +83,17 @@ window_leaves f name old new y h = by_test (old == new)
     by_test true = refl
     by_test false = h
 
-stayers_kept : (bs : List Build) (ps : List Place) (leaves : ℕ → Bool) (test : Build → Bool) → PassesAll test ps → map (row_of (map (keeps test) bs)) (stayers leaves ps) ≡ map (row_of bs) (stayers leaves ps)
-stayers_kept bs [] leaves test h = refl
-stayers_kept bs (p ∷ ps) leaves test h = by_place (leaves p.item.serial) (stayers_kept bs ps leaves test (passes_rest test p ps h))
-  where
-    by_place : (t : Bool) → map (row_of (map (keeps test) bs)) (stayers leaves ps) ≡ map (row_of bs) (stayers leaves ps) →
-        map (row_of (map (keeps test) bs)) (cond (not t) (p ∷ stayers leaves ps) (stayers leaves ps)) ≡ map (row_of bs) (cond (not t) (p ∷ stayers leaves ps) (stayers leaves ps))
-    by_place true r = r
-    by_place false r = λ k. row_kept bs p test (passes_first test p ps h) k ∷ r k
+stayers_kept : (bs : List Build) (ps : List Place) (leaves : ℕ → Bool) (test : Build → Bool) → PassesAll test ps →
+    map (row_of (map (keeps test) bs)) (stayers leaves ps) ≡ map (row_of bs) (stayers leaves ps)
+stayers_kept bs ps leaves test h =
+    rows_alike (map (keeps test) bs) bs (stayers leaves ps)
+    (λ p m. all_alike bs ps test h p (from_filter (λ p. not (leaves p.item.serial)) ps p m).0)
 
 -- after a rebase the verdicts are what they were
 pub verdicts_rebased : (ps : List Place) (bs : List Build) → verdicts ps (rebased ps bs) ≡ verdicts ps bs
 verdicts_rebased ps bs =
     let test = stays_live (places_after bs [] ps) in
-    ap (judged_after (rebased ps bs) []) (places_kept bs [] ps test (rebase_passes bs ps)) ∙ verdicts_kept bs [] (places_after bs [] ps) test (rebase_passes bs ps)
+    ap (judged_after (rebased ps bs) []) (places_kept bs [] ps test (rebase_passes (places_after bs [] ps))) ∙ verdicts_kept bs [] (places_after bs [] ps) test (rebase_passes (places_after bs [] ps))
 
 -- the rows of the items that stay, worked out anew from what a rebase and a sweep leave
 rows_settled : (ps : List Place) (bs : List Build) → RiseFrom place_serial 0 ps →
@@ -106,9 +105,9 @@ rows_settled ps bs r =
     let leaves = goes js in
     let left = without_runs leaves mid in
     let tells = subst (Tells leaves) (sym (verdicts_rebased ps bs)) (goes_tells bs 0 [] (places_after bs [] ps) (ahead_rise bs 0 [] ps r)) in
-    ap (map (row_of left)) (places_stay mid [] [] ps leaves (λ n h. h) tells ∙ ap (stayers leaves) (places_kept bs [] ps test (rebase_passes bs ps)))
-    ∙ rows_stay mid (places_after bs [] ps) leaves
-    ∙ stayers_kept bs (places_after bs [] ps) leaves test (rebase_passes bs ps)
+    ap (map (row_of left)) (places_stay mid [] [] ps leaves (λ n h. h) tells ∙ ap (stayers leaves) (places_kept bs [] ps test (rebase_passes (places_after bs [] ps))))
+    ∙ rows_stay mid (stayers leaves (places_after bs [] ps)) leaves
+    ∙ stayers_kept bs (places_after bs [] ps) leaves test (rebase_passes (places_after bs [] ps))
 
 -- what the edits make of the rows
 edits_make : (name : List ℕ) (floor w n : ℕ) (bs : List Build) (is : List ItemRow) (ps : List Place) (rs : List Report) → length rs ≡ n → GoWith is ps → RiseFrom row_serial 0 is → RiseFrom build_number 0 bs →
