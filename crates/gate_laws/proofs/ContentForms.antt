@@ -20,7 +20,7 @@ use Rattle.gate_types.specs.Forms.{are_settings_in_form, is_delivery_in_form, is
 use Rattle.gate_laws.specs.InForm.{EmptyIsInForm, NextContentIsInForm, RunIsInForm}
 use Rattle.gate_laws.proofs.Members.{In, every, not_found}
 use Rattle.gate_laws.proofs.StartIsLawful.{start_lawful}
-use Rattle.gate_laws.proofs.RunIsLawful.{step_is_lawful}
+use Rattle.gate_laws.proofs.RunIsLawful.{next_lawful}
 use Rattle.gate_laws.proofs.StepIsInForm.{start_is_in_form, step_is_in_form}
 use Rattle.gate_laws.proofs.ReplyForms.{reply_is_in_form}
 use Rattle.gate_laws.proofs.TextForms.{canonical_is_utf8, reply_is_utf8}
@@ -94,23 +94,12 @@ next_content_is_in_form c x k w f l h v =
 
 -- ---- any calls
 
-lawful_call : (c : Settings) (x : Content) (k : Call) → are_sound c ≡ true → IsLawful c x.state → (y : Stepped) →
-    step c x.state k.delivery ≡ y → IsLawful c (content_after x k y).state
-lawful_call c x k w l (accepted r t) e = step_is_lawful c x.state k.delivery r t w l e
-lawful_call c x k w l (refused r) e = l
-
-next_lawful : (c : Settings) (x : Content) (k : Call) → are_sound c ≡ true → IsLawful c x.state →
-    IsLawful c (next_content c x k).state
-next_lawful c x k w l =
-    cond_both (may_act x k) (content_after x k (step c x.state k.delivery)) x (λ (y : Content). IsLawful c y.state)
-    (λ e. lawful_call c x k w l (step c x.state k.delivery) refl) (λ e. l)
-
 from_in_form : (c : Settings) → are_sound c ≡ true → are_settings_in_form c ≡ true → (calls : List Call) (x : Content) →
     IsLawful c x.state → IsContentInForm c x → ((k : Call) → In k calls → is_call_in_form k ≡ true) →
     IsContentInForm c (once c x calls)
 from_in_form c w f [] x l h v = h
 from_in_form c w f (k ∷ ks) x l h v =
-    from_in_form c w f ks (next_content c x k) (next_lawful c x k w l)
+    from_in_form c w f ks (next_content c x k) (next_lawful c w x k l)
     (next_content_is_in_form c x k w f l h (v k (inl refl))) (λ z m. v z (inr m))
 
 pub run_is_in_form : RunIsInForm
