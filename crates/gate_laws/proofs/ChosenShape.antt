@@ -2,6 +2,7 @@
 use Rattle.std.proofs.Common.{◌≡◌, ℕ, ◌+◌, ◌≤◌, Bool, true, false, cond, Option, Some, None, List, [], ◌∷◌, ◌++◌, map, length, refl, sym, ap, ◌∙◌, subst, ◌⊎◌, inl, inr, arith}
 use Rattle.std.specs.Prelude.{find, unwrap_or, nat_lt}
 use Rattle.std.proofs.lemmas.Bool.{and_parts, and_from}
+use Rattle.std.proofs.lemmas.List.{length-map}
 use Rattle.gate_types.specs.declared.config.Job.{Job}
 use Rattle.gate_types.specs.declared.config.Project.{Project}
 use Rattle.gate_types.specs.declared.config.Queue.{Queue as QueueSetting}
@@ -19,8 +20,8 @@ use Rattle.gate_laws.proofs.Members.{In, from_map, to_map, from_append, any_to, 
 use Rattle.gate_laws.proofs.Alone.{same_name_of}
 use Rattle.gate_laws.proofs.Chosen.{chosen}
 use Rattle.gate_laws.proofs.Shapes.{NumberedItem, BuildShape, Shaped}
-use Rattle.gate_laws.proofs.RowShapes.{map_long, filter_short}
 use Rattle.gate_laws.proofs.FewRows.{few_landings, Tops}
+use Rattle.gate_laws.proofs.Tallies.{shorter}
 
 -- ---- names
 
@@ -117,12 +118,12 @@ chosen_shape c s f h t k b e =
     let names = queue_set c s h f x.queue x.there in
     let q = k.queues x.queue x.there in
     let top = few_landings c s h k x.queue x.there in
-    let less = filter_short (λ l. nat_lt l.serial x.item.serial) x.queue.landings in
+    let less = shorter (λ l. nat_lt l.serial x.item.serial) x.queue.landings in
     let order = t.order in
     let ahead = ahead_short s.builds [] (map (place_of c s x.queue) x.queue.items) p within in
-    let places = map_long (place_of c s x.queue) x.queue.items in
+    let places = length-map x.queue.items (place_of c s x.queue) in
     let room = q.room in
-    let entries = map_long item_entry x.ahead in
+    let entries = length-map x.ahead item_entry in
     subst (BuildShape c) (ap (λ r. build_for (s.counters.build + 1) x.queue r x.job) x.is_place ∙ x.same) (
       record {
         counted = omega arith;

@@ -8,6 +8,7 @@ use Rattle.std.proofs.lemmas.Bool.Decides.{eqb_tells}
 use Rattle.std.proofs.lemmas.List.Concat.{flat_map-cons}
 use Rattle.std.proofs.lemmas.Map.Steps.{length-le_from_distinct_below}
 use Rattle.std.proofs.lemmas.Map.Made.{IsDistinct-from_AllPairs}
+use Rattle.std.proofs.lemmas.List.{length-map}
 use Rattle.gate_types.specs.declared.records.Build.{Build}
 use Rattle.gate_types.specs.declared.records.Change.{Change}
 use Rattle.gate_types.specs.declared.records.Report.{Report}
@@ -24,7 +25,6 @@ use Rattle.gate_laws.proofs.Alone.{item_serials, report_serials}
 use Rattle.gate_laws.proofs.Told.{length-told}
 use Rattle.gate_laws.proofs.Drawn.{report_drawn}
 use Rattle.gate_laws.proofs.Shapes.{Shaped, shaped_from, least, most}
-use Rattle.gate_laws.proofs.RowShapes.{map_long}
 
 -- ---- numbers
 
@@ -68,7 +68,7 @@ pub few_rising : {X : Type 0} (key : X → ℕ) (xs : List X) (top : ℕ) → Is
 few_rising key xs top r h =
     let few = few_numbers (map key xs) top (rising_once key xs (rising key xs r)) (λ n m. let y = from_map key xs n m in
     subst (λ k. (1 ≤ k) × (k ≤ top)) y.2 (h y.0 y.1)) in
-    let same = map_long key xs in
+    let same = length-map xs key in
     omega (arith, few, same)
 
 -- ---- how many
@@ -96,7 +96,7 @@ few_reports c s h k q mq =
       ((k.queues q mq).reports x.0 x.1).0.0,
       report_drawn c s h q mq x.0 x.1,
     )) in
-    let same = map_long (λ (r : Report). r.serial) q.reports in
+    let same = length-map q.reports (λ (r : Report). r.serial) in
     omega (arith, few, same)
 
 filter_map_short : {X Y : Type 0} (f : X → Option Y) (xs : List X) → length (filter_map f xs) ≤ length xs

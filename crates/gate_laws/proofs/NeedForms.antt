@@ -11,6 +11,7 @@ use Rattle.std.proofs.lemmas.Bool.{and_parts, leb-true}
 use Rattle.std.proofs.lemmas.Bool.Decides.{nat_tests}
 use Rattle.std.proofs.lemmas.Int.Digits.{digits_value-lt}
 use Rattle.std.proofs.lemmas.Str.Parse.{digits_value-take-le}
+use Rattle.std.proofs.lemmas.Option.{none-some}
 use Rattle.gate_types.specs.Needs.{needs, named_change, number_of, after_base, without_blanks, after_footer, without_end, with_number}
 use Rattle.gate_types.specs.Forms.{is_change_number}
 use Rattle.gate_laws.proofs.Members.{In, all_to, from_append, from_filter_map}
@@ -47,12 +48,9 @@ number_in_form : (ds : List ℕ) (n : ℕ) → number_of ds ≡ Some n → is_ch
 number_in_form ds n h =
     by_test (list_all is_ascii_digit ds && nat_le (length ds) 9 && nat_lt 48 (slice_index ds 0)) refl h
   where
-    none_some : (m : ℕ) → None ≡ Some m → ⊥
-    none_some m q = cc
-
     by_test : (b : Bool) → list_all is_ascii_digit ds && nat_le (length ds) 9 && nat_lt 48 (slice_index ds 0) ≡ b →
         then_some b (digits_value 10 ds) ≡ Some n → is_change_number n ≡ true
-    by_test false e k = absurd (none_some n k)
+    by_test false e k = absurd (none-some n k)
     by_test true e k =
         let last = and_parts (list_all is_ascii_digit ds && nat_le (length ds) 9) (nat_lt 48 (slice_index ds 0)) e in
         let first = and_parts (list_all is_ascii_digit ds) (nat_le (length ds) 9) last.0 in
@@ -67,11 +65,8 @@ named_in_form : (base line : List ℕ) (n : ℕ) → named_change base line ≡ 
 named_in_form base line n h =
     by_digits (option_and_then (after_base base) (option_map without_blanks (after_footer (without_end line)))) h
   where
-    none_some : (m : ℕ) → None ≡ Some m → ⊥
-    none_some m q = cc
-
     by_digits : (o : Option (List ℕ)) → option_and_then number_of o ≡ Some n → is_change_number n ≡ true
-    by_digits None k = absurd (none_some n k)
+    by_digits None k = absurd (none-some n k)
     by_digits (Some ds) k = number_in_form ds n k
 
 -- what was found is found, or is among the rest

@@ -3,6 +3,7 @@ use Rattle.std.proofs.Common.{◌≡◌, ℕ, ◌+◌, Bool, true, false, not, c
 use Rattle.std.specs.Prelude.{filter_map, option_map}
 use Rattle.std.specs.List.{cons_option, enumerate_from}
 use Rattle.std.proofs.lemmas.List.Elements.{filter_map-append}
+use Rattle.std.proofs.lemmas.Option.{none-some, same_Some}
 use Rattle.gate_types.specs.declared.records.Build.{Build}
 use Rattle.gate_types.specs.declared.records.Landing.{Landing}
 use Rattle.gate_types.specs.declared.records.Report.{Report}
@@ -81,19 +82,13 @@ told-push n (x ∷ xs) l =
 pub told_serial : (r : Report) (k : ℕ) (l : Landing) → landing_of r ≡ Some (k, l) → r.serial ≡ l.serial
 told_serial r k l h = by_verdict r.verdict h
   where
-    none_some : (z : ℕ × Landing) → None ≡ Some z → ⊥
-    none_some z q = cc
-
-    some_is : (y z : ℕ × Landing) → Some y ≡ Some z → y ≡ z
-    some_is y z q = cc
-
     by_verdict : (v : Verdict) → landing_of (record r { verdict = v }) ≡ Some (k, l) → r.serial ≡ l.serial
     by_verdict (verdict.Landed n) e =
         let x : Landing = record { serial = r.serial; change = r.change; revision = r.revision } in
-        ap (λ (y : ℕ × Landing). y.1.serial) (some_is (n, x) (k, l) e)
-    by_verdict verdict.Failed e = absurd (none_some (k, l) e)
-    by_verdict verdict.Refused e = absurd (none_some (k, l) e)
-    by_verdict verdict.Needs e = absurd (none_some (k, l) e)
-    by_verdict verdict.Superseded e = absurd (none_some (k, l) e)
-    by_verdict verdict.Withdrawn e = absurd (none_some (k, l) e)
-    by_verdict verdict.Closed e = absurd (none_some (k, l) e)
+        ap (λ (y : ℕ × Landing). y.1.serial) (same_Some (n, x) (k, l) e)
+    by_verdict verdict.Failed e = absurd (none-some (k, l) e)
+    by_verdict verdict.Refused e = absurd (none-some (k, l) e)
+    by_verdict verdict.Needs e = absurd (none-some (k, l) e)
+    by_verdict verdict.Superseded e = absurd (none-some (k, l) e)
+    by_verdict verdict.Withdrawn e = absurd (none-some (k, l) e)
+    by_verdict verdict.Closed e = absurd (none-some (k, l) e)
