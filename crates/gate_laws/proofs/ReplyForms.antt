@@ -5,7 +5,6 @@ use Rattle.std.specs.Option.{option_map_or}
 use Rattle.std.specs.List.{flat_map}
 use Rattle.std.proofs.lemmas.Bool.{and_parts, leb-true}
 use Rattle.gate_types.specs.declared.records.Build.{Build}
-use Rattle.gate_types.specs.declared.records.Change.{Change}
 use Rattle.gate_types.specs.declared.deliveries.Delivery.{Delivery}
 use Rattle.gate_types.specs.declared.deliveries.Delivery.TheVariants as delivery
 use Rattle.gate_types.specs.declared.deliveries.Refusal.TheVariants as refusal
@@ -15,7 +14,7 @@ use Rattle.gate_types.specs.Names.{same_name}
 use Rattle.gate_types.specs.Needs.{needs}
 use Rattle.gate_types.specs.Counters.{Drawn}
 use Rattle.gate_types.specs.Settings.{Settings, are_sound}
-use Rattle.gate_types.specs.State.{Item, Queue, Ready, State, known_change, is_open, is_landed, is_queued, is_ready}
+use Rattle.gate_types.specs.State.{Item, Queue, Ready, State, is_open, is_landed, is_queued, is_ready}
 use Rattle.gate_types.specs.Slot.{is_running}
 use Rattle.gate_types.specs.Rebase.{rebase}
 use Rattle.gate_types.specs.Sweep.{sweep}
@@ -23,7 +22,7 @@ use Rattle.gate_types.specs.Admit.{may_enter, entered, admit_one}
 use Rattle.gate_types.specs.Settle.{settle}
 use Rattle.gate_types.specs.SubmitOrder.{Order, shown_order, is_submitting}
 use Rattle.gate_types.specs.Choice.{choose}
-use Rattle.gate_types.specs.Step.{Stepped, accepted, refused, on_known, has_project, is_known_and, approval_reply, made_ready, with_landing, build_of, raw_step, step, settled_step, is_exhausted}
+use Rattle.gate_types.specs.Step.{Stepped, accepted, refused, has_project, is_known_and, approval_reply, made_ready, with_landing, build_of, raw_step, step, settled_step, is_exhausted}
 use Rattle.gate_types.specs.Lawful.{IsSound, IsLawful}
 use Rattle.gate_types.specs.Forms.{is_item_in_form, is_queue_in_form, is_drawn_number, is_reply_in_form, are_settings_in_form, are_counters_in_form, IsInForm}
 use Rattle.gate_laws.specs.InForm.{ReplyIsInForm}
@@ -39,6 +38,7 @@ use Rattle.gate_laws.proofs.FewRows.{few_landings, tops}
 use Rattle.gate_laws.proofs.ChosenShape.{chosen_shape}
 use Rattle.gate_laws.proofs.LandedShape.{landings_long, after_shaped}
 use Rattle.gate_laws.proofs.StepIsInForm.{step_is_in_form}
+use Rattle.gate_laws.proofs.EachAccepted.{OnReply, on_reply, reply_test, reply_some, reply_known}
 
 -- ---- what is said of a reply before settling
 
@@ -49,29 +49,9 @@ RawReply c (reply.Landed n) u = (1 ≤ n) × (n ≤ 1000000000000000)
 RawReply c (reply.Build b) u = BuildShape c b × (b.serial ≤ 1000000000000000) × (b.number ≡ u.counters.build)
 RawReply c _ u = Unit {0}
 
--- of the reply and the state that a delivery is accepted with, if it is
-abbrev OnReply : (Reply → State → Type 0) → Stepped → Type 0
-OnReply P (accepted r t) = P r t
-OnReply P (refused r) = Unit {0}
-
-on_reply : (P : Reply → State → Type 0) (x : Stepped) → OnReply P x → (r : Reply) (t : State) → x ≡ accepted r t → P r t
-on_reply P x h r t e = subst (OnReply P) e h
-
-on_test : (P : Reply → State → Type 0) (b : Bool) (x y : Stepped) → OnReply P x → OnReply P y → OnReply P (cond b x y)
-on_test P true x y h k = h
-on_test P false x y h k = k
-
-on_some : {X : Type 0} (P : Reply → State → Type 0) (o : Option X) (f : X → Stepped) (none : Stepped) →
-    ((x : X) → o ≡ Some x → OnReply P (f x)) → OnReply P none → OnReply P (option_map_or f o none)
-on_some P None f none h k = k
-on_some P (Some x) f none h k = h x refl
-
-on_change : (P : Reply → State → Type 0) (s : State) (n r : ℕ) (f : Change → Stepped) →
-    ((k : Change) → OnReply P (f k)) → OnReply P (on_known s n r f)
-on_change P s n r f h =
-    on_some P (known_change s n) (λ k. cond (nat_lt k.revision r) (refused refusal.UnknownRevision) (f k))
-    (refused refusal.UnknownChange)
-    (λ k e. on_test P (nat_lt k.revision r) (refused refusal.UnknownRevision) (f k) tt (h k)) tt
+-- where a test says nothing of the two
+on_either : (P : Reply → State → Type 0) (b : Bool) (x y : Stepped) → OnReply P x → OnReply P y → OnReply P (cond b x y)
+on_either P b x y h k = reply_test P b x y (λ e. h) (λ e. k)
 
 -- ---- kind by kind
 
@@ -102,23 +82,23 @@ landed_is c s number o e =
 each_replied : (c : Settings) (s : State) → are_sound c ≡ true → are_settings_in_form c ≡ true → IsLawful c s →
     Shaped c s → (d : Delivery) → OnReply (RawReply c) (raw_step c s d)
 each_replied c s w f h k (delivery.Revision n name r message) =
-    on_test (RawReply c) (not (has_project c name)) _ _ tt (
-    on_test (RawReply c) (is_known_and s n (λ k. not (same_name k.project name))) _ _ tt (
-    on_test (RawReply c) (is_known_and s n (λ k. nat_le r k.revision || is_landed k)) _ _ tt (
-    on_test (RawReply c) (is_submitting c s n) _ _ tt (
-    on_test (RawReply c) (nat_lt 32 (length (needs c.base message))) _ _ tt tt))))
-each_replied c s w f h k (delivery.Approved n r) = on_change (RawReply c) s n r _ (λ k.
-    on_test (RawReply c) (nat_lt r k.revision || not (is_open k)) _ _ tt (
-    on_test (RawReply c) (is_ready s n || is_queued s n) _ _ tt (approval_replied c n (made_ready n s))))
-each_replied c s w f h k (delivery.Withdrawn n r) = on_change (RawReply c) s n r _ (λ k.
-    on_test (RawReply c) (nat_lt r k.revision) _ _ tt (
-    on_test (RawReply c) (is_submitting c s n) _ _ tt (
-    on_test (RawReply c) (is_queued s n) _ _ tt (
-    on_test (RawReply c) (is_ready s n) _ _ tt tt))))
-each_replied c s w f h k (delivery.Closed n r) = on_change (RawReply c) s n r _ (λ k.
-    on_test (RawReply c) (nat_lt r k.revision || not (is_open k)) _ _ tt (
-    on_test (RawReply c) (is_submitting c s n) _ _ tt (closed_replied c _ (is_queued s n))))
-each_replied c s w f h k (delivery.Landed number) = on_some (RawReply c) (shown_order c s number) _ _ (λ o e.
+    on_either (RawReply c) (not (has_project c name)) _ _ tt (
+    on_either (RawReply c) (is_known_and s n (λ k. not (same_name k.project name))) _ _ tt (
+    on_either (RawReply c) (is_known_and s n (λ k. nat_le r k.revision || is_landed k)) _ _ tt (
+    on_either (RawReply c) (is_submitting c s n) _ _ tt (
+    on_either (RawReply c) (nat_lt 32 (length (needs c.base message))) _ _ tt tt))))
+each_replied c s w f h k (delivery.Approved n r) = reply_known (RawReply c) s n r _ (λ k known.
+    on_either (RawReply c) (nat_lt r k.revision || not (is_open k)) _ _ tt (
+    on_either (RawReply c) (is_ready s n || is_queued s n) _ _ tt (approval_replied c n (made_ready n s))))
+each_replied c s w f h k (delivery.Withdrawn n r) = reply_known (RawReply c) s n r _ (λ k known.
+    on_either (RawReply c) (nat_lt r k.revision) _ _ tt (
+    on_either (RawReply c) (is_submitting c s n) _ _ tt (
+    on_either (RawReply c) (is_queued s n) _ _ tt (
+    on_either (RawReply c) (is_ready s n) _ _ tt tt))))
+each_replied c s w f h k (delivery.Closed n r) = reply_known (RawReply c) s n r _ (λ k known.
+    on_either (RawReply c) (nat_lt r k.revision || not (is_open k)) _ _ tt (
+    on_either (RawReply c) (is_submitting c s n) _ _ tt (closed_replied c _ (is_queued s n))))
+each_replied c s w f h k (delivery.Landed number) = reply_some (RawReply c) (shown_order c s number) _ _ (λ o e.
     let n = length o.queue.landings + 1 in
     let submitted : Submitted c s o =
     record {
@@ -136,8 +116,8 @@ each_replied c s w f h k (delivery.Landed number) = on_some (RawReply c) (shown_
     (record { serial = o.item.serial; change = o.item.change; revision = o.item.revision }) in
     let order = (tops s h.not_exhausted).order in
     (omega arith, omega (arith, few, long, order))) tt
-each_replied c s w f h k (delivery.Refused number) = on_some (RawReply c) (shown_order c s number) _ _ (λ o e. tt) tt
-each_replied c s w f h k (delivery.Take worker) = on_some (RawReply c) (choose c s) _ _ (λ b e.
+each_replied c s w f h k (delivery.Refused number) = reply_some (RawReply c) (shown_order c s number) _ _ (λ o e. tt) tt
+each_replied c s w f h k (delivery.Take worker) = reply_some (RawReply c) (choose c s) _ _ (λ b e.
     let t = tops s h.not_exhausted in
     let x = chosen c s b e in
     let drawn = item_drawn c s h.sound x.queue x.there x.item x.item_in in
@@ -146,7 +126,8 @@ each_replied c s w f h k (delivery.Take worker) = on_some (RawReply c) (choose c
     let order = t.order in
     (chosen_shape c s f h.sound t k b e, omega (arith, drawn, serial, order), refl)) tt
 each_replied c s w f h k (delivery.Result n e) =
-    on_some (RawReply c) (build_of s n) _ _ (λ b g. on_test (RawReply c) (b.live && is_running b.outcome) _ _ tt tt) tt
+    reply_some (RawReply c) (build_of s n) _ _
+    (λ b g. on_either (RawReply c) (b.live && is_running b.outcome) _ _ tt tt) tt
 
 -- ---- the law
 
@@ -199,7 +180,8 @@ from_raw c u (reply.Build b) h f =
 replied : (c : Settings) (x : Stepped) → OnReply (RawReply c) x →
     OnReply (λ r t. IsInForm c t → is_reply_in_form c r ≡ true) (settled_step c x)
 replied c (accepted said u) h =
-    on_test (λ r t. IsInForm c t → is_reply_in_form c r ≡ true) (is_exhausted (settle c u)) (refused refusal.Exhausted)
+    on_either (λ r t. IsInForm c t → is_reply_in_form c r ≡ true) (is_exhausted (settle c u))
+    (refused refusal.Exhausted)
     (accepted said (settle c u)) tt (from_raw c u said h)
 replied c (refused r) h = tt
 
