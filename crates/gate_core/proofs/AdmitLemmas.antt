@@ -14,7 +14,8 @@ use Rattle.gate_types.specs.declared.records.Stage.TheVariants as stage
 use Rattle.gate_types.specs.Names.{same_name}
 use Rattle.gate_types.specs.Settings.{Settings, are_sound, are_distinct, has_queue, are_sound_jobs}
 use Rattle.gate_types.specs.Counters.{Drawn}
-use Rattle.gate_types.specs.State.{State, Queue, Item, Ready, change_of, project_of}
+use Rattle.gate_types.specs.declared.records.Ready.{Ready}
+use Rattle.gate_types.specs.State.{State, Queue, Item, change_of, project_of}
 use Rattle.gate_types.specs.Line.{Place}
 use Rattle.gate_types.specs.Slot.{are_met_by}
 use Rattle.gate_types.specs.Standing.{is_failing, are_finished, place_of, places_after, next_ahead}

@@ -12,7 +12,8 @@ use Rattle.gate_types.specs.declared.deliveries.Delivery.TheVariants as delivery
 use Rattle.gate_types.specs.Needs.{needs}
 use Rattle.gate_types.specs.Settings.{Settings}
 use Rattle.gate_types.specs.Counters.{Drawn}
-use Rattle.gate_types.specs.State.{State, Item, Ready, put_by}
+use Rattle.gate_types.specs.declared.records.Ready.{Ready}
+use Rattle.gate_types.specs.State.{State, Item, put_by}
 use Rattle.gate_types.specs.SubmitOrder.{is_submitting}
 use Rattle.gate_types.specs.Settle.{settle}
 use Rattle.gate_types.specs.Step.{Stepped, accepted, refused, settled_step, step, raw_revision, revised, has_project, is_known_and}

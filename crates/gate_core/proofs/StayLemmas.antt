@@ -7,7 +7,8 @@ use Rattle.std.proofs.lemmas.Bool.Decides.{eqb_tells}
 use Rattle.std.proofs.lemmas.List.Elements.{filter-append}
 use Rattle.gate_types.specs.declared.records.Change.{Change}
 use Rattle.gate_types.specs.Settings.{Settings}
-use Rattle.gate_types.specs.State.{Item, Ready}
+use Rattle.gate_types.specs.declared.records.Ready.{Ready}
+use Rattle.gate_types.specs.State.{Item}
 use Rattle.gate_core.specs.Placed.{Placed, of_queue}
 use Rattle.gate_core.specs.Quiet.{IsQuiet, IsHome, AreAway, AreFull, holds}
 use Rattle.gate_core.specs.Leaving.{without_waiting}

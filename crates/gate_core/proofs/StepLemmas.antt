@@ -15,7 +15,8 @@ use Rattle.gate_types.specs.declared.deliveries.Refusal.TheVariants as refusal
 use Rattle.gate_types.specs.declared.deliveries.Delivery.TheVariants as delivery
 use Rattle.gate_types.specs.Settings.{Settings}
 use Rattle.gate_types.specs.Counters.{Drawn}
-use Rattle.gate_types.specs.State.{State, Item, Ready, is_open, is_ready, is_queued}
+use Rattle.gate_types.specs.declared.records.Ready.{Ready}
+use Rattle.gate_types.specs.State.{State, Item, is_open, is_ready, is_queued}
 use Rattle.gate_types.specs.Settle.{settle}
 use Rattle.gate_types.specs.Step.{Stepped, accepted, refused, is_exhausted, settled_step, step, raw_approved, approval_reply, made_ready}
 use Rattle.gate_core.specs.Placed.{Placed, of_queue}

@@ -4,7 +4,8 @@ use Rattle.gate_types.specs.declared.records.Report.{Report}
 use Rattle.gate_types.specs.declared.records.Verdict.TheVariants as verdict
 use Rattle.gate_types.specs.declared.records.Change.{Change}
 use Rattle.gate_types.specs.declared.records.Stage.TheVariants as stage
-use Rattle.gate_types.specs.State.{Item, Ready, put_by}
+use Rattle.gate_types.specs.declared.records.Ready.{Ready}
+use Rattle.gate_types.specs.State.{Item, put_by}
 use Rattle.gate_types.specs.Sweep.{report_of}
 use Rattle.gate_core.specs.Places.{number_of}
 use Rattle.gate_core.specs.Placed.{Placed}

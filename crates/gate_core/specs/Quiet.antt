@@ -6,7 +6,8 @@ use Rattle.gate_types.specs.declared.records.Change.{Change}
 use Rattle.gate_types.specs.declared.records.Report.{Report}
 use Rattle.gate_types.specs.Settings.{Settings, are_sound}
 use Rattle.gate_types.specs.Counters.{Drawn}
-use Rattle.gate_types.specs.State.{State, Queue, Item, Ready, is_open, is_landed}
+use Rattle.gate_types.specs.declared.records.Ready.{Ready}
+use Rattle.gate_types.specs.State.{State, Queue, Item, is_open, is_landed}
 use Rattle.gate_types.specs.Step.{has_project}
 use Rattle.gate_core.specs.Placed.{Placed, of_queue, queue_place}
 

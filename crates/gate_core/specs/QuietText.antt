@@ -5,7 +5,8 @@ use Rattle.gate_types.specs.declared.config.Job.{Job}
 use Rattle.gate_types.specs.declared.config.Queue.{Queue as QueueSetting}
 use Rattle.gate_types.specs.declared.records.Change.{Change}
 use Rattle.gate_types.specs.Settings.{Settings}
-use Rattle.gate_types.specs.State.{State, Item, Ready, project_of}
+use Rattle.gate_types.specs.declared.records.Ready.{Ready}
+use Rattle.gate_types.specs.State.{State, Item, project_of}
 use Rattle.gate_types.specs.Columns.{right, number_or_dash}
 use Rattle.gate_core.specs.Placed.{Placed, of_queue}
 

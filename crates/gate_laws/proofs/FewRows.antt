@@ -13,7 +13,8 @@ use Rattle.gate_types.specs.declared.records.Build.{Build}
 use Rattle.gate_types.specs.declared.records.Change.{Change}
 use Rattle.gate_types.specs.declared.records.Report.{Report}
 use Rattle.gate_types.specs.Settings.{Settings}
-use Rattle.gate_types.specs.State.{Queue, Ready, State}
+use Rattle.gate_types.specs.declared.records.Ready.{Ready}
+use Rattle.gate_types.specs.State.{Queue, State}
 use Rattle.gate_types.specs.Step.{is_exhausted}
 use Rattle.gate_types.specs.Lawful.{IsSound, serials_of, landing_of, TellsLandings}
 use Rattle.gate_types.specs.Forms.{is_change_number, is_change_in_form}

@@ -14,7 +14,8 @@ use Rattle.gate_types.specs.Names.{same_name}
 use Rattle.gate_types.specs.Needs.{needs}
 use Rattle.gate_types.specs.Counters.{Drawn}
 use Rattle.gate_types.specs.Settings.{Settings, are_sound}
-use Rattle.gate_types.specs.State.{Item, Queue, Ready, State, is_open, is_landed, is_queued, is_ready}
+use Rattle.gate_types.specs.declared.records.Ready.{Ready}
+use Rattle.gate_types.specs.State.{Item, Queue, State, is_open, is_landed, is_queued, is_ready}
 use Rattle.gate_types.specs.Slot.{is_running}
 use Rattle.gate_types.specs.Rebase.{rebase}
 use Rattle.gate_types.specs.Sweep.{sweep}

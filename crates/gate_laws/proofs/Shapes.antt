@@ -12,7 +12,8 @@ use Rattle.gate_types.specs.declared.records.Verdict.{Verdict}
 use Rattle.gate_types.specs.declared.records.Verdict.TheVariants as verdict
 use Rattle.gate_types.specs.Names.{is_name}
 use Rattle.gate_types.specs.Settings.{Settings, has_queue}
-use Rattle.gate_types.specs.State.{Item, Queue, Ready, State}
+use Rattle.gate_types.specs.declared.records.Ready.{Ready}
+use Rattle.gate_types.specs.State.{Item, Queue, State}
 use Rattle.gate_types.specs.Forms.{is_up_to, is_change_number, is_revision_number, is_drawn_number, is_entry_in_form, is_change_in_form, is_ready_in_form, is_item_in_form, is_landing_in_form, is_verdict_in_form, is_report_in_form, is_queue_in_form, is_build_in_form, IsInForm}
 use Rattle.gate_laws.proofs.Members.{In, every, all_from, all_to}
 

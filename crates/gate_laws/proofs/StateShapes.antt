@@ -9,7 +9,8 @@ use Rattle.gate_types.specs.declared.records.Stage.{Stage}
 use Rattle.gate_types.specs.declared.records.Verdict.{Verdict}
 use Rattle.gate_types.specs.Names.{same_name}
 use Rattle.gate_types.specs.Settings.{Settings, are_sound}
-use Rattle.gate_types.specs.State.{Item, Queue, Ready, State, put_change, change_queue, change_of, is_open, project_of}
+use Rattle.gate_types.specs.declared.records.Ready.{Ready}
+use Rattle.gate_types.specs.State.{Item, Queue, State, put_change, change_queue, change_of, is_open, project_of}
 use Rattle.gate_types.specs.Slot.{is_running, are_met_by}
 use Rattle.gate_types.specs.Standing.{needs_of, all_places}
 use Rattle.gate_types.specs.Rebase.{with_live, stays_live, rebase}

@@ -14,7 +14,8 @@ use Rattle.gate_types.specs.State.{Item, put_by}
 use Rattle.gate_types.specs.Line.{Place}
 use Rattle.gate_types.specs.Standing.{places_after, with_ahead, next_ahead}
 use Rattle.gate_types.specs.Sweep.{Judged, judge, judged_after, verdict_of, next_staying, report_of}
-use Rattle.gate_types.specs.Rows.{Rows, ReportRow, row_of, numbered, edited, edited_items, edited_builds, edited_reports, edited_window, fold_edits}
+use Rattle.gate_types.specs.declared.rows.ReportRow.{ReportRow}
+use Rattle.gate_types.specs.Rows.{Rows, row_of, numbered, edited, edited_items, edited_builds, edited_reports, edited_window, fold_edits}
 use Rattle.gate_queue.specs.Edits.{stops, stop_edits, item_edits, edits_at, edits_after, next_reports}
 use Rattle.gate_queue.proofs.Ordered.{RiseFrom, AllBelow, GoWith, Tells, row_serial}
 use Rattle.gate_laws.proofs.Stays.{stayers}

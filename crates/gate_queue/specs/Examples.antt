@@ -10,7 +10,8 @@ use Rattle.gate_types.specs.declared.records.Outcome.TheVariants as outcome
 use Rattle.gate_types.specs.declared.records.Verdict.TheVariants as verdict
 use Rattle.gate_types.specs.State.{Item, Queue}
 use Rattle.gate_types.specs.Line.{Place}
-use Rattle.gate_types.specs.Rows.{Rows, ReportRow}
+use Rattle.gate_types.specs.declared.rows.ReportRow.{ReportRow}
+use Rattle.gate_types.specs.Rows.{Rows}
 use Rattle.gate_types.specs.Script.{core, unit, docs}
 use Rattle.gate_queue.specs.Settles.{settled_rows}
 

@@ -4,7 +4,8 @@ use Rattle.std.specs.List.{list_any}
 use Rattle.std.specs.Option.{option_map_or}
 use Rattle.gate_types.specs.Settings.{Settings}
 use Rattle.gate_types.specs.Names.{same_name}
-use Rattle.gate_types.specs.State.{Item, Queue, Ready, State, change_queue, change_of, project_of}
+use Rattle.gate_types.specs.declared.records.Ready.{Ready}
+use Rattle.gate_types.specs.State.{Item, Queue, State, change_queue, change_of, project_of}
 use Rattle.gate_types.specs.Slot.{are_met_by}
 use Rattle.gate_types.specs.Standing.{needs_of}
 

@@ -4,18 +4,15 @@ use Rattle.gate_types.specs.declared.records.Item.{Item as ItemRow}
 use Rattle.gate_types.specs.declared.records.Build.{Build}
 use Rattle.gate_types.specs.declared.records.Outcome.{Outcome}
 use Rattle.gate_types.specs.declared.records.Report.{Report}
+use Rattle.gate_types.specs.declared.rows.ReportRow.{ReportRow}
 use Rattle.gate_types.specs.declared.edits.Edit.{Edit}
 use Rattle.gate_types.specs.declared.edits.Edit.TheVariants as edit
 use Rattle.gate_types.specs.Names.{same_name}
-use Rattle.gate_types.specs.State.{Item, Queue, put_by}
+use Rattle.gate_types.specs.Settings.{Settings}
+use Rattle.gate_types.specs.State.{Item, Queue, State, put_by}
 use Rattle.gate_types.specs.Line.{Place}
-use Rattle.gate_types.specs.Standing.{is_failing, ahead_of}
+use Rattle.gate_types.specs.Standing.{is_failing, ahead_of, places}
 use Rattle.gate_types.specs.Rebase.{with_live}
-
--- a report beside its place in its queue, from 1
-pub record ReportRow : Type 0 where
-  pub place : ℕ
-  pub report : Report
 
 -- the rows of a queue, each list in the order of its key
 pub record Rows : Type 0 where
@@ -38,6 +35,10 @@ row_of builds p = record {
   ahead = ahead_of p;
   failing = is_failing builds p;
 }
+
+-- the rows of a queue's items, both columns worked out
+abbrev pub item_rows : Settings → State → Queue → List ItemRow
+item_rows c s q = map (row_of s.builds) (places c s q)
 
 -- the reports, numbered from the one after n
 abbrev pub numbered : ℕ → List Report → List ReportRow

@@ -6,6 +6,7 @@ use Rattle.gate_types.specs.Settings.{Settings}
 use Rattle.gate_types.specs.declared.config.Project.{Project}
 use Rattle.gate_types.specs.declared.records.Change.{Change}
 use Rattle.gate_types.specs.declared.records.Landing.{Landing}
+use Rattle.gate_types.specs.declared.records.Ready.{Ready}
 use Rattle.gate_types.specs.declared.records.Build.{Build}
 use Rattle.gate_types.specs.declared.records.Report.{Report}
 use Rattle.gate_types.specs.Counters.{Drawn}
@@ -25,11 +26,6 @@ pub record Queue : Type 0 where
   pub landings : List Landing
   pub items : List Item
   pub reports : List Report
-
--- an approved change that stands in no queue
-pub record Ready : Type 0 where
-  pub approval : ℕ
-  pub change : ℕ
 
 -- all that the gate knows; what is ahead of an item, and whether it fails, is worked out
 pub record State : Type 0 where

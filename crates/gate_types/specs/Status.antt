@@ -5,7 +5,8 @@ use Rattle.gate_types.specs.Settings.{Settings}
 use Rattle.gate_types.specs.declared.records.Slot.{Slot}
 use Rattle.gate_types.specs.declared.records.Build.{Build}
 use Rattle.gate_types.specs.declared.records.Slot.TheVariants as slot
-use Rattle.gate_types.specs.State.{Queue, Ready, State, change_of}
+use Rattle.gate_types.specs.declared.records.Ready.{Ready}
+use Rattle.gate_types.specs.State.{Queue, State, change_of}
 use Rattle.gate_types.specs.Line.{Place}
 use Rattle.gate_types.specs.Slot.{is_blocked, slot_of}
 use Rattle.gate_types.specs.Standing.{is_failing, ahead_of, places}

@@ -1,5 +1,5 @@
 //! Edits: each puts, changes or drops one keyed row of the gate's tables.
-use crate::names::Name;
+use crate::names::{Name, NoMemory};
 use crate::numbers::{BuildNo, Serial};
 use crate::records::{Build, Change, Item, Kept, Landing, Outcome, Report};
 
@@ -53,4 +53,57 @@ pub enum Edit {
     },
     /// An accepted delivery, with its reply.
     Keep(Kept),
+}
+
+impl Edit {
+    ghost use Rattle.std.specs.Prelude.{◌≡◌, IfOk};
+
+    pub fn copy(&self) -> Result<Edit, NoMemory>
+        ensures { IfOk result (λ edit. edit ≡ self.now) }
+    {
+        match self {
+            Edit::PutChange { change, approval } => Ok(Edit::PutChange {
+                change: change.copy()?,
+                approval: *approval,
+            }),
+            Edit::PutItem { queue, item } => Ok(Edit::PutItem {
+                queue: queue.copy()?,
+                item: *item,
+            }),
+            Edit::DropItem(serial) => Ok(Edit::DropItem(*serial)),
+            Edit::PutLanding {
+                queue,
+                place,
+                landing,
+            } => Ok(Edit::PutLanding {
+                queue: queue.copy()?,
+                place: *place,
+                landing: *landing,
+            }),
+            Edit::PutReport {
+                queue,
+                place,
+                report,
+            } => Ok(Edit::PutReport {
+                queue: queue.copy()?,
+                place: *place,
+                report: *report,
+            }),
+            Edit::PutBuild(build) => Ok(Edit::PutBuild(build.copy()?)),
+            Edit::SetOutcome { build, outcome } => Ok(Edit::SetOutcome {
+                build: *build,
+                outcome: *outcome,
+            }),
+            Edit::StopBuild(number) => Ok(Edit::StopBuild(*number)),
+            Edit::SetWindow { queue, window } => Ok(Edit::SetWindow {
+                queue: queue.copy()?,
+                window: *window,
+            }),
+            Edit::SetCounter { counter, drawn } => Ok(Edit::SetCounter {
+                counter: *counter,
+                drawn: *drawn,
+            }),
+            Edit::Keep(kept) => Ok(Edit::Keep(kept.copy()?)),
+        }
+    }
 }

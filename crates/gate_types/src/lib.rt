@@ -14,6 +14,7 @@ pub mod names;
 pub mod numbers;
 pub mod records;
 pub mod refusals;
+pub mod rows;
 pub mod sequence;
 mod settings_text;
 pub mod tap;

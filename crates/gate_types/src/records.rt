@@ -1,5 +1,5 @@
 //! The records of the gate's state.
-use crate::names::{Name, PathName, Text};
+use crate::names::{Name, NoMemory, PathName, Text};
 use crate::numbers::{BuildNo, ChangeNo, Revision, Serial};
 use crate::sequence::Sequence;
 use std::marker::Model;
@@ -59,6 +59,22 @@ pub struct Change {
     pub needs: Sequence<ChangeNo>,
 }
 
+impl Change {
+    ghost use Rattle.std.specs.Prelude.{◌≡◌, IfOk};
+
+    pub fn copy(&self) -> Result<Change, NoMemory>
+        ensures { IfOk result (λ change. change ≡ self.now) }
+    {
+        Ok(Change {
+            number: self.number,
+            project: self.project.copy()?,
+            revision: self.revision,
+            stage: self.stage,
+            needs: self.needs.copy()?,
+        })
+    }
+}
+
 /// A change in a queue, with the serial of the last item before it that isn't failing.
 #[derive(Clone, Copy, Debug, PartialEq, Eq)]
 pub struct Item {
@@ -77,6 +93,13 @@ pub struct Landing {
     pub revision: Revision,
 }
 
+/// An approved change that stands in no queue, under the number of its approval (1 to 10^15).
+#[derive(Clone, Copy, Debug, PartialEq, Eq)]
+pub struct Ready {
+    pub approval: u64,
+    pub change: ChangeNo,
+}
+
 /// A build of a job of an item. It runs on the first `after` landings of its queue, then on
 /// `ahead`, then on its own change. Once it isn't `live`, its outcome decides nothing.
 #[derive(Debug, Drop)]
@@ -91,6 +114,27 @@ pub struct Build {
     pub ahead: Sequence<Entry>,
     pub outcome: Outcome,
     pub live: bool,
+}
+
+impl Build {
+    ghost use Rattle.std.specs.Prelude.{◌≡◌, IfOk};
+
+    pub fn copy(&self) -> Result<Build, NoMemory>
+        ensures { IfOk result (λ build. build ≡ self.now) }
+    {
+        Ok(Build {
+            number: self.number,
+            queue: self.queue.copy()?,
+            serial: self.serial,
+            change: self.change,
+            revision: self.revision,
+            job: self.job.copy()?,
+            after: self.after,
+            ahead: self.ahead.copy()?,
+            outcome: self.outcome,
+            live: self.live,
+        })
+    }
 }
 
 /// That an item left its queue, and why.
@@ -140,4 +184,18 @@ pub struct Kept {
     pub id: Id,
     pub said: Text,
     pub reply: Text,
+}
+
+impl Kept {
+    ghost use Rattle.std.specs.Prelude.{◌≡◌, IfOk};
+
+    pub fn copy(&self) -> Result<Kept, NoMemory>
+        ensures { IfOk result (λ kept. kept ≡ self.now) }
+    {
+        Ok(Kept {
+            id: self.id,
+            said: self.said.copy()?,
+            reply: self.reply.copy()?,
+        })
+    }
 }

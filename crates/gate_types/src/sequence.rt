@@ -1,7 +1,7 @@
 //! A list as contracts see it: the fields of records that a clause compares.
-ghost use Rattle.std.specs.Prelude.{◌≡◌, [], ◌∷◌, ◌++◌, OnOk, OnErr, IfErr};
+ghost use Rattle.std.specs.Prelude.{◌≡◌, [], ◌∷◌, ◌++◌, OnOk, OnErr, IfOk, IfErr};
 
-use std::alloc::{AllocFailed, Global};
+use std::alloc::{AllocError, AllocFailed, Global};
 use std::marker::Model;
 
 /// Values in order. It is made from a `Vec`, and gives it back.
@@ -53,5 +53,14 @@ impl<T> Sequence<T> {
         ensures given_back { IfErr result (λ e. e.value ≡ value) }
     {
         self.values.push(value)
+    }
+}
+
+impl<T: Copy> Sequence<T> {
+    pub fn copy(&self) -> Result<Self, AllocError>
+        ensures { IfOk result (λ s. s ≡ self.now) }
+    {
+        let values = Vec::from_slice(*self.values.allocator(), self.as_slice())?;
+        Ok(Sequence { values })
     }
 }

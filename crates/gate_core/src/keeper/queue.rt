@@ -40,7 +40,7 @@ pub struct Waiting {
 }
 
 impl Model for Waiting {
-    ghost use Rattle.gate_types.specs.State.{Ready};
+    ghost use Rattle.gate_types.specs.declared.records.Ready.{Ready};
     ghost use Rattle.gate_core.specs.Placed.{Placed};
 
     ghost Value = { Placed Ready };

@@ -2,7 +2,8 @@ use Rattle.std.proofs.Common.{◌≡◌, ◌∙◌, ◌+◌, ◌≤◌, ◌&&◌
 use Rattle.std.specs.Prelude.{◌==◌, find}
 use Rattle.std.proofs.lemmas.Bool.{false≢true}
 use Rattle.gate_types.specs.Counters.{Drawn}
-use Rattle.gate_types.specs.State.{Item, Ready}
+use Rattle.gate_types.specs.declared.records.Ready.{Ready}
+use Rattle.gate_types.specs.State.{Item}
 use Rattle.gate_core.specs.Placed.{Placed}
 use Rattle.gate_core.proofs.PlacedLemmas.{absent_from_none}
 use Rattle.gate_core.proofs.ReviseLemmas.{IsNext, recorded-step, stays-recorded, admitting-step, admitting_exhausted, stays-admitting, full_unheld, full_unfound, next_known}
