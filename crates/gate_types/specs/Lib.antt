@@ -27,6 +27,7 @@ pub mod Forms
 pub mod SettingsText
 pub mod Columns
 pub mod Rows
+pub mod Tables
 pub mod Status
 pub mod OrderList
 pub mod BuildText
