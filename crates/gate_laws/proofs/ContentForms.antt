@@ -17,7 +17,7 @@ use Rattle.gate_types.specs.ReplyText.{reply_text}
 use Rattle.gate_types.specs.Once.{Call, Content, empty, kept_for, may_act, content_after, next_content, once}
 use Rattle.gate_types.specs.Lawful.{IsLawful}
 use Rattle.gate_types.specs.Forms.{are_settings_in_form, is_delivery_in_form, is_id_in_form, is_call_in_form, is_text_in_form, is_kept_in_form, is_reply_in_form, IsContentInForm}
-use Rattle.gate_laws.specs.InForm.{EmptyIsInForm, NextContentIsInForm, RunIsInForm}
+use Rattle.gate_laws.specs.InForm.{EmptyIsInForm, NextContentIsInForm, NextContentIsLawful, RunIsInForm}
 use Rattle.gate_laws.proofs.Members.{In, every, not_found}
 use Rattle.gate_laws.proofs.StartIsLawful.{start_lawful}
 use Rattle.gate_laws.proofs.RunIsLawful.{next_lawful}
@@ -91,6 +91,12 @@ pub next_content_is_in_form : NextContentIsInForm
 next_content_is_in_form c x k w f l h v =
     cond_both (may_act x k) (content_after x k (step c x.state k.delivery)) x (IsContentInForm c)
     (λ e. after_call c x k w f l h v e (step c x.state k.delivery) refl) (λ e. h)
+
+pub next_content_is_lawful : NextContentIsLawful
+next_content_is_lawful c x k w f v l = record {
+  lawful = next_lawful c w x k l.lawful;
+  in_form = next_content_is_in_form c x k w f l.lawful l.in_form v;
+}
 
 -- ---- any calls
 

@@ -10,7 +10,7 @@ use Rattle.gate_types.specs.State.{State, start}
 use Rattle.gate_types.specs.Step.{step, accepted}
 use Rattle.gate_types.specs.Once.{Call, Content, empty, next_content, once}
 use Rattle.gate_types.specs.Lawful.{IsSound, IsLawful}
-use Rattle.gate_types.specs.Forms.{are_settings_in_form, is_delivery_in_form, is_reply_in_form, is_build_in_form, is_call_in_form, IsInForm, HasFewRows, IsContentInForm}
+use Rattle.gate_types.specs.Forms.{are_settings_in_form, is_delivery_in_form, is_reply_in_form, is_build_in_form, is_call_in_form, IsInForm, HasFewRows, IsContentInForm, IsLawfulContent}
 
 -- the state before the first delivery is in form
 abbrev pub StartIsInForm : Type 0
@@ -46,7 +46,13 @@ NextContentIsInForm = (c : Settings) (x : Content) (k : Call) →
     are_sound c ≡ true → are_settings_in_form c ≡ true → IsLawful c x.state → IsContentInForm c x →
     is_call_in_form k ≡ true → IsContentInForm c (next_content c x k)
 
--- so does any list of calls from the empty gate
+-- so a call in form leaves a lawful content lawful, from which further calls may follow
+abbrev pub NextContentIsLawful : Type 0
+NextContentIsLawful = (c : Settings) (x : Content) (k : Call) →
+    are_sound c ≡ true → are_settings_in_form c ≡ true → is_call_in_form k ≡ true →
+    IsLawfulContent c x → IsLawfulContent c (next_content c x k)
+
+-- any list of calls in form, from the empty gate, leaves a content in form
 abbrev pub RunIsInForm : Type 0
 RunIsInForm = (c : Settings) (calls : List Call) →
     are_sound c ≡ true → are_settings_in_form c ≡ true → AllPass is_call_in_form calls →
