@@ -53,7 +53,7 @@ stops_leave f h y [] = refl
 stops_leave f h y (b ∷ bs) = ap (λ z. fold f z (map (λ (x : Build). edit.StopBuild x.number) bs)) (h y b.number) ∙ stops_leave f h y bs
 
 -- the edits of one item, at such a part
-at_step : {Y : Type 0} (f : Y → Edit → Y) (h : (y : Y) (n : ℕ) → f y (edit.StopBuild n) ≡ y) (name : List ℕ) (bs : List Build) (n : ℕ) (staying : List Item) (p : Place) (y : Y) (rest : List Edit) →
+pub at_step : {Y : Type 0} (f : Y → Edit → Y) (h : (y : Y) (n : ℕ) → f y (edit.StopBuild n) ≡ y) (name : List ℕ) (bs : List Build) (n : ℕ) (staying : List Item) (p : Place) (y : Y) (rest : List Edit) →
     fold f y (edits_at name bs n staying p ++ rest) ≡ fold f (fold f y (item_edits name n (row_of bs p) (verdict_of bs staying p))) rest
 at_step f h name bs n staying p y rest =
     let stop = stop_edits bs p (is_some (verdict_of bs staying p)) in
@@ -63,7 +63,7 @@ at_step f h name bs n staying p y rest =
 
 -- ---- the window
 
-window_own : (name : List ℕ) (w n : ℕ) (i : ItemRow) (v : Option Verdict) → fold (edited_window name) w (item_edits name n i v) ≡ w
+pub window_own : (name : List ℕ) (w n : ℕ) (i : ItemRow) (v : Option Verdict) → fold (edited_window name) w (item_edits name n i v) ≡ w
 window_own name w n i None = refl
 window_own name w n i (Some v) = refl
 
@@ -92,7 +92,7 @@ put_last k (x ∷ rs) r n e =
 abbrev pub reports_of : List Judged → List Report
 reports_of js = filter_map (λ j. option_map (λ v. report_of v j.item) j.verdict) js
 
-reports_own : (name : List ℕ) (rs : List Report) (bs : List Build) (p : Place) (v : Option Verdict) (js : List Judged) →
+pub reports_own : (name : List ℕ) (rs : List Report) (bs : List Build) (p : Place) (v : Option Verdict) (js : List Judged) →
     (l : List Report) × (fold (edited_reports name) (numbered 0 rs) (item_edits name (length rs) (row_of bs p) v) ≡ numbered 0 l) × (length l ≡ next_reports (length rs) v) × (l ++ reports_of js ≡ rs ++ reports_of (record { item = p.item; verdict = v } ∷ js))
 reports_own name rs bs p None js = (rs, refl, refl, refl)
 reports_own name rs bs p (Some v) js =
@@ -143,20 +143,20 @@ drop_there (y ∷ ys) i is h r =
     ap (λ t. cond (not t) (y ∷ filter (λ j. not (j.serial == i.serial)) (ys ++ i ∷ is)) (filter (λ j. not (j.serial == i.serial)) (ys ++ i ∷ is))) (ne_eqb y.serial i.serial (λ s. omega (arith, s)))
     ∙ ap (λ zs. y ∷ zs) (drop_there ys i is h.1 r)
 
-below_more : (n m : ℕ) (done : List ItemRow) → n ≤ m → AllBelow row_serial n done → AllBelow row_serial m done
+pub below_more : (n m : ℕ) (done : List ItemRow) → n ≤ m → AllBelow row_serial n done → AllBelow row_serial m done
 below_more n m [] l h = tt
 below_more n m (x ∷ xs) l h = let below : x.serial < n = h.0 in (omega arith, below_more n m xs l h.1)
 
 -- what is put in place of an item, or nothing
-abbrev kept : Option Verdict → ItemRow → List ItemRow
+abbrev pub kept : Option Verdict → ItemRow → List ItemRow
 kept v row = cond (is_some v) [] (row ∷ [])
 
-below_kept : (n : ℕ) (done : List ItemRow) (x : ItemRow) (v : Option Verdict) → x.serial < n → AllBelow row_serial n done → AllBelow row_serial n (done ++ kept v x)
+pub below_kept : (n : ℕ) (done : List ItemRow) (x : ItemRow) (v : Option Verdict) → x.serial < n → AllBelow row_serial n done → AllBelow row_serial n (done ++ kept v x)
 below_kept n [] x None l h = (l, tt)
 below_kept n [] x (Some v) l h = tt
 below_kept n (y ∷ ys) x v l h = (h.0, below_kept n ys x v l h.1)
 
-items_own : (name : List ℕ) (n : ℕ) (done : List ItemRow) (i x : ItemRow) (v : Option Verdict) (rest : List ItemRow) → x.serial ≡ i.serial → AllBelow row_serial i.serial done → RiseFrom row_serial (suc i.serial) rest →
+pub items_own : (name : List ℕ) (n : ℕ) (done : List ItemRow) (i x : ItemRow) (v : Option Verdict) (rest : List ItemRow) → x.serial ≡ i.serial → AllBelow row_serial i.serial done → RiseFrom row_serial (suc i.serial) rest →
     fold (edited_items name) (done ++ i ∷ rest) (item_edits name n x v) ≡ (done ++ kept v x) ++ rest
 items_own name n done i x None rest e h r =
     ap (λ t. cond t (put_by row_serial x (done ++ i ∷ rest)) (done ++ i ∷ rest)) (same_self name)
@@ -167,7 +167,7 @@ items_own name n done i x (Some v) rest e h r =
     ∙ drop_there done i rest h r
     ∙ ap (λ d. d ++ rest) (sym (append-nil done))
 
-kept_cons : (done tail : List ItemRow) (bs : List Build) (p : Place) (v : Option Verdict) (leaves : ℕ → Bool) (ps : List Place) → leaves p.item.serial ≡ is_some v →
+pub kept_cons : (done tail : List ItemRow) (bs : List Build) (p : Place) (v : Option Verdict) (leaves : ℕ → Bool) (ps : List Place) → leaves p.item.serial ≡ is_some v →
     (done ++ kept v (row_of bs p)) ++ (map (row_of bs) (stayers leaves ps) ++ tail) ≡ done ++ (map (row_of bs) (stayers leaves (p ∷ ps)) ++ tail)
 kept_cons done tail bs p v leaves ps e =
     by_verdict v

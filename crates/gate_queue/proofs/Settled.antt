@@ -110,7 +110,7 @@ rows_settled ps bs r =
     ∙ stayers_kept bs (places_after bs [] ps) leaves test (rebase_passes (places_after bs [] ps))
 
 -- what the edits make of the rows
-edits_make : (name : List ℕ) (floor w n : ℕ) (bs : List Build) (is : List ItemRow) (ps : List Place) (rs : List Report) → length rs ≡ n → GoWith is ps → RiseFrom row_serial 0 is → RiseFrom build_number 0 bs →
+pub edits_make : (name : List ℕ) (floor w n : ℕ) (bs : List Build) (is : List ItemRow) (ps : List Place) (rs : List Report) → length rs ≡ n → GoWith is ps → RiseFrom row_serial 0 is → RiseFrom build_number 0 bs →
     fold_edits (record { name = name; window = w; items = is; builds = bs; reports = numbered 0 rs }) (edits_of_queue name floor w n bs ps)
     ≡ record {
       name = name;
