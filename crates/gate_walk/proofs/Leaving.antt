@@ -1,0 +1,275 @@
+-- What a delivery that takes an item out leaves of its queue.
+use Rattle.std.proofs.Common.{◌≡◌, ℕ, Bool, true, false, not, ◌&&◌, ◌||◌, cond, Option, Some, List, [], ◌∷◌, ◌++◌, map, inl, inr, ⊎_elim, refl, sym, ap, ◌∙◌, subst, true≢false}
+use Rattle.std.specs.Prelude.{◌==◌, nat_lt, filter, find, flat_map, unwrap_or}
+use Rattle.std.specs.List.{list_any}
+use Rattle.std.proofs.lemmas.Bool.{and_parts, eqb-true, eq-eqb}
+use Rattle.gate_types.specs.declared.records.Change.{Change}
+use Rattle.gate_types.specs.declared.records.Need.{Need}
+use Rattle.gate_types.specs.declared.records.Stage.{Stage}
+use Rattle.gate_types.specs.declared.records.Stage.TheVariants as stage
+use Rattle.gate_types.specs.declared.records.Verdict.TheVariants as verdict
+use Rattle.gate_types.specs.Names.{same_name}
+use Rattle.gate_types.specs.Settings.{Settings}
+use Rattle.gate_types.specs.declared.records.Ready.{Ready}
+use Rattle.gate_types.specs.State.{Item, Queue, State, put_by, put_change, has_change, change_of, is_open, is_landed}
+use Rattle.gate_types.specs.Line.{Place}
+use Rattle.gate_types.specs.Standing.{place_of}
+use Rattle.gate_types.specs.Sweep.{without_runs}
+use Rattle.gate_types.specs.Step.{left_queue, with_stage, landed_queue}
+use Rattle.gate_types.specs.Lawful.{IsSound, waiting_changes}
+use Rattle.gate_walk.specs.Rescan.{need_behind, place_behind}
+use Rattle.gate_walk.specs.Kinds.{IsIn, ItemsLeave}
+use Rattle.gate_walk.proofs.Has.{Has, found, any_of, has_map, has_right, Once, once, once_left, one_list}
+use Rattle.gate_walk.proofs.Calm.{items_once, item_open, map_flat}
+
+-- ---- items of one change
+
+one_item : (xs : List Item) (a b : Item) → Once (map (λ (i : Item). i.change) xs) → Has xs a → Has xs b → a.change ≡ b.change → a ≡ b
+one_item [] a b o ma mb e = absurd ma
+one_item (x ∷ xs) a b o ma mb e =
+    ⊎_elim
+    (λ (ea : x ≡ a). ⊎_elim (λ (eb : x ≡ b). sym ea ∙ eb)
+    (λ (rb : Has xs b). absurd (o.0 (subst (Has (map (λ (i : Item). i.change) xs)) (sym (ap (λ (i : Item). i.change) ea ∙ e)) (has_map (λ (i : Item). i.change) xs b rb)))) mb)
+    (λ (ra : Has xs a). ⊎_elim
+    (λ (eb : x ≡ b). absurd (o.0 (subst (Has (map (λ (i : Item). i.change) xs)) (e ∙ sym (ap (λ (i : Item). i.change) eb)) (has_map (λ (i : Item). i.change) xs a ra))))
+    (λ (rb : Has xs b). one_item xs a b o.1 ra rb e) mb) ma
+
+-- no other item is of its change
+others_differ : (is js : List Item) (i j : Item) → Once (map (λ (x : Item). x.change) (is ++ i ∷ js)) → Has (is ++ js) j → (i.change == j.change) ≡ false
+others_differ [] js i j o m = at (i.change == j.change) refl
+  where
+    at : (t : Bool) → (i.change == j.change) ≡ t → (i.change == j.change) ≡ false
+    at false e = e
+    at true e = absurd (o.0 (subst (Has (map (λ (x : Item). x.change) js)) (sym (eqb-true i.change j.change e)) (has_map (λ (x : Item). x.change) js j m)))
+others_differ (x ∷ is) js i j o m =
+    ⊎_elim (λ (e : x ≡ j). at (i.change == j.change) refl e) (λ (r : Has (is ++ js) j). others_differ is js i j o.1 r) m
+  where
+    at : (t : Bool) → (i.change == j.change) ≡ t → x ≡ j → (i.change == j.change) ≡ false
+    at false e s = e
+    at true e s = absurd (o.0 (subst (Has (map (λ (y : Item). y.change) (is ++ i ∷ js))) (eqb-true i.change j.change e ∙ ap (λ (y : Item). y.change) (sym s)) (has_map (λ (y : Item). y.change) (is ++ i ∷ js) i (has_right is (i ∷ js) i (inl refl)))))
+
+stay_all : (n : ℕ) (xs : List Item) → ((j : Item) → Has xs j → (n == j.change) ≡ false) → filter (λ j. not (j.change == n)) xs ≡ xs
+stay_all n [] h = refl
+stay_all n (x ∷ xs) h = λ k. cond (not (flip (x.change == n) refl k)) (x ∷ stay_all n xs (λ j m. h j (inr m)) k) (stay_all n xs (λ j m. h j (inr m)) k)
+  where
+    flip : (t : Bool) → (x.change == n) ≡ t → (x.change == n) ≡ false
+    flip false e = e
+    flip true e = absurd (true≢false (sym (eq-eqb n x.change (sym (eqb-true x.change n e))) ∙ h x (inl refl)))
+
+left_items : (n : ℕ) (is js : List Item) (i : Item) → i.change ≡ n → ((j : Item) → Has (is ++ js) j → (n == j.change) ≡ false) → filter (λ j. not (j.change == n)) (is ++ i ∷ js) ≡ is ++ js
+left_items n [] js i e h = ap (λ t. cond (not t) (i ∷ filter (λ j. not (j.change == n)) js) (filter (λ j. not (j.change == n)) js)) (eq-eqb i.change n e) ∙ stay_all n js h
+left_items n (x ∷ is) js i e h = λ k. cond (not (flip (x.change == n) refl k)) (x ∷ left_items n is js i e (λ j m. h j (inr m)) k) (left_items n is js i e (λ j m. h j (inr m)) k)
+  where
+    flip : (t : Bool) → (x.change == n) ≡ t → (x.change == n) ≡ false
+    flip false e = e
+    flip true e = absurd (true≢false (sym (eq-eqb n x.change (sym (eqb-true x.change n e))) ∙ h x (inl refl)))
+
+-- ---- the builds of its serial
+
+changes_apart : (c : Settings) (s : State) → IsSound c s → (n : ℕ) (q o : Queue) → Has s.queues q → Has s.queues o → has_change q.items n ≡ true → has_change o.items n ≡ true → q ≡ o
+changes_apart c s h n q o mq mo hq ho =
+    one_list (λ (x : Queue). map (λ (i : Item). i.change) x.items) s.queues
+    (subst Once (map_flat (λ (i : Item). i.change) (λ (x : Queue). x.items) s.queues)
+    (once_left (map (λ (i : Item). i.change) (flat_map (λ (x : Queue). x.items) s.queues)) (map (λ (r : Ready). r.change) s.ready) (once (waiting_changes s) h.waiting_differ)))
+    n q o mq mo (inside q hq) (inside o ho)
+  where
+    inside : (x : Queue) → has_change x.items n ≡ true → Has (map (λ (i : Item). i.change) x.items) n
+    inside x e =
+        let f = found (λ (i : Item). i.change == n) x.items e in
+        subst (Has (map (λ (i : Item). i.change) x.items)) (eqb-true f.it.change n f.passes) (has_map (λ (i : Item). i.change) x.items f.it f.there)
+
+abbrev leaves : State → ℕ → ℕ → Bool
+leaves s n serial = list_any (λ q. list_any (λ i. i.change == n && i.serial == serial) q.items) s.queues
+
+one_leaves : (c : Settings) (s : State) → IsSound c s → (q : Queue) (i : Item) (n : ℕ) → Has s.queues q → Has q.items i → i.change ≡ n → (m : ℕ) → leaves s n m ≡ (m == i.serial)
+one_leaves c s sound q i n mq mi e m = at (leaves s n m) (m == i.serial) refl refl
+  where
+    own : has_change q.items n ≡ true
+    own = any_of (λ (j : Item). j.change == n) q.items i mi (eq-eqb i.change n e)
+
+    at : (x y : Bool) → leaves s n m ≡ x → (m == i.serial) ≡ y → leaves s n m ≡ (m == i.serial)
+    at true y ex ey =
+        let fq = found (λ (o : Queue). list_any (λ j. j.change == n && j.serial == m) o.items) s.queues ex in
+        let fi = found (λ (j : Item). j.change == n && j.serial == m) fq.it.items fq.passes in
+        let both = and_parts (fi.it.change == n) (fi.it.serial == m) fi.passes in
+        let same = changes_apart c s sound n fq.it q fq.there mq (any_of (λ (j : Item). j.change == n) fq.it.items fi.it fi.there both.0) own in
+        let it = one_item q.items fi.it i (items_once c s sound q mq) (subst (λ (o : Queue). Has o.items fi.it) same fi.there) mi (eqb-true fi.it.change n both.0 ∙ sym e) in
+        ex ∙ sym (eq-eqb m i.serial (sym (eqb-true fi.it.serial m both.1) ∙ ap (λ (j : Item). j.serial) it))
+    at false true ex ey =
+        absurd (true≢false (sym (any_of (λ (o : Queue). list_any (λ j. j.change == n && j.serial == m) o.items) s.queues q mq
+        (any_of (λ (j : Item). j.change == n && j.serial == m) q.items i mi (λ k. eq-eqb i.change n e k && eq-eqb i.serial m (sym (eqb-true m i.serial ey)) k))) ∙ ex))
+    at false false ex ey = ex ∙ sym ey
+
+stopped : (c : Settings) (s : State) → IsSound c s → (q : Queue) (i : Item) (n : ℕ) → Has s.queues q → Has q.items i → i.change ≡ n → without_runs (leaves s n) s.builds ≡ without_runs (λ m. m == i.serial) s.builds
+stopped c s sound q i n mq mi e = ap (λ (f : ℕ → Bool). without_runs f s.builds) (λ k m. one_leaves c s sound q i n mq mi e m k)
+
+-- ---- a change put in place of another
+
+find_put : (k : Change) (xs : List Change) (m : ℕ) → find (λ x. x.number == m) (put_by (λ x. x.number) k xs) ≡ cond (k.number == m) (Some k) (find (λ x. x.number == m) xs)
+find_put k [] m = refl
+find_put k (y ∷ ys) m = by_same (k.number == y.number) refl (find_put k ys m)
+  where
+    by_both : (a b : Bool) → (k.number == m) ≡ a → (y.number == m) ≡ b → (k.number == y.number) ≡ false → (o : Option Change) → cond b (Some y) (cond a (Some k) o) ≡ cond a (Some k) (cond b (Some y) o)
+    by_both true true ea eb e o = absurd (true≢false (sym (eq-eqb k.number y.number (eqb-true k.number m ea ∙ sym (eqb-true y.number m eb))) ∙ e))
+    by_both true false ea eb e o = refl
+    by_both false b ea eb e o = refl
+
+    by_less : (t : Bool) → (k.number == y.number) ≡ false → find (λ x. x.number == m) (put_by (λ x. x.number) k ys) ≡ cond (k.number == m) (Some k) (find (λ x. x.number == m) ys) →
+        find (λ x. x.number == m) (cond t (k ∷ y ∷ ys) (y ∷ put_by (λ x. x.number) k ys)) ≡ cond (k.number == m) (Some k) (cond (y.number == m) (Some y) (find (λ x. x.number == m) ys))
+    by_less true e h = refl
+    by_less false e h = ap (λ o. cond (y.number == m) (Some y) o) h ∙ by_both (k.number == m) (y.number == m) refl refl e (find (λ x. x.number == m) ys)
+
+    by_own : (a : Bool) → (k.number == m) ≡ a → (k.number == y.number) ≡ true → cond a (Some k) (find (λ x. x.number == m) ys) ≡ cond a (Some k) (cond (y.number == m) (Some y) (find (λ x. x.number == m) ys))
+    by_own true ea e = refl
+    by_own false ea e = ap (λ t. cond t (Some y) (find (λ x. x.number == m) ys)) (sym (ap (λ z. z == m) (sym (eqb-true k.number y.number e)) ∙ ea))
+
+    by_same : (t : Bool) → (k.number == y.number) ≡ t → find (λ x. x.number == m) (put_by (λ x. x.number) k ys) ≡ cond (k.number == m) (Some k) (find (λ x. x.number == m) ys) →
+        find (λ x. x.number == m) (cond (k.number == y.number) (k ∷ ys) (cond (nat_lt k.number y.number) (k ∷ y ∷ ys) (y ∷ put_by (λ x. x.number) k ys))) ≡ cond (k.number == m) (Some k) (cond (y.number == m) (Some y) (find (λ x. x.number == m) ys))
+    by_same true e h = ap (λ t. find (λ x. x.number == m) (cond t (k ∷ ys) (cond (nat_lt k.number y.number) (k ∷ y ∷ ys) (y ∷ put_by (λ x. x.number) k ys)))) e ∙ by_own (k.number == m) refl e
+    by_same false e h = ap (λ t. find (λ x. x.number == m) (cond t (k ∷ ys) (cond (nat_lt k.number y.number) (k ∷ y ∷ ys) (y ∷ put_by (λ x. x.number) k ys)))) e ∙ by_less (nat_lt k.number y.number) e h
+
+change_put : (k : Change) (s : State) (m : ℕ) → change_of (put_change k s) m ≡ cond (k.number == m) k (change_of s m)
+change_put k s m =
+    let none : Change = record { number = m; project = []; revision = 0; stage = stage.Closed; needs = [] } in
+    ap (λ (o : Option Change). unwrap_or o none) (find_put k s.changes m) ∙ at (k.number == m)
+  where
+    at : (t : Bool) → unwrap_or (cond t (Some k) (find (λ x. x.number == m) s.changes)) (record { number = m; project = []; revision = 0; stage = stage.Closed; needs = [] }) ≡ cond t k (change_of s m)
+    at true = refl
+    at false = refl
+
+found_number : (xs : List Change) (n : ℕ) (d : Change) → d.number ≡ n → (unwrap_or (find (λ x. x.number == n) xs) d).number ≡ n
+found_number [] n d e = e
+found_number (x ∷ xs) n d e = at (x.number == n) refl (found_number xs n d e)
+  where
+    at : (t : Bool) → (x.number == n) ≡ t → (unwrap_or (find (λ y. y.number == n) xs) d).number ≡ n → (unwrap_or (cond t (Some x) (find (λ y. y.number == n) xs)) d).number ≡ n
+    at true k h = eqb-true x.number n k
+    at false k h = h
+
+number_of_change : (s : State) (n : ℕ) → (change_of s n).number ≡ n
+number_of_change s n = found_number s.changes n (record { number = n; project = []; revision = 0; stage = stage.Closed; needs = [] }) refl
+
+-- ---- the other items' places
+
+-- of a change that isn't landed, as it wasn't before
+kept_place : (c : Settings) (s : State) (k : Change) (q o : Queue) (i j : Item) → k.number ≡ i.change → is_landed k ≡ false → is_landed (change_of s i.change) ≡ false → o.landings ≡ q.landings → (i.change == j.change) ≡ false →
+    place_of c (put_change k s) o j ≡ place_of c s q j
+kept_place c s k q o i j en lk ls eo d =
+    let t = put_change k s in
+    let same : change_of t j.change ≡ change_of s j.change = change_put k s j.change ∙ ap (λ x. cond x k (change_of s j.change)) (ap (λ n. n == j.change) en ∙ d) in
+    λ x. record {
+      landings = eo x;
+      ahead = [];
+      item = j;
+      needs = (ap (λ (z : Change). map (λ m. let one : Need = record { change = m; landed = is_landed (change_of t m) } in one) z.needs) same ∙ needs (change_of s j.change).needs) x;
+      jobs = (ap (λ (z : Change). (unwrap_or (find (λ p. same_name p.name z.project) c.projects) (record { name = []; queue = []; jobs = [] })).jobs) same) x;
+    }
+  where
+    flag : (m : ℕ) (t : Bool) → (k.number == m) ≡ t → is_landed (change_of (put_change k s) m) ≡ is_landed (change_of s m)
+    flag m true e = ap is_landed (change_put k s m ∙ ap (λ x. cond x k (change_of s m)) e) ∙ lk ∙ sym (ap (λ n. is_landed (change_of s n)) (sym (sym en ∙ eqb-true k.number m e)) ∙ ls)
+    flag m false e = ap is_landed (change_put k s m ∙ ap (λ x. cond x k (change_of s m)) e)
+
+    needs : (ms : List ℕ) → map (λ m. let one : Need = record { change = m; landed = is_landed (change_of (put_change k s) m) } in one) ms ≡ map (λ m. let one : Need = record { change = m; landed = is_landed (change_of s m) } in one) ms
+    needs [] = refl
+    needs (m ∷ ms) = λ x. (let one : Need = record { change = m; landed = flag m (k.number == m) refl x } in one) ∷ needs ms x
+
+-- of one that has landed
+landed_other : (c : Settings) (s : State) (k : Change) (q o : Queue) (i j : Item) → k.number ≡ i.change → is_landed k ≡ true → o.landings ≡ q.landings ++ record { serial = i.serial; change = i.change; revision = i.revision } ∷ [] → (i.change == j.change) ≡ false →
+    place_of c (put_change k s) o j ≡ place_behind i (place_of c s q j)
+landed_other c s k q o i j en lk eo d =
+    let t = put_change k s in
+    let same : change_of t j.change ≡ change_of s j.change = change_put k s j.change ∙ ap (λ x. cond x k (change_of s j.change)) (ap (λ n. n == j.change) en ∙ d) in
+    λ x. record {
+      landings = eo x;
+      ahead = [];
+      item = j;
+      needs = (ap (λ (z : Change). map (λ m. let one : Need = record { change = m; landed = is_landed (change_of t m) } in one) z.needs) same ∙ needs (change_of s j.change).needs) x;
+      jobs = (ap (λ (z : Change). (unwrap_or (find (λ p. same_name p.name z.project) c.projects) (record { name = []; queue = []; jobs = [] })).jobs) same) x;
+    }
+  where
+    yes : (x : Bool) → x || true ≡ true
+    yes true = refl
+    yes false = refl
+
+    off : (x : Bool) → x || false ≡ x
+    off true = refl
+    off false = refl
+
+    flag : (m : ℕ) (t : Bool) → (k.number == m) ≡ t → is_landed (change_of (put_change k s) m) ≡ (is_landed (change_of s m) || i.change == m)
+    flag m true e = ap is_landed (change_put k s m ∙ ap (λ x. cond x k (change_of s m)) e) ∙ lk ∙ sym (ap (λ x. is_landed (change_of s m) || x) (ap (λ n. n == m) (sym en) ∙ e) ∙ yes (is_landed (change_of s m)))
+    flag m false e = ap is_landed (change_put k s m ∙ ap (λ x. cond x k (change_of s m)) e) ∙ sym (ap (λ x. is_landed (change_of s m) || x) (ap (λ n. n == m) (sym en) ∙ e) ∙ off (is_landed (change_of s m)))
+
+    needs : (ms : List ℕ) → map (λ m. let one : Need = record { change = m; landed = is_landed (change_of (put_change k s) m) } in one) ms ≡ map (need_behind i.change) (map (λ m. let one : Need = record { change = m; landed = is_landed (change_of s m) } in one) ms)
+    needs [] = refl
+    needs (m ∷ ms) = λ x. (let one : Need = record { change = m; landed = flag m (k.number == m) refl x } in one) ∷ needs ms x
+
+each : {X : Type 0} (f g : Item → X) (xs : List Item) → ((j : Item) → Has xs j → f j ≡ g j) → map f xs ≡ map g xs
+each f g [] h = refl
+each f g (x ∷ xs) h = λ k. h x (inl refl) k ∷ each f g xs (λ j m. h j (inr m)) k
+
+map_twice : (f : Place → Place) (g : Item → Place) (xs : List Item) → map (λ j. f (g j)) xs ≡ map f (map g xs)
+map_twice f g [] = refl
+map_twice f g (x ∷ xs) = ap (λ l. f (g x) ∷ l) (map_twice f g xs)
+
+-- ---- each delivery
+
+-- what is the same for all of them
+record Gone (c : Settings) (s : State) (q : Queue) (is js : List Item) (i : Item) : Type 0 where
+  items : filter (λ j. not (j.change == i.change)) q.items ≡ is ++ js
+  builds : without_runs (leaves s i.change) s.builds ≡ without_runs (λ n. n == i.serial) s.builds
+  differ : (j : Item) → Has (is ++ js) j → (i.change == j.change) ≡ false
+  open_before : is_landed (change_of s i.change) ≡ false
+
+gone : (c : Settings) (s : State) (q : Queue) (is : List Item) (i : Item) (js : List Item) → IsIn c s q is i js → Gone c s q is js i
+gone c s q is i js h =
+    let mq : Has s.queues q = subst (λ (l : List Queue). Has l q) (sym h.queues) (has_right h.before (q ∷ h.after) q (inl refl)) in
+    let mi : Has q.items i = subst (λ (l : List Item). Has l i) (sym h.items) (has_right is (i ∷ js) i (inl refl)) in
+    let o = subst (λ (l : List Item). Once (map (λ (x : Item). x.change) l)) h.items (items_once c s h.sound q mq) in
+    let differ : (j : Item) → Has (is ++ js) j → (i.change == j.change) ≡ false = λ j m. others_differ is js i j o m in
+    record {
+      items = ap (filter (λ j. not (j.change == i.change))) h.items ∙ left_items i.change is js i refl differ;
+      builds = stopped c s h.sound q i i.change mq mi refl;
+      differ = differ;
+      open_before = item_open c s h.sound q mq i mi;
+    }
+
+open_is : (k : Change) → is_open k ≡ true → is_landed k ≡ false
+open_is k h = by_stage k.stage h
+  where
+    by_stage : (g : Stage) → (elim g as (λ x. Bool) [ stage.Open ↦ true | stage.Landed ↦ false | stage.Closed ↦ false ]) ≡ true → (elim g as (λ x. Bool) [ stage.Landed ↦ true | stage.Open ↦ false | stage.Closed ↦ false ]) ≡ false
+    by_stage stage.Open e = refl
+    by_stage stage.Landed e = absurd (true≢false (sym e))
+    by_stage stage.Closed e = refl
+
+pub items_leave : ItemsLeave
+items_leave = record {
+  withdrawn = λ c s q is i js h. let g = gone c s q is i js h in record { items = g.items; builds = g.builds; places = refl };
+  closed = λ c s q is i js h.
+      let g = gone c s q is i js h in
+      let k : Change = record (change_of s i.change) { stage = stage.Closed } in
+      record {
+        items = g.items;
+        builds = g.builds;
+        places = each (place_of c (with_stage stage.Closed i.change s) (left_queue verdict.Closed i.change q)) (place_of c s q) (is ++ js)
+            (λ j m. kept_place c s k q (left_queue verdict.Closed i.change q) i j (number_of_change s i.change) refl g.open_before refl (g.differ j m));
+      };
+  superseded = λ c s q is i js k h e o.
+      let g = gone c s q is i js h in
+      record {
+        items = ap (λ n. filter (λ j. not (j.change == n)) q.items) e ∙ g.items;
+        builds = ap (λ n. without_runs (leaves s n) s.builds) e ∙ g.builds;
+        places = each (place_of c (put_change k s) (left_queue verdict.Superseded k.number q)) (place_of c s q) (is ++ js)
+            (λ j m. kept_place c s k q (left_queue verdict.Superseded k.number q) i j e (open_is k o) g.open_before refl (g.differ j m));
+      };
+  refused = λ c s q is i js h. let g = gone c s q is i js h in record { items = g.items; builds = g.builds; places = refl };
+  landed = λ c s q is i js n h.
+      let g = gone c s q is i js h in
+      let k : Change = record (change_of s i.change) { stage = stage.Landed } in
+      let o = landed_queue i (left_queue (verdict.Landed n) i.change q) in
+      record {
+        items = g.items;
+        builds = g.builds;
+        places = each (place_of c (with_stage stage.Landed i.change s) o) (λ j. place_behind i (place_of c s q j)) (is ++ js)
+            (λ j m. landed_other c s k q o i j (number_of_change s i.change) refl refl (g.differ j m))
+            ∙ map_twice (place_behind i) (place_of c s q) (is ++ js);
+      };
+}

@@ -1,0 +1,6 @@
+pub mod Walk
+pub mod Next
+pub mod Rescan
+pub mod Kinds
+pub mod Delivery
+pub mod Views

@@ -1,0 +1,7 @@
+//! The walk.
+#![tactic(auto)]
+
+pub mod laws;
+pub mod seen;
+mod told;
+pub mod walk;

@@ -1,0 +1,253 @@
+//! What a walk sees of a row, and what it makes of it.
+ghost use Rattle.std.specs.Prelude.{◌≡◌, ℕ, Option, Bool, not, ◌&&◌, ◌||◌, false, if◌then◌else◌, IfOk, count_by, is_some};
+ghost use Rattle.std.specs.List.{list_any, list_all};
+ghost use Rattle.gate_types.specs.Names.{same_name};
+ghost use Rattle.gate_types.specs.Slot as rules;
+ghost use Rattle.gate_walk.specs.Walk as walk;
+
+use gate_types::config::Job;
+use gate_types::names::{Name, NoMemory};
+use gate_types::numbers::ChangeNo;
+use gate_types::records::{Build, Outcome, Slot, Verdict};
+use std::alloc::Global;
+use std::marker::Model;
+
+/// A need of an item; where an item of this change stands in the queue, whether its row says that it
+/// is failing.
+#[derive(Clone, Copy, Debug)]
+pub struct SeenNeed {
+    pub change: ChangeNo,
+    pub landed: bool,
+    pub standing: Option<bool>,
+}
+
+impl Model for SeenNeed {
+    ghost use Rattle.gate_walk.specs.Walk.{SeenNeed};
+
+    ghost Value = { SeenNeed };
+
+    ghost view = { λ n. record { change = n.change; landed = n.landed; standing = n.standing } };
+
+    ghost inverse = { λ n. record { change = n.change; landed = n.landed; standing = n.standing } };
+}
+
+/// Whether an item that was visited is failing now.
+#[derive(Clone, Copy, Debug)]
+pub struct Mark {
+    pub change: ChangeNo,
+    pub failing: bool,
+}
+
+impl Model for Mark {
+    ghost use Rattle.gate_walk.specs.Walk.{Mark};
+
+    ghost Value = { Mark };
+
+    ghost view = { λ m. record { change = m.change; failing = m.failing } };
+
+    ghost inverse = { λ m. record { change = m.change; failing = m.failing } };
+}
+
+/// Whether a change has gone.
+pub fn is_gone(gone: &[ChangeNo], change: ChangeNo) -> bool
+    ensures { result ≡ walk.is_gone gone.now change }
+{
+    gone.iter().any(|c| *c == change)
+}
+
+/// The mark of a needed item: that of its visit, else that of its row.
+pub fn mark_of(marks: &[Mark], change: ChangeNo, standing: Option<bool>) -> Option<bool>
+    ensures { result ≡ walk.mark_of marks.now change standing }
+{
+    for mark in marks {
+        if mark.change == change {
+            return Some(mark.failing);
+        }
+    }
+    standing
+}
+
+/// Whether a needed item stands in the queue and isn't failing.
+pub fn is_fine(standing: Option<bool>) -> bool
+    ensures { result ≡ walk.is_fine standing }
+{
+    match standing {
+        Some(failing) => !failing,
+        None => false,
+    }
+}
+
+/// Whether a need is a non-failing item.
+fn stands_fine(marks: &[Mark], need: &SeenNeed) -> bool
+    ensures { result ≡ walk.is_fine (walk.mark_of marks.now need.now.change need.now.standing) }
+{
+    is_fine(mark_of(marks, need.change, need.standing))
+}
+
+/// Whether each need has landed or is a non-failing item.
+fn are_met(marks: &[Mark], needs: &[SeenNeed]) -> bool
+    ensures { result ≡ list_all (λ n. n.landed || walk.is_fine (walk.mark_of marks.now n.change n.standing)) needs.now }
+{
+    needs
+        .iter()
+        .all(|need| need.landed || stands_fine(marks, need))
+}
+
+/// Whether some need has neither landed nor is a non-failing item.
+pub fn is_blocked_by(marks: &[Mark], needs: &[SeenNeed]) -> bool
+    ensures { result ≡ walk.is_blocked_by marks.now needs.now }
+{
+    !are_met(marks, needs)
+}
+
+/// Whether each need has landed or stands in the queue and hasn't gone.
+pub fn are_met_without(gone: &[ChangeNo], needs: &[SeenNeed]) -> bool
+    ensures { result ≡ walk.are_met_without gone.now needs.now }
+{
+    needs.iter().all(|n| n.landed || n.standing.is_some() && !is_gone(gone, n.change))
+}
+
+/// Whether two names are the same bytes.
+pub fn same_name(a: &Name, b: &Name) -> bool
+    ensures { result ≡ same_name a.now b.now }
+{
+    a.as_str() == b.as_str()
+}
+
+/// The outcomes of a job's builds.
+fn outcomes_among(alloc: Global, builds: &[Build], job: &Job) -> Result<Vec<Outcome>, NoMemory>
+    ensures { IfOk result (λ found. found.items ≡ walk.outcomes_among builds.now job.now) }
+{
+    let mut found: Vec<Outcome> = Vec::new(alloc);
+    for build in builds {
+        if same_name(&build.job, &job.name) {
+            found.push(build.outcome)?;
+        }
+    }
+    Ok(found)
+}
+
+fn has_success(outcomes: &[Outcome]) -> bool
+    ensures { result ≡ list_any rules.is_success outcomes.now }
+{
+    outcomes.iter().any(|o| matches!(o, Outcome::Success))
+}
+
+fn has_failure(outcomes: &[Outcome]) -> bool
+    ensures { result ≡ list_any rules.is_failure outcomes.now }
+{
+    outcomes.iter().any(|o| matches!(o, Outcome::Failure))
+}
+
+fn has_running(outcomes: &[Outcome]) -> bool
+    ensures { result ≡ list_any rules.is_running outcomes.now }
+{
+    outcomes.iter().any(|o| matches!(o, Outcome::Running))
+}
+
+fn count_lost(outcomes: &[Outcome]) -> usize
+    ensures { result ≡ count_by rules.is_lost outcomes.now }
+{
+    outcomes
+        .iter()
+        .filter(|o| matches!(o, Outcome::Lost))
+        .count()
+}
+
+fn slot_of_outcomes(outcomes: &[Outcome]) -> Slot
+    ensures { result ≡ rules.slot_of_outcomes outcomes.now }
+{
+    if has_success(outcomes) {
+        Slot::Success
+    } else if has_failure(outcomes) || count_lost(outcomes) >= 3 {
+        Slot::Failure
+    } else if has_running(outcomes) {
+        Slot::Running
+    } else {
+        Slot::Waiting
+    }
+}
+
+fn slot_among(alloc: Global, builds: &[Build], job: &Job) -> Result<Slot, NoMemory>
+    ensures { IfOk result (λ slot. slot ≡ walk.slot_among builds.now job.now) }
+{
+    let outcomes = outcomes_among(alloc, builds, job)?;
+    Ok(slot_of_outcomes(&outcomes))
+}
+
+fn is_failed(slot: Slot) -> bool
+    ensures { result ≡ rules.is_failed_slot slot }
+{
+    matches!(slot, Slot::Failure)
+}
+
+fn is_finished(slot: Slot) -> bool
+    ensures { result ≡ rules.is_finished slot }
+{
+    matches!(slot, Slot::Success | Slot::Failure)
+}
+
+/// What a walk makes of an item.
+#[derive(Clone, Copy, Debug)]
+pub struct Judged {
+    pub failing: bool,
+    pub verdict: Option<Verdict>,
+}
+
+/// What the jobs of an item say of it.
+#[derive(Clone, Copy, Debug)]
+struct Marks {
+    failed: bool,
+    finished: bool,
+}
+
+/// What the jobs say by builds that all count.
+fn marks_among(alloc: Global, builds: &[Build], jobs: &[Job]) -> Result<Marks, NoMemory>
+    ensures failed { IfOk result (λ m. m.failed ≡ list_any (λ j. j.voting && rules.is_failed_slot (walk.slot_among builds.now j)) jobs.now) }
+    ensures finished { IfOk result (λ m. m.finished ≡ list_all (λ j. rules.is_finished (walk.slot_among builds.now j)) jobs.now) }
+{
+    let mut failed = false;
+    let mut finished = true;
+    for job in jobs {
+        let slot = slot_among(alloc, builds, job)?;
+        failed = failed || job.voting && is_failed(slot);
+        finished = finished && is_finished(slot);
+    }
+    Ok(Marks { failed, finished })
+}
+
+fn verdict_of(met: bool, failed: bool) -> Option<Verdict>
+    ensures { result ≡ (if not met then Option.Some Verdict.Needs else (if failed then Option.Some Verdict.Failed else Option.None)) }
+{
+    if !met {
+        Some(Verdict::Needs)
+    } else if failed {
+        Some(Verdict::Failed)
+    } else {
+        None
+    }
+}
+
+/// Judges an item that a visit sees, by the builds of it that count still.
+pub fn judge(
+    alloc: Global,
+    first: bool,
+    gone: &[ChangeNo],
+    marks: &[Mark],
+    needs: &[SeenNeed],
+    jobs: &[Job],
+    counting: &[Build],
+) -> Result<Judged, NoMemory>
+    ensures failing { IfOk result (λ j. j.failing ≡ walk.fails_by marks.now needs.now jobs.now counting.now) }
+    ensures verdict { IfOk result (λ j. j.verdict ≡ walk.verdict_of first gone.now marks.now needs.now jobs.now counting.now) }
+{
+    let met = are_met_without(gone, needs);
+    let blocked = is_blocked_by(marks, needs);
+    let jobs = marks_among(alloc, counting, jobs)?;
+    let failing = blocked || jobs.failed;
+    let failed = failing && !blocked && first && jobs.finished;
+    Ok(Judged {
+        failing,
+        verdict: verdict_of(met, failed),
+    })
+}

@@ -1,0 +1,286 @@
+//! The walk over the rows behind a touched item.
+ghost use Rattle.std.specs.Prelude.{◌≡◌, ◌<◌, ◌≤◌, ◌+◌, ◌^◌, ◌++◌, [], ◌∷◌, Option, OnOk, OnErr, IfOk, not, is_some, if◌then◌else◌, option_map};
+ghost use Rattle.std.specs.Option.{option_map_or};
+ghost use Rattle.gate_walk.specs.Walk as rules;
+ghost use Rattle.gate_walk.specs.Rescan as law;
+ghost use Rattle.gate_walk.specs.Next as next;
+ghost use Rattle.gate_queue.specs.Edits as edits_of;
+ghost use Rattle.gate_walk.specs.Views.{carry_of, seen_of, out_of, next_is};
+
+use crate::seen::{Mark, SeenNeed, judge};
+use crate::told::{Beside, edits_of_visit, shrink};
+use gate_types::config::Job;
+use gate_types::edits::Edit;
+use gate_types::names::{Name, NoMemory};
+use gate_types::numbers::{ChangeNo, Serial};
+use gate_types::records::{Build, Item, Verdict};
+use std::alloc::Global;
+
+/// What a visit is given: a row, the needs and jobs of its change, its live builds.
+#[derive(Clone, Copy, Debug)]
+pub struct Seen<'a> {
+    pub row: Item,
+    pub needs: &'a [SeenNeed],
+    pub jobs: &'a [Job],
+    pub builds: &'a [Build],
+}
+
+/// What was taken out of a queue.
+#[derive(Clone, Copy, Debug)]
+pub struct TakenOut {
+    pub change: ChangeNo,
+    pub failing: bool,
+    pub landed: bool,
+}
+
+/// What a walk wants next: the queue's first item above a serial, its first item above it that needs a
+/// change of `gone`, or nothing more.
+#[derive(Clone, Copy, Debug, PartialEq, Eq)]
+pub enum Next {
+    Go(Serial),
+    Need(Serial),
+    Stop,
+}
+
+/// A walk over the rows behind a touched item, and what it has told so far.
+#[derive(Drop)]
+pub struct Walk {
+    name: Name,
+    floor: u32,
+    window: u32,
+    reports: u64,
+    resets: bool,
+    passes: bool,
+    ahead: Option<Serial>,
+    gone: Vec<ChangeNo>,
+    marks: Vec<Mark>,
+    edits: Vec<Edit>,
+}
+
+fn window_behind(window: u32, floor: u32, verdict: Option<Verdict>) -> u32
+    ensures { result ≡ edits_of.window_behind floor window verdict }
+{
+    match verdict {
+        Some(Verdict::Failed) => shrink(window, floor),
+        _ => window,
+    }
+}
+
+fn reports_behind(reports: u64, verdict: Option<Verdict>) -> u64
+    requires { reports + 1 < 2 ^ 64 }
+    ensures { result ≡ edits_of.next_reports reports verdict }
+{
+    if verdict.is_some() {
+        reports + 1
+    } else {
+        reports
+    }
+}
+
+fn still_counting<'a>(resets: bool, builds: &'a [Build]) -> &'a [Build]
+    ensures { result.now ≡ (if resets then [] else builds.now) }
+{
+    if resets { &builds[0..0] } else { builds }
+}
+
+fn ahead_behind(failing: bool, ahead: Option<Serial>, serial: Serial) -> Option<Serial>
+    ensures { result ≡ (if failing then ahead else Option.Some serial) }
+{
+    if failing { ahead } else { Some(serial) }
+}
+
+/// Appends what a visit came to; where memory is refused, nothing.
+fn append_all(
+    edits: &mut Vec<Edit>,
+    marks: &mut Vec<Mark>,
+    gone: &mut Vec<ChangeNo>,
+    told: Vec<Edit>,
+    mark: Mark,
+    going: bool,
+) -> Result<(), NoMemory>
+    ensures edits { OnOk result (edits.new.items ≡ edits.old.items ++ told.items) }
+    ensures marks { OnOk result (marks.new.items ≡ marks.old.items ++ mark ∷ []) }
+    ensures gone { OnOk result (gone.new.items ≡ (if going then gone.old.items ++ mark.change ∷ [] else gone.old.items)) }
+    ensures same_edits { OnErr result (edits.new.items ≡ edits.old.items) }
+    ensures same_marks { OnErr result (marks.new.items ≡ marks.old.items) }
+    ensures same_gone { OnErr result (gone.new.items ≡ gone.old.items) }
+{
+    let mut told = told;
+    gone.reserve(1)?;
+    marks.reserve(1)?;
+    edits.append(&mut told)?;
+    marks.push(mark)?;
+    if going {
+        gone.push(mark.change)?;
+    }
+    Ok(())
+}
+
+/// What a visit comes to.
+#[derive(Drop)]
+struct Told {
+    edits: Vec<Edit>,
+    failing: bool,
+    verdict: Option<Verdict>,
+}
+
+impl Walk {
+    /// What a visit of this row comes to.
+    fn told(&self, alloc: Global, seen: &Seen) -> Result<Told, NoMemory>
+        requires { self.now.reports + 1 < 2 ^ 64 }
+        ensures edits { IfOk result (λ t. t.edits.items ≡ rules.visit_edits self.now.name self.now.floor (carry_of self.now) (seen_of seen.now)) }
+        ensures failing { IfOk result (λ t. t.failing ≡ rules.fails (carry_of self.now) (seen_of seen.now)) }
+        ensures verdict { IfOk result (λ t. t.verdict ≡ rules.verdict_by (carry_of self.now) (seen_of seen.now)) }
+    {
+        let counting = still_counting(self.resets, seen.builds);
+        let judged = judge(
+            alloc,
+            !self.ahead.is_some(),
+            self.gone.as_slice(),
+            self.marks.as_slice(),
+            seen.needs,
+            seen.jobs,
+            counting,
+        )?;
+        let row = Item {
+            serial: seen.row.serial,
+            change: seen.row.change,
+            revision: seen.row.revision,
+            ahead: self.ahead,
+            failing: judged.failing,
+        };
+        let beside = Beside {
+            floor: self.floor,
+            window: self.window,
+            reports: self.reports,
+            resets: self.resets,
+        };
+        let edits = edits_of_visit(alloc, &self.name, beside, row, judged.verdict, seen.builds)?;
+        Ok(Told {
+            edits: edits.into_vec(),
+            failing: judged.failing,
+            verdict: judged.verdict,
+        })
+    }
+
+    /// The changes that have gone: a row that needs one of them is wanted.
+    pub fn gone(&self) -> &[ChangeNo]
+        ensures { result.now ≡ (carry_of self.now).gone }
+    {
+        self.gone.as_slice()
+    }
+
+    /// The edits of the visits so far.
+    pub fn edits(&self) -> &[Edit]
+        ensures { result.now ≡ self.now.edits.items }
+    {
+        self.edits.as_slice()
+    }
+
+    /// What is wanted behind the row of a serial.
+    fn next(&self, serial: Serial) -> Next
+        ensures { next_is result (next.next_of (carry_of self.now) serial) }
+    {
+        if self.resets || self.passes {
+            Next::Go(serial)
+        } else if self.gone.is_empty() {
+            Next::Stop
+        } else {
+            Next::Need(serial)
+        }
+    }
+
+    /// A walk before its first visit: of the touched item if nothing was taken out, else of the next
+    /// one; `ahead` is the serial of the last non-failing item before it.
+    pub fn start(
+        alloc: Global,
+        name: Name,
+        floor: u32,
+        window: u32,
+        reports: u64,
+        ahead: Option<Serial>,
+        out: Option<TakenOut>,
+    ) -> Result<Self, NoMemory>
+        ensures carried { IfOk result (λ w. carry_of w ≡ law.start (option_map out_of out) ahead reports window) }
+        ensures told { IfOk result (λ w. w.edits.items ≡ []) }
+        ensures named { IfOk result (λ w. w.name ≡ name) }
+        ensures bounded { IfOk result (λ w. w.floor ≡ floor) }
+    {
+        let mut gone: Vec<ChangeNo> = Vec::new(alloc);
+        let mut resets = false;
+        let mut passes = false;
+        if let Some(out) = out {
+            resets = !(out.landed || out.failing);
+            passes = out.landed;
+            if !out.landed {
+                gone.push(out.change)?;
+            }
+        }
+        Ok(Walk {
+            name,
+            floor,
+            window,
+            reports,
+            resets,
+            passes,
+            ahead,
+            gone,
+            marks: Vec::new(alloc),
+            edits: Vec::new(alloc),
+        })
+    }
+
+    fn visit_row(&mut self, alloc: Global, seen: &Seen) -> Result<Next, NoMemory>
+        requires { self.old.reports + 1 < 2 ^ 64 }
+        ensures carried { OnOk result (carry_of self.new ≡ rules.carried self.old.floor (carry_of self.old) (seen_of seen.now)) }
+        ensures told { OnOk result (self.new.edits.items ≡ self.old.edits.items ++ rules.visit_edits self.old.name self.old.floor (carry_of self.old) (seen_of seen.now)) }
+        ensures next { IfOk result (λ n. next_is n (next.next_of (carry_of self.new) seen.now.row.serial)) }
+        ensures same_carry { OnErr result (carry_of self.new ≡ carry_of self.old) }
+        ensures same_edits { OnErr result (self.new.edits.items ≡ self.old.edits.items) }
+        ensures same_name { self.new.name ≡ self.old.name }
+        ensures same_floor { self.new.floor ≡ self.old.floor }
+    {
+        let told = self.told(alloc, seen)?;
+        let Told {
+            edits,
+            failing,
+            verdict,
+        } = told;
+        let mark = Mark {
+            change: seen.row.change,
+            failing,
+        };
+        append_all(
+            &mut self.edits,
+            &mut self.marks,
+            &mut self.gone,
+            edits,
+            mark,
+            verdict.is_some(),
+        )?;
+        self.resets = self.resets || failing && !seen.row.failing;
+        self.passes = self.passes && failing;
+        self.ahead = ahead_behind(failing, self.ahead, seen.row.serial);
+        self.reports = reports_behind(self.reports, verdict);
+        self.window = window_behind(self.window, self.floor, verdict);
+        Ok(self.next(seen.row.serial))
+    }
+
+    /// Visits the row that was wanted, or learns that it isn't there. Where memory is refused the walk
+    /// stays as it was.
+    pub fn visit(&mut self, alloc: Global, seen: Option<&Seen>) -> Result<Next, NoMemory>
+        requires { self.old.reports + 1 < 2 ^ 64 }
+        ensures carried { OnOk result (carry_of self.new ≡ option_map_or (λ v. rules.carried self.old.floor (carry_of self.old) (seen_of v.now)) seen.entry (carry_of self.old)) }
+        ensures told { OnOk result (self.new.edits.items ≡ self.old.edits.items ++ option_map_or (λ v. rules.visit_edits self.old.name self.old.floor (carry_of self.old) (seen_of v.now)) seen.entry []) }
+        ensures next { IfOk result (λ n. next_is n (option_map_or (λ v. next.next_of (carry_of self.new) v.now.row.serial) seen.entry next.stop)) }
+        ensures same_carry { OnErr result (carry_of self.new ≡ carry_of self.old) }
+        ensures same_edits { OnErr result (self.new.edits.items ≡ self.old.edits.items) }
+        ensures same_name { self.new.name ≡ self.old.name }
+        ensures same_floor { self.new.floor ≡ self.old.floor }
+    {
+        match seen {
+            Some(seen) => self.visit_row(alloc, seen),
+            None => Ok(Next::Stop),
+        }
+    }
+}
