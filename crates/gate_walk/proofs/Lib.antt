@@ -1,3 +1,4 @@
+pub mod Parting
 pub mod Has
 pub mod Slots
 pub mod Steps
@@ -23,3 +24,4 @@ pub mod GoesOn
 pub mod EachReply
 pub mod TouchedQueue
 pub mod Deliveries
+pub mod UnderWay

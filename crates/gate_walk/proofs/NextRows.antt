@@ -54,7 +54,7 @@ wanted_is k n vs = by_both (k.resets || k.passes) refl (length k.gone == 0) refl
         (λ i. wanted k.gone (cond (ex i) (go n) (cond (ey i) stop (need n))) vs)
         ∙ find_same (λ v. nat_lt n v.row.serial && needs_gone k.gone v.needs) (test_of k n) vs (λ v. sym (ap (λ t. nat_lt n v.row.serial && (t || needs_gone k.gone v.needs)) ex))
 
-find_past : (test : Seen → Bool) (us vs : List Seen) → find test us ≡ None → find test (us ++ vs) ≡ find test vs
+pub find_past : (test : Seen → Bool) (us vs : List Seen) → find test us ≡ None → find test (us ++ vs) ≡ find test vs
 find_past test [] vs h = refl
 find_past test (u ∷ us) vs h = by_test (test u) refl h (λ k. find_past test us vs k)
   where

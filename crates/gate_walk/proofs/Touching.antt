@@ -20,7 +20,9 @@ use Rattle.gate_walk.specs.Walk.{Seen, Carry}
 use Rattle.gate_walk.specs.Rescan.{settled_to, Walks, IsAtRest, standing_in, row_seen, TakenOut, start, stored, without_row, rows_from, ahead_at, fails_at, WalkAfterBuild, WalkAfterLeaving, WalkAfterLanding}
 use Rattle.gate_walk.proofs.Has.{Has, of_all, all_of, has_right, has_left, has_flat}
 use Rattle.std.proofs.lemmas.List.Elements.{All-contains}
-use Rattle.gate_queue.proofs.Ordered.{RiseFrom, place_serial, build_number, rises}
+use Rattle.gate_laws.proofs.Rising.{increasing}
+use Rattle.gate_queue.proofs.Ordered.{RiseFrom, GoWith, row_serial, place_serial, build_number, rises}
+use Rattle.gate_walk.proofs.Parting.{rising_from}
 use Rattle.gate_walk.proofs.Resets.{rows_seen, Quiet, visits, same, last_serial, first_last}
 use Rattle.gate_walk.proofs.Passes.{cast, landed_place, Behind}
 use Rattle.gate_walk.proofs.Events.{all_before, ahead_after, quiet_split}
@@ -103,10 +105,18 @@ rows_back : (see : ItemRow → Seen) (rows : List ItemRow) → ((r : ItemRow) �
 rows_back see [] h = refl
 rows_back see (r ∷ rows) h = λ k. h r k ∷ rows_back see rows h k
 
+same_serials : (is : List ItemRow) (ps : List Place) → GoWith is ps → map row_serial is ≡ map place_serial ps
+same_serials [] [] g = refl
+same_serials [] (p ∷ ps) g = absurd g
+same_serials (i ∷ is) [] g = absurd g
+same_serials (i ∷ is) (p ∷ ps) g = λ k. g.0 k ∷ same_serials is ps g.1 k
+
 -- what is right row by row is so at the stop, and between two visits
 walks : (floor : ℕ) (o : Queue) (rows : List ItemRow) (cs : List Build) (ps : List Place) (k : Carry) (see : ItemRow → Seen) (last : List ItemRow) → ((r : ItemRow) → (see r).row ≡ r) → Walked o.name floor o.window cs rows ps o.reports k (map see last) →
     Walks floor o rows cs ps k see last
 walks floor o rows cs ps k see last back h = record {
+  rows_of_places = same_serials rows ps h.go;
+  places_rise = increasing place_serial ps (rising_from place_serial 0 ps h.rise);
   at_stop = walked_settles o.name floor o.window cs rows o.landings ps o.reports o.items k (map see last) h;
   so_far = λ us vs xs ys e ep en.
       walked_so_far o.name floor o.window cs rows o.landings ps o.reports o.items k (map see last) (map see us) (map see vs) xs ys h (ap (map see) e ∙ map-append see us vs) ep (en ∙ sym (seen_many vs))

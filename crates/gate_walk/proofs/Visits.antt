@@ -1,5 +1,5 @@
 -- Visits over all rows of a queue, from a serial on, are the walk over the rows from there on.
-use Rattle.std.proofs.Common.{◌≡◌, ℕ, suc, ◌<◌, ◌≤◌, Bool, true, false, not, cond, Option, Some, None, List, [], ◌∷◌, ◌++◌, map, length, inl, inr, subst, refl, sym, ap, ◌∙◌, arith, append_assoc}
+use Rattle.std.proofs.Common.{◌≡◌, ℕ, suc, ◌<◌, ◌≤◌, Bool, true, false, not, cond, Option, Some, None, List, [], ◌∷◌, ◌++◌, map, length, refl, sym, ap, ◌∙◌, arith, append_assoc}
 use Rattle.std.specs.Prelude.{◌==◌, nat_le, filter, find}
 use Rattle.std.proofs.lemmas.Bool.{le-leb, leb-true, leb-false}
 use Rattle.std.proofs.lemmas.List.{length-append}
@@ -16,9 +16,9 @@ use Rattle.gate_walk.specs.Rescan.{row_seen, rows_from, stored}
 use Rattle.gate_walk.specs.Next.{next_of, visits_from}
 use Rattle.gate_walk.specs.Delivery.{Touch, build_ended, item_left, item_landed, standing_rows, visited}
 use Rattle.std.specs.List.Sorted.{IsStrictlyIncreasing}
-use Rattle.gate_laws.proofs.Members.{In}
-use Rattle.gate_laws.proofs.Rising.{Rising, increasing}
+use Rattle.gate_laws.proofs.Rising.{increasing}
 use Rattle.gate_queue.proofs.Ordered.{RiseFrom, AllBelow, row_serial, place_serial, ahead_rise}
+use Rattle.gate_walk.proofs.Parting.{rising_from}
 use Rattle.gate_walk.proofs.NextRows.{seen_serial, passed, below_push, below_up, visits_walk}
 
 -- ---- rows in order
@@ -50,20 +50,6 @@ standing_rise item_landed i rows r = rise_filter row_serial (λ x. not (x.serial
 seen_rise : (c : Settings) (t : State) (all : List ItemRow) (n : ℕ) (rows : List ItemRow) → RiseFrom row_serial n rows → RiseFrom seen_serial n (map (row_seen c t all) rows)
 seen_rise c t all n [] r = tt
 seen_rise c t all n (x ∷ rows) r = (r.0, seen_rise c t all (suc x.serial) rows r.1)
-
--- the same in std's word
-rising_from : {X : Type 0} (key : X → ℕ) (n : ℕ) (xs : List X) → RiseFrom key n xs → Rising key xs
-rising_from key n [] r = tt
-rising_from {X = X} key n (x ∷ xs) r = ((λ y m. least (suc (key x)) xs r.1 y m), rising_from key (suc (key x)) xs r.1)
-  where
-    least : (j : ℕ) (zs : List X) → RiseFrom key j zs → (y : X) → In y zs → j ≤ key y
-    least j [] h y m = absurd m
-    least j (z ∷ zs) h y m =
-        let low : j ≤ key z = h.0 in
-        elim m [
-          | inl e ↦ subst (λ w. j ≤ key w) e low
-          | inr o ↦ (let high : suc (key z) ≤ key y = least (suc (key z)) zs h.1 y o in omega arith)
-        ]
 
 pub seen_increase : (c : Settings) (t : State) (rows : List ItemRow) → RiseFrom row_serial 0 rows → IsStrictlyIncreasing (map seen_serial (map (row_seen c t rows) rows))
 seen_increase c t rows r = let vs = map (row_seen c t rows) rows in increasing seen_serial vs (rising_from seen_serial 0 vs (seen_rise c t rows 0 rows r))

@@ -8,8 +8,9 @@ use Rattle.gate_types.specs.Settings.{Settings}
 use Rattle.gate_types.specs.State.{State}
 use Rattle.gate_walk.specs.Rescan.{start, row_seen, rows_from}
 
--- the first row above a serial is wanted, or the first above it that needs what has gone, or none
+-- the first row from a serial on is wanted, as at the start, or the first above it, or the first above it that needs what has gone, or none
 pub data Next : Type 0 where
+  from : ℕ → Next
   go : ℕ → Next
   need : ℕ → Next
   stop : Next
@@ -20,6 +21,7 @@ next_of k n = if k.resets || k.passes then go n else (if length k.gone == 0 then
 
 -- the row that is wanted, if it is there
 abbrev pub wanted : List ℕ → Next → List Seen → Option Seen
+wanted gone (from n) vs = find (λ v. nat_le n v.row.serial) vs
 wanted gone (go n) vs = find (λ v. nat_lt n v.row.serial) vs
 wanted gone (need n) vs = find (λ v. nat_lt n v.row.serial && needs_gone gone v.needs) vs
 wanted gone stop vs = None

@@ -2,6 +2,7 @@
 use Rattle.std.specs.Prelude.{ℕ, Bool, true, false, ◌&&◌, ◌||◌, not, ◌==◌, nat_le, ◌≡◌, if◌then◌else◌, List, [], ◌∷◌, ◌++◌, map, filter, length, Option, Some, None, option_map, option_and_then, find, is_some, All, Contains, fold, filter_map}
 use Rattle.std.specs.Option.{option_map_or}
 use Rattle.std.specs.List.{AllPass, list_all}
+use Rattle.std.specs.List.Sorted.{IsStrictlyIncreasing}
 use Rattle.gate_types.specs.declared.records.Item.{Item as ItemRow}
 use Rattle.gate_types.specs.declared.records.Need.{Need}
 use Rattle.gate_types.specs.declared.records.Build.{Build}
@@ -55,14 +56,27 @@ pub record TakenOut : Type 0 where
   pub failing : Bool
   pub landed : Bool
 
+-- the lines behind it have changed: it wasn't failing, and didn't land
+abbrev pub changes_lines : Option TakenOut → Bool
+changes_lines None = false
+changes_lines (Some o) = not (o.landed || o.failing)
+
+abbrev pub passes_a_landing : Option TakenOut → Bool
+passes_a_landing None = false
+passes_a_landing (Some o) = o.landed
+
+-- its change has gone, unless it landed
+abbrev pub gone_at_first : Option TakenOut → List ℕ
+gone_at_first None = []
+gone_at_first (Some o) = if o.landed then [] else o.change ∷ []
+
 -- what a walk begins with, behind this non-failing item, that many reports, under this window
 abbrev pub start : Option TakenOut → Option ℕ → ℕ → ℕ → Carry
-start None ahead reports window = record { resets = false; passes = false; ahead = ahead; gone = []; marks = []; reports = reports; window = window }
-start (Some o) ahead reports window = record {
-  resets = not (o.landed || o.failing);
-  passes = o.landed;
+start out ahead reports window = record {
+  resets = changes_lines out;
+  passes = passes_a_landing out;
   ahead = ahead;
-  gone = if o.landed then [] else o.change ∷ [];
+  gone = gone_at_first out;
   marks = [];
   reports = reports;
   window = window;
@@ -120,8 +134,10 @@ settled_to floor builds ps behind q = (let js = judged_after builds [] ps in rec
   reports = numbered 0 (q.reports ++ filter_map (λ j. option_map (λ v. report_of v j.item) j.verdict) js);
 })
 
--- a walk over the last rows of a queue: at its end the queue is settled, and between two visits it is so far
+-- a walk over the last rows of a queue, each row of an item: at its end the queue is settled, and between two visits it is so far
 pub record Walks (floor : ℕ) (q : Queue) (rows : List ItemRow) (builds : List Build) (ps : List Place) (k : Carry) (see : ItemRow → Seen) (last : List ItemRow) : Type 0 where
+  pub rows_of_places : map (λ r. r.serial) rows ≡ map (λ p. p.item.serial) ps
+  pub places_rise : IsStrictlyIncreasing (map (λ p. p.item.serial) ps)
   pub at_stop : fold_edits (rows_with q rows builds) (walk_from q.name floor k (map see last)) ≡ settled_rows floor ps builds q
   pub so_far : (us vs : List ItemRow) (xs ys : List Place) → last ≡ us ++ vs → ps ≡ xs ++ ys → length ys ≡ length vs →
       fold_edits (rows_with q rows builds) (walk_from q.name floor k (map see us)) ≡ settled_to floor builds (places_after builds [] xs) vs q

@@ -2,11 +2,9 @@
 use Rattle.std.specs.Prelude.{◌≡◌}
 use Rattle.gate_walk.specs.declared.walk.Walk.{Walk as CodeWalk}
 use Rattle.gate_walk.specs.declared.walk.Seen.{Seen as CodeSeen}
-use Rattle.gate_walk.specs.declared.walk.TakenOut.{TakenOut as CodeOut}
 use Rattle.gate_walk.specs.declared.walk.Next.{Next as CodeNext}
 use Rattle.gate_walk.specs.declared.walk.Next.TheVariants as code
 use Rattle.gate_walk.specs.Walk.{Carry, Seen}
-use Rattle.gate_walk.specs.Rescan.{TakenOut}
 use Rattle.gate_walk.specs.Next.{Next, go, need, stop}
 
 -- what it carries
@@ -16,10 +14,6 @@ carry_of w = record { resets = w.resets; passes = w.passes; ahead = w.ahead; gon
 -- what a visit is given
 abbrev pub seen_of : CodeSeen → Seen
 seen_of v = record { row = v.row; needs = v.needs.now; jobs = v.jobs.now; builds = v.builds.now }
-
--- what was taken out
-abbrev pub out_of : CodeOut → TakenOut
-out_of o = record { change = o.change; failing = o.failing; landed = o.landed }
 
 -- what a visit answers
 abbrev pub next_of_code : CodeNext → Next

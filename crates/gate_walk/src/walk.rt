@@ -1,11 +1,11 @@
 //! The walk over the rows behind a touched item.
-ghost use Rattle.std.specs.Prelude.{◌≡◌, ◌<◌, ◌≤◌, ◌+◌, ◌^◌, ◌++◌, [], ◌∷◌, Option, OnOk, OnErr, IfOk, not, is_some, if◌then◌else◌, option_map};
+ghost use Rattle.std.specs.Prelude.{◌≡◌, ◌<◌, ◌≤◌, ◌+◌, ◌^◌, ◌++◌, List, [], ◌∷◌, vec_len, Option, OnOk, OnErr, IfOk, not, is_some, if◌then◌else◌, option_map};
 ghost use Rattle.std.specs.Option.{option_map_or};
 ghost use Rattle.gate_walk.specs.Walk as rules;
 ghost use Rattle.gate_walk.specs.Rescan as law;
 ghost use Rattle.gate_walk.specs.Next as next;
 ghost use Rattle.gate_queue.specs.Edits as edits_of;
-ghost use Rattle.gate_walk.specs.Views.{carry_of, seen_of, out_of, next_is};
+ghost use Rattle.gate_walk.specs.TakenOut.{out_of};
 
 use crate::seen::{Mark, SeenNeed, judge};
 use crate::told::{Beside, edits_of_visit, shrink};
@@ -55,6 +55,8 @@ pub struct Walk {
     gone: Vec<ChangeNo>,
     marks: Vec<Mark>,
     edits: Vec<Edit>,
+    // each visit adds a mark, and one report at most
+    ghost reports_in_range: { reports ≤ 1000000000000000 + vec_len marks },
 }
 
 fn window_behind(window: u32, floor: u32, verdict: Option<Verdict>) -> u32
@@ -68,7 +70,8 @@ fn window_behind(window: u32, floor: u32, verdict: Option<Verdict>) -> u32
 
 fn reports_behind(reports: u64, verdict: Option<Verdict>) -> u64
     requires { reports + 1 < 2 ^ 64 }
-    ensures { result ≡ edits_of.next_reports reports verdict }
+    ensures value { result ≡ edits_of.next_reports reports verdict }
+    ensures within { result ≤ reports + 1 }
 {
     if verdict.is_some() {
         reports + 1
@@ -89,6 +92,38 @@ fn ahead_behind(failing: bool, ahead: Option<Serial>, serial: Serial) -> Option<
     if failing { ahead } else { Some(serial) }
 }
 
+/// Whether the lines behind have changed: a non-failing item was taken out that didn't land.
+fn changes_lines(out: Option<TakenOut>) -> bool
+    ensures { result ≡ law.changes_lines (option_map out_of out) }
+{
+    match out {
+        Some(out) => !(out.landed || out.failing),
+        None => false,
+    }
+}
+
+fn passes_a_landing(out: Option<TakenOut>) -> bool
+    ensures { result ≡ law.passes_a_landing (option_map out_of out) }
+{
+    match out {
+        Some(out) => out.landed,
+        None => false,
+    }
+}
+
+/// The change that was taken out, unless it landed.
+fn gone_at_first(alloc: Global, out: Option<TakenOut>) -> Result<Vec<ChangeNo>, NoMemory>
+    ensures { IfOk result (λ gone. gone.items ≡ law.gone_at_first (option_map out_of out)) }
+{
+    let mut gone: Vec<ChangeNo> = Vec::new(alloc);
+    if let Some(out) = out
+        && !out.landed
+    {
+        gone.push(out.change)?;
+    }
+    Ok(gone)
+}
+
 /// Appends what a visit came to; where memory is refused, nothing.
 fn append_all(
     edits: &mut Vec<Edit>,
@@ -101,7 +136,9 @@ fn append_all(
     ensures edits { OnOk result (edits.new.items ≡ edits.old.items ++ told.items) }
     ensures marks { OnOk result (marks.new.items ≡ marks.old.items ++ mark ∷ []) }
     ensures gone { OnOk result (gone.new.items ≡ (if going then gone.old.items ++ mark.change ∷ [] else gone.old.items)) }
+    ensures more { OnOk result (vec_len marks.new ≡ vec_len marks.old + 1) }
     ensures same_edits { OnErr result (edits.new.items ≡ edits.old.items) }
+    ensures same_len { OnErr result (vec_len marks.new ≡ vec_len marks.old) }
     ensures same_marks { OnErr result (marks.new.items ≡ marks.old.items) }
     ensures same_gone { OnErr result (gone.new.items ≡ gone.old.items) }
 {
@@ -125,9 +162,11 @@ struct Told {
 }
 
 impl Walk {
+    ghost use Rattle.gate_walk.specs.Views.{carry_of, seen_of, next_is};
+    ghost use Rattle.gate_walk.specs.UnderWay.{Delivered, HasVisited, row_wanted, IsFor, Starts, Visits};
+
     /// What a visit of this row comes to.
     fn told(&self, alloc: Global, seen: &Seen) -> Result<Told, NoMemory>
-        requires { self.now.reports + 1 < 2 ^ 64 }
         ensures edits { IfOk result (λ t. t.edits.items ≡ rules.visit_edits self.now.name self.now.floor (carry_of self.now) (seen_of seen.now)) }
         ensures failing { IfOk result (λ t. t.failing ≡ rules.fails (carry_of self.now) (seen_of seen.now)) }
         ensures verdict { IfOk result (λ t. t.verdict ≡ rules.verdict_by (carry_of self.now) (seen_of seen.now)) }
@@ -201,37 +240,28 @@ impl Walk {
         ahead: Option<Serial>,
         out: Option<TakenOut>,
     ) -> Result<Self, NoMemory>
+        requires { reports ≤ 1000000000000000 }
+        ensures for_a_delivery { IfOk result (λ w. (x : Delivered) → IsFor x name floor window reports ahead (option_map out_of out) → Starts x w) }
         ensures carried { IfOk result (λ w. carry_of w ≡ law.start (option_map out_of out) ahead reports window) }
         ensures told { IfOk result (λ w. w.edits.items ≡ []) }
         ensures named { IfOk result (λ w. w.name ≡ name) }
         ensures bounded { IfOk result (λ w. w.floor ≡ floor) }
     {
-        let mut gone: Vec<ChangeNo> = Vec::new(alloc);
-        let mut resets = false;
-        let mut passes = false;
-        if let Some(out) = out {
-            resets = !(out.landed || out.failing);
-            passes = out.landed;
-            if !out.landed {
-                gone.push(out.change)?;
-            }
-        }
         Ok(Walk {
             name,
             floor,
             window,
             reports,
-            resets,
-            passes,
+            resets: changes_lines(out),
+            passes: passes_a_landing(out),
             ahead,
-            gone,
+            gone: gone_at_first(alloc, out)?,
             marks: Vec::new(alloc),
             edits: Vec::new(alloc),
         })
     }
 
     fn visit_row(&mut self, alloc: Global, seen: &Seen) -> Result<Next, NoMemory>
-        requires { self.old.reports + 1 < 2 ^ 64 }
         ensures carried { OnOk result (carry_of self.new ≡ rules.carried self.old.floor (carry_of self.old) (seen_of seen.now)) }
         ensures told { OnOk result (self.new.edits.items ≡ self.old.edits.items ++ rules.visit_edits self.old.name self.old.floor (carry_of self.old) (seen_of seen.now)) }
         ensures next { IfOk result (λ n. next_is n (next.next_of (carry_of self.new) seen.now.row.serial)) }
@@ -266,10 +296,11 @@ impl Walk {
         Ok(self.next(seen.row.serial))
     }
 
+    #[tactic(auto, using(crate::proofs::UnderWay::ends))]
     /// Visits the row that was wanted, or learns that it isn't there. Where memory is refused the walk
     /// stays as it was.
     pub fn visit(&mut self, alloc: Global, seen: Option<&Seen>) -> Result<Next, NoMemory>
-        requires { self.old.reports + 1 < 2 ^ 64 }
+        ensures settles { IfOk result (λ n. (x : Delivered) (vs : List rules.Seen) → HasVisited x self.old vs → row_wanted x vs ≡ option_map (λ v. seen_of v.now) seen.entry → Visits x self.old self.new vs (option_map (λ v. seen_of v.now) seen.entry) n) }
         ensures carried { OnOk result (carry_of self.new ≡ option_map_or (λ v. rules.carried self.old.floor (carry_of self.old) (seen_of v.now)) seen.entry (carry_of self.old)) }
         ensures told { OnOk result (self.new.edits.items ≡ self.old.edits.items ++ option_map_or (λ v. rules.visit_edits self.old.name self.old.floor (carry_of self.old) (seen_of v.now)) seen.entry []) }
         ensures next { IfOk result (λ n. next_is n (option_map_or (λ v. next.next_of (carry_of self.new) v.now.row.serial) seen.entry next.stop)) }

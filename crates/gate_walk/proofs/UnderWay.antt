@@ -1,0 +1,351 @@
+-- A walk under way: before each visit the queue is settled below the row that is wanted, and at the stop all of it.
+use Rattle.std.proofs.Common.{◌≡◌, ℕ, suc, ◌+◌, ◌<◌, ◌≤◌, Bool, true, false, ◌&&◌, ◌||◌, cond, Option, Some, None, List, [], ◌∷◌, ◌++◌, map, length, inl, inr, refl, sym, ap, ◌∙◌, subst, arith, append-nil, append_assoc, true≢false}
+use Rattle.std.specs.Prelude.{nat_lt, nat_le, filter, find, option_map, Result, Ok, Err, OnOk, IfOk}
+use Rattle.std.proofs.lemmas.Bool.{and_parts, ltb-true, lt-ltb, leb-true, le-leb}
+use Rattle.gate_types.specs.declared.records.Item.{Item as ItemRow}
+use Rattle.gate_types.specs.declared.edits.Edit.{Edit}
+use Rattle.gate_types.specs.Settings.{Settings}
+use Rattle.gate_types.specs.State.{State}
+use Rattle.gate_types.specs.Standing.{places_after}
+use Rattle.gate_types.specs.Rows.{fold_edits}
+use Rattle.gate_walk.specs.Walk.{Seen, Carry, visit_edits, carried, asks_for, walk_edits, walk_from}
+use Rattle.gate_walk.specs.Next.{from, next_of, wanted}
+use Rattle.gate_walk.specs.Rescan.{TakenOut, start, row_seen, rows_from, settled_to}
+use Rattle.gate_walk.specs.Delivery.{IsWalked}
+use Rattle.gate_walk.specs.declared.walk.Walk.{Walk as CodeWalk}
+use Rattle.gate_walk.specs.declared.walk.Next.{Next as CodeNext}
+use Rattle.gate_walk.specs.Views.{carry_of, next_of_code}
+use Rattle.gate_walk.specs.UnderWay.{Delivered, queue_after, floor_after, stale_rows, tables, places_of, tables_settled, tables_settled_below, begun, rows_seen, carry_by, edits_by, next_by, row_wanted, AreWanted, HasVisited, IsFor, Starts, GoesOn, Ends, Visits}
+use Rattle.gate_queue.proofs.Ordered.{RiseFrom, AllBelow, row_serial, place_serial, rises}
+use Rattle.gate_walk.proofs.Parting.{none_under, all_onward, under, onward, cut, under_at, under_behind, rise_at, low_at, onward_onward, onward_many, found_first, none_found, find_in, AllFail, all_fail, parts_at}
+use Rattle.gate_walk.proofs.SoFar.{carried_on}
+use Rattle.gate_walk.proofs.NextRows.{seen_serial, test_of, wanted_is, find_past, passed, below_push, below_up}
+use Rattle.gate_walk.proofs.Deliveries.{touched_queue_is_walked}
+
+-- ---- the walk of a delivery
+
+pub walked : (x : Delivered) → IsWalked x.settings x.before x.delivery x.after x.queue x.item
+walked x = elim (touched_queue_is_walked x.settings x.before x.delivery x.reply x.after x.queues_ahead x.queue x.queues_behind x.items_ahead x.item x.items_behind x.sound x.lawful x.is_accepted x.queues x.items x.on_item) [
+  | inl same ↦ absurd (true≢false (sym same.0 ∙ x.acts))
+  | inr w ↦ w.1
+]
+
+abbrev see : Delivered → ItemRow → Seen
+see x = row_seen x.settings x.after (stale_rows x)
+
+-- the rows from the touched serial on
+abbrev rows_on : Delivered → List Seen
+rows_on x = onward seen_serial x.item.serial (rows_seen x)
+
+-- what is told of the first of them
+abbrev told_by : Delivered → List Seen → List Edit
+told_by x us = walk_from (queue_after x).name (floor_after x) (begun x) us
+
+under_seen : (x : Delivered) (p : ℕ) (rows : List ItemRow) → under seen_serial p (map (see x) rows) ≡ map (see x) (under row_serial p rows)
+under_seen x p [] = refl
+under_seen x p (r ∷ rows) = by_test (nat_lt r.serial p) (under_seen x p rows)
+  where
+    by_test : (t : Bool) → under seen_serial p (map (see x) rows) ≡ map (see x) (under row_serial p rows) →
+        cond t (see x r ∷ under seen_serial p (map (see x) rows)) (under seen_serial p (map (see x) rows)) ≡ map (see x) (cond t (r ∷ under row_serial p rows) (under row_serial p rows))
+    by_test true h = ap (λ l. see x r ∷ l) h
+    by_test false h = h
+
+onward_seen : (x : Delivered) (n : ℕ) (rows : List ItemRow) → onward seen_serial n (map (see x) rows) ≡ map (see x) (onward row_serial n rows)
+onward_seen x n [] = refl
+onward_seen x n (r ∷ rows) = by_test (nat_le n r.serial) (onward_seen x n rows)
+  where
+    by_test : (t : Bool) → onward seen_serial n (map (see x) rows) ≡ map (see x) (onward row_serial n rows) →
+        cond t (see x r ∷ onward seen_serial n (map (see x) rows)) (onward seen_serial n (map (see x) rows)) ≡ map (see x) (cond t (r ∷ onward row_serial n rows) (onward row_serial n rows))
+    by_test true h = ap (λ l. see x r ∷ l) h
+    by_test false h = h
+
+-- rows from a number on rise from it
+onward_rise : {X : Type 0} (key : X → ℕ) (p m : ℕ) (xs : List X) → RiseFrom key m xs → RiseFrom key p (onward key p xs)
+onward_rise key p m [] r = tt
+onward_rise {X = X} key p m (x ∷ xs) r = by_test (nat_le p (key x)) refl (onward_rise key p (suc (key x)) xs r.1)
+  where
+    by_test : (t : Bool) → nat_le p (key x) ≡ t → RiseFrom key p (onward key p xs) → RiseFrom key p (cond t (x ∷ onward key p xs) (onward key p xs))
+    by_test true e rest =
+        let low = leb-true p (key x) e in
+        (low, subst (RiseFrom key (suc (key x))) (sym (all_onward key p (suc (key x)) xs (omega (arith, low)) r.1)) r.1)
+    by_test false e rest = rest
+
+seen_rise : (x : Delivered) → RiseFrom seen_serial 0 (rows_seen x)
+seen_rise x = rises seen_serial (rows_seen x) (walked x).rise
+
+on_rise : (x : Delivered) → RiseFrom seen_serial x.item.serial (rows_on x)
+on_rise x = onward_rise seen_serial x.item.serial 0 (rows_seen x) (seen_rise x)
+
+-- the rows of the items rise too
+rows_rise : (x : Delivered) → RiseFrom row_serial 0 (stale_rows x)
+rows_rise x = back 0 (stale_rows x) (seen_rise x)
+  where
+    back : (n : ℕ) (rows : List ItemRow) → RiseFrom seen_serial n (map (see x) rows) → RiseFrom row_serial n rows
+    back n [] r = tt
+    back n (y ∷ rows) r = (r.0, back (suc y.serial) rows r.1)
+
+-- ---- how far the queue is settled
+
+-- what is told of the rows below a serial settles the queue below it
+settled_under : (x : Delivered) (p : ℕ) → x.item.serial ≤ p → fold_edits (tables x) (told_by x (under seen_serial p (rows_on x))) ≡ tables_settled_below x p
+settled_under x p l =
+    let w = (walked x).walks in
+    let i = x.item.serial in
+    let last = rows_from i (stale_rows x) in
+    let rise = onward_rise row_serial i 0 (stale_rows x) (rows_rise x) in
+    let ps = places_of x in
+    let rest = onward_onward row_serial i p (stale_rows x) l in
+    let many : length (onward place_serial p ps) ≡ length (onward row_serial p last) =
+    onward_many place_serial p ps ∙ ap (λ ns. length (filter (λ n. nat_le p n) ns)) (sym w.rows_of_places) ∙ sym (onward_many row_serial p (stale_rows x)) ∙ ap length (sym rest) in
+    ap (λ us. fold_edits (tables x) (told_by x us)) (ap (under seen_serial p) (onward_seen x i (stale_rows x)) ∙ under_seen x p last)
+    ∙ w.so_far (under row_serial p last) (onward row_serial p last) (under place_serial p ps) (onward place_serial p ps) (cut row_serial p i last rise) (cut place_serial p 0 ps (rises place_serial ps w.places_rise)) many
+    ∙ ap (λ rows. settled_to (floor_after x) x.after.builds (places_after x.after.builds [] (under place_serial p ps)) rows (queue_after x)) rest
+
+-- all that is told settles all of it
+settled_all : (x : Delivered) → fold_edits (tables x) (told_by x (rows_on x)) ≡ tables_settled x
+settled_all x = ap (λ us. fold_edits (tables x) (told_by x us)) (onward_seen x x.item.serial (stale_rows x)) ∙ (walked x).settles
+
+-- ---- the first rows of a walk, and more of them
+
+-- what is carried behind rows, the first of which is asked for whatever is carried
+abbrev carry_behind : Delivered → List Seen → Carry
+carry_behind x [] = begun x
+carry_behind x (u ∷ us) = carried_on (queue_after x).name (floor_after x) (carried (floor_after x) (begun x) u) us
+
+carried_more : (name : List ℕ) (floor : ℕ) (k : Carry) (us vs : List Seen) → carried_on name floor k (us ++ vs) ≡ carried_on name floor (carried_on name floor k us) vs
+carried_more name floor k [] vs = refl
+carried_more name floor k (u ∷ us) vs = carried_more name floor (cond (asks_for k u) (carried floor k u) k) us vs
+
+edits_more : (name : List ℕ) (floor : ℕ) (k : Carry) (us vs : List Seen) → walk_edits name floor k (us ++ vs) ≡ walk_edits name floor k us ++ walk_edits name floor (carried_on name floor k us) vs
+edits_more name floor k [] vs = refl
+edits_more name floor k (u ∷ us) vs = by_test (asks_for k u) (edits_more name floor (carried floor k u) us vs) (edits_more name floor k us vs)
+  where
+    by_test : (t : Bool) → walk_edits name floor (carried floor k u) (us ++ vs) ≡ walk_edits name floor (carried floor k u) us ++ walk_edits name floor (carried_on name floor (carried floor k u) us) vs →
+        walk_edits name floor k (us ++ vs) ≡ walk_edits name floor k us ++ walk_edits name floor (carried_on name floor k us) vs →
+        cond t (visit_edits name floor k u ++ walk_edits name floor (carried floor k u) (us ++ vs)) (walk_edits name floor k (us ++ vs))
+        ≡ cond t (visit_edits name floor k u ++ walk_edits name floor (carried floor k u) us) (walk_edits name floor k us) ++ walk_edits name floor (carried_on name floor (cond t (carried floor k u) k) us) vs
+    by_test true a b = ap (λ l. visit_edits name floor k u ++ l) a ∙ sym (append_assoc (visit_edits name floor k u) (walk_edits name floor (carried floor k u) us) (walk_edits name floor (carried_on name floor (carried floor k u) us) vs))
+    by_test false a b = b
+
+-- rows that aren't asked for change nothing
+unasked_carry : (name : List ℕ) (floor : ℕ) (k : Carry) (vs : List Seen) → AllFail (asks_for k) vs → carried_on name floor k vs ≡ k
+unasked_carry name floor k [] h = refl
+unasked_carry name floor k (v ∷ vs) h = ap (λ t. carried_on name floor (cond t (carried floor k v) k) vs) h.0 ∙ unasked_carry name floor k vs h.1
+
+unasked_edits : (name : List ℕ) (floor : ℕ) (k : Carry) (vs : List Seen) → AllFail (asks_for k) vs → walk_edits name floor k vs ≡ []
+unasked_edits name floor k [] h = refl
+unasked_edits name floor k (v ∷ vs) h = ap (λ t. cond t (visit_edits name floor k v ++ walk_edits name floor (carried floor k v) vs) (walk_edits name floor k vs)) h.0 ∙ unasked_edits name floor k vs h.1
+
+-- the same behind rows of which the last is that of some visit
+carry_on : (x : Delivered) (us : List Seen) (u : Seen) (vs : List Seen) → carry_behind x ((us ++ u ∷ []) ++ vs) ≡ carried_on (queue_after x).name (floor_after x) (carry_behind x (us ++ u ∷ [])) vs
+carry_on x [] u vs = refl
+carry_on x (y ∷ us) u vs = carried_more (queue_after x).name (floor_after x) (carried (floor_after x) (begun x) y) (us ++ u ∷ []) vs
+
+told_on : (x : Delivered) (us : List Seen) (u : Seen) (vs : List Seen) → told_by x ((us ++ u ∷ []) ++ vs) ≡ told_by x (us ++ u ∷ []) ++ walk_edits (queue_after x).name (floor_after x) (carry_behind x (us ++ u ∷ [])) vs
+told_on x [] u vs = ap (λ l. l ++ walk_edits (queue_after x).name (floor_after x) (carried (floor_after x) (begun x) u) vs) (sym (append-nil (visit_edits (queue_after x).name (floor_after x) (begun x) u)))
+told_on x (y ∷ us) u vs =
+    let k = carried (floor_after x) (begun x) y in
+    let first = visit_edits (queue_after x).name (floor_after x) (begun x) y in
+    ap (λ l. first ++ l) (edits_more (queue_after x).name (floor_after x) k (us ++ u ∷ []) vs)
+    ∙ sym (append_assoc first (walk_edits (queue_after x).name (floor_after x) k (us ++ u ∷ [])) (walk_edits (queue_after x).name (floor_after x) (carried_on (queue_after x).name (floor_after x) k (us ++ u ∷ [])) vs))
+
+-- a row behind a serial that isn't wanted isn't asked for
+unasked : (k : Carry) (n m : ℕ) (vs ws : List Seen) → n < m → RiseFrom seen_serial m (vs ++ ws) → AllFail (test_of k n) vs → AllFail (asks_for k) vs
+unasked k n m [] ws l r h = tt
+unasked k n m (v ∷ vs) ws l r h =
+    let low : m ≤ v.row.serial = r.0 in
+    (ap (λ t. t && asks_for k v) (sym (lt-ltb n v.row.serial (omega arith))) ∙ h.0, unasked k n (suc v.row.serial) vs ws (omega arith) r.1 h.1)
+
+-- ---- visits of the rows that are wanted
+
+-- the rows up to the last visit, the first visit of which is by no row before it
+abbrev EndsWith : List Seen → List Seen → Type 0
+EndsWith [] us = us ≡ []
+EndsWith (v ∷ vs) us = (bs : List Seen) × (us ≡ bs ++ v ∷ [])
+
+-- the visits have told what is to be told of the rows that were passed
+record Reached (x : Delivered) (vs : List Seen) : Type 0 where
+  passed : List Seen
+  left : List Seen
+  parts : rows_on x ≡ passed ++ left
+  last : EndsWith vs passed
+  carries : carry_by x vs ≡ carry_behind x passed
+  tells : edits_by x vs ≡ told_by x passed
+
+-- the row that is wanted, and those before it
+record Reaches (x : Delivered) (vs : List Seen) (v : Seen) : Type 0 where
+  front : List Seen
+  behind : List Seen
+  parts : rows_on x ≡ front ++ v ∷ behind
+  tells : edits_by x vs ≡ told_by x front
+  carries_on : carry_by x (v ∷ vs) ≡ carry_behind x (front ++ v ∷ [])
+  tells_on : edits_by x (v ∷ vs) ≡ told_by x (front ++ v ∷ [])
+
+-- behind a visit: the rows that are left, as their test finds them
+record Behind (x : Delivered) (u : Seen) (k : Carry) (passed : List Seen) : Type 0 where
+  ahead : List Seen
+  passed_is : passed ≡ ahead ++ u ∷ []
+  left : List Seen
+  parts : rows_on x ≡ (ahead ++ u ∷ []) ++ left
+  rise : RiseFrom seen_serial (suc u.row.serial) left
+  finds : wanted k.gone (next_of k u.row.serial) (rows_seen x) ≡ find (test_of k u.row.serial) left
+
+behind_visit : (x : Delivered) (u : Seen) (vs : List Seen) (h : Reached x (u ∷ vs)) → Behind x u (carry_by x (u ∷ vs)) h.passed
+behind_visit x u vs h =
+    let k = carry_by x (u ∷ vs) in
+    let n = u.row.serial in
+    let ahead = h.last.0 in
+    let parts : rows_on x ≡ (ahead ++ u ∷ []) ++ h.left = h.parts ∙ ap (λ l. l ++ h.left) h.last.1 in
+    let rise = subst (RiseFrom seen_serial x.item.serial) (parts ∙ append_assoc ahead (u ∷ []) h.left) (on_rise x) in
+    let low = low_at seen_serial x.item.serial ahead u h.left rise in
+    let at = rise_at seen_serial x.item.serial ahead u h.left rise in
+    let below = below_push (suc n) ahead u (below_up n (suc n) ahead (omega arith) at.0) (omega arith) in
+    record {
+      ahead = ahead;
+      passed_is = h.last.1;
+      left = h.left;
+      parts = parts;
+      rise = at.1;
+      finds =
+          wanted_is k n (rows_seen x)
+          ∙ sym (find_in (test_of k n) (λ v. nat_le x.item.serial v.row.serial) (rows_seen x) (λ v e. le-leb x.item.serial v.row.serial (let more = ltb-true n v.row.serial (and_parts (nat_lt n v.row.serial) (asks_for k v) e).0 in omega (arith, more, low))))
+          ∙ ap (find (test_of k n)) parts
+          ∙ find_past (test_of k n) (ahead ++ u ∷ []) h.left (passed k n (ahead ++ u ∷ []) below);
+    }
+
+reaches_first : (x : Delivered) (v : Seen) → row_wanted x [] ≡ Some v → Reaches x [] v
+reaches_first x v e =
+    let f = found_first (λ w. nat_le x.item.serial w.row.serial) (rows_seen x) v e in
+    record { front = []; behind = f.0; parts = f.1; tells = refl; carries_on = refl; tells_on = sym (append-nil (visit_edits (queue_after x).name (floor_after x) (begun x) v)) }
+
+reaches_next : (x : Delivered) (u : Seen) (vs : List Seen) (v : Seen) → Reached x (u ∷ vs) → row_wanted x (u ∷ vs) ≡ Some v → Reaches x (u ∷ vs) v
+reaches_next x u vs v h e =
+    let name = (queue_after x).name in
+    let floor = floor_after x in
+    let k = carry_by x (u ∷ vs) in
+    let n = u.row.serial in
+    let b = behind_visit x u vs h in
+    let at = parts_at (test_of k n) b.left v (sym b.finds ∙ e) in
+    let us = b.ahead ++ u ∷ [] in
+    let zs = at.before in
+    let passed_is : h.passed ≡ us = b.passed_is in
+    let none = unasked k n (suc n) zs (v ∷ at.behind) (omega arith) (subst (RiseFrom seen_serial (suc n)) at.parts b.rise) at.fail in
+    let asked : asks_for k v ≡ true = (and_parts (nat_lt n v.row.serial) (asks_for k v) at.passes).1 in
+    let carries : carry_behind x us ≡ k = sym (h.carries ∙ ap (carry_behind x) passed_is) in
+    let carry_front : carry_behind x (us ++ zs) ≡ k = carry_on x b.ahead u zs ∙ ap (λ c. carried_on name floor c zs) carries ∙ unasked_carry name floor k zs none in
+    let told_front : told_by x (us ++ zs) ≡ told_by x us =
+    told_on x b.ahead u zs ∙ (λ j. told_by x us ++ walk_edits name floor (carries j) zs) ∙ ap (λ l. told_by x us ++ l) (unasked_edits name floor k zs none) ∙ append-nil (told_by x us) in
+    let tells : edits_by x (u ∷ vs) ≡ told_by x (us ++ zs) = h.tells ∙ ap (told_by x) passed_is ∙ sym told_front in
+    let carry_zs : carried_on name floor k (zs ++ v ∷ []) ≡ carried floor k v =
+    carried_more name floor k zs (v ∷ []) ∙ ap (λ c. carried_on name floor c (v ∷ [])) (unasked_carry name floor k zs none) ∙ ap (λ t. cond t (carried floor k v) k) asked in
+    let told_zs : walk_edits name floor k (zs ++ v ∷ []) ≡ visit_edits name floor k v =
+    edits_more name floor k zs (v ∷ []) ∙ (λ j. unasked_edits name floor k zs none j ++ walk_edits name floor (unasked_carry name floor k zs none j) (v ∷ []))
+    ∙ ap (λ t. cond t (visit_edits name floor k v ++ []) []) asked ∙ append-nil (visit_edits name floor k v) in
+    let grouped : (us ++ zs) ++ v ∷ [] ≡ us ++ (zs ++ v ∷ []) = append_assoc us zs (v ∷ []) in
+    record {
+      front = us ++ zs;
+      behind = at.behind;
+      parts = b.parts ∙ ap (λ l. us ++ l) at.parts ∙ sym (append_assoc us zs (v ∷ at.behind));
+      tells = tells;
+      carries_on = sym (ap (carry_behind x) grouped ∙ carry_on x b.ahead u (zs ++ v ∷ []) ∙ ap (λ c. carried_on name floor c (zs ++ v ∷ [])) carries ∙ carry_zs);
+      tells_on = sym (ap (told_by x) grouped ∙ told_on x b.ahead u (zs ++ v ∷ []) ∙ (λ j. told_by x us ++ walk_edits name floor (carries j) (zs ++ v ∷ []))
+          ∙ (λ j. (sym (h.tells ∙ ap (told_by x) passed_is)) j ++ told_zs j));
+    }
+
+reaches : (x : Delivered) (vs : List Seen) (v : Seen) → Reached x vs → row_wanted x vs ≡ Some v → Reaches x vs v
+reaches x [] v h e = reaches_first x v e
+reaches x (u ∷ vs) v h e = reaches_next x u vs v h e
+
+reached : (x : Delivered) (vs : List Seen) → AreWanted x vs → Reached x vs
+reached x [] w = record { passed = []; left = rows_on x; parts = refl; last = refl; carries = refl; tells = refl }
+reached x (v ∷ vs) w =
+    let r = reaches x vs v (reached x vs w.1) w.0 in
+    record { passed = r.front ++ v ∷ []; left = r.behind; parts = r.parts ∙ sym (append_assoc r.front (v ∷ []) r.behind); last = (r.front, refl); carries = r.carries_on; tells = r.tells_on }
+
+-- ---- what the laws of the calls ask for
+
+-- before the visit of the row that is wanted, and behind it
+pub settled_before : (x : Delivered) (vs : List Seen) (v : Seen) → AreWanted x vs → row_wanted x vs ≡ Some v → fold_edits (tables x) (edits_by x vs) ≡ tables_settled_below x v.row.serial
+settled_before x vs v w e =
+    let r = reaches x vs v (reached x vs w) e in
+    let rise = subst (RiseFrom seen_serial x.item.serial) r.parts (on_rise x) in
+    let low = low_at seen_serial x.item.serial r.front v r.behind rise in
+    ap (fold_edits (tables x)) (r.tells ∙ ap (told_by x) (sym (ap (under seen_serial v.row.serial) r.parts ∙ under_at seen_serial x.item.serial r.front v r.behind rise)))
+    ∙ settled_under x v.row.serial low
+
+pub settled_behind : (x : Delivered) (vs : List Seen) (v : Seen) → AreWanted x vs → row_wanted x vs ≡ Some v → fold_edits (tables x) (edits_by x (v ∷ vs)) ≡ tables_settled_below x (v.row.serial + 1)
+settled_behind x vs v w e =
+    let r = reaches x vs v (reached x vs w) e in
+    let rise = subst (RiseFrom seen_serial x.item.serial) r.parts (on_rise x) in
+    let low = low_at seen_serial x.item.serial r.front v r.behind rise in
+    let next : v.row.serial + 1 ≡ suc v.row.serial = omega arith in
+    ap (fold_edits (tables x)) (r.tells_on ∙ ap (told_by x) (sym (ap (under seen_serial (suc v.row.serial)) r.parts ∙ under_behind seen_serial x.item.serial r.front v r.behind rise)))
+    ∙ settled_under x (suc v.row.serial) (omega (arith, low)) ∙ ap (tables_settled_below x) (sym next)
+
+-- where no row is wanted
+pub settled_at_end : (x : Delivered) (vs : List Seen) → AreWanted x vs → row_wanted x vs ≡ None → fold_edits (tables x) (edits_by x vs) ≡ tables_settled x
+settled_at_end x [] w e = ap (λ us. fold_edits (tables x) (told_by x us)) (sym (none_found (λ v. nat_le x.item.serial v.row.serial) (rows_seen x) e)) ∙ settled_all x
+settled_at_end x (u ∷ vs) w e =
+    let name = (queue_after x).name in
+    let floor = floor_after x in
+    let h = reached x (u ∷ vs) w in
+    let k = carry_by x (u ∷ vs) in
+    let n = u.row.serial in
+    let b = behind_visit x u vs h in
+    let us = b.ahead ++ u ∷ [] in
+    let passed_is : h.passed ≡ us = b.passed_is in
+    let carries : carry_behind x us ≡ k = sym (h.carries ∙ ap (carry_behind x) passed_is) in
+    let none = unasked k n (suc n) b.left [] (omega arith) (subst (RiseFrom seen_serial (suc n)) (sym (append-nil b.left)) b.rise) (all_fail (test_of k n) b.left (sym b.finds ∙ e)) in
+    let told : told_by x (us ++ b.left) ≡ told_by x us =
+    told_on x b.ahead u b.left ∙ (λ j. told_by x us ++ walk_edits name floor (carries j) b.left) ∙ ap (λ l. told_by x us ++ l) (unasked_edits name floor k b.left none) ∙ append-nil (told_by x us) in
+    ap (fold_edits (tables x)) (h.tells ∙ ap (told_by x) passed_is ∙ sym told ∙ ap (told_by x) (sym b.parts)) ∙ settled_all x
+
+-- ---- the calls
+
+-- nothing has been visited, and nothing is settled but the items before the touched one, which stay as they are
+pub starts : (x : Delivered) (w : CodeWalk) (name : List ℕ) (floor window reports : ℕ) (ahead : Option ℕ) (out : Option TakenOut) →
+    w.name ≡ name → w.floor ≡ floor → carry_of w ≡ start out ahead reports window → w.edits.items ≡ [] → IsFor x name floor window reports ahead out → Starts x w
+starts x w name floor window reports ahead out named bounded carries tells f =
+    let i = x.item.serial in
+    let none : under seen_serial i (rows_on x) ≡ [] = none_under seen_serial i i (rows_on x) (omega arith) (on_rise x) in
+    record {
+      visited = record { name = named ∙ f.named; floor = bounded ∙ f.bounded; carries = carries ∙ f.begins; tells = tells; were_wanted = tt };
+      settled = ap (fold_edits (tables x)) (tells ∙ ap (told_by x) (sym none)) ∙ settled_under x i (omega arith);
+    }
+
+-- a visit of the row that is wanted
+pub goes_on : (x : Delivered) (old new : CodeWalk) (v : Seen) (vs : List Seen) (next : CodeNext) →
+    carry_of new ≡ carried old.floor (carry_of old) v → new.edits.items ≡ old.edits.items ++ visit_edits old.name old.floor (carry_of old) v →
+    next_of_code next ≡ next_of (carry_of new) v.row.serial → new.name ≡ old.name → new.floor ≡ old.floor →
+    HasVisited x old vs → row_wanted x vs ≡ Some v → GoesOn x old new v vs next
+goes_on x old new v vs next carries tells answers name floor h e =
+    let carry : carry_of new ≡ carry_by x (v ∷ vs) = carries ∙ (λ k. carried (h.floor k) (h.carries k) v) in
+    let told : new.edits.items ≡ edits_by x (v ∷ vs) = tells ∙ (λ k. h.tells k ++ visit_edits (h.name k) (h.floor k) (h.carries k) v) in
+    let wanted_all : AreWanted x (v ∷ vs) = (e, h.were_wanted) in
+    let wants : next_of_code next ≡ next_by x (v ∷ vs) = answers ∙ ap (λ c. next_of c v.row.serial) carry in
+    record {
+      before = ap (fold_edits (tables x)) h.tells ∙ settled_before x vs v h.were_wanted e;
+      behind = ap (fold_edits (tables x)) told ∙ settled_behind x vs v h.were_wanted e;
+      at_stop = λ s. ap (fold_edits (tables x)) told
+          ∙ settled_at_end x (v ∷ vs) wanted_all (ap (λ n. wanted (carry_by x (v ∷ vs)).gone n (rows_seen x)) (sym wants ∙ ap next_of_code s));
+      visited = record { name = name ∙ h.name; floor = floor ∙ h.floor; carries = carry; tells = told; were_wanted = wanted_all };
+      wants = wants;
+    }
+
+-- no row is wanted
+pub ends : (x : Delivered) (old new : CodeWalk) (vs : List Seen) → carry_of new ≡ carry_of old → new.edits.items ≡ old.edits.items → new.name ≡ old.name → new.floor ≡ old.floor →
+    HasVisited x old vs → row_wanted x vs ≡ None → Ends x old new vs
+ends x old new vs carries tells name floor h e = record {
+  settled = ap (fold_edits (tables x)) h.tells ∙ settled_at_end x vs h.were_wanted e;
+  same = ap (fold_edits (tables x)) tells;
+  visited = record { name = name ∙ h.name; floor = floor ∙ h.floor; carries = carries ∙ h.carries; tells = tells ∙ h.tells; were_wanted = h.were_wanted };
+}
+
+-- what a visit answers, where the row is there
+pub visit_settles : {X E : Type 0} (see_by : X → Seen) (old new : CodeWalk) (seen : Option X) (v : X) (answer : Result CodeNext E) → seen ≡ Some v →
+    OnOk answer (carry_of new ≡ carried old.floor (carry_of old) (see_by v)) → OnOk answer (new.edits.items ≡ old.edits.items ++ visit_edits old.name old.floor (carry_of old) (see_by v)) →
+    IfOk answer (λ n. next_of_code n ≡ next_of (carry_of new) (see_by v).row.serial) → new.name ≡ old.name → new.floor ≡ old.floor →
+    IfOk answer (λ n. (x : Delivered) (vs : List Seen) → HasVisited x old vs → row_wanted x vs ≡ option_map see_by seen → Visits x old new vs (option_map see_by seen) n)
+visit_settles see_by old new seen v (Ok n) is carries tells answers name floor =
+    λ x vs h e. subst (λ s. Visits x old new vs (option_map see_by s) n) (sym is) (goes_on x old new (see_by v) vs n carries tells answers name floor h (e ∙ ap (option_map see_by) is))
+visit_settles see_by old new seen v (Err e) is carries tells answers name floor = tt
