@@ -315,3 +315,8 @@ impl Walk {
         }
     }
 }
+
+#[cfg(test)]
+mod lives;
+#[cfg(test)]
+mod tests;

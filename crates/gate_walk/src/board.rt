@@ -1,0 +1,519 @@
+//! A queue as plain lists, for the tests: all changes stand at revision 1.
+use crate::seen::SeenNeed;
+use crate::walk::{Next, Seen, TakenOut, Walk};
+use gate_types::config::Job;
+use gate_types::edits::Edit;
+use gate_types::names::Name;
+use gate_types::numbers::{BuildNo, ChangeNo, Revision, Serial};
+use gate_types::records::{Build, Entry, Item, Landing, Need, Outcome, Report, Verdict};
+use gate_types::sequence::Sequence;
+use std::alloc::{AllocError, AllocFailed, Global};
+use std::process::Abort;
+
+/// A queue could not be made: memory was refused, or a number or a name is out of its range.
+#[derive(Clone, Copy, Debug)]
+pub enum Unmade {
+    NoMemory,
+    Wrong,
+}
+
+impl From<AllocError> for Unmade {
+    fn from(_error: AllocError) -> Self {
+        Unmade::NoMemory
+    }
+}
+
+impl<T: Drop> From<AllocFailed<T>> for Unmade {
+    fn from(_failed: AllocFailed<T>) -> Self {
+        Unmade::NoMemory
+    }
+}
+
+pub fn name(alloc: Global, text: &str) -> Result<Name, Unmade> {
+    Ok(Name::new(text.to_string(alloc)?).ok_or(Unmade::Wrong)?)
+}
+
+pub fn serial(n: u64) -> Result<Serial, Unmade> {
+    Ok(Serial::new(n).ok_or(Unmade::Wrong)?)
+}
+
+pub fn change(n: u64) -> Result<ChangeNo, Unmade> {
+    Ok(ChangeNo::new(n).ok_or(Unmade::Wrong)?)
+}
+
+fn first() -> Result<Revision, Unmade> {
+    Ok(Revision::new(1).ok_or(Unmade::Wrong)?)
+}
+
+/// An item's stored row, with the needs of its change, the jobs of its project and its live builds.
+#[derive(Drop)]
+pub struct Row {
+    pub item: Item,
+    pub needs: Vec<Need>,
+    pub jobs: Vec<Job>,
+    pub builds: Vec<Build>,
+}
+
+/// The queue `core`: its floor, its window, what has landed, its items, and how many reports it has made.
+#[derive(Drop)]
+pub struct Board {
+    pub floor: u32,
+    pub window: u32,
+    pub landings: Vec<Landing>,
+    pub rows: Vec<Row>,
+    pub reports: u64,
+    /// Those that edits have put, a line each.
+    pub told: String,
+}
+
+/// The jobs of a project: each a name and whether it votes.
+pub fn jobs(alloc: Global, texts: &[(&str, bool)]) -> Result<Vec<Job>, Unmade> {
+    let mut jobs = Vec::new(alloc);
+    for (text, voting) in texts {
+        jobs.push(Job {
+            name: name(alloc, text)?,
+            voting: *voting,
+        })?;
+    }
+    Ok(jobs)
+}
+
+/// Changes in order, as a build runs on them.
+pub fn entries(alloc: Global, changes: &[u64]) -> Result<Sequence<Entry>, Unmade> {
+    let mut entries = Vec::new(alloc);
+    for n in changes {
+        entries.push(Entry {
+            change: change(*n)?,
+            revision: first()?,
+        })?;
+    }
+    Ok(Sequence::from_vec(entries))
+}
+
+impl Board {
+    /// A queue without items.
+    pub fn new(alloc: Global, window: u32, floor: u32) -> Self {
+        Board {
+            floor,
+            window,
+            landings: Vec::new(alloc),
+            rows: Vec::new(alloc),
+            reports: 0,
+            told: String::new(alloc),
+        }
+    }
+
+    /// Adds an item behind the others, non-failing, with the serial of the last one as `ahead`.
+    pub fn push(
+        &mut self,
+        alloc: Global,
+        item: (u64, u64),
+        ahead: Option<u64>,
+        needs: &[u64],
+        texts: &[(&str, bool)],
+    ) -> Result<(), Unmade> {
+        let mut needed = Vec::new(alloc);
+        for n in needs {
+            needed.push(Need {
+                change: change(*n)?,
+                landed: false,
+            })?;
+        }
+        let ahead = match ahead {
+            Some(n) => Some(serial(n)?),
+            None => None,
+        };
+        self.rows.push(Row {
+            item: Item {
+                serial: serial(item.0)?,
+                change: change(item.1)?,
+                revision: first()?,
+                ahead,
+                failing: false,
+            },
+            needs: needed,
+            jobs: jobs(alloc, texts)?,
+            builds: Vec::new(alloc),
+        })?;
+        Ok(())
+    }
+
+    /// Starts a build of a job of an item, behind all landings and these changes.
+    pub fn take(
+        &mut self,
+        alloc: Global,
+        number: u64,
+        of: u64,
+        job: &str,
+        ahead: &[u64],
+    ) -> Result<(), Unmade> {
+        let before = self.landings.iter().filter(|l| l.serial.get() < of).count();
+        let after = before as u64;
+        for row in self.rows.iter_mut() {
+            if row.item.serial.get() == of {
+                row.builds.push(Build {
+                    number: BuildNo::new(number).ok_or(Unmade::Wrong)?,
+                    queue: name(alloc, "core")?,
+                    serial: row.item.serial,
+                    change: row.item.change,
+                    revision: row.item.revision,
+                    job: name(alloc, job)?,
+                    after,
+                    ahead: entries(alloc, ahead)?,
+                    outcome: Outcome::Running,
+                    live: true,
+                })?;
+            }
+        }
+        Ok(())
+    }
+
+    /// A build has ended.
+    pub fn end(&mut self, number: u64, outcome: Outcome) {
+        for row in self.rows.iter_mut() {
+            for build in row.builds.iter_mut() {
+                if build.number.get() == number {
+                    build.outcome = outcome;
+                }
+            }
+        }
+    }
+
+    /// Takes an item out, and says what the walk is told of it.
+    fn take_out(&mut self, of: u64, landed: bool) -> Option<TakenOut> {
+        let out = self.rows.iter().find(|row| row.item.serial.get() == of)?.item;
+        self.rows.retain(|row| row.item.serial.get() != of);
+        self.reports = self.reports.saturating_add(1);
+        Some(TakenOut {
+            change: out.change,
+            failing: out.failing,
+            landed,
+        })
+    }
+
+    /// An item leaves without landing.
+    pub fn leave(&mut self, of: u64) -> Option<TakenOut> {
+        self.take_out(of, false)
+    }
+
+    /// The needs of a change that landed are met from now on.
+    fn meet(&mut self, landed: ChangeNo) {
+        for row in self.rows.iter_mut() {
+            for need in row.needs.iter_mut() {
+                need.landed = need.landed || need.change == landed;
+            }
+        }
+    }
+
+    /// The first non-failing item lands: the window grows by one.
+    pub fn land(&mut self, of: u64) -> Result<Option<TakenOut>, Unmade> {
+        let Some(out) = self.take_out(of, true) else {
+            return Ok(None);
+        };
+        self.landings.push(Landing {
+            serial: serial(of)?,
+            change: out.change,
+            revision: first()?,
+        })?;
+        self.meet(out.change);
+        self.window = if self.window == 0 { 0 } else { self.window.min(999) + 1 };
+        Ok(Some(out))
+    }
+
+    /// Whether the row of a change says that it is failing, where it stands.
+    fn standing(&self, of: ChangeNo) -> Option<bool> {
+        let row = self.rows.iter().find(|row| row.item.change == of)?;
+        Some(row.item.failing)
+    }
+
+    fn needs_seen(&self, alloc: Global, row: &Row) -> Result<Vec<SeenNeed>, Unmade> {
+        let mut seen = Vec::new(alloc);
+        for need in row.needs.iter() {
+            seen.push(SeenNeed {
+                change: need.change,
+                landed: need.landed,
+                standing: self.standing(need.change),
+            })?;
+        }
+        Ok(seen)
+    }
+
+    fn visit(&self, alloc: Global, walk: &mut Walk, row: &Row) -> Result<Next, Unmade> {
+        let needs = self.needs_seen(alloc, row)?;
+        let seen = Seen {
+            row: row.item,
+            needs: &needs,
+            jobs: &row.jobs,
+            builds: &row.builds,
+        };
+        Ok(walk.visit(alloc, Some(&seen))?)
+    }
+
+    /// The row that a walk wants.
+    fn wanted(&self, walk: &Walk, next: Next) -> Option<&Row> {
+        match next {
+            Next::Go(n) => self.rows.iter().find(|row| row.item.serial.get() > n.get()),
+            Next::Need(n) => self
+                .rows
+                .iter()
+                .find(|row| row.item.serial.get() > n.get() && needs_one(row, walk.gone())),
+            Next::Stop => None,
+        }
+    }
+
+    /// A walk to its stop, from a serial on, and the serials of the rows that it visited.
+    pub fn walk(
+        &self,
+        rt: &impl Abort,
+        alloc: Global,
+        from: u64,
+        ahead: Option<u64>,
+        out: Option<TakenOut>,
+    ) -> Result<(Walk, Vec<u64>), Unmade> {
+        assert!(rt; self.reports <= 1_000_000_000_000_000);
+        let ahead = match ahead {
+            Some(n) => Some(serial(n)?),
+            None => None,
+        };
+        let queue = name(alloc, "core")?;
+        let mut walk =
+            Walk::start(alloc, queue, self.floor, self.window, self.reports, ahead, out)?;
+        let mut visited = Vec::new(alloc);
+        let mut wanted = self.rows.iter().find(|row| row.item.serial.get() >= from);
+        for _ in 0..self.rows.len() {
+            let Some(row) = wanted else {
+                break;
+            };
+            visited.push(row.item.serial.get())?;
+            let next = self.visit(alloc, &mut walk, row)?;
+            wanted = self.wanted(&walk, next);
+        }
+        assert!(rt; wanted.is_none());
+        assert_eq!(rt; walk.visit(alloc, None)?, Next::Stop);
+        Ok((walk, visited))
+    }
+
+    /// An item is failing by its row.
+    pub fn fail(&mut self, of: u64) {
+        for row in self.rows.iter_mut() {
+            if row.item.serial.get() == of {
+                row.item.failing = true;
+            }
+        }
+    }
+
+    /// Whether some need of a row has neither landed nor stands as a non-failing item.
+    pub fn is_blocked(&self, row: &Row) -> bool {
+        row.needs
+            .iter()
+            .any(|need| !need.landed && self.standing(need.change) != Some(false))
+    }
+
+    /// The builds of all items, in order.
+    pub fn builds_up_to(&self, alloc: Global, last: u64) -> Result<Vec<Build>, Unmade> {
+        let mut builds = Vec::new(alloc);
+        for number in 0..last.saturating_add(1) {
+            for row in self.rows.iter() {
+                for build in row.builds.iter() {
+                    if build.number.get() == number {
+                        builds.push(build_copy(alloc, build)?)?;
+                    }
+                }
+            }
+        }
+        Ok(builds)
+    }
+
+    /// The same queue once more.
+    pub fn copy(&self, alloc: Global) -> Result<Self, Unmade> {
+        let mut rows = Vec::new(alloc);
+        for row in self.rows.iter() {
+            rows.push(row_copy(alloc, row)?)?;
+        }
+        Ok(Board {
+            floor: self.floor,
+            window: self.window,
+            landings: self.landings.as_slice().to_vec(alloc)?,
+            rows,
+            reports: self.reports,
+            told: self.told.as_str().to_string(alloc)?,
+        })
+    }
+
+    /// Does what an edit says to the stored rows.
+    fn apply(&mut self, alloc: Global, edit: &Edit) -> Result<(), Unmade> {
+        match edit {
+            Edit::PutItem { queue: _, item } => {
+                for row in self.rows.iter_mut() {
+                    if row.item.serial == item.serial {
+                        row.item = *item;
+                    }
+                }
+            }
+            Edit::DropItem(serial) => self.rows.retain(|row| row.item.serial != *serial),
+            Edit::StopBuild(number) => {
+                for row in self.rows.iter_mut() {
+                    row.builds.retain(|build| build.number != *number);
+                }
+            }
+            Edit::SetWindow { queue: _, window } => self.window = *window,
+            Edit::PutReport { .. } => {
+                self.reports = self.reports.saturating_add(1);
+                self.told.push_str(edit_text(alloc, edit)?.as_str())?;
+            }
+            _ => return Err(Unmade::Wrong),
+        }
+        Ok(())
+    }
+
+    /// Does what the edits say, one after another.
+    pub fn apply_all(&mut self, alloc: Global, edits: &[Edit]) -> Result<(), Unmade> {
+        for edit in edits {
+            self.apply(alloc, edit)?;
+        }
+        Ok(())
+    }
+
+    /// The window, the rows with their live builds, and the reports that edits have put.
+    pub fn text(&self, alloc: Global) -> Result<String, AllocError> {
+        let window = self.window;
+        let mut text = format!(in alloc; "window {window}\n")?;
+        for row in self.rows.iter() {
+            text.push_str(item_text(alloc, &row.item)?.as_str())?;
+            for build in row.builds.iter() {
+                let number = build.number.get();
+                text.push_str(format!(in alloc; "build {number}\n")?.as_str())?;
+            }
+        }
+        text.push_str(self.told.as_str())?;
+        Ok(text)
+    }
+}
+
+fn build_copy(alloc: Global, build: &Build) -> Result<Build, Unmade> {
+    Ok(Build {
+        number: build.number,
+        queue: build.queue.copy()?,
+        serial: build.serial,
+        change: build.change,
+        revision: build.revision,
+        job: build.job.copy()?,
+        after: build.after,
+        ahead: Sequence::from_vec(build.ahead.as_slice().to_vec(alloc)?),
+        outcome: build.outcome,
+        live: build.live,
+    })
+}
+
+fn row_copy(alloc: Global, row: &Row) -> Result<Row, Unmade> {
+    let mut jobs = Vec::new(alloc);
+    for job in row.jobs.iter() {
+        jobs.push(Job {
+            name: job.name.copy()?,
+            voting: job.voting,
+        })?;
+    }
+    let mut builds = Vec::new(alloc);
+    for build in row.builds.iter() {
+        builds.push(build_copy(alloc, build)?)?;
+    }
+    Ok(Row {
+        item: row.item,
+        needs: row.needs.as_slice().to_vec(alloc)?,
+        jobs,
+        builds,
+    })
+}
+
+/// Whether a job of an item that isn't blocked waits for a build.
+pub fn waits(row: &Row, job: &str) -> bool {
+    let mut lost = 0u32;
+    for build in row.builds.iter() {
+        if build.job.as_str() == job {
+            match build.outcome {
+                Outcome::Lost => lost = lost.saturating_add(1),
+                _ => return false,
+            }
+        }
+    }
+    lost < 3
+}
+
+/// Whether a row needs one of these changes.
+fn needs_one(row: &Row, gone: &[ChangeNo]) -> bool {
+    row.needs
+        .iter()
+        .any(|need| gone.iter().any(|change| *change == need.change))
+}
+
+fn word(verdict: Verdict) -> &'static str {
+    match verdict {
+        Verdict::Failed => "failed",
+        Verdict::Needs => "needs",
+        _ => "other",
+    }
+}
+
+fn item_text(alloc: Global, item: &Item) -> Result<String, AllocError> {
+    let serial = item.serial.get();
+    let change = item.change.get();
+    let revision = item.revision.get();
+    let state = if item.failing { "failing" } else { "ok" };
+    match item.ahead {
+        Some(ahead) => {
+            let ahead = ahead.get();
+            format!(in alloc; "item {serial} {change},{revision} ahead {ahead} {state}\n")
+        }
+        None => format!(in alloc; "item {serial} {change},{revision} ahead - {state}\n"),
+    }
+}
+
+fn report_text(alloc: Global, place: u64, report: &Report) -> Result<String, AllocError> {
+    let serial = report.serial.get();
+    let change = report.change.get();
+    let revision = report.revision.get();
+    let verdict = word(report.verdict);
+    format!(in alloc; "report {place}: {serial} {change},{revision} {verdict}\n")
+}
+
+fn edit_text(alloc: Global, edit: &Edit) -> Result<String, AllocError> {
+    match edit {
+        Edit::PutItem { queue, item } => {
+            let queue = queue.as_str();
+            let item = item_text(alloc, item)?;
+            format!(in alloc; "{queue} {item}")
+        }
+        Edit::DropItem(serial) => {
+            let serial = serial.get();
+            format!(in alloc; "drop {serial}\n")
+        }
+        Edit::PutReport {
+            queue,
+            place,
+            report,
+        } => {
+            let queue = queue.as_str();
+            let report = report_text(alloc, *place, report)?;
+            format!(in alloc; "{queue} {report}")
+        }
+        Edit::StopBuild(number) => {
+            let number = number.get();
+            format!(in alloc; "stop {number}\n")
+        }
+        Edit::SetWindow { queue, window } => {
+            let queue = queue.as_str();
+            format!(in alloc; "{queue} window {window}\n")
+        }
+        _ => "other\n".to_string(alloc),
+    }
+}
+
+/// The edits, a line each.
+pub fn edits_text(alloc: Global, edits: &[Edit]) -> Result<String, AllocError> {
+    let mut text = String::new(alloc);
+    for edit in edits {
+        let line = edit_text(alloc, edit)?;
+        text.push_str(line.as_str())?;
+    }
+    Ok(text)
+}

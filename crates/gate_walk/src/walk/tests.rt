@@ -1,0 +1,160 @@
+//! Walks over small queues, with the edits worked out by hand from the rules.
+use crate::board::{Board, Unmade, edits_text};
+use crate::walk::TakenOut;
+use gate_types::records::Outcome::{Failure, Success};
+use std::alloc::Global;
+use std::process::Abort;
+
+const LIB: &[(&str, bool)] = &[("unit", true), ("docs", false)];
+
+const APP: &[(&str, bool)] = &[("unit", true)];
+
+/// Walks from a serial on, compares the edits and the serials of the rows that were visited, and does what
+/// the edits say.
+fn walks(
+    rt: &impl Abort,
+    alloc: Global,
+    board: &mut Board,
+    start: (u64, Option<u64>, Option<TakenOut>),
+    edits: &str,
+    serials: &[u64],
+) -> Result<(), Unmade> {
+    let (from, ahead, out) = start;
+    let (walk, visited) = board.walk(rt, alloc, from, ahead, out)?;
+    let text = edits_text(alloc, walk.edits())?;
+    assert_eq!(rt; text.as_str(), edits);
+    assert_eq!(rt; visited.as_slice(), serials);
+    board.apply_all(alloc, walk.edits())
+}
+
+/// Items 1 to 4, of 101 to 104, of which 104 has these needs; six builds run.
+fn four_items(alloc: Global, needs: &[u64]) -> Result<Board, Unmade> {
+    let mut board = Board::new(alloc, 4, 1);
+    board.push(alloc, (1, 101), None, &[], LIB)?;
+    board.push(alloc, (2, 102), Some(1), &[], APP)?;
+    board.push(alloc, (3, 103), Some(2), &[], LIB)?;
+    board.push(alloc, (4, 104), Some(3), needs, APP)?;
+    board.take(alloc, 1, 1, "unit", &[])?;
+    board.take(alloc, 2, 1, "docs", &[])?;
+    board.take(alloc, 3, 2, "unit", &[101])?;
+    board.take(alloc, 4, 3, "unit", &[101, 102])?;
+    board.take(alloc, 5, 3, "docs", &[101, 102])?;
+    board.take(alloc, 6, 4, "unit", &[101, 102, 103])?;
+    Ok(board)
+}
+
+/// The failure of item 2 resets items 3 and 4, though the item ahead of 4 stays 3.
+#[test]
+fn a_failure_resets_each_item_behind_it(rt: HostRuntime) -> Result<(), Unmade> {
+    let mut board = four_items(rt.alloc(), &[])?;
+    board.end(3, Failure);
+    walks(
+        &rt,
+        rt.alloc(),
+        &mut board,
+        (2, Some(1), None),
+        "core item 2 102,1 ahead 1 failing\n\
+         stop 4\nstop 5\ncore item 3 103,1 ahead 1 ok\n\
+         stop 6\ncore item 4 104,1 ahead 3 ok\n",
+        &[2, 3, 4],
+    )
+}
+
+/// Item 2 has failed, and item 4 needs its change: item 4 is blocked. Once item 1 lands, item 2 has nothing
+/// ahead and goes, and so does item 4; item 3 keeps its builds.
+#[test]
+fn a_landing_lets_a_failed_item_go_with_what_needs_it(rt: HostRuntime) -> Result<(), Unmade> {
+    let alloc = rt.alloc();
+    let mut board = four_items(alloc, &[102])?;
+    board.end(3, Failure);
+    walks(
+        &rt,
+        alloc,
+        &mut board,
+        (2, Some(1), None),
+        "core item 2 102,1 ahead 1 failing\n\
+         stop 4\nstop 5\ncore item 3 103,1 ahead 1 ok\n\
+         stop 6\ncore item 4 104,1 ahead 3 failing\n",
+        &[2, 3, 4],
+    )?;
+    board.take(alloc, 7, 3, "unit", &[101])?;
+    board.take(alloc, 8, 3, "docs", &[101])?;
+    for number in [1, 2] {
+        board.end(number, Success);
+        let own = "core item 1 101,1 ahead - ok\n";
+        walks(&rt, alloc, &mut board, (1, None, None), own, &[1])?;
+    }
+    let out = board.land(1)?;
+    walks(
+        &rt,
+        alloc,
+        &mut board,
+        (1, None, out),
+        "core report 2: 2 102,1 failed\ndrop 2\ncore window 2\n\
+         core item 3 103,1 ahead - ok\n\
+         core report 3: 4 104,1 needs\ndrop 4\n",
+        &[2, 3, 4],
+    )
+}
+
+/// Item 2 needs the change of item 1, whose `unit` has failed: it is blocked, and goes with it. The window
+/// is halved once.
+#[test]
+fn an_item_goes_with_its_need(rt: HostRuntime) -> Result<(), Unmade> {
+    let alloc = rt.alloc();
+    let mut board = Board::new(alloc, 4, 1);
+    board.push(alloc, (1, 101), None, &[], LIB)?;
+    board.push(alloc, (2, 102), Some(1), &[101], APP)?;
+    board.take(alloc, 1, 1, "unit", &[])?;
+    board.take(alloc, 2, 1, "docs", &[])?;
+    board.take(alloc, 3, 2, "unit", &[101])?;
+    board.end(1, Failure);
+    walks(
+        &rt,
+        alloc,
+        &mut board,
+        (1, None, None),
+        "core item 1 101,1 ahead - failing\nstop 3\ncore item 2 102,1 ahead - failing\n",
+        &[1, 2],
+    )?;
+    board.end(2, Success);
+    walks(
+        &rt,
+        alloc,
+        &mut board,
+        (1, None, None),
+        "core report 1: 1 101,1 failed\ndrop 1\ncore window 2\n\
+         core report 2: 2 102,1 needs\ndrop 2\n",
+        &[1, 2],
+    )
+}
+
+/// A withdrawal of item 2 resets what is behind it; of item 4, which nothing is behind, it asks for nothing.
+#[test]
+fn a_withdrawal_resets_each_item_behind_it(rt: HostRuntime) -> Result<(), Unmade> {
+    let alloc = rt.alloc();
+    let mut board = four_items(alloc, &[])?;
+    let out = board.leave(2);
+    walks(
+        &rt,
+        alloc,
+        &mut board,
+        (2, Some(1), out),
+        "stop 4\nstop 5\ncore item 3 103,1 ahead 1 ok\nstop 6\ncore item 4 104,1 ahead 3 ok\n",
+        &[3, 4],
+    )?;
+    let out = board.leave(4);
+    walks(&rt, alloc, &mut board, (4, Some(3), out), "", &[])
+}
+
+/// Behind a landing only the next non-failing item is visited.
+#[test]
+fn a_landing_asks_for_one_row(rt: HostRuntime) -> Result<(), Unmade> {
+    let alloc = rt.alloc();
+    let mut board = four_items(alloc, &[])?;
+    board.end(1, Success);
+    board.end(2, Success);
+    let out = board.land(1)?;
+    let own = "core item 2 102,1 ahead - ok\n";
+    walks(&rt, alloc, &mut board, (1, None, out), own, &[2])
+}
