@@ -1,22 +1,19 @@
 -- A walk under way: before each visit the queue is settled below the row that is wanted, and at the stop all of it.
-use Rattle.std.proofs.Common.{◌≡◌, ℕ, suc, ◌+◌, ◌<◌, ◌≤◌, Bool, true, false, ◌&&◌, ◌||◌, cond, Option, Some, None, List, [], ◌∷◌, ◌++◌, map, length, inl, inr, refl, sym, ap, ◌∙◌, subst, arith, append-nil, append_assoc, true≢false}
+use Rattle.std.proofs.Common.{◌≡◌, ℕ, suc, ◌+◌, ◌<◌, ◌≤◌, Bool, true, false, ◌&&◌, cond, Option, Some, None, List, [], ◌∷◌, ◌++◌, map, length, inl, inr, refl, sym, ap, ◌∙◌, subst, arith, append-nil, append_assoc, true≢false}
 use Rattle.std.specs.Prelude.{nat_lt, nat_le, filter, find, option_map, Result, Ok, Err, OnOk, IfOk}
 use Rattle.std.proofs.lemmas.Bool.{and_parts, ltb-true, lt-ltb, leb-true, le-leb}
 use Rattle.gate_types.specs.declared.records.Item.{Item as ItemRow}
 use Rattle.gate_types.specs.declared.edits.Edit.{Edit}
-use Rattle.gate_types.specs.Settings.{Settings}
-use Rattle.gate_types.specs.State.{State}
 use Rattle.gate_types.specs.Standing.{places_after}
 use Rattle.gate_types.specs.Rows.{fold_edits}
-use Rattle.gate_walk.specs.Walk.{Seen, Carry, visit_edits, carried, asks_for, walk_edits, walk_from}
-use Rattle.gate_walk.specs.Next.{from, next_of, wanted}
+use Rattle.gate_walk.specs.Walk.{Seen, Carry, Walk, behind_visit, visit_edits, carried, asks_for, walk_edits, walk_from}
+use Rattle.gate_walk.specs.Next.{next_of, wanted}
 use Rattle.gate_walk.specs.Rescan.{TakenOut, start, row_seen, rows_from, settled_to}
 use Rattle.gate_walk.specs.Delivery.{IsWalked}
-use Rattle.gate_walk.specs.declared.walk.Walk.{Walk as CodeWalk}
 use Rattle.gate_walk.specs.declared.walk.Next.{Next as CodeNext}
-use Rattle.gate_walk.specs.Views.{carry_of, next_of_code}
-use Rattle.gate_walk.specs.UnderWay.{Delivered, queue_after, floor_after, stale_rows, tables, places_of, tables_settled, tables_settled_below, begun, rows_seen, carry_by, edits_by, next_by, row_wanted, AreWanted, HasVisited, IsFor, Starts, GoesOn, Ends, Visits}
-use Rattle.gate_queue.proofs.Ordered.{RiseFrom, AllBelow, row_serial, place_serial, rises}
+use Rattle.gate_walk.specs.Views.{next_of_code}
+use Rattle.gate_walk.specs.UnderWay.{Delivered, queue_after, floor_after, stale_rows, tables, places_of, tables_settled, tables_settled_below, begun, rows_seen, walk_by, next_by, row_wanted, AreWanted, HasVisited, tables_by, IsFor, Starts, GoesOn, Ends, Visits}
+use Rattle.gate_queue.proofs.Ordered.{RiseFrom, row_serial, place_serial, rises}
 use Rattle.gate_walk.proofs.Parting.{none_under, all_onward, under, onward, cut, under_at, under_behind, rise_at, low_at, onward_onward, onward_many, found_first, none_found, find_in, AllFail, all_fail, parts_at}
 use Rattle.gate_walk.proofs.SoFar.{carried_on}
 use Rattle.gate_walk.proofs.NextRows.{seen_serial, test_of, wanted_is, find_past, passed, below_push, below_up}
@@ -105,6 +102,31 @@ settled_under x p l =
 settled_all : (x : Delivered) → fold_edits (tables x) (told_by x (rows_on x)) ≡ tables_settled x
 settled_all x = ap (λ us. fold_edits (tables x) (told_by x us)) (onward_seen x x.item.serial (stale_rows x)) ∙ (walked x).settles
 
+-- what is carried after visits, and what was told
+abbrev carry_by : Delivered → List Seen → Carry
+carry_by x vs = (walk_by x vs).carry
+
+abbrev edits_by : Delivered → List Seen → List Edit
+edits_by x vs = (walk_by x vs).told
+
+-- the queue and its floor stay
+abbrev name_by : Delivered → List Seen → List ℕ
+name_by x vs = (walk_by x vs).name
+
+name_same : (x : Delivered) (vs : List Seen) → name_by x vs ≡ (queue_after x).name
+name_same x [] = refl
+name_same x (v ∷ vs) = name_same x vs
+
+floor_same : (x : Delivered) (vs : List Seen) → (walk_by x vs).floor ≡ floor_after x
+floor_same x [] = refl
+floor_same x (v ∷ vs) = floor_same x vs
+
+carry_next : (x : Delivered) (v : Seen) (vs : List Seen) → carry_by x (v ∷ vs) ≡ carried (floor_after x) (carry_by x vs) v
+carry_next x v vs = ap (λ f. carried f (carry_by x vs) v) (floor_same x vs)
+
+edits_next : (x : Delivered) (v : Seen) (vs : List Seen) → edits_by x (v ∷ vs) ≡ edits_by x vs ++ visit_edits (queue_after x).name (floor_after x) (carry_by x vs) v
+edits_next x v vs = λ k. edits_by x vs ++ visit_edits (name_same x vs k) (floor_same x vs k) (carry_by x vs) v
+
 -- ---- the first rows of a walk, and more of them
 
 -- what is carried behind rows, the first of which is asked for whatever is carried
@@ -190,8 +212,8 @@ record Behind (x : Delivered) (u : Seen) (k : Carry) (passed : List Seen) : Type
   rise : RiseFrom seen_serial (suc u.row.serial) left
   finds : wanted k.gone (next_of k u.row.serial) (rows_seen x) ≡ find (test_of k u.row.serial) left
 
-behind_visit : (x : Delivered) (u : Seen) (vs : List Seen) (h : Reached x (u ∷ vs)) → Behind x u (carry_by x (u ∷ vs)) h.passed
-behind_visit x u vs h =
+rows_behind : (x : Delivered) (u : Seen) (vs : List Seen) (h : Reached x (u ∷ vs)) → Behind x u (carry_by x (u ∷ vs)) h.passed
+rows_behind x u vs h =
     let k = carry_by x (u ∷ vs) in
     let n = u.row.serial in
     let ahead = h.last.0 in
@@ -216,7 +238,7 @@ behind_visit x u vs h =
 reaches_first : (x : Delivered) (v : Seen) → row_wanted x [] ≡ Some v → Reaches x [] v
 reaches_first x v e =
     let f = found_first (λ w. nat_le x.item.serial w.row.serial) (rows_seen x) v e in
-    record { front = []; behind = f.0; parts = f.1; tells = refl; carries_on = refl; tells_on = sym (append-nil (visit_edits (queue_after x).name (floor_after x) (begun x) v)) }
+    record { front = []; behind = f.0; parts = f.1; tells = refl; carries_on = carry_next x v []; tells_on = edits_next x v [] ∙ sym (append-nil (visit_edits (queue_after x).name (floor_after x) (begun x) v)) }
 
 reaches_next : (x : Delivered) (u : Seen) (vs : List Seen) (v : Seen) → Reached x (u ∷ vs) → row_wanted x (u ∷ vs) ≡ Some v → Reaches x (u ∷ vs) v
 reaches_next x u vs v h e =
@@ -224,7 +246,7 @@ reaches_next x u vs v h e =
     let floor = floor_after x in
     let k = carry_by x (u ∷ vs) in
     let n = u.row.serial in
-    let b = behind_visit x u vs h in
+    let b = rows_behind x u vs h in
     let at = parts_at (test_of k n) b.left v (sym b.finds ∙ e) in
     let us = b.ahead ++ u ∷ [] in
     let zs = at.before in
@@ -247,8 +269,8 @@ reaches_next x u vs v h e =
       behind = at.behind;
       parts = b.parts ∙ ap (λ l. us ++ l) at.parts ∙ sym (append_assoc us zs (v ∷ at.behind));
       tells = tells;
-      carries_on = sym (ap (carry_behind x) grouped ∙ carry_on x b.ahead u (zs ++ v ∷ []) ∙ ap (λ c. carried_on name floor c (zs ++ v ∷ [])) carries ∙ carry_zs);
-      tells_on = sym (ap (told_by x) grouped ∙ told_on x b.ahead u (zs ++ v ∷ []) ∙ (λ j. told_by x us ++ walk_edits name floor (carries j) (zs ++ v ∷ []))
+      carries_on = carry_next x v (u ∷ vs) ∙ sym (ap (carry_behind x) grouped ∙ carry_on x b.ahead u (zs ++ v ∷ []) ∙ ap (λ c. carried_on name floor c (zs ++ v ∷ [])) carries ∙ carry_zs);
+      tells_on = edits_next x v (u ∷ vs) ∙ sym (ap (told_by x) grouped ∙ told_on x b.ahead u (zs ++ v ∷ []) ∙ (λ j. told_by x us ++ walk_edits name floor (carries j) (zs ++ v ∷ []))
           ∙ (λ j. (sym (h.tells ∙ ap (told_by x) passed_is)) j ++ told_zs j));
     }
 
@@ -291,7 +313,7 @@ settled_at_end x (u ∷ vs) w e =
     let h = reached x (u ∷ vs) w in
     let k = carry_by x (u ∷ vs) in
     let n = u.row.serial in
-    let b = behind_visit x u vs h in
+    let b = rows_behind x u vs h in
     let us = b.ahead ++ u ∷ [] in
     let passed_is : h.passed ≡ us = b.passed_is in
     let carries : carry_behind x us ≡ k = sym (h.carries ∙ ap (carry_behind x) passed_is) in
@@ -303,49 +325,41 @@ settled_at_end x (u ∷ vs) w e =
 -- ---- the calls
 
 -- nothing has been visited, and nothing is settled but the items before the touched one, which stay as they are
-pub starts : (x : Delivered) (w : CodeWalk) (name : List ℕ) (floor window reports : ℕ) (ahead : Option ℕ) (out : Option TakenOut) →
-    w.name ≡ name → w.floor ≡ floor → carry_of w ≡ start out ahead reports window → w.edits.items ≡ [] → IsFor x name floor window reports ahead out → Starts x w
-starts x w name floor window reports ahead out named bounded carries tells f =
+pub starts : (x : Delivered) (w : Walk) (name : List ℕ) (floor window reports : ℕ) (ahead : Option ℕ) (out : Option TakenOut) →
+    w ≡ record { name = name; floor = floor; told = []; carry = start out ahead reports window } → IsFor x name floor window reports ahead out → Starts x w
+starts x w name floor window reports ahead out begins f =
     let i = x.item.serial in
     let none : under seen_serial i (rows_on x) ≡ [] = none_under seen_serial i i (rows_on x) (omega arith) (on_rise x) in
+    let is : w ≡ walk_by x [] = begins ∙ (λ k. record { name = f.named k; floor = f.bounded k; told = []; carry = f.begins k }) in
     record {
-      visited = record { name = named ∙ f.named; floor = bounded ∙ f.bounded; carries = carries ∙ f.begins; tells = tells; were_wanted = tt };
-      settled = ap (fold_edits (tables x)) (tells ∙ ap (told_by x) (sym none)) ∙ settled_under x i (omega arith);
+      visited = record { is = is; were_wanted = tt };
+      settled = ap (fold_edits (tables x)) (ap (λ (z : Walk). z.told) is ∙ ap (told_by x) (sym none)) ∙ settled_under x i (omega arith);
     }
 
 -- a visit of the row that is wanted
-pub goes_on : (x : Delivered) (old new : CodeWalk) (v : Seen) (vs : List Seen) (next : CodeNext) →
-    carry_of new ≡ carried old.floor (carry_of old) v → new.edits.items ≡ old.edits.items ++ visit_edits old.name old.floor (carry_of old) v →
-    next_of_code next ≡ next_of (carry_of new) v.row.serial → new.name ≡ old.name → new.floor ≡ old.floor →
+pub goes_on : (x : Delivered) (old new : Walk) (v : Seen) (vs : List Seen) (next : CodeNext) → new ≡ behind_visit old v → next_of_code next ≡ next_of new.carry v.row.serial →
     HasVisited x old vs → row_wanted x vs ≡ Some v → GoesOn x old new v vs next
-goes_on x old new v vs next carries tells answers name floor h e =
-    let carry : carry_of new ≡ carry_by x (v ∷ vs) = carries ∙ (λ k. carried (h.floor k) (h.carries k) v) in
-    let told : new.edits.items ≡ edits_by x (v ∷ vs) = tells ∙ (λ k. h.tells k ++ visit_edits (h.name k) (h.floor k) (h.carries k) v) in
+goes_on x old new v vs next visits answers h e =
+    let is : new ≡ walk_by x (v ∷ vs) = visits ∙ ap (λ w. behind_visit w v) h.is in
     let wanted_all : AreWanted x (v ∷ vs) = (e, h.were_wanted) in
-    let wants : next_of_code next ≡ next_by x (v ∷ vs) = answers ∙ ap (λ c. next_of c v.row.serial) carry in
+    let wants : next_of_code next ≡ next_by x (v ∷ vs) = answers ∙ ap (λ (w : Walk). next_of w.carry v.row.serial) is in
+    let tells : tables_by x new ≡ fold_edits (tables x) (edits_by x (v ∷ vs)) = ap (tables_by x) is in
     record {
-      before = ap (fold_edits (tables x)) h.tells ∙ settled_before x vs v h.were_wanted e;
-      behind = ap (fold_edits (tables x)) told ∙ settled_behind x vs v h.were_wanted e;
-      at_stop = λ s. ap (fold_edits (tables x)) told
-          ∙ settled_at_end x (v ∷ vs) wanted_all (ap (λ n. wanted (carry_by x (v ∷ vs)).gone n (rows_seen x)) (sym wants ∙ ap next_of_code s));
-      visited = record { name = name ∙ h.name; floor = floor ∙ h.floor; carries = carry; tells = told; were_wanted = wanted_all };
+      before = ap (tables_by x) h.is ∙ settled_before x vs v h.were_wanted e;
+      behind = tells ∙ settled_behind x vs v h.were_wanted e;
+      at_stop = λ s. tells ∙ settled_at_end x (v ∷ vs) wanted_all (ap (λ n. wanted (carry_by x (v ∷ vs)).gone n (rows_seen x)) (sym wants ∙ ap next_of_code s));
+      visited = record { is = is; were_wanted = wanted_all };
       wants = wants;
     }
 
 -- no row is wanted
-pub ends : (x : Delivered) (old new : CodeWalk) (vs : List Seen) → carry_of new ≡ carry_of old → new.edits.items ≡ old.edits.items → new.name ≡ old.name → new.floor ≡ old.floor →
-    HasVisited x old vs → row_wanted x vs ≡ None → Ends x old new vs
-ends x old new vs carries tells name floor h e = record {
-  settled = ap (fold_edits (tables x)) h.tells ∙ settled_at_end x vs h.were_wanted e;
-  same = ap (fold_edits (tables x)) tells;
-  visited = record { name = name ∙ h.name; floor = floor ∙ h.floor; carries = carries ∙ h.carries; tells = tells ∙ h.tells; were_wanted = h.were_wanted };
-}
+pub ends : (x : Delivered) (old : Walk) (vs : List Seen) → HasVisited x old vs → row_wanted x vs ≡ None → Ends x old old vs
+ends x old vs h e = record { settled = ap (tables_by x) h.is ∙ settled_at_end x vs h.were_wanted e; same = refl; visited = h }
 
 -- what a visit answers, where the row is there
-pub visit_settles : {X E : Type 0} (see_by : X → Seen) (old new : CodeWalk) (seen : Option X) (v : X) (answer : Result CodeNext E) → seen ≡ Some v →
-    OnOk answer (carry_of new ≡ carried old.floor (carry_of old) (see_by v)) → OnOk answer (new.edits.items ≡ old.edits.items ++ visit_edits old.name old.floor (carry_of old) (see_by v)) →
-    IfOk answer (λ n. next_of_code n ≡ next_of (carry_of new) (see_by v).row.serial) → new.name ≡ old.name → new.floor ≡ old.floor →
+pub visit_settles : {X E : Type 0} (see_by : X → Seen) (old new : Walk) (seen : Option X) (v : X) (answer : Result CodeNext E) → seen ≡ Some v →
+    OnOk answer (new ≡ behind_visit old (see_by v)) → IfOk answer (λ n. next_of_code n ≡ next_of new.carry (see_by v).row.serial) →
     IfOk answer (λ n. (x : Delivered) (vs : List Seen) → HasVisited x old vs → row_wanted x vs ≡ option_map see_by seen → Visits x old new vs (option_map see_by seen) n)
-visit_settles see_by old new seen v (Ok n) is carries tells answers name floor =
-    λ x vs h e. subst (λ s. Visits x old new vs (option_map see_by s) n) (sym is) (goes_on x old new (see_by v) vs n carries tells answers name floor h (e ∙ ap (option_map see_by) is))
-visit_settles see_by old new seen v (Err e) is carries tells answers name floor = tt
+visit_settles see_by old new seen v (Ok n) is visits answers =
+    λ x vs h e. subst (λ s. Visits x old new vs (option_map see_by s) n) (sym is) (goes_on x old new (see_by v) vs n visits answers h (e ∙ ap (option_map see_by) is))
+visit_settles see_by old new seen v (Err e) is visits answers = tt

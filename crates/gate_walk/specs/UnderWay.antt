@@ -3,7 +3,6 @@ use Rattle.std.specs.Prelude.{ℕ, true, false, ◌+◌, nat_lt, nat_le, ◌≡�
 use Rattle.gate_types.specs.declared.records.Item.{Item as ItemRow}
 use Rattle.gate_types.specs.declared.deliveries.Delivery.{Delivery}
 use Rattle.gate_types.specs.declared.deliveries.Reply.{Reply}
-use Rattle.gate_types.specs.declared.edits.Edit.{Edit}
 use Rattle.gate_types.specs.Settings.{Settings, are_sound}
 use Rattle.gate_types.specs.State.{Item, Queue, State}
 use Rattle.gate_types.specs.Line.{Place}
@@ -14,14 +13,13 @@ use Rattle.gate_types.specs.Sweep.{sweep}
 use Rattle.gate_types.specs.Step.{accepted, raw_step}
 use Rattle.gate_types.specs.Lawful.{IsLawful}
 use Rattle.gate_types.specs.Rows.{Rows, fold_edits}
-use Rattle.gate_walk.specs.declared.walk.Walk.{Walk as CodeWalk}
 use Rattle.gate_walk.specs.declared.walk.Next.{Next as CodeNext}
 use Rattle.gate_walk.specs.declared.walk.Next.TheVariants as code
-use Rattle.gate_walk.specs.Walk.{Seen, Carry, visit_edits, carried}
+use Rattle.gate_walk.specs.Walk.{Seen, Carry, Walk, behind_visit}
 use Rattle.gate_walk.specs.Next.{Next, from, next_of, wanted}
 use Rattle.gate_walk.specs.Rescan.{TakenOut, start, stored, rows_with, row_seen, ahead_at, settled_to}
 use Rattle.gate_walk.specs.Delivery.{moved, is_on, is_stale, touch_of, out_by, standing_rows, swept_of, rows_in}
-use Rattle.gate_walk.specs.Views.{carry_of, next_of_code}
+use Rattle.gate_walk.specs.Views.{next_of_code}
 
 -- an accepted delivery on an item of a lawful state that isn't stale: it takes the item out, or a build of it has ended
 pub record Delivered : Type 0 where
@@ -75,7 +73,7 @@ tables_settled_below x n = settled_to (floor_after x) x.after.builds
 
 -- ---- its walk
 
--- what it begins with
+-- it begins behind the item ahead, told of what was taken out
 abbrev pub begun : Delivered → Carry
 begun x = (let rows = stored x.settings x.before x.queue in
     start (out_by (touch_of x.delivery) x.item rows) (ahead_at x.item.serial rows) (length (queue_after x).reports) (queue_after x).window)
@@ -84,46 +82,36 @@ begun x = (let rows = stored x.settings x.before x.queue in
 abbrev pub rows_seen : Delivered → List Seen
 rows_seen x = map (row_seen x.settings x.after (stale_rows x)) (stale_rows x)
 
--- what it carries after visits, the last one first
-abbrev pub carry_by : Delivered → List Seen → Carry
-carry_by x [] = begun x
-carry_by x (v ∷ vs) = carried (floor_after x) (carry_by x vs) v
-
--- what it has told
-abbrev pub edits_by : Delivered → List Seen → List Edit
-edits_by x [] = []
-edits_by x (v ∷ vs) = edits_by x vs ++ visit_edits (queue_after x).name (floor_after x) (carry_by x vs) v
+-- the walk after visits, the last one first
+abbrev pub walk_by : Delivered → List Seen → Walk
+walk_by x [] = record { name = (queue_after x).name; floor = floor_after x; carry = begun x; told = [] }
+walk_by x (v ∷ vs) = behind_visit (walk_by x vs) v
 
 -- what it wants: at first the first row from the touched serial on
 abbrev pub next_by : Delivered → List Seen → Next
 next_by x [] = from x.item.serial
-next_by x (v ∷ vs) = next_of (carry_by x (v ∷ vs)) v.row.serial
+next_by x (v ∷ vs) = next_of (walk_by x (v ∷ vs)).carry v.row.serial
 
 -- the row that is wanted, if it is there
 abbrev pub row_wanted : Delivered → List Seen → Option Seen
-row_wanted x vs = wanted (carry_by x vs).gone (next_by x vs) (rows_seen x)
+row_wanted x vs = wanted (walk_by x vs).carry.gone (next_by x vs) (rows_seen x)
 
 -- each visit was that of the row that was wanted
 abbrev pub AreWanted : Delivered → List Seen → Type 0
 AreWanted x [] = Unit {0}
 AreWanted x (v ∷ vs) = (row_wanted x vs ≡ Some v) × AreWanted x vs
 
--- ---- the walk in the code
-
 -- it has made these visits, the last one first
-pub record HasVisited (x : Delivered) (w : CodeWalk) (vs : List Seen) : Type 0 where
-  pub name : w.name ≡ (queue_after x).name
-  pub floor : w.floor ≡ floor_after x
-  pub carries : carry_of w ≡ carry_by x vs
-  pub tells : w.edits.items ≡ edits_by x vs
+pub record HasVisited (x : Delivered) (w : Walk) (vs : List Seen) : Type 0 where
+  pub is : w ≡ walk_by x vs
   pub were_wanted : AreWanted x vs
 
 -- the queue as the walk's edits leave it
-abbrev pub tables_by : Delivered → CodeWalk → Rows
-tables_by x w = fold_edits (tables x) w.edits.items
+abbrev pub tables_by : Delivered → Walk → Rows
+tables_by x w = fold_edits (tables x) w.told
 
 -- a walk that has visited nothing: only what the items below the touched serial are to be is settled, and that is what they were
-pub record Starts (x : Delivered) (w : CodeWalk) : Type 0 where
+pub record Starts (x : Delivered) (w : Walk) : Type 0 where
   pub visited : HasVisited x w []
   pub settled : tables_by x w ≡ tables_settled_below x x.item.serial
 
@@ -134,7 +122,7 @@ pub record IsFor (x : Delivered) (name : List ℕ) (floor window reports : ℕ) 
   pub begins : start out ahead reports window ≡ begun x
 
 -- a visit of the row that is wanted: before it the queue is settled below that row, behind it up to that row, and at a stop all of it
-pub record GoesOn (x : Delivered) (old new : CodeWalk) (v : Seen) (vs : List Seen) (next : CodeNext) : Type 0 where
+pub record GoesOn (x : Delivered) (old new : Walk) (v : Seen) (vs : List Seen) (next : CodeNext) : Type 0 where
   pub before : tables_by x old ≡ tables_settled_below x v.row.serial
   pub behind : tables_by x new ≡ tables_settled_below x (v.row.serial + 1)
   pub at_stop : next ≡ code.Stop → tables_by x new ≡ tables_settled x
@@ -142,12 +130,12 @@ pub record GoesOn (x : Delivered) (old new : CodeWalk) (v : Seen) (vs : List See
   pub wants : next_of_code next ≡ next_by x (v ∷ vs)
 
 -- a visit by which the walk learns that no row is wanted: the queue is settled
-pub record Ends (x : Delivered) (old new : CodeWalk) (vs : List Seen) : Type 0 where
+pub record Ends (x : Delivered) (old new : Walk) (vs : List Seen) : Type 0 where
   pub settled : tables_by x old ≡ tables_settled x
   pub same : tables_by x new ≡ tables_by x old
   pub visited : HasVisited x new vs
 
 -- what a visit does to a walk, by whether the wanted row is there
-abbrev pub Visits : Delivered → CodeWalk → CodeWalk → List Seen → Option Seen → CodeNext → Type 0
+abbrev pub Visits : Delivered → Walk → Walk → List Seen → Option Seen → CodeNext → Type 0
 Visits x old new vs (Some v) next = GoesOn x old new v vs next
 Visits x old new vs None next = Ends x old new vs

@@ -1,15 +1,10 @@
 -- The walk in the code, as the definitions see it.
 use Rattle.std.specs.Prelude.{◌≡◌}
-use Rattle.gate_walk.specs.declared.walk.Walk.{Walk as CodeWalk}
 use Rattle.gate_walk.specs.declared.walk.Seen.{Seen as CodeSeen}
 use Rattle.gate_walk.specs.declared.walk.Next.{Next as CodeNext}
 use Rattle.gate_walk.specs.declared.walk.Next.TheVariants as code
-use Rattle.gate_walk.specs.Walk.{Carry, Seen}
+use Rattle.gate_walk.specs.Walk.{Seen}
 use Rattle.gate_walk.specs.Next.{Next, go, need, stop}
-
--- what it carries
-abbrev pub carry_of : CodeWalk → Carry
-carry_of w = record { resets = w.resets; passes = w.passes; ahead = w.ahead; gone = w.gone.items; marks = w.marks.items; reports = w.reports; window = w.window }
 
 -- what a visit is given
 abbrev pub seen_of : CodeSeen → Seen

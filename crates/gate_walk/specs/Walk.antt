@@ -144,6 +144,17 @@ carried floor k v = record {
   window = window_behind floor k.window (verdict_by k v);
 }
 
+-- a walk in a queue, with what it has told so far
+pub record Walk : Type 0 where
+  pub name : List ℕ
+  pub floor : ℕ
+  pub carry : Carry
+  pub told : List Edit
+
+-- it behind a visit
+abbrev pub behind_visit : Walk → Seen → Walk
+behind_visit w v = record w { carry = carried w.floor w.carry v; told = w.told ++ visit_edits w.name w.floor w.carry v }
+
 -- the row is asked for: the next one while lines change or a landing is passed, else the next that needs what has gone
 abbrev pub asks_for : Carry → Seen → Bool
 asks_for k v = k.resets || k.passes || needs_gone k.gone v.needs

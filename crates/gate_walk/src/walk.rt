@@ -15,6 +15,7 @@ use gate_types::names::{Name, NoMemory};
 use gate_types::numbers::{ChangeNo, Serial};
 use gate_types::records::{Build, Item, Verdict};
 use std::alloc::Global;
+use std::marker::Model;
 
 /// What a visit is given: a row, the needs and jobs of its change, its live builds.
 #[derive(Clone, Copy, Debug)]
@@ -55,8 +56,18 @@ pub struct Walk {
     gone: Vec<ChangeNo>,
     marks: Vec<Mark>,
     edits: Vec<Edit>,
+}
+
+impl Model for Walk {
+    ghost use Rattle.std.specs.Prelude.{◌≤◌, ◌+◌, vec_len};
+    ghost use Rattle.gate_walk.specs.Walk.{Walk};
+
+    ghost Value = { Walk };
+
+    ghost view = { λ w. record { name = w.name; floor = w.floor; told = w.edits.items; carry = record { resets = w.resets; passes = w.passes; ahead = w.ahead; gone = w.gone.items; marks = w.marks.items; reports = w.reports; window = w.window } } };
+
     // each visit adds a mark, and one report at most
-    ghost reports_in_range: { reports ≤ 1000000000000000 + vec_len marks },
+    ghost invariant = { λ w. w.reports ≤ 1000000000000000 + vec_len w.marks };
 }
 
 fn window_behind(window: u32, floor: u32, verdict: Option<Verdict>) -> u32
@@ -162,14 +173,14 @@ struct Told {
 }
 
 impl Walk {
-    ghost use Rattle.gate_walk.specs.Views.{carry_of, seen_of, next_is};
+    ghost use Rattle.gate_walk.specs.Views.{seen_of, next_is};
     ghost use Rattle.gate_walk.specs.UnderWay.{Delivered, HasVisited, row_wanted, IsFor, Starts, Visits};
 
     /// What a visit of this row comes to.
     fn told(&self, alloc: Global, seen: &Seen) -> Result<Told, NoMemory>
-        ensures edits { IfOk result (λ t. t.edits.items ≡ rules.visit_edits self.now.name self.now.floor (carry_of self.now) (seen_of seen.now)) }
-        ensures failing { IfOk result (λ t. t.failing ≡ rules.fails (carry_of self.now) (seen_of seen.now)) }
-        ensures verdict { IfOk result (λ t. t.verdict ≡ rules.verdict_by (carry_of self.now) (seen_of seen.now)) }
+        ensures edits { IfOk result (λ t. t.edits.items ≡ rules.visit_edits self.now.name self.now.floor self.now.carry (seen_of seen.now)) }
+        ensures failing { IfOk result (λ t. t.failing ≡ rules.fails self.now.carry (seen_of seen.now)) }
+        ensures verdict { IfOk result (λ t. t.verdict ≡ rules.verdict_by self.now.carry (seen_of seen.now)) }
     {
         let counting = still_counting(self.resets, seen.builds);
         let judged = judge(
@@ -204,21 +215,21 @@ impl Walk {
 
     /// The changes that have gone: a row that needs one of them is wanted.
     pub fn gone(&self) -> &[ChangeNo]
-        ensures { result.now ≡ (carry_of self.now).gone }
+        ensures { result.now ≡ self.now.carry.gone }
     {
         self.gone.as_slice()
     }
 
     /// The edits of the visits so far.
     pub fn edits(&self) -> &[Edit]
-        ensures { result.now ≡ self.now.edits.items }
+        ensures { result.now ≡ self.now.told }
     {
         self.edits.as_slice()
     }
 
     /// What is wanted behind the row of a serial.
     fn next(&self, serial: Serial) -> Next
-        ensures { next_is result (next.next_of (carry_of self.now) serial) }
+        ensures { next_is result (next.next_of self.now.carry serial) }
     {
         if self.resets || self.passes {
             Next::Go(serial)
@@ -242,10 +253,7 @@ impl Walk {
     ) -> Result<Self, NoMemory>
         requires { reports ≤ 1000000000000000 }
         ensures for_a_delivery { IfOk result (λ w. (x : Delivered) → IsFor x name floor window reports ahead (option_map out_of out) → Starts x w) }
-        ensures carried { IfOk result (λ w. carry_of w ≡ law.start (option_map out_of out) ahead reports window) }
-        ensures told { IfOk result (λ w. w.edits.items ≡ []) }
-        ensures named { IfOk result (λ w. w.name ≡ name) }
-        ensures bounded { IfOk result (λ w. w.floor ≡ floor) }
+        ensures begun { IfOk result (λ w. w ≡ record { name = name; floor = floor; told = []; carry = law.start (option_map out_of out) ahead reports window }) }
     {
         Ok(Walk {
             name,
@@ -262,13 +270,9 @@ impl Walk {
     }
 
     fn visit_row(&mut self, alloc: Global, seen: &Seen) -> Result<Next, NoMemory>
-        ensures carried { OnOk result (carry_of self.new ≡ rules.carried self.old.floor (carry_of self.old) (seen_of seen.now)) }
-        ensures told { OnOk result (self.new.edits.items ≡ self.old.edits.items ++ rules.visit_edits self.old.name self.old.floor (carry_of self.old) (seen_of seen.now)) }
-        ensures next { IfOk result (λ n. next_is n (next.next_of (carry_of self.new) seen.now.row.serial)) }
-        ensures same_carry { OnErr result (carry_of self.new ≡ carry_of self.old) }
-        ensures same_edits { OnErr result (self.new.edits.items ≡ self.old.edits.items) }
-        ensures same_name { self.new.name ≡ self.old.name }
-        ensures same_floor { self.new.floor ≡ self.old.floor }
+        ensures visited { OnOk result (self.new ≡ rules.behind_visit self.old (seen_of seen.now)) }
+        ensures next { IfOk result (λ n. next_is n (next.next_of self.new.carry seen.now.row.serial)) }
+        ensures same { OnErr result (self.new ≡ self.old) }
     {
         let told = self.told(alloc, seen)?;
         let Told {
@@ -301,13 +305,9 @@ impl Walk {
     /// stays as it was.
     pub fn visit(&mut self, alloc: Global, seen: Option<&Seen>) -> Result<Next, NoMemory>
         ensures settles { IfOk result (λ n. (x : Delivered) (vs : List rules.Seen) → HasVisited x self.old vs → row_wanted x vs ≡ option_map (λ v. seen_of v.now) seen.entry → Visits x self.old self.new vs (option_map (λ v. seen_of v.now) seen.entry) n) }
-        ensures carried { OnOk result (carry_of self.new ≡ option_map_or (λ v. rules.carried self.old.floor (carry_of self.old) (seen_of v.now)) seen.entry (carry_of self.old)) }
-        ensures told { OnOk result (self.new.edits.items ≡ self.old.edits.items ++ option_map_or (λ v. rules.visit_edits self.old.name self.old.floor (carry_of self.old) (seen_of v.now)) seen.entry []) }
-        ensures next { IfOk result (λ n. next_is n (option_map_or (λ v. next.next_of (carry_of self.new) v.now.row.serial) seen.entry next.stop)) }
-        ensures same_carry { OnErr result (carry_of self.new ≡ carry_of self.old) }
-        ensures same_edits { OnErr result (self.new.edits.items ≡ self.old.edits.items) }
-        ensures same_name { self.new.name ≡ self.old.name }
-        ensures same_floor { self.new.floor ≡ self.old.floor }
+        ensures visited { OnOk result (self.new ≡ option_map_or (λ v. rules.behind_visit self.old (seen_of v.now)) seen.entry self.old) }
+        ensures next { IfOk result (λ n. next_is n (option_map_or (λ v. next.next_of self.new.carry v.now.row.serial) seen.entry next.stop)) }
+        ensures same { OnErr result (self.new ≡ self.old) }
     {
         match seen {
             Some(seen) => self.visit_row(alloc, seen),
