@@ -26,8 +26,9 @@ use Rattle.gate_types.specs.Standing.{with_ahead, next_ahead, places_after, plac
 use Rattle.gate_types.specs.Sweep.{Judged, judge, judged, judged_after, verdict_of}
 use Rattle.gate_types.specs.Rows.{row_of}
 use Rattle.gate_types.specs.Lawful.{IsSound, is_sound_item, is_sound_build, is_of_item, waiting_changes, landed_changes}
-use Rattle.gate_walk.specs.Rescan.{standing_in, IsAtRest, live_builds_count}
-use Rattle.gate_walk.proofs.Has.{Has, of_all, of_list_all, found, has_map, has_flat, Once, once, once_left, once_right}
+use Rattle.gate_walk.specs.Rescan.{standing_in, IsCalm, live_builds_count}
+use Rattle.gate_laws.proofs.Members.{In, every, all_from, any_from, to_map, to_flat}
+use Rattle.gate_walk.proofs.Once.{Once, once, once_left, once_right}
 use Rattle.gate_queue.proofs.Ordered.{RiseFrom, place_serial, rises}
 use Rattle.gate_walk.proofs.Slots.{is_live_of, all_count}
 use Rattle.gate_walk.proofs.Resets.{Quiet, NotLanded}
@@ -40,11 +41,6 @@ abbrev pub FreshFrom : List Item → List Item → Type 0
 FreshFrom before [] = Unit {0}
 FreshFrom before (i ∷ is) = (has_change before i.change ≡ false) × FreshFrom (before ++ i ∷ []) is
 
-change_there : (is : List Item) (n : ℕ) → has_change is n ≡ true → Has (map (λ (i : Item). i.change) is) n
-change_there is n e =
-    let f = found (λ (i : Item). i.change == n) is e in
-    subst (Has (map (λ (i : Item). i.change) is)) (eqb-true f.it.change n f.passes) (has_map (λ (i : Item). i.change) is f.it f.there)
-
 or_split : (x y : Bool) → x || y ≡ true → (x ≡ true) ⊎ (y ≡ true)
 or_split true y h = inl refl
 or_split false y h = inr h
@@ -53,7 +49,7 @@ or_off : (x : Bool) → x || false ≡ x
 or_off true = refl
 or_off false = refl
 
-pub fresh_from : (before is : List Item) → Once (map (λ (i : Item). i.change) is) → ((n : ℕ) → has_change before n ≡ true → Has (map (λ (i : Item). i.change) is) n → ⊥) → FreshFrom before is
+pub fresh_from : (before is : List Item) → Once (map (λ (i : Item). i.change) is) → ((n : ℕ) → has_change before n ≡ true → In n (map (λ (i : Item). i.change) is) → ⊥) → FreshFrom before is
 fresh_from before [] o h = tt
 fresh_from before (i ∷ is) o h = (
   at (has_change before i.change) refl,
@@ -64,10 +60,10 @@ fresh_from before (i ∷ is) o h = (
     at false e = e
     at true e = absurd (h i.change e (inl refl))
 
-    next : (n : ℕ) → has_change (before ++ i ∷ []) n ≡ true → Has (map (λ (j : Item). j.change) is) n → ⊥
+    next : (n : ℕ) → has_change (before ++ i ∷ []) n ≡ true → In n (map (λ (j : Item). j.change) is) → ⊥
     next n e m =
         ⊎_elim (λ (a : has_change before n ≡ true). h n a (inr m))
-        (λ (b : (i.change == n || false) ≡ true). o.0 (subst (Has (map (λ (j : Item). j.change) is)) (sym (eqb-true i.change n (sym (or_off (i.change == n)) ∙ b))) m))
+        (λ (b : (i.change == n || false) ≡ true). o.0 (subst (λ y. In y (map (λ (j : Item). j.change) is)) (sym (eqb-true i.change n (sym (or_off (i.change == n)) ∙ b))) m))
         (or_split (has_change before n) (i.change == n || false) (sym (list_any-append (λ (j : Item). j.change == n) before (i ∷ [])) ∙ e))
 
 pub map_flat : {X Y Z : Type 0} (f : Y → Z) (g : X → List Y) (xs : List X) → map f (flat_map g xs) ≡ flat_map (λ x. map f (g x)) xs
@@ -75,13 +71,13 @@ map_flat f g [] = refl
 map_flat f g (x ∷ xs) =
     ap (map f) (flat_map-cons g x xs) ∙ map-append f (g x) (flat_map g xs) ∙ ap (λ l. map f (g x) ++ l) (map_flat f g xs) ∙ sym (flat_map-cons (λ y. map f (g y)) x xs)
 
-once_one : {X : Type 0} (f : X → List ℕ) (xs : List X) (x : X) → Once (flat_map f xs) → Has xs x → Once (f x)
+once_one : {X : Type 0} (f : X → List ℕ) (xs : List X) (x : X) → Once (flat_map f xs) → In x xs → Once (f x)
 once_one f [] x o m = absurd m
 once_one f (y ∷ ys) x o m =
     let both = subst Once (flat_map-cons f y ys) o in
-    ⊎_elim (λ (e : y ≡ x). subst (λ z. Once (f z)) e (once_left (f y) (flat_map f ys) both)) (λ (r : Has ys x). once_one f ys x (once_right (f y) (flat_map f ys) both) r) m
+    ⊎_elim (λ (e : y ≡ x). subst (λ z. Once (f z)) e (once_left (f y) (flat_map f ys) both)) (λ (r : In x ys). once_one f ys x (once_right (f y) (flat_map f ys) both) r) m
 
-pub items_once : (c : Settings) (s : State) → IsSound c s → (q : Queue) → Has s.queues q → Once (map (λ (i : Item). i.change) q.items)
+pub items_once : (c : Settings) (s : State) → IsSound c s → (q : Queue) → In q s.queues → Once (map (λ (i : Item). i.change) q.items)
 items_once c s h q m =
     once_one (λ (x : Queue). map (λ (i : Item). i.change) x.items) s.queues q
     (subst Once (map_flat (λ (i : Item). i.change) (λ (x : Queue). x.items) s.queues)
@@ -97,17 +93,12 @@ open_not_landed k h = by_stage k.stage h
     by_stage stage.Landed e = absurd (true≢false (sym e))
     by_stage stage.Closed e = refl
 
-pub item_open : (c : Settings) (s : State) → IsSound c s → (q : Queue) → Has s.queues q → (i : Item) → Has q.items i → is_landed (change_of s i.change) ≡ false
+pub item_open : (c : Settings) (s : State) → IsSound c s → (q : Queue) → In q s.queues → (i : Item) → In i q.items → is_landed (change_of s i.change) ≡ false
 item_open c s h q m i mi =
-    let all = of_all (λ (o : Queue). AllPass (is_sound_item c s o) o.items) s.queues h.items_are_sound q m in
-    let own = of_all (λ (j : Item). is_sound_item c s q j ≡ true) q.items all i mi in
+    let all = every (λ (o : Queue). AllPass (is_sound_item c s o) o.items) s.queues h.items_are_sound q m in
+    let own = every (λ (j : Item). is_sound_item c s q j ≡ true) q.items all i mi in
     let one = and_parts (is_open (change_of s i.change) && (change_of s i.change).revision == i.revision) (same_name (project_of c s i.change).queue q.name) own in
     open_not_landed (change_of s i.change) (and_parts (is_open (change_of s i.change)) ((change_of s i.change).revision == i.revision) one.0).0
-
-pub queued_open : (c : Settings) (s : State) → IsSound c s → (q : Queue) → Has s.queues q → (n : ℕ) → has_change q.items n ≡ true → is_landed (change_of s n) ≡ false
-queued_open c s h q m n e =
-    let f = found (λ (i : Item). i.change == n) q.items e in
-    ap (λ k. is_landed (change_of s k)) (sym (eqb-true f.it.change n f.passes)) ∙ item_open c s h q m f.it f.there
 
 -- ---- each item is quiet
 
@@ -131,9 +122,9 @@ and_off false y h = refl
 
 -- a queue's items from here on, with the rows behind them
 pub quiet_from : (c : Settings) (s : State) (q : Queue) (stand : ℕ → Option Bool) (tail : List ItemRow) (before ahead is : List Item) →
-    ((p : Place) → Has (places_after s.builds ahead (map (place_of c s q) is)) p → all_count s.builds p ≡ true) →
-    ((j : Judged) → Has (judged_after s.builds before (places_after s.builds ahead (map (place_of c s q) is))) j → is_some j.verdict ≡ false) →
-    FreshFrom before is → ((n : ℕ) → has_change before n ≡ true → is_landed (change_of s n) ≡ false) → ((i : Item) → Has is i → is_landed (change_of s i.change) ≡ false) →
+    ((p : Place) → In p (places_after s.builds ahead (map (place_of c s q) is)) → all_count s.builds p ≡ true) →
+    ((j : Judged) → In j (judged_after s.builds before (places_after s.builds ahead (map (place_of c s q) is))) → is_some j.verdict ≡ false) →
+    FreshFrom before is → ((n : ℕ) → has_change before n ≡ true → is_landed (change_of s n) ≡ false) → ((i : Item) → In i is → is_landed (change_of s i.change) ≡ false) →
     Says stand before (map (row_of s.builds) (places_after s.builds ahead (map (place_of c s q) is)) ++ tail) → Quiet stand s.builds before ahead (map (place_of c s q) is)
 quiet_from c s q stand tail before ahead [] hc hj f ob oi says = tt
 quiet_from c s q stand tail before ahead (i ∷ is) hc hj f ob oi says =
@@ -149,7 +140,7 @@ quiet_from c s q stand tail before ahead (i ∷ is) hc hj f ob oi says =
         open_needs = needs (change_of s i.change).needs;
       },
       quiet_from c s q stand tail (before ++ i ∷ []) (next_ahead bs at) is (λ p m. hc p (inr m))
-          (λ j m. hj j (inr (subst (λ (st : List Item). Has (judged_after bs st rest) j) (ap (λ (o : Option Verdict). cond (is_some o) before (before ++ i ∷ [])) (sym stays)) m)))
+          (λ j m. hj j (inr (subst (λ (st : List Item). In j (judged_after bs st rest)) (ap (λ (o : Option Verdict). cond (is_some o) before (before ++ i ∷ [])) (sym stays)) m)))
           f.1 open_more (λ j m. oi j (inr m)) (says_next stand before i (row_of bs at) (map (row_of bs) rest ++ tail) refl says),
     )
   where
@@ -164,12 +155,12 @@ quiet_from c s q stand tail before ahead (i ∷ is) hc hj f ob oi says =
         (or_split (has_change before n) (i.change == n || false) (sym (list_any-append (λ (j : Item). j.change == n) before (i ∷ [])) ∙ e))
 
 -- of a sound state at rest
-pub quiet_queue : (c : Settings) (s : State) → IsSound c s → IsAtRest c s → (q : Queue) → Has s.queues q → (stand : ℕ → Option Bool) (tail : List ItemRow) → Says stand [] (map (row_of s.builds) (places c s q) ++ tail) →
+pub quiet_queue : (c : Settings) (s : State) → IsSound c s → IsCalm c s → (q : Queue) → In q s.queues → (stand : ℕ → Option Bool) (tail : List ItemRow) → Says stand [] (map (row_of s.builds) (places c s q) ++ tail) →
     Quiet stand s.builds [] [] (map (place_of c s q) q.items)
 quiet_queue c s h r q m stand tail says =
     quiet_from c s q stand tail [] [] q.items
-    (λ p mp. of_all (λ (x : Place). live_builds_count s.builds x ≡ true) (all_places c s) r.builds_count p (has_flat (places c s) s.queues q p m mp))
-    (λ j mj. off (is_some j.verdict) (of_all (λ (x : Judged). not (is_some x.verdict) ≡ true) (judged c s q) (of_all (λ (o : Queue). AllPass (λ x. not (is_some x.verdict)) (judged c s o)) s.queues r.stays q m) j mj))
+    (λ p mp. every (λ (x : Place). live_builds_count s.builds x ≡ true) (all_places c s) r.builds_count p (to_flat (places c s) s.queues q p m mp))
+    (λ j mj. off (is_some j.verdict) (every (λ (x : Judged). not (is_some x.verdict) ≡ true) (judged c s q) (every (λ (o : Queue). AllPass (λ x. not (is_some x.verdict)) (judged c s o)) s.queues r.stays q m) j mj))
     (fresh_from [] q.items (items_once c s h q m) (λ n e. absurd (true≢false (sym e)))) (λ n e. absurd (true≢false (sym e))) (item_open c s h q m) says
   where
     off : (x : Bool) → not x ≡ true → x ≡ false
@@ -182,8 +173,8 @@ pub places_rise_from : (c : Settings) (s : State) (q : Queue) (n : ℕ) (is : Li
 places_rise_from c s q n [] r = tt
 places_rise_from c s q n (i ∷ is) r = (r.0, places_rise_from c s q (suc i.serial) is r.1)
 
-pub items_rise_from : (c : Settings) (s : State) → IsSound c s → (q : Queue) → Has s.queues q → RiseFrom (λ (i : Item). i.serial) 0 q.items
-items_rise_from c s h q m = rises (λ (i : Item). i.serial) q.items (of_all (λ (o : Queue). IsStrictlyIncreasing (map (λ i. i.serial) o.items)) s.queues h.items_rise q m)
+pub items_rise_from : (c : Settings) (s : State) → IsSound c s → (q : Queue) → In q s.queues → RiseFrom (λ (i : Item). i.serial) 0 q.items
+items_rise_from c s h q m = rises (λ (i : Item). i.serial) q.items (every (λ (o : Queue). IsStrictlyIncreasing (map (λ i. i.serial) o.items)) s.queues h.items_rise q m)
 
 above : {X : Type 0} (key : X → ℕ) (n : ℕ) (front : List X) (x : X) (behind : List X) → RiseFrom key n (front ++ x ∷ behind) → n ≤ key x
 above key n [] x behind r = r.0
@@ -224,16 +215,16 @@ rise_without n (f ∷ front) p behind r = (r.0, rise_without (suc f.item.serial)
 
 -- ---- landings
 
-pub never_landed : (c : Settings) (s : State) → IsSound c s → (q : Queue) → Has s.queues q → (i : Item) → Has q.items i → list_any (λ l. l.change == i.change) q.landings ≡ false
+pub never_landed : (c : Settings) (s : State) → IsSound c s → (q : Queue) → In q s.queues → (i : Item) → In i q.items → list_any (λ l. l.change == i.change) q.landings ≡ false
 never_landed c s h q m i mi = at (list_any (λ l. l.change == i.change) q.landings) refl
   where
     at : (t : Bool) → list_any (λ l. l.change == i.change) q.landings ≡ t → list_any (λ l. l.change == i.change) q.landings ≡ false
     at false e = e
     at true e =
-        let f = found (λ (l : Landing). l.change == i.change) q.landings e in
-        let there = has_map (λ (l : Landing). l.change) (flat_map (λ (o : Queue). o.landings) s.queues) f.it (has_flat (λ (o : Queue). o.landings) s.queues q f.it m f.there) in
-        let same : f.it.change ≡ i.change = eqb-true f.it.change i.change f.passes in
-        let listed = of_all (Contains (landed_changes s)) (landed_changes s) (All-contains_itself (landed_changes s)) i.change (subst (Has (landed_changes s)) same there) in
+        let f = any_from (λ (l : Landing). l.change == i.change) q.landings e in
+        let there = to_map (λ (l : Landing). l.change) (flat_map (λ (o : Queue). o.landings) s.queues) f.0 (to_flat (λ (o : Queue). o.landings) s.queues q f.0 m f.1) in
+        let same : f.0.change ≡ i.change = eqb-true f.0.change i.change f.2 in
+        let listed = every (Contains (landed_changes s)) (landed_changes s) (All-contains_itself (landed_changes s)) i.change (subst (λ y. In y (landed_changes s)) same there) in
         absurd (true≢false (sym ((h.landed_are_landings i.change).1 listed) ∙ item_open c s h q m i mi))
 
 pub not_landed_places : (c : Settings) (s : State) (q : Queue) (n : ℕ) (is : List Item) → list_any (λ l. l.change == n) q.landings ≡ false → NotLanded n (map (place_of c s q) is)
@@ -241,24 +232,24 @@ not_landed_places c s q n [] h = tt
 not_landed_places c s q n (i ∷ is) h = (h, not_landed_places c s q n is h)
 
 -- a build of an item of the queue began on landings that were there
-pub began_there : (c : Settings) (s : State) → IsSound c s → (q : Queue) → Has s.queues q → (i : Item) → Has q.items i → (b : Build) → Has s.builds b → (b.serial == i.serial) ≡ true → nat_le b.after (length q.landings) ≡ true
+pub began_there : (c : Settings) (s : State) → IsSound c s → (q : Queue) → In q s.queues → (i : Item) → In i q.items → (b : Build) → In b s.builds → (b.serial == i.serial) ≡ true → nat_le b.after (length q.landings) ≡ true
 began_there c s h q m i mi b mb e =
-    let own = of_all (λ (x : Build). is_sound_build s x ≡ true) s.builds h.builds_are_sound b mb in
+    let own = every (λ (x : Build). is_sound_build s x ≡ true) s.builds h.builds_are_sound b mb in
     let a = list_all (λ o. list_all (is_of_item b o) o.items) s.queues in
     let l = not (b.live && is_running b.outcome) || list_any (λ o. list_any (λ j. j.serial == b.serial) o.items) s.queues in
     let z = list_all (λ o. not (same_name b.queue o.name) || nat_le b.after (length o.landings)) s.queues in
     let first = and_parts (a && l) z own in
-    let items = of_list_all (λ (o : Queue). list_all (is_of_item b o) o.items) s.queues (and_parts a l first.0).0 q m in
-    let item = of_list_all (is_of_item b q) q.items items i mi in
+    let items = all_from (λ (o : Queue). list_all (is_of_item b o) o.items) s.queues (and_parts a l first.0).0 q m in
+    let item = all_from (is_of_item b q) q.items items i mi in
     let queue : same_name b.queue q.name ≡ true = from_item (same_name b.queue q.name) (same_entries (built_entry b ∷ []) (item_entry i ∷ [])) (ap (λ x. not x || same_name b.queue q.name && same_entries (built_entry b ∷ []) (item_entry i ∷ [])) (sym e) ∙ item) in
-    ap (λ x. not x || nat_le b.after (length q.landings)) (sym queue) ∙ of_list_all (λ (o : Queue). not (same_name b.queue o.name) || nat_le b.after (length o.landings)) s.queues first.1 q m
+    ap (λ x. not x || nat_le b.after (length q.landings)) (sym queue) ∙ all_from (λ (o : Queue). not (same_name b.queue o.name) || nat_le b.after (length o.landings)) s.queues first.1 q m
   where
     from_item : (x y : Bool) → not true || x && y ≡ true → x ≡ true
     from_item true y k = refl
     from_item false y k = absurd (true≢false (sym k))
 
 -- of builds that changed for another item
-pub began_all : (t n : ℕ) (p : Place) (bs cs : List Build) → IsOther t p → Elsewhere t bs cs → ((b : Build) → Has bs b → (b.serial == p.item.serial) ≡ true → nat_le b.after n ≡ true) → list_all (λ b. not (is_live_of p b) || nat_le b.after n) cs ≡ true
+pub began_all : (t n : ℕ) (p : Place) (bs cs : List Build) → IsOther t p → Elsewhere t bs cs → ((b : Build) → In b bs → (b.serial == p.item.serial) ≡ true → nat_le b.after n ≡ true) → list_all (λ b. not (is_live_of p b) || nat_le b.after n) cs ≡ true
 began_all t n p [] [] o h k = refl
 began_all t n p [] (c ∷ cs) o h k = absurd h
 began_all t n p (b ∷ bs) [] o h k = absurd h

@@ -22,7 +22,7 @@ use Rattle.gate_types.specs.SubmitOrder.{Order, shown_order}
 use Rattle.gate_types.specs.Step.{raw_step, left_queue, leave, revised, shrunk_queue, landed_queue, end_build, raw_revision, raw_withdrawn, raw_closed, raw_landed, raw_refused, raw_result}
 use Rattle.gate_types.specs.Lawful.{IsSound}
 use Rattle.gate_laws.specs.Touch.{has_serial, queue_of_change, queue_of_serial, touched_by, settle_touched, settle_one}
-use Rattle.gate_walk.specs.Rescan.{IsAtRest, HasLeft, TakenOut, rows_with, Walks, live_builds_count, start, stored, ahead_at, fails_at, without_row, rows_from, row_seen}
+use Rattle.gate_walk.specs.Rescan.{IsCalm, HasLeft, TakenOut, rows_with, Walks, live_builds_count, start, stored, ahead_at, fails_at, without_row, rows_from, row_seen}
 use Rattle.gate_walk.specs.Kinds.{IsIn}
 use Rattle.gate_walk.specs.Delivery.{build_ended, item_left, item_landed, moved, is_on, touch_of, out_by, standing_rows, swept_of, WalksFrom, TouchedQueueIsWalked, AWalkIsEnough}
 use Rattle.gate_laws.proofs.Members.{In, every, all, to_map, to_right, found, not_found, any_to, all_to, in_contains}
@@ -54,8 +54,8 @@ use Rattle.gate_walk.proofs.Swept.{only_named, items_rise, settled_within}
 
 -- ---- a lawful state is at rest
 
-pub at_rest : (c : Settings) (s : State) → IsIdle c s → IsAtRest c s
-at_rest c s h = record {
+pub calm : (c : Settings) (s : State) → IsIdle c s → IsCalm c s
+calm c s h = record {
   stays = h.stays;
   builds_count = all (λ p. live_builds_count s.builds p ≡ true) (all_places c s)
       (λ p m. all_to (λ b. not (b.live && b.serial == p.item.serial) || counts p b) s.builds
@@ -103,12 +103,12 @@ record WalksAt (c : Settings) (s : State) (d : Delivery) (q : Queue) (i : Item) 
   there : In (moved c d q i) t.queues
   walks : WalksFrom c s t q (moved c d q i) i (touch_of d)
 
-leaves : (c : Settings) (s t : State) (q o : Queue) (is : List Item) (i : Item) (js : List Item) → IsIn c s q is i js → IsAtRest c s → HasLeft c s t q o i (is ++ js) → WalksFrom c s t q o i item_left
+leaves : (c : Settings) (s t : State) (q o : Queue) (is : List Item) (i : Item) (js : List Item) → IsIn c s q is i js → IsCalm c s → HasLeft c s t q o i (is ++ js) → WalksFrom c s t q o i item_left
 leaves c s t q o is i js h rest l = walk_after_leaving c s t h.before h.after q o is js i (floor_of c o) h.sound rest h.queues h.items l
 
 -- ---- deliveries of the item's change
 
-withdrawn_done : (c : Settings) (s : State) (n r : ℕ) (q : Queue) (is : List Item) (i : Item) (js : List Item) → IsIn c s q is i js → IsAtRest c s → i.change == n ≡ true → OnReply s (WalksAt c s (delivery.Withdrawn n r) q i) (raw_withdrawn c s n r)
+withdrawn_done : (c : Settings) (s : State) (n r : ℕ) (q : Queue) (is : List Item) (i : Item) (js : List Item) → IsIn c s q is i js → IsCalm c s → i.change == n ≡ true → OnReply s (WalksAt c s (delivery.Withdrawn n r) q i) (raw_withdrawn c s n r)
 withdrawn_done c s n r q is i js h rest on =
     let mq = queue_in c s q is i js h in
     let mi = item_in c s q is i js h in
@@ -120,7 +120,7 @@ withdrawn_done c s n r q is i js h rest on =
     }))
     (λ away. absurd (true≢false (sym (any_to (λ (x : Queue). has_change x.items n) s.queues q mq (any_to (λ (j : Item). j.change == n) q.items i mi on)) ∙ away)))
 
-closed_done : (c : Settings) (s : State) (n r : ℕ) (q : Queue) (is : List Item) (i : Item) (js : List Item) → IsIn c s q is i js → IsAtRest c s → i.change == n ≡ true → OnReply s (WalksAt c s (delivery.Closed n r) q i) (raw_closed c s n r)
+closed_done : (c : Settings) (s : State) (n r : ℕ) (q : Queue) (is : List Item) (i : Item) (js : List Item) → IsIn c s q is i js → IsCalm c s → i.change == n ≡ true → OnReply s (WalksAt c s (delivery.Closed n r) q i) (raw_closed c s n r)
 closed_done c s n r q is i js h rest on =
     let mq = queue_in c s q is i js h in
     let mi = item_in c s q is i js h in
@@ -131,7 +131,7 @@ closed_done c s n r q is i js h rest on =
       walks = leaves c s (closed_state i.change s) q (left_queue verdict.Closed i.change q) is i js h rest (items_leave.closed c s q is i js h);
     }))
 
-revision_done : (c : Settings) (s : State) (n : ℕ) (name : List ℕ) (r : ℕ) (message : List ℕ) (q : Queue) (is : List Item) (i : Item) (js : List Item) → IsIn c s q is i js → IsAtRest c s → i.change == n ≡ true →
+revision_done : (c : Settings) (s : State) (n : ℕ) (name : List ℕ) (r : ℕ) (message : List ℕ) (q : Queue) (is : List Item) (i : Item) (js : List Item) → IsIn c s q is i js → IsCalm c s → i.change == n ≡ true →
     OnReply s (WalksAt c s (delivery.Revision n name r message) q i) (raw_revision c s n name r message)
 revision_done c s n name r message q is i js h rest on =
     let mq = queue_in c s q is i js h in
@@ -146,7 +146,7 @@ revision_done c s n name r message q is i js h rest on =
 
 -- ---- answers to the item's order
 
-refused_done : (c : Settings) (s : State) (n : ℕ) (q : Queue) (is : List Item) (i : Item) (js : List Item) → IsIn c s q is i js → IsAtRest c s → i.serial == n ≡ true → OnReply s (WalksAt c s (delivery.Refused n) q i) (raw_refused c s n)
+refused_done : (c : Settings) (s : State) (n : ℕ) (q : Queue) (is : List Item) (i : Item) (js : List Item) → IsIn c s q is i js → IsCalm c s → i.serial == n ≡ true → OnReply s (WalksAt c s (delivery.Refused n) q i) (raw_refused c s n)
 refused_done c s n q is i js h rest on =
     let mq = queue_in c s q is i js h in
     let mi = item_in c s q is i js h in
@@ -165,7 +165,7 @@ none_ahead c s q (j ∷ js) h =
     ap (λ t. ahead_after s.builds (cond t [] (j ∷ [])) (map (place_of c s q) js)) (h j (inl refl)) ∙ none_ahead c s q js (λ x m. h x (inr m))
 
 -- the item of a shown order is the first that isn't failing, by its row
-first_row : (c : Settings) (s : State) (n : ℕ) (q : Queue) (is : List Item) (i : Item) (js : List Item) → IsIn c s q is i js → IsAtRest c s → shown_order c s n ≡ Some (record { queue = q; item = i }) →
+first_row : (c : Settings) (s : State) (n : ℕ) (q : Queue) (is : List Item) (i : Item) (js : List Item) → IsIn c s q is i js → IsCalm c s → shown_order c s n ≡ Some (record { queue = q; item = i }) →
     (ahead_at i.serial (stored c s q) ≡ None) × (fails_at i.serial (stored c s q) ≡ false)
 first_row c s n q is i js h rest e =
     let x = shows c s n (record { queue = q; item = i }) e in
@@ -191,7 +191,7 @@ at_first c s t q o i first passes h =
     cast (λ k. let out : TakenOut = record { change = i.change; failing = sym passes k; landed = true } in
     Walks (floor_of c o) o left t.builds (map (place_of c t o) o.items) (start (Some out) (sym first k) (length o.reports) o.window) (row_seen c t left) (rows_from i.serial left)) h
 
-landed_done : (c : Settings) (s : State) (n : ℕ) (q : Queue) (is : List Item) (i : Item) (js : List Item) → IsIn c s q is i js → IsAtRest c s → i.serial == n ≡ true → OnReply s (WalksAt c s (delivery.Landed n) q i) (raw_landed c s n)
+landed_done : (c : Settings) (s : State) (n : ℕ) (q : Queue) (is : List Item) (i : Item) (js : List Item) → IsIn c s q is i js → IsCalm c s → i.serial == n ≡ true → OnReply s (WalksAt c s (delivery.Landed n) q i) (raw_landed c s n)
 landed_done c s n q is i js h rest on =
     let mq = queue_in c s q is i js h in
     let mi = item_in c s q is i js h in
@@ -217,7 +217,7 @@ landed_done c s n q is i js h rest on =
 
 -- ---- the end of a build of the item
 
-result_done : (c : Settings) (s : State) (n : ℕ) (e : Ending) (q : Queue) (is : List Item) (i : Item) (js : List Item) → IsIn c s q is i js → IsAtRest c s → is_on s (delivery.Result n e) i ≡ true → OnReply s (WalksAt c s (delivery.Result n e) q i) (raw_result s n e)
+result_done : (c : Settings) (s : State) (n : ℕ) (e : Ending) (q : Queue) (is : List Item) (i : Item) (js : List Item) → IsIn c s q is i js → IsCalm c s → is_on s (delivery.Result n e) i ≡ true → OnReply s (WalksAt c s (delivery.Result n e) q i) (raw_result s n e)
 result_done c s n e q is i js h rest on =
     let mq = queue_in c s q is i js h in
     let mi = item_in c s q is i js h in
@@ -234,7 +234,7 @@ result_done c s n e q is i js h rest on =
 
 -- ---- all of them
 
-each_done : (c : Settings) (s : State) (d : Delivery) (q : Queue) (is : List Item) (i : Item) (js : List Item) → IsIn c s q is i js → IsAtRest c s → is_on s d i ≡ true → OnReply s (WalksAt c s d q i) (raw_step c s d)
+each_done : (c : Settings) (s : State) (d : Delivery) (q : Queue) (is : List Item) (i : Item) (js : List Item) → IsIn c s q is i js → IsCalm c s → is_on s d i ≡ true → OnReply s (WalksAt c s d q i) (raw_step c s d)
 each_done c s (delivery.Revision n name r message) q is i js h rest on = revision_done c s n name r message q is i js h rest on
 each_done c s (delivery.Approved n r) q is i js h rest on = absurd (true≢false (sym on))
 each_done c s (delivery.Withdrawn n r) q is i js h rest on = withdrawn_done c s n r q is i js h rest on
@@ -257,7 +257,7 @@ moved_name c (delivery.Result n e) q i = refl
 pub touched_queue_is_walked : TouchedQueueIsWalked
 touched_queue_is_walked c s d r t qs q rs is i js w lawful e eq ei on =
     let h : IsIn c s q is i js = record { sound = lawful.sound; before = qs; after = rs; queues = eq; items = ei } in
-    elim (on_reply s (WalksAt c s d q i) (raw_step c s d) (each_done c s d q is i js h (at_rest c s (idle c s lawful)) on) r t e) [
+    elim (on_reply s (WalksAt c s d q i) (raw_step c s d) (each_done c s d q is i js h (calm c s (idle c s lawful)) on) r t e) [
       | inl same ↦ inl same
       | inr y ↦ inr (
         y.0,

@@ -19,14 +19,14 @@ use Rattle.gate_types.specs.Sweep.{without_runs}
 use Rattle.gate_types.specs.Step.{with_ending}
 use Rattle.gate_types.specs.Lawful.{live_builds_of, is_single}
 use Rattle.std.proofs.lemmas.List.Sums.{sum_by-cons}
-use Rattle.gate_walk.proofs.Has.{Has, has_filter}
+use Rattle.gate_laws.proofs.Members.{In, to_filter}
 use Rattle.gate_queue.proofs.Ordered.{RiseFrom, build_number}
 use Rattle.gate_walk.proofs.Slots.{is_live_of, all_count}
 use Rattle.gate_walk.proofs.Moved.{Elsewhere}
 
 -- ---- builds that a function changes
 
-pub else_map : (t : ℕ) (f : Build → Build) (bs : List Build) → ((b : Build) → (f b).serial ≡ b.serial) → ((b : Build) → Has bs b → (b.serial == t) ≡ false → f b ≡ b) → Elsewhere t bs (map f bs)
+pub else_map : (t : ℕ) (f : Build → Build) (bs : List Build) → ((b : Build) → (f b).serial ≡ b.serial) → ((b : Build) → In b bs → (b.serial == t) ≡ false → f b ≡ b) → Elsewhere t bs (map f bs)
 else_map t f [] hs h = tt
 else_map t f (b ∷ bs) hs h = (hs b, h b (inl refl), else_map t f bs hs (λ x m. h x (inr m)))
 
@@ -71,27 +71,27 @@ ended_number e n b = at (b.number == n)
     at true = refl
     at false = refl
 
-number_above : (n : ℕ) (bs : List Build) (b : Build) → RiseFrom build_number n bs → Has bs b → n ≤ b.number
+number_above : (n : ℕ) (bs : List Build) (b : Build) → RiseFrom build_number n bs → In b bs → n ≤ b.number
 number_above n [] b r m = absurd m
 number_above n (x ∷ xs) b r m =
     ⊎_elim (λ (e : x ≡ b). subst (λ (y : Build). n ≤ y.number) e r.0)
-    (λ (h : Has xs b). let i : suc x.number ≤ b.number = number_above (suc x.number) xs b r.1 h in let j : n ≤ x.number = r.0 in omega arith) m
+    (λ (h : In b xs). let i : suc x.number ≤ b.number = number_above (suc x.number) xs b r.1 h in let j : n ≤ x.number = r.0 in omega arith) m
 
 -- a number is one build's
-pub one_number : (n : ℕ) (bs : List Build) (a b : Build) → RiseFrom build_number n bs → Has bs a → Has bs b → a.number ≡ b.number → a ≡ b
+pub one_number : (n : ℕ) (bs : List Build) (a b : Build) → RiseFrom build_number n bs → In a bs → In b bs → a.number ≡ b.number → a ≡ b
 one_number n [] a b r ma mb e = absurd ma
 one_number n (x ∷ xs) a b r ma mb e =
     ⊎_elim
     (λ (ea : x ≡ a). ⊎_elim (λ (eb : x ≡ b). sym ea ∙ eb)
-    (λ (hb : Has xs b). let up : suc x.number ≤ b.number = number_above (suc x.number) xs b r.1 hb in let same : x.number ≡ a.number = ap (λ (y : Build). y.number) ea in absurd (omega (arith, e))) mb)
-    (λ (ha : Has xs a). ⊎_elim
+    (λ (hb : In b xs). let up : suc x.number ≤ b.number = number_above (suc x.number) xs b r.1 hb in let same : x.number ≡ a.number = ap (λ (y : Build). y.number) ea in absurd (omega (arith, e))) mb)
+    (λ (ha : In a xs). ⊎_elim
     (λ (eb : x ≡ b). let up : suc x.number ≤ a.number = number_above (suc x.number) xs a r.1 ha in let same : x.number ≡ b.number = ap (λ (y : Build). y.number) eb in absurd (omega (arith, e)))
-    (λ (hb : Has xs b). one_number (suc x.number) xs a b r.1 ha hb e) mb) ma
+    (λ (hb : In b xs). one_number (suc x.number) xs a b r.1 ha hb e) mb) ma
 
-pub ended_elsewhere : (e : Ending) (b : Build) (t : ℕ) (bs : List Build) → RiseFrom build_number 0 bs → Has bs b → b.serial ≡ t → Elsewhere t bs (map (ended e b.number) bs)
+pub ended_elsewhere : (e : Ending) (b : Build) (t : ℕ) (bs : List Build) → RiseFrom build_number 0 bs → In b bs → b.serial ≡ t → Elsewhere t bs (map (ended e b.number) bs)
 ended_elsewhere e b t bs r mb s = else_map t (ended e b.number) bs (ended_serial e b.number) (λ x mx o. at x mx o (x.number == b.number) refl)
   where
-    at : (x : Build) → Has bs x → (x.serial == t) ≡ false → (y : Bool) → (x.number == b.number) ≡ y → cond (x.number == b.number) (with_ending e x) x ≡ x
+    at : (x : Build) → In x bs → (x.serial == t) ≡ false → (y : Bool) → (x.number == b.number) ≡ y → cond (x.number == b.number) (with_ending e x) x ≡ x
     at x mx o false k = ap (λ y. cond y (with_ending e x) x) k
     at x mx o true k =
         let same = one_number 0 bs x b r mx mb (eqb-true x.number b.number k) in
@@ -122,11 +122,11 @@ ended_count e n p (b ∷ bs) = λ k. (not (ended_live e n p b k) || ended_counts
 -- ---- a job that fails has no running build
 
 -- a live build counts
-live_counts : (p : Place) (bs : List Build) (b : Build) → all_count bs p ≡ true → Has bs b → is_live_of p b ≡ true → counts p b ≡ true
+live_counts : (p : Place) (bs : List Build) (b : Build) → all_count bs p ≡ true → In b bs → is_live_of p b ≡ true → counts p b ≡ true
 live_counts p [] b h m l = absurd m
 live_counts p (x ∷ xs) b h m l =
     let both = and_parts (not (is_live_of p x) || counts p x) (all_count xs p) h in
-    ⊎_elim (λ (e : x ≡ b). ap (λ t. not t || counts p b) (sym l) ∙ subst (λ (y : Build). not (is_live_of p y) || counts p y ≡ true) e both.0) (λ (r : Has xs b). live_counts p xs b both.1 r l) m
+    ⊎_elim (λ (e : x ≡ b). ap (λ t. not t || counts p b) (sym l) ∙ subst (λ (y : Build). not (is_live_of p y) || counts p y ≡ true) e both.0) (λ (r : In b xs). live_counts p xs b both.1 r l) m
 
 counts_all : (l s n q : Bool) → not (l && s) || l && s && n && q ≡ true → l && s && n && q ≡ (l && s)
 counts_all true true n q h = h
@@ -243,32 +243,32 @@ length_outcomes : (bs : List Build) → length (map (λ (b : Build). b.outcome) 
 length_outcomes [] = refl
 length_outcomes (b ∷ bs) = ap suc (length_outcomes bs)
 
-has_running : (bs : List Build) (b : Build) → Has bs b → is_running b.outcome ≡ true → list_any is_running (map (λ (x : Build). x.outcome) bs) ≡ true
+has_running : (bs : List Build) (b : Build) → In b bs → is_running b.outcome ≡ true → list_any is_running (map (λ (x : Build). x.outcome) bs) ≡ true
 has_running [] b m e = absurd m
 has_running (x ∷ xs) b m e =
     ⊎_elim (λ (s : x ≡ b). ap (λ t. t || list_any is_running (map (λ (y : Build). y.outcome) xs)) (ap (λ (y : Build). is_running y.outcome) s ∙ e))
-    (λ (r : Has xs b). ap (λ t. is_running x.outcome || t) (has_running xs b r e) ∙ on (is_running x.outcome)) m
+    (λ (r : In b xs). ap (λ t. is_running x.outcome || t) (has_running xs b r e) ∙ on (is_running x.outcome)) m
   where
     on : (t : Bool) → t || true ≡ true
     on true = refl
     on false = refl
 
 -- the job of a running build hasn't failed
-running_job : (s : State) (p : Place) (j : Job) (b : Build) → all_count s.builds p ≡ true → is_single s p j ≡ true → Has s.builds b → b.live && is_running b.outcome ≡ true → b.serial ≡ p.item.serial → same_name b.job j.name ≡ true →
+running_job : (s : State) (p : Place) (j : Job) (b : Build) → all_count s.builds p ≡ true → is_single s p j ≡ true → In b s.builds → b.live && is_running b.outcome ≡ true → b.serial ≡ p.item.serial → same_name b.job j.name ≡ true →
     is_failed_slot (slot_of s.builds p j) ≡ false
 running_job s p j b h single mb run own name =
     let parts = and_parts (nat_le (length (live_builds_of s p j)) 3) (nat_le (count_by (λ x. not (is_lost x.outcome)) (live_builds_of s p j)) 1) single in
     let same : outcomes_of s.builds p j ≡ map (λ (x : Build). x.outcome) (live_builds_of s p j) = ap (λ (l : List Build). map (λ (x : Build). x.outcome) l) (same_builds p j s.builds h) in
     let os = map (λ (x : Build). x.outcome) (live_builds_of s p j) in
     let both = and_parts b.live (is_running b.outcome) run in
-    let there : Has (live_builds_of s p j) b = has_filter (λ x. x.live && x.serial == p.item.serial && same_name x.job j.name) s.builds b mb (λ k. both.0 k && eq-eqb b.serial p.item.serial own k && name k) in
+    let there : In b (live_builds_of s p j) = to_filter (λ x. x.live && x.serial == p.item.serial && same_name x.job j.name) s.builds b mb (λ k. both.0 k && eq-eqb b.serial p.item.serial own k && name k) in
     let three : length (live_builds_of s p j) ≤ 3 = leb-true (length (live_builds_of s p j)) 3 parts.0 in
     let one : count_by (λ (x : Build). not (is_lost x.outcome)) (live_builds_of s p j) ≤ 1 = leb-true (count_by (λ x. not (is_lost x.outcome)) (live_builds_of s p j)) 1 parts.1 in
     ap (λ (l : List Outcome). is_failed_slot (slot_of_outcomes l)) same
     ∙ not_failed os (subst (λ m. m ≤ 3) (sym (length_outcomes (live_builds_of s p j))) three) (subst (λ m. m ≤ 1) (count_outcomes (live_builds_of s p j)) one) (has_running (live_builds_of s p j) b there both.1)
 
 -- of another job nothing changes
-other_job : (e : Ending) (b : Build) (p : Place) (j : Job) (all bs : List Build) → RiseFrom build_number 0 all → Has all b → ((x : Build) → Has bs x → Has all x) → same_name b.job j.name ≡ false → outcomes_of (map (ended e b.number) bs) p j ≡ outcomes_of bs p j
+other_job : (e : Ending) (b : Build) (p : Place) (j : Job) (all bs : List Build) → RiseFrom build_number 0 all → In b all → ((x : Build) → In x bs → In x all) → same_name b.job j.name ≡ false → outcomes_of (map (ended e b.number) bs) p j ≡ outcomes_of bs p j
 other_job e b p j all [] r mb sub o = refl
 other_job e b p j all (x ∷ xs) r mb sub o = at (x.number == b.number) refl (other_job e b p j all xs r mb (λ y m. sub y (inr m)) o)
   where
@@ -294,7 +294,7 @@ other_job e b p j all (x ∷ xs) r mb sub o = at (x.number == b.number) refl (ot
         ∙ sym (push (same_name x.job j.name && counts p x) x (filter (λ y. same_name y.job j.name && counts p y) xs))
 
 -- a failing item that has a running build is failing still when that ends
-pub ended_fails : (s : State) (p : Place) (b : Build) (e : Ending) → RiseFrom build_number 0 s.builds → all_count s.builds p ≡ true → ((j : Job) → Has p.jobs j → is_single s p j ≡ true) → Has s.builds b → b.live && is_running b.outcome ≡ true → b.serial ≡ p.item.serial →
+pub ended_fails : (s : State) (p : Place) (b : Build) (e : Ending) → RiseFrom build_number 0 s.builds → all_count s.builds p ≡ true → ((j : Job) → In j p.jobs → is_single s p j ≡ true) → In b s.builds → b.live && is_running b.outcome ≡ true → b.serial ≡ p.item.serial →
     is_failing s.builds p ≡ true → is_failing (map (ended e b.number) s.builds) p ≡ true
 ended_fails s p b e r h single mb run own f =
     ⊎_elim (λ (x : is_blocked p ≡ true). ap (λ t. t || list_any (λ j. j.voting && is_failed_slot (slot_of (map (ended e b.number) s.builds) p j)) p.jobs) x)
@@ -320,7 +320,7 @@ ended_fails s p b e r h single mb run own f =
         by_name true n = absurd (true≢false (sym k ∙ running_job s p j b h sj mb run own n))
         by_name false n = ap (λ (l : List Outcome). is_failed_slot (slot_of_outcomes l)) (other_job e b p j s.builds s.builds r mb (λ x m. m) n) ∙ k
 
-    each : (js : List Job) → ((j : Job) → Has js j → is_single s p j ≡ true) → list_any (λ j. j.voting && is_failed_slot (slot_of s.builds p j)) js ≡ true → list_any (λ j. j.voting && is_failed_slot (slot_of (map (ended e b.number) s.builds) p j)) js ≡ true
+    each : (js : List Job) → ((j : Job) → In j js → is_single s p j ≡ true) → list_any (λ j. j.voting && is_failed_slot (slot_of s.builds p j)) js ≡ true → list_any (λ j. j.voting && is_failed_slot (slot_of (map (ended e b.number) s.builds) p j)) js ≡ true
     each [] sj k = absurd (true≢false (sym k))
     each (j ∷ js) sj k =
         ⊎_elim (λ (x : j.voting && is_failed_slot (slot_of s.builds p j) ≡ true). ap (λ t. t || list_any (λ i. i.voting && is_failed_slot (slot_of (map (ended e b.number) s.builds) p i)) js) (and_two j.voting (is_failed_slot (slot_of s.builds p j)) (is_failed_slot (slot_of (map (ended e b.number) s.builds) p j)) x (job j (sj j (inl refl)))))

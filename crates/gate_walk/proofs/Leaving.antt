@@ -1,6 +1,6 @@
 -- What a delivery that takes an item out leaves of its queue.
 use Rattle.std.proofs.Common.{◌≡◌, ℕ, Bool, true, false, not, ◌&&◌, ◌||◌, cond, Option, Some, List, [], ◌∷◌, ◌++◌, map, inl, inr, ⊎_elim, refl, sym, ap, ◌∙◌, subst, true≢false}
-use Rattle.std.specs.Prelude.{◌==◌, nat_lt, filter, find, flat_map, unwrap_or}
+use Rattle.std.specs.Prelude.{◌==◌, nat_lt, filter, find, unwrap_or}
 use Rattle.std.specs.List.{list_any}
 use Rattle.std.proofs.lemmas.Bool.{and_parts, eqb-true, eq-eqb}
 use Rattle.gate_types.specs.declared.records.Change.{Change}
@@ -10,45 +10,46 @@ use Rattle.gate_types.specs.declared.records.Stage.TheVariants as stage
 use Rattle.gate_types.specs.declared.records.Verdict.TheVariants as verdict
 use Rattle.gate_types.specs.Names.{same_name}
 use Rattle.gate_types.specs.Settings.{Settings}
-use Rattle.gate_types.specs.declared.records.Ready.{Ready}
 use Rattle.gate_types.specs.State.{Item, Queue, State, put_by, put_change, has_change, change_of, is_open, is_landed}
 use Rattle.gate_types.specs.Line.{Place}
 use Rattle.gate_types.specs.Standing.{place_of}
 use Rattle.gate_types.specs.Sweep.{without_runs}
 use Rattle.gate_types.specs.Step.{left_queue, with_stage, landed_queue}
-use Rattle.gate_types.specs.Lawful.{IsSound, waiting_changes}
+use Rattle.gate_types.specs.Lawful.{IsSound}
 use Rattle.gate_walk.specs.Rescan.{need_behind, place_behind}
 use Rattle.gate_walk.specs.Kinds.{IsIn, ItemsLeave}
-use Rattle.gate_walk.proofs.Has.{Has, found, any_of, has_map, has_right, Once, once, once_left, one_list}
-use Rattle.gate_walk.proofs.Calm.{items_once, item_open, map_flat}
+use Rattle.gate_laws.proofs.Touches.{changes_apart}
+use Rattle.gate_laws.proofs.Members.{In, any_from, any_to, to_map, to_right}
+use Rattle.gate_walk.proofs.Once.{Once}
+use Rattle.gate_walk.proofs.Calm.{items_once, item_open}
 
 -- ---- items of one change
 
-one_item : (xs : List Item) (a b : Item) → Once (map (λ (i : Item). i.change) xs) → Has xs a → Has xs b → a.change ≡ b.change → a ≡ b
+one_item : (xs : List Item) (a b : Item) → Once (map (λ (i : Item). i.change) xs) → In a xs → In b xs → a.change ≡ b.change → a ≡ b
 one_item [] a b o ma mb e = absurd ma
 one_item (x ∷ xs) a b o ma mb e =
     ⊎_elim
     (λ (ea : x ≡ a). ⊎_elim (λ (eb : x ≡ b). sym ea ∙ eb)
-    (λ (rb : Has xs b). absurd (o.0 (subst (Has (map (λ (i : Item). i.change) xs)) (sym (ap (λ (i : Item). i.change) ea ∙ e)) (has_map (λ (i : Item). i.change) xs b rb)))) mb)
-    (λ (ra : Has xs a). ⊎_elim
-    (λ (eb : x ≡ b). absurd (o.0 (subst (Has (map (λ (i : Item). i.change) xs)) (e ∙ sym (ap (λ (i : Item). i.change) eb)) (has_map (λ (i : Item). i.change) xs a ra))))
-    (λ (rb : Has xs b). one_item xs a b o.1 ra rb e) mb) ma
+    (λ (rb : In b xs). absurd (o.0 (subst (λ y. In y (map (λ (i : Item). i.change) xs)) (sym (ap (λ (i : Item). i.change) ea ∙ e)) (to_map (λ (i : Item). i.change) xs b rb)))) mb)
+    (λ (ra : In a xs). ⊎_elim
+    (λ (eb : x ≡ b). absurd (o.0 (subst (λ y. In y (map (λ (i : Item). i.change) xs)) (e ∙ sym (ap (λ (i : Item). i.change) eb)) (to_map (λ (i : Item). i.change) xs a ra))))
+    (λ (rb : In b xs). one_item xs a b o.1 ra rb e) mb) ma
 
 -- no other item is of its change
-others_differ : (is js : List Item) (i j : Item) → Once (map (λ (x : Item). x.change) (is ++ i ∷ js)) → Has (is ++ js) j → (i.change == j.change) ≡ false
+others_differ : (is js : List Item) (i j : Item) → Once (map (λ (x : Item). x.change) (is ++ i ∷ js)) → In j (is ++ js) → (i.change == j.change) ≡ false
 others_differ [] js i j o m = at (i.change == j.change) refl
   where
     at : (t : Bool) → (i.change == j.change) ≡ t → (i.change == j.change) ≡ false
     at false e = e
-    at true e = absurd (o.0 (subst (Has (map (λ (x : Item). x.change) js)) (sym (eqb-true i.change j.change e)) (has_map (λ (x : Item). x.change) js j m)))
+    at true e = absurd (o.0 (subst (λ y. In y (map (λ (x : Item). x.change) js)) (sym (eqb-true i.change j.change e)) (to_map (λ (x : Item). x.change) js j m)))
 others_differ (x ∷ is) js i j o m =
-    ⊎_elim (λ (e : x ≡ j). at (i.change == j.change) refl e) (λ (r : Has (is ++ js) j). others_differ is js i j o.1 r) m
+    ⊎_elim (λ (e : x ≡ j). at (i.change == j.change) refl e) (λ (r : In j (is ++ js)). others_differ is js i j o.1 r) m
   where
     at : (t : Bool) → (i.change == j.change) ≡ t → x ≡ j → (i.change == j.change) ≡ false
     at false e s = e
-    at true e s = absurd (o.0 (subst (Has (map (λ (y : Item). y.change) (is ++ i ∷ js))) (eqb-true i.change j.change e ∙ ap (λ (y : Item). y.change) (sym s)) (has_map (λ (y : Item). y.change) (is ++ i ∷ js) i (has_right is (i ∷ js) i (inl refl)))))
+    at true e s = absurd (o.0 (subst (λ y. In y (map (λ (y : Item). y.change) (is ++ i ∷ js))) (eqb-true i.change j.change e ∙ ap (λ (y : Item). y.change) (sym s)) (to_map (λ (y : Item). y.change) (is ++ i ∷ js) i (to_right is (i ∷ js) i (inl refl)))))
 
-stay_all : (n : ℕ) (xs : List Item) → ((j : Item) → Has xs j → (n == j.change) ≡ false) → filter (λ j. not (j.change == n)) xs ≡ xs
+stay_all : (n : ℕ) (xs : List Item) → ((j : Item) → In j xs → (n == j.change) ≡ false) → filter (λ j. not (j.change == n)) xs ≡ xs
 stay_all n [] h = refl
 stay_all n (x ∷ xs) h = λ k. cond (not (flip (x.change == n) refl k)) (x ∷ stay_all n xs (λ j m. h j (inr m)) k) (stay_all n xs (λ j m. h j (inr m)) k)
   where
@@ -56,7 +57,7 @@ stay_all n (x ∷ xs) h = λ k. cond (not (flip (x.change == n) refl k)) (x ∷ 
     flip false e = e
     flip true e = absurd (true≢false (sym (eq-eqb n x.change (sym (eqb-true x.change n e))) ∙ h x (inl refl)))
 
-left_items : (n : ℕ) (is js : List Item) (i : Item) → i.change ≡ n → ((j : Item) → Has (is ++ js) j → (n == j.change) ≡ false) → filter (λ j. not (j.change == n)) (is ++ i ∷ js) ≡ is ++ js
+left_items : (n : ℕ) (is js : List Item) (i : Item) → i.change ≡ n → ((j : Item) → In j (is ++ js) → (n == j.change) ≡ false) → filter (λ j. not (j.change == n)) (is ++ i ∷ js) ≡ is ++ js
 left_items n [] js i e h = ap (λ t. cond (not t) (i ∷ filter (λ j. not (j.change == n)) js) (filter (λ j. not (j.change == n)) js)) (eq-eqb i.change n e) ∙ stay_all n js h
 left_items n (x ∷ is) js i e h = λ k. cond (not (flip (x.change == n) refl k)) (x ∷ left_items n is js i e (λ j m. h j (inr m)) k) (left_items n is js i e (λ j m. h j (inr m)) k)
   where
@@ -66,41 +67,29 @@ left_items n (x ∷ is) js i e h = λ k. cond (not (flip (x.change == n) refl k)
 
 -- ---- the builds of its serial
 
-changes_apart : (c : Settings) (s : State) → IsSound c s → (n : ℕ) (q o : Queue) → Has s.queues q → Has s.queues o → has_change q.items n ≡ true → has_change o.items n ≡ true → q ≡ o
-changes_apart c s h n q o mq mo hq ho =
-    one_list (λ (x : Queue). map (λ (i : Item). i.change) x.items) s.queues
-    (subst Once (map_flat (λ (i : Item). i.change) (λ (x : Queue). x.items) s.queues)
-    (once_left (map (λ (i : Item). i.change) (flat_map (λ (x : Queue). x.items) s.queues)) (map (λ (r : Ready). r.change) s.ready) (once (waiting_changes s) h.waiting_differ)))
-    n q o mq mo (inside q hq) (inside o ho)
-  where
-    inside : (x : Queue) → has_change x.items n ≡ true → Has (map (λ (i : Item). i.change) x.items) n
-    inside x e =
-        let f = found (λ (i : Item). i.change == n) x.items e in
-        subst (Has (map (λ (i : Item). i.change) x.items)) (eqb-true f.it.change n f.passes) (has_map (λ (i : Item). i.change) x.items f.it f.there)
-
 abbrev leaves : State → ℕ → ℕ → Bool
 leaves s n serial = list_any (λ q. list_any (λ i. i.change == n && i.serial == serial) q.items) s.queues
 
-one_leaves : (c : Settings) (s : State) → IsSound c s → (q : Queue) (i : Item) (n : ℕ) → Has s.queues q → Has q.items i → i.change ≡ n → (m : ℕ) → leaves s n m ≡ (m == i.serial)
+one_leaves : (c : Settings) (s : State) → IsSound c s → (q : Queue) (i : Item) (n : ℕ) → In q s.queues → In i q.items → i.change ≡ n → (m : ℕ) → leaves s n m ≡ (m == i.serial)
 one_leaves c s sound q i n mq mi e m = at (leaves s n m) (m == i.serial) refl refl
   where
     own : has_change q.items n ≡ true
-    own = any_of (λ (j : Item). j.change == n) q.items i mi (eq-eqb i.change n e)
+    own = any_to (λ (j : Item). j.change == n) q.items i mi (eq-eqb i.change n e)
 
     at : (x y : Bool) → leaves s n m ≡ x → (m == i.serial) ≡ y → leaves s n m ≡ (m == i.serial)
     at true y ex ey =
-        let fq = found (λ (o : Queue). list_any (λ j. j.change == n && j.serial == m) o.items) s.queues ex in
-        let fi = found (λ (j : Item). j.change == n && j.serial == m) fq.it.items fq.passes in
-        let both = and_parts (fi.it.change == n) (fi.it.serial == m) fi.passes in
-        let same = changes_apart c s sound n fq.it q fq.there mq (any_of (λ (j : Item). j.change == n) fq.it.items fi.it fi.there both.0) own in
-        let it = one_item q.items fi.it i (items_once c s sound q mq) (subst (λ (o : Queue). Has o.items fi.it) same fi.there) mi (eqb-true fi.it.change n both.0 ∙ sym e) in
-        ex ∙ sym (eq-eqb m i.serial (sym (eqb-true fi.it.serial m both.1) ∙ ap (λ (j : Item). j.serial) it))
+        let fq = any_from (λ (o : Queue). list_any (λ j. j.change == n && j.serial == m) o.items) s.queues ex in
+        let fi = any_from (λ (j : Item). j.change == n && j.serial == m) fq.0.items fq.2 in
+        let both = and_parts (fi.0.change == n) (fi.0.serial == m) fi.2 in
+        let same = changes_apart c s sound n fq.0 q fq.1 mq (any_to (λ (j : Item). j.change == n) fq.0.items fi.0 fi.1 both.0) own in
+        let it = one_item q.items fi.0 i (items_once c s sound q mq) (subst (λ (o : Queue). In fi.0 o.items) same fi.1) mi (eqb-true fi.0.change n both.0 ∙ sym e) in
+        ex ∙ sym (eq-eqb m i.serial (sym (eqb-true fi.0.serial m both.1) ∙ ap (λ (j : Item). j.serial) it))
     at false true ex ey =
-        absurd (true≢false (sym (any_of (λ (o : Queue). list_any (λ j. j.change == n && j.serial == m) o.items) s.queues q mq
-        (any_of (λ (j : Item). j.change == n && j.serial == m) q.items i mi (λ k. eq-eqb i.change n e k && eq-eqb i.serial m (sym (eqb-true m i.serial ey)) k))) ∙ ex))
+        absurd (true≢false (sym (any_to (λ (o : Queue). list_any (λ j. j.change == n && j.serial == m) o.items) s.queues q mq
+        (any_to (λ (j : Item). j.change == n && j.serial == m) q.items i mi (λ k. eq-eqb i.change n e k && eq-eqb i.serial m (sym (eqb-true m i.serial ey)) k))) ∙ ex))
     at false false ex ey = ex ∙ sym ey
 
-stopped : (c : Settings) (s : State) → IsSound c s → (q : Queue) (i : Item) (n : ℕ) → Has s.queues q → Has q.items i → i.change ≡ n → without_runs (leaves s n) s.builds ≡ without_runs (λ m. m == i.serial) s.builds
+stopped : (c : Settings) (s : State) → IsSound c s → (q : Queue) (i : Item) (n : ℕ) → In q s.queues → In i q.items → i.change ≡ n → without_runs (leaves s n) s.builds ≡ without_runs (λ m. m == i.serial) s.builds
 stopped c s sound q i n mq mi e = ap (λ (f : ℕ → Bool). without_runs f s.builds) (λ k m. one_leaves c s sound q i n mq mi e m k)
 
 -- ---- a change put in place of another
@@ -202,7 +191,7 @@ landed_other c s k q o i j en lk eo d =
     needs [] = refl
     needs (m ∷ ms) = λ x. (let one : Need = record { change = m; landed = flag m (k.number == m) refl x } in one) ∷ needs ms x
 
-each : {X : Type 0} (f g : Item → X) (xs : List Item) → ((j : Item) → Has xs j → f j ≡ g j) → map f xs ≡ map g xs
+each : {X : Type 0} (f g : Item → X) (xs : List Item) → ((j : Item) → In j xs → f j ≡ g j) → map f xs ≡ map g xs
 each f g [] h = refl
 each f g (x ∷ xs) h = λ k. h x (inl refl) k ∷ each f g xs (λ j m. h j (inr m)) k
 
@@ -216,15 +205,15 @@ map_twice f g (x ∷ xs) = ap (λ l. f (g x) ∷ l) (map_twice f g xs)
 record Gone (c : Settings) (s : State) (q : Queue) (is js : List Item) (i : Item) : Type 0 where
   items : filter (λ j. not (j.change == i.change)) q.items ≡ is ++ js
   builds : without_runs (leaves s i.change) s.builds ≡ without_runs (λ n. n == i.serial) s.builds
-  differ : (j : Item) → Has (is ++ js) j → (i.change == j.change) ≡ false
+  differ : (j : Item) → In j (is ++ js) → (i.change == j.change) ≡ false
   open_before : is_landed (change_of s i.change) ≡ false
 
 gone : (c : Settings) (s : State) (q : Queue) (is : List Item) (i : Item) (js : List Item) → IsIn c s q is i js → Gone c s q is js i
 gone c s q is i js h =
-    let mq : Has s.queues q = subst (λ (l : List Queue). Has l q) (sym h.queues) (has_right h.before (q ∷ h.after) q (inl refl)) in
-    let mi : Has q.items i = subst (λ (l : List Item). Has l i) (sym h.items) (has_right is (i ∷ js) i (inl refl)) in
+    let mq : In q s.queues = subst (λ (l : List Queue). In q l) (sym h.queues) (to_right h.before (q ∷ h.after) q (inl refl)) in
+    let mi : In i q.items = subst (λ (l : List Item). In i l) (sym h.items) (to_right is (i ∷ js) i (inl refl)) in
     let o = subst (λ (l : List Item). Once (map (λ (x : Item). x.change) l)) h.items (items_once c s h.sound q mq) in
-    let differ : (j : Item) → Has (is ++ js) j → (i.change == j.change) ≡ false = λ j m. others_differ is js i j o m in
+    let differ : (j : Item) → In j (is ++ js) → (i.change == j.change) ≡ false = λ j m. others_differ is js i j o m in
     record {
       items = ap (filter (λ j. not (j.change == i.change))) h.items ∙ left_items i.change is js i refl differ;
       builds = stopped c s h.sound q i i.change mq mi refl;

@@ -16,10 +16,14 @@ use Rattle.gate_types.specs.Standing.{is_failing, with_ahead, next_ahead, places
 use Rattle.gate_types.specs.Sweep.{verdict_of, has_failed, judge, next_staying}
 use Rattle.gate_types.specs.Rows.{row_of}
 use Rattle.gate_queue.specs.Edits.{item_edits, edits_at, next_reports, window_behind}
-use Rattle.gate_walk.specs.Walk.{Seen, Mark, Carry, is_gone, needs_gone, slot_among, still_counting, fails, is_out, verdict_by, row_by, window_edits_by, visit_edits, carried}
+use Rattle.gate_walk.specs.Walk.{is_blocked_by, Seen, Mark, Carry, is_gone, needs_gone, slot_among, still_counting, fails, verdict_by, row_by, window_edits_by, visit_edits, carried}
 use Rattle.gate_walk.proofs.Slots.{live_of}
-use Rattle.gate_walk.proofs.Steps.{seen_need, seen, Known, known_visited, known_skipped, blocked_seen, met_seen, other_one, other_in}
+use Rattle.gate_walk.proofs.Steps.{is_done, seen_need, seen, Known, known_visited, known_skipped, blocked_seen, met_seen, other_one, other_in}
 use Rattle.gate_walk.proofs.Resets.{Right, asked, rows_seen, none_parts, none_from, stop_running, QuietAt, Quiet, visits, same}
+
+-- failing, not blocked, first and finished
+abbrev pub is_out : Carry → Seen → Bool
+is_out k v = fails k v && not (is_blocked_by k.marks v.needs) && not (is_some k.ahead) && is_done k v
 
 -- what has gone is no non-failing item's, and each other item before stays
 pub record Followed (gone : List ℕ) (before ahead staying : List Item) : Type 0 where

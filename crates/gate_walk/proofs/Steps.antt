@@ -16,8 +16,12 @@ use Rattle.gate_types.specs.Standing.{is_failing, are_finished, ahead_of}
 use Rattle.gate_types.specs.Sweep.{verdict_of}
 use Rattle.gate_types.specs.Rows.{row_of}
 use Rattle.gate_queue.specs.Edits.{stops, item_edits, edits_at}
-use Rattle.gate_walk.specs.Walk.{SeenNeed, Seen, Mark, Carry, mark_of, is_fine, is_gone, is_blocked_by, are_met_without, still_counting, outcomes_among, fails, is_done, verdict_by, row_by, stopped_by}
+use Rattle.gate_walk.specs.Walk.{slot_among, SeenNeed, Seen, Mark, Carry, mark_of, is_fine, is_gone, is_blocked_by, are_met_without, still_counting, outcomes_among, fails, verdict_by, row_by, stopped_by}
 use Rattle.gate_walk.proofs.Slots.{live_of}
+
+-- whether each of its slots is finished
+abbrev pub is_done : Carry → Seen → Bool
+is_done k v = list_all (λ j. is_finished (slot_among (still_counting k v) j)) v.jobs
 
 -- a need as a visit sees it
 abbrev pub seen_need : (ℕ → Option Bool) → Need → SeenNeed

@@ -17,8 +17,8 @@ use Rattle.gate_types.specs.Rows.{row_of}
 use Rattle.gate_types.specs.Step.{end_build}
 use Rattle.gate_types.specs.Lawful.{IsSound, is_single}
 use Rattle.gate_walk.specs.Walk.{Seen, Carry}
-use Rattle.gate_walk.specs.Rescan.{settled_to, Walks, IsAtRest, standing_in, row_seen, TakenOut, start, stored, without_row, rows_from, ahead_at, fails_at, WalkAfterBuild, WalkAfterLeaving, WalkAfterLanding}
-use Rattle.gate_walk.proofs.Has.{Has, of_all, all_of, has_right, has_left, has_flat}
+use Rattle.gate_walk.specs.Rescan.{settled_to, Walks, IsCalm, standing_in, row_seen, TakenOut, start, stored, without_row, rows_from, ahead_at, fails_at, WalkAfterBuild, WalkAfterLeaving, WalkAfterLanding}
+use Rattle.gate_laws.proofs.Members.{In, every, all, to_right, to_left, to_flat}
 use Rattle.std.proofs.lemmas.List.Elements.{All-contains}
 use Rattle.gate_laws.proofs.Rising.{increasing}
 use Rattle.gate_queue.proofs.Ordered.{RiseFrom, GoWith, row_serial, place_serial, build_number, rises}
@@ -37,23 +37,23 @@ use Rattle.gate_walk.proofs.EndedBuilds.{stops_elsewhere, stops_rise, ended_else
 
 -- a queue of a sound state at rest, parted at one of its items
 pub record Around (c : Settings) (s : State) (q : Queue) (is js : List Item) (i : Item) : Type 0 where
-  pub there : Has s.queues q
-  item : Has q.items i
+  pub there : In q s.queues
+  item : In i q.items
   split : map (place_of c s q) q.items ≡ map (place_of c s q) is ++ place_of c s q i ∷ map (place_of c s q) js
   quiet : Quiet (standing_in (stored c s q)) s.builds [] [] (map (place_of c s q) is ++ place_of c s q i ∷ map (place_of c s q) js)
   pub rise : RiseFrom place_serial 0 (map (place_of c s q) is ++ place_of c s q i ∷ map (place_of c s q) js)
   pub rows : stored c s q ≡ map (row_of s.builds) (places_after s.builds [] (map (place_of c s q) is ++ place_of c s q i ∷ map (place_of c s q) js))
   numbers : RiseFrom build_number 0 s.builds
-  began : (j : Item) → Has q.items j → (b : Build) → Has s.builds b → (b.serial == j.serial) ≡ true → nat_le b.after (length q.landings) ≡ true
+  began : (j : Item) → In j q.items → (b : Build) → In b s.builds → (b.serial == j.serial) ≡ true → nat_le b.after (length q.landings) ≡ true
 
-pub around : (c : Settings) (s : State) (qs rs : List Queue) (q : Queue) (is js : List Item) (i : Item) → IsSound c s → IsAtRest c s → s.queues ≡ qs ++ q ∷ rs → q.items ≡ is ++ i ∷ js → Around c s q is js i
+pub around : (c : Settings) (s : State) (qs rs : List Queue) (q : Queue) (is js : List Item) (i : Item) → IsSound c s → IsCalm c s → s.queues ≡ qs ++ q ∷ rs → q.items ≡ is ++ i ∷ js → Around c s q is js i
 around c s qs rs q is js i sound rest eq ei =
-    let m : Has s.queues q = subst (λ (l : List Queue). Has l q) (sym eq) (has_right qs (q ∷ rs) q (inl refl)) in
+    let m : In q s.queues = subst (λ (l : List Queue). In q l) (sym eq) (to_right qs (q ∷ rs) q (inl refl)) in
     let split = ap (map (place_of c s q)) ei ∙ map-append (place_of c s q) is (i ∷ js) in
     let rows = stored c s q in
     record {
       there = m;
-      item = subst (λ (l : List Item). Has l i) (sym ei) (has_right is (i ∷ js) i (inl refl));
+      item = subst (λ (l : List Item). In i l) (sym ei) (to_right is (i ∷ js) i (inl refl));
       split = split;
       quiet = subst (Quiet (standing_in rows) s.builds [] []) split (quiet_queue c s sound rest q m (standing_in rows) [] (λ n f. ap (λ l. standing_in l n) (sym (append-nil rows))));
       rise = subst (RiseFrom place_serial 0) split (places_rise_from c s q 0 q.items (items_rise_from c s sound q m));
@@ -131,7 +131,7 @@ walks floor o rows cs ps k see last back h = record {
 
 pub walk_after_leaving : WalkAfterLeaving
 walk_after_leaving c s t qs rs q o is js i floor sound rest eq ei left =
-    let at_rest = around c s qs rs q is js i sound rest eq ei in
+    let calm = around c s qs rs q is js i sound rest eq ei in
     let place = place_of c s q in
     let bs = s.builds in
     let cs = t.builds in
@@ -146,13 +146,13 @@ walk_after_leaving c s t qs rs q o is js i floor sound rest eq ei left =
     let ys = map (row_of bs) (places_after bs was behind) in
     let own = row_of bs at in
     let all = xs ++ own ∷ ys in
-    let rows_are : stored c s q ≡ all = at_rest.rows ∙ rows_split bs [] front (p ∷ behind) in
-    let rb = higher_behind 0 front p behind at_rest.rise in
-    let pt = parted bs front p behind was at_rest.rise rb in
+    let rows_are : stored c s q ≡ all = calm.rows ∙ rows_split bs [] front (p ∷ behind) in
+    let rb = higher_behind 0 front p behind calm.rise in
+    let pt = parted bs front p behind was calm.rise rb in
     let old = standing_in (stored c s q) in
     let stand = standing_in (xs ++ ys) in
-    let parts = quiet_split old bs [] [] front (p ∷ behind) at_rest.quiet in
-    let others : Others i.serial front × Others i.serial behind = (lower_front 0 front p behind at_rest.rise, others_behind p behind rb) in
+    let parts = quiet_split old bs [] [] front (p ∷ behind) calm.quiet in
+    let others : Others i.serial front × Others i.serial behind = (lower_front 0 front p behind calm.rise, others_behind p behind rb) in
     let elsewhere : Elsewhere i.serial bs cs = subst (Elsewhere i.serial bs) (sym left.builds) (stops_elsewhere i.serial bs) in
     let through = says_through stand bs ys [] [] front (λ n f. refl) in
     let h : Left stand bs cs front p behind = record {
@@ -162,9 +162,9 @@ walk_after_leaving c s t qs rs q o is js i floor sound rest eq ei left =
       fresh = parts.1.0.fresh;
       elsewhere = elsewhere;
       others = others;
-      not_landed = not_landed_places c s q i.change js (never_landed c s sound q at_rest.there i at_rest.item);
-      builds_rise = subst (RiseFrom build_number 0) (sym left.builds) (stops_rise i.serial 0 bs at_rest.numbers);
-      places_rise = rise_without 0 front p behind at_rest.rise;
+      not_landed = not_landed_places c s q i.change js (never_landed c s sound q calm.there i calm.item);
+      builds_rise = subst (RiseFrom build_number 0) (sym left.builds) (stops_rise i.serial 0 bs calm.numbers);
+      places_rise = rise_without 0 front p behind calm.rise;
     } in
     let sb = still_quiet stand i.serial bs cs (before ++ i ∷ []) was behind elsewhere others.1 h.quiet_behind in
     let now = now_behind c t s q same is js (are_now c t s q o same (is ++ js) (left.places ∙ map_id (map place (is ++ js)))) in
@@ -185,16 +185,16 @@ now_same : (c : Settings) (s : State) (q : Queue) (e : Ending) (n : ℕ) (is : L
 now_same c s q e n [] = tt
 now_same c s q e n (i ∷ is) = (refl, refl, refl, now_same c s q e n is)
 
-place_there : (bs : List Build) (ahead : List Item) (front : List Place) (p : Place) (behind : List Place) → Has (places_after bs ahead (front ++ p ∷ behind)) (with_ahead (ahead_after bs ahead front) p)
+place_there : (bs : List Build) (ahead : List Item) (front : List Place) (p : Place) (behind : List Place) → In (with_ahead (ahead_after bs ahead front) p) (places_after bs ahead (front ++ p ∷ behind))
 place_there bs ahead [] p behind = inl refl
 place_there bs ahead (f ∷ front) p behind = inr (place_there bs (next_ahead bs (with_ahead ahead f)) front p behind)
 
-contained : {X : Type 0} (xs : List X) (x : X) → Contains xs x → Has xs x
-contained xs x h = All-contains (Has xs) xs x (all_of (Has xs) xs (λ y m. m)) h
+contained : {X : Type 0} (xs : List X) (x : X) → Contains xs x → In x xs
+contained xs x h = All-contains (λ y. In y xs) xs x (all (λ y. In y xs) xs (λ y m. m)) h
 
 pub walk_after_build : WalkAfterBuild
 walk_after_build c s qs rs q is js i b e floor sound rest eq ei cb run own_build =
-    let at_rest = around c s qs rs q is js i sound rest eq ei in
+    let calm = around c s qs rs q is js i sound rest eq ei in
     let place = place_of c s q in
     let bs = s.builds in
     let t = end_build e b.number s in
@@ -211,25 +211,25 @@ walk_after_build c s qs rs q is js i b e floor sound rest eq ei cb run own_build
     let ys = map (row_of bs) (places_after bs was behind) in
     let own = row_of bs at in
     let all = xs ++ own ∷ ys in
-    let rows_are : stored c s q ≡ all = at_rest.rows ∙ rows_split bs [] front (p ∷ behind) in
-    let rb = higher_behind 0 front p behind at_rest.rise in
-    let pt = parted bs front p behind was at_rest.rise rb in
+    let rows_are : stored c s q ≡ all = calm.rows ∙ rows_split bs [] front (p ∷ behind) in
+    let rb = higher_behind 0 front p behind calm.rise in
+    let pt = parted bs front p behind was calm.rise rb in
     let stand = standing_in all in
-    let quiet : Quiet stand bs [] [] (front ++ p ∷ behind) = subst (λ l. Quiet (standing_in l) bs [] [] (front ++ p ∷ behind)) rows_are at_rest.quiet in
+    let quiet : Quiet stand bs [] [] (front ++ p ∷ behind) = subst (λ l. Quiet (standing_in l) bs [] [] (front ++ p ∷ behind)) rows_are calm.quiet in
     let parts = quiet_split stand bs [] [] front (p ∷ behind) quiet in
-    let others : Others i.serial front × Others i.serial behind = (lower_front 0 front p behind at_rest.rise, others_behind p behind rb) in
-    let elsewhere : Elsewhere i.serial bs cs = ended_elsewhere e b i.serial bs at_rest.numbers mb own_build in
-    let here : Has (places c s q) at = subst (λ l. Has (places_after bs [] l) at) (sym at_rest.split) (place_there bs [] front p behind) in
-    let single = of_all (λ (x : Place). AllPass (is_single s x) x.jobs) (all_places c s) sound.builds_are_single at (has_flat (places c s) s.queues q at at_rest.there here) in
+    let others : Others i.serial front × Others i.serial behind = (lower_front 0 front p behind calm.rise, others_behind p behind rb) in
+    let elsewhere : Elsewhere i.serial bs cs = ended_elsewhere e b i.serial bs calm.numbers mb own_build in
+    let here : In at (places c s q) = subst (λ l. In at (places_after bs [] l)) (sym calm.split) (place_there bs [] front p behind) in
+    let single = every (λ (x : Place). AllPass (is_single s x) x.jobs) (all_places c s) sound.builds_are_single at (to_flat (places c s) s.queues q at calm.there here) in
     let h : Stands stand bs cs front p behind = record {
       quiet = quiet;
       elsewhere = elsewhere;
       others = others;
       counting = ended_count e b.number at bs ∙ parts.1.0.counting;
-      fails_still = ended_fails s at b e at_rest.numbers parts.1.0.counting (λ j mj. of_all (λ (x : Job). is_single s at x ≡ true) at.jobs single j mj) mb run own_build;
-      not_landed = not_landed_places c s q i.change js (never_landed c s sound q at_rest.there i at_rest.item);
-      builds_rise = ended_rise e b.number 0 bs at_rest.numbers;
-      places_rise = at_rest.rise;
+      fails_still = ended_fails s at b e calm.numbers parts.1.0.counting (λ j mj. every (λ (x : Job). is_single s at x ≡ true) at.jobs single j mj) mb run own_build;
+      not_landed = not_landed_places c s q i.change js (never_landed c s sound q calm.there i calm.item);
+      builds_rise = ended_rise e b.number 0 bs calm.numbers;
+      places_rise = calm.rise;
     } in
     let sb = still_quiet stand i.serial bs cs (before ++ i ∷ []) was behind elsewhere others.1 parts.1.1 in
     let seen : map (row_seen c t all) ys ≡ visits stand cs same was behind = ap (map (row_seen c t all)) (sym sb.rows) ∙ rows_are_seen c t all same was behind (now_same c s q e b.number js) in
@@ -238,7 +238,7 @@ walk_after_build c s qs rs q is js i b e floor sound rest eq ei cb run own_build
     subst goal (sym rows_are)
     (cast (λ j. Walks floor q all cs (map place q.items) (start None (sym pt.ahead j) (length q.reports) q.window) (row_seen c t all) (sym pt.from_own j))
     (walks floor q all cs (map place q.items) k (row_seen c t all) (own ∷ ys) (λ r. refl)
-    (cast (λ j. Walked q.name floor q.window cs (rows_split bs [] front (p ∷ behind) j) (sym at_rest.split j) q.reports k (row_seen c t all own ∷ sym seen j)) (walk_standing q.name floor q.window stand bs cs front p behind q.reports h))))
+    (cast (λ j. Walked q.name floor q.window cs (rows_split bs [] front (p ∷ behind) j) (sym calm.split j) q.reports k (row_seen c t all own ∷ sym seen j)) (walk_standing q.name floor q.window stand bs cs front p behind q.reports h))))
 
 -- ---- it landed
 
@@ -255,7 +255,7 @@ rise_landed t n (p ∷ ps) r = (r.0, rise_landed t (suc p.item.serial) ps r.1)
 
 -- the builds of the items before it and behind it began on landings that were there
 front_of : (c : Settings) (s : State) (q : Queue) (bs cs : List Build) (i : Item) (n : ℕ) (is : List Item) (p : Place) (behind : List Place) → p.item ≡ i → RiseFrom place_serial n (map (place_of c s q) is ++ p ∷ behind) → Elsewhere i.serial bs cs → Others i.serial (map (place_of c s q) is) →
-    ((j : Item) → Has is j → (b : Build) → Has bs b → (b.serial == j.serial) ≡ true → nat_le b.after (length q.landings) ≡ true) → Front i cs (map (place_of c s q) is)
+    ((j : Item) → In j is → (b : Build) → In b bs → (b.serial == j.serial) ≡ true → nat_le b.after (length q.landings) ≡ true) → Front i cs (map (place_of c s q) is)
 front_of c s q bs cs i n [] p behind e r el o k = tt
 front_of c s q bs cs i n (j ∷ is) p behind e r el o k =
     let up : suc j.serial ≤ p.item.serial = low_place (suc j.serial) (map (place_of c s q) is) p behind r.1 in
@@ -265,7 +265,7 @@ front_of c s q bs cs i n (j ∷ is) p behind e r el o k =
     )
 
 behind_of : (c : Settings) (s : State) (q : Queue) (bs cs : List Build) (i : Item) (n : ℕ) (js : List Item) → i.serial < n → RiseFrom place_serial n (map (place_of c s q) js) → Elsewhere i.serial bs cs → Others i.serial (map (place_of c s q) js) →
-    ((j : Item) → Has js j → (b : Build) → Has bs b → (b.serial == j.serial) ≡ true → nat_le b.after (length q.landings) ≡ true) → Behind i cs (map (place_of c s q) js)
+    ((j : Item) → In j js → (b : Build) → In b bs → (b.serial == j.serial) ≡ true → nat_le b.after (length q.landings) ≡ true) → Behind i cs (map (place_of c s q) js)
 behind_of c s q bs cs i n [] l r el o k = tt
 behind_of c s q bs cs i n (j ∷ js) l r el o k =
     let low : n ≤ j.serial = r.0 in (
@@ -275,7 +275,7 @@ behind_of c s q bs cs i n (j ∷ js) l r el o k =
 
 pub walk_after_landing : WalkAfterLanding
 walk_after_landing c s t qs rs q o is js i floor sound rest eq ei left first passes =
-    let at_rest = around c s qs rs q is js i sound rest eq ei in
+    let calm = around c s qs rs q is js i sound rest eq ei in
     let place = place_of c s q in
     let bs = s.builds in
     let cs = t.builds in
@@ -288,20 +288,20 @@ walk_after_landing c s t qs rs q o is js i floor sound rest eq ei left first pas
     let before = all_before [] front in
     let xs = map (row_of bs) (places_after bs [] front) in
     let own = row_of bs at in
-    let rows_at : stored c s q ≡ xs ++ own ∷ map (row_of bs) (places_after bs was behind) = at_rest.rows ∙ rows_split bs [] front (p ∷ behind) in
-    let rb = higher_behind 0 front p behind at_rest.rise in
-    let pw = parted bs front p behind was at_rest.rise rb in
+    let rows_at : stored c s q ≡ xs ++ own ∷ map (row_of bs) (places_after bs was behind) = calm.rows ∙ rows_split bs [] front (p ∷ behind) in
+    let rb = higher_behind 0 front p behind calm.rise in
+    let pw = parted bs front p behind was calm.rise rb in
     let empty : a ≡ [] = none_last a (sym (ap (ahead_at i.serial) rows_at ∙ pw.ahead) ∙ first) in
     let mark : is_failing bs at ≡ false = sym (ap (fails_at i.serial) rows_at ∙ pw.fails) ∙ passes in
     let was_is : was ≡ i ∷ [] = (λ k. cond (mark k) (empty k) (empty k ++ i ∷ [])) in
     let ys = map (row_of bs) (places_after bs (i ∷ []) behind) in
     let all = xs ++ own ∷ ys in
     let rows_are : stored c s q ≡ all = rows_at ∙ ap (λ w. xs ++ own ∷ map (row_of bs) (places_after bs w behind)) was_is in
-    let pt = parted bs front p behind (i ∷ []) at_rest.rise rb in
+    let pt = parted bs front p behind (i ∷ []) calm.rise rb in
     let old = standing_in (stored c s q) in
     let stand = standing_in (xs ++ ys) in
-    let parts = quiet_split old bs [] [] front (p ∷ behind) at_rest.quiet in
-    let others : Others i.serial front × Others i.serial behind = (lower_front 0 front p behind at_rest.rise, others_behind p behind rb) in
+    let parts = quiet_split old bs [] [] front (p ∷ behind) calm.quiet in
+    let others : Others i.serial front × Others i.serial behind = (lower_front 0 front p behind calm.rise, others_behind p behind rb) in
     let elsewhere : Elsewhere i.serial bs cs = subst (Elsewhere i.serial bs) (sym left.builds) (stops_elsewhere i.serial bs) in
     let through = says_through stand bs ys [] [] front (λ n f. refl) in
     let now = landed_place i in
@@ -314,10 +314,10 @@ walk_after_landing c s t qs rs q o is js i floor sound rest eq ei left first pas
       fresh = parts.1.0.fresh;
       elsewhere = elsewhere;
       others = others;
-      in_front = front_of c s q bs cs i 0 is p behind refl at_rest.rise elsewhere others.0 (λ j m. at_rest.began j (subst (λ (l : List Item). Has l j) (sym ei) (has_left is (i ∷ js) j m)));
-      is_behind = behind_of c s q bs cs i (suc i.serial) js (omega arith) rb elsewhere others.1 (λ j m. at_rest.began j (subst (λ (l : List Item). Has l j) (sym ei) (has_right is (i ∷ js) j (inr m))));
-      builds_rise = subst (RiseFrom build_number 0) (sym left.builds) (stops_rise i.serial 0 bs at_rest.numbers);
-      places_rise = subst (RiseFrom place_serial 0) (map-append now front behind) (rise_landed i 0 (front ++ behind) (rise_without 0 front p behind at_rest.rise));
+      in_front = front_of c s q bs cs i 0 is p behind refl calm.rise elsewhere others.0 (λ j m. calm.began j (subst (λ (l : List Item). In j l) (sym ei) (to_left is (i ∷ js) j m)));
+      is_behind = behind_of c s q bs cs i (suc i.serial) js (omega arith) rb elsewhere others.1 (λ j m. calm.began j (subst (λ (l : List Item). In j l) (sym ei) (to_right is (i ∷ js) j (inr m))));
+      builds_rise = subst (RiseFrom build_number 0) (sym left.builds) (stops_rise i.serial 0 bs calm.numbers);
+      places_rise = subst (RiseFrom place_serial 0) (map-append now front behind) (rise_landed i 0 (front ++ behind) (rise_without 0 front p behind calm.rise));
     } in
     let sb = still_quiet stand i.serial bs cs (before ++ i ∷ []) (i ∷ []) behind elsewhere others.1 h.quiet_behind in
     let nows = now_behind c t s q now is js (are_now c t s q o now (is ++ js) left.places) in

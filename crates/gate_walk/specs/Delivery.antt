@@ -1,4 +1,5 @@
--- What a walk does after a delivery: it leaves of the touched queue what a rebase and then a sweep of the whole state leave.
+-- What a walk does after a delivery: it leaves of the touched queue what a rebase and then a sweep of the whole state
+-- leave.
 use Rattle.std.specs.Prelude.{ℕ, Bool, true, false, ◌+◌, ◌==◌, ◌≡◌, List, [], ◌∷◌, ◌++◌, map, length, Option, Some, None, find, nat_le, Contains, ◌⊎◌}
 use Rattle.std.specs.Option.{option_map_or}
 use Rattle.gate_types.specs.declared.records.Item.{Item as ItemRow}
@@ -83,37 +84,48 @@ standing_rows item_landed i rows = without_row i.serial rows
 
 -- ---- the walk
 
+-- what it begins with, by the stored rows
+abbrev pub begins : Queue → Item → Touch → List ItemRow → Carry
+begins o i k rows = start (out_by k i rows) (ahead_at i.serial rows) (length o.reports) o.window
+
 -- it begins at the touched item, or behind it where it was taken out; its rows are those stored before the delivery
 abbrev pub WalksFrom : Settings → State → State → Queue → Queue → Item → Touch → Type 0
 WalksFrom c s t q o i k = (let rows = stored c s q in let left = standing_rows k i rows in
-    Walks (floor_of c o) o left t.builds (map (place_of c t o) o.items) (start (out_by k i rows) (ahead_at i.serial rows) (length o.reports) o.window) (row_seen c t left) (rows_from i.serial left))
+    Walks (floor_of c o) o left t.builds (map (place_of c t o) o.items) (begins o i k rows) (row_seen c t left)
+    (rows_from i.serial left))
 
 -- its edits, folded over the stored rows, are the queue's rows after a rebase and then a sweep of the whole state
 abbrev pub WalkSettles : Settings → State → State → Queue → Queue → Item → Touch → Type 0
 WalkSettles c s t q o i k = (let rows = stored c s q in let left = standing_rows k i rows in
-    fold_edits (rows_with o left t.builds) (walk_from o.name (floor_of c o) (start (out_by k i rows) (ahead_at i.serial rows) (length o.reports) o.window) (map (row_seen c t left) (rows_from i.serial left)))
+    fold_edits (rows_with o left t.builds)
+    (walk_from o.name (floor_of c o) (begins o i k rows) (map (row_seen c t left) (rows_from i.serial left)))
     ≡ rows_in c (sweep c (rebase c t)) (swept_of c t o))
 
--- the edits of the visits of a walk over a queue's rows: of the first row from a serial on, then of each row that is wanted, up to the stop
+-- the edits of the visits of a walk over a queue's rows: of the first row from a serial on, then of each row that is
+-- wanted, up to the stop
 abbrev pub visited : List ℕ → ℕ → Carry → ℕ → List Seen → List Edit
 visited name floor k n vs = elim (find (λ v. nat_le n v.row.serial) vs) [
   | None ↦ []
-  | Some v ↦ visit_edits name floor k v ++ visits_from (length vs) name floor (next_of (carried floor k v) v.row.serial) (carried floor k v) vs
+  | Some v ↦ visit_edits name floor k v ++
+      visits_from (length vs) name floor (next_of (carried floor k v) v.row.serial) (carried floor k v) vs
 ]
 
 -- the same of these edits
 abbrev pub VisitsSettle : Settings → State → State → Queue → Queue → Item → Touch → Type 0
 VisitsSettle c s t q o i k = (let rows = stored c s q in let left = standing_rows k i rows in
-    fold_edits (rows_with o left t.builds) (visited o.name (floor_of c o) (start (out_by k i rows) (ahead_at i.serial rows) (length o.reports) o.window) i.serial (map (row_seen c t left) left))
+    fold_edits (rows_with o left t.builds)
+    (visited o.name (floor_of c o) (begins o i k rows) i.serial (map (row_seen c t left) left))
     ≡ rows_in c (sweep c (rebase c t)) (swept_of c t o))
 
--- the queue of the touched item is there once the delivery is done, is there once all is settled, and its walk settles it
+-- the queue of the touched item is there once the delivery is done, is there once all is settled, and its walk
+-- settles it
 pub record IsWalked (c : Settings) (s : State) (d : Delivery) (t : State) (q : Queue) (i : Item) : Type 0 where
   pub touched : touched_by c s d ≡ Some q.name
   pub there : Contains t.queues (moved c d q i)
   pub walks : WalksFrom c s t q (moved c d q i) i (touch_of d)
   pub swept : Contains (sweep c (rebase c t)).queues (swept_of c t (moved c d q i))
-  pub rise : (let left = standing_rows (touch_of d) i (stored c s q) in IsStrictlyIncreasing (map (λ x. x.row.serial) (map (row_seen c t left) left)))
+  pub rise : (let left = standing_rows (touch_of d) i (stored c s q) in
+      IsStrictlyIncreasing (map (λ x. x.row.serial) (map (row_seen c t left) left)))
   pub settles : WalkSettles c s t q (moved c d q i) i (touch_of d)
   pub visits_settle : VisitsSettle c s t q (moved c d q i) i (touch_of d)
 
@@ -126,7 +138,8 @@ is_stale _ = false
 
 -- an accepted delivery on an item of a queue is stale and changes nothing, or that queue's walk settles it
 abbrev pub TouchedQueueIsWalked : Type 0
-TouchedQueueIsWalked = (c : Settings) (s : State) (d : Delivery) (r : Reply) (t : State) (qs : List Queue) (q : Queue) (rs : List Queue) (is : List Item) (i : Item) (js : List Item) →
+TouchedQueueIsWalked = (c : Settings) (s : State) (d : Delivery) (r : Reply) (t : State) (qs : List Queue) (q : Queue)
+    (rs : List Queue) (is : List Item) (i : Item) (js : List Item) →
     are_sound c ≡ true → IsLawful c s → raw_step c s d ≡ accepted r t →
     s.queues ≡ qs ++ q ∷ rs → q.items ≡ is ++ i ∷ js → is_on s d i ≡ true →
     ((is_stale r ≡ true) × (t ≡ s)) ⊎ ((is_stale r ≡ false) × IsWalked c s d t q i)
@@ -148,7 +161,9 @@ pub record HasTouched (s : State) (d : Delivery) (name : List ℕ) : Type 0 wher
 -- were; and where no queue is touched, or the delivery changes nothing, nothing is left to settle
 pub record AWalkIsEnough : Type 0 where
   pub touched : TouchedQueueIsWalked
-  pub has_touched : (c : Settings) (s : State) (d : Delivery) (name : List ℕ) → touched_by c s d ≡ Some name → HasTouched s d name
+  pub has_touched : (c : Settings) (s : State) (d : Delivery) (name : List ℕ) → touched_by c s d ≡ Some name →
+      HasTouched s d name
   pub others : OtherQueuesStay
-  pub untouched : (c : Settings) (s : State) (d : Delivery) (r : Reply) (t : State) → IsLawful c s → raw_step c s d ≡ accepted r t → touched_by c s d ≡ None → sweep c (rebase c t) ≡ t
+  pub untouched : (c : Settings) (s : State) (d : Delivery) (r : Reply) (t : State) → IsLawful c s →
+      raw_step c s d ≡ accepted r t → touched_by c s d ≡ None → sweep c (rebase c t) ≡ t
   pub unchanged : (c : Settings) (s : State) → IsLawful c s → sweep c (rebase c s) ≡ s

@@ -20,13 +20,21 @@ pub record IsIn (c : Settings) (s : State) (q : Queue) (is : List Item) (i : Ite
 
 -- it leaves by each of these deliveries
 pub record ItemsLeave : Type 0 where
-  pub withdrawn : (c : Settings) (s : State) (q : Queue) (is : List Item) (i : Item) (js : List Item) → IsIn c s q is i js →
+  pub withdrawn : (c : Settings) (s : State) (q : Queue) (is : List Item) (i : Item) (js : List Item) →
+      IsIn c s q is i js →
       HasLeft c s (leave verdict.Withdrawn i.change s) q (left_queue verdict.Withdrawn i.change q) i (is ++ js)
-  pub closed : (c : Settings) (s : State) (q : Queue) (is : List Item) (i : Item) (js : List Item) → IsIn c s q is i js →
-      HasLeft c s (with_stage stage.Closed i.change (without_ready i.change (leave verdict.Closed i.change s))) q (left_queue verdict.Closed i.change q) i (is ++ js)
-  pub superseded : (c : Settings) (s : State) (q : Queue) (is : List Item) (i : Item) (js : List Item) (k : Change) → IsIn c s q is i js → k.number ≡ i.change → is_open k ≡ true →
+  pub closed : (c : Settings) (s : State) (q : Queue) (is : List Item) (i : Item) (js : List Item) →
+      IsIn c s q is i js →
+      HasLeft c s (with_stage stage.Closed i.change (without_ready i.change (leave verdict.Closed i.change s))) q
+      (left_queue verdict.Closed i.change q) i (is ++ js)
+  pub superseded : (c : Settings) (s : State) (q : Queue) (is : List Item) (i : Item) (js : List Item) (k : Change) →
+      IsIn c s q is i js → k.number ≡ i.change → is_open k ≡ true →
       HasLeft c s (revised k s) q (left_queue verdict.Superseded k.number q) i (is ++ js)
-  pub refused : (c : Settings) (s : State) (q : Queue) (is : List Item) (i : Item) (js : List Item) → IsIn c s q is i js →
-      HasLeft c s (change_queue q.name (shrunk_queue c) (leave verdict.Refused i.change s)) q (shrunk_queue c (left_queue verdict.Refused i.change q)) i (is ++ js)
-  pub landed : (c : Settings) (s : State) (q : Queue) (is : List Item) (i : Item) (js : List Item) (n : ℕ) → IsIn c s q is i js →
-      HasLanded c s (with_landing n (record { queue = q; item = i }) s) q (landed_queue i (left_queue (verdict.Landed n) i.change q)) i (is ++ js)
+  pub refused : (c : Settings) (s : State) (q : Queue) (is : List Item) (i : Item) (js : List Item) →
+      IsIn c s q is i js →
+      HasLeft c s (change_queue q.name (shrunk_queue c) (leave verdict.Refused i.change s)) q
+      (shrunk_queue c (left_queue verdict.Refused i.change q)) i (is ++ js)
+  pub landed : (c : Settings) (s : State) (q : Queue) (is : List Item) (i : Item) (js : List Item) (n : ℕ) →
+      IsIn c s q is i js →
+      HasLanded c s (with_landing n (record { queue = q; item = i }) s) q
+      (landed_queue i (left_queue (verdict.Landed n) i.change q)) i (is ++ js)

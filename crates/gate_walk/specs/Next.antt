@@ -8,7 +8,8 @@ use Rattle.gate_types.specs.Settings.{Settings}
 use Rattle.gate_types.specs.State.{State}
 use Rattle.gate_walk.specs.Rescan.{start, row_seen, rows_from}
 
--- the first row from a serial on is wanted, as at the start, or the first above it, or the first above it that needs what has gone, or none
+-- the first row from a serial on is wanted, as at the start, or the first above it, or the first above it that needs
+-- what has gone, or none
 pub data Next : Type 0 where
   from : ℕ → Next
   go : ℕ → Next
@@ -31,13 +32,17 @@ abbrev pub visits_from : ℕ → List ℕ → ℕ → Next → Carry → List Se
 visits_from zero name floor next k vs = []
 visits_from (suc m) name floor next k vs = elim (wanted k.gone next vs) [
   | None ↦ []
-  | Some v ↦ visit_edits name floor k v ++ visits_from m name floor (next_of (carried floor k v) v.row.serial) (carried floor k v) vs
+  | Some v ↦ visit_edits name floor k v ++
+      visits_from m name floor (next_of (carried floor k v) v.row.serial) (carried floor k v) vs
 ]
 
 -- visits of the rows that are wanted, the first row first, are the walk
 abbrev pub VisitsAreTheWalk : Type 0
-VisitsAreTheWalk = (name : List ℕ) (floor : ℕ) (k : Carry) (v : Seen) (vs : List Seen) → IsStrictlyIncreasing (map (λ x. x.row.serial) (v ∷ vs)) →
-    visit_edits name floor k v ++ visits_from (length vs) name floor (next_of (carried floor k v) v.row.serial) (carried floor k v) (v ∷ vs) ≡ walk_from name floor k (v ∷ vs)
+VisitsAreTheWalk = (name : List ℕ) (floor : ℕ) (k : Carry) (v : Seen) (vs : List Seen) →
+    IsStrictlyIncreasing (map (λ x. x.row.serial) (v ∷ vs)) →
+    visit_edits name floor k v ++
+    visits_from (length vs) name floor (next_of (carried floor k v) v.row.serial) (carried floor k v) (v ∷ vs)
+    ≡ walk_from name floor k (v ∷ vs)
 
 -- what is left to tell behind a visit of the row of a serial
 abbrev pub untold : List ℕ → ℕ → Carry → ℕ → List Seen → List Edit
@@ -46,22 +51,33 @@ untold name floor k n vs = walk_edits name floor k (filter (λ v. nat_lt n v.row
 -- each visit tells the first part of what is left, and where no row is wanted nothing is left: for a loop of visits
 pub record VisitsGoOn : Type 0 where
   -- the walk over a queue's rows from a serial on begins with the first of them
-  pub begun : (c : Settings) (t : State) (rows : List ItemRow) (name : List ℕ) (floor n : ℕ) (k : Carry) (v : Seen) → IsStrictlyIncreasing (map (λ x. x.row.serial) (map (row_seen c t rows) rows)) →
+  pub begun : (c : Settings) (t : State) (rows : List ItemRow) (name : List ℕ) (floor n : ℕ) (k : Carry) (v : Seen) →
+      IsStrictlyIncreasing (map (λ x. x.row.serial) (map (row_seen c t rows) rows)) →
       find (λ x. nat_le n x.row.serial) (map (row_seen c t rows) rows) ≡ Some v →
-      walk_from name floor k (map (row_seen c t rows) (rows_from n rows)) ≡ visit_edits name floor k v ++ untold name floor (carried floor k v) v.row.serial (map (row_seen c t rows) rows)
-  pub none : (c : Settings) (t : State) (rows : List ItemRow) (name : List ℕ) (floor n : ℕ) (k : Carry) → IsStrictlyIncreasing (map (λ x. x.row.serial) (map (row_seen c t rows) rows)) →
-      find (λ x. nat_le n x.row.serial) (map (row_seen c t rows) rows) ≡ None → walk_from name floor k (map (row_seen c t rows) (rows_from n rows)) ≡ []
+      walk_from name floor k (map (row_seen c t rows) (rows_from n rows)) ≡ visit_edits name floor k v ++
+      untold name floor (carried floor k v) v.row.serial (map (row_seen c t rows) rows)
+  pub none : (c : Settings) (t : State) (rows : List ItemRow) (name : List ℕ) (floor n : ℕ) (k : Carry) →
+      IsStrictlyIncreasing (map (λ x. x.row.serial) (map (row_seen c t rows) rows)) →
+      find (λ x. nat_le n x.row.serial) (map (row_seen c t rows) rows) ≡ None →
+      walk_from name floor k (map (row_seen c t rows) (rows_from n rows)) ≡ []
   -- so does what is left behind a visit, with the row that is wanted
-  pub more : (name : List ℕ) (floor n : ℕ) (k : Carry) (v : Seen) (vs : List Seen) → IsStrictlyIncreasing (map (λ x. x.row.serial) vs) → wanted k.gone (next_of k n) vs ≡ Some v →
+  pub more : (name : List ℕ) (floor n : ℕ) (k : Carry) (v : Seen) (vs : List Seen) →
+      IsStrictlyIncreasing (map (λ x. x.row.serial) vs) → wanted k.gone (next_of k n) vs ≡ Some v →
       untold name floor k n vs ≡ visit_edits name floor k v ++ untold name floor (carried floor k v) v.row.serial vs
-  pub done : (name : List ℕ) (floor n : ℕ) (k : Carry) (vs : List Seen) → IsStrictlyIncreasing (map (λ x. x.row.serial) vs) → wanted k.gone (next_of k n) vs ≡ None →
+  pub done : (name : List ℕ) (floor n : ℕ) (k : Carry) (vs : List Seen) →
+      IsStrictlyIncreasing (map (λ x. x.row.serial) vs) → wanted k.gone (next_of k n) vs ≡ None →
       untold name floor k n vs ≡ []
 
 -- where a walk stops
 pub record WalkStops : Type 0 where
   -- the touched item stands, stays, and its mark is what it was: the first visit is the last
-  pub at_once : (floor reports window : ℕ) (ahead : Option ℕ) (v : Seen) → (let k = start None ahead reports window in fails k v ≡ v.row.failing → verdict_by k v ≡ None → next_of (carried floor k v) v.row.serial ≡ stop)
+  pub at_once : (floor reports window : ℕ) (ahead : Option ℕ) (v : Seen) →
+      (let k = start None ahead reports window in fails k v ≡ v.row.failing → verdict_by k v ≡ None →
+      next_of (carried floor k v) v.row.serial ≡ stop)
   -- while no line has changed, and the visited item doesn't turn failing, no line has changed
-  pub keeps_lines : (floor : ℕ) (k : Carry) (v : Seen) → k.resets ≡ false → fails k v ≡ v.row.failing → (carried floor k v).resets ≡ false
+  pub keeps_lines : (floor : ℕ) (k : Carry) (v : Seen) → k.resets ≡ false → fails k v ≡ v.row.failing →
+      (carried floor k v).resets ≡ false
   -- then a visit of a non-failing item doesn't ask for the next row
-  pub not_further : (floor n : ℕ) (k : Carry) (v : Seen) → k.resets ≡ false → fails k v ≡ v.row.failing → v.row.failing ≡ false → next_of (carried floor k v) n ≡ (if length (carried floor k v).gone == 0 then stop else need n)
+  pub not_further : (floor n : ℕ) (k : Carry) (v : Seen) → k.resets ≡ false → fails k v ≡ v.row.failing →
+      v.row.failing ≡ false → next_of (carried floor k v) n
+      ≡ (if length (carried floor k v).gone == 0 then stop else need n)

@@ -25,7 +25,7 @@ abbrev pub live_builds_count : List Build → Place → Bool
 live_builds_count builds p = list_all (λ b. not (b.live && b.serial == p.item.serial) || counts p b) builds
 
 -- no item goes, and each live build of an item counts: so it is in a settled state
-pub record IsAtRest (c : Settings) (s : State) : Type 0 where
+pub record IsCalm (c : Settings) (s : State) : Type 0 where
   pub stays : All (λ q. AllPass (λ j. not (is_some j.verdict)) (judged c s q)) s.queues
   pub builds_count : AllPass (live_builds_count s.builds) (all_places c s)
 
@@ -106,7 +106,8 @@ fails_at n rows = option_map_or (λ r. r.failing) (find (λ r. r.serial == n) ro
 
 -- a queue's rows: these for the items, whose columns may be of an earlier state
 abbrev pub rows_with : Queue → List ItemRow → List Build → Rows
-rows_with q rows builds = record { name = q.name; window = q.window; items = rows; builds = builds; reports = numbered 0 q.reports }
+rows_with q rows builds =
+    record { name = q.name; window = q.window; items = rows; builds = builds; reports = numbered 0 q.reports }
 
 -- a need once a change has landed
 abbrev pub need_behind : ℕ → Need → Need
@@ -134,22 +135,29 @@ settled_to floor builds ps behind q = (let js = judged_after builds [] ps in rec
   reports = numbered 0 (q.reports ++ filter_map (λ j. option_map (λ v. report_of v j.item) j.verdict) js);
 })
 
--- a walk over the last rows of a queue, each row of an item: at its end the queue is settled, and between two visits it is so far
-pub record Walks (floor : ℕ) (q : Queue) (rows : List ItemRow) (builds : List Build) (ps : List Place) (k : Carry) (see : ItemRow → Seen) (last : List ItemRow) : Type 0 where
+-- a walk over the last rows of a queue, each row of an item: at its end the queue is settled, and between two visits
+-- it is so far
+pub record Walks (floor : ℕ) (q : Queue) (rows : List ItemRow) (builds : List Build) (ps : List Place) (k : Carry)
+    (see : ItemRow → Seen) (last : List ItemRow) : Type 0 where
   pub rows_of_places : map (λ r. r.serial) rows ≡ map (λ p. p.item.serial) ps
   pub places_rise : IsStrictlyIncreasing (map (λ p. p.item.serial) ps)
-  pub at_stop : fold_edits (rows_with q rows builds) (walk_from q.name floor k (map see last)) ≡ settled_rows floor ps builds q
+  pub at_stop : fold_edits (rows_with q rows builds) (walk_from q.name floor k (map see last))
+      ≡ settled_rows floor ps builds q
   pub so_far : (us vs : List ItemRow) (xs ys : List Place) → last ≡ us ++ vs → ps ≡ xs ++ ys → length ys ≡ length vs →
-      fold_edits (rows_with q rows builds) (walk_from q.name floor k (map see us)) ≡ settled_to floor builds (places_after builds [] xs) vs q
+      fold_edits (rows_with q rows builds) (walk_from q.name floor k (map see us))
+      ≡ settled_to floor builds (places_after builds [] xs) vs q
 
 -- ---- the three laws
 
 -- a running build of an item has ended
 abbrev pub WalkAfterBuild : Type 0
-WalkAfterBuild = (c : Settings) (s : State) (qs rs : List Queue) (q : Queue) (is js : List Item) (i : Item) (b : Build) (e : Ending) (floor : ℕ) →
-    IsSound c s → IsAtRest c s → s.queues ≡ qs ++ q ∷ rs → q.items ≡ is ++ i ∷ js → Contains s.builds b → b.live && is_running b.outcome ≡ true → b.serial ≡ i.serial →
+WalkAfterBuild = (c : Settings) (s : State) (qs rs : List Queue) (q : Queue) (is js : List Item) (i : Item)
+    (b : Build) (e : Ending) (floor : ℕ) →
+    IsSound c s → IsCalm c s → s.queues ≡ qs ++ q ∷ rs → q.items ≡ is ++ i ∷ js → Contains s.builds b →
+    b.live && is_running b.outcome ≡ true → b.serial ≡ i.serial →
     (let t = end_build e b.number s in let rows = stored c s q in
-    Walks floor q rows t.builds (map (place_of c t q) q.items) (start None (ahead_at i.serial rows) (length q.reports) q.window) (row_seen c t rows) (rows_from i.serial rows))
+    Walks floor q rows t.builds (map (place_of c t q) q.items)
+    (start None (ahead_at i.serial rows) (length q.reports) q.window) (row_seen c t rows) (rows_from i.serial rows))
 
 -- the item has left its queue: the other items stand as they stood, its running builds have stopped
 pub record HasLeft (c : Settings) (s t : State) (q o : Queue) (i : Item) (others : List Item) : Type 0 where
@@ -159,10 +167,15 @@ pub record HasLeft (c : Settings) (s t : State) (q o : Queue) (i : Item) (others
 
 -- an item was taken out and didn't land
 abbrev pub WalkAfterLeaving : Type 0
-WalkAfterLeaving = (c : Settings) (s t : State) (qs rs : List Queue) (q o : Queue) (is js : List Item) (i : Item) (floor : ℕ) →
-    IsSound c s → IsAtRest c s → s.queues ≡ qs ++ q ∷ rs → q.items ≡ is ++ i ∷ js → HasLeft c s t q o i (is ++ js) →
-    (let rows = stored c s q in let left = without_row i.serial rows in let out : TakenOut = record { change = i.change; failing = fails_at i.serial rows; landed = false } in
-    Walks floor o left t.builds (map (place_of c t o) o.items) (start (Some out) (ahead_at i.serial rows) (length o.reports) o.window) (row_seen c t left) (rows_from i.serial left))
+WalkAfterLeaving = (c : Settings) (s t : State) (qs rs : List Queue) (q o : Queue) (is js : List Item) (i : Item)
+    (floor : ℕ) →
+    IsSound c s → IsCalm c s → s.queues ≡ qs ++ q ∷ rs → q.items ≡ is ++ i ∷ js → HasLeft c s t q o i (is ++ js) →
+    (let rows = stored c s q in
+    let left = without_row i.serial rows in
+    let out : TakenOut = record { change = i.change; failing = fails_at i.serial rows; landed = false } in
+    Walks floor o left t.builds (map (place_of c t o) o.items)
+    (start (Some out) (ahead_at i.serial rows) (length o.reports) o.window) (row_seen c t left)
+    (rows_from i.serial left))
 
 -- the item has landed: it is the last landing of its queue
 pub record HasLanded (c : Settings) (s t : State) (q o : Queue) (i : Item) (others : List Item) : Type 0 where
@@ -172,8 +185,11 @@ pub record HasLanded (c : Settings) (s t : State) (q o : Queue) (i : Item) (othe
 
 -- the first non-failing item has landed
 abbrev pub WalkAfterLanding : Type 0
-WalkAfterLanding = (c : Settings) (s t : State) (qs rs : List Queue) (q o : Queue) (is js : List Item) (i : Item) (floor : ℕ) →
-    IsSound c s → IsAtRest c s → s.queues ≡ qs ++ q ∷ rs → q.items ≡ is ++ i ∷ js → HasLanded c s t q o i (is ++ js) →
+WalkAfterLanding = (c : Settings) (s t : State) (qs rs : List Queue) (q o : Queue) (is js : List Item) (i : Item)
+    (floor : ℕ) →
+    IsSound c s → IsCalm c s → s.queues ≡ qs ++ q ∷ rs → q.items ≡ is ++ i ∷ js → HasLanded c s t q o i (is ++ js) →
     ahead_at i.serial (stored c s q) ≡ None → fails_at i.serial (stored c s q) ≡ false →
-    (let left = without_row i.serial (stored c s q) in let out : TakenOut = record { change = i.change; failing = false; landed = true } in
-    Walks floor o left t.builds (map (place_of c t o) o.items) (start (Some out) None (length o.reports) o.window) (row_seen c t left) (rows_from i.serial left))
+    (let left = without_row i.serial (stored c s q) in
+    let out : TakenOut = record { change = i.change; failing = false; landed = true } in
+    Walks floor o left t.builds (map (place_of c t o) o.items) (start (Some out) None (length o.reports) o.window)
+    (row_seen c t left) (rows_from i.serial left))

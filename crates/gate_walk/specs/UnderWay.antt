@@ -1,5 +1,5 @@
 -- A walk under way after a delivery: what it has done before a visit, and at its stop.
-use Rattle.std.specs.Prelude.{ℕ, true, false, ◌+◌, nat_lt, nat_le, ◌≡◌, List, [], ◌∷◌, ◌++◌, map, filter, length, Option, Some, None}
+use Rattle.std.specs.Prelude.{ℕ, true, false, ◌+◌, nat_lt, nat_le, ◌≡◌, List, [], ◌∷◌, ◌++◌, map, filter, Option, Some, None}
 use Rattle.gate_types.specs.declared.records.Item.{Item as ItemRow}
 use Rattle.gate_types.specs.declared.deliveries.Delivery.{Delivery}
 use Rattle.gate_types.specs.declared.deliveries.Reply.{Reply}
@@ -17,8 +17,8 @@ use Rattle.gate_walk.specs.declared.walk.Next.{Next as CodeNext}
 use Rattle.gate_walk.specs.declared.walk.Next.TheVariants as code
 use Rattle.gate_walk.specs.Walk.{Seen, Carry, Walk, behind_visit}
 use Rattle.gate_walk.specs.Next.{Next, from, next_of, wanted}
-use Rattle.gate_walk.specs.Rescan.{TakenOut, start, stored, rows_with, row_seen, ahead_at, settled_to}
-use Rattle.gate_walk.specs.Delivery.{moved, is_on, is_stale, touch_of, out_by, standing_rows, swept_of, rows_in}
+use Rattle.gate_walk.specs.Rescan.{TakenOut, start, stored, rows_with, row_seen, settled_to}
+use Rattle.gate_walk.specs.Delivery.{moved, is_on, is_stale, touch_of, begins, standing_rows, swept_of, rows_in}
 use Rattle.gate_walk.specs.Views.{next_of_code}
 
 -- an accepted delivery on an item of a lawful state that isn't stale: it takes the item out, or a build of it has ended
@@ -63,7 +63,8 @@ places_of x = map (place_of x.settings x.after (queue_after x)) (queue_after x).
 
 -- its rows after a rebase and then a sweep of the whole state
 abbrev pub tables_settled : Delivered → Rows
-tables_settled x = rows_in x.settings (sweep x.settings (rebase x.settings x.after)) (swept_of x.settings x.after (queue_after x))
+tables_settled x = rows_in x.settings (sweep x.settings (rebase x.settings x.after))
+    (swept_of x.settings x.after (queue_after x))
 
 -- its rows settled for the items below a serial, with their builds, reports and window, and as they are for all else
 abbrev pub tables_settled_below : Delivered → ℕ → Rows
@@ -75,8 +76,7 @@ tables_settled_below x n = settled_to (floor_after x) x.after.builds
 
 -- it begins behind the item ahead, told of what was taken out
 abbrev pub begun : Delivered → Carry
-begun x = (let rows = stored x.settings x.before x.queue in
-    start (out_by (touch_of x.delivery) x.item rows) (ahead_at x.item.serial rows) (length (queue_after x).reports) (queue_after x).window)
+begun x = begins (queue_after x) x.item (touch_of x.delivery) (stored x.settings x.before x.queue)
 
 -- the rows as its visits see them
 abbrev pub rows_seen : Delivered → List Seen
@@ -110,18 +110,21 @@ pub record HasVisited (x : Delivered) (w : Walk) (vs : List Seen) : Type 0 where
 abbrev pub tables_by : Delivered → Walk → Rows
 tables_by x w = fold_edits (tables x) w.told
 
--- a walk that has visited nothing: only what the items below the touched serial are to be is settled, and that is what they were
+-- a walk that has visited nothing: only what the items below the touched serial are to be is settled, and that is
+-- what they were
 pub record Starts (x : Delivered) (w : Walk) : Type 0 where
   pub visited : HasVisited x w []
   pub settled : tables_by x w ≡ tables_settled_below x x.item.serial
 
 -- a walk is begun as it is to be for the delivery: in its queue, ahead of its item, told of what it took out
-pub record IsFor (x : Delivered) (name : List ℕ) (floor window reports : ℕ) (ahead : Option ℕ) (out : Option TakenOut) : Type 0 where
+pub record IsFor (x : Delivered) (name : List ℕ) (floor window reports : ℕ) (ahead : Option ℕ)
+    (out : Option TakenOut) : Type 0 where
   pub named : name ≡ (queue_after x).name
   pub bounded : floor ≡ floor_after x
   pub begins : start out ahead reports window ≡ begun x
 
--- a visit of the row that is wanted: before it the queue is settled below that row, behind it up to that row, and at a stop all of it
+-- a visit of the row that is wanted: before it the queue is settled below that row, behind it up to that row, and at
+-- a stop all of it
 pub record GoesOn (x : Delivered) (old new : Walk) (v : Seen) (vs : List Seen) (next : CodeNext) : Type 0 where
   pub before : tables_by x old ≡ tables_settled_below x v.row.serial
   pub behind : tables_by x new ≡ tables_settled_below x (v.row.serial + 1)

@@ -85,25 +85,19 @@ slot_among builds job = slot_of_outcomes (outcomes_among builds job)
 
 -- whether an item is failing, by builds that all count
 abbrev pub fails_by : List Mark → List SeenNeed → List Job → List Build → Bool
-fails_by marks needs jobs builds = is_blocked_by marks needs || list_any (λ j. j.voting && is_failed_slot (slot_among builds j)) jobs
+fails_by marks needs jobs builds =
+    is_blocked_by marks needs || list_any (λ j. j.voting && is_failed_slot (slot_among builds j)) jobs
 
 -- why an item goes, if it goes; whether no non-failing item is before it
 abbrev pub verdict_of : Bool → List ℕ → List Mark → List SeenNeed → List Job → List Build → Option Verdict
 verdict_of first gone marks needs jobs builds =
     if not (are_met_without gone needs) then Some verdict.Needs else (
-    if fails_by marks needs jobs builds && not (is_blocked_by marks needs) && first && list_all (λ j. is_finished (slot_among builds j)) jobs then Some verdict.Failed else None)
+    if fails_by marks needs jobs builds && not (is_blocked_by marks needs) && first
+    && list_all (λ j. is_finished (slot_among builds j)) jobs then Some verdict.Failed else None)
 
 -- whether the item is failing now
 abbrev pub fails : Carry → Seen → Bool
 fails k v = fails_by k.marks v.needs v.jobs (still_counting k v)
-
--- whether each of its slots is finished
-abbrev pub is_done : Carry → Seen → Bool
-is_done k v = list_all (λ j. is_finished (slot_among (still_counting k v) j)) v.jobs
-
--- failing, not blocked, first and finished
-abbrev pub is_out : Carry → Seen → Bool
-is_out k v = fails k v && not (is_blocked_by k.marks v.needs) && not (is_some k.ahead) && is_done k v
 
 -- why it goes, if it goes
 abbrev pub verdict_by : Carry → Seen → Option Verdict
@@ -111,7 +105,13 @@ verdict_by k v = verdict_of (not (is_some k.ahead)) k.gone k.marks v.needs v.job
 
 -- its row
 abbrev pub row_by : Carry → Seen → ItemRow
-row_by k v = record { serial = v.row.serial; change = v.row.change; revision = v.row.revision; ahead = k.ahead; failing = fails k v }
+row_by k v = record {
+  serial = v.row.serial;
+  change = v.row.change;
+  revision = v.row.revision;
+  ahead = k.ahead;
+  failing = fails k v;
+}
 
 -- its builds that stop: all of them where the line has changed, the running ones where it goes
 abbrev pub stopped_by : Carry → Seen → List Build
@@ -119,7 +119,8 @@ stopped_by k v = filter (λ b. k.resets || is_some (verdict_by k v) && is_runnin
 
 -- the stops of an item's builds: of all of them, or of the running ones where it goes
 abbrev pub stops_of : Bool → Bool → List Build → List Edit
-stops_of resets going builds = map (λ b. edit.StopBuild b.number) (filter (λ b. resets || going && is_running b.outcome) builds)
+stops_of resets going builds =
+    map (λ b. edit.StopBuild b.number) (filter (λ b. resets || going && is_running b.outcome) builds)
 
 -- the window, where it shrinks
 abbrev pub window_edits_by : List ℕ → ℕ → ℕ → Option Verdict → List Edit
@@ -163,7 +164,9 @@ asks_for k v = k.resets || k.passes || needs_gone k.gone v.needs
 abbrev pub walk_edits : List ℕ → ℕ → Carry → List Seen → List Edit
 walk_edits name floor k [] = []
 walk_edits name floor k (v ∷ vs) =
-    if asks_for k v then visit_edits name floor k v ++ walk_edits name floor (carried floor k v) vs else walk_edits name floor k vs
+    if asks_for k v
+    then visit_edits name floor k v ++ walk_edits name floor (carried floor k v) vs
+    else walk_edits name floor k vs
 
 -- the first row is asked for whatever is carried
 abbrev pub walk_from : List ℕ → ℕ → Carry → List Seen → List Edit

@@ -181,7 +181,11 @@ impl Board {
 
     /// Takes an item out, and says what the walk is told of it.
     fn take_out(&mut self, of: u64, landed: bool) -> Option<TakenOut> {
-        let out = self.rows.iter().find(|row| row.item.serial.get() == of)?.item;
+        let out = self
+            .rows
+            .iter()
+            .find(|row| row.item.serial.get() == of)?
+            .item;
         self.rows.retain(|row| row.item.serial.get() != of);
         self.reports = self.reports.saturating_add(1);
         Some(TakenOut {
@@ -216,7 +220,11 @@ impl Board {
             revision: first()?,
         })?;
         self.meet(out.change);
-        self.window = if self.window == 0 { 0 } else { self.window.min(999) + 1 };
+        self.window = if self.window == 0 {
+            0
+        } else {
+            self.window.min(999) + 1
+        };
         Ok(Some(out))
     }
 
@@ -253,10 +261,8 @@ impl Board {
     fn wanted(&self, walk: &Walk, next: Next) -> Option<&Row> {
         match next {
             Next::Go(n) => self.rows.iter().find(|row| row.item.serial.get() > n.get()),
-            Next::Need(n) => self
-                .rows
-                .iter()
-                .find(|row| row.item.serial.get() > n.get() && needs_one(row, walk.gone())),
+            Next::Need(n) => self.rows.iter().find(|row| row.item.serial.get() > n.get()
+                && needs_one(row, walk.gone())),
             Next::Stop => None,
         }
     }
@@ -276,8 +282,15 @@ impl Board {
             None => None,
         };
         let queue = name(alloc, "core")?;
-        let mut walk =
-            Walk::start(alloc, queue, self.floor, self.window, self.reports, ahead, out)?;
+        let mut walk = Walk::start(
+            alloc,
+            queue,
+            self.floor,
+            self.window,
+            self.reports,
+            ahead,
+            out,
+        )?;
         let mut visited = Vec::new(alloc);
         let mut wanted = self.rows.iter().find(|row| row.item.serial.get() >= from);
         for _ in 0..self.rows.len() {
@@ -304,9 +317,7 @@ impl Board {
 
     /// Whether some need of a row has neither landed nor stands as a non-failing item.
     pub fn is_blocked(&self, row: &Row) -> bool {
-        row.needs
-            .iter()
-            .any(|need| !need.landed && self.standing(need.change) != Some(false))
+        row.needs.iter().any(|need| !need.landed && self.standing(need.change) != Some(false))
     }
 
     /// The builds of all items, in order.

@@ -86,7 +86,8 @@ fn stands_fine(marks: &[Mark], need: &SeenNeed) -> bool
 
 /// Whether each need has landed or is a non-failing item.
 fn are_met(marks: &[Mark], needs: &[SeenNeed]) -> bool
-    ensures { result ≡ list_all (λ n. n.landed || walk.is_fine (walk.mark_of marks.now n.change n.standing)) needs.now }
+    ensures { result ≡
+        list_all (λ n. n.landed || walk.is_fine (walk.mark_of marks.now n.change n.standing)) needs.now }
 {
     needs
         .iter()
@@ -203,8 +204,10 @@ struct Marks {
 
 /// What the jobs say by builds that all count.
 fn marks_among(alloc: Global, builds: &[Build], jobs: &[Job]) -> Result<Marks, NoMemory>
-    ensures failed { IfOk result (λ m. m.failed ≡ list_any (λ j. j.voting && rules.is_failed_slot (walk.slot_among builds.now j)) jobs.now) }
-    ensures finished { IfOk result (λ m. m.finished ≡ list_all (λ j. rules.is_finished (walk.slot_among builds.now j)) jobs.now) }
+    ensures failed { IfOk result (λ m. m.failed ≡
+        list_any (λ j. j.voting && rules.is_failed_slot (walk.slot_among builds.now j)) jobs.now) }
+    ensures finished { IfOk result (λ m. m.finished ≡
+        list_all (λ j. rules.is_finished (walk.slot_among builds.now j)) jobs.now) }
 {
     let mut failed = false;
     let mut finished = true;
@@ -217,7 +220,8 @@ fn marks_among(alloc: Global, builds: &[Build], jobs: &[Job]) -> Result<Marks, N
 }
 
 fn verdict_of(met: bool, failed: bool) -> Option<Verdict>
-    ensures { result ≡ (if not met then Option.Some Verdict.Needs else (if failed then Option.Some Verdict.Failed else Option.None)) }
+    ensures { result ≡
+        (if not met then Option.Some Verdict.Needs else (if failed then Option.Some Verdict.Failed else Option.None)) }
 {
     if !met {
         Some(Verdict::Needs)
@@ -239,7 +243,8 @@ pub fn judge(
     counting: &[Build],
 ) -> Result<Judged, NoMemory>
     ensures failing { IfOk result (λ j. j.failing ≡ walk.fails_by marks.now needs.now jobs.now counting.now) }
-    ensures verdict { IfOk result (λ j. j.verdict ≡ walk.verdict_of first gone.now marks.now needs.now jobs.now counting.now) }
+    ensures verdict { IfOk result (λ j. j.verdict ≡
+        walk.verdict_of first gone.now marks.now needs.now jobs.now counting.now) }
 {
     let met = are_met_without(gone, needs);
     let blocked = is_blocked_by(marks, needs);

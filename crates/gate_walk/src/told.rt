@@ -1,26 +1,15 @@
 //! The edits of one visit.
 ghost use Rattle.std.specs.Prelude.{◌≡◌, ◌<◌, ◌+◌, ◌^◌, ◌++◌, ◌||◌, ◌&&◌, is_some, map, filter, OnOk, IfOk};
 ghost use Rattle.gate_types.specs.Slot as rules;
-ghost use Rattle.gate_types.specs.Window as window_rules;
 ghost use Rattle.gate_queue.specs.Edits as edits_of;
 ghost use Rattle.gate_walk.specs.Walk as walk;
 
+use gate_queue::window::shrink;
 use gate_types::edits::Edit;
 use gate_types::names::{Name, NoMemory};
 use gate_types::records::{Build, Item, Outcome, Report, Verdict};
 use gate_types::sequence::Sequence;
 use std::alloc::Global;
-
-/// The window after a failure: half of it, rounded down, and never below the floor.
-pub fn shrink(window: u32, floor: u32) -> u32
-    ensures { result ≡ window_rules.shrink window floor }
-{
-    if window == 0 {
-        0
-    } else {
-        (window / 2).max(floor)
-    }
-}
 
 fn is_stopped(resets: bool, going: bool, build: &Build) -> bool
     ensures { result ≡ (resets || going && rules.is_running build.now.outcome) }
@@ -117,7 +106,10 @@ pub fn edits_of_visit(
     verdict: Option<Verdict>,
     builds: &[Build],
 ) -> Result<Sequence<Edit>, NoMemory>
-    ensures { IfOk result (λ edits. edits ≡ (walk.stops_of beside.resets (is_some verdict) builds.now ++ edits_of.item_edits name.now beside.reports row verdict) ++ walk.window_edits_by name.now beside.floor beside.window verdict) }
+    ensures { IfOk result (λ edits. edits ≡
+        (walk.stops_of beside.resets (is_some verdict) builds.now
+        ++ edits_of.item_edits name.now beside.reports row verdict)
+        ++ walk.window_edits_by name.now beside.floor beside.window verdict) }
 {
     let mut edits = Sequence::new(alloc);
     push_stops(&mut edits, beside.resets, verdict.is_some(), builds)?;

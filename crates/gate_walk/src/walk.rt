@@ -8,7 +8,8 @@ ghost use Rattle.gate_queue.specs.Edits as edits_of;
 ghost use Rattle.gate_walk.specs.TakenOut.{out_of};
 
 use crate::seen::{Mark, SeenNeed, judge};
-use crate::told::{Beside, edits_of_visit, shrink};
+use crate::told::{Beside, edits_of_visit};
+use gate_queue::window::shrink;
 use gate_types::config::Job;
 use gate_types::edits::Edit;
 use gate_types::names::{Name, NoMemory};
@@ -64,7 +65,20 @@ impl Model for Walk {
 
     ghost Value = { Walk };
 
-    ghost view = { λ w. record { name = w.name; floor = w.floor; told = w.edits.items; carry = record { resets = w.resets; passes = w.passes; ahead = w.ahead; gone = w.gone.items; marks = w.marks.items; reports = w.reports; window = w.window } } };
+    ghost view = { λ w. record {
+      name = w.name;
+      floor = w.floor;
+      told = w.edits.items;
+      carry = record {
+        resets = w.resets;
+        passes = w.passes;
+        ahead = w.ahead;
+        gone = w.gone.items;
+        marks = w.marks.items;
+        reports = w.reports;
+        window = w.window;
+      };
+    } };
 
     // each visit adds a mark, and one report at most
     ghost invariant = { λ w. w.reports ≤ 1000000000000000 + vec_len w.marks };
@@ -146,7 +160,8 @@ fn append_all(
 ) -> Result<(), NoMemory>
     ensures edits { OnOk result (edits.new.items ≡ edits.old.items ++ told.items) }
     ensures marks { OnOk result (marks.new.items ≡ marks.old.items ++ mark ∷ []) }
-    ensures gone { OnOk result (gone.new.items ≡ (if going then gone.old.items ++ mark.change ∷ [] else gone.old.items)) }
+    ensures gone { OnOk result (gone.new.items ≡
+        (if going then gone.old.items ++ mark.change ∷ [] else gone.old.items)) }
     ensures more { OnOk result (vec_len marks.new ≡ vec_len marks.old + 1) }
     ensures same_edits { OnErr result (edits.new.items ≡ edits.old.items) }
     ensures same_len { OnErr result (vec_len marks.new ≡ vec_len marks.old) }
@@ -178,7 +193,8 @@ impl Walk {
 
     /// What a visit of this row comes to.
     fn told(&self, alloc: Global, seen: &Seen) -> Result<Told, NoMemory>
-        ensures edits { IfOk result (λ t. t.edits.items ≡ rules.visit_edits self.now.name self.now.floor self.now.carry (seen_of seen.now)) }
+        ensures edits { IfOk result (λ t. t.edits.items ≡
+            rules.visit_edits self.now.name self.now.floor self.now.carry (seen_of seen.now)) }
         ensures failing { IfOk result (λ t. t.failing ≡ rules.fails self.now.carry (seen_of seen.now)) }
         ensures verdict { IfOk result (λ t. t.verdict ≡ rules.verdict_by self.now.carry (seen_of seen.now)) }
     {
@@ -252,8 +268,14 @@ impl Walk {
         out: Option<TakenOut>,
     ) -> Result<Self, NoMemory>
         requires { reports ≤ 1000000000000000 }
-        ensures for_a_delivery { IfOk result (λ w. (x : Delivered) → IsFor x name floor window reports ahead (option_map out_of out) → Starts x w) }
-        ensures begun { IfOk result (λ w. w ≡ record { name = name; floor = floor; told = []; carry = law.start (option_map out_of out) ahead reports window }) }
+        ensures for_a_delivery { IfOk result (λ w. (x : Delivered) →
+            IsFor x name floor window reports ahead (option_map out_of out) → Starts x w) }
+        ensures begun { IfOk result (λ w. w ≡ record {
+          name = name;
+          floor = floor;
+          told = [];
+          carry = law.start (option_map out_of out) ahead reports window;
+        }) }
     {
         Ok(Walk {
             name,
@@ -300,13 +322,17 @@ impl Walk {
         Ok(self.next(seen.row.serial))
     }
 
-    #[tactic(auto, using(crate::proofs::UnderWay::ends))]
     /// Visits the row that was wanted, or learns that it isn't there. Where memory is refused the walk
     /// stays as it was.
+    #[tactic(auto, using(crate::proofs::UnderWay::ends))]
     pub fn visit(&mut self, alloc: Global, seen: Option<&Seen>) -> Result<Next, NoMemory>
-        ensures settles { IfOk result (λ n. (x : Delivered) (vs : List rules.Seen) → HasVisited x self.old vs → row_wanted x vs ≡ option_map (λ v. seen_of v.now) seen.entry → Visits x self.old self.new vs (option_map (λ v. seen_of v.now) seen.entry) n) }
-        ensures visited { OnOk result (self.new ≡ option_map_or (λ v. rules.behind_visit self.old (seen_of v.now)) seen.entry self.old) }
-        ensures next { IfOk result (λ n. next_is n (option_map_or (λ v. next.next_of self.new.carry v.now.row.serial) seen.entry next.stop)) }
+        ensures settles { IfOk result (λ n. (x : Delivered) (vs : List rules.Seen) → HasVisited x self.old vs →
+            (let row = option_map (λ v. seen_of v.now) seen.entry in
+            row_wanted x vs ≡ row → Visits x self.old self.new vs row n)) }
+        ensures visited { OnOk result (self.new ≡
+            option_map_or (λ v. rules.behind_visit self.old (seen_of v.now)) seen.entry self.old) }
+        ensures next { IfOk result (λ n. next_is n
+            (option_map_or (λ v. next.next_of self.new.carry v.now.row.serial) seen.entry next.stop)) }
         ensures same { OnErr result (self.new ≡ self.old) }
     {
         match seen {

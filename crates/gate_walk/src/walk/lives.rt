@@ -91,12 +91,17 @@ impl Life {
         let Some(of) = self.some_serial() else {
             return Ok(());
         };
-        let job = if self.dice.roll(2) == 0 { "unit" } else { "docs" };
+        let job = if self.dice.roll(2) == 0 {
+            "unit"
+        } else {
+            "docs"
+        };
         let mut ahead = Vec::new(alloc);
         let mut due = false;
-        for row in self.board.rows.iter() {
+        let board = &self.board;
+        for row in board.rows.iter() {
             if row.item.serial.get() == of {
-                due = !self.board.is_blocked(row) && waits(row, job);
+                due = !board.is_blocked(row) && waits(row, job);
             } else if row.item.serial.get() < of && !row.item.failing {
                 ahead.push(row.item.change.get())?;
             }
@@ -116,7 +121,8 @@ impl Life {
             2 | 3 => Outcome::Failure,
             _ => Outcome::Lost,
         };
-        let row = self.board.rows.iter().find(|row| runs(row, number))?;
+        let rows = self.board.rows.as_slice();
+        let row = rows.iter().find(|row| runs(row, number))?;
         let touched = (row.item.serial.get(), ahead_of(row), None);
         self.board.end(number, outcome);
         Some(touched)
@@ -125,7 +131,11 @@ impl Life {
     /// Some item leaves without landing.
     fn leave(&mut self) -> Option<Touched> {
         let of = self.some_serial()?;
-        let row = self.board.rows.iter().find(|row| row.item.serial.get() == of)?;
+        let row = self
+            .board
+            .rows
+            .iter()
+            .find(|row| row.item.serial.get() == of)?;
         let ahead = ahead_of(row);
         let out = self.board.leave(of);
         Some((of, ahead, out))
@@ -170,9 +180,7 @@ fn ahead_of(row: &Row) -> Option<u64> {
 }
 
 fn runs(row: &Row, number: u64) -> bool {
-    row.builds
-        .iter()
-        .any(|b| b.number.get() == number && b.outcome == Outcome::Running)
+    row.builds.iter().any(|b| b.number.get() == number && b.outcome == Outcome::Running)
 }
 
 /// Whether a job has succeeded, has failed, or was lost three times.
@@ -246,7 +254,12 @@ fn builds_rise(builds: &[Build]) -> bool
 }
 
 /// Walks and settles, and compares what the two leave. The queue goes on as the walk leaves it.
-fn compare(rt: &impl Abort, alloc: Global, life: &mut Life, touched: Touched) -> Result<(), Unmade> {
+fn compare(
+    rt: &impl Abort,
+    alloc: Global,
+    life: &mut Life,
+    touched: Touched,
+) -> Result<(), Unmade> {
     let (from, ahead, out) = touched;
     let settled = settling(rt, alloc, &life.board, life.build)?;
     let (walk, _visited) = life.board.walk(rt, alloc, from, ahead, out)?;
