@@ -25,12 +25,12 @@ cat >"$program/src/main.rt" <<'PROGRAM'
 //! Times walks over made queues: each item has one job, whose build ran on the item's line.
 #![tactic(auto)]
 
-use gate_types::config::Job;
+use gate_types::config::{Job, Queue};
 use gate_types::names::Name;
 use gate_types::numbers::{BuildNo, ChangeNo, Revision, Serial};
 use gate_types::records::{Build, Item, Outcome};
 use gate_types::sequence::Sequence;
-use gate_walk::walk::{Next, Seen, TakenOut, Walk};
+use gate_walk::walk::{Next, QueueFacts, Seen, TakenOut, Touched, Walk};
 use std::alloc::{AllocError, Global};
 use std::io;
 use std::time::Instant;
@@ -90,26 +90,34 @@ fn made_rows(alloc: Global, count: u64, failed: u64) -> Result<Vec<Row>, AllocEr
     Ok(rows)
 }
 
-fn begun(alloc: Global, touch: Touch) -> Result<Walk, AllocError> {
-    let queue = name(alloc, "core")?;
-    match touch {
-        Touch::Failure(n) => {
-            Walk::start(alloc, queue, 1, 20, 0, Serial::new(n.saturating_sub(1)), None)
-        }
-        Touch::Landing => {
-            let out = TakenOut {
+fn begun(alloc: Global, settings: &Queue, touch: Touch) -> Result<Walk, AllocError> {
+    let queue = QueueFacts {
+        settings,
+        window: 20,
+        reports: 1,
+    };
+    let touched = match touch {
+        Touch::Failure(n) => Touched {
+            serial: serial(n)?,
+            ahead: Serial::new(n.saturating_sub(1)),
+            out: None,
+        },
+        Touch::Landing => Touched {
+            serial: serial(1)?,
+            ahead: None,
+            out: Some(TakenOut {
                 change: ChangeNo::new(1).ok_or(AllocError)?,
                 failing: false,
                 landed: true,
-            };
-            Walk::start(alloc, queue, 1, 20, 1, None, Some(out))
-        }
-    }
+            }),
+        },
+    };
+    Walk::start(alloc, queue, touched)
 }
 
 /// A walk from a serial on: each row is found by its serial. Says how many were visited.
-fn walked(alloc: Global, rows: &[Row], jobs: &[Job], from: u64, touch: Touch) -> Result<u64, AllocError> {
-    let mut walk = begun(alloc, touch)?;
+fn walked(alloc: Global, settings: &Queue, rows: &[Row], jobs: &[Job], from: u64, touch: Touch) -> Result<u64, AllocError> {
+    let mut walk = begun(alloc, settings, touch)?;
     let mut visited = 0u64;
     let mut wanted = from;
     for _ in 0..rows.len() {
@@ -139,6 +147,11 @@ fn timed(rt: &HostRuntime, word: &str, count: u64, touch: Touch) -> io::Result<(
         Touch::Landing => (0, 2),
     };
     let rows = made_rows(alloc, count, failed)?;
+    let settings = Queue {
+        name: name(alloc, "core")?,
+        window: 20,
+        floor: 1,
+    };
     let mut jobs = Vec::new(alloc);
     jobs.push(Job {
         name: name(alloc, "unit")?,
@@ -148,7 +161,7 @@ fn timed(rt: &HostRuntime, word: &str, count: u64, touch: Touch) -> io::Result<(
     let mut visited = 0;
     let start = Instant::now(rt)?;
     for _ in 0..turns {
-        visited = walked(alloc, &rows, &jobs, from, touch)?;
+        visited = walked(alloc, &settings, &rows, &jobs, from, touch)?;
     }
     let nanos = start.elapsed(rt)?.as_nanos();
     println!(rt; "{word} {count} {visited} {turns} {nanos}")

@@ -8,8 +8,11 @@ use Rattle.gate_types.specs.Standing.{places_after}
 use Rattle.gate_types.specs.Rows.{fold_edits}
 use Rattle.gate_walk.specs.Walk.{Seen, Carry, Walk, behind_visit, visit_edits, carried, asks_for, walk_edits, walk_from}
 use Rattle.gate_walk.specs.Next.{next_of, wanted}
-use Rattle.gate_walk.specs.Rescan.{TakenOut, start, row_seen, rows_from, settled_to}
+use Rattle.gate_walk.specs.Rescan.{start, row_seen, rows_from, settled_to}
 use Rattle.gate_walk.specs.Delivery.{IsWalked}
+use Rattle.gate_walk.specs.declared.walk.QueueFacts.{QueueFacts}
+use Rattle.gate_walk.specs.declared.walk.Touched.{Touched}
+use Rattle.gate_walk.specs.TakenOut.{out_of}
 use Rattle.gate_walk.specs.declared.walk.Next.{Next as CodeNext}
 use Rattle.gate_walk.specs.Views.{next_of_code}
 use Rattle.gate_walk.specs.UnderWay.{Delivered, queue_after, floor_after, stale_rows, tables, places_of, tables_settled, tables_settled_below, begun, rows_seen, walk_by, next_by, row_wanted, AreWanted, HasVisited, tables_by, IsFor, Starts, GoesOn, Ends, Visits}
@@ -325,12 +328,13 @@ settled_at_end x (u ∷ vs) w e =
 -- ---- the calls
 
 -- nothing has been visited, and nothing is settled but the items before the touched one, which stay as they are
-pub starts : (x : Delivered) (w : Walk) (name : List ℕ) (floor window reports : ℕ) (ahead : Option ℕ) (out : Option TakenOut) →
-    w ≡ record { name = name; floor = floor; told = []; carry = start out ahead reports window } → IsFor x name floor window reports ahead out → Starts x w
-starts x w name floor window reports ahead out begins f =
+pub starts : (x : Delivered) (w : Walk) (queue : QueueFacts) (touched : Touched) →
+    w ≡ record { name = queue.settings.now.name; floor = queue.settings.now.floor; touched = touched.serial; told = []; carry = start (option_map out_of touched.out) touched.ahead queue.reports queue.window } →
+    IsFor x queue touched → Starts x w
+starts x w queue touched begins f =
     let i = x.item.serial in
     let none : under seen_serial i (rows_on x) ≡ [] = none_under seen_serial i i (rows_on x) (omega arith) (on_rise x) in
-    let is : w ≡ walk_by x [] = begins ∙ (λ k. record { name = f.named k; floor = f.bounded k; told = []; carry = f.begins k }) in
+    let is : w ≡ walk_by x [] = begins ∙ (λ k. record { name = f.name k; floor = f.floor k; touched = f.serial k; told = []; carry = f.begins k }) in
     record {
       visited = record { is = is; were_wanted = tt };
       settled = ap (fold_edits (tables x)) (ap (λ (z : Walk). z.told) is ∙ ap (told_by x) (sym none)) ∙ settled_under x i (omega arith);

@@ -1,5 +1,5 @@
 -- A walk under way after a delivery: what it has done before a visit, and at its stop.
-use Rattle.std.specs.Prelude.{ℕ, true, false, ◌+◌, nat_lt, nat_le, ◌≡◌, List, [], ◌∷◌, ◌++◌, map, filter, Option, Some, None}
+use Rattle.std.specs.Prelude.{ℕ, true, false, ◌+◌, nat_lt, nat_le, ◌≡◌, List, [], ◌∷◌, ◌++◌, map, filter, Option, Some, None, option_map}
 use Rattle.gate_types.specs.declared.records.Item.{Item as ItemRow}
 use Rattle.gate_types.specs.declared.deliveries.Delivery.{Delivery}
 use Rattle.gate_types.specs.declared.deliveries.Reply.{Reply}
@@ -13,12 +13,15 @@ use Rattle.gate_types.specs.Sweep.{sweep}
 use Rattle.gate_types.specs.Step.{accepted, raw_step}
 use Rattle.gate_types.specs.Lawful.{IsLawful}
 use Rattle.gate_types.specs.Rows.{Rows, fold_edits}
+use Rattle.gate_walk.specs.declared.walk.QueueFacts.{QueueFacts}
+use Rattle.gate_walk.specs.declared.walk.Touched.{Touched}
 use Rattle.gate_walk.specs.declared.walk.Next.{Next as CodeNext}
 use Rattle.gate_walk.specs.declared.walk.Next.TheVariants as code
 use Rattle.gate_walk.specs.Walk.{Seen, Carry, Walk, behind_visit}
 use Rattle.gate_walk.specs.Next.{Next, from, next_of, wanted}
-use Rattle.gate_walk.specs.Rescan.{TakenOut, start, stored, rows_with, row_seen, settled_to}
+use Rattle.gate_walk.specs.Rescan.{start, stored, rows_with, row_seen, settled_to}
 use Rattle.gate_walk.specs.Delivery.{moved, is_on, is_stale, touch_of, begins, standing_rows, swept_of, rows_in}
+use Rattle.gate_walk.specs.TakenOut.{out_of}
 use Rattle.gate_walk.specs.Views.{next_of_code}
 
 -- an accepted delivery on an item of a lawful state that isn't stale: it takes the item out, or a build of it has ended
@@ -84,7 +87,13 @@ rows_seen x = map (row_seen x.settings x.after (stale_rows x)) (stale_rows x)
 
 -- the walk after visits, the last one first
 abbrev pub walk_by : Delivered → List Seen → Walk
-walk_by x [] = record { name = (queue_after x).name; floor = floor_after x; carry = begun x; told = [] }
+walk_by x [] = record {
+  name = (queue_after x).name;
+  floor = floor_after x;
+  touched = x.item.serial;
+  carry = begun x;
+  told = [];
+}
 walk_by x (v ∷ vs) = behind_visit (walk_by x vs) v
 
 -- what it wants: at first the first row from the touched serial on
@@ -116,12 +125,13 @@ pub record Starts (x : Delivered) (w : Walk) : Type 0 where
   pub visited : HasVisited x w []
   pub settled : tables_by x w ≡ tables_settled_below x x.item.serial
 
--- a walk is begun as it is to be for the delivery: in its queue, ahead of its item, told of what it took out
-pub record IsFor (x : Delivered) (name : List ℕ) (floor window reports : ℕ) (ahead : Option ℕ)
-    (out : Option TakenOut) : Type 0 where
-  pub named : name ≡ (queue_after x).name
-  pub bounded : floor ≡ floor_after x
-  pub begins : start out ahead reports window ≡ begun x
+-- a walk is begun as it is to be for the delivery: in its queue, at its item, behind the one ahead, told of what was taken
+-- out
+pub record IsFor (x : Delivered) (queue : QueueFacts) (touched : Touched) : Type 0 where
+  pub name : queue.settings.now.name ≡ (queue_after x).name
+  pub floor : queue.settings.now.floor ≡ floor_after x
+  pub serial : touched.serial ≡ x.item.serial
+  pub begins : start (option_map out_of touched.out) touched.ahead queue.reports queue.window ≡ begun x
 
 -- a visit of the row that is wanted: before it the queue is settled below that row, behind it up to that row, and at
 -- a stop all of it

@@ -149,6 +149,7 @@ carried floor k v = record {
 pub record Walk : Type 0 where
   pub name : List ℕ
   pub floor : ℕ
+  pub touched : ℕ
   pub carry : Carry
   pub told : List Edit
 

@@ -1,7 +1,7 @@
 //! A queue as plain lists, for the tests: all changes stand at revision 1.
 use crate::seen::SeenNeed;
-use crate::walk::{Next, Seen, TakenOut, Walk};
-use gate_types::config::Job;
+use crate::walk::{Next, QueueFacts, Seen, TakenOut, Touched, Walk};
+use gate_types::config::{Job, Queue};
 use gate_types::edits::Edit;
 use gate_types::names::Name;
 use gate_types::numbers::{BuildNo, ChangeNo, Revision, Serial};
@@ -281,16 +281,22 @@ impl Board {
             Some(n) => Some(serial(n)?),
             None => None,
         };
-        let queue = name(alloc, "core")?;
-        let mut walk = Walk::start(
-            alloc,
-            queue,
-            self.floor,
-            self.window,
-            self.reports,
+        let settings = Queue {
+            name: name(alloc, "core")?,
+            window: self.window,
+            floor: self.floor,
+        };
+        let queue = QueueFacts {
+            settings: &settings,
+            window: self.window,
+            reports: self.reports,
+        };
+        let touched = Touched {
+            serial: serial(from)?,
             ahead,
             out,
-        )?;
+        };
+        let mut walk = Walk::start(alloc, queue, touched)?;
         let mut visited = Vec::new(alloc);
         let mut wanted = self.rows.iter().find(|row| row.item.serial.get() >= from);
         for _ in 0..self.rows.len() {

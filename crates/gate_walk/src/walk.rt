@@ -10,7 +10,7 @@ ghost use Rattle.gate_walk.specs.TakenOut.{out_of};
 use crate::seen::{Mark, SeenNeed, judge};
 use crate::told::{Beside, edits_of_visit};
 use gate_queue::window::shrink;
-use gate_types::config::Job;
+use gate_types::config::{Job, Queue};
 use gate_types::edits::Edit;
 use gate_types::names::{Name, NoMemory};
 use gate_types::numbers::{ChangeNo, Serial};
@@ -35,6 +35,25 @@ pub struct TakenOut {
     pub landed: bool,
 }
 
+/// Where a delivery touched a queue: the serial of the item, that of the last non-failing item before it, and
+/// what was taken out, unless the item stands.
+#[derive(Clone, Copy, Debug)]
+pub struct Touched {
+    pub serial: Serial,
+    pub ahead: Option<Serial>,
+    pub out: Option<TakenOut>,
+}
+
+/// The queue as the delivery left it: its settings, its window, and how many reports it has made, that of the
+/// delivery among them, at most 10^15.
+#[derive(Clone, Copy, Debug)]
+pub struct QueueFacts<'a> {
+    pub settings: &'a Queue,
+    pub window: u32,
+    pub reports: u64,
+    pub ghost reports_in_range: { reports ≤ 1000000000000000 },
+}
+
 /// What a walk wants next: the queue's first item above a serial, its first item above it that needs a
 /// change of `gone`, or nothing more.
 #[derive(Clone, Copy, Debug, PartialEq, Eq)]
@@ -51,6 +70,7 @@ pub struct Walk {
     floor: u32,
     window: u32,
     reports: u64,
+    touched: Serial,
     resets: bool,
     passes: bool,
     ahead: Option<Serial>,
@@ -68,6 +88,7 @@ impl Model for Walk {
     ghost view = { λ w. record {
       name = w.name;
       floor = w.floor;
+      touched = w.touched;
       told = w.edits.items;
       carry = record {
         resets = w.resets;
@@ -256,36 +277,35 @@ impl Walk {
         }
     }
 
-    /// A walk before its first visit: of the touched item if nothing was taken out, else of the next
-    /// one; `ahead` is the serial of the last non-failing item before it.
-    pub fn start(
-        alloc: Global,
-        name: Name,
-        floor: u32,
-        window: u32,
-        reports: u64,
-        ahead: Option<Serial>,
-        out: Option<TakenOut>,
-    ) -> Result<Self, NoMemory>
-        requires { reports ≤ 1000000000000000 }
-        ensures for_a_delivery { IfOk result (λ w. (x : Delivered) →
-            IsFor x name floor window reports ahead (option_map out_of out) → Starts x w) }
+    /// The serial that was touched: the first row from it on is wanted first.
+    pub fn touched(&self) -> Serial
+        ensures { result ≡ self.now.touched }
+    {
+        self.touched
+    }
+
+    /// A walk before its first visit. The row that is wanted first is that of the touched item if nothing was
+    /// taken out, else the next one.
+    pub fn start(alloc: Global, queue: QueueFacts, touched: Touched) -> Result<Self, NoMemory>
+        ensures for_a_delivery { IfOk result (λ w. (x : Delivered) → IsFor x queue.entry touched → Starts x w) }
         ensures begun { IfOk result (λ w. w ≡ record {
-          name = name;
-          floor = floor;
+          name = queue.entry.settings.now.name;
+          floor = queue.entry.settings.now.floor;
+          touched = touched.serial;
           told = [];
-          carry = law.start (option_map out_of out) ahead reports window;
+          carry = law.start (option_map out_of touched.out) touched.ahead queue.entry.reports queue.entry.window;
         }) }
     {
         Ok(Walk {
-            name,
-            floor,
-            window,
-            reports,
-            resets: changes_lines(out),
-            passes: passes_a_landing(out),
-            ahead,
-            gone: gone_at_first(alloc, out)?,
+            name: queue.settings.name.copy()?,
+            floor: queue.settings.floor,
+            window: queue.window,
+            reports: queue.reports,
+            touched: touched.serial,
+            resets: changes_lines(touched.out),
+            passes: passes_a_landing(touched.out),
+            ahead: touched.ahead,
+            gone: gone_at_first(alloc, touched.out)?,
             marks: Vec::new(alloc),
             edits: Vec::new(alloc),
         })

@@ -1,23 +1,23 @@
-use Rattle.std.specs.Prelude.{option_map}
-use Rattle.gate_walk.specs.TakenOut.{out_of}
 use Rattle.gate_walk.proofs.UnderWay.{starts}
 use Rattle.gate_walk.proofs.walk.Walk.start.Goals as goal
 
 pub returns-clause-for_a_delivery : goal.returns-clause-for_a_delivery
 returns-clause-for_a_delivery c =
-    let a = c.args in
-    λ x f. starts x _ a.name a.floor a.window a.reports a.ahead (option_map out_of a.out)
+    let queue = c.args.queue in
+    let touched = c.args.touched in
+    λ x f. starts x _ queue touched
     (λ k. record {
-      name = a.name;
-      floor = a.floor;
+      name = c.in_ok-copy.ensures k;
+      floor = queue.settings.now.floor;
+      touched = touched.serial;
       told = c.new-2.ensures.items k;
       carry = record {
         resets = c.changes_lines.ensures k;
         passes = c.passes_a_landing.ensures k;
-        ahead = a.ahead;
+        ahead = touched.ahead;
         gone = c.in_ok-gone_at_first.ensures k;
         marks = c.new.ensures.items k;
-        reports = a.reports;
-        window = a.window;
+        reports = queue.reports;
+        window = queue.window;
       };
     }) f
