@@ -1,25 +1,26 @@
 -- A walk under way: before each visit the queue is settled below the row that is wanted, and at the stop all of it.
 use Rattle.std.proofs.Common.{◌≡◌, ℕ, suc, ◌+◌, ◌<◌, ◌≤◌, Bool, true, false, ◌&&◌, cond, Option, Some, None, List, [], ◌∷◌, ◌++◌, map, length, inl, inr, refl, sym, ap, ◌∙◌, subst, arith, append-nil, append_assoc, true≢false}
-use Rattle.std.specs.Prelude.{nat_lt, nat_le, filter, find, option_map, Result, Ok, Err, OnOk, IfOk}
+use Rattle.std.specs.Prelude.{◌==◌, nat_lt, nat_le, filter, find, option_map, Result, Ok, Err, OnOk, IfOk}
 use Rattle.std.proofs.lemmas.Bool.{and_parts, ltb-true, lt-ltb, leb-true, le-leb}
 use Rattle.gate_types.specs.declared.records.Item.{Item as ItemRow}
 use Rattle.gate_types.specs.declared.edits.Edit.{Edit}
 use Rattle.gate_types.specs.Standing.{places_after}
 use Rattle.gate_types.specs.Rows.{fold_edits}
-use Rattle.gate_walk.specs.Walk.{Seen, Carry, Walk, behind_visit, visit_edits, carried, asks_for, walk_edits, walk_from}
-use Rattle.gate_walk.specs.Next.{next_of, wanted}
-use Rattle.gate_walk.specs.Rescan.{start, row_seen, rows_from, settled_to}
-use Rattle.gate_walk.specs.Delivery.{IsWalked}
+use Rattle.gate_walk.specs.Walk.{Seen, Carry, Walk, behind_visit, fails, verdict_by, visit_edits, carried, asks_for, walk_edits, walk_from}
+use Rattle.gate_walk.specs.Next.{need, stop, next_of, wanted}
+use Rattle.gate_walk.specs.Rescan.{start, stored, ahead_at, row_seen, rows_from, settled_to}
+use Rattle.gate_walk.specs.Delivery.{IsWalked, build_ended, touch_of, begins}
 use Rattle.gate_walk.specs.declared.walk.QueueFacts.{QueueFacts}
 use Rattle.gate_walk.specs.declared.walk.Touched.{Touched}
 use Rattle.gate_walk.specs.TakenOut.{out_of}
 use Rattle.gate_walk.specs.declared.walk.Next.{Next as CodeNext}
 use Rattle.gate_walk.specs.Views.{next_of_code}
-use Rattle.gate_walk.specs.UnderWay.{Delivered, queue_after, floor_after, stale_rows, tables, places_of, tables_settled, tables_settled_below, begun, rows_seen, walk_by, next_by, row_wanted, AreWanted, HasVisited, tables_by, IsFor, Starts, GoesOn, Ends, Visits}
+use Rattle.gate_walk.specs.UnderWay.{Delivered, queue_after, floor_after, stale_rows, tables, places_of, tables_settled, tables_settled_below, begun, rows_seen, walk_by, next_by, row_wanted, AreWanted, HasVisited, IsBehind, tables_by, IsFor, Starts, GoesOn, Ends, Visits}
+use Rattle.gate_laws.proofs.Members.{found}
 use Rattle.gate_queue.proofs.Ordered.{RiseFrom, row_serial, place_serial, rises}
 use Rattle.gate_walk.proofs.Parting.{none_under, all_onward, under, onward, cut, under_at, under_behind, rise_at, low_at, onward_onward, onward_many, found_first, none_found, find_in, AllFail, all_fail, parts_at}
 use Rattle.gate_walk.proofs.SoFar.{carried_on}
-use Rattle.gate_walk.proofs.NextRows.{seen_serial, test_of, wanted_is, find_past, passed, below_push, below_up}
+use Rattle.gate_walk.proofs.NextRows.{walk_stops, seen_serial, test_of, wanted_is, find_past, passed, below_push, below_up}
 use Rattle.gate_walk.proofs.Deliveries.{touched_queue_is_walked}
 
 -- ---- the walk of a delivery
@@ -340,6 +341,19 @@ starts x w queue touched begins f =
       settled = ap (fold_edits (tables x)) (ap (λ (z : Walk). z.told) is ∙ ap (told_by x) (sym none)) ∙ settled_under x i (omega arith);
     }
 
+-- the serials that are asked for rise
+is_behind : (x : Delivered) (vs : List Seen) (v : Seen) → row_wanted x vs ≡ Some v → IsBehind x vs v
+is_behind x [] v e = leb-true x.item.serial v.row.serial (found (λ w. nat_le x.item.serial w.row.serial) (rows_seen x) v e).1
+is_behind x (u ∷ vs) v e =
+    let k = carry_by x (u ∷ vs) in
+    let n = u.row.serial in
+    let f = found (test_of k n) (rows_seen x) v (sym (wanted_is k n (rows_seen x)) ∙ e) in
+    ltb-true n v.row.serial (and_parts (nat_lt n v.row.serial) (asks_for k v) f.1).0
+
+-- where a build ended, the walk begins with nothing taken out
+begun_after_build : (x : Delivered) → touch_of x.delivery ≡ build_ended → (k : Carry) → k ≡ begun x → k ≡ begins (queue_after x) x.item build_ended (stored x.settings x.before x.queue)
+begun_after_build x t k e = e ∙ ap (λ y. begins (queue_after x) x.item y (stored x.settings x.before x.queue)) t
+
 -- a visit of the row that is wanted
 pub goes_on : (x : Delivered) (old new : Walk) (v : Seen) (vs : List Seen) (next : CodeNext) → new ≡ behind_visit old v → next_of_code next ≡ next_of new.carry v.row.serial →
     HasVisited x old vs → row_wanted x vs ≡ Some v → GoesOn x old new v vs next
@@ -354,6 +368,20 @@ goes_on x old new v vs next visits answers h e =
       at_stop = λ s. tells ∙ settled_at_end x (v ∷ vs) wanted_all (ap (λ n. wanted (carry_by x (v ∷ vs)).gone n (rows_seen x)) (sym wants ∙ ap next_of_code s));
       visited = record { is = is; were_wanted = wanted_all };
       wants = wants;
+      is_behind = is_behind x vs v e;
+      stops = record {
+        at_once = λ none ended mark stays.
+            let rows = stored x.settings x.before x.queue in
+            let o = queue_after x in
+            let k : old.carry ≡ begins o x.item build_ended rows = begun_after_build x ended old.carry (ap (λ (w : Walk). w.carry) h.is ∙ ap (carry_by x) none) in
+            answers ∙ ap (λ (w : Walk). next_of w.carry v.row.serial) visits
+            ∙ ap (λ c. next_of (carried old.floor c v) v.row.serial) k
+            ∙ walk_stops.at_once old.floor (length o.reports) o.window (ahead_at x.item.serial rows) v (ap (λ c. fails c v) (sym k) ∙ mark) (ap (λ c. verdict_by c v) (sym k) ∙ stays);
+        no_further = λ same mark fine.
+            answers ∙ ap (λ (w : Walk). next_of w.carry v.row.serial) visits
+            ∙ walk_stops.not_further old.floor v.row.serial old.carry v same mark fine
+            ∙ ap (λ (w : Walk). cond (length w.carry.gone == 0) stop (need v.row.serial)) (sym visits);
+      };
     }
 
 -- no row is wanted

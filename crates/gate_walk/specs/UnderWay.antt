@@ -1,5 +1,5 @@
 -- A walk under way after a delivery: what it has done before a visit, and at its stop.
-use Rattle.std.specs.Prelude.{ℕ, true, false, ◌+◌, nat_lt, nat_le, ◌≡◌, List, [], ◌∷◌, ◌++◌, map, filter, Option, Some, None, option_map}
+use Rattle.std.specs.Prelude.{length, ℕ, ◌<◌, ◌≤◌, ◌==◌, if◌then◌else◌, false, true, ◌+◌, nat_lt, nat_le, ◌≡◌, List, [], ◌∷◌, ◌++◌, map, filter, Option, Some, None, option_map}
 use Rattle.gate_types.specs.declared.records.Item.{Item as ItemRow}
 use Rattle.gate_types.specs.declared.deliveries.Delivery.{Delivery}
 use Rattle.gate_types.specs.declared.deliveries.Reply.{Reply}
@@ -17,10 +17,10 @@ use Rattle.gate_walk.specs.declared.walk.QueueFacts.{QueueFacts}
 use Rattle.gate_walk.specs.declared.walk.Touched.{Touched}
 use Rattle.gate_walk.specs.declared.walk.Next.{Next as CodeNext}
 use Rattle.gate_walk.specs.declared.walk.Next.TheVariants as code
-use Rattle.gate_walk.specs.Walk.{Seen, Carry, Walk, behind_visit}
-use Rattle.gate_walk.specs.Next.{Next, from, next_of, wanted}
+use Rattle.gate_walk.specs.Walk.{Seen, Carry, Walk, behind_visit, fails, verdict_by}
+use Rattle.gate_walk.specs.Next.{Next, from, need, stop, next_of, wanted}
 use Rattle.gate_walk.specs.Rescan.{start, stored, rows_with, row_seen, settled_to}
-use Rattle.gate_walk.specs.Delivery.{moved, is_on, is_stale, touch_of, begins, standing_rows, swept_of, rows_in}
+use Rattle.gate_walk.specs.Delivery.{build_ended, moved, is_on, is_stale, touch_of, begins, standing_rows, swept_of, rows_in}
 use Rattle.gate_walk.specs.TakenOut.{out_of}
 use Rattle.gate_walk.specs.Views.{next_of_code}
 
@@ -133,6 +133,19 @@ pub record IsFor (x : Delivered) (queue : QueueFacts) (touched : Touched) : Type
   pub serial : touched.serial ≡ x.item.serial
   pub begins : start (option_map out_of touched.out) touched.ahead queue.reports queue.window ≡ begun x
 
+-- a row is behind that of the last visit, and the first one not before the touched serial
+abbrev pub IsBehind : Delivered → List Seen → Seen → Type 0
+IsBehind x [] v = x.item.serial ≤ v.row.serial
+IsBehind x (u ∷ us) v = u.row.serial < v.row.serial
+
+-- where a visit of a row stops: at once where a build ended and the item stays with its mark; and while no line has
+-- changed, a non-failing item that stays so asks for no next row but one that needs what has gone
+pub record Stops (x : Delivered) (old new : Walk) (vs : List Seen) (v : Seen) (next : CodeNext) : Type 0 where
+  pub at_once : vs ≡ [] → touch_of x.delivery ≡ build_ended → fails old.carry v ≡ v.row.failing →
+      verdict_by old.carry v ≡ None → next_of_code next ≡ stop
+  pub no_further : old.carry.resets ≡ false → fails old.carry v ≡ v.row.failing → v.row.failing ≡ false →
+      next_of_code next ≡ (if length new.carry.gone == 0 then stop else need v.row.serial)
+
 -- a visit of the row that is wanted: before it the queue is settled below that row, behind it up to that row, and at
 -- a stop all of it
 pub record GoesOn (x : Delivered) (old new : Walk) (v : Seen) (vs : List Seen) (next : CodeNext) : Type 0 where
@@ -141,6 +154,8 @@ pub record GoesOn (x : Delivered) (old new : Walk) (v : Seen) (vs : List Seen) (
   pub at_stop : next ≡ code.Stop → tables_by x new ≡ tables_settled x
   pub visited : HasVisited x new (v ∷ vs)
   pub wants : next_of_code next ≡ next_by x (v ∷ vs)
+  pub is_behind : IsBehind x vs v
+  pub stops : Stops x old new vs v next
 
 -- a visit by which the walk learns that no row is wanted: the queue is settled
 pub record Ends (x : Delivered) (old new : Walk) (vs : List Seen) : Type 0 where

@@ -8,12 +8,13 @@
 //!   as a rebase and then a sweep of the whole state leave them, and all else is as it was.
 //! - `Walk::visit`, clause `settles`: before the visit of the row that is wanted, the edits so far settle the
 //!   queue below that row; behind it, up to and with that row; at a stop, or where no row is wanted, all of it.
-//!   Its clauses `visited`, `next` and `same`: the walk behind the visit, the row that is wanted next, and that
-//!   a visit without memory changes nothing.
+//!   The serials asked for rise; where a build ended and the touched item stays with its mark, the first visit
+//!   stops; while no line has changed, a visit of a non-failing item that stays so asks for no next row but one
+//!   that needs what has gone. Its clauses `visited`, `next` and `same`: the walk behind the visit, the row that
+//!   is wanted next, and that a visit without memory changes nothing.
 //! - `laws::a_walk_is_enough`: the same of the whole walk at once, over all queues.
-//! - `laws::a_walk_stops`: where the touched item stays with its mark, the first visit stops; while no line has
-//!   changed, a visit of a non-failing item asks for no next row but one that needs what has gone.
-//! - `laws::visits_are_the_walk` and `visits_go_on`: for a loop of visits.
+//! - `laws::a_walk_stops`, `visits_are_the_walk` and `visits_go_on`: where a walk stops, and loops of visits, said
+//!   of the definitions.
 //!
 //! `Walk::gone` and `Walk::edits` say what the walk holds, and take no memory.
 #![tactic(auto)]
