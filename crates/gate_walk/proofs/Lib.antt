@@ -25,7 +25,6 @@ pub mod Touching
 pub mod Leaving
 -- the rows that are wanted, one after another
 pub mod NextRows
-pub mod Examples
 pub mod Visits
 pub mod GoesOn
 -- a delivery in the whole state

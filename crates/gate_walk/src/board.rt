@@ -1,11 +1,12 @@
 //! A queue as plain lists, for the tests: all changes stand at revision 1.
 use crate::seen::SeenNeed;
+use crate::texts::{edit_text, item_text};
 use crate::walk::{Next, QueueFacts, Seen, TakenOut, Touched, Walk};
 use gate_types::config::{Job, Queue};
 use gate_types::edits::Edit;
 use gate_types::names::Name;
 use gate_types::numbers::{BuildNo, ChangeNo, Revision, Serial};
-use gate_types::records::{Build, Entry, Item, Landing, Need, Outcome, Report, Verdict};
+use gate_types::records::{Build, Entry, Item, Landing, Need, Outcome};
 use gate_types::sequence::Sequence;
 use std::alloc::{AllocError, AllocFailed, Global};
 use std::process::Abort;
@@ -461,76 +462,4 @@ fn needs_one(row: &Row, gone: &[ChangeNo]) -> bool {
     row.needs
         .iter()
         .any(|need| gone.iter().any(|change| *change == need.change))
-}
-
-fn word(verdict: Verdict) -> &'static str {
-    match verdict {
-        Verdict::Failed => "failed",
-        Verdict::Needs => "needs",
-        _ => "other",
-    }
-}
-
-fn item_text(alloc: Global, item: &Item) -> Result<String, AllocError> {
-    let serial = item.serial.get();
-    let change = item.change.get();
-    let revision = item.revision.get();
-    let state = if item.failing { "failing" } else { "ok" };
-    match item.ahead {
-        Some(ahead) => {
-            let ahead = ahead.get();
-            format!(in alloc; "item {serial} {change},{revision} ahead {ahead} {state}\n")
-        }
-        None => format!(in alloc; "item {serial} {change},{revision} ahead - {state}\n"),
-    }
-}
-
-fn report_text(alloc: Global, place: u64, report: &Report) -> Result<String, AllocError> {
-    let serial = report.serial.get();
-    let change = report.change.get();
-    let revision = report.revision.get();
-    let verdict = word(report.verdict);
-    format!(in alloc; "report {place}: {serial} {change},{revision} {verdict}\n")
-}
-
-fn edit_text(alloc: Global, edit: &Edit) -> Result<String, AllocError> {
-    match edit {
-        Edit::PutItem { queue, item } => {
-            let queue = queue.as_str();
-            let item = item_text(alloc, item)?;
-            format!(in alloc; "{queue} {item}")
-        }
-        Edit::DropItem(serial) => {
-            let serial = serial.get();
-            format!(in alloc; "drop {serial}\n")
-        }
-        Edit::PutReport {
-            queue,
-            place,
-            report,
-        } => {
-            let queue = queue.as_str();
-            let report = report_text(alloc, *place, report)?;
-            format!(in alloc; "{queue} {report}")
-        }
-        Edit::StopBuild(number) => {
-            let number = number.get();
-            format!(in alloc; "stop {number}\n")
-        }
-        Edit::SetWindow { queue, window } => {
-            let queue = queue.as_str();
-            format!(in alloc; "{queue} window {window}\n")
-        }
-        _ => "other\n".to_string(alloc),
-    }
-}
-
-/// The edits, a line each.
-pub fn edits_text(alloc: Global, edits: &[Edit]) -> Result<String, AllocError> {
-    let mut text = String::new(alloc);
-    for edit in edits {
-        let line = edit_text(alloc, edit)?;
-        text.push_str(line.as_str())?;
-    }
-    Ok(text)
 }

@@ -23,5 +23,7 @@
 mod board;
 pub mod laws;
 pub mod seen;
+#[cfg(test)]
+mod texts;
 mod told;
 pub mod walk;

@@ -12,8 +12,8 @@ use gate_types::records::{Build, Outcome, Slot, Verdict};
 use std::alloc::Global;
 use std::marker::Model;
 
-/// A need of an item; where an item of this change stands in the queue, whether its row says that it
-/// is failing.
+/// A need of an item, whether it has landed, and where an item of this change stands in the queue, whether its
+/// stored row says that it is failing. What the walk has changed of it, the walk knows by itself.
 #[derive(Clone, Copy, Debug)]
 pub struct SeenNeed {
     pub change: ChangeNo,

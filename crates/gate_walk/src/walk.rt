@@ -18,7 +18,8 @@ use gate_types::records::{Build, Item, Verdict};
 use std::alloc::Global;
 use std::marker::Model;
 
-/// What a visit is given: a row, the needs and jobs of its change, its live builds.
+/// What a visit is given: a row as it is stored, the needs of its change, the jobs of its project, its live
+/// builds.
 #[derive(Clone, Copy, Debug)]
 pub struct Seen<'a> {
     pub row: Item,

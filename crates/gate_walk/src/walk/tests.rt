@@ -1,5 +1,6 @@
 //! Walks over small queues, with the edits worked out by hand from the rules.
-use crate::board::{Board, Unmade, edits_text};
+use crate::board::{Board, Unmade};
+use crate::texts::edits_text;
 use crate::walk::TakenOut;
 use gate_types::records::Outcome::{Failure, Success};
 use std::alloc::Global;
