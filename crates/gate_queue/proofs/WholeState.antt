@@ -8,7 +8,8 @@ use Rattle.std.proofs.lemmas.List.Folds.{list_any-append}
 use Rattle.std.proofs.lemmas.List.Concat.{flat_map-cons}
 use Rattle.std.proofs.lemmas.Grind.{flat_map-append}
 use Rattle.gate_queue.specs.Settles.{rebased, verdicts, swept_rows}
-use Rattle.gate_queue.specs.Whole.{has_serial, picked, is_picked_rightly, swept_of, EachQueueIsSettledByItself}
+use Rattle.gate_laws.specs.Touch.{has_serial}
+use Rattle.gate_queue.specs.Whole.{picked, is_picked_rightly, swept_of, EachQueueIsSettledByItself}
 use Rattle.gate_queue.proofs.Ordered.{Tells, rises, ahead_rise}
 use Rattle.gate_queue.proofs.Keeps.{rows_alike}
 use Rattle.gate_queue.proofs.Settled.{goes_tells, verdicts_rebased}

@@ -1,20 +1,17 @@
 -- One queue's settling is that queue's part of a rebase and then a sweep of the whole state.
-use Rattle.std.specs.Prelude.{ℕ, Bool, ◌&&◌, ◌||◌, not, ◌==◌, ◌≡◌, List, ◌∷◌, ◌++◌, map, filter}
+use Rattle.std.specs.Prelude.{ℕ, Bool, ◌&&◌, ◌||◌, not, ◌≡◌, List, ◌∷◌, ◌++◌, map, filter}
 use Rattle.std.specs.List.{AllPass, list_any}
 use Rattle.std.specs.List.Sorted.{IsStrictlyIncreasing}
 use Rattle.gate_types.specs.declared.records.Build.{Build}
 use Rattle.gate_types.specs.Settings.{Settings}
-use Rattle.gate_types.specs.State.{Item, Queue, State}
+use Rattle.gate_types.specs.State.{Queue, State}
 use Rattle.gate_types.specs.Standing.{place_of, places}
 use Rattle.gate_types.specs.Rebase.{rebase}
 use Rattle.gate_types.specs.Window.{floor_of}
 use Rattle.gate_types.specs.Sweep.{judged, swept_queue, sweep}
+use Rattle.gate_laws.specs.Touch.{has_serial}
 use Rattle.gate_types.specs.Rows.{Rows, rows_of}
 use Rattle.gate_queue.specs.Settles.{settled_rows}
-
--- a serial is that of one of some items
-abbrev pub has_serial : List Item → ℕ → Bool
-has_serial items n = list_any (λ i. i.serial == n) items
 
 -- the builds of some numbers
 abbrev pub picked : (ℕ → Bool) → List Build → List Build
@@ -30,14 +27,18 @@ is_picked_rightly pick others q b =
 abbrev pub swept_of : Settings → State → Queue → Queue
 swept_of c s q = swept_queue (floor_of c q) (judged c (rebase c s) q) q
 
--- its rows, with those of the picked builds
-abbrev pub rows_in : Settings → State → (ℕ → Bool) → Queue → Rows
-rows_in c s pick q = record (rows_of (places c s q) s.builds q) { builds = picked pick s.builds }
+-- the rows of a queue in a state
+abbrev pub rows_in : Settings → State → Queue → Rows
+rows_in c s q = rows_of (places c s q) s.builds q
+
+-- the same, with those of the picked builds
+abbrev pub picked_rows : Settings → State → (ℕ → Bool) → Queue → Rows
+picked_rows c s pick q = record (rows_in c s q) { builds = picked pick s.builds }
 
 -- the rows of a queue in the state after a rebase and then a sweep are those that settling the queue by itself leaves
 abbrev pub EachQueueIsSettledByItself : Type 0
 EachQueueIsSettledByItself = (c : Settings) (s : State) (before after : List Queue) (q : Queue) (pick : ℕ → Bool) →
     s.queues ≡ before ++ q ∷ after → IsStrictlyIncreasing (map (λ i. i.serial) q.items) →
     AllPass (is_picked_rightly pick (before ++ after) q) s.builds →
-    rows_in c (sweep c (rebase c s)) pick (swept_of c s q)
+    picked_rows c (sweep c (rebase c s)) pick (swept_of c s q)
     ≡ settled_rows (floor_of c q) (map (place_of c s q) q.items) (picked pick s.builds) q

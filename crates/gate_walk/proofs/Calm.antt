@@ -26,7 +26,8 @@ use Rattle.gate_types.specs.Standing.{with_ahead, next_ahead, places_after, plac
 use Rattle.gate_types.specs.Sweep.{Judged, judge, judged, judged_after, verdict_of}
 use Rattle.gate_types.specs.Rows.{row_of}
 use Rattle.gate_types.specs.Lawful.{IsSound, is_sound_item, is_sound_build, is_of_item, waiting_changes, landed_changes}
-use Rattle.gate_walk.specs.Rescan.{standing_in, IsCalm, live_builds_count}
+use Rattle.gate_queue.specs.Chooses.{live_builds_count}
+use Rattle.gate_walk.specs.Rescan.{standing_in, IsCalm}
 use Rattle.gate_laws.proofs.Members.{In, every, all_from, any_from, to_map, to_flat}
 use Rattle.gate_walk.proofs.Once.{Once, once, once_left, once_right}
 use Rattle.gate_queue.proofs.Ordered.{RiseFrom, place_serial, rises}

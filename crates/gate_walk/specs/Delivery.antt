@@ -10,29 +10,22 @@ use Rattle.gate_types.specs.declared.deliveries.Reply.{Reply}
 use Rattle.gate_types.specs.declared.deliveries.Reply.TheVariants as reply
 use Rattle.gate_types.specs.Settings.{Settings, are_sound}
 use Rattle.gate_types.specs.State.{Item, Queue, State}
-use Rattle.gate_types.specs.Standing.{place_of, places}
+use Rattle.gate_types.specs.Standing.{place_of}
 use Rattle.gate_types.specs.Rebase.{rebase}
 use Rattle.gate_types.specs.Window.{floor_of}
-use Rattle.gate_types.specs.Sweep.{judged, swept_queue, sweep}
+use Rattle.gate_types.specs.Sweep.{sweep}
 use Rattle.gate_types.specs.Step.{accepted, raw_step, left_queue, landed_queue, shrunk_queue, build_of}
 use Rattle.gate_types.specs.Lawful.{IsLawful}
-use Rattle.gate_types.specs.Rows.{Rows, rows_of, fold_edits}
+use Rattle.gate_types.specs.Rows.{fold_edits}
 use Rattle.gate_laws.specs.Touch.{touched_by, OtherQueuesStay}
 use Rattle.std.specs.List.Sorted.{IsStrictlyIncreasing}
 use Rattle.gate_types.specs.declared.edits.Edit.{Edit}
+use Rattle.gate_queue.specs.Whole.{swept_of, rows_in}
 use Rattle.gate_walk.specs.Walk.{Seen, Carry, visit_edits, carried, walk_from}
 use Rattle.gate_walk.specs.Next.{next_of, visits_from}
 use Rattle.gate_walk.specs.Rescan.{TakenOut, Walks, start, stored, without_row, rows_from, rows_with, row_seen, ahead_at, fails_at}
 
 -- ---- a queue after a delivery
-
--- the rows of a queue in a state
-abbrev pub rows_in : Settings → State → Queue → Rows
-rows_in c s q = rows_of (places c s q) s.builds q
-
--- a queue after a rebase and then a sweep of the whole state
-abbrev pub swept_of : Settings → State → Queue → Queue
-swept_of c s q = swept_queue (floor_of c q) (judged c (rebase c s) q) q
 
 -- the touched queue before settling, by the touched item
 abbrev pub moved : Settings → Delivery → Queue → Item → Queue

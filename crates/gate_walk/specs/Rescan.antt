@@ -1,7 +1,7 @@
 -- A walk leaves what settling leaves: of the queue of an item whose build was told of, or that was taken out.
 use Rattle.std.specs.Prelude.{ℕ, Bool, true, false, ◌&&◌, ◌||◌, not, ◌==◌, nat_le, ◌≡◌, if◌then◌else◌, List, [], ◌∷◌, ◌++◌, map, filter, length, Option, Some, None, option_map, option_and_then, find, is_some, All, Contains, fold, filter_map}
 use Rattle.std.specs.Option.{option_map_or}
-use Rattle.std.specs.List.{AllPass, list_all}
+use Rattle.std.specs.List.{AllPass}
 use Rattle.std.specs.List.Sorted.{IsStrictlyIncreasing}
 use Rattle.gate_types.specs.declared.records.Item.{Item as ItemRow}
 use Rattle.gate_types.specs.declared.records.Need.{Need}
@@ -10,19 +10,16 @@ use Rattle.gate_types.specs.declared.deliveries.Ending.{Ending}
 use Rattle.gate_types.specs.Settings.{Settings}
 use Rattle.gate_types.specs.State.{Item, Queue, State, project_of}
 use Rattle.gate_types.specs.Line.{Place}
-use Rattle.gate_types.specs.Slot.{is_running, counts}
-use Rattle.gate_types.specs.Standing.{needs_of, places, all_places, place_of, places_after}
+use Rattle.gate_types.specs.Slot.{is_running}
+use Rattle.gate_types.specs.Standing.{needs_of, all_places, place_of, places_after}
 use Rattle.gate_types.specs.Rebase.{with_live, stays_live}
 use Rattle.gate_types.specs.Sweep.{judged, judged_after, goes, next_window, report_of, without_runs}
 use Rattle.gate_types.specs.Step.{end_build}
 use Rattle.gate_types.specs.Lawful.{IsSound}
-use Rattle.gate_types.specs.Rows.{Rows, row_of, numbered, fold_edits}
+use Rattle.gate_types.specs.Rows.{Rows, item_rows, row_of, numbered, fold_edits}
 use Rattle.gate_queue.specs.Settles.{settled_rows}
+use Rattle.gate_queue.specs.Chooses.{live_builds_count}
 use Rattle.gate_walk.specs.Walk.{SeenNeed, Seen, Carry, walk_from}
-
--- each live build of the item counts
-abbrev pub live_builds_count : List Build → Place → Bool
-live_builds_count builds p = list_all (λ b. not (b.live && b.serial == p.item.serial) || counts p b) builds
 
 -- no item goes, and each live build of an item counts: so it is in a settled state
 pub record IsCalm (c : Settings) (s : State) : Type 0 where
@@ -86,7 +83,7 @@ start out ahead reports window = record {
 
 -- the items' rows as they are stored
 abbrev pub stored : Settings → State → Queue → List ItemRow
-stored c s q = map (row_of s.builds) (places c s q)
+stored c s q = item_rows c s q
 
 -- without the row of this serial
 abbrev pub without_row : ℕ → List ItemRow → List ItemRow

@@ -89,8 +89,8 @@ fails_by marks needs jobs builds =
     is_blocked_by marks needs || list_any (λ j. j.voting && is_failed_slot (slot_among builds j)) jobs
 
 -- why an item goes, if it goes; whether no non-failing item is before it
-abbrev pub verdict_of : Bool → List ℕ → List Mark → List SeenNeed → List Job → List Build → Option Verdict
-verdict_of first gone marks needs jobs builds =
+abbrev pub verdict_among : Bool → List ℕ → List Mark → List SeenNeed → List Job → List Build → Option Verdict
+verdict_among first gone marks needs jobs builds =
     if not (are_met_without gone needs) then Some verdict.Needs else (
     if fails_by marks needs jobs builds && not (is_blocked_by marks needs) && first
     && list_all (λ j. is_finished (slot_among builds j)) jobs then Some verdict.Failed else None)
@@ -101,7 +101,7 @@ fails k v = fails_by k.marks v.needs v.jobs (still_counting k v)
 
 -- why it goes, if it goes
 abbrev pub verdict_by : Carry → Seen → Option Verdict
-verdict_by k v = verdict_of (not (is_some k.ahead)) k.gone k.marks v.needs v.jobs (still_counting k v)
+verdict_by k v = verdict_among (not (is_some k.ahead)) k.gone k.marks v.needs v.jobs (still_counting k v)
 
 -- its row
 abbrev pub row_by : Carry → Seen → ItemRow

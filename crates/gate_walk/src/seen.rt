@@ -244,7 +244,7 @@ pub fn judge(
 ) -> Result<Judged, NoMemory>
     ensures failing { IfOk result (λ j. j.failing ≡ walk.fails_by marks.now needs.now jobs.now counting.now) }
     ensures verdict { IfOk result (λ j. j.verdict ≡
-        walk.verdict_of first gone.now marks.now needs.now jobs.now counting.now) }
+        walk.verdict_among first gone.now marks.now needs.now jobs.now counting.now) }
 {
     let met = are_met_without(gone, needs);
     let blocked = is_blocked_by(marks, needs);
