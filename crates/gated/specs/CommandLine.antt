@@ -1,7 +1,13 @@
 -- The command line, and what its matches say.
-use Rattle.std.specs.Prelude.{◌≡◌, Bool, List, codes, true, false, Option, Some, None, option_and_then, option_map, if◌then◌else◌}
+use Rattle.std.specs.Prelude.{◌≡◌, ◌⊎◌, ◌||◌, ◌&&◌, Bool, List, [], ◌∷◌, codes, true, false, not, Option, Some, None}
+use Rattle.std.specs.Prelude.{is_none, option_and_then, option_map, if◌then◌else◌}
+use Rattle.std.specs.List.{list_all, list_any}
 use Rattle.std.specs.Str.{bytes_eq}
 use Rattle.clap.specs.Words.{App, Row, Rule, Text, new_app, new_rule, with_rule, with_subcommand, first_of}
+use Rattle.clap.specs.Words.{subcommand_of, fault_of, kind_of, HasKind}
+use Rattle.clap.specs.declared.error.Error.{Error}
+use Rattle.clap.specs.declared.error.kind.ErrorKind.{ErrorKind}
+use Rattle.clap.specs.declared.error.kind.ErrorKind.TheVariants as kind
 use Rattle.clap.specs.declared.builder.action.ArgAction.TheVariants.{SetTrue}
 use Rattle.gated.specs.declared.command.Cmd.{Cmd}
 use Rattle.gated.specs.declared.command.Cmd.TheVariants.{Check, Replay}
@@ -28,7 +34,8 @@ bare = new_app (codes "gated")
 
 -- the program's command line, where a command has to be given
 abbrev pub gated : App
-gated = with_subcommand (with_subcommand (record bare { top = record bare.top { subcommand_required = true } }) check.top) replay.top
+gated = with_subcommand (with_subcommand
+    (record bare { top = record bare.top { subcommand_required = true } }) check.top) replay.top
 
 -- what a command line says
 pub data Said : Type 0 where
@@ -49,8 +56,46 @@ is_set (Some text) = bytes_eq text (codes "true")
 abbrev pub said_of : Text × List Row → Option Said
 said_of (name, rows) =
     if bytes_eq name (codes "check") then option_map check_of (first_of (codes "settings") rows) else (
-    if bytes_eq name (codes "replay") then option_map (λ s. replay_of s (is_set (first_of (codes "status") rows))) (first_of (codes "settings") rows)
+    if bytes_eq name (codes "replay") then option_map
+    (λ s. replay_of s (is_set (first_of (codes "status") rows))) (first_of (codes "settings") rows)
     else None)
 
 abbrev pub says : Option Cmd → Option (Text × List Row) → Type 0
 says cmd rows = said cmd ≡ option_and_then said_of rows
+
+-- what the words ask for, if they name a command
+abbrev pub asked : List Text → Option Said
+asked words = option_and_then said_of (subcommand_of gated words)
+
+-- `clap` takes the words, and they name this command
+pub record Names (words : List Text) (cmd : Cmd) : Type 0 where
+  pub taken : fault_of gated words ≡ []
+  pub named : said (Some cmd) ≡ asked words
+
+-- an error has a kind that `clap` finds in the words, or they name no command; or memory is refused
+abbrev pub IsExplained : List Text → Error → Type 0
+IsExplained words e =
+    HasKind (fault_of gated words) e ⊎ ((kind_of e ≡ kind.MissingSubcommand) × (asked words ≡ None))
+
+-- help was asked for
+abbrev pub is_help : ErrorKind → Bool
+is_help kind.DisplayHelp = true
+is_help _ = false
+
+-- there is no kind
+abbrev pub is_taken : List ErrorKind → Bool
+is_taken [] = true
+is_taken (k ∷ ks) = false
+
+-- `clap` refuses the words, and they ask for no help
+abbrev pub is_refused : List Text → Bool
+is_refused words =
+    not (is_taken (fault_of gated words)) && list_all (λ k. not (is_help k)) (fault_of gated words)
+
+-- `clap` may refuse the words, or they name no command
+abbrev pub may_be_refused : List Text → Bool
+may_be_refused words = list_any (λ k. not (is_help k)) (fault_of gated words) || is_none (asked words)
+
+-- the words may ask for help
+abbrev pub may_ask_help : List Text → Bool
+may_ask_help words = list_any is_help (fault_of gated words)

@@ -1,8 +1,10 @@
 //! The command line.
-ghost use Rattle.std.specs.Prelude.{◌≡◌, codes, IfOk, IfErr, Some, map, is_some, true, false, option_map, option_and_then};
-ghost use Rattle.clap.specs.Words.{app_of, rule_of, shape_of, subcommand_of, subcommand_rows_of, rows_of, found_of, first_of, kind_of, takes};
+ghost use Rattle.std.specs.Prelude.{◌≡◌, codes, IfOk, IfErr, map, is_some, true, false, option_map};
+ghost use Rattle.clap.specs.Words.{app_of, rule_of, subcommand_rows_of, rows_of, found_of, first_of};
+ghost use Rattle.clap.specs.Words.{kind_of, takes};
 ghost use Rattle.clap.specs.declared.builder.command.Command.TheViews.{out-Command as fields_of};
 ghost use Rattle.gated.specs.CommandLine.{gated, check, replay, settings_rule, is_set, said, says, said_of};
+ghost use Rattle.gated.specs.CommandLine.{asked, Names, IsExplained};
 
 use clap::error::ErrorKind;
 use clap::{Arg, ArgAction, ArgMatches, Command, Error};
@@ -30,13 +32,13 @@ pub type Usage = Error;
 ///
 /// # Errors
 ///
-/// Where the line is refused, asks for help, or memory is refused.
+/// Where the line is refused, asks for help, or memory is refused; and never where `clap` takes the
+/// line and it names a command, but for want of memory.
 pub fn command<'a, S: AsStr>(alloc: Global, words: &'a [S]) -> Result<Cmd<'a>, Usage>
-    ensures ok { IfOk result (λ cmd. said (Some cmd)
-        ≡ option_and_then said_of (subcommand_of gated (map S.text words.entry.now))) }
+    ensures ok { IfOk result (Names (map S.text words.entry.now)) }
+    ensures kinds { IfErr result (IsExplained (map S.text words.entry.now)) }
     ensures err { IfErr result (λ usage. takes gated (map S.text words.entry.now) ≡ true
-        → is_some (option_and_then said_of (subcommand_of gated (map S.text words.entry.now))) ≡ true
-        → kind_of usage ≡ ErrorKind.OutOfMemory) }
+        → is_some (asked (map S.text words.entry.now)) ≡ true → kind_of usage ≡ ErrorKind.OutOfMemory) }
 {
     let matches = app(alloc)?.try_get_matches_from(words)?;
     match read(&matches) {
