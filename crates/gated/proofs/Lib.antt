@@ -1,3 +1,5 @@
 pub mod CommandLemmas
+pub mod UsageLemmas
 pub mod TellLemmas
+pub mod EndLemmas
 pub mod CheckLemmas

@@ -1,3 +1,5 @@
 pub mod CommandLine
 pub mod Faults
 pub mod Doing
+pub mod Ending
+pub mod Program

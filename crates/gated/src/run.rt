@@ -1,13 +1,15 @@
 //! Does what a command line asks for.
-ghost use Rattle.std.specs.Prelude.{◌≡◌, ◌⊎◌, ◌≤◌, ℕ, List, Option, OnOk, IfOk, length, false};
+ghost use Rattle.std.specs.Prelude.{◌≡◌, ◌⊎◌, ◌≤◌, ℕ, List, Option, Bool, OnOk, IfOk, IfErr, length, false, true};
 ghost use Rattle.std.specs.Io.KnownBytes.{Appends};
-ghost use Rattle.gate_types.specs.Status.{status_text};
-ghost use Rattle.gate_types.specs.Tap.{inside, has_failed};
-ghost use Rattle.gated.specs.Doing.{Does, Checks, Replays, HasSettings, Tells, settings_limit};
+ghost use Rattle.gate_types.specs.Tap.{inside, has_failed, WritesFront};
+ghost use Rattle.gated.specs.Doing.{Does, Checks, Replays, HasSettings, beside, streams, settings_limit, status_of};
+ghost use Rattle.gated.specs.Ending.{EndsBy, CheckEnds, ReplayEnds, IsEarly, Tells};
 ghost use Rattle.gated.specs.Faults.{line_of};
 
 mod check;
 mod fault;
+#[cfg(test)]
+mod memory_tests;
 #[cfg(test)]
 mod tests;
 
@@ -28,7 +30,8 @@ const SETTINGS_LIMIT: usize = 1_048_576;
 
 /// Does a command over this input and output, and gives the status that the program ends with: 0
 /// where it is done, refused deliveries included; 1 after a fault, which is told on `errors` by
-/// one line: `gated: ` and the fault's text.
+/// one line: `gated: ` and the fault's text. A fault of the settings leaves input and output as
+/// they were.
 pub fn run<F: Files + AllocGlobal, R: Read, W: Write, E: Write>(
     rt: &F,
     cmd: Cmd<'_>,
@@ -41,13 +44,26 @@ pub fn run<F: Files + AllocGlobal, R: Read, W: Write, E: Write>(
     requires teller { has_failed errors.old ≡ false }
     ensures status { (result ≡ 0) ⊎ (result ≡ 1) }
     ensures done { result ≡ 0 → (errors.new ≡ errors.old) × Does cmd.entry
-        (R.remaining (inside input.old)) (R.remaining (inside input.new))
-        (W.contents (inside output.old)) (W.contents (inside output.new)) }
+        (streams R.remaining W.contents input.old output.old)
+        (streams R.remaining W.contents input.new output.new) }
     // all of the fault's line, or a beginning where the writer has failed
     ensures fault { result ≡ 1 → (fault : Fault)
-        × Tells (E.contents (inside errors.old)) (E.contents (inside errors.new)) (has_failed errors.new) (line_of fault) }
+        × Tells E.contents errors.old errors.new (line_of fault)
+        × EndsBy fault cmd.entry
+        (streams R.remaining W.contents input.old output.old)
+        (streams R.remaining W.contents input.new output.new) }
 {
-    match perform(rt, cmd, input, output) {
+    ended(perform(rt, cmd, input, output), errors)
+}
+
+/// Tells the fault, if there is one, and gives the status.
+pub fn ended<E: Write>(done: Result<(), Fault>, errors: &mut Tap<E>) -> u8
+    requires { has_failed errors.old ≡ false }
+    ensures done { OnOk done ((result ≡ 0) × (errors.new ≡ errors.old)) }
+    ensures fault { IfErr done (λ fault. (result ≡ 1)
+        × Tells E.contents errors.old errors.new (line_of fault)) }
+{
+    match done {
         Ok(()) => 0,
         Err(fault) => {
             let _ = tell(fault, errors);
@@ -58,7 +74,7 @@ pub fn run<F: Files + AllocGlobal, R: Read, W: Write, E: Write>(
 
 fn tell<E: Write>(fault: Fault, errors: &mut Tap<E>) -> Result<(), Failed>
     requires { has_failed errors.old ≡ false }
-    ensures { Tells (E.contents (inside errors.old)) (E.contents (inside errors.new)) (has_failed errors.new) (line_of fault) }
+    ensures { Tells E.contents errors.old errors.new (line_of fault) }
 {
     errors.write_all(b"gated: ")?;
     errors.write_line(fault.text())?;
@@ -73,9 +89,12 @@ fn perform<F: Files + AllocGlobal, R: Read, W: Write>(
 ) -> Result<(), Fault>
     requires reader { has_failed input.old ≡ false }
     requires writer { has_failed output.old ≡ false }
-    ensures { OnOk result (Does cmd.entry
-        (R.remaining (inside input.old)) (R.remaining (inside input.new))
-        (W.contents (inside output.old)) (W.contents (inside output.new))) }
+    ensures ok { OnOk result (Does cmd.entry
+        (streams R.remaining W.contents input.old output.old)
+        (streams R.remaining W.contents input.new output.new)) }
+    ensures err { IfErr result (λ fault. EndsBy fault cmd.entry
+        (streams R.remaining W.contents input.old output.old)
+        (streams R.remaining W.contents input.new output.new)) }
 {
     match cmd {
         Cmd::Check { settings } => checked(rt, settings, output)?,
@@ -86,13 +105,16 @@ fn perform<F: Files + AllocGlobal, R: Read, W: Write>(
 
 fn checked<F: Files + AllocGlobal, W: Write>(
     rt: &F,
-    settings: &str,
+    path: &str,
     output: &mut Tap<W>,
 ) -> Result<(), Fault>
     requires { has_failed output.old ≡ false }
-    ensures { OnOk result ((left : Option (List ℕ)) → Checks left left (W.contents (inside output.old)) (W.contents (inside output.new))) }
+    ensures ok { OnOk result ((left : Option (List ℕ)) → (failed : Bool) → Checks
+        (beside W.contents left failed output.old) (beside W.contents left failed output.new)) }
+    ensures err { IfErr result (λ fault. (left : Option (List ℕ)) → (failed : Bool) → CheckEnds fault
+        (beside W.contents left failed output.old) (beside W.contents left failed output.new)) }
 {
-    let config = settings_of(rt, settings)?;
+    let config = settings_of(rt, path)?;
     let text = check_text(rt.alloc(), &config)?;
     output.write_line(text.as_str())?;
     Ok(())
@@ -107,9 +129,12 @@ fn replayed<F: Files + AllocGlobal, R: Read, W: Write>(
 ) -> Result<(), Fault>
     requires reader { has_failed input.old ≡ false }
     requires writer { has_failed output.old ≡ false }
-    ensures { OnOk result (Replays status
-        (R.remaining (inside input.old)) (R.remaining (inside input.new))
-        (W.contents (inside output.old)) (W.contents (inside output.new))) }
+    ensures ok { OnOk result (Replays status
+        (streams R.remaining W.contents input.old output.old)
+        (streams R.remaining W.contents input.new output.new)) }
+    ensures err { IfErr result (λ fault. ReplayEnds status fault
+        (streams R.remaining W.contents input.old output.old)
+        (streams R.remaining W.contents input.new output.new)) }
 {
     let config = settings_of(rt, settings)?;
     let mut gate = Gate::new(rt.alloc(), config);
@@ -122,8 +147,11 @@ fn replayed<F: Files + AllocGlobal, R: Read, W: Write>(
 
 fn write_status<W: Write>(alloc: Global, gate: &Gate, output: &mut Tap<W>) -> Result<(), Fault>
     requires { has_failed output.old ≡ false }
-    ensures { OnOk result (Appends (W.contents (inside output.old)) (W.contents (inside output.new))
-        (status_text gate.now.settings gate.now.content.state)) }
+    ensures ok { OnOk result (Appends (W.contents (inside output.old)) (W.contents (inside output.new))
+        (status_of gate.now)) }
+    ensures err { IfErr result (λ fault. ((fault ≡ Fault.Unavailable) × (output.new ≡ output.old))
+        ⊎ ((fault ≡ Fault.Write) × (has_failed output.new ≡ true)
+        × WritesFront (W.contents (inside output.old)) (W.contents (inside output.new)) (status_of gate.now))) }
 {
     let Ok(text) = gate.status(alloc) else {
         return Err(Fault::Unavailable);
@@ -133,7 +161,8 @@ fn write_status<W: Write>(alloc: Global, gate: &Gate, output: &mut Tap<W>) -> Re
 }
 
 fn settings_of<F: Files + AllocGlobal>(rt: &F, path: &str) -> Result<Config, Fault>
-    ensures { IfOk result (λ config. HasSettings config) }
+    ensures ok { IfOk result (λ config. HasSettings config) }
+    ensures err { IfErr result IsEarly }
 {
     let bytes = bytes_of(rt, path)?;
     Ok(gate_config::read(rt.alloc(), bytes.as_slice())?)
@@ -141,7 +170,8 @@ fn settings_of<F: Files + AllocGlobal>(rt: &F, path: &str) -> Result<Config, Fau
 
 /// The bytes of a settings file, of which no more than one past the limit is read.
 fn bytes_of<F: Files + AllocGlobal>(rt: &F, path: &str) -> Result<Vec<u8>, Fault>
-    ensures { IfOk result (λ bytes. length bytes.items ≤ settings_limit) }
+    ensures ok { IfOk result (λ bytes. length bytes.items ≤ settings_limit) }
+    ensures err { IfErr result IsEarly }
 {
     let Ok(file) = fs::open(rt, path) else {
         return Err(Fault::SettingsFile);
