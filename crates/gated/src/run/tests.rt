@@ -1,49 +1,12 @@
 //! Whole runs: what is printed, and the status.
 use crate::command::Cmd;
-use crate::run::run;
+use crate::run::{Fault, ended, run};
+use crate::samples::{Broken, ONE_QUEUE, TWO_QUEUES};
+use gate_config::ConfigFault;
 use gate_types::tap::Tap;
 use std::alloc::Global;
+use std::fs;
 use std::test::Fail;
-use std::{fs, io};
-
-const ONE_QUEUE: &str =
-    "[forge]\nbase = \"https://forge/c/\"\n[[queue]]\nname = \"core\"\nwindow = 2\nfloor = 1\n[[project]]\nname = \"lib\"\nqueue = \"core\"\n[[project.job]]\nname = \"unit\"\n";
-
-/// Two queues, three projects and four jobs.
-const TWO_QUEUES: &str = r#"[forge]
-base = "https://forge/c/"
-
-[[queue]]
-name = "core"
-window = 2
-floor = 1
-
-[[queue]]
-name = "web"
-window = 2
-floor = 1
-
-[[project]]
-name = "lib"
-queue = "core"
-[[project.job]]
-name = "unit"
-[[project.job]]
-name = "docs"
-voting = false
-
-[[project]]
-name = "app"
-queue = "core"
-[[project.job]]
-name = "unit"
-
-[[project]]
-name = "site"
-queue = "web"
-[[project.job]]
-name = "unit"
-"#;
 
 const APPROVAL: &str =
     "{\"id\":\"0a000000-0000-4000-8000-000000000001\",\"kind\":\"approved\",\"change\":101,\"revision\":1}\n";
@@ -60,26 +23,6 @@ struct Ran {
     status: u8,
     output: Vec<u8>,
     errors: Vec<u8>,
-}
-
-/// A reader or writer that fails at once.
-#[derive(Drop)]
-struct Broken;
-
-impl io::Read for Broken {
-    fn read(&mut self, _buf: &mut [u8]) -> io::Result<usize> {
-        Err(io::Error::from(io::ErrorKind::Interrupted))
-    }
-}
-
-impl io::Write for Broken {
-    fn write(&mut self, _buf: &[u8]) -> io::Result<usize> {
-        Err(io::Error::from(io::ErrorKind::Interrupted))
-    }
-
-    fn flush(&mut self) -> io::Result<()> {
-        Ok(())
-    }
 }
 
 /// What a command does over an input.
@@ -258,4 +201,62 @@ fn a_failing_stream_ends_the_command(rt: HostRuntime) -> Result<(), Fail> {
     assert_eq!(rt; status, 1);
     fs::remove_file(&rt, path)?;
     Ok(())
+}
+
+#[test]
+fn each_fault_has_its_line(rt: HostRuntime) {
+    let lines = [
+        (
+            Fault::Settings(ConfigFault::NotToml),
+            "gated: C1 not-toml\n",
+        ),
+        (
+            Fault::Settings(ConfigFault::MissingMember),
+            "gated: C2 missing-member\n",
+        ),
+        (
+            Fault::Settings(ConfigFault::WrongKind),
+            "gated: C3 wrong-kind\n",
+        ),
+        (
+            Fault::Settings(ConfigFault::UnknownMember),
+            "gated: C4 unknown-member\n",
+        ),
+        (
+            Fault::Settings(ConfigFault::BadName),
+            "gated: C5 bad-name\n",
+        ),
+        (
+            Fault::Settings(ConfigFault::DoubleName),
+            "gated: C6 double-name\n",
+        ),
+        (
+            Fault::Settings(ConfigFault::UnknownQueue),
+            "gated: C7 unknown-queue\n",
+        ),
+        (
+            Fault::Settings(ConfigFault::BadWindow),
+            "gated: C8 bad-window\n",
+        ),
+        (
+            Fault::Settings(ConfigFault::NoVotingJob),
+            "gated: C9 no-voting-job\n",
+        ),
+        (Fault::Settings(ConfigFault::Limit), "gated: C10 limit\n"),
+        (
+            Fault::Settings(ConfigFault::NoMemory),
+            "gated: C11 no-memory\n",
+        ),
+        (Fault::Unavailable, "gated: E15 unavailable\n"),
+        (Fault::Read, "gated: I1 read\n"),
+        (Fault::Write, "gated: I2 write\n"),
+        (Fault::NoMemory, "gated: I3 no-memory\n"),
+        (Fault::SettingsFile, "gated: I5 settings-file\n"),
+        (Fault::Store, "gated: I7 store\n"),
+    ];
+    for (fault, line) in lines {
+        let mut errors = Tap::new(Vec::new(rt.alloc()));
+        assert_eq!(rt; ended(Err(fault), &mut errors), 1, "{line}");
+        assert_eq!(rt; errors.into_inner().as_slice(), line.as_bytes(), "{line}");
+    }
 }
