@@ -1,5 +1,5 @@
 -- How a command ends with a fault.
-use Rattle.std.proofs.Common.{◌≡◌, ℕ, Bool, true, refl, subst, sym, inl, inr, ◌∙◌, ◌⊎◌, arith}
+use Rattle.std.proofs.Common.{◌≡◌, ℕ, Bool, true, subst, sym, inl, inr, ◌∙◌, arith}
 use Rattle.std.specs.Prelude.{Result, Ok, Err, OnOk, IfErr, IsErrOf}
 use Rattle.gate_core.specs.declared.fault.IoFault.{IoFault}
 use Rattle.gate_core.specs.declared.fault.IoFault.TheVariants as io

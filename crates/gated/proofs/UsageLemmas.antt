@@ -1,6 +1,6 @@
 -- Which errors of a command line ask for help, and which refuse it.
-use Rattle.std.proofs.Common.{◌≡◌, ℕ, Bool, true, false, not, List, [], ◌∷◌, ◌||◌, ◌&&◌, refl, sym, subst, ap, inl, inr, arith, ◌∙◌}
-use Rattle.std.specs.Prelude.{◌⊎◌, Option, None, is_none}
+use Rattle.std.proofs.Common.{◌≡◌, Bool, true, false, not, List, [], ◌∷◌, refl, sym, subst, ap, inl, inr, arith, ◌∙◌}
+use Rattle.std.specs.Prelude.{◌⊎◌, is_none}
 use Rattle.std.specs.List.{list_any, list_all}
 use Rattle.std.proofs.lemmas.Bool.{and_parts, or_parts, false≢true, true≢false}
 use Rattle.clap.specs.Words.{Text, kind_of, IsAmong, Kinds, fault_of}

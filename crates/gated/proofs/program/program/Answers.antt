@@ -1,6 +1,5 @@
-use Rattle.std.proofs.Common.{◌≡◌, ap, map, sym, inl, inr, refl, arith, ◌∙◌, true, false}
+use Rattle.std.proofs.Common.{ap, map, sym, inl, inr, refl, arith, ◌∙◌}
 use Rattle.clap.specs.Words.{kind_of}
-use Rattle.clap.specs.declared.error.kind.ErrorKind.TheVariants as kind
 use Rattle.gated.specs.Doing.{streams}
 use Rattle.gated.proofs.UsageLemmas.{help_or_not, help_is_found, refused_is_no_help, help_or_memory}
 use Rattle.gated.proofs.program.program.Goals as goal
