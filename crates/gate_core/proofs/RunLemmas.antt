@@ -5,8 +5,7 @@ use Rattle.std.specs.Io.Iter.{u64_saturate}
 use Rattle.std.proofs.KnownBytes.{Appends-trans, Appends-nil, Consumes-trans, Consumes-kept}
 use Rattle.std.proofs.Math.Seq.{drop-cons}
 use Rattle.std.proofs.lemmas.List.{length-take}
-use Rattle.gate_types.specs.declared.tap.Tap.{Tap}
-use Rattle.gate_types.specs.Tap.{inside, WritesFront}
+use Rattle.gate_types.specs.Tap.{WritesFront}
 use Rattle.gate_core.specs.Line.{Holds}
 use Rattle.gate_core.specs.declared.line.Line.{Line}
 use Rattle.gate_core.specs.Gathered.{whole_from, rest_from}
@@ -164,18 +163,18 @@ every_line_is front some =
     ap (λ l. whole_from [] front ++ l) (sym (if_some_some (rest_from [] front) some)) ∙ lines_gathered front
 
 -- what a cut answer leaves behind: the lines up to it ran, and no more was read than it took
-abbrev pub Stops : {S T : Type 0} → Replying S → S → (T → Option (List ℕ)) → Tap T → Tap T → S → Option (List ℕ) → Option (List ℕ) → Type 0
-Stops replies s left r t e o q = (lines : List (List ℕ)) × (broke : Broke replies s lines e o q) × ReadFor left r t lines (length broke.done)
+abbrev pub Stops : {S : Type 0} → Replying S → S → Option (List ℕ) → Option (List ℕ) → S → Option (List ℕ) → Option (List ℕ) → Type 0
+Stops replies s a d e o q = (lines : List (List ℕ)) × (broke : Broke replies s lines e o q) × ReadFor a d lines (length broke.done)
 
 -- what is read into a buffer is no longer than it
 pub one_read : (n : ℕ) (buf : List ℕ) → length buf ≡ longest_read → length (take n buf) ≤ longest_read
 one_read n buf size = omega (arith, length-take n buf)
 
-pub between_broke : {S T : Type 0} {replies : Replying S} {s m e : S} {left : T → Option (List ℕ)} {r t : Tap T} {b o p q : Option (List ℕ)} {line : Line} {count : ℕ} (chunk : List ℕ)
-    → Between replies s (left (inside r)) b m o p line count → Consumes b (left (inside t)) chunk → length chunk ≤ longest_read
-    → ((begun : List ℕ) → Holds line begun → Broke replies m (whole_from begun chunk) e p q) → Stops replies s left r t e o q
+pub between_broke : {S : Type 0} {replies : Replying S} {s m e : S} {a b d o p q : Option (List ℕ)} {line : Line} {count : ℕ} (chunk : List ℕ)
+    → Between replies s a b m o p line count → Consumes b d chunk → length chunk ≤ longest_read
+    → ((begun : List ℕ) → Holds line begun → Broke replies m (whole_from begun chunk) e p q) → Stops replies s a d e o q
 unfolding broke_after
-between_broke {replies = replies} {s = s} {m = m} {e = e} {left = left} {r = r} {t = t} {b = b} {o = o} {p = p} {q = q} chunk h took short broke =
+between_broke {replies = replies} {s = s} {m = m} {e = e} {a = a} {b = b} {d = d} {o = o} {p = p} {q = q} chunk h took short broke =
     let rest = rest_from [] h.front in
     let stopped = broke rest h.holds in
     let whole = whole_from [] h.front in (
@@ -184,7 +183,7 @@ between_broke {replies = replies} {s = s} {m = m} {e = e} {left = left} {r = r} 
       record {
         before = h.front;
         chunk = chunk;
-        read = Consumes-trans (left (inside r)) b (left (inside t)) h.front chunk h.consumed took;
+        read = Consumes-trans a b d h.front chunk h.consumed took;
         one_read = short;
         every_line = inl (sym (whole-append [] h.front chunk) ∙ whole_gathered (h.front ++ chunk));
         needed = omega (arith, ap length (whole_gathered h.front), length-append whole stopped.done);
@@ -192,12 +191,12 @@ between_broke {replies = replies} {s = s} {m = m} {e = e} {left = left} {r = r} 
     )
 
 -- at the end, where something is left
-pub last_broke : {S T : Type 0} {replies : Replying S} {s m e : S} {left : T → Option (List ℕ)} {r t : Tap T} {b o p q : Option (List ℕ)} {line : Line} {count : ℕ}
-    → Between replies s (left (inside r)) b m o p line count → Consumes b (left (inside t)) [] → IsAtEnd (left (inside t)) → ((begun : List ℕ) → Holds line begun → begun ≡ [] → ⊥)
+pub last_broke : {S : Type 0} {replies : Replying S} {s m e : S} {a b d o p q : Option (List ℕ)} {line : Line} {count : ℕ}
+    → Between replies s a b m o p line count → Consumes b d [] → IsAtEnd d → ((begun : List ℕ) → Holds line begun → begun ≡ [] → ⊥)
     → ((begun : List ℕ) → Holds line begun → (said : List ℕ) × Answers replies m begun said e × WritesFront p q (said ++ 10 ∷ []))
-    → Stops replies s left r t e o q
+    → Stops replies s a d e o q
 unfolding broke_after broke_one
-last_broke {replies = replies} {s = s} {m = m} {e = e} {left = left} {r = r} {t = t} {b = b} {o = o} {p = p} {q = q} h took end some says =
+last_broke {replies = replies} {s = s} {m = m} {e = e} {a = a} {b = b} {d = d} {o = o} {p = p} {q = q} h took end some says =
     let rest = rest_from [] h.front in
     let said = says rest h.holds in
     let whole = whole_from [] h.front in (
@@ -206,7 +205,7 @@ last_broke {replies = replies} {s = s} {m = m} {e = e} {left = left} {r = r} {t 
       record {
         before = h.front;
         chunk = [];
-        read = Consumes-trans (left (inside r)) b (left (inside t)) h.front [] h.consumed took;
+        read = Consumes-trans a b d h.front [] h.consumed took;
         one_read = omega arith;
         every_line = inr (every_line_is h.front (some rest h.holds) ∙ ap lines_of (sym (append-nil h.front)), end);
         needed = omega (arith, ap length (whole_gathered h.front), length-append whole []);

@@ -1,8 +1,7 @@
 -- The lines of an input, and how far it was read.
 use Rattle.std.specs.Prelude.{◌≡◌, ◌⊎◌, ℕ, ◌≤◌, ◌-◌, ◌==◌, List, ◌++◌, length, take, drop, filter, nat_lt, Option}
 use Rattle.std.specs.List.{slice_split}
-use Rattle.gate_types.specs.declared.tap.Tap.{Tap}
-use Rattle.gate_types.specs.Tap.{Gave, IsReadOut}
+use Rattle.std.specs.Io.KnownBytes.{Consumes, IsAtEnd}
 use Rattle.gate_core.specs.Limit.{longest_read}
 
 -- what stands before, between and behind the LFs
@@ -21,16 +20,15 @@ last_line input = filter (λ piece. nat_lt 0 (length piece)) (drop (length (piec
 abbrev pub lines_of : List ℕ → List (List ℕ)
 lines_of input = whole_lines input ++ last_line input
 
--- the lines of what a tap's reader gave: the last may lack its LF only where the reader is at its end
-abbrev pub AreLinesRead : {T : Type 0} → (T → Option (List ℕ)) → Tap T → List ℕ → List (List ℕ) → Type 0
-AreLinesRead left tap read lines = (lines ≡ whole_lines read) ⊎ ((lines ≡ lines_of read) × IsReadOut left tap)
+-- the lines of what a reader gave: the last may lack its LF only where the reader has nothing left
+abbrev pub AreLinesRead : Option (List ℕ) → List ℕ → List (List ℕ) → Type 0
+AreLinesRead left read lines = (lines ≡ whole_lines read) ⊎ ((lines ≡ lines_of read) × IsAtEnd left)
 
--- a tap's reader gave these lines, and its last read was needed: line n, counted from 0, wasn't whole before
-pub record ReadFor {T : Type 0} (left : T → Option (List ℕ)) (old new : Tap T) (lines : List (List ℕ)) (n : ℕ)
-    : Type 0 where
+-- a reader gave these lines, and its last read was needed: line n, counted from 0, wasn't whole before
+pub record ReadFor (old new : Option (List ℕ)) (lines : List (List ℕ)) (n : ℕ) : Type 0 where
   pub before : List ℕ
   pub chunk : List ℕ
-  pub read : Gave left old new (before ++ chunk)
+  pub read : Consumes old new (before ++ chunk)
   pub one_read : length chunk ≤ longest_read
-  pub every_line : AreLinesRead left new (before ++ chunk) lines
+  pub every_line : AreLinesRead new (before ++ chunk) lines
   pub needed : length (whole_lines before) ≤ n

@@ -1,7 +1,7 @@
 //! The engine: each line of a reader is answered by a line to a writer.
 ghost use Rattle.std.specs.Prelude.{◌≡◌, ◌≤◌, ◌+◌, ◌++◌, ◌∷◌, [], ℕ, List, OnOk, OnErr, IfOk, IsErrOf, true, false, length};
 ghost use Rattle.std.specs.Io.Iter.{u64_saturate};
-ghost use Rattle.gate_types.specs.Tap.{has_failed, Gave, IsReadOut, Took, TookFront};
+ghost use Rattle.gate_types.specs.Tap.{inside, has_failed, Gave, IsReadOut, Took, TookFront};
 ghost use Rattle.gate_core.specs.Limit.{limit};
 ghost use Rattle.gate_core.specs.Line.{Holds};
 ghost use Rattle.gate_core.specs.Gathered.{whole_from, rest_from};
@@ -110,7 +110,7 @@ pub fn answer_lines<G: Respond, R: Read, W: Write>(
         × FedTo W.contents G.replies gate.old (whole_lines front) gate.new w.old w.new }
     ensures write { IsErrOf result IoFault.Write → (lines : List (List ℕ))
         × (broke : BrokeTo W.contents G.replies gate.old lines gate.new w.old w.new)
-        × ReadFor R.remaining r.old r.new lines (length broke.done) }
+        × ReadFor (R.remaining (inside r.old)) (R.remaining (inside r.new)) lines (length broke.done) }
     ensures memory { IsErrOf result IoFault.NoMemory →
         (gate.new ≡ gate.old) × (r.new ≡ r.old) × (w.new ≡ w.old) }
     ensures store { IsErrOf result IoFault.Store → ⊥ }

@@ -1,7 +1,7 @@
 //! A whole conversation: deliveries in, one a line, and replies out.
 ghost use Rattle.std.specs.Prelude.{◌≡◌, [], ℕ, List, OnOk, IfOk, IsErrOf, true, false, length};
 ghost use Rattle.std.specs.Io.Iter.{u64_saturate};
-ghost use Rattle.gate_types.specs.Tap.{has_failed, Gave, IsReadOut, Took};
+ghost use Rattle.gate_types.specs.Tap.{inside, has_failed, Gave, IsReadOut, Took};
 ghost use Rattle.gate_core.specs.Lines.{whole_lines, lines_of, ReadFor};
 ghost use Rattle.gate_core.specs.Gated.{Gated};
 ghost use Rattle.gate_core.specs.Replies.{Marked, Replayed, Cut, CallsAreAnswered};
@@ -43,7 +43,7 @@ pub fn replay<R: Read, W: Write>(
     // the lines up to the one whose answer was cut, and no read beyond the one that ended it
     ensures write { IsErrOf result IoFault.Write → (lines : List (List ℕ))
         × (text : List ℕ) × (cut : Cut gate.old lines text gate.new)
-        × ReadFor R.remaining r.old r.new lines (length cut.done)
+        × ReadFor (R.remaining (inside r.old)) (R.remaining (inside r.new)) lines (length cut.done)
         × Took W.contents w.old w.new text }
     ensures memory { IsErrOf result IoFault.NoMemory →
         (gate.new ≡ gate.old) × (r.new ≡ r.old) × (w.new ≡ w.old) }

@@ -17,4 +17,4 @@ pub returns-clause-write : goal.returns-clause-write
 returns-clause-write g c = λ failed.
     let h = c.answer_lines.ensures.write failed in
     let cut = cut_of_broke _ _ _ _ _ h.1 in
-    (h.0, cut.0, cut.1, subst (ReadFor _ _ _ _) (sym cut.2) h.2, cut.3)
+    (h.0, cut.0, cut.1, subst (ReadFor _ _ _) (sym cut.2) h.2, cut.3)
