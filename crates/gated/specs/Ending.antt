@@ -1,12 +1,13 @@
 -- How a command ends with a fault: which fault comes when, and what is read, written and told then.
-use Rattle.std.specs.Prelude.{◌≡◌, true, ⊤, ◌⊎◌, ◌≤◌, ◌<◌, ℕ, Bool, List, [], ◌∷◌, ◌++◌, length, take, Option, Err}
+use Rattle.std.specs.Prelude.{◌≡◌, true, false, ⊤, ◌⊎◌, ◌≤◌, ◌<◌, ℕ, Bool, List, [], ◌∷◌, ◌++◌, length, take}
+use Rattle.std.specs.Prelude.{Option, Err}
 use Rattle.std.specs.Io.KnownBytes.{Appends, Consumes}
 use Rattle.gate_types.specs.Settings.{Settings}
-use Rattle.gate_types.specs.Tap.{inside, has_failed, WritesFront}
+use Rattle.gate_types.specs.Tap.{has_failed, Took, TookFront, WritesFront}
 use Rattle.gate_types.specs.declared.tap.Tap.{Tap}
 use Rattle.gate_config.specs.Reading.{said_by, Gives}
 use Rattle.gate_core.specs.Gated.{Gated, opened}
-use Rattle.gate_core.specs.Lines.{lines_of, whole_from, IsKnown}
+use Rattle.gate_core.specs.Lines.{whole_lines, ReadFor}
 use Rattle.gate_core.specs.Replies.{Replayed, Cut}
 use Rattle.gated.specs.Doing.{Streams, Answers, HasSettings, settings_limit, status_of, check_text}
 use Rattle.gated.specs.declared.command.Cmd.{Cmd}
@@ -22,27 +23,29 @@ IsEarly fault.SettingsFile = ⊤
 IsEarly fault.NoMemory = ⊤
 IsEarly _ = ⊥
 
--- the input failed, and the lines that were whole by then are replied to
+-- the input failed and the output didn't, and the lines that were whole by then are replied to
 pub record InputFails (before after : Streams) : Type 0 where
   pub failed : after.input_failed ≡ true
+  pub unfailed : after.output_failed ≡ false
   pub config : Settings
   pub settings : HasSettings config
   pub front : List ℕ
   pub read : Consumes before.left after.left front
   pub replies : List ℕ
   pub gate : Gated
-  pub answered : Replayed (opened config) (whole_from [] front) replies gate
+  pub answered : Replayed (opened config) (whole_lines front) replies gate
   pub written : Appends before.held after.held replies
 
--- the output failed within the reply to some line
+-- the output failed within the reply to some line, and the input, which didn't, was read no further than for it
 pub record ReplyIsCut (before after : Streams) : Type 0 where
+  pub unfailed : after.input_failed ≡ false
   pub config : Settings
   pub settings : HasSettings config
-  pub input : List ℕ
-  pub known : IsKnown before.left input
+  pub lines : List (List ℕ)
   pub replies : List ℕ
   pub gate : Gated
-  pub answered : Cut (opened config) (lines_of input) replies gate
+  pub answered : Cut (opened config) lines replies gate
+  pub read : ReadFor before.left after.left lines (length answered.done)
   pub written : Appends before.held after.held replies
 
 -- the status is asked for, and behind all replies the output failed within it
@@ -86,5 +89,4 @@ EndsBy fault (Replay settings status) before after = ReplayEnds status fault bef
 
 -- the whole text is written, or a beginning where the writer has failed
 abbrev pub Tells : {E : Type 0} → (E → Option (List ℕ)) → Tap E → Tap E → List ℕ → Type 0
-Tells contents old new text = Appends (contents (inside old)) (contents (inside new)) text
-    ⊎ (WritesFront (contents (inside old)) (contents (inside new)) text × (has_failed new ≡ true))
+Tells held old new text = Took held old new text ⊎ (TookFront held old new text × (has_failed new ≡ true))

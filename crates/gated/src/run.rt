@@ -1,7 +1,6 @@
 //! Does what a command line asks for.
 ghost use Rattle.std.specs.Prelude.{◌≡◌, ◌⊎◌, ◌≤◌, ℕ, List, Option, Bool, OnOk, IfOk, IfErr, length, false, true};
-ghost use Rattle.std.specs.Io.KnownBytes.{Appends};
-ghost use Rattle.gate_types.specs.Tap.{inside, has_failed, WritesFront};
+ghost use Rattle.gate_types.specs.Tap.{has_failed, Took, TookFront};
 ghost use Rattle.gated.specs.Doing.{Does, Checks, Replays, HasSettings, beside, streams, settings_limit, status_of};
 ghost use Rattle.gated.specs.Ending.{EndsBy, CheckEnds, ReplayEnds, IsEarly, Tells};
 ghost use Rattle.gated.specs.Faults.{line_of};
@@ -147,11 +146,10 @@ fn replayed<F: Files + AllocGlobal, R: Read, W: Write>(
 
 fn write_status<W: Write>(alloc: Global, gate: &Gate, output: &mut Tap<W>) -> Result<(), Fault>
     requires { has_failed output.old ≡ false }
-    ensures ok { OnOk result (Appends (W.contents (inside output.old)) (W.contents (inside output.new))
-        (status_of gate.now)) }
+    ensures ok { OnOk result (Took W.contents output.old output.new (status_of gate.now)) }
     ensures err { IfErr result (λ fault. ((fault ≡ Fault.Unavailable) × (output.new ≡ output.old))
         ⊎ ((fault ≡ Fault.Write) × (has_failed output.new ≡ true)
-        × WritesFront (W.contents (inside output.old)) (W.contents (inside output.new)) (status_of gate.now))) }
+        × TookFront W.contents output.old output.new (status_of gate.now))) }
 {
     let Ok(text) = gate.status(alloc) else {
         return Err(Fault::Unavailable);

@@ -36,7 +36,8 @@ returns-in_err-replay-clause-err g c =
     (streams g.R.Read.remaining g.W.Write.contents c.replay.new.r c.replay.new.w)
     c.in_err-replay.was
     (λ e. let h = c.replay.ensures.read e in record {
-      failed = c.replay.ensures.reader_failed e;
+      failed = (c.replay.ensures.reader_failed e).0;
+      unfailed = (c.replay.ensures.reader_failed e).1;
       config = c.in_ok-config.config;
       settings = c.in_ok-config.ensures.ok;
       front = h.0;
@@ -46,16 +47,17 @@ returns-in_err-replay-clause-err g c =
       answered = rw c.new-gate.ensures at h.3;
       written = h.4;
     })
-    (λ e. let h = c.replay.ensures.write e in (
-      c.replay.ensures.writer_failed e,
+    (λ e. let h = rw c.new-gate.ensures at (c.replay.ensures.write e) in (
+      (c.replay.ensures.writer_failed e).1,
       record {
+        unfailed = (c.replay.ensures.writer_failed e).0;
         config = c.in_ok-config.config;
         settings = c.in_ok-config.ensures.ok;
-        input = h.0;
-        known = h.1;
-        replies = h.2;
+        lines = h.0;
+        replies = h.1;
         gate = c.replay.new.gate;
-        answered = rw c.new-gate.ensures at h.3;
+        answered = h.2;
+        read = h.3;
         written = h.4;
       },
     ))
