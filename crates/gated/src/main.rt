@@ -1,33 +1,9 @@
 //! `gated`: the gate of a code forge.
 #![tactic(auto)]
 
-mod command;
-mod program;
-mod run;
-#[cfg(test)]
-mod samples;
-
-use crate::program::{program, unread};
-use gate_types::tap::Tap;
+use gated_cli::started;
 use std::process::ExitCode;
-use std::{env, io};
 
 fn main(rt: HostRuntime) -> ExitCode {
     started(&rt)
-}
-
-/// The program over the words and the streams of its process.
-fn started(rt: &HostRuntime) -> ExitCode {
-    let mut input = Tap::new(rt.stdin());
-    let mut output = Tap::new(rt.stdout());
-    let mut errors = Tap::new(rt.stderr());
-    ExitCode::from(match words(rt) {
-        Ok(words) => program(rt, words.as_slice(), &mut input, &mut output, &mut errors),
-        Err(error) => unread(rt.alloc(), &error, &mut errors),
-    })
-}
-
-/// The words of the command line.
-fn words(rt: &HostRuntime) -> io::Result<Vec<String>> {
-    Ok(env::args(rt)?.collect(rt.alloc())?)
 }

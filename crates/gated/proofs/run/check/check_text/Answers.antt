@@ -1,5 +1,0 @@
-use Rattle.gated.proofs.CheckLemmas.{few_jobs}
-use Rattle.gated.proofs.run.check.check_text.Goals as goal
-
-pub job_count-jobs-requires : goal.job_count-jobs-requires
-job_count-jobs-requires c = rw c.as_slice-3.ensures (few_jobs (record { base = c.config.inside.base; queues = c.config.inside.queues; projects = c.config.inside.projects }) c.config.invariant)

@@ -1,0 +1,65 @@
+-- Which errors of a command line ask for help, and which refuse it.
+use Rattle.std.proofs.Common.{◌≡◌, Bool, true, false, not, List, [], ◌∷◌, refl, sym, subst, ap, inl, inr, arith, ◌∙◌}
+use Rattle.std.specs.Prelude.{◌⊎◌, is_none}
+use Rattle.std.specs.List.{list_any, list_all}
+use Rattle.std.proofs.lemmas.Bool.{and_parts, or_parts, false≢true, true≢false}
+use Rattle.clap.specs.Words.{Text, kind_of, IsAmong, Kinds, fault_of}
+use Rattle.clap.specs.declared.error.Error.{Error}
+use Rattle.clap.specs.declared.error.kind.ErrorKind.{ErrorKind}
+use Rattle.clap.specs.declared.error.kind.ErrorKind.TheVariants as kind
+use Rattle.gated_cli.specs.CommandLine.{gated, asked, is_help, is_refused, may_be_refused, may_ask_help, IsExplained}
+
+-- one kind asks for help
+pub help_kind : (k : ErrorKind) → is_help k ≡ true → k ≡ kind.DisplayHelp
+help_kind kind.DisplayHelp h = refl
+help_kind _ h = absurd (false≢true h)
+
+pub among_any : (p : ErrorKind → Bool) (k : ErrorKind) (ks : Kinds) → IsAmong k ks → p k ≡ true → list_any p ks ≡ true
+among_any p k [] h e = absurd h
+among_any p k (x ∷ xs) (inl h) e =
+    let here : p x ≡ true = subst (λ k. p k ≡ true) h e in grind (arith, here)
+among_any p k (x ∷ xs) (inr h) e =
+    let later : list_any p xs ≡ true = among_any p k xs h e in grind (arith, later)
+
+none_and_some : (p : ErrorKind → Bool) (ks : Kinds) → list_all (λ k. not (p k)) ks ≡ true → list_any p ks ≡ true → ⊥
+none_and_some p [] all any = absurd (false≢true any)
+none_and_some p (x ∷ xs) all any =
+    let (here, rest) = and_parts (not (p x)) (list_all (λ k. not (p k)) xs) all in
+    none_and_some p xs rest (grind (arith, here, any))
+
+-- an error that asks for help is found in the words
+pub help_is_found : (words : List Text) (e : Error) → IsExplained words e → kind_of e ≡ kind.DisplayHelp → may_ask_help words ≡ true
+help_is_found words e (inl (inl memory)) h = let bad : kind.OutOfMemory ≡ kind.DisplayHelp = sym memory ∙ h in absurd (false≢true (ap is_help bad))
+help_is_found words e (inl (inr among)) h = among_any is_help (kind_of e) _ among (ap is_help h)
+help_is_found words e (inr missing) h = let bad : kind.MissingSubcommand ≡ kind.DisplayHelp = sym missing.0 ∙ h in absurd (false≢true (ap is_help bad))
+
+-- words that are refused ask for no help
+pub refused_is_no_help : (words : List Text) (e : Error) → IsExplained words e → is_refused words ≡ true → kind_of e ≡ kind.DisplayHelp → ⊥
+refused_is_no_help words e why refused h =
+    none_and_some is_help (fault_of gated words) (and_parts _ _ refused).1 (help_is_found words e why h)
+
+-- where nothing is refused an error is help or want of memory
+pub help_or_memory : (words : List Text) (e : Error) → IsExplained words e → may_be_refused words ≡ false
+    → (kind_of e ≡ kind.DisplayHelp) ⊎ (kind_of e ≡ kind.OutOfMemory)
+help_or_memory words e (inl (inl memory)) fine = inr memory
+help_or_memory words e (inl (inr among)) fine = inl (help_kind (kind_of e) (only_help among))
+  where
+    by_cases : (b : Bool) → (not b ≡ true → ⊥) → b ≡ true
+    by_cases true f = refl
+    by_cases false f = absurd (f refl)
+
+    only_help : IsAmong (kind_of e) (fault_of gated words) → is_help (kind_of e) ≡ true
+    only_help among = by_cases (is_help (kind_of e)) (λ n.
+        let found = among_any (λ k. not (is_help k)) (kind_of e) (fault_of gated words) among n in
+        true≢false (sym found ∙ (or_parts _ _ fine).0))
+help_or_memory words e (inr missing) fine =
+    let named : is_none (asked words) ≡ true = ap is_none missing.1 in
+    absurd (true≢false (sym named ∙ (or_parts _ _ fine).1))
+
+-- either an error asks for help, or it doesn't
+pub help_or_not : (k : ErrorKind) → (k ≡ kind.DisplayHelp) ⊎ ((k ≡ kind.DisplayHelp) → ⊥)
+help_or_not k = by_cases (is_help k) refl
+  where
+    by_cases : (b : Bool) → is_help k ≡ b → (k ≡ kind.DisplayHelp) ⊎ ((k ≡ kind.DisplayHelp) → ⊥)
+    by_cases true e = inl (help_kind k e)
+    by_cases false e = inr (λ h. true≢false (sym (ap is_help h) ∙ e))

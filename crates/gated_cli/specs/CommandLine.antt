@@ -1,0 +1,101 @@
+-- The command line, and what its matches say.
+use Rattle.std.specs.Prelude.{◌≡◌, ◌⊎◌, ◌||◌, ◌&&◌, Bool, List, [], ◌∷◌, codes, true, false, not, Option, Some, None}
+use Rattle.std.specs.Prelude.{is_none, option_and_then, option_map, if◌then◌else◌}
+use Rattle.std.specs.List.{list_all, list_any}
+use Rattle.std.specs.Str.{bytes_eq}
+use Rattle.clap.specs.Words.{App, Row, Rule, Text, new_app, new_rule, with_rule, with_subcommand, first_of}
+use Rattle.clap.specs.Words.{subcommand_of, fault_of, kind_of, HasKind}
+use Rattle.clap.specs.declared.error.Error.{Error}
+use Rattle.clap.specs.declared.error.kind.ErrorKind.{ErrorKind}
+use Rattle.clap.specs.declared.error.kind.ErrorKind.TheVariants as kind
+use Rattle.clap.specs.declared.builder.action.ArgAction.TheVariants.{SetTrue}
+use Rattle.gated_cli.specs.declared.command.Cmd.{Cmd}
+use Rattle.gated_cli.specs.declared.command.Cmd.TheVariants.{Check, Replay}
+
+-- the settings file, a word that has to be there
+abbrev pub settings_rule : Rule
+settings_rule = record (new_rule (codes "settings")) { required = true; value_names = 1 }
+
+-- the flag `--status`
+abbrev pub status_rule : Rule
+status_rule = record (new_rule (codes "status")) { long = Some (codes "status"); action = Some SetTrue }
+
+-- `check SETTINGS`
+abbrev pub check : App
+check = with_rule (new_app (codes "check")) settings_rule
+
+-- `replay SETTINGS [--status]`
+abbrev pub replay : App
+replay = with_rule (with_rule (new_app (codes "replay")) settings_rule) status_rule
+
+-- the program's name, before any command
+abbrev pub bare : App
+bare = new_app (codes "gated")
+
+-- the program's command line, where a command has to be given
+abbrev pub gated : App
+gated = with_subcommand (with_subcommand
+    (record bare { top = record bare.top { subcommand_required = true } }) check.top) replay.top
+
+-- what a command line says
+pub data Said : Type 0 where
+  check_of : Text → Said
+  replay_of : Text → Bool → Said
+
+abbrev pub said : Option Cmd → Option Said
+said None = None
+said (Some (Check settings)) = Some (check_of settings.now)
+said (Some (Replay settings status)) = Some (replay_of settings.now status)
+
+-- a flag was given
+abbrev pub is_set : Option Text → Bool
+is_set None = false
+is_set (Some text) = bytes_eq text (codes "true")
+
+-- what a subcommand and its rows say
+abbrev pub said_of : Text × List Row → Option Said
+said_of (name, rows) =
+    if bytes_eq name (codes "check") then option_map check_of (first_of (codes "settings") rows) else (
+    if bytes_eq name (codes "replay") then option_map
+    (λ s. replay_of s (is_set (first_of (codes "status") rows))) (first_of (codes "settings") rows)
+    else None)
+
+abbrev pub says : Option Cmd → Option (Text × List Row) → Type 0
+says cmd rows = said cmd ≡ option_and_then said_of rows
+
+-- what the words ask for, if they name a command
+abbrev pub asked : List Text → Option Said
+asked words = option_and_then said_of (subcommand_of gated words)
+
+-- `clap` takes the words, and they name this command
+pub record Names (words : List Text) (cmd : Cmd) : Type 0 where
+  pub taken : fault_of gated words ≡ []
+  pub named : said (Some cmd) ≡ asked words
+
+-- an error has a kind that `clap` finds in the words, or they name no command; or memory is refused
+abbrev pub IsExplained : List Text → Error → Type 0
+IsExplained words e =
+    HasKind (fault_of gated words) e ⊎ ((kind_of e ≡ kind.MissingSubcommand) × (asked words ≡ None))
+
+-- help was asked for
+abbrev pub is_help : ErrorKind → Bool
+is_help kind.DisplayHelp = true
+is_help _ = false
+
+-- there is no kind
+abbrev pub is_taken : List ErrorKind → Bool
+is_taken [] = true
+is_taken (k ∷ ks) = false
+
+-- `clap` refuses the words, and they ask for no help
+abbrev pub is_refused : List Text → Bool
+is_refused words =
+    not (is_taken (fault_of gated words)) && list_all (λ k. not (is_help k)) (fault_of gated words)
+
+-- `clap` may refuse the words, or they name no command
+abbrev pub may_be_refused : List Text → Bool
+may_be_refused words = list_any (λ k. not (is_help k)) (fault_of gated words) || is_none (asked words)
+
+-- the words may ask for help
+abbrev pub may_ask_help : List Text → Bool
+may_ask_help words = list_any is_help (fault_of gated words)

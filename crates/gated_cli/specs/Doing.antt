@@ -1,0 +1,79 @@
+-- What a command has read and written once it is done.
+use Rattle.std.specs.Prelude.{◌≡◌, ◌≤◌, ℕ, Bool, List, [], ◌∷◌, ◌++◌, length, Option, Ok, if◌then◌else◌, codes, decimal}
+use Rattle.std.specs.List.{sum_by}
+use Rattle.std.specs.Io.KnownBytes.{Appends, Consumes, IsAtEnd}
+use Rattle.gate_types.specs.Settings.{Settings}
+use Rattle.gate_types.specs.Status.{status_text}
+use Rattle.gate_types.specs.Tap.{inside, has_failed}
+use Rattle.gate_types.specs.declared.tap.Tap.{Tap}
+use Rattle.gate_config.specs.Reading.{said_by}
+use Rattle.gated_cli.specs.declared.command.Cmd.{Cmd}
+use Rattle.gated_cli.specs.declared.command.Cmd.TheVariants.{Check, Replay}
+use Rattle.gate_core.specs.Gated.{Gated, opened}
+use Rattle.gate_core.specs.Lines.{lines_of}
+use Rattle.gate_core.specs.Replies.{Replayed}
+
+-- what a command's input has left and what its output holds, and whether they have failed
+pub record Streams : Type 0 where
+  pub left : Option (List ℕ)
+  pub held : Option (List ℕ)
+  pub input_failed : Bool
+  pub output_failed : Bool
+
+-- an output beside what is known of an input
+abbrev pub beside : {W : Type 0} → (W → Option (List ℕ)) → Option (List ℕ) → Bool → Tap W → Streams
+beside contents left failed w =
+    record { left = left; held = contents (inside w); input_failed = failed; output_failed = has_failed w }
+
+-- an input and an output
+abbrev pub streams : {R W : Type 0} → (R → Option (List ℕ)) → (W → Option (List ℕ)) → Tap R → Tap W → Streams
+streams remaining contents r w = beside contents (remaining (inside r)) (has_failed r) w
+
+-- the longest settings file, in bytes
+abbrev pub settings_limit : ℕ
+settings_limit = 1048576
+
+-- some file within the limit says these settings
+pub record HasSettings (config : Settings) : Type 0 where
+  pub file : List ℕ
+  pub short : length file ≤ settings_limit
+  pub said : said_by file ≡ Ok config
+
+-- the status text of a gate
+abbrev pub status_of : Gated → List ℕ
+status_of g = status_text g.settings g.content.state
+
+-- all of the input is read, and over some file's settings its lines have these replies
+pub record Answers (before after : Streams) : Type 0 where
+  pub config : Settings
+  pub settings : HasSettings config
+  pub input : List ℕ
+  pub read : Consumes before.left after.left input
+  pub ended : IsAtEnd after.left
+  pub replies : List ℕ
+  pub gate : Gated
+  pub answered : Replayed (opened config) (lines_of input) replies gate
+
+-- the output grows by the replies, and then by the status text if it is asked for
+pub record Replays (asked : Bool) (before after : Streams) : Type 0 where
+  pub answers : Answers before after
+  pub written : Appends before.held after.held
+      (answers.replies ++ (if asked then status_of answers.gate else []))
+
+-- how many queues, projects and jobs there are
+abbrev pub check_text : Settings → List ℕ
+check_text c =
+    codes "ok: " ++ (decimal (length c.queues) ++ (codes " queues, " ++ (decimal (length c.projects) ++
+    (codes " projects, " ++ (decimal (sum_by (λ p. length p.jobs) c.projects) ++ codes " jobs")))))
+
+-- the input is left alone, and the output grows by the counts of some file's settings and an LF
+pub record Checks (before after : Streams) : Type 0 where
+  pub config : Settings
+  pub settings : HasSettings config
+  pub unread : after.left ≡ before.left
+  pub written : Appends before.held after.held (check_text config ++ 10 ∷ [])
+
+-- what a command that is done has read and written
+abbrev pub Does : Cmd → Streams → Streams → Type 0
+Does (Check settings) before after = Checks before after
+Does (Replay settings status) before after = Replays status before after

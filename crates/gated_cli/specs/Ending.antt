@@ -1,0 +1,92 @@
+-- How a command ends with a fault: which fault comes when, and what is read, written and told then.
+use Rattle.std.specs.Prelude.{◌≡◌, true, false, ⊤, ◌⊎◌, ◌≤◌, ◌<◌, ℕ, Bool, List, [], ◌∷◌, ◌++◌, length, take}
+use Rattle.std.specs.Prelude.{Option, Err}
+use Rattle.std.specs.Io.KnownBytes.{Appends, Consumes}
+use Rattle.gate_types.specs.Settings.{Settings}
+use Rattle.gate_types.specs.Tap.{has_failed, Took, TookFront, WritesFront}
+use Rattle.gate_types.specs.declared.tap.Tap.{Tap}
+use Rattle.gate_config.specs.Reading.{said_by, Gives}
+use Rattle.gate_core.specs.Gated.{Gated, opened}
+use Rattle.gate_core.specs.Lines.{whole_lines, ReadFor}
+use Rattle.gate_core.specs.Replies.{Replayed, Cut}
+use Rattle.gated_cli.specs.Doing.{Streams, Answers, HasSettings, settings_limit, status_of, check_text}
+use Rattle.gated_cli.specs.declared.command.Cmd.{Cmd}
+use Rattle.gated_cli.specs.declared.command.Cmd.TheVariants.{Check, Replay}
+use Rattle.gated_cli.specs.declared.run.fault.Fault.{Fault}
+use Rattle.gated_cli.specs.declared.run.fault.Fault.TheVariants as fault
+
+-- a fault that comes before the input and the output are touched; a fault of the settings is that
+-- of some file within the limit, or memory was refused
+abbrev pub IsEarly : Fault → Type 0
+IsEarly (fault.Settings f) = (file : List ℕ) × (length file ≤ settings_limit) × Gives (Err f) (said_by file)
+IsEarly fault.SettingsFile = ⊤
+IsEarly fault.NoMemory = ⊤
+IsEarly _ = ⊥
+
+-- the input failed and the output didn't, and the lines that were whole by then are replied to
+pub record InputFails (before after : Streams) : Type 0 where
+  pub failed : after.input_failed ≡ true
+  pub unfailed : after.output_failed ≡ false
+  pub config : Settings
+  pub settings : HasSettings config
+  pub front : List ℕ
+  pub read : Consumes before.left after.left front
+  pub replies : List ℕ
+  pub gate : Gated
+  pub answered : Replayed (opened config) (whole_lines front) replies gate
+  pub written : Appends before.held after.held replies
+
+-- the output failed within the reply to some line, and the input, which didn't, was read no further than for it
+pub record ReplyIsCut (before after : Streams) : Type 0 where
+  pub unfailed : after.input_failed ≡ false
+  pub config : Settings
+  pub settings : HasSettings config
+  pub lines : List (List ℕ)
+  pub replies : List ℕ
+  pub gate : Gated
+  pub answered : Cut (opened config) lines replies gate
+  pub read : ReadFor before.left after.left lines (length answered.done)
+  pub written : Appends before.held after.held replies
+
+-- the status is asked for, and behind all replies the output failed within it
+pub record StatusIsCut (asked : Bool) (before after : Streams) : Type 0 where
+  pub wanted : asked ≡ true
+  pub answers : Answers before after
+  pub at : ℕ
+  pub short : at < length (status_of answers.gate)
+  pub written : Appends before.held after.held (answers.replies ++ take at (status_of answers.gate))
+
+-- the status is asked for, and after all replies there was no memory for it
+pub record StatusIsRefused (asked : Bool) (before after : Streams) : Type 0 where
+  pub wanted : asked ≡ true
+  pub answers : Answers before after
+  pub written : Appends before.held after.held answers.replies
+
+-- the output failed within the counts of some file's settings
+pub record CountsAreCut (before after : Streams) : Type 0 where
+  pub config : Settings
+  pub settings : HasSettings config
+  pub unread : after.left ≡ before.left
+  pub written : WritesFront before.held after.held (check_text config ++ 10 ∷ [])
+
+-- how a replay ends with a fault
+abbrev pub ReplayEnds : Bool → Fault → Streams → Streams → Type 0
+ReplayEnds asked fault.Read before after = InputFails before after
+ReplayEnds asked fault.Write before after =
+    (after.output_failed ≡ true) × (ReplyIsCut before after ⊎ StatusIsCut asked before after)
+ReplayEnds asked fault.Unavailable before after = StatusIsRefused asked before after
+ReplayEnds asked fault before after = IsEarly fault × (after ≡ before)
+
+-- how a check ends with a fault
+abbrev pub CheckEnds : Fault → Streams → Streams → Type 0
+CheckEnds fault.Write before after = (after.output_failed ≡ true) × CountsAreCut before after
+CheckEnds fault before after = IsEarly fault × (after ≡ before)
+
+-- how a command ends with a fault
+abbrev pub EndsBy : Fault → Cmd → Streams → Streams → Type 0
+EndsBy fault (Check settings) before after = CheckEnds fault before after
+EndsBy fault (Replay settings status) before after = ReplayEnds status fault before after
+
+-- the whole text is written, or a beginning where the writer has failed
+abbrev pub Tells : {E : Type 0} → (E → Option (List ℕ)) → Tap E → Tap E → List ℕ → Type 0
+Tells held old new text = Took held old new text ⊎ (TookFront held old new text × (has_failed new ≡ true))

@@ -1,0 +1,48 @@
+-- What is told of a fault.
+use Rattle.std.specs.Prelude.{ℕ, List, [], ◌∷◌, ◌++◌, codes}
+use Rattle.gate_config.specs.Words.{word_of}
+use Rattle.gate_config.specs.declared.fault.ConfigFault.{ConfigFault}
+use Rattle.gate_config.specs.declared.fault.ConfigFault.TheVariants as config
+use Rattle.gate_core.specs.declared.fault.IoFault.{IoFault}
+use Rattle.gate_core.specs.declared.fault.IoFault.TheVariants as io
+use Rattle.gated_cli.specs.declared.run.fault.Fault.{Fault}
+use Rattle.gated_cli.specs.declared.run.fault.Fault.TheVariants as fault
+
+-- the number of a fault of the settings
+abbrev pub settings_number : ConfigFault → List ℕ
+settings_number config.NotToml = codes "C1"
+settings_number config.MissingMember = codes "C2"
+settings_number config.WrongKind = codes "C3"
+settings_number config.UnknownMember = codes "C4"
+settings_number config.BadName = codes "C5"
+settings_number config.DoubleName = codes "C6"
+settings_number config.UnknownQueue = codes "C7"
+settings_number config.BadWindow = codes "C8"
+settings_number config.NoVotingJob = codes "C9"
+settings_number config.Limit = codes "C10"
+settings_number config.NoMemory = codes "C11"
+
+-- a fault of the settings, by its number and its own word
+abbrev pub settings_text : ConfigFault → List ℕ
+settings_text f = settings_number f ++ codes " " ++ word_of f
+
+-- a fault's number, a space and its word
+abbrev pub text_of : Fault → List ℕ
+text_of (fault.Settings f) = settings_text f
+text_of fault.Unavailable = codes "E15 unavailable"
+text_of fault.Read = codes "I1 read"
+text_of fault.Write = codes "I2 write"
+text_of fault.NoMemory = codes "I3 no-memory"
+text_of fault.SettingsFile = codes "I5 settings-file"
+text_of fault.Store = codes "I7 store"
+
+-- the line that tells a fault
+abbrev pub line_of : Fault → List ℕ
+line_of f = codes "gated: " ++ text_of f ++ 10 ∷ []
+
+-- a fault of a replay
+abbrev pub of_replay : IoFault → Fault
+of_replay io.Read = fault.Read
+of_replay io.Write = fault.Write
+of_replay io.NoMemory = fault.NoMemory
+of_replay io.Store = fault.Store

@@ -1,0 +1,152 @@
+//! The command line.
+ghost use Rattle.std.specs.Prelude.{◌≡◌, codes, IfOk, IfErr, map, is_some, true, false, option_map};
+ghost use Rattle.clap.specs.Words.{app_of, rule_of, subcommand_rows_of, rows_of, found_of, first_of};
+ghost use Rattle.clap.specs.Words.{kind_of, takes};
+ghost use Rattle.clap.specs.declared.builder.command.Command.TheViews.{out-Command as fields_of};
+ghost use Rattle.gated_cli.specs.CommandLine.{gated, check, replay, settings_rule, is_set, said, says, said_of};
+ghost use Rattle.gated_cli.specs.CommandLine.{asked, Names, IsExplained};
+
+use clap::error::ErrorKind;
+use clap::{Arg, ArgAction, ArgMatches, Command, Error};
+use std::alloc::{AllocError, Global};
+use std::convert::AsStr;
+
+#[cfg(test)]
+mod tests;
+
+/// What the program is asked to do.
+#[derive(Clone, Copy, Debug, PartialEq, Eq)]
+pub enum Cmd<'a> {
+    /// Reads the settings of a file, and prints how many queues, projects and jobs they have.
+    Check { settings: &'a str },
+    /// Answers the deliveries of standard input over the settings of a file, then prints the
+    /// status if that is asked for.
+    Replay { settings: &'a str, status: bool },
+}
+
+/// Why a command line asks for nothing to be done: it is refused, or it asks for help. It prints
+/// as the text for the user.
+pub type Usage = Error;
+
+/// Reads a command line, of which the first word is the program's name.
+///
+/// # Errors
+///
+/// Where the line is refused, asks for help, or memory is refused; and never where `clap` takes the
+/// line and it names a command, but for want of memory.
+pub fn command<'a, S: AsStr>(alloc: Global, words: &'a [S]) -> Result<Cmd<'a>, Usage>
+    ensures ok { IfOk result (Names (map S.text words.entry.now)) }
+    ensures kinds { IfErr result (IsExplained (map S.text words.entry.now)) }
+    ensures err { IfErr result (λ usage. takes gated (map S.text words.entry.now) ≡ true
+        → is_some (asked (map S.text words.entry.now)) ≡ true → kind_of usage ≡ ErrorKind.OutOfMemory) }
+{
+    let matches = app(alloc)?.try_get_matches_from(words)?;
+    match read(&matches) {
+        Some(cmd) => Ok(cmd),
+        None => Err(app(alloc)?.error(ErrorKind::MissingSubcommand, "a command is missing")?),
+    }
+}
+
+fn app<'a>(alloc: Global) -> Result<Command<'a>, AllocError>
+    ensures { IfOk result (λ c. app_of c ≡ gated) }
+{
+    Command::new(alloc, "gated")
+        .about(
+            "The gate of a code forge: decides which approved changes may land, and in which order.",
+        )
+        .subcommand_required(true)
+        .subcommand(check(alloc)?)?
+        .subcommand(replay(alloc)?)
+}
+
+/// The settings file, which each command names.
+fn settings<'a>(alloc: Global) -> Arg<'a>
+    ensures rule { rule_of result ≡ settings_rule }
+    ensures local { result.global ≡ false }
+{
+    Arg::new(alloc, "settings")
+        .value_name("SETTINGS")
+        .help("The settings file, a TOML document")
+        .required(true)
+}
+
+fn check<'a>(alloc: Global) -> Result<Command<'a>, AllocError>
+    ensures { IfOk result (λ c. (app_of c ≡ check) × ((fields_of c).has_globals ≡ false)) }
+{
+    Command::new(alloc, "check")
+        .about("Reads the settings file, and prints how many queues, projects and jobs it has.")
+        .arg(settings(alloc))
+}
+
+fn replay<'a>(alloc: Global) -> Result<Command<'a>, AllocError>
+    ensures { IfOk result (λ c. (app_of c ≡ replay) × ((fields_of c).has_globals ≡ false)) }
+{
+    let status = Arg::new(alloc, "status")
+        .long("status")
+        .help("Print the status text after the last reply")
+        .action(ArgAction::SetTrue);
+    Command::new(alloc, "replay")
+        .about("Answers each line of standard input, a delivery, by a line on standard output.")
+        .arg(settings(alloc))?
+        .arg(status)
+}
+
+fn read<'a>(matches: &ArgMatches<'a>) -> Option<Cmd<'a>>
+    ensures { says result (subcommand_rows_of matches.now) }
+{
+    match matches.subcommand() {
+        None => None,
+        Some((name, inner)) => entered(name, inner),
+    }
+}
+
+fn entered<'a>(name: &str, inner: &ArgMatches<'a>) -> Option<Cmd<'a>>
+    ensures { said result ≡ said_of (name.now, rows_of (found_of inner.now)) }
+{
+    if name == "check" {
+        checking(inner)
+    } else if name == "replay" {
+        replaying(inner)
+    } else {
+        None
+    }
+}
+
+fn checking<'a>(inner: &ArgMatches<'a>) -> Option<Cmd<'a>>
+    ensures { said result ≡ said_of (codes "check", rows_of (found_of inner.now)) }
+{
+    match value(inner, "settings") {
+        Some(settings) => Some(Cmd::Check { settings }),
+        None => None,
+    }
+}
+
+fn replaying<'a>(inner: &ArgMatches<'a>) -> Option<Cmd<'a>>
+    ensures { said result ≡ said_of (codes "replay", rows_of (found_of inner.now)) }
+{
+    match value(inner, "settings") {
+        Some(settings) => Some(Cmd::Replay {
+            settings,
+            status: is_set(inner, "status"),
+        }),
+        None => None,
+    }
+}
+
+/// The value of an argument.
+#[tactic(auto, using(crate::proofs::CommandLemmas::first_rows))]
+fn value<'a>(inner: &ArgMatches<'a>, id: &str) -> Option<&'a str>
+    ensures { option_map (λ s. s.now) result ≡ first_of id.now (rows_of (found_of inner.now)) }
+{
+    inner.get_str(id)
+}
+
+/// Whether a flag was given.
+fn is_set(inner: &ArgMatches<'_>, id: &str) -> bool
+    ensures { result ≡ is_set (first_of id.now (rows_of (found_of inner.now))) }
+{
+    match value(inner, id) {
+        Some(text) => text == "true",
+        None => false,
+    }
+}

@@ -1,0 +1,183 @@
+//! Does what a command line asks for.
+ghost use Rattle.std.specs.Prelude.{◌≡◌, ◌⊎◌, ◌≤◌, ℕ, List, Option, Bool, OnOk, IfOk, IfErr, length, false, true};
+ghost use Rattle.gate_types.specs.Tap.{has_failed, Took, TookFront};
+ghost use Rattle.gated_cli.specs.Doing.{Does, Checks, Replays, HasSettings, beside, streams, settings_limit, status_of};
+ghost use Rattle.gated_cli.specs.Ending.{EndsBy, CheckEnds, ReplayEnds, IsEarly, Tells};
+ghost use Rattle.gated_cli.specs.Faults.{line_of};
+
+mod check;
+mod fault;
+#[cfg(test)]
+mod memory_tests;
+#[cfg(test)]
+mod tests;
+
+use crate::command::Cmd;
+use crate::run::check::check_text;
+pub use fault::Fault;
+use gate_core::gate::Gate;
+use gate_core::replay::replay;
+use gate_types::config::Config;
+use gate_types::tap::{Failed, Tap};
+use std::alloc::Global;
+use std::fs;
+use std::io::{ErrorKind, Read, Write};
+use std::rt::Files;
+
+/// The longest settings file, in bytes.
+const SETTINGS_LIMIT: usize = 1_048_576;
+
+/// Does a command over this input and output, and gives the status that the program ends with: 0
+/// where it is done, refused deliveries included; 1 after a fault, which is told on `errors` by
+/// one line: `gated: ` and the fault's text. A fault of the settings leaves input and output as
+/// they were.
+pub fn run<F: Files + AllocGlobal, R: Read, W: Write, E: Write>(
+    rt: &F,
+    cmd: Cmd<'_>,
+    input: &mut Tap<R>,
+    output: &mut Tap<W>,
+    errors: &mut Tap<E>,
+) -> u8
+    requires reader { has_failed input.old ≡ false }
+    requires writer { has_failed output.old ≡ false }
+    requires teller { has_failed errors.old ≡ false }
+    ensures status { (result ≡ 0) ⊎ (result ≡ 1) }
+    ensures done { result ≡ 0 → (errors.new ≡ errors.old) × Does cmd.entry
+        (streams R.remaining W.contents input.old output.old)
+        (streams R.remaining W.contents input.new output.new) }
+    // all of the fault's line, or a beginning where the writer has failed
+    ensures fault { result ≡ 1 → (fault : Fault)
+        × Tells E.contents errors.old errors.new (line_of fault)
+        × EndsBy fault cmd.entry
+        (streams R.remaining W.contents input.old output.old)
+        (streams R.remaining W.contents input.new output.new) }
+{
+    ended(perform(rt, cmd, input, output), errors)
+}
+
+/// Tells the fault, if there is one, and gives the status.
+pub fn ended<E: Write>(done: Result<(), Fault>, errors: &mut Tap<E>) -> u8
+    requires { has_failed errors.old ≡ false }
+    ensures done { OnOk done ((result ≡ 0) × (errors.new ≡ errors.old)) }
+    ensures fault { IfErr done (λ fault. (result ≡ 1)
+        × Tells E.contents errors.old errors.new (line_of fault)) }
+{
+    match done {
+        Ok(()) => 0,
+        Err(fault) => {
+            let _ = tell(fault, errors);
+            1
+        }
+    }
+}
+
+fn tell<E: Write>(fault: Fault, errors: &mut Tap<E>) -> Result<(), Failed>
+    requires { has_failed errors.old ≡ false }
+    ensures { Tells E.contents errors.old errors.new (line_of fault) }
+{
+    errors.write_all(b"gated: ")?;
+    errors.write_line(fault.text())?;
+    Ok(())
+}
+
+fn perform<F: Files + AllocGlobal, R: Read, W: Write>(
+    rt: &F,
+    cmd: Cmd<'_>,
+    input: &mut Tap<R>,
+    output: &mut Tap<W>,
+) -> Result<(), Fault>
+    requires reader { has_failed input.old ≡ false }
+    requires writer { has_failed output.old ≡ false }
+    ensures ok { OnOk result (Does cmd.entry
+        (streams R.remaining W.contents input.old output.old)
+        (streams R.remaining W.contents input.new output.new)) }
+    ensures err { IfErr result (λ fault. EndsBy fault cmd.entry
+        (streams R.remaining W.contents input.old output.old)
+        (streams R.remaining W.contents input.new output.new)) }
+{
+    match cmd {
+        Cmd::Check { settings } => checked(rt, settings, output)?,
+        Cmd::Replay { settings, status } => replayed(rt, settings, status, input, output)?,
+    }
+    Ok(())
+}
+
+fn checked<F: Files + AllocGlobal, W: Write>(
+    rt: &F,
+    path: &str,
+    output: &mut Tap<W>,
+) -> Result<(), Fault>
+    requires { has_failed output.old ≡ false }
+    ensures ok { OnOk result ((left : Option (List ℕ)) → (failed : Bool) → Checks
+        (beside W.contents left failed output.old) (beside W.contents left failed output.new)) }
+    ensures err { IfErr result (λ fault. (left : Option (List ℕ)) → (failed : Bool) → CheckEnds fault
+        (beside W.contents left failed output.old) (beside W.contents left failed output.new)) }
+{
+    let config = settings_of(rt, path)?;
+    let text = check_text(rt.alloc(), &config)?;
+    output.write_line(text.as_str())?;
+    Ok(())
+}
+
+fn replayed<F: Files + AllocGlobal, R: Read, W: Write>(
+    rt: &F,
+    settings: &str,
+    status: bool,
+    input: &mut Tap<R>,
+    output: &mut Tap<W>,
+) -> Result<(), Fault>
+    requires reader { has_failed input.old ≡ false }
+    requires writer { has_failed output.old ≡ false }
+    ensures ok { OnOk result (Replays status
+        (streams R.remaining W.contents input.old output.old)
+        (streams R.remaining W.contents input.new output.new)) }
+    ensures err { IfErr result (λ fault. ReplayEnds status fault
+        (streams R.remaining W.contents input.old output.old)
+        (streams R.remaining W.contents input.new output.new)) }
+{
+    let config = settings_of(rt, settings)?;
+    let mut gate = Gate::new(rt.alloc(), config);
+    replay(rt.alloc(), &mut gate, input, output)?;
+    if status {
+        write_status(rt.alloc(), &gate, output)?;
+    }
+    Ok(())
+}
+
+fn write_status<W: Write>(alloc: Global, gate: &Gate, output: &mut Tap<W>) -> Result<(), Fault>
+    requires { has_failed output.old ≡ false }
+    ensures ok { OnOk result (Took W.contents output.old output.new (status_of gate.now)) }
+    ensures err { IfErr result (λ fault. ((fault ≡ Fault.Unavailable) × (output.new ≡ output.old))
+        ⊎ ((fault ≡ Fault.Write) × (has_failed output.new ≡ true)
+        × TookFront W.contents output.old output.new (status_of gate.now))) }
+{
+    let Ok(text) = gate.status(alloc) else {
+        return Err(Fault::Unavailable);
+    };
+    output.write_all(text.as_bytes())?;
+    Ok(())
+}
+
+fn settings_of<F: Files + AllocGlobal>(rt: &F, path: &str) -> Result<Config, Fault>
+    ensures ok { IfOk result (λ config. HasSettings config) }
+    ensures err { IfErr result IsEarly }
+{
+    let bytes = bytes_of(rt, path)?;
+    Ok(gate_config::read(rt.alloc(), bytes.as_slice())?)
+}
+
+/// The bytes of a settings file, of which no more than one past the limit is read.
+fn bytes_of<F: Files + AllocGlobal>(rt: &F, path: &str) -> Result<Vec<u8>, Fault>
+    ensures ok { IfOk result (λ bytes. length bytes.items ≤ settings_limit) }
+    ensures err { IfErr result IsEarly }
+{
+    let Ok(file) = fs::open(rt, path) else {
+        return Err(Fault::SettingsFile);
+    };
+    let mut bytes = Vec::new(rt.alloc());
+    match file.take(SETTINGS_LIMIT as u64 + 1).read_to_end(&mut bytes) {
+        Ok(_) if bytes.len() <= SETTINGS_LIMIT => Ok(bytes),
+        Err(error) if error.kind() == ErrorKind::OutOfMemory => Err(Fault::NoMemory),
+        _ => Err(Fault::SettingsFile),
+    }
+}

@@ -1,0 +1,107 @@
+//! The faults that end a command.
+ghost use Rattle.std.specs.Prelude.{◌≡◌};
+ghost use Rattle.gated_cli.specs.Faults.{text_of, settings_text};
+
+use gate_config::ConfigFault;
+use gate_core::fault::IoFault;
+use gate_types::tap::Failed;
+use std::alloc::AllocError;
+
+/// Why a command ended before it was done.
+#[derive(Clone, Copy, Debug, PartialEq, Eq)]
+pub enum Fault {
+    /// The settings file has this fault.
+    Settings(ConfigFault),
+    /// Memory was refused while the status text was made.
+    Unavailable,
+    /// The input answered an error.
+    Read,
+    /// The output answered an error, or took 0 bytes.
+    Write,
+    /// Memory was refused before anything was done.
+    NoMemory,
+    /// The settings file can't be read, or is over the limit.
+    SettingsFile,
+    /// The store failed.
+    Store,
+}
+
+impl Fault {
+    /// The fault's number, a space and its word.
+    pub fn text(self) -> &'static str
+        ensures { result.now ≡ text_of self }
+    {
+        match self {
+            Fault::Settings(fault) => settings_text(fault),
+            Fault::Unavailable => "E15 unavailable",
+            Fault::Read => "I1 read",
+            Fault::Write => "I2 write",
+            Fault::NoMemory => "I3 no-memory",
+            Fault::SettingsFile => "I5 settings-file",
+            Fault::Store => "I7 store",
+        }
+    }
+}
+
+fn settings_text(fault: ConfigFault) -> &'static str
+    ensures { result.now ≡ settings_text fault }
+{
+    match fault {
+        ConfigFault::NotToml => "C1 not-toml",
+        ConfigFault::MissingMember => "C2 missing-member",
+        ConfigFault::WrongKind => "C3 wrong-kind",
+        ConfigFault::UnknownMember => "C4 unknown-member",
+        ConfigFault::BadName => "C5 bad-name",
+        ConfigFault::DoubleName => "C6 double-name",
+        ConfigFault::UnknownQueue => "C7 unknown-queue",
+        ConfigFault::BadWindow => "C8 bad-window",
+        ConfigFault::NoVotingJob => "C9 no-voting-job",
+        ConfigFault::Limit => "C10 limit",
+        ConfigFault::NoMemory => "C11 no-memory",
+    }
+}
+
+impl From<ConfigFault> for Fault {
+    ghost use Rattle.gated_cli.specs.declared.run.fault.Fault.TheVariants.{Settings};
+
+    ghost from_gives = { λ fault f. f ≡ Settings fault };
+
+    fn from(fault: ConfigFault) -> Fault {
+        Fault::Settings(fault)
+    }
+}
+
+impl From<IoFault> for Fault {
+    ghost use Rattle.gated_cli.specs.Faults.{of_replay};
+
+    ghost from_gives = { λ fault f. f ≡ of_replay fault };
+
+    fn from(fault: IoFault) -> Fault {
+        match fault {
+            IoFault::Read => Fault::Read,
+            IoFault::Write => Fault::Write,
+            IoFault::NoMemory => Fault::NoMemory,
+            IoFault::Store => Fault::Store,
+        }
+    }
+}
+
+impl From<AllocError> for Fault {
+    ghost use Rattle.gated_cli.specs.declared.run.fault.Fault.TheVariants.{NoMemory};
+
+    ghost from_gives = { λ _ f. f ≡ NoMemory };
+
+    fn from(_: AllocError) -> Fault {
+        Fault::NoMemory
+    }
+}
+
+impl From<Failed> for Fault {
+    ghost use Rattle.gated_cli.specs.declared.run.fault.Fault.TheVariants.{Write};
+
+    ghost from_gives = { λ _ f. f ≡ Write };
+
+    fn from(_: Failed) -> Fault {
+        Fault::Write
+    }
+}
