@@ -126,8 +126,8 @@ pub record Starts (x : Delivered) (w : Walk) : Type 0 where
   pub visited : HasVisited x w []
   pub settled : tables_by x w ≡ tables_settled_below x x.item.serial
 
--- a walk is begun as it is to be for the delivery: in its queue, at its item, behind the one ahead, told of what was taken
--- out
+-- a walk is begun as it is to be for the delivery: in its queue, at its item, behind the one ahead, told of what was
+-- taken out
 pub record IsFor (x : Delivered) (queue : QueueFacts) (touched : Touched) : Type 0 where
   pub name : queue.settings.now.name ≡ (queue_after x).name
   pub floor : queue.settings.now.floor ≡ floor_after x

@@ -265,19 +265,6 @@ impl Walk {
         self.edits.as_slice()
     }
 
-    /// What is wanted behind the row of a serial.
-    fn next(&self, serial: Serial) -> Next
-        ensures { next_is result (next.next_of self.now.carry serial) }
-    {
-        if self.resets || self.passes {
-            Next::Go(serial)
-        } else if self.gone.is_empty() {
-            Next::Stop
-        } else {
-            Next::Need(serial)
-        }
-    }
-
     /// The serial that was touched: the first row from it on is wanted first.
     pub fn touched(&self) -> Serial
         ensures { result ≡ self.now.touched }
@@ -310,6 +297,19 @@ impl Walk {
             marks: Vec::new(alloc),
             edits: Vec::new(alloc),
         })
+    }
+
+    /// What is wanted behind the row of a serial.
+    fn next(&self, serial: Serial) -> Next
+        ensures { next_is result (next.next_of self.now.carry serial) }
+    {
+        if self.resets || self.passes {
+            Next::Go(serial)
+        } else if self.gone.is_empty() {
+            Next::Stop
+        } else {
+            Next::Need(serial)
+        }
     }
 
     fn visit_row(&mut self, alloc: Global, seen: &Seen) -> Result<Next, NoMemory>
