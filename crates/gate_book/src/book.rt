@@ -41,7 +41,8 @@ pub trait Book {
 
     /// What is known of a change.
     fn change(&mut self, number: ChangeNo) -> Result<Option<Change>, BookFault>
-        ensures found { OfHeld IsTrusted Holds self.old self.new (λ c x. read.Answers (known_change x.state number) result) }
+        ensures found { OfHeld IsTrusted Holds self.old self.new (λ c x.
+            read.Answers (known_change x.state number) result) }
         ensures kept { IsKept IsTrusted Holds LeavesOneOf self.old self.new }
         ensures fault { IfErr result MayFault };
 
@@ -54,7 +55,8 @@ pub trait Book {
 
     /// How many reports a queue has made, 0 where there is no such queue.
     fn reports(&mut self, queue: &Name) -> Result<u64, BookFault>
-        ensures found { OfHeld IsTrusted Holds self.old self.new (λ c x. read.Answers (read.reports_in x.state queue.now) result) }
+        ensures found { OfHeld IsTrusted Holds self.old self.new (λ c x.
+            read.Answers (read.reports_in x.state queue.now) result) }
         ensures kept { IsKept IsTrusted Holds LeavesOneOf self.old self.new }
         ensures fault { IfErr result MayFault };
 
@@ -67,19 +69,22 @@ pub trait Book {
 
     /// The items of a queue, front to back.
     fn items(&mut self, queue: &Name) -> Result<Sequence<Item>, BookFault>
-        ensures found { OfHeld IsTrusted Holds self.old self.new (λ c x. read.Answers (read.items_in c x.state queue.now) result) }
+        ensures found { OfHeld IsTrusted Holds self.old self.new (λ c x.
+            read.Answers (read.items_in c x.state queue.now) result) }
         ensures kept { IsKept IsTrusted Holds LeavesOneOf self.old self.new }
         ensures fault { IfErr result MayFault };
 
     /// The item of a serial.
     fn item(&mut self, serial: Serial) -> Result<Option<Item>, BookFault>
-        ensures found { OfHeld IsTrusted Holds self.old self.new (λ c x. read.Answers (read.item_at c x.state serial) result) }
+        ensures found { OfHeld IsTrusted Holds self.old self.new (λ c x.
+            read.Answers (read.item_at c x.state serial) result) }
         ensures kept { IsKept IsTrusted Holds LeavesOneOf self.old self.new }
         ensures fault { IfErr result MayFault };
 
     /// The item of a change, and its queue.
     fn queued(&mut self, change: ChangeNo) -> Result<Option<QueuedItem>, BookFault>
-        ensures found { OfHeld IsTrusted Holds self.old self.new (λ c x. read.Answers (read.queued_of c x.state change) result) }
+        ensures found { OfHeld IsTrusted Holds self.old self.new (λ c x.
+            read.Answers (read.queued_of c x.state change) result) }
         ensures kept { IsKept IsTrusted Holds LeavesOneOf self.old self.new }
         ensures fault { IfErr result MayFault };
 
@@ -109,13 +114,15 @@ pub trait Book {
 
     /// The live builds of a serial, by number.
     fn live_builds(&mut self, serial: Serial) -> Result<Sequence<Build>, BookFault>
-        ensures found { OfHeld IsTrusted Holds self.old self.new (λ c x. read.Answers (read.live_builds x.state serial) result) }
+        ensures found { OfHeld IsTrusted Holds self.old self.new (λ c x.
+            read.Answers (read.live_builds x.state serial) result) }
         ensures kept { IsKept IsTrusted Holds LeavesOneOf self.old self.new }
         ensures fault { IfErr result MayFault };
 
     /// The build of a number.
     fn build(&mut self, number: BuildNo) -> Result<Option<Build>, BookFault>
-        ensures found { OfHeld IsTrusted Holds self.old self.new (λ c x. read.Answers (build_of x.state number) result) }
+        ensures found { OfHeld IsTrusted Holds self.old self.new (λ c x.
+            read.Answers (build_of x.state number) result) }
         ensures kept { IsKept IsTrusted Holds LeavesOneOf self.old self.new }
         ensures fault { IfErr result MayFault };
 
@@ -139,5 +146,6 @@ pub trait Book {
         ensures fault { IfErr result MayFault };
 
     // More contents may be named.
-    ghost leaves_more: { (b : Self) (c : Settings) (ys : List Content) (y : Content) → LeavesOneOf b c ys → LeavesOneOf b c (ys ++ y ∷ []) };
+    ghost leaves_more: { (b : Self) (c : Settings) (ys : List Content) (y : Content) →
+        LeavesOneOf b c ys → LeavesOneOf b c (ys ++ y ∷ []) };
 }
