@@ -3,7 +3,6 @@ use Rattle.std.specs.Prelude.{◌≢◌, ◌<◌, List, [], ◌∷◌, ◌++◌,
 use Rattle.gate_types.specs.Settings.{Settings}
 use Rattle.gate_types.specs.Once.{Content}
 use Rattle.gate_types.specs.Forms.{IsLawfulContent}
-use Rattle.gate_types.specs.Tables.{Leads}
 use Rattle.gate_types.specs.declared.edits.Edit.{Edit}
 use Rattle.gate_book.specs.declared.fault.BookFault.{BookFault}
 use Rattle.gate_book.specs.declared.fault.BookFault.TheVariants as fault

@@ -1,2 +1,10 @@
+pub mod Sorted
+pub mod Pairs
+pub mod Builds
+pub mod Changes
+pub mod Queues
+pub mod Replies
+pub mod Memory
 pub mod Reads
+pub mod TableReads
 pub mod Kept

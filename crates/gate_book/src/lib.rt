@@ -1,6 +1,14 @@
-//! What keeps a gate's content: the trait `Book`, which is asked by key and changed by edits.
+//! What keeps a gate's content: the trait `Book`, and a book in memory.
 #![tactic(auto)]
 
 pub mod book;
+mod builds;
+mod changes;
 pub mod fault;
+pub mod memory;
+mod pairs;
+mod queues;
+mod replies;
 pub mod rows;
+mod sorted;
+mod tables;

@@ -1,0 +1,135 @@
+-- The queues of a book in memory: changed one by one, and looked through.
+use Rattle.std.proofs.Common.{◌≡◌, ℕ, zero, suc, ◌<◌, ◌≤◌, Bool, true, false, cond, Option, Some, List, [], ◌∷◌, length, drop, get_or, map, refl, sym, ap, subst, ◌∙◌, arith}
+use Rattle.std.specs.Prelude.{find, option_map}
+use Rattle.std.specs.Option.{option_or}
+use Rattle.std.specs.List.{AllByRecursion}
+use Rattle.std.proofs.lemmas.List.Folds.{find-append}
+use Rattle.std.proofs.lemmas.Option.{none-some}
+use Rattle.gate_types.specs.declared.records.Item.{Item}
+use Rattle.gate_book.specs.declared.rows.QueuedItem.{QueuedItem}
+use Rattle.gate_book.specs.TableReads.{queued_rows, all_queued}
+use Rattle.gate_types.specs.declared.edits.Edit.{Edit}
+use Rattle.gate_types.specs.Tables.{edited_queue}
+use Rattle.gate_book.specs.declared.queues.QueueTable.{QueueTable}
+use Rattle.gate_book.specs.Builds.{HaveRoom}
+use Rattle.gate_book.specs.Changes as change
+use Rattle.gate_book.specs.Queues as queue
+use Rattle.gate_book.specs.Replies as reply
+use Rattle.gate_book.specs.Memory.{HasRoom, HasRoomBeside}
+use Rattle.gate_book.specs.declared.builds.BuildTable.{BuildTable}
+use Rattle.gate_book.specs.declared.changes.ChangeTable.{ChangeTable}
+use Rattle.gate_book.specs.declared.replies.ReplyTable.{ReplyTable}
+use Rattle.gate_book.specs.declared.tables.MemTables.{MemTables}
+use Rattle.gate_book.proofs.BuildLemmas.{in_weaker}
+
+-- a queue after an edit
+pub record Edited (e : Edit) (old new : QueueTable) : Type 0 where
+  pub rows : queue.rows_of new ≡ edited_queue e (queue.rows_of old)
+  pub kept : queue.IsKept new
+  pub room : (n : ℕ) → queue.HasRoom (suc n) old → queue.HasRoom n new
+
+-- a queue of which nothing that counts has changed
+pub record Stays (old new : QueueTable) : Type 0 where
+  pub rows : queue.rows_of new ≡ queue.rows_of old
+  pub kept : queue.IsKept new
+
+-- a queue after room was made
+pub record Roomy (n : ℕ) (old new : QueueTable) : Type 0 where
+  pub rows : queue.rows_of new ≡ queue.rows_of old
+  pub kept : queue.IsKept new
+  pub room : queue.HasRoom n new
+
+-- ---- looks
+
+-- what is found among the images
+pub find_map : {X Y : Type 0} (f : X → Y) (test : Y → Bool) (xs : List X) → find test (map f xs) ≡ option_map f (find (λ x. test (f x)) xs)
+find_map f test [] = refl
+find_map f test (x ∷ xs) = by_test (test (f x)) (find_map f test xs)
+  where
+    by_test : (t : Bool) → find test (map f xs) ≡ option_map f (find (λ y. test (f y)) xs) → cond t (Some (f x)) (find test (map f xs)) ≡ option_map f (cond t (Some x) (find (λ y. test (f y)) xs))
+    by_test true rest = refl
+    by_test false rest = rest
+
+-- what is so of all is so of what is found
+pub all_found : {X : Type 0} (P : X → Type 0) (test : X → Bool) (xs : List X) (x : X) → AllByRecursion P xs → Some x ≡ find test xs → P x
+all_found P test [] x all e = absurd (none-some x (sym e))
+all_found P test (y ∷ ys) x all e = by_test (test y) e (λ f. all_found P test ys x all.1 f)
+  where
+    by_test : (t : Bool) → Some x ≡ cond t (Some y) (find test ys) → (Some x ≡ find test ys → P x) → P x
+    by_test true e rest = let same : y ≡ x = cc in subst P same all.0
+    by_test false e rest = rest e
+
+-- the rest of a list, from a place on
+pub rest_at : {X : Type 0} (xs : List X) (k : ℕ) (d : X) → k < length xs → drop k xs ≡ get_or xs k d ∷ drop (suc k) xs
+rest_at [] k d l = absurd (omega arith)
+rest_at (x ∷ xs) zero d l = refl
+rest_at (x ∷ xs) (suc k) d l = rest_at xs k d (omega arith)
+
+pub rest_none : {X : Type 0} (xs : List X) (k : ℕ) → length xs ≤ k → drop k xs ≡ []
+rest_none [] zero l = refl
+rest_none [] (suc k) l = refl
+rest_none (x ∷ xs) zero l = absurd (omega arith)
+rest_none (x ∷ xs) (suc k) l = rest_none xs k (omega arith)
+
+-- a look from a row on
+pub find_rest : {X : Type 0} (test : X → Bool) (xs : List X) (k : ℕ) (x : X) → k < length xs → x ≡ get_or xs k x → find test (drop k xs) ≡ cond (test x) (Some x) (find test (drop (suc k) xs))
+find_rest test xs k x l at = ap (find test) (rest_at xs k x l ∙ ap (λ y. y ∷ drop (suc k) xs) (sym at))
+
+-- a look through the items of the queues from one on
+find_queued : (test : QueuedItem → Bool) (queues : List QueueTable) (k : ℕ) (t : QueueTable) → k < length queues → t ≡ get_or queues k t → find test (all_queued (map queue.rows_of (drop k queues))) ≡ option_or (find test (queued_rows (queue.rows_of t))) (find test (all_queued (map queue.rows_of (drop (suc k) queues))))
+find_queued test queues k t l at =
+    ap (λ ts. find test (all_queued (map queue.rows_of ts))) (rest_at queues k t l ∙ ap (λ y. y ∷ drop (suc k) queues) (sym at))
+    ∙ find-append test (queued_rows (queue.rows_of t)) (all_queued (map queue.rows_of (drop (suc k) queues)))
+
+-- the queue's name beside an item
+abbrev pub with_name : QueueTable → Item → QueuedItem
+with_name t i = record { queue = t.name; item = i }
+
+-- where this queue has one that passes, or none
+pub queued_at : (test : Item → Bool) (queues : List QueueTable) (k : ℕ) (t : QueueTable) (o : Option Item) → k < length queues → t ≡ get_or queues k t → o ≡ find test t.items.items → find (λ q. test q.item) (all_queued (map queue.rows_of (drop k queues))) ≡ option_or (option_map (with_name t) o) (find (λ q. test q.item) (all_queued (map queue.rows_of (drop (suc k) queues))))
+queued_at test queues k t o l at e =
+    let rest : Option QueuedItem = find (λ q. test q.item) (all_queued (map queue.rows_of (drop (suc k) queues))) in
+    find_queued (λ q. test q.item) queues k t l at ∙ ap (λ p. option_or p rest) (find_map (with_name t) (λ q. test q.item) t.items.items ∙ ap (option_map (with_name t)) (sym e))
+
+-- ---- room
+
+-- room in each table
+pub changes_less : (n : ℕ) (t : ChangeTable) → change.HasRoom (suc n) t → change.HasRoom n t
+changes_less n t room = let r = room.rows in let p = room.places in let q = room.ready in record { rows = omega (arith, r); places = omega (arith, p); ready = omega (arith, q) }
+
+pub builds_less : (n : ℕ) (t : BuildTable) → HaveRoom (suc n) t → HaveRoom n t
+builds_less n t room = let r = room.rows in let q = room.live in record { rows = omega (arith, r); live = omega (arith, q) }
+
+pub replies_less : (n : ℕ) (t : ReplyTable) → reply.HasRoom (suc n) t → reply.HasRoom n t
+replies_less n t room = let r = room.rows in let q = room.places in record { rows = omega (arith, r); places = omega (arith, q) }
+
+changes_one : (n : ℕ) (t : ChangeTable) → change.HasRoom (suc n) t → change.HasRoom 1 t
+changes_one n t room = let r = room.rows in let p = room.places in let q = room.ready in record { rows = omega (arith, r); places = omega (arith, p); ready = omega (arith, q) }
+
+builds_one : (n : ℕ) (t : BuildTable) → HaveRoom (suc n) t → HaveRoom 1 t
+builds_one n t room = let r = room.rows in let q = room.live in record { rows = omega (arith, r); live = omega (arith, q) }
+
+replies_one : (n : ℕ) (t : ReplyTable) → reply.HasRoom (suc n) t → reply.HasRoom 1 t
+replies_one n t room = let r = room.rows in let q = room.places in record { rows = omega (arith, r); places = omega (arith, q) }
+
+queue_one : (n : ℕ) (t : QueueTable) → queue.HasRoom (suc n) t → queue.HasRoom 1 t
+queue_one n t room = let a = room.items in let b = room.entries in let d = room.landings in let e = room.reports in record { items = omega (arith, a); entries = omega (arith, b); landings = omega (arith, d); reports = omega (arith, e) }
+
+-- where there is room for one more, there is room
+pub beside_less : (n : ℕ) (t : MemTables) → HasRoomBeside (suc n) t → HasRoomBeside n t
+beside_less n t room = record {
+  changes = changes_less n t.changes room.changes;
+  builds = builds_less n t.builds room.builds;
+  replies = replies_less n t.replies room.replies;
+}
+
+-- and room for one
+pub room_one : (n : ℕ) (t : MemTables) → HasRoom (suc n) t → HasRoom 1 t
+room_one n t room = record {
+  queues = in_weaker (queue.HasRoom (suc n)) (queue.HasRoom 1) (λ q r. queue_one n q r) t.queues.items room.queues;
+  others = record {
+    changes = changes_one n t.changes room.others.changes;
+    builds = builds_one n t.builds room.others.builds;
+    replies = replies_one n t.replies room.others.replies;
+  };
+}

@@ -1,0 +1,23 @@
+use Rattle.std.proofs.Common.{◌≡◌, ◌∙◌, ◌<◌, Option, ap, arith}
+use Rattle.std.specs.List.{AllByRecursion}
+use Rattle.gate_book.specs.Pairs.{IsFit}
+use Rattle.gate_book.specs.Changes.{TellsReady, number_of, in_order}
+use Rattle.gate_book.proofs.ChangeLemmas.{in_order_rises, dropped, noted, put_ready, fit_dropped, fit_noted, tells_put}
+use Rattle.gate_book.proofs.changes.ChangeTable.put.Goals as goal
+
+pub returns-clause-kept : goal.returns-clause-kept
+returns-clause-kept c =
+    let old = c.args.self.now in
+    let kept = c.requires.kept in
+    let row = c.args.row in
+    let rows = in_order number_of old.rows.items in
+    let was : Option _ = c.approval_of.result in
+    let is : c.number_of_row-number.result ≡ number_of row = c.number_of_row-number.ensures in
+    let small : number_of row < 18446744073709551616 = omega (arith, c.number_of_row-number.type_inv) in
+    let gone : c.drop_ready.new.ready.items ≡ dropped was (number_of row) old.ready.items = rw is at c.drop_ready.ensures.ready in
+    let index : c.note_ready.new.ready.items ≡ put_ready was row.approval (number_of row) old.ready.items = (rw is at c.note_ready.ensures.ready) ∙ ap (noted row.approval (number_of row)) gone in
+    let fit : AllByRecursion IsFit c.note_ready.new.ready.items =
+    rw index (fit_noted row.approval (number_of row) (dropped was (number_of row) old.ready.items) small (fit_dropped was (number_of row) old.ready.items kept.ready_fit)) in
+    let told : TellsReady c.note_ready.new.ready.items (in_order number_of c.put_row.new.rows.items) =
+    rw (index, c.put_row.ensures.rows) (tells_put was row 0 old.ready.items rows small kept.ready_fit (in_order_rises number_of old.rows.items) kept.ready_told) in
+    record { finds = c.put_row.ensures.finds; ready_rise = c.note_ready.ensures.rising; ready_fit = fit; ready_told = told }

@@ -1,0 +1,19 @@
+use Rattle.std.proofs.Common.{◌≡◌, ◌∙◌, List, ap, ◌<◌, true, None}
+use Rattle.std.specs.Prelude.{nat_lt}
+use borrow.Author.Tests.{ltb-true}
+use Rattle.gate_types.specs.declared.records.Item.{Item}
+use Rattle.gate_types.specs.Tables.{Tables}
+use Rattle.gate_book.specs.Reads as read
+use Rattle.gate_book.specs.TableReads.{items_named}
+use Rattle.gate_book.specs.Memory.{tables_of}
+use Rattle.gate_book.proofs.ReadLemmas.{items_are, last_passes, weaker_if}
+use Rattle.gate_book.proofs.memory.MemBookBook.last_item.Goals as goal
+
+pub returns-clause-found : goal.returns-clause-found
+returns-clause-found c _ s x held lawful =
+    c.last_item.ensures ∙ ap (read.last_below c.args.below) (ap (λ (t : Tables). items_named t.queues c.args.queue.now) (c.self.view_is ∙ held) ∙ items_are s x c.args.queue.now)
+
+pub returns-clause-falls : goal.returns-clause-falls
+returns-clause-falls c =
+    let items : List Item = items_named (tables_of c.self.inside.tables).queues c.args.queue.now in
+    rw c.last_item.ensures (weaker_if (λ (i : Item). nat_lt i.serial c.args.below ≡ true) (λ (i : Item). i.serial < c.args.below) (λ i e. ltb-true i.serial c.args.below e) (read.last_below c.args.below items) (last_passes (λ (i : Item). nat_lt i.serial c.args.below) None items tt))

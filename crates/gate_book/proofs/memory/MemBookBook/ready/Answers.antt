@@ -1,0 +1,8 @@
+use Rattle.std.proofs.Common.{◌∙◌, ap}
+use Rattle.gate_types.specs.Tables.{Tables}
+use Rattle.gate_book.proofs.ReadLemmas.{ready_are}
+use Rattle.gate_book.proofs.memory.MemBookBook.ready.Goals as goal
+
+pub returns-clause-found : goal.returns-clause-found
+returns-clause-found c _ s x held lawful =
+    c.in_ok-ready.ensures x.state.ready (rw (ap (λ (t : Tables). t.changes) (c.self.view_is ∙ held)) (ready_are s x lawful))

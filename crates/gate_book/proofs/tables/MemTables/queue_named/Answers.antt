@@ -1,0 +1,13 @@
+use Rattle.std.proofs.Common.{◌≡◌, ◌∙◌, ap, sym}
+use Rattle.std.specs.Prelude.{find, option_map}
+use Rattle.std.specs.Option.{option_copied}
+use Rattle.gate_types.specs.Names.{same_name}
+use Rattle.gate_book.specs.Queues as queue
+use Rattle.gate_book.proofs.MemoryLemmas.{find_map}
+use Rattle.gate_book.proofs.tables.MemTables.queue_named.Goals as goal
+
+pub returns-clause-found : goal.returns-clause-found
+returns-clause-found c =
+    let queues = c.args.self.now.queues.items in
+    let found : option_copied c.queue_of.result ≡ find (λ q. same_name q.name c.args.name.now) queues = rw c.deref.ensures.value at c.queue_of.ensures.found in
+    ap (option_map queue.rows_of) found ∙ sym (find_map queue.rows_of (λ r. same_name r.name c.args.name.now) queues)

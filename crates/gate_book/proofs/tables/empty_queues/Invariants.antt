@@ -1,0 +1,11 @@
+use Rattle.std.proofs.Common.{◌≡◌, map, take}
+use Rattle.std.specs.List.{AllByRecursion}
+use Rattle.gate_book.specs.Queues as queue
+use Rattle.gate_book.specs.Memory.{empty_rows}
+use Rattle.gate_book.proofs.tables.empty_queues.Given as goal
+
+abbrev pub invariant-loop-setting : goal.invariant-loop-setting
+invariant-loop-setting l = record {
+  rows : map queue.rows_of l.queues.items ≡ map empty_rows (take l.setting-index l.settings);
+  kept : AllByRecursion queue.IsKept l.queues.items;
+}

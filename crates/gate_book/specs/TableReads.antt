@@ -1,0 +1,70 @@
+-- What is read of tables.
+use Rattle.std.specs.Prelude.{ℕ, Bool, ◌&&◌, ◌==◌, nat_lt, List, [], map, filter, find, length, min, Option, option_map, flat_map}
+use Rattle.std.specs.List.{list_any}
+use Rattle.std.specs.Option.{option_map_or}
+use Rattle.gate_types.specs.declared.records.Change.{Change}
+use Rattle.gate_types.specs.declared.records.Item.{Item}
+use Rattle.gate_types.specs.declared.rows.ChangeRow.{ChangeRow}
+use Rattle.gate_types.specs.Counters.{Drawn}
+use Rattle.gate_types.specs.Names.{same_name}
+use Rattle.gate_types.specs.Tables.{QueueRows}
+use Rattle.gate_book.specs.Queues.{landing_serial}
+use Rattle.gate_book.specs.Sorted.{RisesFrom}
+use Rattle.gate_book.specs.declared.rows.QueueSizes.{QueueSizes}
+use Rattle.gate_book.specs.declared.rows.QueuedItem.{QueuedItem}
+
+-- the row of a change
+abbrev pub row_of : List ChangeRow → ℕ → Option ChangeRow
+row_of rows n = find (λ r. r.change.number == n) rows
+
+-- what is known of a change
+abbrev pub change_in : List ChangeRow → ℕ → Option Change
+change_in rows n = option_map (λ r. r.change) (row_of rows n)
+
+-- the changes that it needs
+abbrev pub needs_in : List ChangeRow → ℕ → List ℕ
+needs_in rows n = option_map_or (λ k. k.needs) (change_in rows n) []
+
+-- the queue of a name
+abbrev pub rows_named : List QueueRows → List ℕ → Option QueueRows
+rows_named queues name = find (λ q. same_name q.name name) queues
+
+-- its window, and how many items and landings it has
+abbrev pub sizes_of_rows : QueueRows → QueueSizes
+sizes_of_rows q = record { window = q.window; items = length q.items; landings = length q.landings }
+
+-- its items
+abbrev pub items_named : List QueueRows → List ℕ → List Item
+items_named queues name = option_map_or (λ q. q.items) (rows_named queues name) []
+
+-- how many landings have a lower serial
+abbrev pub landings_below : ℕ → QueueRows → ℕ
+landings_below serial q = length (filter (λ r. nat_lt r.landing.serial serial) q.landings)
+
+-- its landings rise by serial
+abbrev pub LandingsRise : QueueRows → Type 0
+LandingsRise q = RisesFrom landing_serial 0 q.landings
+
+-- an item above a serial whose change needs this one
+abbrev pub is_needing_in : List ChangeRow → ℕ → ℕ → Item → Bool
+is_needing_in rows n serial i = nat_lt serial i.serial && list_any (λ m. m == n) (needs_in rows i.change)
+
+-- the first such item
+abbrev pub first_needing_in : List ChangeRow → ℕ → ℕ → List Item → Option Item
+first_needing_in rows n serial items = find (is_needing_in rows n serial) items
+
+-- the items of a queue, each with its name
+abbrev pub queued_rows : QueueRows → List QueuedItem
+queued_rows q = map (λ i. record { queue = q.name; item = i }) q.items
+
+-- the items of all queues
+abbrev pub all_queued : List QueueRows → List QueuedItem
+all_queued queues = flat_map queued_rows queues
+
+-- the counters, none above the last number
+abbrev pub within : Drawn → Drawn
+within d = record {
+  approval = min d.approval 1000000000000000;
+  build = min d.build 1000000000000000;
+  order = min d.order 1000000000000000;
+}

@@ -1,0 +1,166 @@
+//! A book in memory.
+ghost use Rattle.std.specs.Prelude.{◌≡◌, IfOk};
+ghost use Rattle.gate_types.specs.Once.{empty};
+ghost use Rattle.gate_types.specs.Tables.{tables};
+ghost use Rattle.gate_book.specs.Memory.{start_with};
+
+use crate::book::Book;
+use crate::fault::BookFault;
+use crate::rows::{QueueSizes, QueuedItem};
+use crate::tables::MemTables;
+use gate_types::config::Config;
+use gate_types::edits::Edit;
+use gate_types::names::{Name, NoMemory};
+use gate_types::numbers::{BuildNo, ChangeNo, Serial};
+use gate_types::records::{Build, Change, Counters, Id, Item, Kept, Ready};
+use gate_types::sequence::Sequence;
+use std::alloc::Global;
+use std::marker::Model;
+
+/// A book that keeps all in memory. The time of an edit, or of a read by key, grows with what is
+/// kept by no more than the steps of a binary search; now and then a table moves to a larger place.
+#[derive(Drop)]
+pub struct MemBook {
+    alloc: Global,
+    tables: MemTables,
+}
+
+impl Model for MemBook {
+    ghost use Rattle.gate_types.specs.Tables.{Tables};
+
+    ghost Value = { Tables };
+
+    ghost use Rattle.gate_book.specs.Memory.{tables_of, IsKept};
+
+    ghost view = { λ m. tables_of m.tables };
+
+    ghost invariant = { λ m. IsKept m.tables };
+}
+
+/// Edits as values of their own.
+fn copies(alloc: Global, edits: &[Edit]) -> Result<Vec<Edit>, NoMemory>
+    ensures { IfOk result (λ copies. copies.items ≡ edits.now) }
+{
+    let mut copies = Vec::new(alloc);
+    for edit in edits {
+        copies.push(edit.copy()?)?;
+    }
+    Ok(copies)
+}
+
+impl MemBook {
+    /// The book of a gate that has seen no delivery.
+    pub fn new(alloc: Global, config: &Config) -> Result<MemBook, NoMemory>
+        ensures { IfOk result (λ book. book ≡ tables config.now (empty config.now)) }
+    {
+        let counters = Counters {
+            approval: 0,
+            build: 0,
+            order: 0,
+        };
+        MemBook::with_counters(alloc, config, counters)
+    }
+
+    /// The same, where these numbers were drawn before.
+    pub fn with_counters(
+        alloc: Global,
+        config: &Config,
+        counters: Counters,
+    ) -> Result<MemBook, NoMemory>
+        ensures { IfOk result (λ book. book ≡ tables config.now (start_with config.now counters)) }
+    {
+        let tables = MemTables::new(alloc, config, counters)?;
+        Ok(MemBook { alloc, tables })
+    }
+}
+
+impl Book for MemBook {
+    ghost use Rattle.std.specs.Prelude.{◌≡◌};
+    ghost use Rattle.gate_types.specs.Tables.{tables};
+    ghost use Rattle.gate_book.specs.declared.fault.BookFault.TheVariants as fault;
+
+    ghost Holds = { λ m c x. m ≡ tables c x };
+
+    ghost IsTrusted = { λ _. Unit {0} };
+
+    ghost LeavesOneOf = { λ _ _ _. Unit {0} };
+
+    ghost MayFault = { λ f. f ≡ fault.NoMemory };
+
+    ghost leaves_more = { λ _ _ _ _ h. h };
+
+    fn delivery(&mut self, id: &Id) -> Result<Option<Kept>, BookFault> {
+        Ok(self.tables.delivery(id)?)
+    }
+
+    fn change(&mut self, number: ChangeNo) -> Result<Option<Change>, BookFault> {
+        Ok(self.tables.change(number)?)
+    }
+
+    fn queue(&mut self, name: &Name) -> Result<Option<QueueSizes>, BookFault> {
+        Ok(self.tables.queue(name))
+    }
+
+    fn reports(&mut self, queue: &Name) -> Result<u64, BookFault> {
+        Ok(self.tables.reports(queue))
+    }
+
+    fn landing_before(&mut self, queue: &Name, serial: Serial) -> Result<u64, BookFault> {
+        Ok(self.tables.landing_before(queue, serial))
+    }
+
+    fn items(&mut self, queue: &Name) -> Result<Sequence<Item>, BookFault> {
+        Ok(self.tables.items(self.alloc, queue)?)
+    }
+
+    fn item(&mut self, serial: Serial) -> Result<Option<Item>, BookFault> {
+        Ok(self.tables.item(serial))
+    }
+
+    fn queued(&mut self, change: ChangeNo) -> Result<Option<QueuedItem>, BookFault> {
+        Ok(self.tables.queued(change)?)
+    }
+
+    fn next_item(&mut self, queue: &Name, above: u64) -> Result<Option<Item>, BookFault> {
+        Ok(self.tables.next_item(queue, above))
+    }
+
+    fn last_item(&mut self, queue: &Name, below: u64) -> Result<Option<Item>, BookFault> {
+        Ok(self.tables.last_item(queue, below))
+    }
+
+    fn needing(
+        &mut self,
+        queue: &Name,
+        change: ChangeNo,
+        above: u64,
+    ) -> Result<Option<Item>, BookFault> {
+        Ok(self.tables.needing(queue, change, above))
+    }
+
+    fn live_builds(&mut self, serial: Serial) -> Result<Sequence<Build>, BookFault> {
+        Ok(self.tables.live_builds(self.alloc, serial)?)
+    }
+
+    fn build(&mut self, number: BuildNo) -> Result<Option<Build>, BookFault> {
+        Ok(self.tables.build(number)?)
+    }
+
+    fn ready(&mut self) -> Result<Sequence<Ready>, BookFault> {
+        Ok(self.tables.ready(self.alloc)?)
+    }
+
+    fn counters(&mut self) -> Result<Counters, BookFault> {
+        Ok(self.tables.counters())
+    }
+
+    fn apply(&mut self, edits: &[Edit]) -> Result<(), BookFault> {
+        let copies = copies(self.alloc, edits)?;
+        self.tables.make_room(edits.len())?;
+        self.tables.apply_all(copies);
+        Ok(())
+    }
+}
+
+#[cfg(test)]
+mod tests;

@@ -1,0 +1,394 @@
+//! All tables of a book in memory.
+ghost use Rattle.std.specs.Prelude.{◌≡◌, ◌==◌, ℕ, suc, [], length, find, filter, map, option_map, IfOk, OnOk, IfSome};
+ghost use Rattle.std.specs.List.{AllByRecursion};
+ghost use Rattle.std.specs.Option.{option_copied, option_map_or};
+ghost use Rattle.gate_types.specs.Names.{same_name};
+ghost use Rattle.gate_types.specs.Once.{kept_for};
+ghost use Rattle.gate_types.specs.Tables.{edited_queue, set_counter, edited_tables, fold_all, tables};
+ghost use Rattle.gate_book.specs.Changes as change_table;
+ghost use Rattle.gate_book.specs.Queues as queue;
+ghost use Rattle.gate_book.specs.Builds.{is_live_of};
+ghost use Rattle.gate_book.specs.Reads as read;
+ghost use Rattle.gate_book.specs.TableReads.{change_in, sizes_of_rows, rows_named, items_named, is_needing_in, first_needing_in, all_queued, landings_below, LandingsRise, within};
+ghost use Rattle.gate_book.specs.Memory.{tables_of, IsKept, HasRoom, HasRoomBeside, empty_rows, drawn_of, start_with};
+
+use crate::builds::BuildTable;
+use crate::changes::ChangeTable;
+use crate::queues::QueueTable;
+use crate::replies::ReplyTable;
+use crate::rows::{QueueSizes, QueuedItem};
+use gate_types::config::{Config, Queue};
+use gate_types::edits::{Counter, Edit};
+use gate_types::names::{Name, NoMemory};
+use gate_types::numbers::{BuildNo, ChangeNo, Serial};
+use gate_types::records::{Build, Change, Counters, Id, Item, Kept, Ready};
+use gate_types::rows::ChangeRow;
+use gate_types::sequence::Sequence;
+use std::alloc::{AllocError, Global};
+
+/// The last number that is ever drawn.
+const LAST_NUMBER: u64 = 1_000_000_000_000_000;
+
+/// The last number drawn of each kind, as edits set them.
+#[derive(Clone, Copy)]
+struct LastNumbers {
+    approval: u64,
+    build: u64,
+    order: u64,
+}
+
+/// The tables: the queues stand in the order of the settings.
+#[derive(Drop)]
+pub struct MemTables {
+    changes: ChangeTable,
+    queues: Vec<QueueTable>,
+    builds: BuildTable,
+    drawn: LastNumbers,
+    replies: ReplyTable,
+}
+
+fn drawn_by(counters: Counters) -> LastNumbers
+    ensures { drawn_of result ≡ counters }
+{
+    LastNumbers {
+        approval: counters.approval,
+        build: counters.build,
+        order: counters.order,
+    }
+}
+
+fn set_counter(drawn: &mut LastNumbers, counter: Counter, number: u64)
+    ensures { drawn_of drawn.new ≡ set_counter counter number (drawn_of drawn.old) }
+{
+    match counter {
+        Counter::Approval => drawn.approval = number,
+        Counter::Build => drawn.build = number,
+        Counter::Order => drawn.order = number,
+    }
+}
+
+/// The queues of the settings, with nothing in them.
+fn empty_queues(alloc: Global, settings: &[Queue]) -> Result<Vec<QueueTable>, NoMemory>
+    ensures rows { IfOk result (λ queues. map queue.rows_of queues.items ≡ map empty_rows settings.now) }
+    ensures kept { IfOk result (λ queues. AllByRecursion queue.IsKept queues.items) }
+{
+    let mut queues = Vec::new(alloc);
+    for setting in settings {
+        queues.push(QueueTable::new(alloc, setting.name.copy()?, setting.window))?;
+    }
+    Ok(queues)
+}
+
+/// Makes room for `n` more rows in each queue.
+fn make_queues_room(queues: &mut Vec<QueueTable>, n: usize) -> Result<(), AllocError>
+    requires { AllByRecursion queue.IsKept queues.old.items }
+    ensures rows { map queue.rows_of queues.new.items ≡ map queue.rows_of queues.old.items }
+    ensures kept { AllByRecursion queue.IsKept queues.new.items }
+    ensures room { OnOk result (AllByRecursion (queue.HasRoom n) queues.new.items) }
+{
+    for queue in queues.iter_mut() {
+        queue.make_room(n)?;
+    }
+    Ok(())
+}
+
+/// One edit of each queue, where there is room.
+fn apply_to_queues(queues: &mut Vec<QueueTable>, edit: &Edit)
+    requires kept { AllByRecursion queue.IsKept queues.old.items }
+    requires room { AllByRecursion (queue.HasRoom 1) queues.old.items }
+    ensures rows { map queue.rows_of queues.new.items
+        ≡ map (edited_queue edit.now) (map queue.rows_of queues.old.items) }
+    ensures kept { AllByRecursion queue.IsKept queues.new.items }
+    ensures room { (n : ℕ) → AllByRecursion (queue.HasRoom (suc n)) queues.old.items
+        → AllByRecursion (queue.HasRoom n) queues.new.items }
+{
+    for queue in queues.iter_mut() {
+        queue.apply(edit);
+    }
+}
+
+/// The item of a serial, in whichever queue it stands.
+fn item_in(queues: &[QueueTable], serial: Serial) -> Option<&Item>
+    requires { AllByRecursion queue.IsKept queues.now }
+    ensures { option_copied result
+        ≡ option_map (λ k. k.item) (find (λ k. k.item.serial == serial) (all_queued (map queue.rows_of queues.now))) }
+{
+    for queue in queues {
+        if let Some(item) = queue.item(serial) {
+            return Some(item);
+        }
+    }
+    None
+}
+
+/// The item of a change, with the name of its queue.
+fn queued_in(queues: &[QueueTable], change: ChangeNo) -> Result<Option<QueuedItem>, NoMemory>
+    requires { AllByRecursion queue.IsKept queues.now }
+    ensures { IfOk result (λ found. found
+        ≡ find (λ k. k.item.change == change) (all_queued (map queue.rows_of queues.now))) }
+{
+    for queue in queues {
+        if let Some(found) = queue.queued(change)? {
+            return Ok(Some(found));
+        }
+    }
+    Ok(None)
+}
+
+/// Whether an item is above a serial and its change needs this one.
+fn is_needing(item: &Item, changes: &ChangeTable, change: ChangeNo, above: u64) -> bool
+    requires { change_table.IsKept changes.now }
+    ensures { result ≡ is_needing_in (change_table.changes_of changes.now) change above item.now }
+{
+    item.serial.get() > above && changes.needs(item.change, change)
+}
+
+/// The first of some items above a serial whose change needs this one.
+fn first_needing<'a>(
+    items: &'a [Item],
+    changes: &ChangeTable,
+    change: ChangeNo,
+    above: u64,
+) -> Option<&'a Item>
+    requires { change_table.IsKept changes.now }
+    ensures { option_copied result ≡ first_needing_in (change_table.changes_of changes.now) change above items.now }
+{
+    for item in items {
+        if is_needing(item, changes, change, above) {
+            return Some(item);
+        }
+    }
+    None
+}
+
+/// The queue of a name.
+fn queue_of<'a>(queues: &'a [QueueTable], name: &Name) -> Option<&'a QueueTable>
+    requires { AllByRecursion queue.IsKept queues.now }
+    ensures found { option_copied result ≡ find (λ q. same_name q.name name.now) queues.now }
+    ensures kept { IfSome result (λ q. queue.IsKept q.now) }
+{
+    queues.iter().find(|queue| queue.has_name(name))
+}
+
+impl MemTables {
+    pub fn new(alloc: Global, config: &Config, counters: Counters) -> Result<Self, NoMemory>
+        ensures rows { IfOk result (λ t. tables_of t ≡ tables config.now (start_with config.now counters)) }
+        ensures kept { IfOk result IsKept }
+    {
+        Ok(MemTables {
+            changes: ChangeTable::new(alloc),
+            queues: empty_queues(alloc, config.queues.as_slice())?,
+            builds: BuildTable::new(alloc),
+            drawn: drawn_by(counters),
+            replies: ReplyTable::new(alloc),
+        })
+    }
+
+    /// Makes room for `n` edits. The tables stay, whatever the result.
+    pub fn make_room(&mut self, n: usize) -> Result<(), AllocError>
+        requires { IsKept self.old }
+        ensures rows { tables_of self.new ≡ tables_of self.old }
+        ensures kept { IsKept self.new }
+        ensures room { OnOk result (HasRoom n self.new) }
+    {
+        self.changes.make_room(n)?;
+        make_queues_room(&mut self.queues, n)?;
+        self.builds.make_room(n)?;
+        self.replies.make_room(n)?;
+        Ok(())
+    }
+
+    /// One edit, where there is room.
+    fn apply(&mut self, edit: Edit)
+        requires kept { IsKept self.old }
+        requires room { HasRoom 1 self.old }
+        ensures rows { tables_of self.new ≡ edited_tables (tables_of self.old) edit }
+        ensures kept { IsKept self.new }
+        ensures room { (n : ℕ) → HasRoom (suc n) self.old → HasRoom n self.new }
+    {
+        apply_to_queues(&mut self.queues, &edit);
+        self.apply_to_others(edit);
+    }
+
+    /// One edit of what isn't in a queue.
+    fn apply_to_others(&mut self, edit: Edit)
+        requires kept { IsKept self.old }
+        requires room { HasRoomBeside 1 self.old }
+        ensures rows { tables_of self.new
+            ≡ record (edited_tables (tables_of self.old) edit) { queues = (tables_of self.old).queues } }
+        ensures queues { self.new.queues ≡ self.old.queues }
+        ensures kept { IsKept self.new }
+        ensures room { (n : ℕ) → HasRoomBeside (suc n) self.old → HasRoomBeside n self.new }
+    {
+        match edit {
+            Edit::PutChange { change, approval } => {
+                self.changes.put(ChangeRow { change, approval })
+            }
+            Edit::PutBuild(build) => self.builds.put(build),
+            Edit::SetOutcome { build, outcome } => self.builds.set_outcome(build, outcome),
+            Edit::StopBuild(build) => self.builds.stop(build),
+            Edit::SetCounter { counter, drawn } => set_counter(&mut self.drawn, counter, drawn),
+            Edit::Keep(kept) => self.replies.keep(kept),
+            _ => {}
+        }
+    }
+
+    /// All edits, where there is room.
+    pub fn apply_all(&mut self, edits: Vec<Edit>)
+        requires kept { IsKept self.old }
+        requires room { HasRoom (length edits.items) self.old }
+        ensures rows { tables_of self.new ≡ fold_all (tables_of self.old) edits.items }
+        ensures kept { IsKept self.new }
+    {
+        for edit in edits {
+            self.apply(edit);
+        }
+    }
+
+    /// The queue of a name.
+    fn queue_named(&self, name: &Name) -> Option<&QueueTable>
+        requires { IsKept self.now }
+        ensures found { option_map queue.rows_of (option_copied result)
+            ≡ rows_named (tables_of self.now).queues name.now }
+        ensures kept { IfSome result (λ q. queue.IsKept q.now) }
+    {
+        queue_of(&self.queues, name)
+    }
+
+    pub fn delivery(&self, id: &Id) -> Result<Option<Kept>, NoMemory>
+        requires { IsKept self.now }
+        ensures { IfOk result (λ found. found ≡ kept_for id.now (tables_of self.now).kept) }
+    {
+        self.replies.get(id)
+    }
+
+    pub fn change(&self, number: ChangeNo) -> Result<Option<Change>, NoMemory>
+        requires { IsKept self.now }
+        ensures { IfOk result (λ found. found ≡ change_in (tables_of self.now).changes number) }
+    {
+        self.changes.get(number)
+    }
+
+    pub fn queue(&self, name: &Name) -> Option<QueueSizes>
+        requires { IsKept self.now }
+        ensures { result ≡ option_map sizes_of_rows (rows_named (tables_of self.now).queues name.now) }
+    {
+        match self.queue_named(name) {
+            Some(queue) => Some(queue.sizes()),
+            None => None,
+        }
+    }
+
+    pub fn reports(&self, queue: &Name) -> u64
+        requires { IsKept self.now }
+        ensures { result ≡ option_map_or (λ q. length q.reports) (rows_named (tables_of self.now).queues queue.now) 0 }
+    {
+        match self.queue_named(queue) {
+            Some(queue) => queue.report_count(),
+            None => 0,
+        }
+    }
+
+    /// How many landings of a queue have a lower serial, where these rise.
+    pub fn landing_before(&self, queue: &Name, serial: Serial) -> u64
+        requires { IsKept self.now }
+        ensures { AllByRecursion LandingsRise (tables_of self.now).queues
+            → result ≡ option_map_or (landings_below serial) (rows_named (tables_of self.now).queues queue.now) 0 }
+    {
+        match self.queue_named(queue) {
+            Some(queue) => queue.landings_before(serial),
+            None => 0,
+        }
+    }
+
+    pub fn items(&self, alloc: Global, queue: &Name) -> Result<Sequence<Item>, NoMemory>
+        requires { IsKept self.now }
+        ensures { IfOk result (λ found. found ≡ items_named (tables_of self.now).queues queue.now) }
+    {
+        match self.queue_named(queue) {
+            Some(queue) => queue.items(alloc),
+            None => Ok(Sequence::new(alloc)),
+        }
+    }
+
+    pub fn item(&self, serial: Serial) -> Option<Item>
+        requires { IsKept self.now }
+        ensures { result
+            ≡ option_map (λ k. k.item) (find (λ k. k.item.serial == serial) (all_queued (tables_of self.now).queues)) }
+    {
+        item_in(&self.queues, serial).copied()
+    }
+
+    pub fn queued(&self, change: ChangeNo) -> Result<Option<QueuedItem>, NoMemory>
+        requires { IsKept self.now }
+        ensures { IfOk result (λ found. found
+            ≡ find (λ k. k.item.change == change) (all_queued (tables_of self.now).queues)) }
+    {
+        queued_in(&self.queues, change)
+    }
+
+    pub fn next_item(&self, queue: &Name, above: u64) -> Option<Item>
+        requires { IsKept self.now }
+        ensures { result ≡ read.first_above above (items_named (tables_of self.now).queues queue.now) }
+    {
+        match self.queue_named(queue) {
+            Some(queue) => queue.next_item(above),
+            None => None,
+        }
+    }
+
+    pub fn last_item(&self, queue: &Name, below: u64) -> Option<Item>
+        requires { IsKept self.now }
+        ensures { result ≡ read.last_below below (items_named (tables_of self.now).queues queue.now) }
+    {
+        match self.queue_named(queue) {
+            Some(queue) => queue.last_item(below),
+            None => None,
+        }
+    }
+
+    pub fn needing(&self, queue: &Name, change: ChangeNo, above: u64) -> Option<Item>
+        requires { IsKept self.now }
+        ensures { result
+            ≡ first_needing_in (tables_of self.now).changes change above
+            (items_named (tables_of self.now).queues queue.now) }
+    {
+        match self.queue_named(queue) {
+            Some(queue) => first_needing(queue.item_rows(), &self.changes, change, above).copied(),
+            None => None,
+        }
+    }
+
+    pub fn live_builds(&self, alloc: Global, serial: Serial) -> Result<Sequence<Build>, NoMemory>
+        requires { IsKept self.now }
+        ensures { IfOk result (λ found. found ≡ filter (is_live_of serial) (tables_of self.now).builds) }
+    {
+        self.builds.live_of(alloc, serial)
+    }
+
+    pub fn build(&self, number: BuildNo) -> Result<Option<Build>, NoMemory>
+        requires { IsKept self.now }
+        ensures { IfOk result (λ found. found ≡ find (λ b. b.number == number) (tables_of self.now).builds) }
+    {
+        self.builds.get(number)
+    }
+
+    /// The ready changes in order of approval: exact for any list that the rows tell.
+    pub fn ready(&self, alloc: Global) -> Result<Sequence<Ready>, NoMemory>
+        requires { IsKept self.now }
+        ensures { IfOk result (change_table.IsWhatRowsTell (tables_of self.now).changes) }
+    {
+        self.changes.ready(alloc)
+    }
+
+    /// The last numbers drawn, none above the last that there is.
+    pub fn counters(&self) -> Counters
+        ensures { result ≡ within (tables_of self.now).counters }
+    {
+        Counters {
+            approval: self.drawn.approval.min(LAST_NUMBER),
+            build: self.drawn.build.min(LAST_NUMBER),
+            order: self.drawn.order.min(LAST_NUMBER),
+        }
+    }
+}
