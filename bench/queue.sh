@@ -1,6 +1,6 @@
 #!/bin/sh
 # The time of a settling of queues with 10, 100 and 1,000 items, without landings and behind 100,000.
-# It builds a program over copies of the two crates, in a folder of its own.
+# It builds a program over copies of the crates, in a folder of its own.
 set -eu
 top=$(cd "$(dirname "$0")/.." && pwd)
 work=$(mktemp -d)
@@ -8,10 +8,13 @@ trap 'rm -rf "$work"' EXIT
 cd "$work"
 git init -q .
 mkdir crates
-cp -r "$top/crates/gate_types" "$top/crates/gate_queue" crates/
+for crate in gate_types gate_laws gate_queue; do
+    cp -r "$top/crates/$crate" crates/
+done
 cat >crates.txt <<'CRATES'
 gate_types: json serde_json
-gate_queue: gate_types
+gate_laws: gate_types json
+gate_queue: gate_types gate_laws
 queue_bench: gate_types gate_queue
 CRATES
 program=crates/queue_bench

@@ -9,23 +9,23 @@ use Rattle.gate_book.specs.declared.fault.BookFault.TheVariants as fault
 
 -- what is so of each lawful content that the book held, if it is trusted as the call ends
 abbrev pub OfHeld : {B : Type 0} → (B → Type 0) → (B → Settings → Content → Type 0) → B → B →
-  (Settings → Content → Type 0) → Type 0
+    (Settings → Content → Type 0) → Type 0
 OfHeld trusted holds old new P =
-  trusted new → (c : Settings) (x : Content) → holds old c x → IsLawfulContent c x → P c x
+    trusted new → (c : Settings) (x : Content) → holds old c x → IsLawfulContent c x → P c x
 
 -- after a call that only reads, the book is trusted only if it was, holds what it held, and leaves what it left
 pub record IsKept {B : Type 0} (trusted : B → Type 0) (holds : B → Settings → Content → Type 0)
-  (leaves : B → Settings → List Content → Type 0) (old new : B) : Type 0 where
+    (leaves : B → Settings → List Content → Type 0) (old new : B) : Type 0 where
   pub trusted_before : trusted new → trusted old
   pub holds_on : trusted new → (c : Settings) (x : Content) → holds old c x → holds new c x
   pub leaves_on : trusted new → (c : Settings) (x : Content) → holds old c x →
-    (ys : List Content) → leaves old c ys → leaves new c ys
+      (ys : List Content) → leaves old c ys → leaves new c ys
 
 -- after edits that lead from x to y, the book holds y, or x after a fault; a crash then leaves y, or what it could
 -- leave before, or y
 pub record IsApplied {B : Type 0} (holds : B → Settings → Content → Type 0)
-  (leaves : B → Settings → List Content → Type 0) (old new : B) (c : Settings) (x : Content) (edits : List Edit)
-  (y : Content) (result : Result (Unit {0}) BookFault) : Type 0 where
+    (leaves : B → Settings → List Content → Type 0) (old new : B) (c : Settings) (x : Content) (edits : List Edit)
+    (y : Content) (result : Result (Unit {0}) BookFault) : Type 0 where
   pub ok : OnOk result (holds new c y)
   pub err : OnErr result (holds new c x)
   pub undamaged : IfErr result (λ f. f ≢ fault.Damaged)

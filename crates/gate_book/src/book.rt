@@ -105,7 +105,12 @@ pub trait Book {
         ensures fault { IfErr result MayFault };
 
     /// The first item of a queue with a higher serial than `above` whose change needs this one.
-    fn needing(&mut self, queue: &Name, change: ChangeNo, above: u64) -> Result<Option<Item>, BookFault>
+    fn needing(
+        &mut self,
+        queue: &Name,
+        change: ChangeNo,
+        above: u64,
+    ) -> Result<Option<Item>, BookFault>
         ensures found { OfHeld IsTrusted Holds self.old self.new (λ c x.
             read.Answers (read.first_needing x.state change above (read.items_in c x.state queue.now)) result) }
         ensures rises { IfOk result (λ found. IfSome found (λ i. above < i.serial)) }
