@@ -111,8 +111,8 @@ fn jobs(alloc: Global) -> Result<Vec<Job>, AllocError> {
 fn items_rise(items: &[Item]) -> bool
     ensures { IsTrue result → IsStrictlyIncreasing (map (λ i. i.serial) items.now) }
 {
-    for place in 1..items.len() {
-        if items[place].serial.get() <= items[place - 1].serial.get() {
+    for index in 1..items.len() {
+        if items[index].serial.get() <= items[index - 1].serial.get() {
             return false;
         }
     }
@@ -123,8 +123,8 @@ fn items_rise(items: &[Item]) -> bool
 fn builds_rise(builds: &[Build]) -> bool
     ensures { IsTrue result → IsStrictlyIncreasing (map (λ b. b.number) builds.now) }
 {
-    for place in 1..builds.len() {
-        if builds[place].number.get() <= builds[place - 1].number.get() {
+    for index in 1..builds.len() {
+        if builds[index].number.get() <= builds[index - 1].number.get() {
             return false;
         }
     }
