@@ -13,6 +13,12 @@ abbrev pub OfHeld : {B : Type 0} → (B → Type 0) → (B → Settings → Cont
 OfHeld trusted holds old new P =
     trusted new → (c : Settings) (x : Content) → holds old c x → IsLawfulContent c x → P c x
 
+-- the same under these settings
+abbrev pub OfHeldUnder : {B : Type 0} → (B → Type 0) → (B → Settings → Content → Type 0) → B → B → Settings →
+    (Content → Type 0) → Type 0
+OfHeldUnder trusted holds old new c P =
+    trusted new → (x : Content) → holds old c x → IsLawfulContent c x → P x
+
 -- after a call that only reads, the book is trusted only if it was, holds what it held, and leaves what it left
 pub record IsKept {B : Type 0} (trusted : B → Type 0) (holds : B → Settings → Content → Type 0)
     (leaves : B → Settings → List Content → Type 0) (old new : B) : Type 0 where
