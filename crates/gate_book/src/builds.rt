@@ -104,7 +104,7 @@ fn collect_live(
 }
 
 impl BuildTable {
-    pub fn new(alloc: Global) -> Self
+    pub(crate) fn new(alloc: Global) -> Self
         ensures rows { result.rows.items ≡ [] }
         ensures kept { AreKept result }
     {
@@ -115,7 +115,7 @@ impl BuildTable {
     }
 
     /// Makes room for `n` more builds. The builds stay, whatever the result.
-    pub fn make_room(&mut self, n: usize) -> Result<(), AllocError>
+    pub(crate) fn make_room(&mut self, n: usize) -> Result<(), AllocError>
         requires { AreKept self.old }
         ensures rows { self.new.rows.items ≡ self.old.rows.items }
         ensures kept { AreKept self.new }
@@ -127,7 +127,7 @@ impl BuildTable {
     }
 
     /// Puts a build where there is room, in place of one with its number.
-    pub fn put(&mut self, build: Build)
+    pub(crate) fn put(&mut self, build: Build)
         requires kept { AreKept self.old }
         requires room { HaveRoom 1 self.old }
         ensures rows { self.new.rows.items ≡ put_by number_of build self.old.rows.items }
@@ -142,7 +142,7 @@ impl BuildTable {
         sorted::put(&mut self.rows, build);
     }
 
-    pub fn set_outcome(&mut self, number: BuildNo, outcome: Outcome)
+    pub(crate) fn set_outcome(&mut self, number: BuildNo, outcome: Outcome)
         requires kept { AreKept self.old }
         ensures rows { self.new.rows.items ≡ change_build number (with_outcome outcome) self.old.rows.items }
         ensures kept { AreKept self.new }
@@ -152,7 +152,7 @@ impl BuildTable {
     }
 
     /// The build stops being live.
-    pub fn stop(&mut self, number: BuildNo)
+    pub(crate) fn stop(&mut self, number: BuildNo)
         requires kept { AreKept self.old }
         ensures rows { self.new.rows.items ≡ change_build number (with_live false) self.old.rows.items }
         ensures kept { AreKept self.new }
@@ -163,7 +163,7 @@ impl BuildTable {
         }
     }
 
-    pub fn get(&self, number: BuildNo) -> Result<Option<Build>, NoMemory>
+    pub(crate) fn get(&self, number: BuildNo) -> Result<Option<Build>, NoMemory>
         requires { AreKept self.now }
         ensures { IfOk result (λ found. found ≡ find (λ b. b.number == number) self.now.rows.items) }
     {
@@ -174,7 +174,7 @@ impl BuildTable {
     }
 
     /// The live builds of a serial, by number.
-    pub fn live_of(&self, alloc: Global, serial: Serial) -> Result<Sequence<Build>, NoMemory>
+    pub(crate) fn live_of(&self, alloc: Global, serial: Serial) -> Result<Sequence<Build>, NoMemory>
         requires { AreKept self.now }
         ensures { IfOk result (λ found. found ≡ filter (is_live_of serial) self.now.rows.items) }
     {

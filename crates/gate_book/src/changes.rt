@@ -101,7 +101,8 @@ fn approval_of(rows: &[ChangeRow], places: &HashMap<u64, usize>, number: u64) ->
 fn drop_ready(ready: &mut Vec<Pair>, approval: Option<u64>, number: u64)
     requires { RisesFrom pair_key 0 ready.old.items }
     ensures ready { ready.new.items
-        ≡ option_map_or (λ a. without pair_key (pair_key (entry_of number a)) ready.old.items) approval ready.old.items }
+        ≡ option_map_or (λ a. without pair_key (pair_key (entry_of number a)) ready.old.items)
+        approval ready.old.items }
     ensures rising { RisesFrom pair_key 0 ready.new.items }
     ensures len { vec_len ready.new ≤ vec_len ready.old }
     ensures capacity { vec_capacity ready.new ≡ vec_capacity ready.old }
@@ -176,7 +177,7 @@ fn collect_ready(
 }
 
 impl ChangeTable {
-    pub fn new(alloc: Global) -> Self
+    pub(crate) fn new(alloc: Global) -> Self
         ensures rows { changes_of result ≡ [] }
         ensures kept { IsKept result }
     {
@@ -188,7 +189,7 @@ impl ChangeTable {
     }
 
     /// Makes room for `n` more changes. The changes stay, whatever the result.
-    pub fn make_room(&mut self, n: usize) -> Result<(), AllocError>
+    pub(crate) fn make_room(&mut self, n: usize) -> Result<(), AllocError>
         requires { IsKept self.old }
         ensures rows { changes_of self.new ≡ changes_of self.old }
         ensures kept { IsKept self.new }
@@ -201,7 +202,7 @@ impl ChangeTable {
     }
 
     /// Puts a row where there is room, in place of one with its number.
-    pub fn put(&mut self, row: ChangeRow)
+    pub(crate) fn put(&mut self, row: ChangeRow)
         requires kept { IsKept self.old }
         requires room { HasRoom 1 self.old }
         ensures rows { changes_of self.new ≡ put_by number_of row (changes_of self.old) }
@@ -226,7 +227,7 @@ impl ChangeTable {
         row_of(&self.rows, &self.places, number.get())
     }
 
-    pub fn get(&self, number: ChangeNo) -> Result<Option<Change>, NoMemory>
+    pub(crate) fn get(&self, number: ChangeNo) -> Result<Option<Change>, NoMemory>
         requires { IsKept self.now }
         ensures { IfOk result (λ found. found ≡ change_in (changes_of self.now) number) }
     {
@@ -237,7 +238,7 @@ impl ChangeTable {
     }
 
     /// Whether a change needs another.
-    pub fn needs(&self, number: ChangeNo, other: ChangeNo) -> bool
+    pub(crate) fn needs(&self, number: ChangeNo, other: ChangeNo) -> bool
         requires { IsKept self.now }
         ensures { result ≡ list_any (λ m. m == other) (needs_in (changes_of self.now) number) }
     {
@@ -253,7 +254,7 @@ impl ChangeTable {
     }
 
     /// The ready changes in order of approval: exact for any list that the rows tell.
-    pub fn ready(&self, alloc: Global) -> Result<Sequence<Ready>, NoMemory>
+    pub(crate) fn ready(&self, alloc: Global) -> Result<Sequence<Ready>, NoMemory>
         requires { IsKept self.now }
         ensures { IfOk result (IsWhatRowsTell (changes_of self.now)) }
     {

@@ -24,7 +24,7 @@ impl Keyed for Pair {
 }
 
 /// The pairs with a first number.
-pub fn of_first(pairs: &[Pair], first: u64) -> &[Pair]
+pub(crate) fn of_first(pairs: &[Pair], first: u64) -> &[Pair]
     requires rising { RisesFrom pair_key 0 pairs.now }
     requires fit { AllByRecursion IsFit pairs.now }
     requires next { first + 1 < 2 ^ 64 }

@@ -110,7 +110,7 @@ fn put_row(items: &mut Vec<Item>, item: &Item)
 }
 
 impl QueueTable {
-    pub fn new(alloc: Global, name: Name, window: u32) -> Self
+    pub(crate) fn new(alloc: Global, name: Name, window: u32) -> Self
         ensures rows { rows_of result
             ≡ record { name = name; window = window; items = []; landings = []; reports = [] } }
         ensures kept { IsKept result }
@@ -126,7 +126,7 @@ impl QueueTable {
     }
 
     /// Makes room for `n` more rows of each kind. The rows stay, whatever the result.
-    pub fn make_room(&mut self, n: usize) -> Result<(), AllocError>
+    pub(crate) fn make_room(&mut self, n: usize) -> Result<(), AllocError>
         requires { IsKept self.old }
         ensures rows { rows_of self.new ≡ rows_of self.old }
         ensures kept { IsKept self.new }
@@ -167,7 +167,7 @@ impl QueueTable {
     }
 
     /// One edit, where there is room; it leaves the queue if it isn't of its rows.
-    pub fn apply(&mut self, edit: &Edit)
+    pub(crate) fn apply(&mut self, edit: &Edit)
         requires kept { IsKept self.old }
         requires room { HasRoom 1 self.old }
         ensures rows { rows_of self.new ≡ edited_queue edit.now (rows_of self.old) }
@@ -206,7 +206,7 @@ impl QueueTable {
         }
     }
 
-    pub fn item(&self, serial: Serial) -> Option<&Item>
+    pub(crate) fn item(&self, serial: Serial) -> Option<&Item>
         requires { IsKept self.now }
         ensures { option_copied result ≡ find (λ i. i.serial == serial) (rows_of self.now).items }
     {
@@ -214,7 +214,7 @@ impl QueueTable {
     }
 
     /// The item of a change.
-    pub fn item_of(&self, change: ChangeNo) -> Option<&Item>
+    pub(crate) fn item_of(&self, change: ChangeNo) -> Option<&Item>
         requires { IsKept self.now }
         ensures { option_copied result ≡ find (λ i. i.change == change) (rows_of self.now).items }
     {
@@ -222,7 +222,7 @@ impl QueueTable {
     }
 
     /// The item of a change, with the name of this queue.
-    pub fn queued(&self, change: ChangeNo) -> Result<Option<QueuedItem>, NoMemory>
+    pub(crate) fn queued(&self, change: ChangeNo) -> Result<Option<QueuedItem>, NoMemory>
         requires { IsKept self.now }
         ensures { IfOk result (λ found. found
             ≡ option_map (λ i. record { queue = (rows_of self.now).name; item = i })
@@ -237,13 +237,13 @@ impl QueueTable {
         }
     }
 
-    pub fn has_name(&self, name: &Name) -> bool
+    pub(crate) fn has_name(&self, name: &Name) -> bool
         ensures { result ≡ same_name self.now.name name.now }
     {
         same_name(&self.name, name)
     }
 
-    pub fn sizes(&self) -> QueueSizes
+    pub(crate) fn sizes(&self) -> QueueSizes
         ensures { result ≡ sizes_of_rows (rows_of self.now) }
     {
         QueueSizes {
@@ -253,27 +253,27 @@ impl QueueTable {
         }
     }
 
-    pub fn report_count(&self) -> u64
+    pub(crate) fn report_count(&self) -> u64
         ensures { result ≡ length (rows_of self.now).reports }
     {
         self.reports.len() as u64
     }
 
-    pub fn items(&self, alloc: Global) -> Result<Sequence<Item>, NoMemory>
+    pub(crate) fn items(&self, alloc: Global) -> Result<Sequence<Item>, NoMemory>
         ensures { IfOk result (λ found. found ≡ (rows_of self.now).items) }
     {
         let items = Vec::from_slice(alloc, &self.items)?;
         Ok(Sequence::from_vec(items))
     }
 
-    pub fn item_rows(&self) -> &[Item]
+    pub(crate) fn item_rows(&self) -> &[Item]
         ensures { result.now ≡ (rows_of self.now).items }
     {
         &self.items
     }
 
     /// The first item above a serial.
-    pub fn next_item(&self, above: u64) -> Option<Item>
+    pub(crate) fn next_item(&self, above: u64) -> Option<Item>
         requires { IsKept self.now }
         ensures { result ≡ read.first_above above (rows_of self.now).items }
     {
@@ -281,7 +281,7 @@ impl QueueTable {
     }
 
     /// The last item below a serial.
-    pub fn last_item(&self, below: u64) -> Option<Item>
+    pub(crate) fn last_item(&self, below: u64) -> Option<Item>
         requires { IsKept self.now }
         ensures { result ≡ read.last_below below (rows_of self.now).items }
     {
@@ -289,7 +289,7 @@ impl QueueTable {
     }
 
     /// How many landings have a lower serial, where these rise.
-    pub fn landings_before(&self, serial: Serial) -> u64
+    pub(crate) fn landings_before(&self, serial: Serial) -> u64
         ensures { RisesFrom landing_serial 0 (rows_of self.now).landings
             → result ≡ length (filter (λ r. nat_lt (landing_serial r) serial) (rows_of self.now).landings) }
     {

@@ -41,7 +41,7 @@ fn copy_at(rows: &[Kept], place: usize) -> Result<Option<Kept>, NoMemory>
 }
 
 impl ReplyTable {
-    pub fn new(alloc: Global) -> Self
+    pub(crate) fn new(alloc: Global) -> Self
         ensures rows { result.rows.items ≡ [] }
         ensures kept { IsKept result }
     {
@@ -52,7 +52,7 @@ impl ReplyTable {
     }
 
     /// Makes room for `n` more deliveries. What is kept stays, whatever the result.
-    pub fn make_room(&mut self, n: usize) -> Result<(), AllocError>
+    pub(crate) fn make_room(&mut self, n: usize) -> Result<(), AllocError>
         requires { IsKept self.old }
         ensures rows { self.new.rows.items ≡ self.old.rows.items }
         ensures kept { IsKept self.new }
@@ -64,7 +64,7 @@ impl ReplyTable {
     }
 
     /// Keeps a delivery, where there is room.
-    pub fn keep(&mut self, kept: Kept)
+    pub(crate) fn keep(&mut self, kept: Kept)
         requires kept { IsKept self.old }
         requires room { HasRoom 1 self.old }
         ensures rows { self.new.rows.items ≡ self.old.rows.items ++ kept ∷ [] }
@@ -76,7 +76,7 @@ impl ReplyTable {
     }
 
     /// What is kept under an id.
-    pub fn get(&self, id: &Id) -> Result<Option<Kept>, NoMemory>
+    pub(crate) fn get(&self, id: &Id) -> Result<Option<Kept>, NoMemory>
         requires { IsKept self.now }
         ensures { IfOk result (λ found. found ≡ kept_for id.now self.now.rows.items) }
     {

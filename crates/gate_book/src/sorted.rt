@@ -31,7 +31,7 @@ fn row_at<T>(rows: &[T], place: usize) -> Option<&T>
 }
 
 /// The place of the row of a key.
-pub fn place_at<T: Keyed>(rows: &[T], key: u128) -> Option<usize>
+pub(crate) fn place_at<T: Keyed>(rows: &[T], key: u128) -> Option<usize>
     requires { RisesFrom T.key 0 rows.now }
     ensures there { IfSome result (λ place. IsAt T.key key rows.now place) }
     ensures missing { IfNone result (find (λ row. T.key row == key) rows.now ≡ None) }
@@ -45,7 +45,7 @@ pub fn place_at<T: Keyed>(rows: &[T], key: u128) -> Option<usize>
 }
 
 /// The row of a key.
-pub fn at<T: Keyed>(rows: &[T], key: u128) -> Option<&T>
+pub(crate) fn at<T: Keyed>(rows: &[T], key: u128) -> Option<&T>
     requires { RisesFrom T.key 0 rows.now }
     ensures { option_copied result ≡ find (λ row. T.key row == key) rows.now }
 {
@@ -56,7 +56,7 @@ pub fn at<T: Keyed>(rows: &[T], key: u128) -> Option<&T>
 }
 
 /// The first row above a key.
-pub fn above<T: Keyed>(rows: &[T], key: u64) -> Option<&T>
+pub(crate) fn above<T: Keyed>(rows: &[T], key: u64) -> Option<&T>
     requires { RisesFrom T.key 0 rows.now }
     ensures { option_copied result ≡ find (λ row. nat_lt key (T.key row)) rows.now }
 {
@@ -64,7 +64,7 @@ pub fn above<T: Keyed>(rows: &[T], key: u64) -> Option<&T>
 }
 
 /// The last row below a key.
-pub fn last_below<T: Keyed>(rows: &[T], key: u64) -> Option<&T>
+pub(crate) fn last_below<T: Keyed>(rows: &[T], key: u64) -> Option<&T>
     requires { RisesFrom T.key 0 rows.now }
     ensures { option_copied result ≡ last_below T.key key rows.now }
 {
@@ -77,7 +77,7 @@ pub fn last_below<T: Keyed>(rows: &[T], key: u64) -> Option<&T>
 }
 
 /// The rows from a key on, up to and without another.
-pub fn between<T: Keyed>(rows: &[T], from: u128, to: u128) -> &[T]
+pub(crate) fn between<T: Keyed>(rows: &[T], from: u128, to: u128) -> &[T]
     requires rising { RisesFrom T.key 0 rows.now }
     requires order { from ≤ to }
     ensures { result.now ≡ filter (λ row. nat_le from (T.key row) && nat_lt (T.key row) to) rows.now }
@@ -88,7 +88,7 @@ pub fn between<T: Keyed>(rows: &[T], from: u128, to: u128) -> &[T]
 }
 
 /// Puts a row where there is room, in place of one with its key.
-pub fn put<T: Keyed + Drop>(rows: &mut Vec<T>, row: T)
+pub(crate) fn put<T: Keyed + Drop>(rows: &mut Vec<T>, row: T)
     requires room { vec_len rows.old < vec_capacity rows.old }
     requires rising { RisesFrom T.key 0 rows.old.items }
     ensures rows { rows.new.items ≡ put_by T.key row rows.old.items }
@@ -106,7 +106,7 @@ pub fn put<T: Keyed + Drop>(rows: &mut Vec<T>, row: T)
 }
 
 /// Puts a row in place of one.
-pub fn put_at<T: Drop>(rows: &mut Vec<T>, place: usize, row: T)
+pub(crate) fn put_at<T: Drop>(rows: &mut Vec<T>, place: usize, row: T)
     requires { place < vec_len rows.old }
     ensures rows { rows.new.items ≡ slice_set rows.old.items place row }
     ensures capacity { vec_capacity rows.new ≡ vec_capacity rows.old }
@@ -116,7 +116,7 @@ pub fn put_at<T: Drop>(rows: &mut Vec<T>, place: usize, row: T)
 }
 
 /// Drops the row of a key, if there is one.
-pub fn remove<T: Keyed + Drop>(rows: &mut Vec<T>, key: u128)
+pub(crate) fn remove<T: Keyed + Drop>(rows: &mut Vec<T>, key: u128)
     requires { RisesFrom T.key 0 rows.old.items }
     ensures rows { rows.new.items ≡ without T.key key rows.old.items }
     ensures rising { RisesFrom T.key 0 rows.new.items }

@@ -171,7 +171,7 @@ fn queue_of<'a>(queues: &'a [QueueTable], name: &Name) -> Option<&'a QueueTable>
 }
 
 impl MemTables {
-    pub fn new(alloc: Global, config: &Config, counters: Counters) -> Result<Self, NoMemory>
+    pub(crate) fn new(alloc: Global, config: &Config, counters: Counters) -> Result<Self, NoMemory>
         ensures rows { IfOk result (λ t. tables_of t ≡ tables config.now (start_with config.now counters)) }
         ensures kept { IfOk result IsKept }
     {
@@ -185,7 +185,7 @@ impl MemTables {
     }
 
     /// Makes room for `n` edits. The tables stay, whatever the result.
-    pub fn make_room(&mut self, n: usize) -> Result<(), AllocError>
+    pub(crate) fn make_room(&mut self, n: usize) -> Result<(), AllocError>
         requires { IsKept self.old }
         ensures rows { tables_of self.new ≡ tables_of self.old }
         ensures kept { IsKept self.new }
@@ -234,7 +234,7 @@ impl MemTables {
     }
 
     /// All edits, where there is room.
-    pub fn apply_all(&mut self, edits: Vec<Edit>)
+    pub(crate) fn apply_all(&mut self, edits: Vec<Edit>)
         requires kept { IsKept self.old }
         requires room { HasRoom (length edits.items) self.old }
         ensures rows { tables_of self.new ≡ fold_all (tables_of self.old) edits.items }
@@ -255,21 +255,21 @@ impl MemTables {
         queue_of(&self.queues, name)
     }
 
-    pub fn delivery(&self, id: &Id) -> Result<Option<Kept>, NoMemory>
+    pub(crate) fn delivery(&self, id: &Id) -> Result<Option<Kept>, NoMemory>
         requires { IsKept self.now }
         ensures { IfOk result (λ found. found ≡ kept_for id.now (tables_of self.now).kept) }
     {
         self.replies.get(id)
     }
 
-    pub fn change(&self, number: ChangeNo) -> Result<Option<Change>, NoMemory>
+    pub(crate) fn change(&self, number: ChangeNo) -> Result<Option<Change>, NoMemory>
         requires { IsKept self.now }
         ensures { IfOk result (λ found. found ≡ change_in (tables_of self.now).changes number) }
     {
         self.changes.get(number)
     }
 
-    pub fn queue(&self, name: &Name) -> Option<QueueSizes>
+    pub(crate) fn queue(&self, name: &Name) -> Option<QueueSizes>
         requires { IsKept self.now }
         ensures { result ≡ option_map sizes_of_rows (rows_named (tables_of self.now).queues name.now) }
     {
@@ -279,7 +279,7 @@ impl MemTables {
         }
     }
 
-    pub fn reports(&self, queue: &Name) -> u64
+    pub(crate) fn reports(&self, queue: &Name) -> u64
         requires { IsKept self.now }
         ensures { result ≡ option_map_or (λ q. length q.reports) (rows_named (tables_of self.now).queues queue.now) 0 }
     {
@@ -290,7 +290,7 @@ impl MemTables {
     }
 
     /// How many landings of a queue have a lower serial, where these rise.
-    pub fn landing_before(&self, queue: &Name, serial: Serial) -> u64
+    pub(crate) fn landing_before(&self, queue: &Name, serial: Serial) -> u64
         requires { IsKept self.now }
         ensures { AllByRecursion LandingsRise (tables_of self.now).queues
             → result ≡ option_map_or (landings_below serial) (rows_named (tables_of self.now).queues queue.now) 0 }
@@ -301,7 +301,7 @@ impl MemTables {
         }
     }
 
-    pub fn items(&self, alloc: Global, queue: &Name) -> Result<Sequence<Item>, NoMemory>
+    pub(crate) fn items(&self, alloc: Global, queue: &Name) -> Result<Sequence<Item>, NoMemory>
         requires { IsKept self.now }
         ensures { IfOk result (λ found. found ≡ items_named (tables_of self.now).queues queue.now) }
     {
@@ -311,7 +311,7 @@ impl MemTables {
         }
     }
 
-    pub fn item(&self, serial: Serial) -> Option<Item>
+    pub(crate) fn item(&self, serial: Serial) -> Option<Item>
         requires { IsKept self.now }
         ensures { result
             ≡ option_map (λ k. k.item) (find (λ k. k.item.serial == serial) (all_queued (tables_of self.now).queues)) }
@@ -319,7 +319,7 @@ impl MemTables {
         item_in(&self.queues, serial).copied()
     }
 
-    pub fn queued(&self, change: ChangeNo) -> Result<Option<QueuedItem>, NoMemory>
+    pub(crate) fn queued(&self, change: ChangeNo) -> Result<Option<QueuedItem>, NoMemory>
         requires { IsKept self.now }
         ensures { IfOk result (λ found. found
             ≡ find (λ k. k.item.change == change) (all_queued (tables_of self.now).queues)) }
@@ -327,7 +327,7 @@ impl MemTables {
         queued_in(&self.queues, change)
     }
 
-    pub fn next_item(&self, queue: &Name, above: u64) -> Option<Item>
+    pub(crate) fn next_item(&self, queue: &Name, above: u64) -> Option<Item>
         requires { IsKept self.now }
         ensures { result ≡ read.first_above above (items_named (tables_of self.now).queues queue.now) }
     {
@@ -337,7 +337,7 @@ impl MemTables {
         }
     }
 
-    pub fn last_item(&self, queue: &Name, below: u64) -> Option<Item>
+    pub(crate) fn last_item(&self, queue: &Name, below: u64) -> Option<Item>
         requires { IsKept self.now }
         ensures { result ≡ read.last_below below (items_named (tables_of self.now).queues queue.now) }
     {
@@ -347,7 +347,7 @@ impl MemTables {
         }
     }
 
-    pub fn needing(&self, queue: &Name, change: ChangeNo, above: u64) -> Option<Item>
+    pub(crate) fn needing(&self, queue: &Name, change: ChangeNo, above: u64) -> Option<Item>
         requires { IsKept self.now }
         ensures { result
             ≡ first_needing_in (tables_of self.now).changes change above
@@ -359,14 +359,18 @@ impl MemTables {
         }
     }
 
-    pub fn live_builds(&self, alloc: Global, serial: Serial) -> Result<Sequence<Build>, NoMemory>
+    pub(crate) fn live_builds(
+        &self,
+        alloc: Global,
+        serial: Serial,
+    ) -> Result<Sequence<Build>, NoMemory>
         requires { IsKept self.now }
         ensures { IfOk result (λ found. found ≡ filter (is_live_of serial) (tables_of self.now).builds) }
     {
         self.builds.live_of(alloc, serial)
     }
 
-    pub fn build(&self, number: BuildNo) -> Result<Option<Build>, NoMemory>
+    pub(crate) fn build(&self, number: BuildNo) -> Result<Option<Build>, NoMemory>
         requires { IsKept self.now }
         ensures { IfOk result (λ found. found ≡ find (λ b. b.number == number) (tables_of self.now).builds) }
     {
@@ -374,7 +378,7 @@ impl MemTables {
     }
 
     /// The ready changes in order of approval: exact for any list that the rows tell.
-    pub fn ready(&self, alloc: Global) -> Result<Sequence<Ready>, NoMemory>
+    pub(crate) fn ready(&self, alloc: Global) -> Result<Sequence<Ready>, NoMemory>
         requires { IsKept self.now }
         ensures { IfOk result (change_table.IsWhatRowsTell (tables_of self.now).changes) }
     {
@@ -382,7 +386,7 @@ impl MemTables {
     }
 
     /// The last numbers drawn, none above the last that there is.
-    pub fn counters(&self) -> Counters
+    pub(crate) fn counters(&self) -> Counters
         ensures { result ≡ within (tables_of self.now).counters }
     {
         Counters {
