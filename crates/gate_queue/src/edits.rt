@@ -50,7 +50,7 @@ fn push_stops(
 }
 
 /// Puts the row of an item that stays, or reports one that goes behind that many reports and drops it.
-fn push_item(
+pub fn push_item(
     edits: &mut Sequence<Edit>,
     name: &Name,
     reports: u64,
@@ -90,7 +90,7 @@ fn last_serial(items: &[BareItem]) -> Option<Serial>
 }
 
 /// Adds the edits of an item, behind that many reports of its queue, and says what the rules say of it.
-pub fn push_edits(
+pub(crate) fn push_edits(
     alloc: Global,
     edits: &mut Sequence<Edit>,
     name: &Name,

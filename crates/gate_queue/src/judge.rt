@@ -13,13 +13,14 @@ use std::alloc::Global;
 
 /// What the rules say of an item.
 #[derive(Clone, Copy, Debug)]
-pub struct Ruling {
+pub(crate) struct Ruling {
     pub blocked: bool,
     pub failing: bool,
     pub verdict: Option<Verdict>,
 }
 
-fn verdict_of(met: bool, failed: bool) -> Option<Verdict>
+/// Why an item goes, if it goes: for want of what it needs, before it goes as failed.
+pub fn verdict_of(met: bool, failed: bool) -> Option<Verdict>
     ensures { let unless_needs = (if failed then Option.Some Verdict.Failed else Option.None) in
         result ≡ (if not met then Option.Some Verdict.Needs else unless_needs) }
 {
@@ -33,7 +34,7 @@ fn verdict_of(met: bool, failed: bool) -> Option<Verdict>
 }
 
 /// Judges an item by the builds and by the items before it that stay.
-pub fn judge(
+pub(crate) fn judge(
     alloc: Global,
     context: &ItemContext,
     staying: &[BareItem],

@@ -5,16 +5,16 @@
 
 pub mod choose;
 mod context;
-mod edits;
+pub mod edits;
 pub mod facts;
 #[cfg(test)]
 mod fixtures;
-mod judge;
+pub mod judge;
 pub mod laws;
 mod line;
 #[cfg(test)]
 mod scenes;
 pub mod settle;
 mod shared;
-mod slots;
+pub mod slots;
 pub mod window;

@@ -19,7 +19,7 @@ use gate_types::sequence::Sequence;
 use std::alloc::Global;
 
 /// The window behind an item with a verdict: each failure shrinks it.
-fn window_behind(window: u32, floor: u32, verdict: Option<Verdict>) -> u32
+pub fn window_behind(window: u32, floor: u32, verdict: Option<Verdict>) -> u32
     ensures { result ≡ edits_of.window_behind floor window verdict }
 {
     match verdict {
@@ -29,7 +29,7 @@ fn window_behind(window: u32, floor: u32, verdict: Option<Verdict>) -> u32
 }
 
 /// The number of reports behind an item with a verdict.
-fn reports_behind(reports: u64, verdict: Option<Verdict>) -> u64
+pub fn reports_behind(reports: u64, verdict: Option<Verdict>) -> u64
     requires { reports + 1 < 2 ^ 64 }
     ensures value { result ≡ edits_of.next_reports reports verdict }
     ensures within { result ≤ reports + 1 }

@@ -21,7 +21,7 @@ pub fn same_name(a: &Name, b: &Name) -> bool
 }
 
 /// Whether a build counts for an item that isn't blocked.
-pub fn counts(context: &ItemContext, build: &Build) -> bool
+pub(crate) fn counts(context: &ItemContext, build: &Build) -> bool
     requires { rules.is_blocked (place_of context.now) ≡ false }
     ensures { result ≡ rules.counts (place_of context.now) build.now }
 {
@@ -74,7 +74,8 @@ fn count_lost(outcomes: &[Outcome]) -> usize
         .count()
 }
 
-fn slot_of_outcomes(outcomes: &[Outcome]) -> Slot
+/// What a job has come to by the outcomes of its builds that count.
+pub fn slot_of_outcomes(outcomes: &[Outcome]) -> Slot
     ensures { result ≡ rules.slot_of_outcomes outcomes.now }
 {
     if has_success(outcomes) {
@@ -101,13 +102,15 @@ fn slot_of(
     Ok(slot_of_outcomes(&outcomes))
 }
 
-fn is_failed(slot: Slot) -> bool
+/// Whether a job has ended in failure.
+pub fn is_failed(slot: Slot) -> bool
     ensures { result ≡ rules.is_failed_slot slot }
 {
     matches!(slot, Slot::Failure)
 }
 
-fn is_finished(slot: Slot) -> bool
+/// Whether a job has ended.
+pub fn is_finished(slot: Slot) -> bool
     ensures { result ≡ rules.is_finished slot }
 {
     matches!(slot, Slot::Success | Slot::Failure)
@@ -123,7 +126,11 @@ pub struct Marks {
 }
 
 /// What the jobs say of an item that isn't blocked.
-pub fn marks_of(alloc: Global, context: &ItemContext, builds: &[Build]) -> Result<Marks, NoMemory>
+pub(crate) fn marks_of(
+    alloc: Global,
+    context: &ItemContext,
+    builds: &[Build],
+) -> Result<Marks, NoMemory>
     requires { rules.is_blocked (place_of context.now) ≡ false }
     ensures failed { let slot = rules.slot_of builds.now (place_of context.now) in
         let jobs = context.now.jobs.now in

@@ -1,12 +1,13 @@
 //! What a walk sees of a row, and what it makes of it.
-ghost use Rattle.std.specs.Prelude.{◌≡◌, ℕ, Option, Bool, not, ◌&&◌, ◌||◌, false, if◌then◌else◌, IfOk, count_by, is_some};
+ghost use Rattle.std.specs.Prelude.{◌≡◌, ◌&&◌, ◌||◌, IfOk};
 ghost use Rattle.std.specs.List.{list_any, list_all};
-ghost use Rattle.gate_types.specs.Names.{same_name};
 ghost use Rattle.gate_types.specs.Slot as rules;
 ghost use Rattle.gate_walk.specs.Walk as walk;
 
+use gate_queue::judge::verdict_of;
+use gate_queue::slots::{Marks, is_failed, is_finished, same_name, slot_of_outcomes};
 use gate_types::config::Job;
-use gate_types::names::{Name, NoMemory};
+use gate_types::names::NoMemory;
 use gate_types::numbers::ChangeNo;
 use gate_types::records::{Build, Outcome, Slot, Verdict};
 use std::alloc::Global;
@@ -49,14 +50,14 @@ impl Model for Mark {
 }
 
 /// Whether a change has gone.
-pub fn is_gone(gone: &[ChangeNo], change: ChangeNo) -> bool
+pub(crate) fn is_gone(gone: &[ChangeNo], change: ChangeNo) -> bool
     ensures { result ≡ walk.is_gone gone.now change }
 {
     gone.iter().any(|c| *c == change)
 }
 
 /// The mark of a needed item: that of its visit, else that of its row.
-pub fn mark_of(marks: &[Mark], change: ChangeNo, standing: Option<bool>) -> Option<bool>
+pub(crate) fn mark_of(marks: &[Mark], change: ChangeNo, standing: Option<bool>) -> Option<bool>
     ensures { result ≡ walk.mark_of marks.now change standing }
 {
     for mark in marks {
@@ -68,7 +69,7 @@ pub fn mark_of(marks: &[Mark], change: ChangeNo, standing: Option<bool>) -> Opti
 }
 
 /// Whether a needed item stands in the queue and isn't failing.
-pub fn is_fine(standing: Option<bool>) -> bool
+pub(crate) fn is_fine(standing: Option<bool>) -> bool
     ensures { result ≡ walk.is_fine standing }
 {
     match standing {
@@ -95,24 +96,17 @@ fn are_met(marks: &[Mark], needs: &[SeenNeed]) -> bool
 }
 
 /// Whether some need has neither landed nor is a non-failing item.
-pub fn is_blocked_by(marks: &[Mark], needs: &[SeenNeed]) -> bool
+pub(crate) fn is_blocked_by(marks: &[Mark], needs: &[SeenNeed]) -> bool
     ensures { result ≡ walk.is_blocked_by marks.now needs.now }
 {
     !are_met(marks, needs)
 }
 
 /// Whether each need has landed or stands in the queue and hasn't gone.
-pub fn are_met_without(gone: &[ChangeNo], needs: &[SeenNeed]) -> bool
+pub(crate) fn are_met_without(gone: &[ChangeNo], needs: &[SeenNeed]) -> bool
     ensures { result ≡ walk.are_met_without gone.now needs.now }
 {
     needs.iter().all(|n| n.landed || n.standing.is_some() && !is_gone(gone, n.change))
-}
-
-/// Whether two names are the same bytes.
-pub fn same_name(a: &Name, b: &Name) -> bool
-    ensures { result ≡ same_name a.now b.now }
-{
-    a.as_str() == b.as_str()
 }
 
 /// The outcomes of a job's builds.
@@ -128,47 +122,6 @@ fn outcomes_among(alloc: Global, builds: &[Build], job: &Job) -> Result<Vec<Outc
     Ok(found)
 }
 
-fn has_success(outcomes: &[Outcome]) -> bool
-    ensures { result ≡ list_any rules.is_success outcomes.now }
-{
-    outcomes.iter().any(|o| matches!(o, Outcome::Success))
-}
-
-fn has_failure(outcomes: &[Outcome]) -> bool
-    ensures { result ≡ list_any rules.is_failure outcomes.now }
-{
-    outcomes.iter().any(|o| matches!(o, Outcome::Failure))
-}
-
-fn has_running(outcomes: &[Outcome]) -> bool
-    ensures { result ≡ list_any rules.is_running outcomes.now }
-{
-    outcomes.iter().any(|o| matches!(o, Outcome::Running))
-}
-
-fn count_lost(outcomes: &[Outcome]) -> usize
-    ensures { result ≡ count_by rules.is_lost outcomes.now }
-{
-    outcomes
-        .iter()
-        .filter(|o| matches!(o, Outcome::Lost))
-        .count()
-}
-
-fn slot_of_outcomes(outcomes: &[Outcome]) -> Slot
-    ensures { result ≡ rules.slot_of_outcomes outcomes.now }
-{
-    if has_success(outcomes) {
-        Slot::Success
-    } else if has_failure(outcomes) || count_lost(outcomes) >= 3 {
-        Slot::Failure
-    } else if has_running(outcomes) {
-        Slot::Running
-    } else {
-        Slot::Waiting
-    }
-}
-
 fn slot_among(alloc: Global, builds: &[Build], job: &Job) -> Result<Slot, NoMemory>
     ensures { IfOk result (λ slot. slot ≡ walk.slot_among builds.now job.now) }
 {
@@ -176,30 +129,11 @@ fn slot_among(alloc: Global, builds: &[Build], job: &Job) -> Result<Slot, NoMemo
     Ok(slot_of_outcomes(&outcomes))
 }
 
-fn is_failed(slot: Slot) -> bool
-    ensures { result ≡ rules.is_failed_slot slot }
-{
-    matches!(slot, Slot::Failure)
-}
-
-fn is_finished(slot: Slot) -> bool
-    ensures { result ≡ rules.is_finished slot }
-{
-    matches!(slot, Slot::Success | Slot::Failure)
-}
-
 /// What a walk makes of an item.
 #[derive(Clone, Copy, Debug)]
 pub struct Judged {
     pub failing: bool,
     pub verdict: Option<Verdict>,
-}
-
-/// What the jobs of an item say of it.
-#[derive(Clone, Copy, Debug)]
-struct Marks {
-    failed: bool,
-    finished: bool,
 }
 
 /// What the jobs say by builds that all count.
@@ -219,21 +153,8 @@ fn marks_among(alloc: Global, builds: &[Build], jobs: &[Job]) -> Result<Marks, N
     Ok(Marks { failed, finished })
 }
 
-fn verdict_of(met: bool, failed: bool) -> Option<Verdict>
-    ensures { result ≡
-        (if not met then Option.Some Verdict.Needs else (if failed then Option.Some Verdict.Failed else Option.None)) }
-{
-    if !met {
-        Some(Verdict::Needs)
-    } else if failed {
-        Some(Verdict::Failed)
-    } else {
-        None
-    }
-}
-
 /// Judges an item that a visit sees, by the builds of it that count still.
-pub fn judge(
+pub(crate) fn judge(
     alloc: Global,
     first: bool,
     gone: &[ChangeNo],

@@ -1,13 +1,14 @@
 //! The edits of one visit.
-ghost use Rattle.std.specs.Prelude.{◌≡◌, ◌<◌, ◌+◌, ◌^◌, ◌++◌, ◌||◌, ◌&&◌, is_some, map, filter, OnOk, IfOk};
+ghost use Rattle.std.specs.Prelude.{◌≡◌, ◌<◌, ◌+◌, ◌^◌, ◌++◌, ◌||◌, ◌&&◌, is_some, OnOk, IfOk};
 ghost use Rattle.gate_types.specs.Slot as rules;
 ghost use Rattle.gate_queue.specs.Edits as edits_of;
 ghost use Rattle.gate_walk.specs.Walk as walk;
 
+use gate_queue::edits::push_item;
 use gate_queue::window::shrink;
 use gate_types::edits::Edit;
 use gate_types::names::{Name, NoMemory};
-use gate_types::records::{Build, Item, Outcome, Report, Verdict};
+use gate_types::records::{Build, Item, Outcome, Verdict};
 use gate_types::sequence::Sequence;
 use std::alloc::Global;
 
@@ -31,36 +32,6 @@ fn push_stops(
             edits.push(Edit::StopBuild(build.number))?;
         }
     }
-    Ok(())
-}
-
-/// Puts the row of an item that stays, or reports one that goes behind that many reports and drops it.
-fn push_item(
-    edits: &mut Sequence<Edit>,
-    name: &Name,
-    reports: u64,
-    row: Item,
-    verdict: Option<Verdict>,
-) -> Result<(), NoMemory>
-    requires { reports + 1 < 2 ^ 64 }
-    ensures { OnOk result (edits.new ≡ edits.old ++ edits_of.item_edits name.now reports row verdict) }
-{
-    let queue = name.copy()?;
-    let Some(verdict) = verdict else {
-        edits.push(Edit::PutItem { queue, item: row })?;
-        return Ok(());
-    };
-    edits.push(Edit::PutReport {
-        queue,
-        place: reports + 1,
-        report: Report {
-            serial: row.serial,
-            change: row.change,
-            revision: row.revision,
-            verdict,
-        },
-    })?;
-    edits.push(Edit::DropItem(row.serial))?;
     Ok(())
 }
 
@@ -98,7 +69,7 @@ pub struct Beside {
 }
 
 /// The edits of a visit.
-pub fn edits_of_visit(
+pub(crate) fn edits_of_visit(
     alloc: Global,
     name: &Name,
     beside: Beside,

@@ -1,15 +1,14 @@
 //! The walk over the rows behind a touched item.
-ghost use Rattle.std.specs.Prelude.{◌≡◌, ◌<◌, ◌≤◌, ◌+◌, ◌^◌, ◌++◌, List, [], ◌∷◌, vec_len, Option, OnOk, OnErr, IfOk, not, is_some, if◌then◌else◌, option_map};
+ghost use Rattle.std.specs.Prelude.{◌≡◌, ◌≤◌, ◌+◌, ◌++◌, List, [], ◌∷◌, vec_len, Option, OnOk, OnErr, IfOk, not, is_some, if◌then◌else◌, option_map};
 ghost use Rattle.std.specs.Option.{option_map_or};
 ghost use Rattle.gate_walk.specs.Walk as rules;
 ghost use Rattle.gate_walk.specs.Rescan as law;
 ghost use Rattle.gate_walk.specs.Next as next;
-ghost use Rattle.gate_queue.specs.Edits as edits_of;
 ghost use Rattle.gate_walk.specs.TakenOut.{out_of};
 
 use crate::seen::{Mark, SeenNeed, judge};
 use crate::told::{Beside, edits_of_visit};
-use gate_queue::window::shrink;
+use gate_queue::settle::{reports_behind, window_behind};
 use gate_types::config::{Job, Queue};
 use gate_types::edits::Edit;
 use gate_types::names::{Name, NoMemory};
@@ -104,27 +103,6 @@ impl Model for Walk {
 
     // each visit adds a mark, and one report at most
     ghost invariant = { λ w. w.reports ≤ 1000000000000000 + vec_len w.marks };
-}
-
-fn window_behind(window: u32, floor: u32, verdict: Option<Verdict>) -> u32
-    ensures { result ≡ edits_of.window_behind floor window verdict }
-{
-    match verdict {
-        Some(Verdict::Failed) => shrink(window, floor),
-        _ => window,
-    }
-}
-
-fn reports_behind(reports: u64, verdict: Option<Verdict>) -> u64
-    requires { reports + 1 < 2 ^ 64 }
-    ensures value { result ≡ edits_of.next_reports reports verdict }
-    ensures within { result ≤ reports + 1 }
-{
-    if verdict.is_some() {
-        reports + 1
-    } else {
-        reports
-    }
 }
 
 fn still_counting<'a>(resets: bool, builds: &'a [Build]) -> &'a [Build]
