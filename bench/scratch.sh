@@ -1,0 +1,25 @@
+# The scratch repository of a measurement, since each crate of this one is proved by its gate. It is deleted when the
+# script that sources this file ends.
+top=$(cd "$(dirname "$0")/.." && pwd)
+work=$(mktemp -d)
+trap 'rm -rf "$work"' EXIT
+
+# scratch PROGRAM CRATE..: copies of these crates, and over them a crate `timed` with that program.
+scratch() {
+    mkdir -p "$work/crates/timed/src"
+    cp "$1" "$work/crates/timed/src/main.rt"
+    shift
+    for crate; do
+        cp -R "$top/crates/$crate" "$work/crates"
+        grep "^$crate:" "$top/crates.txt" >>"$work/crates.txt"
+    done
+    echo "timed: $*" >>"$work/crates.txt"
+}
+
+# Proves, builds and runs the program without input. What it printed stands in the file "$work/told" then.
+run_timed() {
+    (cd "$work/crates/timed" && rt run </dev/null >"$work/told" 2>&1) || {
+        cat "$work/told"
+        exit 1
+    }
+}
