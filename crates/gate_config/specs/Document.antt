@@ -76,4 +76,5 @@ project_of p = record { name = name_of p; queue = queue_named_by p; jobs = map j
 
 -- the settings that a document says, lists in its order
 abbrev pub settings_of : Data → Settings
-settings_of d = record { base = base_of d; queues = map queue_of (queues_of d); projects = map project_of (projects_of d) }
+settings_of d =
+    record { base = base_of d; queues = map queue_of (queues_of d); projects = map project_of (projects_of d) }

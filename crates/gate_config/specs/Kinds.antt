@@ -24,19 +24,22 @@ is_wrong k key d = option_map_or (λ m. not (is_of k m)) (get key d) false
 
 abbrev pub is_wrong_queue : Data → Bool
 is_wrong_queue q =
-    is_wrong kind.Text (codes "name") q || is_wrong kind.WholeNumber (codes "window") q || is_wrong kind.WholeNumber (codes "floor") q
+    is_wrong kind.Text (codes "name") q || is_wrong kind.WholeNumber (codes "window") q ||
+    is_wrong kind.WholeNumber (codes "floor") q
 
 abbrev pub is_wrong_job : Data → Bool
 is_wrong_job j = is_wrong kind.Text (codes "name") j || is_wrong kind.TruthValue (codes "voting") j
 
 abbrev pub is_wrong_project : Data → Bool
 is_wrong_project p =
-    is_wrong kind.Text (codes "name") p || is_wrong kind.Text (codes "queue") p || is_wrong kind.Tables (codes "job") p ||
+    is_wrong kind.Text (codes "name") p || is_wrong kind.Text (codes "queue") p ||
+    is_wrong kind.Tables (codes "job") p ||
     list_any is_wrong_job (jobs_of p)
 
 -- a known member of another kind, anywhere in a document
 abbrev pub has_wrong_kind : Data → Bool
 has_wrong_kind d =
-    is_wrong kind.Table (codes "forge") d || is_wrong kind.Tables (codes "queue") d || is_wrong kind.Tables (codes "project") d ||
+    is_wrong kind.Table (codes "forge") d || is_wrong kind.Tables (codes "queue") d ||
+    is_wrong kind.Tables (codes "project") d ||
     option_map_or (is_wrong kind.Text (codes "base")) (get (codes "forge") d) false ||
     list_any is_wrong_queue (queues_of d) || list_any is_wrong_project (projects_of d)

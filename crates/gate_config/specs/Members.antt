@@ -25,9 +25,11 @@ misses_member d =
 
 -- whether a section may have a member of this name
 abbrev pub knows : Section → List ℕ → Bool
-knows section.Document key = same_name key (codes "forge") || same_name key (codes "queue") || same_name key (codes "project")
+knows section.Document key =
+    same_name key (codes "forge") || same_name key (codes "queue") || same_name key (codes "project")
 knows section.Forge key = same_name key (codes "base")
-knows section.Queue key = same_name key (codes "name") || same_name key (codes "window") || same_name key (codes "floor")
+knows section.Queue key =
+    same_name key (codes "name") || same_name key (codes "window") || same_name key (codes "floor")
 knows section.Project key = same_name key (codes "name") || same_name key (codes "queue") || same_name key (codes "job")
 knows section.Job key = same_name key (codes "name") || same_name key (codes "voting")
 

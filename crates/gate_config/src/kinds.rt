@@ -101,7 +101,8 @@ fn any_is_wrong_project(projects: &[Value]) -> bool
 }
 
 fn has_wrong_base(document: &Value) -> bool
-    ensures { result ≡ option_map_or (is_wrong Kind.Text (codes "base")) (get (codes "forge") (view document.now)) false }
+    ensures { result
+        ≡ option_map_or (is_wrong Kind.Text (codes "base")) (get (codes "forge") (view document.now)) false }
 {
     match document.get("forge") {
         Some(forge) => is_wrong(Kind::Text, "base", forge),

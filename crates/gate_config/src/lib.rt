@@ -39,7 +39,8 @@ pub fn read(alloc: Global, bytes: &[u8]) -> Result<Config, ConfigFault>
 /// The document, a table.
 fn parse(alloc: Global, bytes: &[u8]) -> Result<Value, ConfigFault>
     ensures ok { IfOk result (λ v. document bytes.now ≡ Some (view v)) }
-    ensures err { IfErr result (λ e. (e ≡ ConfigFault.NoMemory) ⊎ ((e ≡ ConfigFault.NotToml) × (document bytes.now ≡ None))) }
+    ensures err { IfErr result (λ e. (e ≡ ConfigFault.NoMemory)
+        ⊎ ((e ≡ ConfigFault.NotToml) × (document bytes.now ≡ None))) }
 {
     match toml::table_from_slice(alloc, bytes) {
         Ok(table) => Ok(Value::Table(table)),

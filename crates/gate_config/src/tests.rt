@@ -81,8 +81,9 @@ fn reads_what_a_file_says(rt: HostRuntime) -> Result<(), Fail> {
     let Ok(config) = read(alloc, SETTINGS.as_bytes()) else {
         return Err(Fail::from("refused"));
     };
-    let expected =
-        "base https://forge/c/\nqueue core 2 1\nqueue web 2 1\nproject lib core\njob unit true\njob docs false\nproject app core\njob unit true\nproject site web\njob unit true\n";
+    let expected = "base https://forge/c/\nqueue core 2 1\nqueue web 2 1\n\
+         project lib core\njob unit true\njob docs false\n\
+         project app core\njob unit true\nproject site web\njob unit true\n";
     assert_eq!(rt; outline(alloc, &config)?.as_str(), expected);
     Ok(())
 }
@@ -378,7 +379,9 @@ fn a_refused_allocation_is_told_by_the_text(rt: HostRuntime) {
         match text {
             Ok(text) => assert_eq!(rt;
                 text.as_str(),
-                r#"{"base":"b","projects":[{"jobs":[{"name":"j","voting":true}],"name":"p","queue":"q"}],"queues":[{"floor":3,"name":"q","window":20}]}"#
+                "{\"base\":\"b\",\
+                 \"projects\":[{\"jobs\":[{\"name\":\"j\",\"voting\":true}],\"name\":\"p\",\"queue\":\"q\"}],\
+                 \"queues\":[{\"floor\":3,\"name\":\"q\",\"window\":20}]}"
             ),
             Err(_) => refused = refused.saturating_add(1),
         }

@@ -49,7 +49,8 @@ fn ahead_text(alloc: Global, ahead: &[Entry]) -> Result<String, NoMemory>
 
 /// The first members of the reply that gives a build.
 fn build_front(alloc: Global, after: u64, ahead: &str, build: u64) -> Result<String, NoMemory>
-    ensures { IfOk result (λ s. string_bytes s ≡ codes "{\"after\":" ++ (decimal after ++ (codes ",\"ahead\":" ++ (ahead.now ++ (codes ",\"build\":" ++ decimal build))))) }
+    ensures { IfOk result (λ s. string_bytes s ≡ codes "{\"after\":"
+        ++ (decimal after ++ (codes ",\"ahead\":" ++ (ahead.now ++ (codes ",\"build\":" ++ decimal build))))) }
 {
     format!(in alloc; "{{\"after\":{after},\"ahead\":{ahead},\"build\":{build}")
 }
@@ -64,7 +65,8 @@ fn build_text(alloc: Global, build: &Build) -> Result<String, NoMemory>
     let queue = build.queue.as_str();
     let revision = build.revision.get();
     let text = format!(in alloc;
-        "{front},\"change\":{change},\"job\":\"{job}\",\"queue\":\"{queue}\",\"reply\":\"build\",\"revision\":{revision}}}"
+        "{front},\"change\":{change},\"job\":\"{job}\",\"queue\":\"{queue}\",\
+         \"reply\":\"build\",\"revision\":{revision}}}"
     )?;
     Ok(text)
 }

@@ -67,7 +67,9 @@ fn a_cycle_goes_and_leaves_the_window(rt: HostRuntime) -> Result<(), Unmade> {
         PLAIN,
         &rows,
         &[],
-        "report core 1 1 201,1 needs\ndrop 1\nreport core 2 2 202,1 needs\ndrop 2\nreport core 3 3 203,1 needs\ndrop 3\n",
+        "report core 1 1 201,1 needs\ndrop 1\n\
+         report core 2 2 202,1 needs\ndrop 2\n\
+         report core 3 3 203,1 needs\ndrop 3\n",
     )
 }
 
@@ -153,7 +155,9 @@ fn each_failure_shrinks_the_window(rt: HostRuntime) -> Result<(), Unmade> {
         &rt,
         rt.alloc(),
         scene,
-        "report core 8 4 104,1 failed\ndrop 4\nreport core 9 5 105,1 failed\ndrop 5\nput core 6 106,1 0 ok\nwindow core 2\n",
+        "report core 8 4 104,1 failed\ndrop 4\n\
+         report core 9 5 105,1 failed\ndrop 5\n\
+         put core 6 106,1 0 ok\nwindow core 2\n",
     )
 }
 

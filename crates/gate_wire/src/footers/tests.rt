@@ -89,11 +89,14 @@ fn any_other_line_is_ignored(rt: HostRuntime) -> Result<(), Fail> {
 fn a_double_need_is_kept_at_its_first_place(rt: HostRuntime) -> Result<(), Fail> {
     let rows = [
         (
-            "Depends-On: https://forge/c/101\r\ndepends-on:https://forge/c/0102\nDEPENDS-ON:\thttps://forge/c/101 \n Depends-On: https://forge/c/5\nDepends-On: https://forge/c/7",
+            "Depends-On: https://forge/c/101\r\n\
+             depends-on:https://forge/c/0102\nDEPENDS-ON:\thttps://forge/c/101 \n \
+             Depends-On: https://forge/c/5\nDepends-On: https://forge/c/7",
             "101 7 ",
         ),
         (
-            "Depends-On: https://forge/c/2\nDepends-On: https://forge/c/1\nDepends-On: https://forge/c/2\nDepends-On: https://forge/c/1",
+            "Depends-On: https://forge/c/2\nDepends-On: https://forge/c/1\n\
+             Depends-On: https://forge/c/2\nDepends-On: https://forge/c/1",
             "2 1 ",
         ),
     ];
@@ -141,8 +144,9 @@ fn thirty_two_needs_are_the_most(rt: HostRuntime) -> Result<(), Fail> {
     Ok(())
 }
 
-const FIVE: &str =
-    "Depends-On: https://forge/c/1\nDepends-On: https://forge/c/2\nDepends-On: https://forge/c/3\nDepends-On: https://forge/c/4\nDepends-On: https://forge/c/5\n";
+const FIVE: &str = "Depends-On: https://forge/c/1\nDepends-On: https://forge/c/2\n\
+                    Depends-On: https://forge/c/3\nDepends-On: https://forge/c/4\n\
+                    Depends-On: https://forge/c/5\n";
 
 /// Passes whichever one allocation is refused: the answer is `unavailable` then, or the same.
 #[test]

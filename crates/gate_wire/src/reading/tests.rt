@@ -299,7 +299,8 @@ fn unknown_members_and_escapes_play_no_part(rt: HostRuntime) -> Result<(), Fail>
         ),
         (
             r#""kind":"revision","change":1,"project":"a","revision":1,"message":"\ud83d\ude00\u00e9\/\u0001\u007f""#,
-            "{\"change\":1,\"kind\":\"revision\",\"message\":\"\u{1f600}é/\\u0001\u{7f}\",\"project\":\"a\",\"revision\":1}",
+            "{\"change\":1,\"kind\":\"revision\",\"message\":\"\u{1f600}é/\\u0001\u{7f}\",\
+             \"project\":\"a\",\"revision\":1}",
         ),
         (r#""kind":"landed","order":1,"x":"\ud800""#, "E1"),
         (r#""kind":"landed","order":1,"x":"\u12""#, "E1"),
