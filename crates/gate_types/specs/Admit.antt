@@ -12,7 +12,8 @@ use Rattle.gate_types.specs.Standing.{needs_of}
 -- a ready change may enter if its queue has room, and each of its needs has landed or is an item of that queue
 abbrev pub may_enter : Settings → State → Ready → Bool
 may_enter c s r =
-    list_any (λ q. same_name q.name (project_of c s r.change).queue && nat_lt (length q.items) 1000 && are_met_by q.items (needs_of s r.change)) s.queues
+    list_any (λ q. same_name q.name (project_of c s r.change).queue && nat_lt (length q.items) 1000 &&
+    are_met_by q.items (needs_of s r.change)) s.queues
 
 -- a change as an item under the next serial
 abbrev pub next_item : State → ℕ → Item
@@ -32,7 +33,8 @@ draw_order s = record s { counters = record s.counters { order = s.counters.orde
 
 -- a ready change appended to its queue
 abbrev pub entered : Settings → State → Ready → State
-entered c s r = draw_order (without_ready r.change (change_queue (project_of c s r.change).queue (with_item (next_item s r.change)) s))
+entered c s r = draw_order
+    (without_ready r.change (change_queue (project_of c s r.change).queue (with_item (next_item s r.change)) s))
 
 -- the first ready change that may enter enters
 abbrev pub admit_one : Settings → State → State

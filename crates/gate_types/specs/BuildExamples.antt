@@ -7,7 +7,8 @@ use Rattle.gate_types.specs.Script.{settings, lib, app, opened, approved, withdr
 
 -- 101, 102 and 103 in the queue
 abbrev pub three : State
-three = begun settings (opened 101 lib ∷ opened 102 app ∷ opened 103 lib ∷ approved 101 ∷ approved 102 ∷ approved 103 ∷ [])
+three = begun settings
+    (opened 101 lib ∷ opened 102 app ∷ opened 103 lib ∷ approved 101 ∷ approved 102 ∷ approved 103 ∷ [])
 
 -- 101 and 102 in the queue
 abbrev pub two : State
@@ -15,7 +16,8 @@ two = begun settings (opened 101 lib ∷ opened 102 app ∷ approved 101 ∷ app
 
 -- behind a window of 2, builds are given for the jobs of two items, front to back; the third item waits
 abbrev pub BuildsAreGivenFrontToBack : Type 0
-BuildsAreGivenFrontToBack = said settings three (take ∷ take ∷ take ∷ take ∷ []) ≡ build_1 ∷ build_2 ∷ build_3 ∷ idle ∷ []
+BuildsAreGivenFrontToBack =
+    said settings three (take ∷ take ∷ take ∷ take ∷ []) ≡ build_1 ∷ build_2 ∷ build_3 ∷ idle ∷ []
 
 -- the first item fails while the second is tested behind it; the old build's result comes late
 abbrev first_fails : List Delivery

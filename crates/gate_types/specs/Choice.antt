@@ -28,7 +28,8 @@ build_for number q p job = record {
 -- a build for each waiting job of an item that isn't blocked
 abbrev pub builds_for : State → Queue → Place → List Build
 builds_for s q p =
-    if is_blocked p then [] else map (build_for (s.counters.build + 1) q p) (filter (λ j. is_waiting_slot (slot_of s.builds p j)) p.jobs)
+    if is_blocked p then []
+    else map (build_for (s.counters.build + 1) q p) (filter (λ j. is_waiting_slot (slot_of s.builds p j)) p.jobs)
 
 -- the builds that might start in a queue
 abbrev pub choices : Settings → State → Queue → List Build

@@ -8,11 +8,13 @@ use Rattle.gate_types.specs.Script.{settings, core_alone, lib, app, opened, appr
 
 -- 101 approved twice under one id, then 102
 abbrev repeated : List Call
-repeated = under 1 (opened 101 lib) ∷ under 2 (opened 102 app) ∷ under 3 (approved 101) ∷ under 3 (approved 101) ∷ under 4 (approved 102) ∷ []
+repeated = under 1 (opened 101 lib) ∷ under 2 (opened 102 app) ∷ under 3 (approved 101) ∷ under 3 (approved 101) ∷
+    under 4 (approved 102) ∷ []
 
 -- a repeat gets the kept reply, and makes no new item
 pub record ARepeatGetsTheKeptReply : Type 0 where
-  pub replies : texts settings (empty settings) repeated ≡ recorded ∷ recorded ∷ queued (codes "1") ∷ queued (codes "1") ∷ queued (codes "2") ∷ []
+  pub replies : texts settings (empty settings) repeated
+      ≡ recorded ∷ recorded ∷ queued (codes "1") ∷ queued (codes "1") ∷ queued (codes "2") ∷ []
   pub status : status_text settings (once settings (empty settings) repeated).state ≡ lines (
       codes "queue core window 2 landed 0" ∷
       codes "     1       101    1      - ok      unit=waiting docs=waiting" ∷
@@ -23,25 +25,31 @@ pub record ARepeatGetsTheKeptReply : Type 0 where
 -- a spent id serves no other delivery, whatever that would be answered, and goes on serving its own
 abbrev pub ASpentIdServesNothingElse : Type 0
 ASpentIdServesNothingElse = texts settings (once settings (empty settings) repeated)
-    (under 3 (delivery.Approved 101 2) ∷ under 3 (approved 999) ∷ under 3 (approved 101) ∷ []) ≡ id_reused ∷ id_reused ∷ queued (codes "1") ∷ []
+    (under 3 (delivery.Approved 101 2) ∷ under 3 (approved 999) ∷ under 3 (approved 101) ∷ [])
+    ≡ id_reused ∷ id_reused ∷ queued (codes "1") ∷ []
 
 -- a refused delivery may come again under its id
 abbrev pub ARefusalSpendsNoId : Type 0
-ARefusalSpendsNoId = texts settings (empty settings) (under 1 (approved 101) ∷ under 2 (opened 101 lib) ∷ under 1 (approved 101) ∷ [])
+ARefusalSpendsNoId =
+    texts settings (empty settings) (under 1 (approved 101) ∷ under 2 (opened 101 lib) ∷ under 1 (approved 101) ∷ [])
     ≡ unknown_change ∷ recorded ∷ queued (codes "1") ∷ []
 
 -- a call that was answered `unavailable` changed nothing
 abbrev pub AnUnavailableCallMayComeAgain : Type 0
-AnUnavailableCallMayComeAgain = texts settings (empty settings) (record (under 1 (opened 101 lib)) { unavailable = true } ∷ under 1 (opened 101 lib) ∷ [])
+AnUnavailableCallMayComeAgain = texts settings (empty settings)
+    (record (under 1 (opened 101 lib)) { unavailable = true } ∷ under 1 (opened 101 lib) ∷ [])
     ≡ unavailable ∷ recorded ∷ []
 
 -- 101 and 102 in the queue, then a second revision of 101
 abbrev revised : State
-revised = after core_alone (start core_alone) (opened 101 lib ∷ opened 102 app ∷ approved 101 ∷ approved 102 ∷ delivery.Revision 101 lib 2 [] ∷ approved 101 ∷ [])
+revised = after core_alone (start core_alone)
+    (opened 101 lib ∷ opened 102 app ∷ approved 101 ∷ approved 102 ∷ delivery.Revision 101 lib 2 [] ∷ approved 101 ∷ [])
 
 -- a revision takes the item of the earlier one out of its queue, and wants an approval of its own
 pub record ARevisionSupersedes : Type 0 where
-  pub replies : said core_alone (start core_alone) (opened 101 lib ∷ opened 102 app ∷ approved 101 ∷ approved 102 ∷ delivery.Revision 101 lib 2 [] ∷ approved 101 ∷ [])
+  pub replies : said core_alone (start core_alone)
+      (opened 101 lib ∷ opened 102 app ∷ approved 101 ∷ approved 102 ∷
+      delivery.Revision 101 lib 2 [] ∷ approved 101 ∷ [])
       ≡ recorded ∷ recorded ∷ queued (codes "1") ∷ queued (codes "2") ∷ recorded ∷ stale ∷ []
   pub status : status_text core_alone revised ≡ lines (
       codes "queue core window 2 landed 0" ∷

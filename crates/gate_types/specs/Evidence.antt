@@ -25,7 +25,9 @@ is_one_on landings on _ = false
 -- each voting job of a landing's project has passed just once, on the first n landings
 abbrev pub is_shown : Settings → State → Queue → ℕ → Landing → Bool
 is_shown c s q n l =
-    list_all (λ j. not j.voting || is_one_on q.landings (map landed_entry (take n q.landings)) (passed_builds s.builds l.serial j)) (project_of c s l.change).jobs
+    list_all (λ j. not j.voting ||
+    is_one_on q.landings (map landed_entry (take n q.landings)) (passed_builds s.builds l.serial j))
+    (project_of c s l.change).jobs
 
 -- the landing at a place, from 0, is shown: its builds ran on the landings before it, then itself
 abbrev pub IsShown : Settings → State → Queue → ℕ → Type 0

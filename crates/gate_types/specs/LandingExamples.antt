@@ -14,7 +14,8 @@ second_passed = after settings three (take ∷ take ∷ take ∷ failed 1 ∷ ta
 
 -- an item behind a failing one may land before it; the failing one leaves once its last job has ended
 pub record AnItemLandsBeforeAFailingOne : Type 0 where
-  pub orders : order_list_text settings second_passed ≡ codes "[{\"change\":102,\"order\":2,\"project\":\"app\",\"queue\":\"core\",\"revision\":1}]"
+  pub orders : order_list_text settings second_passed
+      ≡ codes "[{\"change\":102,\"order\":2,\"project\":\"app\",\"queue\":\"core\",\"revision\":1}]"
   pub replies : said settings second_passed (delivery.Landed 2 ∷ passed 2 ∷ []) ≡ landed_as (codes "1") ∷ noted ∷ []
   pub landed : status_text settings (after settings second_passed (delivery.Landed 2 ∷ [])) ≡ lines (
       codes "queue core window 3 landed 1" ∷
@@ -46,7 +47,8 @@ pub record AJobThatDoesntVoteDecidesNothing : Type 0 where
   pub waits_for_the_vote : order_list_text settings (after settings running (failed 2 ∷ [])) ≡ codes "[]"
   pub waits_for_the_other : order_list_text settings (after settings running (passed 1 ∷ [])) ≡ codes "[]"
   pub orders : order_list_text settings (after settings running (failed 2 ∷ passed 1 ∷ [])) ≡ order_of_101
-  pub replies : said settings running (failed 2 ∷ passed 1 ∷ delivery.Landed 1 ∷ delivery.Landed 1 ∷ []) ≡ noted ∷ noted ∷ landed_as (codes "1") ∷ no_order ∷ []
+  pub replies : said settings running (failed 2 ∷ passed 1 ∷ delivery.Landed 1 ∷ delivery.Landed 1 ∷ [])
+      ≡ noted ∷ noted ∷ landed_as (codes "1") ∷ no_order ∷ []
 
 -- 101 lands while 102 behind it is tested; then 102
 abbrev both_land : List Delivery
@@ -54,8 +56,10 @@ both_land = take ∷ take ∷ take ∷ passed 1 ∷ passed 2 ∷ delivery.Landed
 
 -- a landing keeps the builds behind it
 pub record ALandingKeepsTheBuildsBehindIt : Type 0 where
-  pub replies : said settings two both_land ≡ build_1 ∷ build_2 ∷ build_3 ∷ noted ∷ noted ∷ landed_as (codes "1") ∷ noted ∷ landed_as (codes "2") ∷ []
-  pub orders : order_list_text settings (after settings two (take ∷ take ∷ take ∷ passed 1 ∷ passed 2 ∷ delivery.Landed 1 ∷ passed 3 ∷ []))
+  pub replies : said settings two both_land
+      ≡ build_1 ∷ build_2 ∷ build_3 ∷ noted ∷ noted ∷ landed_as (codes "1") ∷ noted ∷ landed_as (codes "2") ∷ []
+  pub orders : order_list_text settings
+      (after settings two (take ∷ take ∷ take ∷ passed 1 ∷ passed 2 ∷ delivery.Landed 1 ∷ passed 3 ∷ []))
       ≡ codes "[{\"change\":102,\"order\":2,\"project\":\"app\",\"queue\":\"core\",\"revision\":1}]"
   pub status : status_text settings (after settings two both_land) ≡ lines (
       codes "queue core window 4 landed 2" ∷
@@ -66,11 +70,13 @@ pub record ALandingKeepsTheBuildsBehindIt : Type 0 where
 abbrev shown : State
 shown = after settings running (passed 1 ∷ passed 2 ∷ [])
 
--- a change whose order is shown can't be withdrawn or revised until the forge has answered; the refused ids serve again then
+-- a change whose order is shown can't be withdrawn or revised until the forge has answered; the refused ids serve
+-- again then
 pub record AShownOrderIsLeftAlone : Type 0 where
   pub orders : order_list_text settings shown ≡ order_of_101
   pub replies : texts settings (at shown)
-      (under 1 (withdrawn 101) ∷ under 2 (delivery.Revision 101 lib 2 []) ∷ under 3 (delivery.Refused 1) ∷ under 2 (delivery.Revision 101 lib 2 []) ∷ under 1 (withdrawn 101) ∷ [])
+      (under 1 (withdrawn 101) ∷ under 2 (delivery.Revision 101 lib 2 []) ∷ under 3 (delivery.Refused 1) ∷
+      under 2 (delivery.Revision 101 lib 2 []) ∷ under 1 (withdrawn 101) ∷ [])
       ≡ submitting ∷ submitting ∷ removed ∷ recorded ∷ stale ∷ []
   pub status : status_text settings (after settings shown (delivery.Refused 1 ∷ [])) ≡ lines (
       codes "queue core window 1 landed 0" ∷
@@ -106,5 +112,6 @@ pub record TheWindowGrowsBeforeItShrinks : Type 0 where
 
 -- each queue shows its own order
 abbrev pub EachQueueShowsItsOrder : Type 0
-EachQueueShowsItsOrder = order_list_text settings (begun settings (opened 301 site ∷ opened 102 app ∷ approved 301 ∷ approved 102 ∷ take ∷ take ∷ passed 1 ∷ passed 2 ∷ []))
+EachQueueShowsItsOrder = order_list_text settings (begun settings
+    (opened 301 site ∷ opened 102 app ∷ approved 301 ∷ approved 102 ∷ take ∷ take ∷ passed 1 ∷ passed 2 ∷ []))
     ≡ codes "[{\"change\":102,\"order\":2,\"project\":\"app\",\"queue\":\"core\",\"revision\":1},{\"change\":301,\"order\":1,\"project\":\"site\",\"queue\":\"web\",\"revision\":1}]"

@@ -17,7 +17,8 @@ with_drawn drawn s = record s { counters = drawn }
 
 -- 101 recorded, and this many orders drawn
 abbrev ordered : ℕ → State
-ordered n = with_drawn (record { approval = 0; build = 0; order = n }) (begun settings (opened 101 lib ∷ opened_needing (codes "101") 102 app ∷ []))
+ordered n = with_drawn (record { approval = 0; build = 0; order = n })
+    (begun settings (opened 101 lib ∷ opened_needing (codes "101") 102 app ∷ []))
 
 -- orders end at 10^15: what would draw one more is refused and changes nothing
 pub record OrdersRunOut : Type 0 where
@@ -31,7 +32,8 @@ pub record OrdersRunOut : Type 0 where
 -- 301 waits for 101, whose order is shown; this many orders are drawn
 abbrev awaited : ℕ → State
 awaited n = with_drawn (record { approval = 2; build = 2; order = n }) (begun settings (
-    opened 101 lib ∷ opened_needing (codes "101") 301 site ∷ approved 301 ∷ approved 101 ∷ take ∷ take ∷ passed 1 ∷ passed 2 ∷ []))
+    opened 101 lib ∷ opened_needing (codes "101") 301 site ∷ approved 301 ∷ approved 101 ∷
+    take ∷ take ∷ passed 1 ∷ passed 2 ∷ []))
 
 -- a landing that would admit a waiting change past the last order is refused too
 pub record ALandingThatAdmitsRunsOut : Type 0 where
@@ -40,14 +42,17 @@ pub record ALandingThatAdmitsRunsOut : Type 0 where
 
 -- 102 in the queue, and this many builds drawn
 abbrev built : ℕ → State
-built n = with_drawn (record { approval = 1; build = n; order = 1 }) (begun settings (opened 102 app ∷ approved 102 ∷ []))
+built n =
+    with_drawn (record { approval = 1; build = n; order = 1 }) (begun settings (opened 102 app ∷ approved 102 ∷ []))
 
 -- builds end at 10^15, and approvals too; with nothing to build a take is idle even then
 pub record BuildsAndApprovalsRunOut : Type 0 where
   pub last_one : said settings (built 999999999999999) (take ∷ take ∷ [])
       ≡ codes "{\"after\":0,\"ahead\":[],\"build\":1000000000000000,\"change\":102,\"job\":\"unit\",\"queue\":\"core\",\"reply\":\"build\",\"revision\":1}" ∷ idle ∷ []
   pub refused : said settings (built last) (take ∷ []) ≡ exhausted ∷ []
-  pub approvals : said settings (with_drawn (record { approval = last; build = 0; order = 0 }) (begun settings (opened 101 lib ∷ []))) (approved 101 ∷ []) ≡ exhausted ∷ []
+  pub approvals : said settings
+      (with_drawn (record { approval = last; build = 0; order = 0 }) (begun settings (opened 101 lib ∷ [])))
+      (approved 101 ∷ []) ≡ exhausted ∷ []
 
 -- the window at its ends
 pub record TheWindowAtItsEnds : Type 0 where
@@ -56,13 +61,16 @@ pub record TheWindowAtItsEnds : Type 0 where
 
 -- 101, 102 and 103 under a window of 0
 abbrev unbounded : State
-unbounded = begun (with_window 0) (opened 101 lib ∷ opened 102 app ∷ opened 103 lib ∷ approved 101 ∷ approved 102 ∷ approved 103 ∷ take ∷ take ∷ take ∷ [])
+unbounded = begun (with_window 0)
+    (opened 101 lib ∷ opened 102 app ∷ opened 103 lib ∷ approved 101 ∷ approved 102 ∷ approved 103 ∷
+    take ∷ take ∷ take ∷ [])
 
 -- a window of 0 sets no bound, and stays 0
 pub record AWindowOf0SetsNoBound : Type 0 where
   pub third_item : said (with_window 0) unbounded (take ∷ [])
       ≡ codes "{\"after\":0,\"ahead\":[[101,1],[102,1]],\"build\":4,\"change\":103,\"job\":\"unit\",\"queue\":\"core\",\"reply\":\"build\",\"revision\":1}" ∷ []
-  pub failed : status_text (with_window 0) (begun (with_window 0) (opened 102 app ∷ approved 102 ∷ take ∷ failed 1 ∷ [])) ≡ lines (
+  pub failed : status_text (with_window 0)
+      (begun (with_window 0) (opened 102 app ∷ approved 102 ∷ take ∷ failed 1 ∷ [])) ≡ lines (
       codes "queue core window 0 landed 0" ∷
       codes "queue web window 2 landed 0" ∷
       codes "end" ∷ [])

@@ -22,7 +22,8 @@ is_path_byte b = is_name_byte b || b == 47
 -- 1 to 64 such bytes, the first of them a letter or digit
 abbrev pub is_short_text : (ℕ → Bool) → List ℕ → Bool
 is_short_text is_byte text =
-    nat_le 1 (length text) && nat_le (length text) 64 && is_letter_or_digit (slice_index text 0) && list_all is_byte text
+    nat_le 1 (length text) && nat_le (length text) 64 && is_letter_or_digit (slice_index text 0) &&
+    list_all is_byte text
 
 -- the name of a queue or a job
 abbrev pub is_name : List ℕ → Bool

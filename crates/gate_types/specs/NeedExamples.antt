@@ -41,11 +41,13 @@ pub record ACycleWaits : Type 0 where
 
 -- 301 of the queue `web` needs 101 of the queue `core`, which has passed
 abbrev need_elsewhere : List Delivery
-need_elsewhere = opened 101 lib ∷ opened_needing (codes "101") 301 site ∷ approved 301 ∷ approved 101 ∷ take ∷ take ∷ passed 1 ∷ passed 2 ∷ []
+need_elsewhere = opened 101 lib ∷ opened_needing (codes "101") 301 site ∷ approved 301 ∷ approved 101 ∷
+    take ∷ take ∷ passed 1 ∷ passed 2 ∷ []
 
 -- a need in another queue must land first
 pub record ANeedInAnotherQueueLandsFirst : Type 0 where
-  pub replies : said settings (start settings) need_elsewhere ≡ recorded ∷ recorded ∷ waiting ∷ queued (codes "1") ∷ build_1 ∷ build_2 ∷ noted ∷ noted ∷ []
+  pub replies : said settings (start settings) need_elsewhere
+      ≡ recorded ∷ recorded ∷ waiting ∷ queued (codes "1") ∷ build_1 ∷ build_2 ∷ noted ∷ noted ∷ []
   pub before : status_text settings (begun settings need_elsewhere) ≡ lines (
       codes "queue core window 2 landed 0" ∷
       codes "     1       101    1      - ok      unit=success docs=success" ∷
@@ -61,7 +63,9 @@ pub record ANeedInAnotherQueueLandsFirst : Type 0 where
 
 -- 102 needs 101, which has failed while its `docs` still run
 abbrev need_failed : State
-need_failed = begun (with_window 4) (opened 101 lib ∷ opened_needing (codes "101") 102 app ∷ approved 101 ∷ approved 102 ∷ take ∷ take ∷ take ∷ failed 1 ∷ [])
+need_failed = begun (with_window 4)
+    (opened 101 lib ∷ opened_needing (codes "101") 102 app ∷ approved 101 ∷ approved 102 ∷
+    take ∷ take ∷ take ∷ failed 1 ∷ [])
 
 -- an item whose need fails is blocked, and goes together with it; the window shrinks once
 pub record AnItemGoesWithItsNeed : Type 0 where
@@ -93,7 +97,8 @@ chain =
 
 -- each admission looks at the waiting changes anew, from the first one on
 pub record AdmissionStartsAnew : Type 0 where
-  pub replies : said settings (start settings) chain ≡ recorded ∷ recorded ∷ recorded ∷ waiting ∷ waiting ∷ queued (codes "1") ∷ []
+  pub replies : said settings (start settings) chain
+      ≡ recorded ∷ recorded ∷ recorded ∷ waiting ∷ waiting ∷ queued (codes "1") ∷ []
   pub status : status_text settings (begun settings chain) ≡ lines (
       codes "queue core window 2 landed 0" ∷
       codes "     1       101    1      - ok      unit=waiting docs=waiting" ∷
@@ -140,4 +145,6 @@ footers n = flat_map (λ k. depends_on (decimal k) ++ 10 ∷ []) (range_with_len
 -- 32 different needs are taken, a double more too, but not 33
 abbrev pub AtMost32NeedsAreTaken : Type 0
 AtMost32NeedsAreTaken =
-    said settings (start settings) (opened_with (footers 33) 101 lib ∷ opened_with (footers 32 ++ depends_on (codes "7")) 101 lib ∷ []) ≡ too_many_needs ∷ recorded ∷ []
+    said settings (start settings)
+    (opened_with (footers 33) 101 lib ∷ opened_with (footers 32 ++ depends_on (codes "7")) 101 lib ∷ [])
+    ≡ too_many_needs ∷ recorded ∷ []

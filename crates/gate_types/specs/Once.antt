@@ -48,7 +48,10 @@ kept_for id kept = find (λ k. pointwise nat_eq k.id.0 id.0) kept
 -- the content after an accepted delivery; a refused one changes nothing
 abbrev pub content_after : Content → Call → Stepped → Content
 content_after x k (accepted r t) =
-    record { state = t; kept = x.kept ++ record { id = k.id; said = canonical_text k.delivery; reply = reply_text r } ∷ [] }
+    record {
+      state = t;
+      kept = x.kept ++ record { id = k.id; said = canonical_text k.delivery; reply = reply_text r } ∷ [];
+    }
 content_after x k (refused r) = x
 
 -- a call may act if it has no mark and no earlier acting call has its id
@@ -99,7 +102,8 @@ kept_answer text k = if same_name k.said text then answer.Said k.reply else answ
 abbrev pub answer_of : Settings → Content → Call → Answer
 answer_of c x k =
     if k.unavailable then answer.Refused refusal.Unavailable else
-    option_map_or (kept_answer (canonical_text k.delivery)) (kept_for k.id x.kept) (answer_of_step (step c x.state k.delivery))
+    option_map_or (kept_answer (canonical_text k.delivery)) (kept_for k.id x.kept)
+    (answer_of_step (step c x.state k.delivery))
 
 -- the answers to calls
 abbrev pub answers : Settings → Content → List Call → List Answer

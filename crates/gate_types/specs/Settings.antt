@@ -33,6 +33,7 @@ are_sound_jobs jobs = nat_le (length jobs) 32 && are_distinct (map (λ j. j.name
 -- 1 to 32 queues and 1 to 256 projects, of different names, each project in a queue that is there
 abbrev pub are_sound : Settings → Bool
 are_sound s =
-    nat_le 1 (length s.queues) && nat_le (length s.queues) 32 && nat_le 1 (length s.projects) && nat_le (length s.projects) 256 &&
+    nat_le 1 (length s.queues) && nat_le (length s.queues) 32 && nat_le 1 (length s.projects) &&
+    nat_le (length s.projects) 256 &&
     are_distinct (map (λ q. q.name) s.queues) && are_distinct (map (λ p. p.name) s.projects) &&
     list_all is_sound_window s.queues && list_all (λ p. has_queue s.queues p.queue && are_sound_jobs p.jobs) s.projects

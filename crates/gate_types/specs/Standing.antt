@@ -41,7 +41,13 @@ needs_of s n = map (λ m. record { change = m; landed = is_landed (change_of s m
 -- the place of an item, before what is ahead is known
 abbrev pub place_of : Settings → State → Queue → Item → Place
 place_of c s q i =
-    record { landings = q.landings; ahead = []; item = i; needs = needs_of s i.change; jobs = (project_of c s i.change).jobs }
+    record {
+      landings = q.landings;
+      ahead = [];
+      item = i;
+      needs = needs_of s i.change;
+      jobs = (project_of c s i.change).jobs;
+    }
 
 -- the places of a queue, front to back
 abbrev pub places : Settings → State → Queue → List Place

@@ -69,7 +69,8 @@ known_change s n = find (λ k. k.number == n) s.changes
 
 -- the same, and a closed change of no project where nothing is known
 abbrev pub change_of : State → ℕ → Change
-change_of s n = unwrap_or (known_change s n) (record { number = n; project = []; revision = 0; stage = stage.Closed; needs = [] })
+change_of s n =
+    unwrap_or (known_change s n) (record { number = n; project = []; revision = 0; stage = stage.Closed; needs = [] })
 
 -- whether a change is open
 abbrev pub is_open : Change → Bool
@@ -82,7 +83,8 @@ is_landed k = elim k.stage [ stage.Landed ↦ true | stage.Open ↦ false | stag
 -- the project of a change, and one without jobs where there is none
 abbrev pub project_of : Settings → State → ℕ → Project
 project_of c s n =
-    unwrap_or (find (λ p. same_name p.name (change_of s n).project) c.projects) (record { name = []; queue = []; jobs = [] })
+    unwrap_or (find (λ p. same_name p.name (change_of s n).project) c.projects)
+    (record { name = []; queue = []; jobs = [] })
 
 -- whether a change is that of one of some items
 abbrev pub has_change : List Item → ℕ → Bool

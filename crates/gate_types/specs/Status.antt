@@ -21,7 +21,8 @@ slot_word slot.Failure = codes "failure"
 
 -- how an item stands
 abbrev pub standing_word : List Build → Place → List ℕ
-standing_word builds p = if is_blocked p then codes "blocked" else (if is_failing builds p then codes "failing" else codes "ok")
+standing_word builds p =
+    if is_blocked p then codes "blocked" else (if is_failing builds p then codes "failing" else codes "ok")
 
 -- as `unit=success`
 abbrev pub job_column : List Build → Place → Job → List ℕ
@@ -35,7 +36,8 @@ item_row builds p = row (
 
 -- the line of a queue
 abbrev pub queue_row : Queue → List ℕ
-queue_row q = row (codes "queue" ∷ q.name ∷ codes "window" ∷ decimal q.window ∷ codes "landed" ∷ decimal (length q.landings) ∷ [])
+queue_row q =
+    row (codes "queue" ∷ q.name ∷ codes "window" ∷ decimal q.window ∷ codes "landed" ∷ decimal (length q.landings) ∷ [])
 
 -- a queue and its items
 abbrev pub queue_rows : Settings → State → Queue → List ℕ

@@ -46,7 +46,8 @@ left_queue v n q = record q {
 abbrev pub leave : Verdict → ℕ → State → State
 leave v n s = record s {
   queues = map (left_queue v n) s.queues;
-  builds = without_runs (λ serial. list_any (λ q. list_any (λ i. i.change == n && i.serial == serial) q.items) s.queues) s.builds;
+  builds = without_runs (λ serial. list_any (λ q. list_any (λ i. i.change == n && i.serial == serial) q.items) s.queues)
+      s.builds;
 }
 
 -- a change at another stage
@@ -56,7 +57,8 @@ with_stage g n s = put_change (record (change_of s n) { stage = g }) s
 -- what becomes of a known change, and the refusal where the change or the revision is unknown
 abbrev pub on_known : State → ℕ → ℕ → (Change → Stepped) → Stepped
 on_known s n r f =
-    option_map_or (λ k. if nat_lt k.revision r then refused refusal.UnknownRevision else f k) (known_change s n) (refused refusal.UnknownChange)
+    option_map_or (λ k. if nat_lt k.revision r then refused refusal.UnknownRevision else f k) (known_change s n)
+    (refused refusal.UnknownChange)
 
 -- the settings have a project of this name
 abbrev pub has_project : Settings → List ℕ → Bool
@@ -78,7 +80,8 @@ raw_revision c s n name r message =
     if is_known_and s n (λ k. nat_le r k.revision || is_landed k) then accepted reply.Stale s else (
     if is_submitting c s n then refused refusal.Submitting else (
     if nat_lt 32 (length (needs c.base message)) then refused refusal.TooManyNeeds else
-    accepted reply.Recorded (revised (record { number = n; project = name; revision = r; stage = stage.Open; needs = needs c.base message }) s)))))
+    accepted reply.Recorded (revised
+    (record { number = n; project = name; revision = r; stage = stage.Open; needs = needs c.base message }) s)))))
 
 -- a change last in the ready list, under the next approval number
 abbrev pub made_ready : ℕ → State → State
@@ -90,7 +93,8 @@ made_ready n s = record s {
 -- whether an approved change stands in a queue now
 abbrev pub approval_reply : ℕ → State → Reply
 approval_reply n s =
-    option_map_or (λ i. reply.Queued i.serial) (find (λ i. i.change == n) (flat_map (λ q. q.items) s.queues)) reply.Waiting
+    option_map_or (λ i. reply.Queued i.serial) (find (λ i. i.change == n) (flat_map (λ q. q.items) s.queues))
+    reply.Waiting
 
 -- `approved`; the reply is read from the settled state
 abbrev pub raw_approved : Settings → State → ℕ → ℕ → Stepped
@@ -126,7 +130,8 @@ landed_queue i q = record q {
 -- the item of an order as the n-th landing of its queue
 abbrev pub with_landing : ℕ → Order → State → State
 with_landing n o s =
-    with_stage stage.Landed o.item.change (change_queue o.queue.name (landed_queue o.item) (leave (verdict.Landed n) o.item.change s))
+    with_stage stage.Landed o.item.change
+    (change_queue o.queue.name (landed_queue o.item) (leave (verdict.Landed n) o.item.change s))
 
 -- what becomes of a shown order, and the refusal where none of this number is shown
 abbrev pub on_order : Settings → State → ℕ → (Order → Stepped) → Stepped
@@ -195,7 +200,8 @@ is_exhausted s = nat_lt 1000000000000000 (max s.counters.approval (max s.counter
 
 -- what was accepted is settled, unless that takes a number past 10^15
 abbrev pub settled_step : Settings → Stepped → Stepped
-settled_step c (accepted said s) = if is_exhausted (settle c s) then refused refusal.Exhausted else accepted said (settle c s)
+settled_step c (accepted said s) =
+    if is_exhausted (settle c s) then refused refusal.Exhausted else accepted said (settle c s)
 settled_step c (refused r) = refused r
 
 -- one delivery

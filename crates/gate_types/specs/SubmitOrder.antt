@@ -14,7 +14,8 @@ pub record Order : Type 0 where
 -- the first non-failing item, if each of its slots is finished
 abbrev pub order_of : Settings → State → Queue → Option Order
 order_of c s q =
-    option_and_then (λ p. then_some (are_finished s.builds p) (record { queue = q; item = p.item })) (find (λ p. not (is_failing s.builds p)) (places c s q))
+    option_and_then (λ p. then_some (are_finished s.builds p) (record { queue = q; item = p.item }))
+    (find (λ p. not (is_failing s.builds p)) (places c s q))
 
 -- the orders that are shown, in the order of the queues
 abbrev pub orders : Settings → State → List Order

@@ -80,7 +80,8 @@ tables c x = tables_with (item_rows c x.state) x
 
 -- the changes' rows after an edit
 abbrev pub edited_changes : List ChangeRow → Edit → List ChangeRow
-edited_changes rows (edit.PutChange k approval) = put_by (λ r. r.change.number) (record { change = k; approval = approval }) rows
+edited_changes rows (edit.PutChange k approval) =
+    put_by (λ r. r.change.number) (record { change = k; approval = approval }) rows
 edited_changes rows _ = rows
 
 -- the landings' rows

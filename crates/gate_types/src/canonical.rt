@@ -16,14 +16,16 @@ fn revision_text(
     revision: Revision,
     message: &str,
 ) -> Result<String, NoMemory>
-    ensures { IfOk result (λ s. string_bytes s ≡ canonical_text (Delivery.Revision change project.now revision message.now)) }
+    ensures { IfOk result (λ s. string_bytes s
+        ≡ canonical_text (Delivery.Revision change project.now revision message.now)) }
 {
     let change = change.get();
     let project = quote(alloc, project)?;
     let revision = revision.get();
     let message = quote(alloc, message)?;
     format!(in alloc;
-        "{{\"change\":{change},\"kind\":\"revision\",\"message\":{message},\"project\":{project},\"revision\":{revision}}}"
+        "{{\"change\":{change},\"kind\":\"revision\",\"message\":{message},\"project\":{project},\
+         \"revision\":{revision}}}"
     )
 }
 

@@ -162,7 +162,8 @@ impl Model for Counters {
 
     ghost view = { λ c. record { approval = c.approval; build = c.build; order = c.order } };
 
-    ghost invariant = { λ c. (c.approval ≤ 1000000000000000) × (c.build ≤ 1000000000000000) × (c.order ≤ 1000000000000000) };
+    ghost invariant = { λ c.
+        (c.approval ≤ 1000000000000000) × (c.build ≤ 1000000000000000) × (c.order ≤ 1000000000000000) };
 
     ghost inverse = { λ d. record { approval = d.approval; build = d.build; order = d.order } };
 }

@@ -96,7 +96,8 @@ fn a_message_is_escaped(rt: HostRuntime) -> Result<(), Fail> {
     };
     assert_eq!(rt;
         canonical(alloc, &delivery)?.as_str(),
-        "{\"change\":999999999,\"kind\":\"revision\",\"message\":\"Say \\\"hi\\\" \\\\\\n\\u0001/é\",\"project\":\"team/lib\",\"revision\":9999}"
+        "{\"change\":999999999,\"kind\":\"revision\",\"message\":\
+         \"Say \\\"hi\\\" \\\\\\n\\u0001/é\",\"project\":\"team/lib\",\"revision\":9999}"
     );
     Ok(())
 }
