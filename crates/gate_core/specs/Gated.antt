@@ -36,5 +36,8 @@ pub record Delivered : Type 0 where
 abbrev pub delivered : Gated → Call → Delivered
 delivered g k =
     if is_taken k.delivery
-    then record { answer = answer_of g.settings g.content k; gate = record g { content = next_content g.settings g.content k } }
+    then record {
+      answer = answer_of g.settings g.content k;
+      gate = record g { content = next_content g.settings g.content k };
+    }
     else record { answer = answer.Refused refusal.BadDelivery; gate = g }

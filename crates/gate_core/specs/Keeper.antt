@@ -30,7 +30,8 @@ gated_of c k = record { settings = without_needs c; content = content_of c k }
 
 -- the content before the first delivery
 abbrev pub empty_content : Settings → Content
-empty_content c = record { state = quiet (without_needs c) [] [] [] [] (record { approval = 0; build = 0; order = 0 }); kept = [] }
+empty_content c =
+    record { state = quiet (without_needs c) [] [] [] [] (record { approval = 0; build = 0; order = 0 }); kept = [] }
 
 -- no counter has passed 10^15, and no build was numbered
 pub record InRange (d : Drawn) : Type 0 where

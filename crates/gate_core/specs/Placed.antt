@@ -16,7 +16,8 @@ of_queue place xs = map (λ x. x.row) (filter (λ x. x.queue == place) xs)
 
 -- the project of this name, and one without jobs where there is none
 abbrev pub project_named : Settings → List ℕ → Project
-project_named c name = unwrap_or (find (λ p. same_name p.name name) c.projects) (record { name = []; queue = []; jobs = [] })
+project_named c name =
+    unwrap_or (find (λ p. same_name p.name name) c.projects) (record { name = []; queue = []; jobs = [] })
 
 -- the place of a project's queue; the number of queues where there is none
 abbrev pub queue_place : Settings → List ℕ → ℕ

@@ -15,11 +15,18 @@ use Rattle.gate_core.specs.Placed.{Placed, of_queue, queue_place}
 abbrev pub queues_from : ℕ → List QueueSetting → List (Placed Item) → List (Placed Report) → List Queue
 queues_from place [] items reports = []
 queues_from place (q ∷ qs) items reports =
-    record { name = q.name; window = q.window; landings = []; items = of_queue place items; reports = of_queue place reports } ∷
+    record {
+      name = q.name;
+      window = q.window;
+      landings = [];
+      items = of_queue place items;
+      reports = of_queue place reports;
+    } ∷
     queues_from (place + 1) qs items reports
 
 -- the state of these changes, ready changes, items, reports and counters
-abbrev pub quiet : Settings → List Change → List (Placed Ready) → List (Placed Item) → List (Placed Report) → Drawn → State
+abbrev pub quiet : Settings → List Change → List (Placed Ready) → List (Placed Item) → List (Placed Report) →
+    Drawn → State
 quiet c changes ready items reports counters = record {
   changes = changes;
   ready = map (λ r. r.row) ready;
@@ -68,7 +75,8 @@ abbrev pub AreFull : List (Placed Item) → List (Placed Ready) → Type 0
 AreFull items ready = Each (λ r. 1000 ≤ length (of_queue r.queue items)) ready
 
 -- what is true between two deliveries
-pub record IsQuiet (c : Settings) (changes : List Change) (ready : List (Placed Ready)) (items : List (Placed Item)) : Type 0 where
+pub record IsQuiet (c : Settings) (changes : List Change) (ready : List (Placed Ready)) (items : List (Placed Item)) :
+    Type 0 where
   pub settings : are_sound c ≡ true
   pub plain : Each (IsPlain c) changes
   pub items_home : AreHome (λ i. i.change) c changes items

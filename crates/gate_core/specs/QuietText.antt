@@ -43,4 +43,5 @@ revision_in changes n = option_map_or (λ k. k.revision) (find (λ k. k.number =
 abbrev pub waiting_text : List Change → List (Placed Ready) → List ℕ
 waiting_text changes [] = []
 waiting_text changes (r ∷ rs) =
-    (codes "waiting " ++ (decimal r.row.change ++ (32 ∷ (decimal (revision_in changes r.row.change) ++ 10 ∷ [])))) ++ waiting_text changes rs
+    (codes "waiting " ++ (decimal r.row.change ++ (32 ∷ (decimal (revision_in changes r.row.change) ++ 10 ∷ []))))
+    ++ waiting_text changes rs

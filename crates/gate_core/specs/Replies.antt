@@ -39,7 +39,8 @@ gate_after g ms = record g { content = once g.settings g.content (calls_of ms) }
 
 -- the text for what was read: the answer to a delivery, or why there is none
 abbrev pub text_read : Gated → Result (Id × Delivery) Refusal → List ℕ
-text_read g (Ok x) = answer_text (answer_of g.settings g.content (record { id = x.0; delivery = x.1; unavailable = false }))
+text_read g (Ok x) =
+    answer_text (answer_of g.settings g.content (record { id = x.0; delivery = x.1; unavailable = false }))
 text_read g (Err e) = refusal_text e
 
 -- the reply to a line

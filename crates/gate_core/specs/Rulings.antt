@@ -35,14 +35,18 @@ approval_step c k (approval.Refused x) = refused x
 approval_step c k approval.Stale = accepted reply.Stale (state_of c k)
 approval_step c k approval.Already = accepted reply.Already (state_of c k)
 approval_step c k (approval.Entering i) = accepted (reply.Queued i.row.serial)
-    (quiet (without_needs c) (changes_of k.changes) k.ready.items (k.items.items ++ i ∷ []) k.reports.items (ordered i.row.serial (approved_once k.counters)))
+    (quiet (without_needs c) (changes_of k.changes) k.ready.items (k.items.items ++ i ∷ []) k.reports.items
+    (ordered i.row.serial (approved_once k.counters)))
 approval_step c k (approval.Waiting w) = accepted reply.Waiting
-    (quiet (without_needs c) (changes_of k.changes) (k.ready.items ++ w ∷ []) k.items.items k.reports.items (approved_once k.counters))
+    (quiet (without_needs c) (changes_of k.changes) (k.ready.items ++ w ∷ []) k.items.items k.reports.items
+    (approved_once k.counters))
 
 -- and what stays true after it
 abbrev pub StaysApproved : Settings → Keeper → ApprovalRuling → Type 0
-StaysApproved c k (approval.Entering i) = IsQuiet (without_needs c) (changes_of k.changes) k.ready.items (k.items.items ++ i ∷ [])
-StaysApproved c k (approval.Waiting w) = IsQuiet (without_needs c) (changes_of k.changes) (k.ready.items ++ w ∷ []) k.items.items
+StaysApproved c k (approval.Entering i) =
+    IsQuiet (without_needs c) (changes_of k.changes) k.ready.items (k.items.items ++ i ∷ [])
+StaysApproved c k (approval.Waiting w) =
+    IsQuiet (without_needs c) (changes_of k.changes) (k.ready.items ++ w ∷ []) k.items.items
 StaysApproved c k (approval.Refused x) = is_unavailable (answer.Refused x) ≡ false
 StaysApproved c k _ = Unit {0}
 
@@ -61,15 +65,19 @@ abbrev pub revision_step : Settings → Keeper → ℕ → List ℕ → ℕ → 
 revision_step c k n project r (revision.Refused x) = refused x
 revision_step c k n project r revision.Stale = accepted reply.Stale (state_of c k)
 revision_step c k n project r revision.Recorded = accepted reply.Recorded
-    (quiet (without_needs c) (with_plain n project r (changes_of k.changes)) (without_waiting n k.ready.items) (without_item n k.items.items) (with_superseded n k.items.items k.reports.items) k.counters)
+    (quiet (without_needs c) (with_plain n project r (changes_of k.changes)) (without_waiting n k.ready.items)
+    (without_item n k.items.items) (with_superseded n k.items.items k.reports.items) k.counters)
 revision_step c k n project r (revision.Admitting i) = accepted reply.Recorded
-    (quiet (without_needs c) (with_plain n project r (changes_of k.changes)) (without_waiting i.row.change (without_waiting n k.ready.items)) (without_item n k.items.items ++ i ∷ [])
+    (quiet (without_needs c) (with_plain n project r (changes_of k.changes))
+    (without_waiting i.row.change (without_waiting n k.ready.items)) (without_item n k.items.items ++ i ∷ [])
     (with_superseded n k.items.items k.reports.items) (ordered i.row.serial k.counters))
 
 -- and what stays true after it
 abbrev pub StaysRevised : Settings → Keeper → ℕ → List ℕ → ℕ → RevisionRuling → Type 0
-StaysRevised c k n project r revision.Recorded = IsQuiet (without_needs c) (with_plain n project r (changes_of k.changes)) (without_waiting n k.ready.items) (without_item n k.items.items)
+StaysRevised c k n project r revision.Recorded = IsQuiet (without_needs c)
+    (with_plain n project r (changes_of k.changes)) (without_waiting n k.ready.items) (without_item n k.items.items)
 StaysRevised c k n project r (revision.Admitting i) =
-    IsQuiet (without_needs c) (with_plain n project r (changes_of k.changes)) (without_waiting i.row.change (without_waiting n k.ready.items)) (without_item n k.items.items ++ i ∷ [])
+    IsQuiet (without_needs c) (with_plain n project r (changes_of k.changes))
+    (without_waiting i.row.change (without_waiting n k.ready.items)) (without_item n k.items.items ++ i ∷ [])
 StaysRevised c k n project r (revision.Refused x) = is_unavailable (answer.Refused x) ≡ false
 StaysRevised c k n project r _ = Unit {0}

@@ -80,7 +80,9 @@ impl Keeper {
         delivery: Delivery,
     ) -> Result<Answer, NoMemory>
         requires { IsSound config.now self.old }
-        ensures ok { IfOk result (λ a. delivered (gated_of config.now self.old) (record { id = id; delivery = delivery; unavailable = false }) ≡ record { answer = a; gate = gated_of config.now self.new }) }
+        ensures ok { IfOk result (λ a. delivered (gated_of config.now self.old)
+            (record { id = id; delivery = delivery; unavailable = false })
+            ≡ record { answer = a; gate = gated_of config.now self.new }) }
         ensures told { IfOk result (λ a. is_unavailable a ≡ false) }
         ensures taken { OnErr result (is_taken delivery ≡ true) }
         ensures err { OnErr result (content_of config.now self.new ≡ content_of config.now self.old) }
@@ -108,7 +110,8 @@ impl Keeper {
     ) -> Result<Answer, NoMemory>
         requires sound { IsSound config.now self.old }
         requires taken { is_taken delivery.now ≡ true }
-        ensures ok { IfOk result (λ a. Acted config.now self.old self.new id said (step (without_needs config.now) (state_of config.now self.old) delivery.now) a) }
+        ensures ok { IfOk result (λ a. Acted config.now self.old self.new id said
+            (step (without_needs config.now) (state_of config.now self.old) delivery.now) a) }
         ensures err { OnErr result (content_of config.now self.new ≡ content_of config.now self.old) }
         ensures sound { IsSound config.now self.new }
     {
@@ -202,7 +205,8 @@ impl Keeper {
         requires sound { IsSound config.now self.old }
         requires more { self.old.counters.approval < 1000000000000000 }
         requires stays { StaysApproved config.now self.old (ApprovalRuling.Entering item) }
-        ensures ok { IfOk result (λ a. Acted config.now self.old self.new id said (approval_step config.now self.old (ApprovalRuling.Entering item)) a) }
+        ensures ok { IfOk result (λ a. Acted config.now self.old self.new id said
+            (approval_step config.now self.old (ApprovalRuling.Entering item)) a) }
         ensures err { OnErr result (content_of config.now self.new ≡ content_of config.now self.old) }
         ensures sound { IsSound config.now self.new }
     {
@@ -230,7 +234,8 @@ impl Keeper {
         requires sound { IsSound config.now self.old }
         requires more { self.old.counters.approval < 1000000000000000 }
         requires stays { StaysApproved config.now self.old (ApprovalRuling.Waiting waiting) }
-        ensures ok { IfOk result (λ a. Acted config.now self.old self.new id said (approval_step config.now self.old (ApprovalRuling.Waiting waiting)) a) }
+        ensures ok { IfOk result (λ a. Acted config.now self.old self.new id said
+            (approval_step config.now self.old (ApprovalRuling.Waiting waiting)) a) }
         ensures err { OnErr result (content_of config.now self.new ≡ content_of config.now self.old) }
         ensures sound { IsSound config.now self.new }
     {
@@ -257,7 +262,8 @@ impl Keeper {
         revision: Revision,
     ) -> Result<Answer, NoMemory>
         requires { IsSound config.now self.old }
-        ensures ok { IfOk result (λ a. Acted config.now self.old self.new id said (step (without_needs config.now) (state_of config.now self.old) (delivery.Approved change revision)) a) }
+        ensures ok { IfOk result (λ a. Acted config.now self.old self.new id said
+            (step (without_needs config.now) (state_of config.now self.old) (delivery.Approved change revision)) a) }
         ensures err { OnErr result (content_of config.now self.new ≡ content_of config.now self.old) }
         ensures sound { IsSound config.now self.new }
     {
@@ -303,8 +309,11 @@ impl Keeper {
         revised: Revised,
     ) -> Result<Answer, NoMemory>
         requires sound { IsSound config.now self.old }
-        requires stays { StaysRevised config.now self.old revised.change revised.project revised.revision RevisionRuling.Recorded }
-        ensures ok { IfOk result (λ a. Acted config.now self.old self.new id said (revision_step config.now self.old revised.change revised.project revised.revision RevisionRuling.Recorded) a) }
+        requires stays { StaysRevised config.now self.old revised.change revised.project revised.revision
+            RevisionRuling.Recorded }
+        ensures ok { IfOk result (λ a. Acted config.now self.old self.new id said
+            (revision_step config.now self.old revised.change revised.project revised.revision
+            RevisionRuling.Recorded) a) }
         ensures err { OnErr result (content_of config.now self.new ≡ content_of config.now self.old) }
         ensures sound { IsSound config.now self.new }
     {
@@ -325,8 +334,11 @@ impl Keeper {
         item: QueueItem,
     ) -> Result<Answer, NoMemory>
         requires sound { IsSound config.now self.old }
-        requires stays { StaysRevised config.now self.old revised.change revised.project revised.revision (RevisionRuling.Admitting item) }
-        ensures ok { IfOk result (λ a. Acted config.now self.old self.new id said (revision_step config.now self.old revised.change revised.project revised.revision (RevisionRuling.Admitting item)) a) }
+        requires stays { StaysRevised config.now self.old revised.change revised.project revised.revision
+            (RevisionRuling.Admitting item) }
+        ensures ok { IfOk result (λ a. Acted config.now self.old self.new id said
+            (revision_step config.now self.old revised.change revised.project revised.revision
+            (RevisionRuling.Admitting item)) a) }
         ensures err { OnErr result (content_of config.now self.new ≡ content_of config.now self.old) }
         ensures sound { IsSound config.now self.new }
     {
@@ -350,7 +362,8 @@ impl Keeper {
     ) -> Result<Answer, NoMemory>
         requires { IsSound config.now self.old }
         ensures ok { IfOk result (λ a. (message : List ℕ) → Acted config.now self.old self.new id said
-            (step (without_needs config.now) (state_of config.now self.old) (delivery.Revision revised.change revised.project revised.revision message)) a) }
+            (step (without_needs config.now) (state_of config.now self.old)
+            (delivery.Revision revised.change revised.project revised.revision message)) a) }
         ensures err { OnErr result (content_of config.now self.new ≡ content_of config.now self.old) }
         ensures sound { IsSound config.now self.new }
     {

@@ -25,9 +25,17 @@ impl Model for QueueItem {
 
     ghost Value = { Placed Item };
 
-    ghost view = { λ q. record { queue = q.queue; row = record { serial = q.serial; change = q.change; revision = q.revision } } };
+    ghost view = { λ q. record {
+      queue = q.queue;
+      row = record { serial = q.serial; change = q.change; revision = q.revision };
+    } };
 
-    ghost inverse = { λ i. record { queue = i.queue; serial = i.row.serial; change = i.row.change; revision = i.row.revision } };
+    ghost inverse = { λ i. record {
+      queue = i.queue;
+      serial = i.row.serial;
+      change = i.row.change;
+      revision = i.row.revision;
+    } };
 }
 
 /// An approved change whose queue is full.

@@ -74,7 +74,8 @@ fn row_in(rows: &[Kept], place: usize) -> Option<&Kept>
 /// Notes the place of an id, unless it has one.
 fn note_place(places: &mut HashMap<[u8; 16], usize>, id: [u8; 16], place: usize)
     requires room { 0 < spare places.old }
-    ensures { (q : List ℕ) → get same_id places.new q ≡ option_or (get same_id places.old q) (if same_id id q then Some place else None) }
+    ensures { (q : List ℕ) → get same_id places.new q
+        ≡ option_or (get same_id places.old q) (if same_id id q then Some place else None) }
 {
     if places.get(&id).is_some() {
         return;

@@ -53,7 +53,8 @@ impl Keeper {
         revision: Revision,
     ) -> ApprovalRuling
         requires { IsSound config.now self.now }
-        ensures step { step (without_needs config.now) (state_of config.now self.now) (delivery.Approved change revision)
+        ensures step { step (without_needs config.now) (state_of config.now self.now)
+            (delivery.Approved change revision)
             ≡ approval_step config.now self.now result }
         ensures stays { StaysApproved config.now self.now result }
     {
@@ -103,7 +104,8 @@ impl Keeper {
         revision: Revision,
     ) -> RevisionRuling
         requires { IsSound config.now self.now }
-        ensures step { (message : List ℕ) → step (without_needs config.now) (state_of config.now self.now) (delivery.Revision change project.now revision message)
+        ensures step { (message : List ℕ) → step (without_needs config.now) (state_of config.now self.now)
+            (delivery.Revision change project.now revision message)
             ≡ revision_step config.now self.now change project.now revision result }
         ensures stays { StaysRevised config.now self.now change project.now revision result }
     {
@@ -136,7 +138,8 @@ impl Keeper {
         requires there { has_project config.now project.now ≡ true }
         requires same { is_known_and (state_of config.now self.now) change (is_other_project project.now) ≡ false }
         requires fresh { is_known_and (state_of config.now self.now) change (is_old revision) ≡ false }
-        ensures step { (message : List ℕ) → step (without_needs config.now) (state_of config.now self.now) (delivery.Revision change project.now revision message)
+        ensures step { (message : List ℕ) → step (without_needs config.now) (state_of config.now self.now)
+            (delivery.Revision change project.now revision message)
             ≡ revision_step config.now self.now change project.now revision result }
         ensures stays { StaysRevised config.now self.now change project.now revision result }
     {

@@ -20,7 +20,8 @@ fn queue_line(alloc: Global, name: &str, window: u32) -> Result<String, NoMemory
 
 /// Numbers right in 6, 9 and 4 places.
 fn numbers_text(alloc: Global, item: QueueItem) -> Result<String, NoMemory>
-    ensures { IfOk result (λ s. string_bytes s ≡ right 6 (decimal item.row.serial) ++ (32 ∷ (right 9 (decimal item.row.change) ++ (32 ∷ right 4 (decimal item.row.revision))))) }
+    ensures { IfOk result (λ s. string_bytes s ≡ right 6 (decimal item.row.serial)
+        ++ (32 ∷ (right 9 (decimal item.row.change) ++ (32 ∷ right 4 (decimal item.row.revision))))) }
 {
     let serial = item.serial.get();
     let change = item.change.get();
@@ -108,7 +109,8 @@ impl Keeper {
     /// The lines of the items that stand in the queue at a place.
     fn items_text(&self, alloc: Global, config: &Config, queue: usize) -> Result<String, NoMemory>
         requires { IsSoundTable self.now.changes }
-        ensures { IfOk result (λ s. string_bytes s ≡ items_text (without_needs config.now) (state_of config.now self.now) None (of_queue queue self.now.items.items)) }
+        ensures { IfOk result (λ s. string_bytes s ≡ items_text (without_needs config.now)
+            (state_of config.now self.now) None (of_queue queue self.now.items.items)) }
     {
         let mut text = String::new(alloc);
         let mut ahead = None;
@@ -125,7 +127,8 @@ impl Keeper {
     /// The lines of the queues, each with its items behind it.
     fn queues_text(&self, alloc: Global, config: &Config) -> Result<String, NoMemory>
         requires { IsSoundTable self.now.changes }
-        ensures { IfOk result (λ s. string_bytes s ≡ queues_text (without_needs config.now) (state_of config.now self.now) 0 config.now.queues self.now.items.items) }
+        ensures { IfOk result (λ s. string_bytes s ≡ queues_text (without_needs config.now)
+            (state_of config.now self.now) 0 config.now.queues self.now.items.items) }
     {
         let mut text = String::new(alloc);
         for (place, queue) in config.queues.as_slice().iter().enumerate() {
@@ -155,7 +158,8 @@ impl Keeper {
     /// The status text.
     pub fn status(&self, alloc: Global, config: &Config) -> Result<String, NoMemory>
         requires { IsSound config.now self.now }
-        ensures { IfOk result (λ s. string_bytes s ≡ status_text (without_needs config.now) (state_of config.now self.now)) }
+        ensures { IfOk result (λ s. string_bytes s
+            ≡ status_text (without_needs config.now) (state_of config.now self.now)) }
     {
         let queues = self.queues_text(alloc, config)?;
         let waiting = self.waiting_text(alloc)?;

@@ -80,15 +80,19 @@ fn a_refused_line_is_told_on_the_errors(rt: HostRuntime) {
         ),
         (
             &["gated", "check"],
-            "error: the following required arguments were not provided:\n  <SETTINGS>\n\nUsage: gated check <SETTINGS>\n\nFor more information, try '--help'.\n",
+            "error: the following required arguments were not provided:\n  <SETTINGS>\n\n\
+             Usage: gated check <SETTINGS>\n\nFor more information, try '--help'.\n",
         ),
         (
             &["gated", "check", "a", "--status"],
-            "error: unexpected argument '--status' found\n\n  tip: to pass '--status' as a value, use '-- --status'\n\nUsage: gated check <SETTINGS>\n\nFor more information, try '--help'.\n",
+            "error: unexpected argument '--status' found\n\n  \
+             tip: to pass '--status' as a value, use '-- --status'\n\n\
+             Usage: gated check <SETTINGS>\n\nFor more information, try '--help'.\n",
         ),
         (
             &["gated", "replay", "a", "b"],
-            "error: unexpected argument 'b' found\n\nUsage: gated replay [OPTIONS] <SETTINGS>\n\nFor more information, try '--help'.\n",
+            "error: unexpected argument 'b' found\n\n\
+             Usage: gated replay [OPTIONS] <SETTINGS>\n\nFor more information, try '--help'.\n",
         ),
     ];
     for (words, told) in cases {
