@@ -80,7 +80,8 @@ pub fn revising(
     message: &str,
 ) -> Result<String, AllocError> {
     format!(in alloc;
-        "{{\"id\":\"0a000000-0000-4000-8000-{change:012}\",\"kind\":\"revision\",\"change\":{change},\"project\":\"{project}\",\"revision\":1,\"message\":\"{message}\"}}"
+        "{{\"id\":\"0a000000-0000-4000-8000-{change:012}\",\"kind\":\"revision\",\"change\":{change},\
+         \"project\":\"{project}\",\"revision\":1,\"message\":\"{message}\"}}"
     )
 }
 
