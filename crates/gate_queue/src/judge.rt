@@ -19,7 +19,7 @@ pub(crate) struct Ruling {
     pub verdict: Option<Verdict>,
 }
 
-/// Why an item goes, if it goes: for want of what it needs, before it goes as failed.
+/// Why an item goes, if it goes: a need that isn't met decides before a failure.
 pub fn verdict_of(met: bool, failed: bool) -> Option<Verdict>
     ensures { let unless_needs = (if failed then Option.Some Verdict.Failed else Option.None) in
         result ≡ (if not met then Option.Some Verdict.Needs else unless_needs) }
