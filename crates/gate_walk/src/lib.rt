@@ -16,7 +16,7 @@
 //! - `laws::a_walk_stops`, `visits_are_the_walk` and `visits_go_on`: where a walk stops, and loops of visits, said
 //!   of the definitions.
 //!
-//! `Walk::gone` and `Walk::edits` say what the walk holds, and take no memory.
+//! `Walk::gone`, `Walk::edits` and `Walk::into_edits` say what the walk holds, and take no memory.
 #![tactic(auto)]
 
 #[cfg(test)]

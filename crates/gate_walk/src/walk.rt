@@ -243,6 +243,14 @@ impl Walk {
         self.edits.as_slice()
     }
 
+    /// The edits of all visits.
+    pub fn into_edits(self) -> Vec<Edit>
+        ensures { result.items ≡ self.told }
+    {
+        let Walk { edits, .. } = self;
+        edits
+    }
+
     /// The serial that was touched: the first row from it on is wanted first.
     pub fn touched(&self) -> Serial
         ensures { result ≡ self.now.touched }
