@@ -1,0 +1,19 @@
+-- the columns of items, by serial
+pub mod ColumnLemmas
+-- edits that are a queue's own, and what they leave of all tables
+pub mod SeamLemmas
+-- what a delivery leaves of the touched queue
+pub mod LeavesLemmas
+pub mod LeftLemmas
+-- what is read by key is what a visit is to see
+pub mod StandingLemmas
+pub mod SeenLemmas
+-- the row that a walk wants
+pub mod WantedLemmas
+pub mod KeptLemmas
+-- what a walk's edits settle
+pub mod WalkLemmas
+-- what a walk begins with
+pub mod BegunLemmas
+-- the delivery that is under way
+pub mod TouchingLemmas

@@ -1,0 +1,312 @@
+-- The row that a walk wants is the one that is read by key.
+use Rattle.std.proofs.Common.{◌≡◌, ℕ, suc, ◌+◌, ◌-◌, ◌<◌, ◌≤◌, Bool, true, false, not, ◌&&◌, ◌||◌, cond, Option, Some, None, List, [], ◌∷◌, ◌++◌, map, inl, inr, refl, sym, ap, ◌∙◌, subst, arith, true≢false}
+use Rattle.std.specs.Prelude.{◌==◌, nat_lt, nat_le, filter, find, option_map, IfSome}
+use Rattle.std.specs.List.{list_any}
+use Rattle.std.specs.Option.{option_map_or}
+use Rattle.std.proofs.lemmas.Bool.{and_parts, and_from, eqb-true, eq-eqb, ne_eqb, lt-ltb, ltb-true, ltb-false, le-leb, le-ltb, leb-true}
+use Rattle.std.proofs.lemmas.List.Folds.{list_any-append}
+use Rattle.gate_types.specs.declared.records.Item.{Item as ItemRow}
+use Rattle.gate_types.specs.Settings.{Settings}
+use Rattle.gate_types.specs.State.{Queue, State, known_change, change_of}
+use Rattle.gate_types.specs.Lawful.{IsSound}
+use Rattle.gate_types.specs.Rows.{item_rows}
+use Rattle.gate_types.specs.Once.{Content}
+use Rattle.gate_walk.specs.declared.walk.Next.{Next as CodeNext}
+use Rattle.gate_walk.specs.declared.walk.Next.TheVariants as code
+use Rattle.gate_walk.specs.Walk.{SeenNeed, Seen, Walk, is_gone, needs_gone}
+use Rattle.gate_walk.specs.Next.{Next, from, go, need, stop, wanted}
+use Rattle.gate_walk.specs.Views.{next_of_code}
+use Rattle.gate_walk.specs.UnderWay.{stale_rows, rows_seen, next_by, row_wanted, HasVisited, Starts, GoesOn}
+use Rattle.gate_book.specs.Reads.{queue_named, items_in, first_above, first_needing}
+use Rattle.gate_raw.specs.declared.touched.TouchedItem.{TouchedItem}
+use Rattle.gate_laws.proofs.Members.{In, every, any_from, any_to, from_map, found}
+use Rattle.gate_laws.proofs.Parts.{ItemsRise}
+use Rattle.gate_laws.proofs.Tests.{not_and_false}
+use Rattle.gate_book.proofs.MemoryLemmas.{find_map}
+use Rattle.gate_queue.proofs.Ordered.{RiseFrom, row_serial, rises}
+use Rattle.gate_walk.proofs.Visits.{stored_rise}
+use Rattle.gate_walk.proofs.Swept.{items_rise}
+use Rattle.gate_settling.specs.Touching.{Touching, delivered, sees, IsUnderWay}
+use Rattle.gate_settling.specs.Rows.{is_out, need_now, needs_known, first_behind, is_needing, first_needing_any, earlier, row_for, IsFrom, IsAbove, row_now}
+use Rattle.gate_settling.proofs.StandingLemmas.{items_are, serial_is_drawn, stands, stale_are, in_stale}
+use Rattle.gate_settling.proofs.SeenLemmas.{needs_of_change, seen_now}
+
+-- ---- tests that agree
+
+same_bool : (a b : Bool) → (a ≡ true → b ≡ true) → (b ≡ true → a ≡ true) → a ≡ b
+same_bool true b f g = sym (f refl)
+same_bool false true f g = g refl
+same_bool false false f g = refl
+
+and_false : (b : Bool) → b && false ≡ false
+and_false true = refl
+and_false false = refl
+
+or_false : (b : Bool) → b || false ≡ b
+or_false true = refl
+or_false false = refl
+
+find_same : {X : Type 0} (p q : X → Bool) (xs : List X) → ((x : X) → In x xs → p x ≡ q x) → find p xs ≡ find q xs
+find_same p q [] h = refl
+find_same p q (x ∷ xs) h = λ k. cond (h x (inl refl) k) (Some x) (find_same p q xs (λ y m. h y (inr m)) k)
+
+find_kept : {X : Type 0} (p q : X → Bool) (xs : List X) → find p (filter q xs) ≡ find (λ x. q x && p x) xs
+find_kept p q [] = refl
+find_kept {X = X} p q (x ∷ xs) = by_test (q x) (find_kept p q xs)
+  where
+    by_test : (b : Bool) → find p (filter q xs) ≡ find (λ y. q y && p y) xs →
+        find p (cond b (x ∷ filter q xs) (filter q xs)) ≡ cond (b && p x) (Some x) (find (λ y. q y && p y) xs)
+    by_test true rest = ap (λ o. cond (p x) (Some x) o) rest
+    by_test false rest = rest
+
+any_map : {X Y : Type 0} (t : Y → Bool) (f : X → Y) (xs : List X) → list_any t (map f xs) ≡ list_any (λ x. t (f x)) xs
+any_map t f [] = refl
+any_map t f (x ∷ xs) = ap (λ b. t (f x) || b) (any_map t f xs)
+
+-- whichever list is gone through first
+any_swapped : (xs ys : List ℕ) →
+    list_any (λ x. list_any (λ y. y == x) ys) xs ≡ list_any (λ y. list_any (λ x. x == y) xs) ys
+any_swapped xs ys = same_bool _ _
+    (λ e. let a = any_from (λ x. list_any (λ y. y == x) ys) xs e in let b = any_from (λ y. y == a.0) ys a.2 in
+    any_to (λ y. list_any (λ x. x == y) xs) ys b.0 b.1
+    (any_to (λ x. x == b.0) xs a.0 a.1 (eq-eqb a.0 b.0 (sym (eqb-true b.0 a.0 b.2)))))
+    (λ e. let a = any_from (λ y. list_any (λ x. x == y) xs) ys e in let b = any_from (λ x. x == a.0) xs a.2 in
+    any_to (λ x. list_any (λ y. y == x) ys) xs b.0 b.1
+    (any_to (λ y. y == b.0) ys a.0 a.1 (eq-eqb a.0 b.0 (sym (eqb-true b.0 a.0 b.2)))))
+
+-- ---- rows behind a serial
+
+behind_own : (n m : ℕ) → not (m == n) && nat_le n m ≡ nat_lt n m
+behind_own n m = same_bool _ _
+    (λ e. let both = and_parts (not (m == n)) (nat_le n m) e in by_lt (nat_lt n m) refl both.0 (leb-true n m both.1))
+    (λ e. let l = ltb-true n m e in and_from (not (m == n)) (nat_le n m) (ap not (ne_eqb m n (λ s. absurd (omega (arith, l, s)))))
+    (le-leb n m (omega (arith, l))))
+  where
+    by_lt : (b : Bool) → nat_lt n m ≡ b → not (m == n) ≡ true → n ≤ m → b ≡ true
+    by_lt true e k l = refl
+    by_lt false e k l =
+        let low = ltb-false n m e in
+        let same : m ≡ n = omega (arith, low, l) in
+        absurd (true≢false (sym k ∙ ap not (eq-eqb m n same)))
+
+from_own : (n m : ℕ) → 1 ≤ n → nat_le n m ≡ nat_lt (n - 1) m
+from_own n m one = same_bool _ _
+    (λ e. let l = leb-true n m e in lt-ltb (n - 1) m (omega (arith, one, l)))
+    (λ e. let l = ltb-true (n - 1) m e in le-leb n m (omega (arith, one, l)))
+
+-- a row above the touched one stands
+above_stands : (k : TouchedItem) (r : ItemRow) (n : ℕ) → k.item.serial ≤ n → nat_lt n r.serial ≡ true → stands k r ≡ true
+above_stands k r n l e =
+    let more = ltb-true n r.serial e in
+    ap (λ b. not (is_out k.event && b)) (ne_eqb r.serial k.item.serial (λ s. absurd (omega (arith, l, more, s))))
+    ∙ not_and_false (is_out k.event)
+
+-- what is found among the rows that stand
+found_stale : {c : Settings} {x : Content} {k : TouchedItem} (h : Touching c x k) (p q : ItemRow → Bool) →
+    ((r : ItemRow) → In r (item_rows c x.state h.queue) → stands k r && p r ≡ q r) →
+    find p (stale_rows (delivered h)) ≡ find q (items_in c x.state k.queue)
+found_stale {c = c} {x = x} {k = k} h p q same =
+    ap (find p) (stale_are h) ∙ find_kept p (stands k) (item_rows c x.state h.queue)
+    ∙ find_same (λ r. stands k r && p r) q (item_rows c x.state h.queue) same ∙ ap (find q) (sym (items_are h))
+
+-- and so among the rows as visits see them
+found_seen : {c : Settings} {x : Content} {k : TouchedItem} (h : Touching c x k) (t : Seen → Bool) (q : ItemRow → Bool) →
+    ((r : ItemRow) → In r (item_rows c x.state h.queue) → stands k r && t (sees h r) ≡ q r) →
+    find t (rows_seen (delivered h)) ≡ option_map (sees h) (find q (items_in c x.state k.queue))
+found_seen h t q same =
+    find_map (sees h) t (stale_rows (delivered h))
+    ∙ ap (option_map (sees h)) (found_stale h (λ r. t (sees h r)) q same)
+
+-- ---- the row that is wanted
+
+pub first_is : {c : Settings} {x : Content} {k : TouchedItem} (h : Touching c x k) →
+    row_wanted (delivered h) [] ≡ option_map (sees h) (first_above (first_behind k) (items_in c x.state k.queue))
+first_is {k = k} h = found_seen h (λ v. nat_le k.item.serial v.row.serial) (λ r. nat_lt (first_behind k) r.serial)
+    (λ r m. at_first (is_out k.event) r.serial)
+  where
+    at_first : (b : Bool) (m : ℕ) →
+        not (b && m == k.item.serial) && nat_le k.item.serial m ≡ nat_lt (cond b k.item.serial (k.item.serial - 1)) m
+    at_first true m = behind_own k.item.serial m
+    at_first false m = from_own k.item.serial m (serial_is_drawn h)
+
+needs_are : {c : Settings} {x : Content} {k : TouchedItem} (h : Touching c x k) (gone : List ℕ) (r : ItemRow) →
+    In r (stale_rows (delivered h)) → needs_gone gone (sees h r).needs ≡ is_needing x.state gone r
+needs_are {c = c} {x = x} {k = k} h gone r m =
+    let s = x.state in
+    let ns = needs_known (known_change s r.change) in
+    sym (ap (λ (v : Seen). needs_gone gone v.needs) (seen_now h r m))
+    ∙ any_map (λ (n : SeenNeed). is_gone gone n.change) (need_now c s k) ns
+    ∙ any_swapped ns gone
+    ∙ ap (λ l. list_any (λ g. list_any (λ n. n == g) l) gone) (sym (needs_of_change s r.change))
+
+needing_is : {c : Settings} {x : Content} {k : TouchedItem} (h : Touching c x k) (gone : List ℕ) (n : ℕ) →
+    k.item.serial ≤ n → (r : ItemRow) → In r (item_rows c x.state h.queue) →
+    stands k r && (nat_lt n r.serial && needs_gone gone (sees h r).needs) ≡ (nat_lt n r.serial && is_needing x.state gone r)
+needing_is {x = x} {k = k} h gone n l r m = by_lt (nat_lt n r.serial) refl
+  where
+    by_lt : (b : Bool) → nat_lt n r.serial ≡ b →
+        stands k r && (b && needs_gone gone (sees h r).needs) ≡ (b && is_needing x.state gone r)
+    by_lt true e =
+        let up = above_stands k r n l e in
+        ap (λ t. t && needs_gone gone (sees h r).needs) up ∙ needs_are h gone r (in_stale h r m up)
+    by_lt false e = and_false (stands k r)
+
+pub wanted_is : {c : Settings} {x : Content} {k : TouchedItem} (h : Touching c x k) (gone : List ℕ) (n : ℕ)
+    (next : CodeNext) → IsFrom n next → k.item.serial ≤ n →
+    wanted gone (next_of_code next) (rows_seen (delivered h)) ≡ option_map (sees h) (row_for c x.state k.queue gone next)
+wanted_is {k = k} h gone n (code.Go m) e l =
+    found_seen h (λ v. nat_lt m v.row.serial) (λ r. nat_lt m r.serial) (λ r mr. same_bool _ _
+    (λ t. (and_parts (stands k r) (nat_lt m r.serial) t).1)
+    (λ t. and_from (stands k r) (nat_lt m r.serial) (above_stands k r m (subst (λ z. k.item.serial ≤ z) (sym e) l) t) t))
+wanted_is {x = x} {k = k} h gone n (code.Need m) e l =
+    found_seen h (λ v. nat_lt m v.row.serial && needs_gone gone v.needs)
+    (λ r. nat_lt m r.serial && is_needing x.state gone r)
+    (needing_is h gone m (subst (λ z. k.item.serial ≤ z) (sym e) l))
+wanted_is h gone n code.Stop e l = refl
+
+-- it is one of the rows
+pub wanted_in : (gone : List ℕ) (next : Next) (vs : List Seen) (v : Seen) → wanted gone next vs ≡ Some v → In v vs
+wanted_in gone (from n) vs v e = (found (λ (x : Seen). nat_le n x.row.serial) vs v e).0
+wanted_in gone (go n) vs v e = (found (λ (x : Seen). nat_lt n x.row.serial) vs v e).0
+wanted_in gone (need n) vs v e =
+    (found (λ (x : Seen). nat_lt n x.row.serial && needs_gone gone x.needs) vs v e).0
+wanted_in gone stop vs v e = absurd (none_some e)
+  where
+    none_some : None ≡ Some v → ⊥
+    none_some q = cc
+
+pub row_stale : {c : Settings} {x : Content} {k : TouchedItem} (h : Touching c x k) (vs : List Seen) (r : ItemRow) →
+    row_wanted (delivered h) vs ≡ Some (sees h r) → In r (stale_rows (delivered h))
+row_stale h vs r e =
+    let there = from_map (sees h) (stale_rows (delivered h)) (sees h r)
+    (wanted_in _ (next_by (delivered h) vs) (rows_seen (delivered h)) (sees h r) e) in
+    subst (λ y. In y (stale_rows (delivered h))) (ap (λ (v : Seen). v.row) there.2) there.1
+
+-- ---- a walk under way
+
+pub starts_under_way : {c : Settings} {x : Content} {k : TouchedItem} (h : Touching c x k) (w : Walk)
+    (row : Option ItemRow) → Starts (delivered h) w →
+    row ≡ first_above (first_behind k) (items_in c x.state k.queue) → IsUnderWay h w row
+starts_under_way h w row st e = record {
+  visits = [];
+  visited = st.visited;
+  wanted = first_is h ∙ ap (option_map (sees h)) (sym e);
+}
+
+pub goes_under_way : {c : Settings} {x : Content} {k : TouchedItem} (h : Touching c x k) (old new : Walk) (r : ItemRow)
+    (vs : List Seen) (next : CodeNext) (row : Option ItemRow) → GoesOn (delivered h) old new (sees h r) vs next →
+    IsFrom r.serial next → k.item.serial ≤ r.serial → row ≡ row_for c x.state k.queue new.carry.gone next →
+    IsUnderWay h new row
+goes_under_way h old new r vs next row g f l e =
+    let d = delivered h in
+    let us = sees h r ∷ vs in
+    record {
+      visits = us;
+      visited = g.visited;
+      wanted = ap (λ (w : Walk). wanted w.carry.gone (next_by d us) (rows_seen d)) (sym g.visited.is)
+          ∙ ap (λ n. wanted new.carry.gone n (rows_seen d)) (sym g.wants)
+          ∙ wanted_is h new.carry.gone r.serial next f l ∙ ap (option_map (sees h)) (sym e);
+    }
+
+-- ---- the first row that needs one of several changes
+
+low_in : (n : ℕ) (rows : List ItemRow) → RiseFrom row_serial n rows → (r : ItemRow) → In r rows → n ≤ r.serial
+low_in n [] h r m = absurd m
+low_in n (y ∷ rows) h r m =
+    let low : n ≤ y.serial = h.0 in
+    elim m [
+      | inl e ↦ subst (λ (z : ItemRow). n ≤ z.serial) e low
+      | inr o ↦ (let more : suc y.serial ≤ r.serial = low_in (suc y.serial) rows h.1 r o in omega (arith, low, more))
+    ]
+
+same_cond : {X : Type 0} (b : Bool) (x : X) → cond b x x ≡ x
+same_cond true x = refl
+same_cond false x = refl
+
+-- of rows that rise, the first that passes one of two tests
+first_of_either : (a b : ItemRow → Bool) (n : ℕ) (rows : List ItemRow) → RiseFrom row_serial n rows →
+    find (λ r. a r || b r) rows ≡ earlier (find a rows) (find b rows)
+first_of_either a b n [] h = refl
+first_of_either a b n (y ∷ rows) h = by_both (a y) (b y) (first_of_either a b (suc y.serial) rows h.1)
+  where
+    behind : (r : ItemRow) → In r rows → y.serial < r.serial
+    behind r m = let more = low_in (suc y.serial) rows h.1 r m in omega (arith, more)
+
+    first_stays : (f : Option ItemRow) → find b rows ≡ f → earlier (Some y) f ≡ Some y
+    first_stays None e = refl
+    first_stays (Some r) e =
+        let more = behind r (found b rows r e).0 in
+        ap (λ t. cond t (Some r) (Some y)) (le-ltb r.serial y.serial (omega (arith, more)))
+
+    first_comes : (f : Option ItemRow) → find a rows ≡ f → earlier f (Some y) ≡ Some y
+    first_comes None e = refl
+    first_comes (Some r) e = ap (λ t. cond t (Some y) (Some r)) (lt-ltb y.serial r.serial (behind r (found a rows r e).0))
+
+    by_both : (s t : Bool) → find (λ r. a r || b r) rows ≡ earlier (find a rows) (find b rows) →
+        cond (s || t) (Some y) (find (λ r. a r || b r) rows) ≡ earlier (cond s (Some y) (find a rows)) (cond t (Some y) (find b rows))
+    by_both true true rest = sym (same_cond (nat_lt y.serial y.serial) (Some y))
+    by_both true false rest = sym (first_stays (find b rows) refl)
+    by_both false true rest = sym (first_comes (find a rows) refl)
+    by_both false false rest = rest
+
+-- one change more
+pub needing_more : (s : State) (gone : List ℕ) (g n : ℕ) (rows : List ItemRow) → RiseFrom row_serial 0 rows →
+    first_needing_any s (gone ++ g ∷ []) n rows
+    ≡ earlier (first_needing_any s gone n rows) (first_needing s g n rows)
+needing_more s gone g n rows h =
+    find_same _ (λ (r : ItemRow). nat_lt n r.serial && is_needing s gone r || nat_lt n r.serial && needs r g) rows
+    (λ r m. by_lt r (nat_lt n r.serial))
+    ∙ first_of_either (λ r. nat_lt n r.serial && is_needing s gone r) (λ r. nat_lt n r.serial && needs r g) 0 rows h
+  where
+    needs : ItemRow → ℕ → Bool
+    needs r k = list_any (λ m. m == k) (change_of s r.change).needs
+
+    by_lt : (r : ItemRow) (b : Bool) → b && is_needing s (gone ++ g ∷ []) r ≡ (b && is_needing s gone r || b && needs r g)
+    by_lt r true = list_any-append (needs r) gone (g ∷ []) ∙ ap (λ t. is_needing s gone r || t) (or_false (needs r g))
+    by_lt r false = refl
+
+pub none_needing : (s : State) (n : ℕ) (rows : List ItemRow) → first_needing_any s [] n rows ≡ None
+none_needing s n [] = refl
+none_needing s n (r ∷ rows) = ap (λ b. cond b (Some r) (first_needing_any s [] n rows)) (and_false (nat_lt n r.serial))
+    ∙ none_needing s n rows
+
+-- the rows of a queue rise
+pub items_in_rise : (c : Settings) (s : State) → IsSound c s → (name : List ℕ) → RiseFrom row_serial 0 (items_in c s name)
+items_in_rise c s sound name = by_queue (queue_named s name) refl
+  where
+    by_queue : (f : Option Queue) → queue_named s name ≡ f → RiseFrom row_serial 0 (option_map_or (item_rows c s) f [])
+    by_queue None e = tt
+    by_queue (Some q) e =
+        let there = found _ s.queues q e in
+        stored_rise c s q (items_rise c s q q.items 0
+        (rises (λ j. j.serial) q.items (every ItemsRise s.queues sound.items_rise q there.0)))
+
+pub earlier_above : (n : ℕ) (a b : Option ItemRow) → IfSome a (λ r. n < r.serial) → IfSome b (λ r. n < r.serial) →
+    IfSome (earlier a b) (λ r. n < r.serial)
+earlier_above n None b h k = k
+earlier_above n (Some a) None h k = h
+earlier_above n (Some a) (Some b) h k = by_test (nat_lt b.serial a.serial)
+  where
+    by_test : (t : Bool) → IfSome (cond t (Some b) (Some a)) (λ (r : ItemRow). n < r.serial)
+    by_test true = k
+    by_test false = h
+
+-- ---- serials rise
+
+-- how far a row is from the end of all serials
+abbrev pub left_above : Option ItemRow → ℕ
+left_above row = option_map_or (λ r. 1000000000000001 - r.serial) row 0
+
+pub nearer : (n : ℕ) (next : CodeNext) (row : Option ItemRow) → n ≤ 1000000000000000 → IsFrom n next →
+    IfSome row (λ r. IsAbove r.serial next) → left_above row < 1000000000000001 - n
+nearer n next None l f h = omega (arith, l)
+nearer n (code.Go m) (Some r) l f h = omega (arith, l, f, h)
+nearer n (code.Need m) (Some r) l f h = omega (arith, l, f, h)
+nearer n code.Stop (Some r) l f h = absurd h
+
+pub further : (n k : ℕ) (next : CodeNext) (row : Option ItemRow) → k ≤ n → IsFrom n next →
+    IfSome row (λ r. IsAbove r.serial next) → IfSome row (λ r. k ≤ r.serial)
+further n k next None l f h = tt
+further n k (code.Go m) (Some r) l f h = omega (arith, l, f, h)
+further n k (code.Need m) (Some r) l f h = omega (arith, l, f, h)
+further n k code.Stop (Some r) l f h = absurd h

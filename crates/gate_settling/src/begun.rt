@@ -1,0 +1,102 @@
+//! A walk before its first visit.
+ghost use Rattle.std.specs.Prelude.{◌≡◌, find, option_copied, option_map, IfOk, MatchOption};
+ghost use Rattle.gate_types.specs.Names.{same_name};
+ghost use Rattle.gate_walk.specs.TakenOut.{out_of};
+ghost use Rattle.gate_walk.specs.UnderWay.{Starts};
+ghost use Rattle.gate_book.specs.Kept.{OfHeldUnder, IsKept};
+ghost use Rattle.gate_settling.specs.Rows as rows;
+ghost use Rattle.gate_settling.specs.Touching.{Touching, delivered};
+
+use crate::rows::{has_landed, is_out};
+use gate_book::book::Book;
+use gate_book::fault::BookFault;
+use gate_queue::window::{grow, shrink};
+use gate_raw::touched::{Event, TouchedItem};
+use gate_types::config::{Config, Queue};
+use gate_types::names::Name;
+use gate_types::records::Verdict;
+use gate_walk::seen::same_name;
+use gate_walk::walk::{QueueFacts, TakenOut, Touched, Walk};
+use std::alloc::Global;
+
+fn queue_named<'c>(config: &'c Config, name: &Name) -> Option<&'c Queue>
+    ensures { option_copied result ≡ find (λ q. same_name q.name name.now) config.now.queues }
+{
+    config
+        .queues
+        .as_slice()
+        .iter()
+        .find(|queue| same_name(&queue.name, name))
+}
+
+/// The window of the touched queue once the delivery is done.
+fn window_now(event: Event, floor: u32, window: u32) -> u32
+    ensures { result ≡ rows.window_now event floor window }
+{
+    match event {
+        Event::Landed => grow(window),
+        Event::Left(Verdict::Refused) => shrink(window, floor),
+        _ => window,
+    }
+}
+
+fn taken_out(touched: &TouchedItem) -> Option<TakenOut>
+    ensures { option_map out_of result ≡ rows.taken_out touched.now }
+{
+    if is_out(touched.event) {
+        Some(TakenOut {
+            change: touched.item.change,
+            failing: touched.item.failing,
+            landed: has_landed(touched.event),
+        })
+    } else {
+        None
+    }
+}
+
+fn starting_point(touched: &TouchedItem) -> Touched
+    ensures serial { result.serial ≡ touched.now.item.serial }
+    ensures ahead { result.ahead ≡ touched.now.item.ahead }
+    ensures out { option_map out_of result.out ≡ rows.taken_out touched.now }
+{
+    Touched {
+        serial: touched.item.serial,
+        ahead: touched.item.ahead,
+        out: taken_out(touched),
+    }
+}
+
+/// The walk for a touched item, before its first visit; none where its queue isn't there.
+pub fn begun<B: Book>(
+    alloc: Global,
+    book: &mut B,
+    config: &Config,
+    touched: &TouchedItem,
+) -> Result<Option<Walk>, BookFault>
+    ensures begun { OfHeldUnder B.IsTrusted B.Holds book.old book.new config.now (λ x.
+        (h : Touching config.now x touched.now) →
+        IfOk result (λ found. MatchOption found ⊥ (λ walk. Starts (delivered h) walk))) }
+    ensures kept { IsKept B.IsTrusted B.Holds B.LeavesOneOf book.old book.new }
+{
+    let Some(settings) = queue_named(config, &touched.queue) else {
+        return Ok(None);
+    };
+    let Some(sizes) = book.queue(&touched.queue)? else {
+        return Ok(None);
+    };
+    let before = book.reports(&touched.queue)?;
+    if before >= 1_000_000_000_000_000 {
+        return Ok(None);
+    }
+    let reports = if is_out(touched.event) {
+        before + 1
+    } else {
+        before
+    };
+    let facts = QueueFacts {
+        settings,
+        window: window_now(touched.event, settings.floor, sizes.window),
+        reports,
+    };
+    Ok(Some(Walk::start(alloc, facts, starting_point(touched))?))
+}

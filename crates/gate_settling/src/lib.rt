@@ -1,0 +1,14 @@
+//! Settles, over a book, the queue of the one item that a delivery touched: a walk over the rows that can change, each
+//! read by its key.
+//!
+//! - `settling::settling` is what the gate calls: its edits, behind those of the delivery, lead to the state after a
+//!   rebase and a sweep of all queues.
+//! - `walking` makes the visits, one after another; `rows` reads what each of them is given; `wanted` finds the row that
+//!   the walk asks for; `begun` begins it.
+#![tactic(auto)]
+
+mod begun;
+mod rows;
+pub mod settling;
+mod walking;
+mod wanted;

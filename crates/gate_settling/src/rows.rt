@@ -1,0 +1,258 @@
+//! What a visit is given of a row: as it is stored, with what the delivery makes of it.
+ghost use Rattle.std.specs.Prelude.{◌≡◌, ◌++◌, ◌∷◌, [], IfOk, map, find, option_copied};
+ghost use Rattle.gate_types.specs.Names.{same_name};
+ghost use Rattle.gate_types.specs.State.{known_change};
+ghost use Rattle.gate_types.specs.Step.{outcome_of_ending};
+ghost use Rattle.gate_book.specs.Kept.{OfHeld, IsKept};
+ghost use Rattle.gate_book.specs.Reads as read;
+ghost use Rattle.gate_settling.specs.Rows as rows;
+
+use gate_book::book::Book;
+use gate_book::fault::BookFault;
+use gate_book::rows::QueuedItem;
+use gate_raw::touched::{Event, TouchedItem};
+use gate_types::config::{Config, Job, Project};
+use gate_types::deliveries::Ending;
+use gate_types::names::NoMemory;
+use gate_types::numbers::{ChangeNo, Serial};
+use gate_types::records::{Build, Change, Outcome, Stage};
+use gate_walk::seen::{SeenNeed, same_name};
+use std::alloc::Global;
+
+/// Whether the item left its queue.
+pub fn is_out(event: Event) -> bool
+    ensures { result ≡ rows.is_out event }
+{
+    match event {
+        Event::Ended { .. } => false,
+        Event::Left(_) => true,
+        Event::Landed => true,
+    }
+}
+
+/// Whether the item has landed.
+pub fn has_landed(event: Event) -> bool
+    ensures { result ≡ rows.has_landed event }
+{
+    match event {
+        Event::Ended { .. } => false,
+        Event::Left(_) => false,
+        Event::Landed => true,
+    }
+}
+
+fn is_landed(known: &Option<Change>) -> bool
+    ensures { result ≡ rows.is_landed_known known.now }
+{
+    match known {
+        Some(change) => matches!(change.stage, Stage::Landed),
+        None => false,
+    }
+}
+
+/// Whether an item stands in the touched queue still.
+fn stands_still(touched: &TouchedItem, queued: &QueuedItem) -> bool
+    ensures { result ≡ rows.stands_still touched.now queued.now }
+{
+    same_name(&queued.queue, &touched.queue)
+        && !(is_out(touched.event) && queued.item.serial == touched.item.serial)
+}
+
+fn standing_by(touched: &TouchedItem, queued: &Option<QueuedItem>) -> Option<bool>
+    ensures { result ≡ rows.standing_by touched.now queued.now }
+{
+    match queued {
+        Some(queued) => {
+            if stands_still(touched, queued) {
+                Some(queued.item.failing)
+            } else {
+                None
+            }
+        }
+        None => None,
+    }
+}
+
+/// A need of an item in the touched queue.
+fn need_now<B: Book>(
+    book: &mut B,
+    touched: &TouchedItem,
+    change: ChangeNo,
+) -> Result<SeenNeed, BookFault>
+    ensures need { OfHeld B.IsTrusted B.Holds book.old book.new (λ c x.
+        IfOk result (λ need. need ≡ rows.need_now c x.state touched.now change)) }
+    ensures kept { IsKept B.IsTrusted B.Holds B.LeavesOneOf book.old book.new }
+{
+    let known = book.change(change)?;
+    let queued = book.queued(change)?;
+    Ok(SeenNeed {
+        change,
+        landed: is_landed(&known) || has_landed(touched.event) && touched.item.change == change,
+        standing: standing_by(touched, &queued),
+    })
+}
+
+fn with_need(needs: Vec<SeenNeed>, need: SeenNeed) -> Result<Vec<SeenNeed>, NoMemory>
+    ensures { IfOk result (λ all. all.items ≡ needs.items ++ need ∷ []) }
+{
+    let mut needs = needs;
+    needs.push(need)?;
+    Ok(needs)
+}
+
+/// Needs of an item in the touched queue.
+fn needs_now<B: Book>(
+    alloc: Global,
+    book: &mut B,
+    touched: &TouchedItem,
+    changes: &[ChangeNo],
+) -> Result<Vec<SeenNeed>, BookFault>
+    ensures needs { OfHeld B.IsTrusted B.Holds book.old book.new (λ c x.
+        IfOk result (λ needs. needs.items ≡ map (rows.need_now c x.state touched.now) changes.now)) }
+    ensures kept { IsKept B.IsTrusted B.Holds B.LeavesOneOf book.old book.new }
+{
+    let mut needs = Vec::new(alloc);
+    for change in changes {
+        let need = need_now(book, touched, *change)?;
+        needs = with_need(needs, need)?;
+    }
+    Ok(needs)
+}
+
+fn needs_known(known: &Option<Change>) -> &[ChangeNo]
+    ensures { result.now ≡ rows.needs_known known.now }
+{
+    match known {
+        Some(change) => change.needs.as_slice(),
+        None => &[],
+    }
+}
+
+fn project_named<'c>(config: &'c Config, name: &str) -> Option<&'c Project>
+    ensures { option_copied result ≡ find (λ p. same_name p.name name.now) config.now.projects }
+{
+    config
+        .projects
+        .as_slice()
+        .iter()
+        .find(|project| project.name.as_str() == name)
+}
+
+fn jobs_named<'c>(config: &'c Config, name: &str) -> &'c [Job]
+    ensures { result.now ≡ rows.jobs_named config.now name.now }
+{
+    match project_named(config, name) {
+        Some(project) => project.jobs.as_slice(),
+        None => &[],
+    }
+}
+
+/// The jobs of a change's project; where it isn't known, those of a project without a name.
+fn jobs_known<'c>(config: &'c Config, known: &Option<Change>) -> &'c [Job]
+    ensures { result.now ≡ rows.jobs_named config.now (rows.project_known known.now) }
+{
+    match known {
+        Some(change) => jobs_named(config, change.project.as_str()),
+        None => jobs_named(config, ""),
+    }
+}
+
+fn outcome_of(ending: Ending) -> Outcome
+    ensures { result ≡ outcome_of_ending ending }
+{
+    match ending {
+        Ending::Success => Outcome::Success,
+        Ending::Failure => Outcome::Failure,
+        Ending::Lost => Outcome::Lost,
+    }
+}
+
+/// A build once the delivery is done: the one that ended has its outcome.
+fn build_now(event: Event, build: Build) -> Build
+    ensures { result ≡ rows.build_now event build }
+{
+    match event {
+        Event::Ended {
+            build: number,
+            ending,
+        } => {
+            if build.number == number {
+                Build {
+                    outcome: outcome_of(ending),
+                    ..build
+                }
+            } else {
+                build
+            }
+        }
+        _ => build,
+    }
+}
+
+fn with_build(builds: Vec<Build>, build: Build) -> Result<Vec<Build>, NoMemory>
+    ensures { IfOk result (λ all. all.items ≡ builds.items ++ build ∷ []) }
+{
+    let mut builds = builds;
+    builds.push(build)?;
+    Ok(builds)
+}
+
+fn builds_after(alloc: Global, event: Event, live: &[Build]) -> Result<Vec<Build>, NoMemory>
+    ensures { IfOk result (λ builds. builds.items ≡ map (rows.build_now event) live.now) }
+{
+    let mut builds = Vec::new(alloc);
+    for build in live {
+        builds = with_build(builds, build_now(event, build.copy()?))?;
+    }
+    Ok(builds)
+}
+
+/// The live builds of a row.
+fn builds_now<B: Book>(
+    alloc: Global,
+    book: &mut B,
+    event: Event,
+    serial: Serial,
+) -> Result<Vec<Build>, BookFault>
+    ensures builds { OfHeld B.IsTrusted B.Holds book.old book.new (λ c x.
+        IfOk result (λ builds. builds.items ≡ map (rows.build_now event) (read.live_builds x.state serial))) }
+    ensures kept { IsKept B.IsTrusted B.Holds B.LeavesOneOf book.old book.new }
+{
+    let live = book.live_builds(serial)?;
+    Ok(builds_after(alloc, event, live.as_slice())?)
+}
+
+/// What stands beside a row.
+#[derive(Drop)]
+pub struct RowFacts<'c> {
+    pub needs: Vec<SeenNeed>,
+    pub jobs: &'c [Job],
+    pub builds: Vec<Build>,
+}
+
+/// What stands beside the row of a change and a serial in the touched queue.
+pub fn facts_now<'c, B: Book>(
+    alloc: Global,
+    book: &mut B,
+    config: &'c Config,
+    touched: &TouchedItem,
+    change: ChangeNo,
+    serial: Serial,
+) -> Result<RowFacts<'c>, BookFault>
+    ensures needs { OfHeld B.IsTrusted B.Holds book.old book.new (λ c x. IfOk result (λ f.
+        f.needs.items ≡ map (rows.need_now c x.state touched.now) (rows.needs_known (known_change x.state change)))) }
+    ensures jobs { OfHeld B.IsTrusted B.Holds book.old book.new (λ c x. IfOk result (λ f.
+        f.jobs.now ≡ rows.jobs_named config.now (rows.project_known (known_change x.state change)))) }
+    ensures builds { OfHeld B.IsTrusted B.Holds book.old book.new (λ c x. IfOk result (λ f.
+        f.builds.items ≡ map (rows.build_now touched.now.event) (read.live_builds x.state serial))) }
+    ensures kept { IsKept B.IsTrusted B.Holds B.LeavesOneOf book.old book.new }
+{
+    let known = book.change(change)?;
+    let needs = needs_now(alloc, book, touched, needs_known(&known))?;
+    let builds = builds_now(alloc, book, touched.event, serial)?;
+    Ok(RowFacts {
+        needs,
+        jobs: jobs_known(config, &known),
+        builds,
+    })
+}

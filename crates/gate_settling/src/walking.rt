@@ -1,0 +1,66 @@
+//! The visits of a walk, one after another.
+ghost use Rattle.std.specs.Prelude.{◌≡◌, ◌∷◌, Some, List, IfOk, OnOk};
+ghost use Rattle.gate_walk.specs.Walk as walks;
+ghost use Rattle.gate_walk.specs.UnderWay.{HasVisited, GoesOn, Starts, row_wanted};
+ghost use Rattle.gate_book.specs.Kept.{OfHeldUnder, IsKept};
+ghost use Rattle.gate_settling.specs.Rows as rows;
+ghost use Rattle.gate_settling.specs.Touching.{Touching, delivered, sees, IsWalked};
+
+use crate::rows::facts_now;
+use crate::wanted::{first_wanted, wanted};
+use gate_book::book::Book;
+use gate_book::fault::BookFault;
+use gate_raw::touched::TouchedItem;
+use gate_types::config::Config;
+use gate_types::records::Item;
+use gate_walk::walk::{Next, Seen, Walk};
+use std::alloc::Global;
+
+/// Visits the row that is wanted.
+fn visited<B: Book>(
+    alloc: Global,
+    book: &mut B,
+    config: &Config,
+    touched: &TouchedItem,
+    walk: &mut Walk,
+    row: Item,
+) -> Result<Next, BookFault>
+    ensures visited { OfHeldUnder B.IsTrusted B.Holds book.old book.new config.now (λ x.
+        (h : Touching config.now x touched.now) (vs : List walks.Seen) → HasVisited (delivered h) walk.old vs →
+        row_wanted (delivered h) vs ≡ Some (sees h row) →
+        IfOk result (λ next. GoesOn (delivered h) walk.old walk.new (sees h row) vs next)) }
+    ensures from { IfOk result (λ next. rows.IsFrom row.serial next) }
+    ensures kept { IsKept B.IsTrusted B.Holds B.LeavesOneOf book.old book.new }
+{
+    let facts = facts_now(alloc, book, config, touched, row.change, row.serial)?;
+    let seen = Seen {
+        row,
+        needs: facts.needs.as_slice(),
+        jobs: facts.jobs,
+        builds: facts.builds.as_slice(),
+    };
+    Ok(walk.visit(alloc, Some(&seen))?)
+}
+
+/// Visits rows until none is wanted.
+pub fn walked<B: Book>(
+    alloc: Global,
+    book: &mut B,
+    config: &Config,
+    touched: &TouchedItem,
+    begun: Walk,
+) -> Result<Walk, BookFault>
+    ensures walked { OfHeldUnder B.IsTrusted B.Holds book.old book.new config.now (λ x.
+        (h : Touching config.now x touched.now) → Starts (delivered h) begun →
+        IfOk result (λ walk. IsWalked h walk)) }
+    ensures kept { IsKept B.IsTrusted B.Holds B.LeavesOneOf book.old book.new }
+{
+    let mut walk = begun;
+    let mut next = first_wanted(book, touched)?;
+    while let Some(row) = next {
+        let asks = visited(alloc, book, config, touched, &mut walk, row)?;
+        next = wanted(book, &touched.queue, walk.gone(), asks)?;
+    }
+    walk.visit(alloc, None)?;
+    Ok(walk)
+}
