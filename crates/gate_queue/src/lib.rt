@@ -12,6 +12,7 @@ mod fixtures;
 pub mod judge;
 pub mod laws;
 mod line;
+pub mod outcomes;
 #[cfg(test)]
 mod scenes;
 pub mod settle;

@@ -1,5 +1,5 @@
 //! What the jobs of an item have come to.
-ghost use Rattle.std.specs.Prelude.{◌≡◌, false, ◌&&◌, IfOk, count_by};
+ghost use Rattle.std.specs.Prelude.{◌≡◌, false, ◌&&◌, IfOk};
 ghost use Rattle.std.specs.List.{list_any};
 ghost use Rattle.gate_types.specs.Names.{same_name};
 ghost use Rattle.gate_types.specs.Slot as rules;
@@ -8,6 +8,7 @@ ghost use Rattle.gate_queue.specs.Facts.{place_of};
 
 use crate::context::ItemContext;
 use crate::line::ran_on_line;
+use crate::outcomes::{is_failed, is_finished, slot_of_outcomes};
 use gate_types::config::Job;
 use gate_types::names::{Name, NoMemory};
 use gate_types::records::{Build, Outcome, Slot};
@@ -47,48 +48,6 @@ fn outcomes_of(
     Ok(found)
 }
 
-fn has_success(outcomes: &[Outcome]) -> bool
-    ensures { result ≡ list_any rules.is_success outcomes.now }
-{
-    outcomes.iter().any(|o| matches!(o, Outcome::Success))
-}
-
-fn has_failure(outcomes: &[Outcome]) -> bool
-    ensures { result ≡ list_any rules.is_failure outcomes.now }
-{
-    outcomes.iter().any(|o| matches!(o, Outcome::Failure))
-}
-
-fn has_running(outcomes: &[Outcome]) -> bool
-    ensures { result ≡ list_any rules.is_running outcomes.now }
-{
-    outcomes.iter().any(|o| matches!(o, Outcome::Running))
-}
-
-fn count_lost(outcomes: &[Outcome]) -> usize
-    ensures { result ≡ count_by rules.is_lost outcomes.now }
-{
-    outcomes
-        .iter()
-        .filter(|o| matches!(o, Outcome::Lost))
-        .count()
-}
-
-/// What a job has come to by the outcomes of its builds that count.
-pub fn slot_of_outcomes(outcomes: &[Outcome]) -> Slot
-    ensures { result ≡ rules.slot_of_outcomes outcomes.now }
-{
-    if has_success(outcomes) {
-        Slot::Success
-    } else if has_failure(outcomes) || count_lost(outcomes) >= 3 {
-        Slot::Failure
-    } else if has_running(outcomes) {
-        Slot::Running
-    } else {
-        Slot::Waiting
-    }
-}
-
 fn slot_of(
     alloc: Global,
     context: &ItemContext,
@@ -100,20 +59,6 @@ fn slot_of(
 {
     let outcomes = outcomes_of(alloc, context, builds, job)?;
     Ok(slot_of_outcomes(&outcomes))
-}
-
-/// Whether a job has ended in failure.
-pub fn is_failed(slot: Slot) -> bool
-    ensures { result ≡ rules.is_failed_slot slot }
-{
-    matches!(slot, Slot::Failure)
-}
-
-/// Whether a job has ended.
-pub fn is_finished(slot: Slot) -> bool
-    ensures { result ≡ rules.is_finished slot }
-{
-    matches!(slot, Slot::Success | Slot::Failure)
 }
 
 /// What the jobs of an item say of it.

@@ -5,7 +5,8 @@ ghost use Rattle.gate_types.specs.Slot as rules;
 ghost use Rattle.gate_walk.specs.Walk as walk;
 
 use gate_queue::judge::verdict_of;
-use gate_queue::slots::{Marks, is_failed, is_finished, same_name, slot_of_outcomes};
+use gate_queue::outcomes::{is_failed, is_finished, slot_of_outcomes};
+use gate_queue::slots::{Marks, same_name};
 use gate_types::config::Job;
 use gate_types::names::NoMemory;
 use gate_types::numbers::ChangeNo;
