@@ -1,0 +1,16 @@
+-- calls, lists
+pub mod Kept
+pub mod Found
+-- one item
+pub mod OwnBuilds
+pub mod KnownPlaces
+-- a queue, row by row
+pub mod Walking
+pub mod Passing
+pub mod Trying
+-- the queues, one after another
+pub mod Queues
+-- the items of all queues
+pub mod Stood
+pub mod ShownOrders
+pub mod Told

@@ -1,0 +1,11 @@
+use Rattle.std.proofs.Common.{◌≡◌, map, take}
+use Rattle.gate_book.specs.Kept.{OfHeld, IsKept}
+use Rattle.gate_reads.specs.Known.{need_of}
+use Rattle.gate_reads.proofs.known.needs_with.Given as goal
+
+abbrev pub invariant-loop-number : goal.invariant-loop-number
+invariant-loop-number g l = record {
+  kept : IsKept g.B.Book.IsTrusted g.B.Book.Holds g.B.Book.LeavesOneOf l.fn.book l.book;
+  found : OfHeld g.B.Book.IsTrusted g.B.Book.Holds l.fn.book l.book
+      (λ c x. l.needs.items ≡ map (need_of x.state) (take l.number-index l.numbers));
+}

@@ -1,0 +1,6 @@
+pub mod Orders
+pub mod Standing
+pub mod NextBuild
+pub mod Jobs
+pub mod Known
+pub mod Places

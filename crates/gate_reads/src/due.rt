@@ -1,0 +1,94 @@
+//! The build that is due of one item.
+ghost use Rattle.std.specs.Prelude.{◌≡◌, ◌==◌, IfOk, option_map, slice_get};
+ghost use Rattle.std.specs.List.{list_any};
+ghost use Rattle.gate_types.specs.State.{Queue};
+ghost use Rattle.gate_types.specs.Line.{Place};
+ghost use Rattle.gate_types.specs.Choice.{builds_for};
+ghost use Rattle.gate_book.specs.Kept.{OfHeld, OfHeldUnder, IsKept};
+ghost use Rattle.gate_book.specs.Reads.{landings_before};
+ghost use Rattle.gate_reads.specs.NextBuild.{with_number};
+ghost use Rattle.gate_reads.specs.Places.{IsBehind, are_met_among, build_on};
+
+use crate::jobs::first_waiting;
+use crate::known::{jobs_of, needs_of};
+use gate_book::book::Book;
+use gate_book::fault::BookFault;
+use gate_types::config::{Config, Job};
+use gate_types::names::Name;
+use gate_types::numbers::{BuildNo, ChangeNo};
+use gate_types::records::{Build, Entry, Item, Need, Outcome};
+use gate_types::sequence::Sequence;
+use std::alloc::Global;
+
+fn has_change(ahead: &[Entry], change: ChangeNo) -> bool
+    ensures { result ≡ list_any (λ e. e.change == change) ahead.now }
+{
+    ahead.iter().any(|entry| entry.change == change)
+}
+
+fn are_met_among(ahead: &[Entry], needs: &[Need]) -> bool
+    ensures { result ≡ are_met_among ahead.now needs.now }
+{
+    needs
+        .iter()
+        .all(|need| need.landed || has_change(ahead, need.change))
+}
+
+/// A build of a job of an item, on what is ahead of it.
+fn build_on<B: Book>(
+    book: &mut B,
+    queue: &Name,
+    number: BuildNo,
+    ahead: &Sequence<Entry>,
+    item: &Item,
+    job: &Job,
+) -> Result<Build, BookFault>
+    ensures found { OfHeld B.IsTrusted B.Holds book.old book.new (λ c x.
+        let after = landings_before x.state queue.now item.now.serial in
+        IfOk result (λ build. build ≡ build_on number queue.now ahead.now item.now after job.now.name)) }
+    ensures kept { IsKept B.IsTrusted B.Holds B.LeavesOneOf book.old book.new }
+{
+    let after = book.landing_before(queue, item.serial)?;
+    let queue = queue.copy()?;
+    let job = job.name.copy()?;
+    let ahead = ahead.copy()?;
+    Ok(Build {
+        number,
+        queue,
+        serial: item.serial,
+        change: item.change,
+        revision: item.revision,
+        job,
+        after,
+        ahead,
+        outcome: Outcome::Running,
+        live: true,
+    })
+}
+
+/// The build of the first waiting job of an item with these changes ahead, unless it is blocked.
+pub fn build_of_item<B: Book>(
+    alloc: Global,
+    book: &mut B,
+    config: &Config,
+    queue: &Name,
+    number: BuildNo,
+    ahead: &Sequence<Entry>,
+    item: &Item,
+) -> Result<Option<Build>, BookFault>
+    ensures found { OfHeldUnder B.IsTrusted B.Holds book.old book.new config.now (λ x. (q : Queue) (p : Place) →
+        IsBehind config.now x.state queue.now ahead.now item.now q p →
+        IfOk result (λ found. found ≡ option_map (with_number number) (slice_get (builds_for x.state q p) 0))) }
+    ensures kept { IsKept B.IsTrusted B.Holds B.LeavesOneOf book.old book.new }
+{
+    let known = book.change(item.change)?;
+    let needs = needs_of(alloc, book, &known)?;
+    if !are_met_among(ahead.as_slice(), &needs) {
+        return Ok(None);
+    }
+    let builds = book.live_builds(item.serial)?;
+    match first_waiting(alloc, builds.as_slice(), jobs_of(config, &known))? {
+        Some(job) => Ok(Some(build_on(book, queue, number, ahead, item, job)?)),
+        None => Ok(None),
+    }
+}

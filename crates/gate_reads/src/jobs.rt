@@ -1,0 +1,72 @@
+//! What the jobs of an item have come to, by its live builds.
+ghost use Rattle.std.specs.Prelude.{◌≡◌, find, option_copied, IfOk};
+ghost use Rattle.std.specs.List.{list_all};
+ghost use Rattle.gate_types.specs.Names.{same_name};
+ghost use Rattle.gate_types.specs.Slot.{is_waiting_slot, is_finished};
+ghost use Rattle.gate_reads.specs.Jobs.{outcomes_among, slot_among};
+
+use gate_queue::outcomes::{is_finished, slot_of_outcomes};
+use gate_types::config::Job;
+use gate_types::names::NoMemory;
+use gate_types::records::{Build, Outcome, Slot};
+use std::alloc::Global;
+
+fn is_of(build: &Build, job: &Job) -> bool
+    ensures { result ≡ same_name build.now.job job.now.name }
+{
+    build.job.as_str() == job.name.as_str()
+}
+
+fn outcomes_among(alloc: Global, builds: &[Build], job: &Job) -> Result<Vec<Outcome>, NoMemory>
+    ensures { IfOk result (λ found. found.items ≡ outcomes_among builds.now job.now) }
+{
+    let mut found = Vec::new(alloc);
+    for build in builds {
+        if is_of(build, job) {
+            found.push(build.outcome)?;
+        }
+    }
+    Ok(found)
+}
+
+/// What a job has come to, by the live builds of its item.
+fn slot_among(alloc: Global, builds: &[Build], job: &Job) -> Result<Slot, NoMemory>
+    ensures { IfOk result (λ slot. slot ≡ slot_among builds.now job.now) }
+{
+    let outcomes = outcomes_among(alloc, builds, job)?;
+    Ok(slot_of_outcomes(&outcomes))
+}
+
+fn is_waiting(slot: Slot) -> bool
+    ensures { result ≡ is_waiting_slot slot }
+{
+    matches!(slot, Slot::Waiting)
+}
+
+/// The first waiting job.
+pub fn first_waiting<'j>(
+    alloc: Global,
+    builds: &[Build],
+    jobs: &'j [Job],
+) -> Result<Option<&'j Job>, NoMemory>
+    ensures { IfOk result (λ found. option_copied found
+        ≡ find (λ j. is_waiting_slot (slot_among builds.now j)) jobs.now) }
+{
+    for job in jobs {
+        if is_waiting(slot_among(alloc, builds, job)?) {
+            return Ok(Some(job));
+        }
+    }
+    Ok(None)
+}
+
+/// Whether each job has ended.
+pub fn have_ended(alloc: Global, builds: &[Build], jobs: &[Job]) -> Result<bool, NoMemory>
+    ensures { IfOk result (λ ended. ended ≡ list_all (λ j. is_finished (slot_among builds.now j)) jobs.now) }
+{
+    let mut ended = true;
+    for job in jobs {
+        ended = ended && is_finished(slot_among(alloc, builds, job)?);
+    }
+    Ok(ended)
+}

@@ -1,0 +1,105 @@
+//! What is known of a change: its needs, each with whether it has landed, and the jobs of its project.
+ghost use Rattle.std.specs.Prelude.{◌≡◌, ◌++◌, ◌∷◌, [], IfOk, map, find, option_copied};
+ghost use Rattle.gate_types.specs.Names.{same_name};
+ghost use Rattle.gate_types.specs.State.{is_landed};
+ghost use Rattle.gate_book.specs.Kept.{OfHeld, IsKept};
+ghost use Rattle.gate_reads.specs.Known as known;
+
+use gate_book::book::Book;
+use gate_book::fault::BookFault;
+use gate_types::config::{Config, Job, Project};
+use gate_types::names::NoMemory;
+use gate_types::numbers::ChangeNo;
+use gate_types::records::{Change, Need, Stage};
+use std::alloc::Global;
+
+fn is_landed(change: &Option<Change>) -> bool
+    ensures { result ≡ is_landed (known.known_or_closed change.now) }
+{
+    match change {
+        Some(change) => matches!(change.stage, Stage::Landed),
+        None => false,
+    }
+}
+
+fn project_named<'c>(config: &'c Config, name: &str) -> Option<&'c Project>
+    ensures { option_copied result ≡ find (λ p. same_name p.name name.now) config.now.projects }
+{
+    config
+        .projects
+        .as_slice()
+        .iter()
+        .find(|project| project.name.as_str() == name)
+}
+
+fn jobs_named<'c>(config: &'c Config, name: &str) -> &'c [Job]
+    ensures { result.now ≡ known.jobs_named config.now name.now }
+{
+    match project_named(config, name) {
+        Some(project) => project.jobs.as_slice(),
+        None => &[],
+    }
+}
+
+/// The jobs of a change's project; none where the change isn't known.
+pub fn jobs_of<'c>(config: &'c Config, change: &Option<Change>) -> &'c [Job]
+    ensures { result.now ≡ known.jobs_named config.now (known.known_or_closed change.now).project }
+{
+    match change {
+        Some(change) => jobs_named(config, change.project.as_str()),
+        None => jobs_named(config, ""),
+    }
+}
+
+fn need<B: Book>(book: &mut B, number: ChangeNo) -> Result<Need, BookFault>
+    ensures found { OfHeld B.IsTrusted B.Holds book.old book.new (λ c x.
+        IfOk result (λ need. need ≡ known.need_of x.state number)) }
+    ensures kept { IsKept B.IsTrusted B.Holds B.LeavesOneOf book.old book.new }
+{
+    let known = book.change(number)?;
+    Ok(Need {
+        change: number,
+        landed: is_landed(&known),
+    })
+}
+
+fn with_need(needs: Vec<Need>, need: Need) -> Result<Vec<Need>, NoMemory>
+    ensures { IfOk result (λ all. all.items ≡ needs.items ++ need ∷ []) }
+{
+    let mut needs = needs;
+    needs.push(need)?;
+    Ok(needs)
+}
+
+fn needs_with<B: Book>(
+    alloc: Global,
+    book: &mut B,
+    numbers: &[ChangeNo],
+) -> Result<Vec<Need>, BookFault>
+    ensures found { OfHeld B.IsTrusted B.Holds book.old book.new (λ c x.
+        IfOk result (λ needs. needs.items ≡ map (known.need_of x.state) numbers.now)) }
+    ensures kept { IsKept B.IsTrusted B.Holds B.LeavesOneOf book.old book.new }
+{
+    let mut needs = Vec::new(alloc);
+    for number in numbers {
+        let next = need(book, *number)?;
+        needs = with_need(needs, next)?;
+    }
+    Ok(needs)
+}
+
+/// The needs of a change; none where it isn't known.
+pub fn needs_of<B: Book>(
+    alloc: Global,
+    book: &mut B,
+    change: &Option<Change>,
+) -> Result<Vec<Need>, BookFault>
+    ensures found { OfHeld B.IsTrusted B.Holds book.old book.new (λ c x.
+        IfOk result (λ needs. needs.items ≡ map (known.need_of x.state) (known.known_or_closed change.now).needs)) }
+    ensures kept { IsKept B.IsTrusted B.Holds B.LeavesOneOf book.old book.new }
+{
+    match change {
+        Some(change) => needs_with(alloc, book, change.needs.as_slice()),
+        None => Ok(Vec::new(alloc)),
+    }
+}

@@ -1,0 +1,11 @@
+//! What a gate asks of a book by key: the build that is due, the orders that are shown, where a change stands. No queue
+//! is loaded: items are gone through one after another, no further than the rule needs.
+#![tactic(auto)]
+
+mod due;
+mod jobs;
+mod known;
+pub mod next_build;
+pub mod orders;
+mod shown;
+pub mod standing;

@@ -1,0 +1,108 @@
+//! The build that a worker is given next.
+ghost use Rattle.std.specs.Prelude.{◌≡◌, ◌==◌, ◌||◌, ◌++◌, ◌∷◌, [], nat_lt, IfOk, OnOk, Some, if◌then◌else◌, option_map, slice_get};
+ghost use Rattle.gate_types.specs.State.{Queue};
+ghost use Rattle.gate_types.specs.Choice.{choices, choose};
+ghost use Rattle.gate_book.specs.Kept.{OfHeldUnder, IsKept};
+ghost use Rattle.gate_book.specs.Reads.{queue_named};
+ghost use Rattle.gate_reads.specs.NextBuild.{with_number};
+
+use crate::due::build_of_item;
+use gate_book::book::Book;
+use gate_book::fault::BookFault;
+use gate_types::config::Config;
+use gate_types::names::{Name, NoMemory};
+use gate_types::numbers::BuildNo;
+use gate_types::records::{Build, Entry, Item};
+use gate_types::sequence::Sequence;
+use std::alloc::Global;
+
+/// Whether one more item may be tested.
+fn is_open(window: u32, left: u32) -> bool
+    ensures { result ≡ (window == 0 || nat_lt 0 left) }
+{
+    window == 0 || 0 < left
+}
+
+/// What is ahead of the next item: an item that is failing stands in no line.
+fn push_unless_failing(ahead: &mut Sequence<Entry>, item: &Item) -> Result<(), NoMemory>
+    ensures { OnOk result (ahead.new ≡ (if item.now.failing then ahead.old else ahead.old ++
+        record { change = item.now.change; revision = item.now.revision } ∷ [])) }
+{
+    if item.failing {
+        return Ok(());
+    }
+    ahead.push(Entry {
+        change: item.change,
+        revision: item.revision,
+    })?;
+    Ok(())
+}
+
+/// The first build that is due in a queue of this window.
+fn first_build<B: Book>(
+    alloc: Global,
+    book: &mut B,
+    config: &Config,
+    queue: &Name,
+    window: u32,
+    number: BuildNo,
+) -> Result<Option<Build>, BookFault>
+    ensures found { OfHeldUnder B.IsTrusted B.Holds book.old book.new config.now (λ x. (q : Queue) →
+        queue_named x.state queue.now ≡ Some q → window ≡ q.window →
+        IfOk result (λ found. found ≡ option_map (with_number number) (slice_get (choices config.now x.state q) 0))) }
+    ensures kept { IsKept B.IsTrusted B.Holds B.LeavesOneOf book.old book.new }
+{
+    let mut ahead = Sequence::new(alloc);
+    let mut above = 0;
+    let mut left = window;
+    'along: while is_open(window, left) {
+        let Some(item) = book.next_item(queue, above)? else {
+            return Ok(None);
+        };
+        if let Some(build) = build_of_item(alloc, book, config, queue, number, &ahead, &item)? {
+            return Ok(Some(build));
+        }
+        push_unless_failing(&mut ahead, &item)?;
+        above = item.serial.get();
+        left = left.saturating_sub(1);
+    }
+    Ok(None)
+}
+
+fn build_of_queue<B: Book>(
+    alloc: Global,
+    book: &mut B,
+    config: &Config,
+    queue: &Name,
+    number: BuildNo,
+) -> Result<Option<Build>, BookFault>
+    ensures found { OfHeldUnder B.IsTrusted B.Holds book.old book.new config.now (λ x. (q : Queue) →
+        queue_named x.state queue.now ≡ Some q →
+        IfOk result (λ found. found ≡ option_map (with_number number) (slice_get (choices config.now x.state q) 0))) }
+    ensures kept { IsKept B.IsTrusted B.Holds B.LeavesOneOf book.old book.new }
+{
+    match book.queue(queue)? {
+        Some(sizes) => first_build(alloc, book, config, queue, sizes.window, number),
+        None => Ok(None),
+    }
+}
+
+/// The build that a worker is given next, under this number: of the first queue, item and job such that the item's
+/// place is within the window, the item isn't blocked, and the job waits. None where there is no such job.
+pub fn next_build<B: Book>(
+    alloc: Global,
+    book: &mut B,
+    config: &Config,
+    number: BuildNo,
+) -> Result<Option<Build>, BookFault>
+    ensures found { OfHeldUnder B.IsTrusted B.Holds book.old book.new config.now (λ x.
+        IfOk result (λ found. found ≡ option_map (with_number number) (choose config.now x.state))) }
+    ensures kept { IsKept B.IsTrusted B.Holds B.LeavesOneOf book.old book.new }
+{
+    for queue in config.queues.as_slice() {
+        if let Some(build) = build_of_queue(alloc, book, config, &queue.name, number)? {
+            return Ok(Some(build));
+        }
+    }
+    Ok(None)
+}

@@ -1,0 +1,53 @@
+//! Where a change stands.
+ghost use Rattle.std.specs.Prelude.{◌≡◌, ◌==◌, IfOk};
+ghost use Rattle.std.specs.List.{list_any};
+ghost use Rattle.gate_book.specs.Kept.{OfHeldUnder, IsKept};
+ghost use Rattle.gate_reads.specs.Standing.{StandsSo};
+
+use gate_book::book::Book;
+use gate_book::fault::BookFault;
+use gate_book::rows::QueuedItem;
+use gate_types::config::Config;
+use gate_types::numbers::ChangeNo;
+use gate_types::records::Ready;
+use std::alloc::Global;
+
+/// Where a change stands.
+#[derive(Debug, Drop)]
+pub enum Stand {
+    /// It is an item of a queue.
+    Queued(QueuedItem),
+    /// It is approved and stands in no queue.
+    Ready,
+    /// Neither.
+    Nowhere,
+}
+
+fn has_ready(ready: &[Ready], change: ChangeNo) -> bool
+    ensures { result ≡ list_any (λ r. r.change == change) ready.now }
+{
+    ready.iter().any(|row| row.change == change)
+}
+
+/// Where a change stands. The ready list is read only where it is no item.
+pub fn standing<B: Book>(
+    alloc: Global,
+    book: &mut B,
+    config: &Config,
+    change: ChangeNo,
+) -> Result<Stand, BookFault>
+    ensures found { OfHeldUnder B.IsTrusted B.Holds book.old book.new config.now (λ x.
+        IfOk result (StandsSo config.now x.state change)) }
+    ensures kept { IsKept B.IsTrusted B.Holds B.LeavesOneOf book.old book.new }
+{
+    // No two queues have one name.
+    let _settings = &config.base;
+    if let Some(queued) = book.queued(change)? {
+        return Ok(Stand::Queued(queued));
+    }
+    if has_ready(book.ready()?.as_slice(), change) {
+        Ok(Stand::Ready)
+    } else {
+        Ok(Stand::Nowhere)
+    }
+}
