@@ -1,6 +1,6 @@
 -- A walk is begun as it is to be: by the settings, the window and the reports of its queue, and the touched row.
-use Rattle.std.proofs.Common.{◌≡◌, ℕ, zero, suc, ◌+◌, ◌<◌, ◌≤◌, true, false, cond, Option, Some, None, List, [], ◌∷◌, ◌++◌, map, length, inl, inr, refl, sym, ap, ◌∙◌, subst, arith, true≢false}
-use Rattle.std.specs.Prelude.{◌==◌, nat_le, find, option_map, option_and_then, flat_map}
+use Rattle.std.proofs.Common.{◌≡◌, ℕ, zero, suc, ◌<◌, ◌≤◌, Bool, true, false, cond, Option, Some, None, List, [], ◌∷◌, map, length, inl, inr, refl, sym, ap, ◌∙◌, subst, arith, true≢false}
+use Rattle.std.specs.Prelude.{find, option_map, option_and_then, flat_map}
 use Rattle.std.specs.Option.{option_map_or}
 use Rattle.std.proofs.lemmas.Bool.{and_parts, leb-true}
 use Rattle.std.proofs.lemmas.Option.{same_Some, none-some}
@@ -17,19 +17,18 @@ use Rattle.gate_types.specs.Window.{floor_of}
 use Rattle.gate_types.specs.Lawful.{serials_of}
 use Rattle.gate_types.specs.Rows.{item_of, item_rows}
 use Rattle.gate_types.specs.Once.{Content}
-use Rattle.gate_types.specs.Forms.{is_queue_in_form, is_item_in_form, is_report_in_form}
+use Rattle.gate_types.specs.Forms.{are_counters_in_form}
 use Rattle.gate_walk.specs.declared.walk.QueueFacts.{QueueFacts}
 use Rattle.gate_walk.specs.declared.walk.Touched.{Touched}
-use Rattle.gate_walk.specs.Rescan.{TakenOut, start, ahead_at, fails_at}
+use Rattle.gate_walk.specs.Rescan.{TakenOut, start, fails_at}
 use Rattle.gate_walk.specs.TakenOut.{out_of}
 use Rattle.gate_walk.specs.Delivery.{touch_of, out_by}
 use Rattle.gate_walk.specs.UnderWay.{IsFor, queue_after}
 use Rattle.gate_book.specs.Reads.{queue_named, sizes_of, reports_in}
-use Rattle.gate_book.specs.declared.rows.QueueSizes.{QueueSizes}
 use Rattle.gate_raw.specs.Touches.{event_of}
 use Rattle.gate_raw.specs.declared.touched.Event.{Event}
 use Rattle.gate_raw.specs.declared.touched.TouchedItem.{TouchedItem}
-use Rattle.gate_laws.proofs.Members.{In, every, from_map, to_map, from_append, all_from, found, not_found}
+use Rattle.gate_laws.proofs.Members.{In, from_map, to_map, from_append, found, not_found}
 use Rattle.gate_laws.proofs.Counts.{times, in_times, distinct_from, one_part}
 use Rattle.gate_laws.proofs.Alone.{same_name_of, same_name_is}
 use Rattle.gate_laws.proofs.Drawn.{item_drawn, report_drawn}
@@ -37,7 +36,7 @@ use Rattle.gate_laws.proofs.FewRows.{few_numbers}
 use Rattle.gate_settling.specs.Touching.{Touching, delivered}
 use Rattle.gate_settling.specs.Rows.{is_out, has_landed, taken_out, reports_now, window_now}
 use Rattle.gate_settling.proofs.LeftLemmas.{left}
-use Rattle.gate_settling.proofs.StandingLemmas.{queue_there, item_there, queue_is, touched_row}
+use Rattle.gate_settling.proofs.StandingLemmas.{queue_there, item_there, item_from_1, report_from_1, queue_is, touched_row}
 
 -- ---- the queue is there
 
@@ -47,8 +46,10 @@ pub set_there : {c : Settings} {x : Content} {k : TouchedItem} (h : Touching c x
 set_there {c = c} {x = x} {k = k} h none =
     let name : QueueSetting → List ℕ = λ q. q.name in
     let r = from_map name c.queues h.queue.name
-    (subst (In h.queue.name) h.lawful.lawful.sound.queues_are_set (to_map (λ (q : Queue). q.name) x.state.queues h.queue (queue_there h))) in
-    true≢false (sym (same_name_of r.0.name k.queue (r.2 ∙ h.named)) ∙ not_found (λ (q : QueueSetting). same_name q.name k.queue) c.queues none r.0 r.1)
+    (subst (In h.queue.name) h.lawful.lawful.sound.queues_are_set
+    (to_map (λ (q : Queue). q.name) x.state.queues h.queue (queue_there h))) in
+    true≢false (sym (same_name_of r.0.name k.queue (r.2 ∙ h.named))
+    ∙ not_found (λ (q : QueueSetting). same_name q.name k.queue) c.queues none r.0 r.1)
 
 -- and in the state
 pub sizes_are : {c : Settings} {x : Content} {k : TouchedItem} (h : Touching c x k) →
@@ -68,22 +69,14 @@ serial_drawn {c = c} {x = x} h n m =
     let q = h.queue in
     let s = x.state in
     let sound = h.lawful.lawful.sound in
-    let form = every (λ o. is_queue_in_form o ≡ true) s.queues h.lawful.in_form.state.queues q (queue_there h) in
-    let reports = and_parts _ _ form in
-    let landings = and_parts _ _ reports.0 in
-    let items = and_parts _ _ landings.0 in
     elim (from_append (map (λ (i : Item). i.serial) q.items) (map (λ (r : Report). r.serial) q.reports) n m) [
       | inl a ↦ (let i = from_map (λ (i : Item). i.serial) q.items n a in
-          let mine = all_from is_item_in_form q.items items.1 i.0 i.1 in
-          let one = and_parts _ _ (and_parts _ _ (and_parts _ _ mine).0).0 in
-          let least = leb-true 1 i.0.serial one.0 in
+          let least = item_from_1 h i.0 i.1 in
           let most = item_drawn c s sound q (queue_there h) i.0 i.1 in
           let same = i.2 in
           (omega (arith, least, same), omega (arith, most, same)))
       | inr b ↦ (let r = from_map (λ (r : Report). r.serial) q.reports n b in
-          let mine = all_from (is_report_in_form (length q.landings)) q.reports reports.1 r.0 r.1 in
-          let one = and_parts _ _ (and_parts _ _ (and_parts _ _ (and_parts _ _ mine).0).0).0 in
-          let least = leb-true 1 r.0.serial one.0 in
+          let least = report_from_1 h r.0 r.1 in
           let most = report_drawn c s sound q (queue_there h) r.0 r.1 in
           let same = r.2 in
           (omega (arith, least, same), omega (arith, most, same)))
@@ -102,6 +95,9 @@ serial_once {x = x} h n = by_count (times n (serials_of h.queue)) refl
         let there = in_times n (serials_of h.queue) (omega (arith, e)) in
         (one_part n serials_of x.state.queues h.queue h.queue all_once (queue_there h) (queue_there h) there there).1
 
+last_drawn : (s : State) → are_counters_in_form s.counters ≡ true → s.counters.order ≤ 1000000000000000
+last_drawn s form = leb-true s.counters.order 1000000000000000 (and_parts _ _ form).1
+
 some_item : (q : Queue) (i : Item) → In i q.items → 1 ≤ length q.items
 some_item q i m = by_items q.items m
   where
@@ -118,22 +114,25 @@ few_reports {x = x} {k = k} h =
     let items = length-map q.items (λ (i : Item). i.serial) in
     let reports = length-map q.reports (λ (r : Report). r.serial) in
     let one = some_item q (item_of k.item) (item_there h) in
-    let top = leb-true x.state.counters.order 1000000000000000 (and_parts _ _ h.lawful.in_form.state.counters).1 in
+    let top = last_drawn x.state h.lawful.in_form.state.counters in
     omega (arith, few, sum, items, reports, one, top)
 
 -- ---- what it begins with
 
+-- what was taken out by an event, if the item left
+abbrev out_with : Event → ℕ → Bool → Option TakenOut
+out_with e n fails = cond (is_out e) (Some (record { change = n; failing = fails; landed = has_landed e })) None
+
 out_is : (d : Delivery) (i : Item) (rows : List ItemRow) (e : Event) (row : ItemRow) → event_of d ≡ Some e →
     row.change ≡ i.change → fails_at i.serial rows ≡ row.failing →
-    out_by (touch_of d) i rows ≡ cond (is_out e) (Some (record { change = row.change; failing = row.failing; landed = has_landed e })) None
+    out_by (touch_of d) i rows ≡ out_with e row.change row.failing
 out_is d i rows e row ev same fails =
-    by_kind d ev ∙ (λ t. cond (is_out e) (Some (record { change = sym same t; failing = fails t; landed = has_landed e })) None)
+    by_kind d ev ∙ (λ t. out_with e (sym same t) (fails t))
   where
     told : Event → Option TakenOut
-    told f = cond (is_out f) (Some (record { change = i.change; failing = fails_at i.serial rows; landed = has_landed f })) None
+    told f = out_with f i.change (fails_at i.serial rows)
 
-    by_kind : (b : Delivery) → event_of b ≡ Some e → out_by (touch_of b) i rows
-        ≡ cond (is_out e) (Some (record { change = i.change; failing = fails_at i.serial rows; landed = has_landed e })) None
+    by_kind : (b : Delivery) → event_of b ≡ Some e → out_by (touch_of b) i rows ≡ told e
     by_kind (delivery.Revision n name r message) v = ap told (same_Some _ _ v)
     by_kind (delivery.Approved n r) v = absurd (none-some e v)
     by_kind (delivery.Withdrawn n r) v = ap told (same_Some _ _ v)
@@ -143,7 +142,8 @@ out_is d i rows e row ev same fails =
     by_kind (delivery.Take worker) v = absurd (none-some e v)
     by_kind (delivery.Result n f) v = ap told (same_Some _ _ v)
 
-pub is_for : {c : Settings} {x : Content} {k : TouchedItem} (h : Touching c x k) (facts : QueueFacts) (touched : Touched) →
+pub is_for : {c : Settings} {x : Content} {k : TouchedItem} (h : Touching c x k) (facts : QueueFacts)
+    (touched : Touched) →
     find (λ (q : QueueSetting). same_name q.name k.queue) c.queues ≡ Some facts.settings.now →
     facts.window ≡ window_now k.event facts.settings.now.floor h.queue.window →
     facts.reports ≡ reports_now k.event (length h.queue.reports) → touched.serial ≡ k.item.serial →
@@ -154,11 +154,12 @@ is_for {c = c} {x = x} {k = k} h facts touched set window reports serial ahead o
     let i = item_of k.item in
     let rows = item_rows c x.state h.queue in
     let row = touched_row h in
+    let floor_set : QueueSetting → ℕ = λ r. r.floor in
     let there = found (λ (q : QueueSetting). same_name q.name k.queue) c.queues facts.settings.now set in
     let named : o.name ≡ k.queue = l.name ∙ h.named in
     let floor : facts.settings.now.floor ≡ floor_of c o =
-    sym (ap (λ n. option_map_or (λ (r : QueueSetting). r.floor) (find (λ (r : QueueSetting). same_name r.name n) c.queues) 1) named
-    ∙ ap (λ f. option_map_or (λ (r : QueueSetting). r.floor) f 1) set) in
+    sym (ap (λ n. option_map_or floor_set (find (λ (r : QueueSetting). same_name r.name n) c.queues) 1) named
+    ∙ ap (λ f. option_map_or floor_set f 1) set) in
     let fails = ap (λ f. option_map_or (λ (r : ItemRow). r.failing) f false) row in
     let was = ap (option_and_then (λ (r : ItemRow). r.ahead)) row in
     let outs = out ∙ sym (out_is h.delivery i rows k.event k.item h.event refl fails) in

@@ -1,6 +1,6 @@
 -- The columns of a sound state are found by serial, and those of a queue that isn't touched stay through settling.
-use Rattle.std.proofs.Common.{◌≡◌, ℕ, true, false, not, Option, Some, None, List, [], ◌∷◌, ◌++◌, map, refl, sym, ap, ◌∙◌, subst, true≢false, inl, inr}
-use Rattle.std.specs.Prelude.{◌==◌, find, All}
+use Rattle.std.proofs.Common.{◌≡◌, ℕ, true, false, not, Option, Some, None, List, [], ◌∷◌, map, refl, sym, ap, ◌∙◌, subst, true≢false, inl, inr}
+use Rattle.std.specs.Prelude.{◌==◌, find}
 use Rattle.std.specs.Option.{option_map_or}
 use Rattle.std.proofs.lemmas.Bool.{eq-eqb, eqb-true}
 use Rattle.gate_types.specs.declared.deliveries.Delivery.{Delivery}
@@ -17,7 +17,7 @@ use Rattle.gate_types.specs.Once.{Content}
 use Rattle.gate_types.specs.Tables.{tables, queue_rows}
 use Rattle.gate_laws.specs.Touch.{touched_by, is_other}
 use Rattle.gate_raw.specs.Moves.{Columns, columns_at, columns_of, row_by, swept, tables_by}
-use Rattle.gate_laws.proofs.Members.{In, every, all, from_map, to_map, to_flat, found, not_found, contains_in, in_contains}
+use Rattle.gate_laws.proofs.Members.{In, from_map, to_map, to_flat, found, not_found, contains_in, in_contains}
 use Rattle.gate_laws.proofs.Counts.{one_of}
 use Rattle.gate_laws.proofs.Alone.{name_alone, same_name_of}
 use Rattle.gate_laws.proofs.LiveBuildsCount.{place_serial, places_once}
@@ -59,7 +59,8 @@ rows_found c s q sound ahead (i ∷ is) h =
     let p = with_ahead ahead (place_of c s q i) in
     let none : Columns = record { ahead = None; failing = false } in
     let here : columns_at s.builds p ≡ columns_of c s i.serial =
-    sym (ap (λ (o : Option Place). option_map_or (columns_at s.builds) o none) (place_found c s sound p (h p (inl refl)))) in
+    sym (ap (λ (o : Option Place). option_map_or (columns_at s.builds) o none)
+    (place_found c s sound p (h p (inl refl)))) in
     λ k. record {
       serial = i.serial;
       change = i.change;
@@ -113,5 +114,6 @@ others_stay c s d r t w lawful e q m other =
     let a = was.0 in
     let other_was = ap (λ n. option_map_or (λ name. not (same_name n name)) (touched_by c s d) true) was.2 ∙ other in
     let stays = other_queues_stay c s d r t a lawful e (in_contains s.queues a was.1) other_was in
-    let same : a ≡ q = name_alone c v w after a q (contains_in v.queues a stays.there) m (same_name_of a.name q.name was.2) in
+    let same : a ≡ q =
+    name_alone c v w after a q (contains_in v.queues a stays.there) m (same_name_of a.name q.name was.2) in
     subst (HasColumns c v (columns_of c s)) same (stays.rows ∙ columns_found c s lawful.sound a was.1)

@@ -1,11 +1,10 @@
 -- What an accepted delivery on an item of a lawful state leaves before settling, kind by kind.
-use Rattle.std.proofs.Common.{◌≡◌, ℕ, ◌+◌, true, false, Some, List, [], ◌∷◌, ◌++◌, length, inl, inr, refl, sym, ap, ◌∙◌, subst, true≢false}
+use Rattle.std.proofs.Common.{◌≡◌, ℕ, ◌+◌, true, false, Some, List, ◌∷◌, ◌++◌, length, inl, inr, refl, sym, ◌∙◌, subst, true≢false}
 use Rattle.std.specs.Prelude.{◌==◌}
 use Rattle.std.proofs.lemmas.Bool.{eqb-true}
 use Rattle.gate_types.specs.declared.records.Verdict.TheVariants as verdict
 use Rattle.gate_types.specs.declared.deliveries.Delivery.{Delivery}
 use Rattle.gate_types.specs.declared.deliveries.Delivery.TheVariants as delivery
-use Rattle.gate_types.specs.declared.deliveries.Ending.{Ending}
 use Rattle.gate_types.specs.declared.deliveries.Reply.{Reply}
 use Rattle.gate_types.specs.Settings.{Settings}
 use Rattle.gate_types.specs.State.{Item, Queue, State, has_change}
@@ -76,7 +75,8 @@ revision_leaves c s n name r message q is i js h on =
     (items_leave.superseded c s q is i js (new_revision c i.change name r message) h refl refl))
 
 refused_leaves : (c : Settings) (s : State) (n : ℕ) (q : Queue) (is : List Item) (i : Item) (js : List Item) →
-    IsIn c s q is i js → i.serial == n ≡ true → OnReply s (Leaves c s (delivery.Refused n) q is i js) (raw_refused c s n)
+    IsIn c s q is i js → i.serial == n ≡ true →
+    OnReply s (Leaves c s (delivery.Refused n) q is i js) (raw_refused c s n)
 refused_leaves c s n q is i js h on =
     let o = shrunk_queue c (left_queue verdict.Refused i.change q) in
     refused_reply (Leaves c s (delivery.Refused n) q is i js) c s n
@@ -94,7 +94,8 @@ landed_leaves c s n q is i js h on =
 
 each_leaves : (c : Settings) (s : State) (d : Delivery) (q : Queue) (is : List Item) (i : Item) (js : List Item) →
     IsIn c s q is i js → is_on s d i ≡ true → OnReply s (Leaves c s d q is i js) (raw_step c s d)
-each_leaves c s (delivery.Revision n name r message) q is i js h on = revision_leaves c s n name r message q is i js h on
+each_leaves c s (delivery.Revision n name r message) q is i js h on =
+    revision_leaves c s n name r message q is i js h on
 each_leaves c s (delivery.Approved n r) q is i js h on = absurd (true≢false (sym on))
 each_leaves c s (delivery.Withdrawn n r) q is i js h on = withdrawn_leaves c s n r q is i js h on
 each_leaves c s (delivery.Closed n r) q is i js h on = closed_leaves c s n r q is i js h on

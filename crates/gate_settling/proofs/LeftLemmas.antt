@@ -1,13 +1,11 @@
 -- What a delivery has left of the touched queue, of the rows of its items, of their needs, jobs and builds.
-use Rattle.std.proofs.Common.{◌≡◌, ℕ, zero, suc, ◌+◌, ◌<◌, ◌≤◌, Bool, true, false, not, ◌&&◌, ◌||◌, cond, Option, Some, None, List, [], ◌∷◌, ◌++◌, map, length, inl, inr, refl, sym, ap, ◌∙◌, subst, arith, true≢false}
-use Rattle.std.specs.Prelude.{◌==◌, filter, find, Contains}
-use Rattle.std.specs.Option.{option_map_or}
-use Rattle.std.proofs.lemmas.Bool.{eqb-true, eq-eqb, ne_eqb}
+use Rattle.std.proofs.Common.{◌≡◌, ℕ, suc, ◌+◌, ◌<◌, ◌≤◌, Bool, false, not, ◌&&◌, ◌||◌, cond, Some, List, [], ◌∷◌, ◌++◌, map, length, inl, inr, refl, sym, ap, ◌∙◌, subst, arith}
+use Rattle.std.specs.Prelude.{◌==◌, filter}
+use Rattle.std.proofs.lemmas.Bool.{eq-eqb, ne_eqb}
 use Rattle.std.proofs.lemmas.Option.{same_Some, none-some}
 use Rattle.std.proofs.lemmas.List.{map-id, map-append, length-append, length-map}
 use Rattle.std.proofs.lemmas.List.Elements.{filter-append}
 use Rattle.std.proofs.lemmas.List.Filters.{length-filter_both}
-use Rattle.gate_types.specs.declared.records.Build.{Build}
 use Rattle.gate_types.specs.declared.records.Item.{Item as ItemRow}
 use Rattle.gate_types.specs.declared.records.Need.{Need}
 use Rattle.gate_types.specs.declared.records.Verdict.{Verdict}
@@ -18,13 +16,10 @@ use Rattle.gate_types.specs.declared.deliveries.Ending.{Ending}
 use Rattle.gate_types.specs.Settings.{Settings}
 use Rattle.gate_types.specs.State.{Item, Queue, State, project_of}
 use Rattle.gate_types.specs.Line.{Place}
-use Rattle.gate_types.specs.Slot.{is_running}
 use Rattle.gate_types.specs.Standing.{needs_of, place_of}
-use Rattle.gate_types.specs.Rebase.{with_live}
 use Rattle.gate_types.specs.Sweep.{report_of, without_runs}
-use Rattle.gate_types.specs.Step.{left_queue, with_ending, end_build}
+use Rattle.gate_types.specs.Step.{left_queue, end_build}
 use Rattle.gate_types.specs.Window.{grow, floor_of}
-use Rattle.gate_types.specs.Lawful.{IsSound}
 use Rattle.gate_types.specs.Rows.{item_of, item_rows}
 use Rattle.gate_laws.specs.Touch.{has_serial}
 use Rattle.gate_walk.specs.Rescan.{HasLeft, HasLanded, live_under, place_behind, without_row}
@@ -37,15 +32,15 @@ use Rattle.gate_raw.specs.declared.touched.Event.{Event}
 use Rattle.gate_raw.specs.declared.touched.Event.TheVariants as event
 use Rattle.gate_laws.proofs.Members.{In, every, map_map, from_append, to_left, to_right, none_to}
 use Rattle.gate_laws.proofs.Parts.{ItemsRise}
-use Rattle.gate_laws.proofs.Tests.{and_true, not_and_false}
-use Rattle.gate_laws.proofs.Alone.{serial_alone}
 use Rattle.gate_queue.proofs.Ordered.{RiseFrom, AllBelow, rises}
 use Rattle.gate_walk.proofs.Parting.{rise_at}
 use Rattle.gate_types.specs.Once.{Content}
 use Rattle.gate_settling.specs.Touching.{Touching}
 use Rattle.gate_settling.specs.Rows.{has_landed, reports_now, window_now, build_now}
-use Rattle.gate_settling.proofs.ColumnLemmas.{HasColumns, columns_found, found_alone}
-use Rattle.gate_settling.proofs.SeamLemmas.{no_drop, head_of, tail_of}
+use Rattle.gate_settling.proofs.ColumnLemmas.{columns_found}
+use Rattle.gate_settling.proofs.SeamLemmas.{no_drop}
+use Rattle.gate_settling.proofs.ListLemmas.{or_false, each_same}
+use Rattle.gate_settling.proofs.BuildLemmas.{live_elsewhere, live_ended}
 use Rattle.gate_settling.proofs.LeavesLemmas.{Leaves, leaves}
 
 -- a need once the delivery is done
@@ -63,37 +58,6 @@ pub record Left (c : Settings) (s t : State) (k : Touch) (q o : Queue) (i : Item
   pub reports : length o.reports ≡ reports_now e (length q.reports)
   pub window : o.window ≡ window_now e (floor_of c o) q.window
   pub name : o.name ≡ q.name
-
--- ---- lists
-
--- what two functions make of the items of a list is the same, item by item
-each_same : {X Y : Type 0} (f g : X → Y) (xs : List X) → map f xs ≡ map g xs → (x : X) → In x xs → f x ≡ g x
-each_same f g [] h x m = absurd m
-each_same f g (y ∷ ys) h x m = elim m [
-  | inl e ↦ subst (λ z. f z ≡ g z) e (ap (head_of (f y)) h)
-  | inr n ↦ each_same f g ys (ap tail_of h) x n
-]
-
--- a filter by what a function keeps
-filter_kept : {X : Type 0} (p : X → Bool) (f : X → X) → ((x : X) → p (f x) ≡ p x) → (xs : List X) →
-    filter p (map f xs) ≡ map f (filter p xs)
-filter_kept p f h [] = refl
-filter_kept {X = X} p f h (x ∷ xs) =
-    ap (λ b. cond b (f x ∷ filter p (map f xs)) (filter p (map f xs))) (h x)
-    ∙ ap (λ l. cond (p x) (f x ∷ l) l) (filter_kept p f h xs) ∙ by_test (p x)
-  where
-    by_test : (b : Bool) → cond b (f x ∷ map f (filter p xs)) (map f (filter p xs)) ≡ map f
-        (cond b (x ∷ filter p xs) (filter p xs))
-    by_test true = refl
-    by_test false = refl
-
-or_false : (b : Bool) → b || false ≡ b
-or_false true = refl
-or_false false = refl
-
-and_false : (b : Bool) → b && false ≡ false
-and_false true = refl
-and_false false = refl
 
 -- ---- the item apart
 
@@ -121,64 +85,22 @@ apart is js i r =
     let parts = rise_at (λ (j : Item). j.serial) 0 is i js r in
     (below_apart i.serial is parts.0, above_apart i.serial (suc i.serial) js (omega arith) parts.1)
 
-own_serial : (n : ℕ) → n == n ≡ true
-own_serial n = eq-eqb n n refl
-
 -- the rows without that of the item
 rows_left : (cols : ℕ → Columns) (is js : List Item) (i : Item) →
     ((j : Item) → In j is → j.serial == i.serial ≡ false) → ((j : Item) → In j js → j.serial == i.serial ≡ false) →
-    filter (λ (r : ItemRow). not (r.serial == i.serial)) (map (row_by cols) (is ++ i ∷ js)) ≡ map (row_by cols) (is ++ js)
+    without_row i.serial (map (row_by cols) (is ++ i ∷ js)) ≡ map (row_by cols) (is ++ js)
 rows_left cols is js i before behind =
     let test : ItemRow → Bool = λ r. not (r.serial == i.serial) in
+    let rest = filter test (map (row_by cols) js) in
+    let none : (ks : List Item) → ((j : Item) → In j ks → j.serial == i.serial ≡ false) →
+    has_serial ks i.serial ≡ false =
+    none_to (λ (j : Item). j.serial == i.serial) in
     ap (filter test) (map-append (row_by cols) is (i ∷ js))
     ∙ filter-append test (map (row_by cols) is) (row_by cols i ∷ map (row_by cols) js)
-    ∙ (λ k. no_drop cols i.serial is (none_to (λ (j : Item). j.serial == i.serial) is before) k
-    ++ cond (not (own_serial i.serial k)) (row_by cols i ∷ filter test (map (row_by cols) js)) (filter test (map (row_by cols) js)))
-    ∙ ap (λ l. map (row_by cols) is ++ l) (no_drop cols i.serial js (none_to (λ (j : Item). j.serial == i.serial) js behind))
+    ∙ (λ k. no_drop cols i.serial is (none is before) k
+    ++ cond (not (eq-eqb i.serial i.serial refl k)) (row_by cols i ∷ rest) rest)
+    ∙ ap (λ l. map (row_by cols) is ++ l) (no_drop cols i.serial js (none js behind))
     ∙ sym (map-append (row_by cols) is js)
-
--- ---- builds
-
--- the builds of another serial stay as they are where those of one stop
-live_elsewhere : (m n : ℕ) → n == m ≡ false → (bs : List Build) →
-    live_under (without_runs (λ k. k == m) bs) n ≡ live_under bs n
-live_elsewhere m n away [] = refl
-live_elsewhere m n away (b ∷ bs) = by_serial (b.serial == n) refl (live_elsewhere m n away bs)
-  where
-    stopped : Build
-    stopped = with_live (b.live && not (is_running b.outcome && b.serial == m)) b
-
-    by_serial : (t : Bool) → b.serial == n ≡ t → live_under (without_runs (λ k. k == m) bs) n ≡ live_under bs n →
-        live_under (without_runs (λ k. k == m) (b ∷ bs)) n ≡ live_under (b ∷ bs) n
-    by_serial true e rest =
-        let other : b.serial == m ≡ false = ap (λ k. k == m) (eqb-true b.serial n e) ∙ away in
-        let same : stopped ≡ b =
-        (λ k. with_live (b.live && not (is_running b.outcome && other k)) b)
-        ∙ (λ k. with_live (b.live && not_and_false (is_running b.outcome) k) b)
-        ∙ (λ k. with_live (and_true b.live k) b) in
-        (λ k. cond ((same k).live && (same k).serial == n) (same k ∷ rest k) (rest k))
-    by_serial false e rest =
-        ap (λ t. cond (stopped.live && t) (stopped ∷ live_under (without_runs (λ k. k == m) bs) n) (live_under (without_runs (λ k. k == m) bs) n)) e
-        ∙ ap (λ t. cond t (stopped ∷ live_under (without_runs (λ k. k == m) bs) n) (live_under (without_runs (λ k. k == m) bs) n)) (and_false stopped.live)
-        ∙ rest
-        ∙ sym (ap (λ t. cond (b.live && t) (b ∷ live_under bs n) (live_under bs n)) e
-        ∙ ap (λ t. cond t (b ∷ live_under bs n) (live_under bs n)) (and_false b.live))
-
--- the build that ended has its outcome
-live_ended : (e : Ending) (m n : ℕ) (bs : List Build) →
-    live_under (map (λ (b : Build). cond (b.number == m) (with_ending e b) b) bs) n ≡ map (build_now (event.Ended m e))
-    (live_under bs n)
-live_ended e m n bs =
-    filter_kept (λ (b : Build). b.live && b.serial == n) (λ b. cond (b.number == m) (with_ending e b) b) same bs
-  where
-    same : (b : Build) → (cond (b.number == m) (with_ending e b) b).live && (cond (b.number == m) (with_ending e b) b).serial == n
-        ≡ (b.live && b.serial == n)
-    same b = by_test (b.number == m)
-      where
-        by_test : (t : Bool) → (cond t (with_ending e b) b).live && (cond t (with_ending e b) b).serial == n
-            ≡ (b.live && b.serial == n)
-        by_test true = refl
-        by_test false = refl
 
 -- ---- reports
 
@@ -187,7 +109,8 @@ one_more : (v : Verdict) (q : Queue) (is js : List Item) (i : Item) → q.items 
     (left_queue v i.change q).items ≡ is ++ js → length (left_queue v i.change q).reports ≡ length q.reports + 1
 one_more v q is js i whole left =
     let gone = filter (λ (j : Item). j.change == i.change) q.items in
-    let all = length-filter_both (λ (j : Item). j.change == i.change) (λ j. not (j.change == i.change)) (λ j. refl) q.items in
+    let all = length-filter_both (λ (j : Item). j.change == i.change) (λ j. not (j.change == i.change)) (λ j. refl)
+    q.items in
     let many = ap length whole ∙ length-append is (i ∷ js) in
     let fewer = ap length left ∙ length-append is js in
     let told = length-append q.reports (map (report_of v) gone) in
@@ -224,14 +147,14 @@ others_in q is i js e j m = subst (In j) (sym e) (elim (from_append is js j m) [
   | inr r ↦ to_right is (i ∷ js) j (inr r)
 ])
 
-other_serial : (c : Settings) (s : State) (q : Queue) (is : List Item) (i : Item) (js : List Item) → IsIn c s q is i js →
-    (j : Item) → In j (is ++ js) → j.serial == i.serial ≡ false
+other_serial : (c : Settings) (s : State) (q : Queue) (is : List Item) (i : Item) (js : List Item) →
+    IsIn c s q is i js → (j : Item) → In j (is ++ js) → j.serial == i.serial ≡ false
 other_serial c s q is i js h j m =
     let a = is_apart c s q is i js h in
     elim (from_append is js j m) [ inl l ↦ a.before j l | inr r ↦ a.behind j r ]
 
-builds_out : (c : Settings) (s t : State) (q : Queue) (is : List Item) (i : Item) (js : List Item) → IsIn c s q is i js →
-    t.builds ≡ without_runs (λ n. n == i.serial) s.builds → (j : Item) → In j (is ++ js) →
+builds_out : (c : Settings) (s t : State) (q : Queue) (is : List Item) (i : Item) (js : List Item) →
+    IsIn c s q is i js → t.builds ≡ without_runs (λ n. n == i.serial) s.builds → (j : Item) → In j (is ++ js) →
     live_under t.builds j.serial ≡ live_under s.builds j.serial
 builds_out c s t q is i js h e j m =
     ap (λ bs. live_under bs j.serial) e
@@ -295,8 +218,8 @@ told : (c : Settings) (s : State) (q : Queue) (is : List Item) (i : Item) (js : 
     length (left_queue v i.change q).reports ≡ length q.reports + 1
 told c s q is i js v h e = one_more v q is js i h.items e
 
-ended_left : (c : Settings) (s t : State) (q : Queue) (is : List Item) (i : Item) (js : List Item) (n : ℕ) (e : Ending) →
-    IsIn c s q is i js → t ≡ end_build e n s → Left c s t build_ended q q i (event.Ended n e)
+ended_left : (c : Settings) (s t : State) (q : Queue) (is : List Item) (i : Item) (js : List Item) (n : ℕ)
+    (e : Ending) → IsIn c s q is i js → t ≡ end_build e n s → Left c s t build_ended q q i (event.Ended n e)
 ended_left c s t q is i js n e h same =
     let a = is_apart c s q is i js h in
     subst (λ u. Left c s u build_ended q q i (event.Ended n e)) (sym same) (record {
@@ -351,5 +274,5 @@ pub left : {c : Settings} {x : Content} {k : TouchedItem} (h : Touching c x k) �
 left {c = c} {x = x} {k = k} h =
     let i = item_of k.item in
     left_by_kind c x.state h.after h.delivery h.queue h.items_ahead i h.items_behind (is_in h)
-    (leaves c x.state h.delivery h.reply h.after h.queue h.items_ahead i h.items_behind (is_in h) h.on_item h.is_accepted
-    h.acts) k.event h.event
+    (leaves c x.state h.delivery h.reply h.after h.queue h.items_ahead i h.items_behind (is_in h) h.on_item
+    h.is_accepted h.acts) k.event h.event

@@ -1,9 +1,12 @@
+-- tests and lists
+pub mod ListLemmas
 -- the columns of items, by serial
 pub mod ColumnLemmas
 -- edits that are a queue's own, and what they leave of all tables
 pub mod SeamLemmas
 -- what a delivery leaves of the touched queue
 pub mod LeavesLemmas
+pub mod BuildLemmas
 pub mod LeftLemmas
 -- what is read by key is what a visit is to see
 pub mod StandingLemmas

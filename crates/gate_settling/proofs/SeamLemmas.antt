@@ -1,6 +1,6 @@
 -- The row equation of settling: what settles one queue's rows settles, behind the raw edits, all tables.
-use Rattle.std.proofs.Common.{◌≡◌, ℕ, Bool, true, false, not, ◌||◌, cond, Some, List, [], ◌∷◌, ◌++◌, map, fold, refl, sym, ap, ◌∙◌, true≢false, inl, inr}
-use Rattle.std.specs.Prelude.{filter, ◌==◌, All}
+use Rattle.std.proofs.Common.{◌≡◌, ℕ, Bool, true, false, not, ◌||◌, cond, List, [], ◌∷◌, ◌++◌, map, fold, refl, sym, ap, ◌∙◌, true≢false, inl, inr}
+use Rattle.std.specs.Prelude.{filter, ◌==◌}
 use Rattle.std.specs.List.{AllPass, list_all}
 use Rattle.std.proofs.lemmas.Bool.{and_parts, or_parts}
 use Rattle.std.proofs.lemmas.List.{map-id}
@@ -11,7 +11,7 @@ use Rattle.gate_types.specs.declared.records.Build.{Build}
 use Rattle.gate_types.specs.declared.edits.Edit.{Edit}
 use Rattle.gate_types.specs.declared.edits.Edit.TheVariants as edit
 use Rattle.gate_types.specs.Names.{same_name}
-use Rattle.gate_types.specs.Settings.{Settings, are_sound}
+use Rattle.gate_types.specs.Settings.{Settings}
 use Rattle.gate_types.specs.State.{Item, Queue, State}
 use Rattle.gate_types.specs.Window.{floor_of}
 use Rattle.gate_types.specs.Sweep.{judged, swept_queue}
@@ -23,8 +23,9 @@ use Rattle.gate_queue.specs.Whole.{swept_of, rows_in}
 use Rattle.gate_walk.specs.Rescan.{rows_with}
 use Rattle.gate_raw.specs.Moves.{Columns, row_by, tables_by, columns_of, swept, in_state, Moves}
 use Rattle.gate_laws.proofs.Members.{In, map_map}
-use Rattle.gate_laws.proofs.Alone.{same_name_is, same_name_of}
-use Rattle.gate_settling.proofs.ColumnLemmas.{HasColumns, tables_by_own}
+use Rattle.gate_laws.proofs.Alone.{same_name_is}
+use Rattle.gate_settling.proofs.ListLemmas.{first_or, rest_of}
+use Rattle.gate_settling.proofs.ColumnLemmas.{HasColumns}
 
 -- ---- the fold of edits acts on each table by itself
 
@@ -240,15 +241,6 @@ other_done c t cols name es q qs all apart alone right =
     ∙ ap (λ (o : Queue). queue_rows (map (row_by cols) o.items) o) (sym alone)
     ∙ ap (λ l. queue_rows l (swept_of c t q)) (sym right)
 
--- a list's first, or this; and the rest
-abbrev pub head_of : {X : Type 0} → X → List X → X
-head_of d [] = d
-head_of d (x ∷ xs) = x
-
-abbrev pub tail_of : {X : Type 0} → List X → List X
-tail_of [] = []
-tail_of (x ∷ xs) = xs
-
 queues_done : (c : Settings) (t : State) (cols : ℕ → Columns) (name : List ℕ) (es : List Edit) (qs : List Queue) →
     AllPass (is_own qs name) es → ((q : Queue) → In q qs → SettlesRows c t name cols es q) →
     ((q : Queue) → In q qs → OthersStay c t name cols q) → map (swept_of c t) qs ≡ map (one_of c t name) qs →
@@ -256,8 +248,8 @@ queues_done : (c : Settings) (t : State) (cols : ℕ → Columns) (name : List �
 queues_done c t cols name es [] all rows stay alone = refl
 queues_done c t cols name es (q ∷ qs) all rows stay alone =
     let rest = queues_done c t cols name es qs (own_tail q qs name es all) (λ o m. rows o (inr m))
-    (λ o m. stay o (inr m)) (ap tail_of alone) in
-    λ i. here (same_name q.name name) refl (ap (head_of q) alone) i ∷ rest i
+    (λ o m. stay o (inr m)) (ap rest_of alone) in
+    λ i. here (same_name q.name name) refl (ap (first_or q) alone) i ∷ rest i
   where
     here : (b : Bool) → same_name q.name name ≡ b → swept_of c t q ≡ one_of c t name q →
         edited_by cols es q ≡ settled_by c t q

@@ -1,8 +1,8 @@
 -- A row as it is read by key, with what the delivery makes of it, is the row as a visit is to see it.
-use Rattle.std.proofs.Common.{◌≡◌, ℕ, Bool, true, false, not, ◌&&◌, ◌||◌, cond, Option, Some, None, List, [], ◌∷◌, map, inl, inr, refl, sym, ap, ◌∙◌, subst, true≢false}
+use Rattle.std.proofs.Common.{◌≡◌, ℕ, Bool, true, false, ◌&&◌, ◌||◌, cond, Option, Some, None, List, [], map, refl, sym, ap, ◌∙◌, subst, true≢false}
 use Rattle.std.specs.Prelude.{◌==◌, find, option_map, unwrap_or}
 use Rattle.std.specs.Option.{option_map_or}
-use Rattle.std.proofs.lemmas.Bool.{and_parts, and_from, eqb-true, eq-eqb}
+use Rattle.std.proofs.lemmas.Bool.{and_parts, and_from, eqb-true}
 use Rattle.gate_types.specs.declared.config.Project.{Project}
 use Rattle.gate_types.specs.declared.records.Change.{Change}
 use Rattle.gate_types.specs.declared.records.Item.{Item as ItemRow}
@@ -14,8 +14,7 @@ use Rattle.gate_types.specs.State.{Item, Queue, State, known_change, change_of, 
 use Rattle.gate_types.specs.Standing.{needs_of}
 use Rattle.gate_types.specs.Rows.{item_of, item_rows}
 use Rattle.gate_types.specs.Once.{Content}
-use Rattle.gate_walk.specs.Walk.{SeenNeed}
-use Rattle.gate_walk.specs.Rescan.{standing_in, need_seen, live_under}
+use Rattle.gate_walk.specs.Rescan.{standing_in, need_seen}
 use Rattle.gate_walk.specs.Delivery.{moved}
 use Rattle.gate_walk.specs.UnderWay.{stale_rows}
 use Rattle.gate_book.specs.Reads.{queued_items, queued_of}
@@ -25,10 +24,10 @@ use Rattle.gate_raw.specs.declared.touched.TouchedItem.{TouchedItem}
 use Rattle.gate_laws.proofs.Members.{In, from_map, to_map, map_map, map_same, from_flat, to_flat, found, not_found}
 use Rattle.gate_laws.proofs.Alone.{change_alone, name_alone, same_name_of, same_name_is}
 use Rattle.gate_settling.specs.Touching.{Touching, delivered, sees}
-use Rattle.gate_settling.specs.Rows.{has_landed, is_landed_known, landed_now, stands_still, standing_by, need_now, needs_known, project_known, jobs_named, row_now}
+use Rattle.gate_settling.specs.Rows.{has_landed, is_landed_known, stands_still, standing_by, need_now, needs_known, project_known, jobs_named, row_now}
 use Rattle.gate_settling.proofs.ColumnLemmas.{columns_found, found_alone}
 use Rattle.gate_settling.proofs.LeftLemmas.{need_after, left}
-use Rattle.gate_settling.proofs.StandingLemmas.{queue_there, row_item, stands, stale_in, in_stale}
+use Rattle.gate_settling.proofs.StandingLemmas.{queue_there, stands, stale_in, in_stale}
 
 -- ---- what is known of a change
 
@@ -50,7 +49,8 @@ project_is n (Some j) = refl
 pub needs_of_change : (s : State) (n : ℕ) → (change_of s n).needs ≡ needs_known (known_change s n)
 needs_of_change s n = needs_are n (known_change s n)
 
-jobs_are : (c : Settings) (s : State) (n : ℕ) → (project_of c s n).jobs ≡ jobs_named c (project_known (known_change s n))
+jobs_are : (c : Settings) (s : State) (n : ℕ) →
+    (project_of c s n).jobs ≡ jobs_named c (project_known (known_change s n))
 jobs_are c s n =
     by_first (find (λ p. same_name p.name (change_of s n).project) c.projects)
     ∙ ap (jobs_named c) (project_is n (known_change s n))
@@ -100,7 +100,8 @@ change_queued {c = c} {x = x} h p o mp mo e =
     let same : a.item.change ≡ b.item.change =
     ap (λ (r : ItemRow). r.change) a.row_is ∙ ap queued_change a.is ∙ e
     ∙ sym (ap (λ (r : ItemRow). r.change) b.row_is ∙ ap queued_change b.is) in
-    let one = change_alone c s h.lawful.lawful.sound a.queue b.queue a.item b.item a.there b.there a.inside b.inside same in
+    let sound = h.lawful.lawful.sound in
+    let one = change_alone c s sound a.queue b.queue a.item b.item a.there b.there a.inside b.inside same in
     sym a.is ∙ (λ t. queued (one.0 t) (sym a.row_is t)) ∙ (λ t. queued b.queue (row_by (columns_of c s) (one.1 t)))
     ∙ (λ t. queued b.queue (b.row_is t)) ∙ b.is
 
@@ -119,8 +120,8 @@ still_there {c = c} {x = x} {k = k} h p m e =
     let same = name_alone c x.state h.sound h.lawful.lawful.sound a.queue h.queue a.there (queue_there h)
     (same_name_of a.queue.name h.queue.name named) in
     let row : a.row ≡ p.item = ap (λ (o : QueuedItem). o.item) a.is in
-    in_stale h p.item
-    (subst (λ r. In r (item_rows c x.state h.queue)) row (subst (λ q. In a.row (item_rows c x.state q)) same a.stored)) both.1
+    let stored = subst (λ q. In a.row (item_rows c x.state q)) same a.stored in
+    in_stale h p.item (subst (λ r. In r (item_rows c x.state h.queue)) row stored) both.1
 
 pub standing_is : {c : Settings} {x : Content} {k : TouchedItem} (h : Touching c x k) (n : ℕ) →
     standing_by k (queued_of c x.state n) ≡ standing_in (stale_rows (delivered h)) n
@@ -138,7 +139,8 @@ standing_is {c = c} {x = x} {k = k} h n = by_row (find (λ (r : ItemRow). r.chan
         let one = found_alone queued_change (queued_items c x.state) (queued h.queue y) mine
         (λ p m s. change_queued h p (queued h.queue y) m mine s) in
         let named : queued_of c x.state n ≡ Some (queued h.queue y) =
-        ap (λ m. find (λ (p : QueuedItem). p.item.change == m) (queued_items c x.state)) (sym (eqb-true y.change n there.1)) ∙ one in
+        ap (λ m. find (λ (p : QueuedItem). p.item.change == m) (queued_items c x.state))
+        (sym (eqb-true y.change n there.1)) ∙ one in
         let still : stands_still k (queued h.queue y) ≡ true =
         and_from (same_name h.queue.name k.queue) (stands k y) (same_name_of h.queue.name k.queue h.named) stored.1 in
         ap (standing_by k) named ∙ ap (λ b. cond b (Some y.failing) None) still
@@ -152,8 +154,9 @@ standing_is {c = c} {x = x} {k = k} h n = by_row (find (λ (r : ItemRow). r.chan
             by_still false w = refl
             by_still true w =
                 let there = found (λ (o : QueuedItem). o.item.change == n) (queued_items c x.state) p g in
-                absurd (true≢false (sym there.1 ∙ not_found (λ (r : ItemRow). r.change == n) (stale_rows (delivered h)) e p.item
-                (still_there h p there.0 w)))
+                let rows = stale_rows (delivered h) in
+                absurd (true≢false (sym there.1
+                ∙ not_found (λ (r : ItemRow). r.change == n) rows e p.item (still_there h p there.0 w)))
 
 -- ---- a row
 
@@ -175,9 +178,11 @@ item_seen {c = c} {x = x} {k = k} h j m =
     let l = left h in
     let as_need : ℕ → Need = λ n. record { change = n; landed = is_landed (change_of s n) } in
     let after = need_after k.event k.item.change in
-    let needs : map (need_now c s k) (needs_known (known_change s j.change)) ≡ map (need_seen rows) (needs_of h.after j.change) =
+    let needs : map (need_now c s k) (needs_known (known_change s j.change))
+    ≡ map (need_seen rows) (needs_of h.after j.change) =
     ap (map (need_now c s k)) (sym (needs_of_change s j.change))
-    ∙ map_same (need_now c s k) (λ n. need_seen rows (after (as_need n))) (change_of s j.change).needs (λ n mn. need_is h n)
+    ∙ map_same (need_now c s k) (λ n. need_seen rows (after (as_need n))) (change_of s j.change).needs
+    (λ n mn. need_is h n)
     ∙ sym (map_map (λ n. need_seen rows (after n)) as_need (change_of s j.change).needs)
     ∙ sym (map_map (need_seen rows) after (needs_of s j.change))
     ∙ ap (map (need_seen rows)) (sym (l.needs j m)) in

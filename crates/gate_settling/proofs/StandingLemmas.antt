@@ -1,11 +1,12 @@
 -- The rows of the touched queue: those that stand once the delivery is done, and what is found among them by key.
-use Rattle.std.proofs.Common.{◌≡◌, ℕ, ◌≤◌, Bool, true, false, not, ◌&&◌, cond, Option, Some, None, List, [], ◌∷◌, ◌++◌, map, inl, inr, refl, sym, ap, ◌∙◌, subst, true≢false}
-use Rattle.std.specs.Prelude.{◌==◌, filter, find, nat_le}
+use Rattle.std.proofs.Common.{◌≡◌, ℕ, ◌≤◌, Bool, true, not, ◌&&◌, Option, Some, None, List, [], ◌∷◌, length, inl, refl, sym, ap, ◌∙◌, subst, true≢false}
+use Rattle.std.specs.Prelude.{◌==◌, filter, find}
+use Rattle.std.specs.List.{list_all}
 use Rattle.std.specs.Option.{option_map_or}
-use Rattle.std.proofs.lemmas.Bool.{and_parts, eqb-true, eq-eqb, leb-true}
+use Rattle.std.proofs.lemmas.Bool.{and_parts, leb-true}
 use Rattle.std.proofs.lemmas.Option.{same_Some, none-some}
 use Rattle.gate_types.specs.declared.records.Item.{Item as ItemRow}
-use Rattle.gate_types.specs.declared.records.Verdict.TheVariants as verdict
+use Rattle.gate_types.specs.declared.records.Report.{Report}
 use Rattle.gate_types.specs.declared.deliveries.Delivery.{Delivery}
 use Rattle.gate_types.specs.declared.deliveries.Delivery.TheVariants as delivery
 use Rattle.gate_types.specs.Names.{same_name}
@@ -14,14 +15,13 @@ use Rattle.gate_types.specs.State.{Item, Queue, State}
 use Rattle.gate_types.specs.Lawful.{IsSound}
 use Rattle.gate_types.specs.Rows.{item_of, item_rows}
 use Rattle.gate_types.specs.Once.{Content}
-use Rattle.gate_types.specs.Forms.{is_queue_in_form, is_item_in_form}
+use Rattle.gate_types.specs.Forms.{is_queue_in_form, is_item_in_form, is_report_in_form}
 use Rattle.gate_walk.specs.Delivery.{touch_of, standing_rows}
 use Rattle.gate_walk.specs.UnderWay.{stale_rows}
 use Rattle.gate_book.specs.Reads.{queue_named, items_in}
 use Rattle.gate_raw.specs.Moves.{columns_of, row_by}
 use Rattle.gate_raw.specs.Touches.{event_of}
 use Rattle.gate_raw.specs.declared.touched.Event.{Event}
-use Rattle.gate_raw.specs.declared.touched.Event.TheVariants as event
 use Rattle.gate_raw.specs.declared.touched.TouchedItem.{TouchedItem}
 use Rattle.gate_laws.proofs.Members.{In, every, from_map, to_right, from_filter, to_filter, filter_all, all_from, found, not_found, contains_in}
 use Rattle.gate_laws.proofs.Alone.{serial_alone, name_alone, same_name_of, same_name_is}
@@ -32,7 +32,8 @@ use Rattle.gate_settling.proofs.ColumnLemmas.{columns_found, found_alone}
 -- ---- the touched queue
 
 pub queue_there : {c : Settings} {x : Content} {k : TouchedItem} (h : Touching c x k) → In h.queue x.state.queues
-queue_there h = subst (In h.queue) (sym h.queues) (to_right h.queues_ahead (h.queue ∷ h.queues_behind) h.queue (inl refl))
+queue_there h =
+    subst (In h.queue) (sym h.queues) (to_right h.queues_ahead (h.queue ∷ h.queues_behind) h.queue (inl refl))
 
 pub item_there : {c : Settings} {x : Content} {k : TouchedItem} (h : Touching c x k) → In (item_of k.item) h.queue.items
 item_there {k = k} h =
@@ -61,19 +62,33 @@ pub items_are : {c : Settings} {x : Content} {k : TouchedItem} (h : Touching c x
     items_in c x.state k.queue ≡ item_rows c x.state h.queue
 items_are {c = c} {x = x} h = ap (λ o. option_map_or (item_rows c x.state) o []) (queue_is h)
 
--- its items are in form: their serials begin with 1
-pub serial_is_drawn : {c : Settings} {x : Content} {k : TouchedItem} (h : Touching c x k) → 1 ≤ k.item.serial
-serial_is_drawn {x = x} {k = k} h =
+-- it is in form, its items and its reports are: their serials begin with 1
+queue_form : {c : Settings} {x : Content} {k : TouchedItem} (h : Touching c x k) → is_queue_in_form h.queue ≡ true
+queue_form {x = x} h =
+    every (λ o. is_queue_in_form o ≡ true) x.state.queues h.lawful.in_form.state.queues h.queue (queue_there h)
+
+items_form : (q : Queue) → is_queue_in_form q ≡ true → list_all is_item_in_form q.items ≡ true
+items_form q form = (and_parts _ _ (and_parts _ _ (and_parts _ _ form).0).0).1
+
+reports_form : (q : Queue) → is_queue_in_form q ≡ true →
+    list_all (is_report_in_form (length q.landings)) q.reports ≡ true
+reports_form q form = (and_parts _ _ form).1
+
+pub item_from_1 : {c : Settings} {x : Content} {k : TouchedItem} (h : Touching c x k) (i : Item) →
+    In i h.queue.items → 1 ≤ i.serial
+item_from_1 h i m =
+    let form = all_from is_item_in_form h.queue.items (items_form h.queue (queue_form h)) i m in
+    leb-true 1 i.serial (and_parts _ _ (and_parts _ _ (and_parts _ _ form).0).0).0
+
+pub report_from_1 : {c : Settings} {x : Content} {k : TouchedItem} (h : Touching c x k) (r : Report) →
+    In r h.queue.reports → 1 ≤ r.serial
+report_from_1 h r m =
     let q = h.queue in
-    let form = every (λ o. is_queue_in_form o ≡ true) x.state.queues h.lawful.in_form.state.queues q (queue_there h) in
-    let reports = and_parts _ _ form in
-    let landings = and_parts _ _ reports.0 in
-    let items = and_parts _ _ landings.0 in
-    let mine = all_from is_item_in_form q.items items.1 (item_of k.item) (item_there h) in
-    let revision = and_parts _ _ mine in
-    let change = and_parts _ _ revision.0 in
-    let drawn = and_parts _ _ change.0 in
-    leb-true 1 k.item.serial drawn.0
+    let form = all_from (is_report_in_form (length q.landings)) q.reports (reports_form q (queue_form h)) r m in
+    leb-true 1 r.serial (and_parts _ _ (and_parts _ _ (and_parts _ _ (and_parts _ _ form).0).0).0).0
+
+pub serial_is_drawn : {c : Settings} {x : Content} {k : TouchedItem} (h : Touching c x k) → 1 ≤ k.item.serial
+serial_is_drawn {k = k} h = item_from_1 h (item_of k.item) (item_there h)
 
 -- ---- its rows
 
@@ -89,7 +104,8 @@ pub serial_row : {c : Settings} {x : Content} {k : TouchedItem} (h : Touching c 
 serial_row {c = c} {x = x} h r o mr mo e =
     let a = row_item h r mr in
     let b = row_item h o mo in
-    let one = serial_alone c x.state h.lawful.lawful.sound h.queue h.queue a.0 b.0 (queue_there h) (queue_there h) a.1 b.1
+    let there = queue_there h in
+    let one = serial_alone c x.state h.lawful.lawful.sound h.queue h.queue a.0 b.0 there there a.1 b.1
     (ap (λ (y : ItemRow). y.serial) a.2 ∙ e ∙ sym (ap (λ (y : ItemRow). y.serial) b.2)) in
     sym a.2 ∙ ap (row_by (columns_of c x.state)) one.1 ∙ b.2
 

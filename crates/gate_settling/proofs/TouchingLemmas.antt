@@ -1,14 +1,13 @@
 -- A delivery that touches an item as it is told to is under way there; and what settling then leads to.
-use Rattle.std.proofs.Common.{◌≡◌, ℕ, true, false, not, Option, Some, None, List, [], ◌∷◌, ◌++◌, map, inl, inr, refl, sym, ap, ◌∙◌, subst, append-nil}
+use Rattle.std.proofs.Common.{◌≡◌, true, false, not, None, List, [], ◌∷◌, ◌++◌, inl, refl, sym, ap, ◌∙◌, subst, append-nil}
 use Rattle.std.specs.Prelude.{Contains}
 use Rattle.std.specs.Option.{option_map_or}
 use Rattle.gate_types.specs.declared.edits.Edit.{Edit}
-use Rattle.gate_types.specs.declared.records.Item.{Item as ItemRow}
 use Rattle.gate_types.specs.declared.deliveries.Delivery.{Delivery}
 use Rattle.gate_types.specs.declared.deliveries.Reply.{Reply}
 use Rattle.gate_types.specs.Names.{same_name}
 use Rattle.gate_types.specs.Settings.{Settings, are_sound}
-use Rattle.gate_types.specs.State.{Item, State}
+use Rattle.gate_types.specs.State.{State}
 use Rattle.gate_types.specs.Step.{raw_step, accepted}
 use Rattle.gate_types.specs.Rows.{item_of, item_rows}
 use Rattle.gate_types.specs.Once.{Content}
@@ -29,8 +28,9 @@ use Rattle.gate_settling.proofs.StandingLemmas.{queue_of_name}
 use Rattle.gate_settling.proofs.WalkLemmas.{settles_one}
 
 -- the delivery, under way
-pub touching : (c : Settings) (x : Content) (d : Delivery) (r : Reply) (t : State) (k : TouchedItem) → are_sound c ≡ true →
-    IsLawfulContent c x → raw_step c x.state d ≡ accepted r t → is_stale r ≡ false → IsTouched c x.state d k →
+pub touching : (c : Settings) (x : Content) (d : Delivery) (r : Reply) (t : State) (k : TouchedItem) →
+    are_sound c ≡ true → IsLawfulContent c x → raw_step c x.state d ≡ accepted r t → is_stale r ≡ false →
+    IsTouched c x.state d k →
     (h : Touching c x k) × (h.after ≡ t)
 touching c x d r t k w lawful e acts touches =
     let s = x.state in
@@ -39,7 +39,8 @@ touching c x d r t k w lawful e acts touches =
     let sound = lawful.lawful.sound in
     let there = subst (In q) (sym a.queues) (to_right a.before (q ∷ a.after) q (inl refl)) in
     let named = queue_of_name c s k.queue q w sound there a.named in
-    let stored = subst (λ rows. Contains rows k.item) (ap (λ o. option_map_or (item_rows c s) o []) named) touches.there in
+    let stored = subst (λ rows. Contains rows k.item) (ap (λ o. option_map_or (item_rows c s) o []) named)
+    touches.there in
     let j = from_map (row_by (columns_of c s)) q.items k.item
     (subst (In k.item) (columns_found c s sound q there) (contains_in (item_rows c s q) k.item stored)) in
     let inside = subst (λ i. In i q.items) (ap item_of j.2) j.1 in

@@ -1,5 +1,5 @@
 -- The edits of a walk that has made its visits settle one queue and touch nothing else.
-use Rattle.std.proofs.Common.{◌≡◌, ℕ, Bool, true, false, not, ◌||◌, cond, Option, Some, None, is_some, List, [], ◌∷◌, ◌++◌, map, fold, inl, inr, refl, sym, ap, ◌∙◌, subst, true≢false}
+use Rattle.std.proofs.Common.{◌≡◌, ℕ, Bool, true, false, not, ◌||◌, Option, Some, None, List, [], ◌∷◌, ◌++◌, map, fold, refl, sym, ap, ◌∙◌, subst}
 use Rattle.std.specs.Prelude.{◌==◌}
 use Rattle.std.specs.Option.{option_map_or}
 use Rattle.std.specs.List.{AllPass}
@@ -15,9 +15,9 @@ use Rattle.gate_types.specs.Names.{same_name}
 use Rattle.gate_types.specs.Settings.{Settings}
 use Rattle.gate_types.specs.State.{Item, Queue}
 use Rattle.gate_types.specs.Lawful.{IsSound}
-use Rattle.gate_types.specs.Rows.{Rows, edited_builds, fold_edits, item_of}
+use Rattle.gate_types.specs.Rows.{Rows, edited_builds, fold_edits}
 use Rattle.gate_types.specs.Once.{Content}
-use Rattle.gate_laws.specs.Touch.{has_serial, touched_by, settle_touched, settle_one}
+use Rattle.gate_laws.specs.Touch.{has_serial, touched_by, settle_touched}
 use Rattle.gate_queue.specs.Whole.{swept_of, rows_in}
 use Rattle.gate_queue.specs.Edits.{item_edits}
 use Rattle.gate_walk.specs.Walk.{Seen, Carry, Walk, row_by as row_of_visit, verdict_by, stopped_by, window_edits_by, visit_edits}
@@ -32,7 +32,7 @@ use Rattle.gate_laws.proofs.RunIsLawful.{raw_step_is_sound}
 use Rattle.gate_laws.proofs.OnlyOneQueueIsTouched.{only_one_queue_is_touched}
 use Rattle.gate_walk.proofs.UnderWay.{walked}
 use Rattle.gate_settling.specs.Touching.{Touching, delivered, sees, IsWalked}
-use Rattle.gate_settling.proofs.ColumnLemmas.{HasColumns, others_stay}
+use Rattle.gate_settling.proofs.ColumnLemmas.{others_stay}
 use Rattle.gate_settling.proofs.SeamLemmas.{is_of, is_own, row_parts, SettlesRows, OthersStay, SettlesOne}
 use Rattle.gate_settling.proofs.LeftLemmas.{left}
 use Rattle.gate_settling.proofs.WantedLemmas.{wanted_in}
@@ -159,7 +159,8 @@ others_settled : {c : Settings} {x : Content} {k : TouchedItem} (h : Touching c 
 others_settled {c = c} {x = x} {k = k} h q m apart =
     let t = h.after in
     let o = swept_of c t q in
-    others_stay c x.state h.delivery h.reply t h.sound h.lawful.lawful h.is_accepted o (to_map (swept_of c t) t.queues q m)
+    others_stay c x.state h.delivery h.reply t h.sound h.lawful.lawful h.is_accepted o
+    (to_map (swept_of c t) t.queues q m)
     (ap (λ f. option_map_or (λ name. not (same_name o.name name)) f true) (touched_is h) ∙ ap not apart)
 
 pub settles_one : {c : Settings} {x : Content} {k : TouchedItem} (h : Touching c x k) (w : Walk) → IsWalked h w →

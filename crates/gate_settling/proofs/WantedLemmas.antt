@@ -1,9 +1,9 @@
 -- The row that a walk wants is the one that is read by key.
-use Rattle.std.proofs.Common.{◌≡◌, ℕ, suc, ◌+◌, ◌-◌, ◌<◌, ◌≤◌, Bool, true, false, not, ◌&&◌, ◌||◌, cond, Option, Some, None, List, [], ◌∷◌, ◌++◌, map, inl, inr, refl, sym, ap, ◌∙◌, subst, arith, true≢false}
-use Rattle.std.specs.Prelude.{◌==◌, nat_lt, nat_le, filter, find, option_map, IfSome}
+use Rattle.std.proofs.Common.{◌≡◌, ℕ, suc, ◌-◌, ◌<◌, ◌≤◌, Bool, true, false, not, ◌&&◌, ◌||◌, cond, Option, Some, None, List, [], ◌∷◌, ◌++◌, inl, inr, refl, sym, ap, ◌∙◌, subst, arith, true≢false}
+use Rattle.std.specs.Prelude.{◌==◌, nat_lt, nat_le, find, option_map, IfSome}
 use Rattle.std.specs.List.{list_any}
 use Rattle.std.specs.Option.{option_map_or}
-use Rattle.std.proofs.lemmas.Bool.{and_parts, and_from, eqb-true, eq-eqb, ne_eqb, lt-ltb, ltb-true, ltb-false, le-leb, le-ltb, leb-true}
+use Rattle.std.proofs.lemmas.Bool.{and_parts, and_from, eq-eqb, ne_eqb, lt-ltb, ltb-true, ltb-false, le-leb, le-ltb, leb-true}
 use Rattle.std.proofs.lemmas.List.Folds.{list_any-append}
 use Rattle.gate_types.specs.declared.records.Item.{Item as ItemRow}
 use Rattle.gate_types.specs.Settings.{Settings}
@@ -16,10 +16,10 @@ use Rattle.gate_walk.specs.declared.walk.Next.TheVariants as code
 use Rattle.gate_walk.specs.Walk.{SeenNeed, Seen, Walk, is_gone, needs_gone}
 use Rattle.gate_walk.specs.Next.{Next, from, go, need, stop, wanted}
 use Rattle.gate_walk.specs.Views.{next_of_code}
-use Rattle.gate_walk.specs.UnderWay.{stale_rows, rows_seen, next_by, row_wanted, HasVisited, Starts, GoesOn}
+use Rattle.gate_walk.specs.UnderWay.{stale_rows, rows_seen, next_by, row_wanted, Starts, GoesOn}
 use Rattle.gate_book.specs.Reads.{queue_named, items_in, first_above, first_needing}
 use Rattle.gate_raw.specs.declared.touched.TouchedItem.{TouchedItem}
-use Rattle.gate_laws.proofs.Members.{In, every, any_from, any_to, from_map, found}
+use Rattle.gate_laws.proofs.Members.{In, every, from_map, found}
 use Rattle.gate_laws.proofs.Parts.{ItemsRise}
 use Rattle.gate_laws.proofs.Tests.{not_and_false}
 use Rattle.gate_book.proofs.MemoryLemmas.{find_map}
@@ -27,59 +27,18 @@ use Rattle.gate_queue.proofs.Ordered.{RiseFrom, row_serial, rises}
 use Rattle.gate_walk.proofs.Visits.{stored_rise}
 use Rattle.gate_walk.proofs.Swept.{items_rise}
 use Rattle.gate_settling.specs.Touching.{Touching, delivered, sees, IsUnderWay}
-use Rattle.gate_settling.specs.Rows.{is_out, need_now, needs_known, first_behind, is_needing, first_needing_any, earlier, row_for, IsFrom, IsAbove, row_now}
+use Rattle.gate_settling.specs.Rows.{is_out, need_now, needs_known, first_behind, is_needing, first_needing_any, earlier, row_for, IsFrom, IsAbove}
+use Rattle.gate_settling.proofs.ListLemmas.{same_bool, and_false, or_false, find_same, find_kept, any_map, any_swapped}
 use Rattle.gate_settling.proofs.StandingLemmas.{items_are, serial_is_drawn, stands, stale_are, in_stale}
 use Rattle.gate_settling.proofs.SeenLemmas.{needs_of_change, seen_now}
-
--- ---- tests that agree
-
-same_bool : (a b : Bool) → (a ≡ true → b ≡ true) → (b ≡ true → a ≡ true) → a ≡ b
-same_bool true b f g = sym (f refl)
-same_bool false true f g = g refl
-same_bool false false f g = refl
-
-and_false : (b : Bool) → b && false ≡ false
-and_false true = refl
-and_false false = refl
-
-or_false : (b : Bool) → b || false ≡ b
-or_false true = refl
-or_false false = refl
-
-find_same : {X : Type 0} (p q : X → Bool) (xs : List X) → ((x : X) → In x xs → p x ≡ q x) → find p xs ≡ find q xs
-find_same p q [] h = refl
-find_same p q (x ∷ xs) h = λ k. cond (h x (inl refl) k) (Some x) (find_same p q xs (λ y m. h y (inr m)) k)
-
-find_kept : {X : Type 0} (p q : X → Bool) (xs : List X) → find p (filter q xs) ≡ find (λ x. q x && p x) xs
-find_kept p q [] = refl
-find_kept {X = X} p q (x ∷ xs) = by_test (q x) (find_kept p q xs)
-  where
-    by_test : (b : Bool) → find p (filter q xs) ≡ find (λ y. q y && p y) xs →
-        find p (cond b (x ∷ filter q xs) (filter q xs)) ≡ cond (b && p x) (Some x) (find (λ y. q y && p y) xs)
-    by_test true rest = ap (λ o. cond (p x) (Some x) o) rest
-    by_test false rest = rest
-
-any_map : {X Y : Type 0} (t : Y → Bool) (f : X → Y) (xs : List X) → list_any t (map f xs) ≡ list_any (λ x. t (f x)) xs
-any_map t f [] = refl
-any_map t f (x ∷ xs) = ap (λ b. t (f x) || b) (any_map t f xs)
-
--- whichever list is gone through first
-any_swapped : (xs ys : List ℕ) →
-    list_any (λ x. list_any (λ y. y == x) ys) xs ≡ list_any (λ y. list_any (λ x. x == y) xs) ys
-any_swapped xs ys = same_bool _ _
-    (λ e. let a = any_from (λ x. list_any (λ y. y == x) ys) xs e in let b = any_from (λ y. y == a.0) ys a.2 in
-    any_to (λ y. list_any (λ x. x == y) xs) ys b.0 b.1
-    (any_to (λ x. x == b.0) xs a.0 a.1 (eq-eqb a.0 b.0 (sym (eqb-true b.0 a.0 b.2)))))
-    (λ e. let a = any_from (λ y. list_any (λ x. x == y) xs) ys e in let b = any_from (λ x. x == a.0) xs a.2 in
-    any_to (λ x. list_any (λ y. y == x) ys) xs b.0 b.1
-    (any_to (λ y. y == b.0) ys a.0 a.1 (eq-eqb a.0 b.0 (sym (eqb-true b.0 a.0 b.2)))))
 
 -- ---- rows behind a serial
 
 behind_own : (n m : ℕ) → not (m == n) && nat_le n m ≡ nat_lt n m
 behind_own n m = same_bool _ _
     (λ e. let both = and_parts (not (m == n)) (nat_le n m) e in by_lt (nat_lt n m) refl both.0 (leb-true n m both.1))
-    (λ e. let l = ltb-true n m e in and_from (not (m == n)) (nat_le n m) (ap not (ne_eqb m n (λ s. absurd (omega (arith, l, s)))))
+    (λ e. let l = ltb-true n m e in
+    and_from (not (m == n)) (nat_le n m) (ap not (ne_eqb m n (λ s. absurd (omega (arith, l, s)))))
     (le-leb n m (omega (arith, l))))
   where
     by_lt : (b : Bool) → nat_lt n m ≡ b → not (m == n) ≡ true → n ≤ m → b ≡ true
@@ -95,7 +54,8 @@ from_own n m one = same_bool _ _
     (λ e. let l = ltb-true (n - 1) m e in le-leb n m (omega (arith, one, l)))
 
 -- a row above the touched one stands
-above_stands : (k : TouchedItem) (r : ItemRow) (n : ℕ) → k.item.serial ≤ n → nat_lt n r.serial ≡ true → stands k r ≡ true
+above_stands : (k : TouchedItem) (r : ItemRow) (n : ℕ) → k.item.serial ≤ n → nat_lt n r.serial ≡ true →
+    stands k r ≡ true
 above_stands k r n l e =
     let more = ltb-true n r.serial e in
     ap (λ b. not (is_out k.event && b)) (ne_eqb r.serial k.item.serial (λ s. absurd (omega (arith, l, more, s))))
@@ -110,7 +70,8 @@ found_stale {c = c} {x = x} {k = k} h p q same =
     ∙ find_same (λ r. stands k r && p r) q (item_rows c x.state h.queue) same ∙ ap (find q) (sym (items_are h))
 
 -- and so among the rows as visits see them
-found_seen : {c : Settings} {x : Content} {k : TouchedItem} (h : Touching c x k) (t : Seen → Bool) (q : ItemRow → Bool) →
+found_seen : {c : Settings} {x : Content} {k : TouchedItem} (h : Touching c x k) (t : Seen → Bool)
+    (q : ItemRow → Bool) →
     ((r : ItemRow) → In r (item_rows c x.state h.queue) → stands k r && t (sees h r) ≡ q r) →
     find t (rows_seen (delivered h)) ≡ option_map (sees h) (find q (items_in c x.state k.queue))
 found_seen h t q same =
@@ -141,7 +102,8 @@ needs_are {c = c} {x = x} {k = k} h gone r m =
 
 needing_is : {c : Settings} {x : Content} {k : TouchedItem} (h : Touching c x k) (gone : List ℕ) (n : ℕ) →
     k.item.serial ≤ n → (r : ItemRow) → In r (item_rows c x.state h.queue) →
-    stands k r && (nat_lt n r.serial && needs_gone gone (sees h r).needs) ≡ (nat_lt n r.serial && is_needing x.state gone r)
+    stands k r && (nat_lt n r.serial && needs_gone gone (sees h r).needs)
+    ≡ (nat_lt n r.serial && is_needing x.state gone r)
 needing_is {x = x} {k = k} h gone n l r m = by_lt (nat_lt n r.serial) refl
   where
     by_lt : (b : Bool) → nat_lt n r.serial ≡ b →
@@ -153,11 +115,13 @@ needing_is {x = x} {k = k} h gone n l r m = by_lt (nat_lt n r.serial) refl
 
 pub wanted_is : {c : Settings} {x : Content} {k : TouchedItem} (h : Touching c x k) (gone : List ℕ) (n : ℕ)
     (next : CodeNext) → IsFrom n next → k.item.serial ≤ n →
-    wanted gone (next_of_code next) (rows_seen (delivered h)) ≡ option_map (sees h) (row_for c x.state k.queue gone next)
+    wanted gone (next_of_code next) (rows_seen (delivered h))
+    ≡ option_map (sees h) (row_for c x.state k.queue gone next)
 wanted_is {k = k} h gone n (code.Go m) e l =
     found_seen h (λ v. nat_lt m v.row.serial) (λ r. nat_lt m r.serial) (λ r mr. same_bool _ _
     (λ t. (and_parts (stands k r) (nat_lt m r.serial) t).1)
-    (λ t. and_from (stands k r) (nat_lt m r.serial) (above_stands k r m (subst (λ z. k.item.serial ≤ z) (sym e) l) t) t))
+    (λ t. and_from (stands k r) (nat_lt m r.serial)
+    (above_stands k r m (subst (λ z. k.item.serial ≤ z) (sym e) l) t) t))
 wanted_is {x = x} {k = k} h gone n (code.Need m) e l =
     found_seen h (λ v. nat_lt m v.row.serial && needs_gone gone v.needs)
     (λ r. nat_lt m r.serial && is_needing x.state gone r)
@@ -240,10 +204,12 @@ first_of_either a b n (y ∷ rows) h = by_both (a y) (b y) (first_of_either a b 
 
     first_comes : (f : Option ItemRow) → find a rows ≡ f → earlier f (Some y) ≡ Some y
     first_comes None e = refl
-    first_comes (Some r) e = ap (λ t. cond t (Some y) (Some r)) (lt-ltb y.serial r.serial (behind r (found a rows r e).0))
+    first_comes (Some r) e =
+        ap (λ t. cond t (Some y) (Some r)) (lt-ltb y.serial r.serial (behind r (found a rows r e).0))
 
     by_both : (s t : Bool) → find (λ r. a r || b r) rows ≡ earlier (find a rows) (find b rows) →
-        cond (s || t) (Some y) (find (λ r. a r || b r) rows) ≡ earlier (cond s (Some y) (find a rows)) (cond t (Some y) (find b rows))
+        cond (s || t) (Some y) (find (λ r. a r || b r) rows)
+        ≡ earlier (cond s (Some y) (find a rows)) (cond t (Some y) (find b rows))
     by_both true true rest = sym (same_cond (nat_lt y.serial y.serial) (Some y))
     by_both true false rest = sym (first_stays (find b rows) refl)
     by_both false true rest = sym (first_comes (find a rows) refl)
@@ -261,7 +227,8 @@ needing_more s gone g n rows h =
     needs : ItemRow → ℕ → Bool
     needs r k = list_any (λ m. m == k) (change_of s r.change).needs
 
-    by_lt : (r : ItemRow) (b : Bool) → b && is_needing s (gone ++ g ∷ []) r ≡ (b && is_needing s gone r || b && needs r g)
+    by_lt : (r : ItemRow) (b : Bool) →
+        b && is_needing s (gone ++ g ∷ []) r ≡ (b && is_needing s gone r || b && needs r g)
     by_lt r true = list_any-append (needs r) gone (g ∷ []) ∙ ap (λ t. is_needing s gone r || t) (or_false (needs r g))
     by_lt r false = refl
 
@@ -271,7 +238,8 @@ none_needing s n (r ∷ rows) = ap (λ b. cond b (Some r) (first_needing_any s [
     ∙ none_needing s n rows
 
 -- the rows of a queue rise
-pub items_in_rise : (c : Settings) (s : State) → IsSound c s → (name : List ℕ) → RiseFrom row_serial 0 (items_in c s name)
+pub items_in_rise : (c : Settings) (s : State) → IsSound c s → (name : List ℕ) →
+    RiseFrom row_serial 0 (items_in c s name)
 items_in_rise c s sound name = by_queue (queue_named s name) refl
   where
     by_queue : (f : Option Queue) → queue_named s name ≡ f → RiseFrom row_serial 0 (option_map_or (item_rows c s) f [])

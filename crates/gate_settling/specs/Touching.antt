@@ -1,5 +1,5 @@
 -- An accepted delivery under way, and the item that it touched, as it stood in its queue.
-use Rattle.std.specs.Prelude.{true, false, ◌≡◌, List, [], ◌∷◌, ◌++◌, Option, Some, option_map, Contains}
+use Rattle.std.specs.Prelude.{true, false, ◌≡◌, List, ◌∷◌, ◌++◌, Option, Some, option_map, Contains}
 use Rattle.gate_types.specs.declared.records.Item.{Item as ItemRow}
 use Rattle.gate_types.specs.declared.edits.Edit.{Edit}
 use Rattle.gate_types.specs.declared.deliveries.Delivery.{Delivery}
@@ -7,7 +7,6 @@ use Rattle.gate_types.specs.declared.deliveries.Reply.{Reply}
 use Rattle.gate_types.specs.Settings.{Settings, are_sound}
 use Rattle.gate_types.specs.State.{Item, Queue, State}
 use Rattle.gate_types.specs.Step.{accepted, raw_step}
-use Rattle.gate_types.specs.Lawful.{IsLawful}
 use Rattle.gate_types.specs.Rows.{item_of, item_rows}
 use Rattle.gate_types.specs.Once.{Content}
 use Rattle.gate_types.specs.Forms.{IsLawfulContent}
@@ -80,7 +79,8 @@ pub record IsWalked {c : Settings} {x : Content} {k : TouchedItem} (h : Touching
   pub settled : tables_by (delivered h) w ≡ tables_settled (delivered h)
 
 -- these are the edits of such a walk
-pub record AreToldOf {c : Settings} {x : Content} {k : TouchedItem} (h : Touching c x k) (edits : List Edit) : Type 0 where
+pub record AreToldOf {c : Settings} {x : Content} {k : TouchedItem} (h : Touching c x k)
+    (edits : List Edit) : Type 0 where
   pub walk : Walk
   pub walked : IsWalked h walk
   pub told : edits ≡ walk.told

@@ -3,12 +3,16 @@
 //!
 //! - `settling::settling` is what the gate calls: its edits, behind those of the delivery, lead to the state after a
 //!   rebase and a sweep of all queues.
-//! - `walking` makes the visits, one after another; `rows` reads what each of them is given; `wanted` finds the row that
-//!   the walk asks for; `begun` begins it.
+//! - `begun` begins the walk; `walking` makes its visits, one after another; `wanted` finds the row that it asks for;
+//!   `rows` reads what a visit is given.
 #![tactic(auto)]
 
 mod begun;
+#[cfg(test)]
+mod made;
 mod rows;
 pub mod settling;
+#[cfg(test)]
+mod texts;
 mod walking;
 mod wanted;

@@ -58,3 +58,6 @@ fn edits_of_walk<B: Book>(
         None => Ok(Vec::new(alloc)),
     }
 }
+
+#[cfg(test)]
+mod tests;

@@ -1,10 +1,9 @@
-use Rattle.std.proofs.Common.{◌≡◌, ◌∙◌, ◌+◌, ◌<◌, ℕ, true, Option, Some, cond, sym, ap, subst, arith}
+use Rattle.std.proofs.Common.{◌≡◌, ◌∙◌, ◌+◌, cond, sym, ap, arith}
 use Rattle.std.specs.Prelude.{option_copied}
 use Rattle.std.proofs.lemmas.Option.{same_Some, none-some}
-use Rattle.gate_types.specs.Once.{Content}
 use Rattle.gate_book.specs.Reads.{sizes_of}
 use Rattle.gate_book.specs.declared.rows.QueueSizes.{QueueSizes}
-use Rattle.gate_settling.specs.Touching.{Touching, delivered}
+use Rattle.gate_settling.specs.Touching.{delivered}
 use Rattle.gate_settling.specs.Rows.{reports_now, window_now}
 use Rattle.gate_settling.proofs.BegunLemmas.{set_there, sizes_are, reports_are, few_reports, is_for}
 use Rattle.gate_settling.proofs.begun.begun.Goals as goal
@@ -42,7 +41,8 @@ returns-clause-begun g c trusted x holds lawful h =
       | else-is_out w ↦ w.reports-is ∙ sym (ap (λ b. cond b (c.in_ok-before.before + 1) c.in_ok-before.before)
           (sym c.is_out.ensures ∙ w.if-is_out.false))
     ] in
-    c.in_ok-start.ensures.for_a_delivery (delivered h) (is_for h _ _ (sym c.queue_named.ensures ∙ ap option_copied c.in-Some.is)
+    let set = sym c.queue_named.ensures ∙ ap option_copied c.in-Some.is in
+    c.in_ok-start.ensures.for_a_delivery (delivered h) (is_for h _ _ set
     (c.window_now.ensures ∙ ap (λ (z : QueueSizes). window_now k.event c.in-Some.settings.now.floor z.window) sizes)
     (reports ∙ ap (reports_now k.event) many) c.starting_point.ensures.serial c.starting_point.ensures.ahead
     c.starting_point.ensures.out)

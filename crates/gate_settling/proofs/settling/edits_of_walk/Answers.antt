@@ -1,4 +1,3 @@
-use Rattle.std.proofs.Common.{◌∙◌, sym}
 use Rattle.gate_walk.specs.UnderWay.{Starts}
 use Rattle.gate_settling.specs.Touching.{delivered}
 use Rattle.gate_settling.proofs.KeptLemmas.{at_some, at_none}

@@ -1,7 +1,8 @@
-use Rattle.std.proofs.Common.{◌∙◌, ◌++◌, sym, ap, subst, rules}
+use Rattle.std.proofs.Common.{◌++◌, sym, subst, rules}
 use Rattle.gate_types.specs.Tables.{Leads}
 use Rattle.gate_raw.specs.Moves.{in_state, swept}
 use Rattle.gate_raw.specs.Touches.{Touches}
+use Rattle.gate_settling.specs.Touching.{AreToldOf}
 use Rattle.gate_settling.proofs.KeptLemmas.{if_ok_so}
 use Rattle.gate_settling.proofs.TouchingLemmas.{touching, settled_some, settled_none}
 use Rattle.gate_settling.proofs.settling.settling.Goals as goal
@@ -11,7 +12,8 @@ returns-in-Some-clause-settled g c trusted x holds lawful d r t raw e acts touch
     let s = c.args.config.now in
     let here = subst (Touches s x.state d) c.in-Some.is touches in
     let way = touching s x d r t c.in-Some.touched (search rules) lawful e acts here in
-    if_ok_so c.edits_of_walk.result (λ edits told. settled_some way.0 t raw edits.items way.1 moves told)
+    if_ok_so {P = λ edits. AreToldOf way.0 edits.items} c.edits_of_walk.result
+    (λ edits told. settled_some way.0 t raw edits.items way.1 moves told)
     (c.edits_of_walk.ensures.told trusted x holds lawful way.0)
 
 pub returns-in-None-clause-settled : goal.returns-in-None-clause-settled

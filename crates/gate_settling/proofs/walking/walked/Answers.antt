@@ -1,4 +1,4 @@
-use Rattle.std.proofs.Common.{◌≡◌, ◌∙◌, ◌≤◌, Some, sym, ap, subst, rules}
+use Rattle.std.proofs.Common.{◌∙◌, ◌≤◌, ap, subst}
 use Rattle.std.specs.Prelude.{IfSome, option_map}
 use Rattle.gate_types.specs.declared.records.Item.{Item}
 use Rattle.gate_settling.specs.Touching.{sees}
@@ -30,8 +30,9 @@ loop-next-preserved g c =
           let way = c.loop-next.invariant.under_way first x holds lawful h starts in
           let on = c.in_ok-asks.ensures.visited second x held lawful h way.visits way.visited
           (way.wanted ∙ ap (option_map (sees h)) c.in-Some.is) in
+          let queue = c.args.touched.now.queue in
           let next = c.in_ok-next-2.ensures.row trusted _ x asked lawful
-          ∙ ap (λ gone. row_for c.args.config.now x.state c.args.touched.now.queue gone c.in_ok-asks.asks) c.gone.ensures in
+          ∙ ap (λ gone. row_for c.args.config.now x.state queue gone c.in_ok-asks.asks) c.gone.ensures in
           goes_under_way h c.loop-next.walk c.visited.new.walk row way.visits c.in_ok-asks.asks c.in_ok-next-2.next on
           c.in_ok-asks.ensures.from behind next;
       behind = further row.serial c.args.touched.now.item.serial c.in_ok-asks.asks c.in_ok-next-2.next behind

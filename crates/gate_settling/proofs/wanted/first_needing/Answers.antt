@@ -32,5 +32,6 @@ loop-change-preserved g c = record {
       (items_in_rise s x.state lawful.lawful.sound c.args.queue.now))
       ∙ ap (λ (gs : List ℕ). first_needing_any x.state gs n rows) (sym more);
   rises = subst (λ o. IfSome o (λ r. c.args.above < r.serial)) (sym c.earlier-first.ensures)
-      (earlier_above c.args.above c.loop-change.first c.in_ok-next.next c.loop-change.invariant.rises c.in_ok-next.ensures.rises);
+      (earlier_above c.args.above c.loop-change.first c.in_ok-next.next c.loop-change.invariant.rises
+      c.in_ok-next.ensures.rises);
 }
