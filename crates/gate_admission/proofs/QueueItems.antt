@@ -1,0 +1,127 @@
+-- The items of a queue after edits: in order, each stored before or put since, and found by serial and by change.
+use Rattle.std.proofs.Common.{◌≡◌, ◌≢◌, ℕ, suc, ◌+◌, ◌-◌, ◌<◌, ◌≤◌, ◌⊎◌, inl, inr, ⊎_elim, Bool, true, false, not, ◌&&◌, cond, Option, Some, None, List, [], ◌∷◌, ◌++◌, map, filter, fold, length, refl, sym, ap, ◌∙◌, subst, true≢false, arith}
+use Rattle.std.specs.Prelude.{find, nat_lt, slice_get, max, ◌==◌, option_map, option_and_then}
+use Rattle.std.specs.Option.{option_or}
+use Rattle.std.proofs.lemmas.Bool.{eqb-true, eq-eqb, ne_eqb, ltb-true, lt-ltb, le-ltb, and_parts, cases_lt}
+use Rattle.std.proofs.lemmas.Option.{none-some}
+use Rattle.gate_types.specs.declared.records.Item.{Item as ItemRow}
+use Rattle.gate_types.specs.declared.edits.Edit.{Edit}
+use Rattle.gate_types.specs.declared.edits.Edit.TheVariants as edit
+use Rattle.gate_types.specs.Names.{same_name}
+use Rattle.gate_types.specs.State.{put_by}
+use Rattle.gate_types.specs.Rows.{edited_items}
+use Rattle.gate_book.specs.Reads.{first_above, last_below}
+use Rattle.gate_laws.proofs.Members.{In, found, not_found, from_filter, to_filter}
+use Rattle.gate_laws.proofs.Rising.{Rising, from_put, rising_put, rising_filter}
+use Rattle.gate_admission.specs.Seen.{items_after, item_at, if_at, if_of, item_if, item_if_at, serial_put, item_put, later, put_below, last_put_below}
+
+-- the serial of a row
+abbrev pub serial_of : ItemRow → ℕ
+serial_of i = i.serial
+
+-- ---- in order
+
+pub rising_after : (name : List ℕ) (rows : List ItemRow) (edits : List Edit) → Rising serial_of rows →
+    Rising serial_of (items_after name rows edits)
+rising_after name rows [] r = r
+rising_after name rows (e ∷ es) r = rising_after name (edited_items name rows e) es (step e)
+  where
+    step : (e : Edit) → Rising serial_of (edited_items name rows e)
+    step (edit.PutItem q i) = by_name (same_name q name)
+      where
+        by_name : (b : Bool) → Rising serial_of (cond b (put_by serial_of i rows) rows)
+        by_name true = rising_put serial_of i rows r
+        by_name false = r
+    step (edit.DropItem k) = rising_filter serial_of (λ j. not (j.serial == k)) rows r
+    step (edit.PutChange k a) = r
+    step (edit.PutLanding q p l) = r
+    step (edit.PutReport q p l) = r
+    step (edit.PutBuild b) = r
+    step (edit.SetOutcome b o) = r
+    step (edit.StopBuild b) = r
+    step (edit.SetWindow q w) = r
+    step (edit.SetCounter k d) = r
+    step (edit.Keep k) = r
+
+-- ---- the stored item of a serial
+
+-- in a list that rises, what is above the one before a serial tells what is at it
+pub none_from : (k : ℕ) (rows : List ItemRow) → ((y : ItemRow) → In y rows → k < y.serial) → item_at k rows ≡ None
+none_from k [] h = refl
+none_from k (x ∷ xs) h =
+    let above = h x (inl refl) in
+    ap (λ t. cond t (Some x) (item_at k xs)) (ne_eqb x.serial k (λ e. omega (arith, above, e)))
+    ∙ none_from k xs (λ y m. h y (inr m))
+
+pub at_by_above : (k : ℕ) (rows : List ItemRow) → 1 ≤ k → Rising serial_of rows →
+    item_at k rows ≡ option_and_then (if_at k) (first_above (k - 1) rows)
+at_by_above k [] one r = refl
+at_by_above k (x ∷ xs) one r = ⊎_elim
+    (λ (l : x.serial < k).
+    ap (λ t. cond t (Some x) (item_at k xs)) (ne_eqb x.serial k (λ e. omega (arith, l, e)))
+    ∙ at_by_above k xs one r.1
+    ∙ sym (ap (λ t. option_and_then (if_at k) (cond t (Some x) (first_above (k - 1) xs)))
+    (le-ltb (k - 1) x.serial (omega (arith, l, one)))))
+    (λ (l : k ≤ x.serial).
+    by_test (x.serial == k) refl l
+    ∙ sym (ap (λ t. option_and_then (if_at k) (cond t (Some x) (first_above (k - 1) xs)))
+    (lt-ltb (k - 1) x.serial (omega (arith, l, one)))))
+    (cases_lt x.serial k)
+  where
+    by_test : (b : Bool) → x.serial == k ≡ b → k ≤ x.serial →
+        cond b (Some x) (item_at k xs) ≡ cond b (Some x) None
+    by_test true e l = refl
+    by_test false e l = none_from k xs (λ y m. let up = r.0 y m in omega (arith, up, l))
+
+-- ---- each was stored or put
+
+-- an edit puts a row into a queue
+abbrev pub Puts : List ℕ → ItemRow → Edit → Type 0
+Puts name r (edit.PutItem q i) = (same_name q name ≡ true) × (i ≡ r)
+Puts name r _ = ⊥
+
+-- one of these edits does
+abbrev pub PutBy : List ℕ → ItemRow → List Edit → Type 0
+PutBy name r [] = ⊥
+PutBy name r (e ∷ es) = Puts name r e ⊎ PutBy name r es
+
+from_step : (name : List ℕ) (rows : List ItemRow) (e : Edit) (r : ItemRow) → In r (edited_items name rows e) →
+    In r rows ⊎ Puts name r e
+from_step name rows (edit.PutItem q i) r m = by_name (same_name q name) refl m
+  where
+    by_name : (b : Bool) → same_name q name ≡ b → In r (cond b (put_by serial_of i rows) rows) →
+        In r rows ⊎ ((same_name q name ≡ true) × (i ≡ r))
+    by_name true e n = ⊎_elim (λ (f : i ≡ r). inr (e, f)) (λ (f : In r rows). inl f) (from_put serial_of i rows r n)
+    by_name false e n = inl n
+from_step name rows (edit.DropItem k) r m = inl (from_filter (λ j. not (j.serial == k)) rows r m).0
+from_step name rows (edit.PutChange k a) r m = inl m
+from_step name rows (edit.PutLanding q p l) r m = inl m
+from_step name rows (edit.PutReport q p l) r m = inl m
+from_step name rows (edit.PutBuild b) r m = inl m
+from_step name rows (edit.SetOutcome b o) r m = inl m
+from_step name rows (edit.StopBuild b) r m = inl m
+from_step name rows (edit.SetWindow q w) r m = inl m
+from_step name rows (edit.SetCounter k d) r m = inl m
+from_step name rows (edit.Keep k) r m = inl m
+
+pub from_after : (name : List ℕ) (rows : List ItemRow) (edits : List Edit) (r : ItemRow) →
+    In r (items_after name rows edits) → In r rows ⊎ PutBy name r edits
+from_after name rows [] r m = inl m
+from_after name rows (e ∷ es) r m = ⊎_elim
+    (λ (n : In r (edited_items name rows e)). ⊎_elim (λ (k : In r rows). inl k) (λ (k : Puts name r e). inr (inl k))
+    (from_step name rows e r n))
+    (λ (n : PutBy name r es). inr (inr n))
+    (from_after name (edited_items name rows e) es r m)
+
+-- ---- by serial
+
+-- what stands at a serial is found
+pub at_there : (rows : List ItemRow) (r : ItemRow) → Rising serial_of rows → In r rows → item_at r.serial rows ≡ Some r
+at_there [] r up m = absurd m
+at_there (x ∷ xs) r up m = elim m [
+  | inl e ↦ ap (λ t. cond t (Some x) (item_at r.serial xs)) (eq-eqb x.serial r.serial (ap serial_of e)) ∙ ap Some e
+  | inr n ↦
+      (let low = up.0 r n in
+      ap (λ t. cond t (Some x) (item_at r.serial xs)) (ne_eqb x.serial r.serial (λ e. omega (arith, low, e)))
+      ∙ at_there xs r up.1 n)
+]

@@ -1,0 +1,47 @@
+-- For the inside alone: the row of a change that enters a queue, by the rows that stand there.
+use Rattle.std.specs.Prelude.{ℕ, Bool, false, not, ◌||◌, ◌==◌, ◌+◌, ◌-◌, if◌then◌else◌, List, [], ◌∷◌, length, slice_get, Option, None, Some, find, option_and_then}
+use Rattle.std.specs.List.{list_all}
+use Rattle.std.specs.Option.{option_map_or}
+use Rattle.gate_types.specs.declared.records.Item.{Item as ItemRow}
+use Rattle.gate_types.specs.declared.records.Need.{Need}
+use Rattle.gate_types.specs.declared.records.Change.{Change}
+use Rattle.gate_types.specs.declared.edits.Edit.{Edit}
+use Rattle.gate_types.specs.declared.edits.Edit.TheVariants as edit
+use Rattle.gate_types.specs.declared.edits.Counter.TheVariants as counter
+use Rattle.gate_types.specs.State.{State, change_of}
+use Rattle.gate_types.specs.Standing.{needs_of}
+
+-- the row of a change
+abbrev pub item_in : ℕ → List ItemRow → Option ItemRow
+item_in change rows = find (λ r. r.change == change) rows
+
+-- the last row
+abbrev pub last_row : List ItemRow → Option ItemRow
+last_row rows = slice_get rows (length rows - 1)
+
+-- a need has landed, or the row of its change isn't failing
+abbrev pub is_met_by_rows : List ItemRow → Need → Bool
+is_met_by_rows rows n = n.landed || option_map_or (λ r. not r.failing) (item_in n.change rows) false
+
+-- what is ahead behind a row
+abbrev pub ahead_after : ItemRow → Option ℕ
+ahead_after r = if r.failing then r.ahead else Some r.serial
+
+-- what is ahead behind these rows, by the last of them
+abbrev pub ahead_behind : List ItemRow → Option ℕ
+ahead_behind rows = option_and_then ahead_after (last_row rows)
+
+-- the row of a change that enters behind these rows
+abbrev pub entering_row : State → List ItemRow → ℕ → ItemRow
+entering_row s rows n = record {
+  serial = s.counters.order + 1;
+  change = n;
+  revision = (change_of s n).revision;
+  ahead = ahead_behind rows;
+  failing = not (list_all (is_met_by_rows rows) (needs_of s n));
+}
+
+-- the edits of a change that enters a queue with this row
+abbrev pub entering_edits : List ℕ → Change → ItemRow → List Edit
+entering_edits name k row =
+    edit.PutItem name row ∷ edit.PutChange k None ∷ edit.SetCounter counter.Order row.serial ∷ []

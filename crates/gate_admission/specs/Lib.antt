@@ -1,0 +1,4 @@
+pub mod Led
+pub mod Seen
+pub mod Known
+pub mod Enters

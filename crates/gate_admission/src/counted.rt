@@ -1,0 +1,76 @@
+//! The counters, as they are after edits.
+ghost use Rattle.std.specs.Prelude.{◌≡◌, ◌≤◌, fold, IfOk};
+ghost use Rattle.gate_types.specs.Counters.{Drawn};
+ghost use Rattle.gate_types.specs.Tables.{edited_counters};
+ghost use Rattle.gate_book.specs.Kept.{IsKept};
+ghost use Rattle.gate_admission.specs.Led.{OfLed};
+
+use gate_book::book::Book;
+use gate_book::fault::BookFault;
+use gate_types::edits::{Counter, Edit};
+use std::marker::Model;
+
+/// The last number drawn of each kind, which may be past 10^15.
+#[derive(Clone, Copy, Debug)]
+pub struct LastDrawn {
+    pub approval: u64,
+    pub build: u64,
+    pub order: u64,
+}
+
+impl Model for LastDrawn {
+    ghost use Rattle.gate_types.specs.Counters.{Drawn};
+
+    ghost Value = { Drawn };
+
+    ghost view = { λ d. record { approval = d.approval; build = d.build; order = d.order } };
+
+    ghost inverse = { λ d. record { approval = d.approval; build = d.build; order = d.order } };
+}
+
+fn after(drawn: LastDrawn, edit: &Edit) -> LastDrawn
+    ensures { result ≡ edited_counters drawn edit.now }
+{
+    match edit {
+        Edit::SetCounter { counter, drawn: number } => match counter {
+            Counter::Approval => LastDrawn {
+                approval: *number,
+                ..drawn
+            },
+            Counter::Build => LastDrawn {
+                build: *number,
+                ..drawn
+            },
+            Counter::Order => LastDrawn {
+                order: *number,
+                ..drawn
+            },
+        },
+        _ => drawn,
+    }
+}
+
+fn after_all(drawn: LastDrawn, edits: &[Edit]) -> LastDrawn
+    ensures { result ≡ fold edited_counters drawn edits.now }
+{
+    let mut drawn = drawn;
+    for edit in edits {
+        drawn = after(drawn, edit);
+    }
+    drawn
+}
+
+/// The last number drawn of each kind, after the edits.
+pub fn last_drawn<B: Book>(book: &mut B, edits: &[Edit]) -> Result<LastDrawn, BookFault>
+    ensures found { OfLed B.IsTrusted B.Holds book.old book.new edits.now (λ c v.
+        IfOk result (λ drawn. drawn ≡ v.counters)) }
+    ensures kept { IsKept B.IsTrusted B.Holds B.LeavesOneOf book.old book.new }
+{
+    let counters = book.counters()?;
+    let drawn = LastDrawn {
+        approval: counters.approval,
+        build: counters.build,
+        order: counters.order,
+    };
+    Ok(after_all(drawn, edits))
+}

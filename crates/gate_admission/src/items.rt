@@ -1,0 +1,255 @@
+//! The items of a queue, as they are after edits.
+ghost use Rattle.std.specs.Prelude.{◌≡◌, ◌<◌, ◌+◌, fold, IfOk, IfSome, option_map, option_and_then};
+ghost use Rattle.gate_book.specs.Kept.{OfHeld, IsKept};
+ghost use Rattle.gate_book.specs.Reads.{items_in, last_below, queued_of};
+ghost use Rattle.gate_admission.specs.Led.{OfLed};
+ghost use Rattle.gate_admission.specs.Seen as seen;
+ghost use Rattle.gate_admission.specs.Known.{IsQueue};
+ghost use Rattle.gate_admission.specs.Enters.{item_in, last_row};
+
+use crate::known::same_name;
+use gate_book::book::Book;
+use gate_book::fault::BookFault;
+use gate_types::edits::Edit;
+use gate_types::names::Name;
+use gate_types::numbers::{ChangeNo, Serial};
+use gate_types::records::Item;
+
+fn at_serial(item: Option<Item>, serial: Serial) -> Option<Item>
+    ensures { result ≡ option_and_then (seen.if_at serial) item }
+{
+    match item {
+        Some(item) => (item.serial == serial).then_some(item),
+        None => None,
+    }
+}
+
+/// The item of a serial in a queue, as it is stored.
+fn stored_item<B: Book>(
+    book: &mut B,
+    queue: &Name,
+    serial: Serial,
+) -> Result<Option<Item>, BookFault>
+    ensures found { OfHeld B.IsTrusted B.Holds book.old book.new (λ c x.
+        IfOk result (λ found. found ≡ seen.item_at serial (items_in c x.state queue.now))) }
+    ensures kept { IsKept B.IsTrusted B.Holds B.LeavesOneOf book.old book.new }
+{
+    Ok(at_serial(book.next_item(queue, serial.get() - 1)?, serial))
+}
+
+fn after(queue: &Name, serial: Serial, item: Option<Item>, edit: &Edit) -> Option<Item>
+    ensures { result ≡ seen.item_after queue.now serial item edit.now }
+{
+    match edit {
+        Edit::PutItem { queue: name, item: put } if same_name(name, queue) && put.serial == serial => Some(*put),
+        Edit::DropItem(dropped) if *dropped == serial => None,
+        _ => item,
+    }
+}
+
+fn after_all(queue: &Name, serial: Serial, item: Option<Item>, edits: &[Edit]) -> Option<Item>
+    ensures { result ≡ fold (seen.item_after queue.now serial) item edits.now }
+{
+    let mut item = item;
+    for edit in edits {
+        item = after(queue, serial, item, edit);
+    }
+    item
+}
+
+/// The item of a serial in a queue, after the edits.
+pub fn item_at<B: Book>(
+    book: &mut B,
+    edits: &[Edit],
+    queue: &Name,
+    serial: Serial,
+) -> Result<Option<Item>, BookFault>
+    ensures found { OfHeld B.IsTrusted B.Holds book.old book.new (λ c x. IfOk result (λ found.
+        found ≡ seen.item_at serial (seen.items_after queue.now (items_in c x.state queue.now) edits.now))) }
+    ensures kept { IsKept B.IsTrusted B.Holds B.LeavesOneOf book.old book.new }
+{
+    let stored = stored_item(book, queue, serial)?;
+    Ok(after_all(queue, serial, stored, edits))
+}
+
+fn of_change(item: Option<Item>, change: ChangeNo) -> Option<Item>
+    ensures { result ≡ option_and_then (seen.if_of change) item }
+{
+    match item {
+        Some(item) => (item.change == change).then_some(item),
+        None => None,
+    }
+}
+
+/// The same, if it is of this change.
+fn item_if<B: Book>(
+    book: &mut B,
+    edits: &[Edit],
+    queue: &Name,
+    serial: Serial,
+    change: ChangeNo,
+) -> Result<Option<Item>, BookFault>
+    ensures found { OfHeld B.IsTrusted B.Holds book.old book.new (λ c x. IfOk result (λ found.
+        found ≡ seen.item_if change serial (seen.items_after queue.now (items_in c x.state queue.now) edits.now))) }
+    ensures kept { IsKept B.IsTrusted B.Holds B.LeavesOneOf book.old book.new }
+{
+    Ok(of_change(item_at(book, edits, queue, serial)?, change))
+}
+
+/// The serial under which an edit puts a change, if it puts this one.
+fn serial_put(edit: &Edit, change: ChangeNo) -> Option<Serial>
+    ensures { result ≡ seen.serial_put change edit.now }
+{
+    match edit {
+        Edit::PutItem { item, .. } if item.change == change => Some(item.serial),
+        _ => None,
+    }
+}
+
+/// The first item of a change among those whose serials edits put under it.
+fn item_put<B: Book>(
+    book: &mut B,
+    edits: &[Edit],
+    queue: &Name,
+    change: ChangeNo,
+) -> Result<Option<Item>, BookFault>
+    ensures found { OfHeld B.IsTrusted B.Holds book.old book.new (λ c x. IfOk result (λ found. found ≡
+        seen.item_put change (seen.items_after queue.now (items_in c x.state queue.now) edits.now) edits.now)) }
+    ensures kept { IsKept B.IsTrusted B.Holds B.LeavesOneOf book.old book.new }
+{
+    for edit in edits {
+        if let Some(serial) = serial_put(edit, change) {
+            if let Some(item) = item_if(book, edits, queue, serial, change)? {
+                return Ok(Some(item));
+            }
+        }
+    }
+    Ok(None)
+}
+
+/// The item of a change where it was stored, if it still stands there.
+fn item_left<B: Book>(
+    book: &mut B,
+    edits: &[Edit],
+    queue: &Name,
+    change: ChangeNo,
+) -> Result<Option<Item>, BookFault>
+    ensures found { OfHeld B.IsTrusted B.Holds book.old book.new (λ c x. IfOk result (λ found. found ≡
+        seen.item_left change (queued_of c x.state change)
+        (seen.items_after queue.now (items_in c x.state queue.now) edits.now))) }
+    ensures kept { IsKept B.IsTrusted B.Holds B.LeavesOneOf book.old book.new }
+{
+    match book.queued(change)? {
+        Some(stored) => item_if(book, edits, queue, stored.item.serial, change),
+        None => Ok(None),
+    }
+}
+
+/// The item of a change in a queue, after the edits.
+pub fn item_in<B: Book>(
+    book: &mut B,
+    edits: &[Edit],
+    queue: &Name,
+    change: ChangeNo,
+) -> Result<Option<Item>, BookFault>
+    ensures found { OfLed B.IsTrusted B.Holds book.old book.new edits.now (λ c v.
+        IsQueue v queue.now → IfOk result (λ found. found ≡ item_in change (items_in c v queue.now))) }
+    ensures kept { IsKept B.IsTrusted B.Holds B.LeavesOneOf book.old book.new }
+{
+    match item_left(book, edits, queue, change)? {
+        Some(item) => Ok(Some(item)),
+        None => item_put(book, edits, queue, change),
+    }
+}
+
+fn put_below(queue: &Name, below: u64, edit: &Edit) -> Option<Serial>
+    ensures value { result ≡ seen.put_below queue.now below edit.now }
+{
+    match edit {
+        Edit::PutItem { queue: name, item } if same_name(name, queue) && item.serial.get() < below => Some(item.serial),
+        _ => None,
+    }
+}
+
+fn later(a: Option<Serial>, b: Option<Serial>) -> Option<Serial>
+    ensures value { result ≡ seen.later a b }
+{
+    match (a, b) {
+        (None, b) => b,
+        (a, None) => a,
+        (Some(a), Some(b)) => Some(if a < b { b } else { a }),
+    }
+}
+
+fn last_put_below(queue: &Name, below: u64, edits: &[Edit]) -> Option<Serial>
+    ensures value { result ≡ seen.last_put_below queue.now below edits.now }
+{
+    let mut last = None;
+    for edit in edits {
+        last = later(last, put_below(queue, below, edit));
+    }
+    last
+}
+
+fn serial_of(item: Option<Item>) -> Option<Serial>
+    ensures { result ≡ option_map (λ i. i.serial) item }
+{
+    match item {
+        Some(item) => Some(item.serial),
+        None => None,
+    }
+}
+
+/// The greatest serial below one that is stored in a queue or put into it by the edits.
+fn serial_before<B: Book>(
+    book: &mut B,
+    edits: &[Edit],
+    queue: &Name,
+    below: u64,
+) -> Result<Option<Serial>, BookFault>
+    ensures found { OfHeld B.IsTrusted B.Holds book.old book.new (λ c x. IfOk result (λ found. found ≡
+        seen.later (seen.last_put_below queue.now below edits.now)
+        (option_map (λ i. i.serial) (last_below below (items_in c x.state queue.now))))) }
+    ensures falls { IfOk result (λ found. IfSome found (λ serial. serial < below)) }
+    ensures kept { IsKept B.IsTrusted B.Holds B.LeavesOneOf book.old book.new }
+{
+    let put = last_put_below(queue, below, edits);
+    let stored = book.last_item(queue, below)?;
+    Ok(later(put, serial_of(stored)))
+}
+
+/// The last item of a queue with a lower serial than `below`, after the edits.
+fn last_below<B: Book>(
+    book: &mut B,
+    edits: &[Edit],
+    queue: &Name,
+    below: u64,
+) -> Result<Option<Item>, BookFault>
+    ensures found { OfHeld B.IsTrusted B.Holds book.old book.new (λ c x. IfOk result (λ found. found ≡
+        last_below below (seen.items_after queue.now (items_in c x.state queue.now) edits.now))) }
+    ensures kept { IsKept B.IsTrusted B.Holds B.LeavesOneOf book.old book.new }
+{
+    let mut end = below;
+    while let Some(serial) = serial_before(book, edits, queue, end)? {
+        if let Some(item) = item_at(book, edits, queue, serial)? {
+            return Ok(Some(item));
+        }
+        end = serial.get();
+    }
+    Ok(None)
+}
+
+/// The last item of a queue after the edits, where `next` is above all serials.
+pub fn last_item<B: Book>(
+    book: &mut B,
+    edits: &[Edit],
+    queue: &Name,
+    next: Serial,
+) -> Result<Option<Item>, BookFault>
+    ensures found { OfLed B.IsTrusted B.Holds book.old book.new edits.now (λ c v.
+        IsQueue v queue.now → next ≡ v.counters.order + 1 →
+        IfOk result (λ found. found ≡ last_row (items_in c v queue.now))) }
+    ensures kept { IsKept B.IsTrusted B.Holds B.LeavesOneOf book.old book.new }
+{
+    last_below(book, edits, queue, next.get())
+}
