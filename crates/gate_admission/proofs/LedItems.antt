@@ -1,6 +1,10 @@
 -- The items of a queue in the state to which edits lead.
-use Rattle.std.proofs.Common.{◌≡◌, ℕ, ◌+◌, Option, Some, None, List, [], sym, ap, ◌∙◌, subst, arith}
+use Rattle.std.proofs.Common.{◌≡◌, ℕ, ◌+◌, ◌<◌, ◌≤◌, ⊎_elim, false, length, refl, Option, Some, None, List, [], sym, ap, ◌∙◌, subst, arith}
+use Rattle.std.specs.Prelude.{option_map, nat_lt}
 use Rattle.std.specs.Option.{option_map_or, option_or}
+use Rattle.std.proofs.lemmas.Bool.{lt-ltb, le-ltb, cases_lt}
+use Rattle.std.proofs.lemmas.Option.{none-some}
+use Rattle.gate_book.specs.declared.rows.QueueSizes.{QueueSizes}
 use Rattle.gate_types.specs.declared.records.Item.{Item as ItemRow}
 use Rattle.gate_types.specs.declared.edits.Edit.{Edit}
 use Rattle.gate_types.specs.Settings.{Settings}
@@ -8,17 +12,17 @@ use Rattle.gate_types.specs.State.{Queue, State}
 use Rattle.gate_types.specs.Once.{Content}
 use Rattle.gate_types.specs.Rows.{item_rows}
 use Rattle.gate_types.specs.Lawful.{IsSound}
-use Rattle.gate_book.specs.Reads.{items_in, queued_of, last_below}
+use Rattle.gate_book.specs.Reads.{items_in, queued_of, queue_named, sizes_of, last_below}
 use Rattle.gate_laws.proofs.Rising.{Rising}
 use Rattle.gate_admission.specs.Led.{IsLed}
-use Rattle.gate_admission.specs.Known.{IsQueue}
+use Rattle.gate_admission.specs.Known.{IsQueue, has_room}
 use Rattle.gate_admission.specs.Seen.{items_after, item_put, item_left}
 use Rattle.gate_admission.specs.Enters.{item_in, last_row}
 use Rattle.gate_admission.proofs.QueueItems.{serial_of}
 use Rattle.gate_admission.proofs.LastItem.{last_is}
 use Rattle.gate_admission.proofs.ByChange.{AreOnce, AreTold, by_change}
-use Rattle.gate_admission.proofs.Standing.{rows_rise, row_once, row_drawn, queue_in, stored_tells}
-use Rattle.gate_admission.proofs.Led.{queue_after_is, items_led}
+use Rattle.gate_admission.proofs.Standing.{rows_rise, rows_length, row_once, row_drawn, queue_in, stored_tells}
+use Rattle.gate_admission.proofs.Led.{queue_after_is, items_led, queue_led, no_queue_led}
 
 pub change_led : (c : Settings) (x : Content) (edits : List Edit) (v : State) (name : List ℕ) (n : ℕ) →
     IsSound c x.state → IsLed c x edits v → IsQueue v name →
@@ -52,3 +56,43 @@ last_led c x edits v name led there =
     ∙ last_is (v.counters.order + 1) (item_rows c v q)
     (λ r m. let low = row_drawn c v q r led.sound (queue_in v name q there.named) m in omega (arith, low))
     ∙ sym (ap (λ o. last_row (option_map_or (item_rows c v) o [])) there.named)
+
+-- ---- room
+
+shifted : (a l d : ℕ) → l + d ≡ a → nat_lt a (1000 + d) ≡ nat_lt l 1000
+shifted a l d e = ⊎_elim
+    (λ (h : l < 1000). lt-ltb a (1000 + d) (omega (arith, h, e)) ∙ sym (lt-ltb l 1000 h))
+    (λ (h : 1000 ≤ l). le-ltb a (1000 + d) (omega (arith, h, e)) ∙ sym (le-ltb l 1000 h))
+    (cases_lt l 1000)
+
+pub no_sizes : (o : Option Queue) → option_map sizes_of o ≡ None → o ≡ None
+no_sizes None e = refl
+no_sizes (Some q) e = absurd (none-some (sizes_of q) (sym e))
+
+pub no_room : (c : Settings) (x : Content) (edits : List Edit) (v : State) (name : List ℕ) → IsLed c x edits v →
+    option_map sizes_of (queue_named x.state name) ≡ None → has_room v name ≡ false
+no_room c x edits v name led e =
+    ap (λ (o : Option Queue). option_map_or (λ q. nat_lt (length q.items) 1000) o false)
+    (no_queue_led c x edits v name led (no_sizes (queue_named x.state name) e))
+
+pub room_led : (c : Settings) (x : Content) (edits : List Edit) (v : State) (name : List ℕ) (sizes : QueueSizes)
+    (added dropped : ℕ) → IsLed c x edits v → option_map sizes_of (queue_named x.state name) ≡ Some sizes →
+    length (items_after name (items_in c x.state name) edits) + dropped ≡ length (items_in c x.state name) + added →
+    nat_lt (sizes.items + added) (1000 + dropped) ≡ has_room v name
+room_led c x edits v name sizes added dropped led e sum = by_queue (queue_named x.state name) refl
+  where
+    by_queue : (o : Option Queue) → queue_named x.state name ≡ o →
+        nat_lt (sizes.items + added) (1000 + dropped) ≡ has_room v name
+    by_queue None f = absurd (none-some sizes (sym (ap (option_map sizes_of) f) ∙ e))
+    by_queue (Some p) f =
+        let there = queue_led c x edits v name p led f in
+        let q = there.queue in
+        let stored : length p.items ≡ sizes.items =
+            ap (λ (o : Option QueueSizes). option_map_or (λ z. z.items) o 0) (sym (ap (option_map sizes_of) f) ∙ e) in
+        let old : length (items_in c x.state name) ≡ length p.items =
+            ap (λ o. length (option_map_or (item_rows c x.state) o [])) f ∙ rows_length c x.state p in
+        let new : length (items_after name (items_in c x.state name) edits) ≡ length q.items =
+            ap length (items_led c x edits v name led there)
+            ∙ ap (λ o. length (option_map_or (item_rows c v) o [])) there.named ∙ rows_length c v q in
+        shifted (sizes.items + added) (length q.items) dropped (omega (arith, stored, old, new, sum))
+        ∙ sym (ap (λ (o : Option Queue). option_map_or (λ q. nat_lt (length q.items) 1000) o false) there.named)

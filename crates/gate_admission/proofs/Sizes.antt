@@ -89,3 +89,7 @@ after_more name rows (x ∷ xs) (suc k) e l at =
     ap (λ n. items_after name rows (take n (x ∷ xs))) (add-one (suc k))
     ∙ sym (ap (λ n. items_after name (edited_items name rows x) (take n xs)) (add-one k))
     ∙ after_more name (edited_items name rows x) xs k e (omega (arith, l)) at
+
+pub one_if_most : (b : Bool) → one_if b ≤ 1
+one_if_most true = omega arith
+one_if_most false = omega arith

@@ -74,8 +74,9 @@ fn count_moves<B: Book>(book: &mut B, edits: &[Edit], queue: &Name) -> Result<Mo
     let mut dropped = 0;
     for index in 0..edits.len() {
         let before = &edits[..index];
-        let is_more = grows(book, before, queue, &edits[index])?;
-        let is_less = shrinks(book, before, queue, &edits[index])?;
+        let edit = &edits[index];
+        let is_more = grows(book, before, queue, edit)?;
+        let is_less = shrinks(book, before, queue, edit)?;
         added = one_more_if(is_more, added);
         dropped = one_more_if(is_less, dropped);
     }
