@@ -235,7 +235,7 @@ pub one_in : (c : Settings) (s : State) (r : Ready) → find (may_enter c s) s.r
 one_in c s r e = ap (λ (o : Option Ready). option_map_or (entered c s) o s) e
 
 -- the order counter never falls
-order_rises : (c : Settings) (s : State) (k : ℕ) → s.counters.order ≤ (tries c s k).counters.order
+pub order_rises : (c : Settings) (s : State) (k : ℕ) → s.counters.order ≤ (tries c s k).counters.order
 order_rises c s zero = omega arith
 order_rises c s (suc k) =
     let one = by_found (find (may_enter c s) s.ready) in

@@ -15,3 +15,4 @@ pub mod ReadyList
 pub mod Admitted
 pub mod EnteringRow
 pub mod EnteringEdits
+pub mod Tries

@@ -8,7 +8,7 @@ ghost use Rattle.gate_types.specs.Tables.{Leads};
 ghost use Rattle.gate_book.specs.Kept.{OfHeldUnder, IsKept};
 ghost use Rattle.gate_raw.specs.Moves.{in_state};
 
-use crate::counted::last_drawn;
+use crate::counted::{is_past, last_drawn};
 use crate::entering::{enter, first_to_enter};
 use crate::ready::ready_list;
 use gate_book::book::Book;
@@ -17,9 +17,6 @@ use gate_types::config::Config;
 use gate_types::edits::Edit;
 use gate_types::numbers::Serial;
 use std::alloc::Global;
-
-/// The last number that a counter may give.
-const LAST_NUMBER: u64 = 1_000_000_000_000_000;
 
 /// The edits so far, and behind them those that let ready changes enter; none where a counter would pass 10^15. This
 /// only reads, by key.
@@ -38,7 +35,7 @@ pub fn admitting<B: Book>(
 {
     let _settings = &config.base;
     let drawn = last_drawn(book, edits.as_slice())?;
-    if drawn.approval > LAST_NUMBER || drawn.build > LAST_NUMBER || drawn.order > LAST_NUMBER {
+    if is_past(drawn) {
         return Ok(None);
     }
     let tries = ready_list(alloc, book, edits.as_slice())?.len();

@@ -1,5 +1,5 @@
 //! The counters, as they are after edits.
-ghost use Rattle.std.specs.Prelude.{◌≡◌, ◌≤◌, fold, IfOk};
+ghost use Rattle.std.specs.Prelude.{◌≡◌, ◌||◌, nat_lt, fold, IfOk};
 ghost use Rattle.gate_types.specs.Counters.{Drawn};
 ghost use Rattle.gate_types.specs.Tables.{edited_counters};
 ghost use Rattle.gate_book.specs.Kept.{IsKept};
@@ -73,4 +73,14 @@ pub fn last_drawn<B: Book>(book: &mut B, edits: &[Edit]) -> Result<LastDrawn, Bo
         order: counters.order,
     };
     Ok(after_all(drawn, edits))
+}
+
+/// Whether one of them is past 10^15.
+pub fn is_past(drawn: LastDrawn) -> bool
+    ensures { result ≡ (nat_lt 1000000000000000 drawn.approval || nat_lt 1000000000000000 drawn.build ||
+        nat_lt 1000000000000000 drawn.order) }
+{
+    drawn.approval > 1_000_000_000_000_000
+        || drawn.build > 1_000_000_000_000_000
+        || drawn.order > 1_000_000_000_000_000
 }

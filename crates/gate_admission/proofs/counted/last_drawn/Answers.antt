@@ -6,5 +6,6 @@ use Rattle.gate_admission.proofs.counted.last_drawn.Goals as goal
 pub returns-clause-found : goal.returns-clause-found
 returns-clause-found g c = λ trusted s x holds lawful v led.
     c.after_all.ensures
-    ∙ ap (λ d. fold edited_counters d c.args.edits.now) (c.in_ok-counters.ensures.found trusted s x holds lawful)
+    ∙ ap (λ d. fold edited_counters d c.args.edits.now)
+    (c.counters-2.view_is ∙ c.in_ok-counters.ensures.found trusted s x holds lawful)
     ∙ counters_led s x c.args.edits.now v led
