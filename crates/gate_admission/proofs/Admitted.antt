@@ -1,5 +1,5 @@
 -- Who may enter, and the state after some admissions.
-use Rattle.std.proofs.Common.{◌≡◌, ℕ, zero, suc, ◌+◌, ◌<◌, ◌≤◌, Bool, true, false, not, ◌&&◌, ◌||◌, cond, Option, Some, None, List, [], ◌∷◌, map, fold, length, refl, sym, ap, ◌∙◌, arith, inl, inr, true≢false, add-one, zero-add, lt-ltb, ◌-◌}
+use Rattle.std.proofs.Common.{◌≡◌, ℕ, zero, suc, ◌+◌, ◌≤◌, Bool, true, false, not, ◌&&◌, ◌||◌, cond, Option, Some, None, List, [], ◌∷◌, map, fold, length, refl, sym, ap, ◌∙◌, arith, inl, inr, true≢false, add-one, zero-add, lt-ltb, ◌-◌}
 use Rattle.std.specs.Prelude.{find, is_some, nat_lt, ◌==◌, unwrap_or}
 use Rattle.std.specs.List.{list_any}
 use Rattle.std.specs.Option.{option_map_or}
@@ -22,7 +22,7 @@ use Rattle.gate_types.specs.State.{Item, Queue, State, has_change, change_of, kn
 use Rattle.gate_types.specs.Slot.{are_met_by}
 use Rattle.gate_types.specs.Standing.{needs_of, with_ahead, place_of, places_after, next_ahead}
 use Rattle.gate_types.specs.Rows.{row_of, item_rows}
-use Rattle.gate_types.specs.Admit.{may_enter, with_item, next_item, entered, admit_one, admit}
+use Rattle.gate_types.specs.Admit.{may_enter, entered, admit_one, admit}
 use Rattle.gate_book.specs.Reads.{queue_named, items_in}
 use Rattle.gate_admission.specs.Known.{IsQueue, known_or_closed, need_of, has_room, has_place}
 use Rattle.gate_admission.specs.Enters.{item_in}

@@ -1,13 +1,12 @@
 -- The item of a change in a queue after edits: where it was stored, or where an edit put it.
 use Rattle.std.proofs.Common.{◌≡◌, ℕ, Bool, true, false, cond, Option, Some, None, List, [], ◌∷◌, refl, sym, ap, ◌∙◌, subst, true≢false, ◌⊎◌, inl, inr, ⊎_elim}
-use Rattle.std.specs.Prelude.{find, ◌==◌, option_and_then, option_map}
+use Rattle.std.specs.Prelude.{◌==◌, option_and_then, option_map}
 use Rattle.std.specs.Option.{option_or, option_map_or}
-use Rattle.std.proofs.lemmas.Bool.{eqb-true, eq-eqb}
+use Rattle.std.proofs.lemmas.Bool.{eqb-true}
 use Rattle.std.proofs.lemmas.Option.{none-some}
 use Rattle.gate_types.specs.declared.records.Item.{Item as ItemRow}
 use Rattle.gate_types.specs.declared.edits.Edit.{Edit}
 use Rattle.gate_types.specs.declared.edits.Edit.TheVariants as edit
-use Rattle.gate_types.specs.Names.{same_name}
 use Rattle.gate_book.specs.declared.rows.QueuedItem.{QueuedItem}
 use Rattle.gate_laws.proofs.Members.{In, found, not_found}
 use Rattle.gate_laws.proofs.Rising.{Rising}
@@ -136,7 +135,7 @@ by_change name n stored rows edits up once told = by_found (item_in n all) refl
         (λ (m : In r rows).
         let k = told r m (eqb-true r.change n at.1) in
         let here : left ≡ Some r = ap (λ o. item_if_at n all (option_map (λ (q : QueuedItem). q.item.serial) o)) k.1
-            ∙ ap (λ (s : ℕ). item_if n s all) k.2 ∙ at_own n all r up at.0 at.1 in
+        ∙ ap (λ (s : ℕ). item_if n s all) k.2 ∙ at_own n all r up at.0 at.1 in
         ap (λ o. option_or o (item_put n all edits)) here)
         (λ (p : PutBy name r edits). ⊎_elim
         (λ (f : left ≡ None). ap (λ o. option_or o (item_put n all edits)) f ∙ put_given name n all r edits up once at.0 at.1 p)

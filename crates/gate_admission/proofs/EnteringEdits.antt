@@ -1,5 +1,5 @@
 -- The edits of a change that enters lead to the state in which it has entered.
-use Rattle.std.proofs.Common.{◌≡◌, ◌≢◌, ℕ, ◌+◌, ◌<◌, ◌≤◌, ◌⊎◌, inl, inr, ⊎_elim, Bool, true, false, not, cond, Option, Some, None, List, [], ◌∷◌, ◌++◌, map, filter, fold, flat_map, refl, sym, ap, ◌∙◌, subst, true≢false, arith}
+use Rattle.std.proofs.Common.{◌≡◌, ◌≢◌, ℕ, ◌+◌, ◌<◌, ◌≤◌, inl, inr, ⊎_elim, Bool, true, false, not, cond, Option, Some, None, List, [], ◌∷◌, ◌++◌, map, flat_map, refl, sym, ap, ◌∙◌, subst, true≢false, arith}
 use Rattle.std.specs.Prelude.{find, nat_lt, nat_le, ◌==◌, option_map}
 use Rattle.std.specs.Option.{option_map_or}
 use Rattle.std.proofs.lemmas.Bool.{eqb-true, eq-eqb, ne_eqb, le-ltb, leb-true}
@@ -15,18 +15,17 @@ use Rattle.gate_types.specs.declared.edits.Edit.TheVariants as edit
 use Rattle.gate_types.specs.declared.edits.Counter.TheVariants as counter
 use Rattle.gate_types.specs.Names.{same_name}
 use Rattle.gate_types.specs.Settings.{Settings, are_sound}
-use Rattle.gate_types.specs.State.{Item, Queue, State, put_by, known_change, project_of}
+use Rattle.gate_types.specs.State.{Queue, State, put_by, known_change, project_of}
 use Rattle.gate_types.specs.Once.{Content}
 use Rattle.gate_types.specs.Rows.{item_rows}
-use Rattle.gate_types.specs.Admit.{may_enter, with_item, next_item, entered, admit_one}
-use Rattle.gate_types.specs.Lawful.{IsSound, IsDistinct, serials_of, drawn_serials}
+use Rattle.gate_types.specs.Admit.{may_enter, with_item, next_item, entered}
+use Rattle.gate_types.specs.Lawful.{IsSound, serials_of, drawn_serials}
 use Rattle.gate_types.specs.Tables.{Tables, QueueRows, tables, queue_rows, change_row, approval_of, edited_queue, edited_tables, fold_all}
-use Rattle.gate_raw.specs.Moves.{in_state}
 use Rattle.gate_book.specs.Reads.{queue_named}
 use Rattle.gate_laws.proofs.Members.{In, every, all, found, map_map, map_same, to_map, to_right}
 use Rattle.gate_laws.proofs.Rising.{Rising, rising}
 use Rattle.gate_laws.proofs.Counts.{times, times-append, distinct_to}
-use Rattle.gate_laws.proofs.Alone.{changes_once, item_changes, ready_changes, name_alone, same_name_is, same_name_of}
+use Rattle.gate_laws.proofs.Alone.{changes_once, item_changes, name_alone, same_name_is, same_name_of}
 use Rattle.gate_laws.proofs.AdmitIsSound.{one_sound}
 use Rattle.gate_admission.specs.Led.{IsLed}
 use Rattle.gate_admission.specs.Seen.{ready_without}
@@ -84,10 +83,10 @@ changes_enter n rs k (j ∷ js) up e = by_test (j.number == n) refl e (changes_e
         let same : j ≡ k = same_change j k f in
         let number : j.number ≡ n = eqb-true j.number n t in
         let gone : row ≡ change_row (ready_without n rs) j =
-            λ i. record {
-              change = sym same i;
-              approval = sym (approval_without n j.number rs ∙ ap (λ b. cond b None (approval_of rs j.number)) (eq-eqb n j.number (sym number))) i;
-            } in
+        λ i. record {
+          change = sym same i;
+          approval = sym (approval_without n j.number rs ∙ ap (λ b. cond b None (approval_of rs j.number)) (eq-eqb n j.number (sym number))) i;
+        } in
         let rest = other_rows n rs js (λ x m g. let higher = up.0 x m in omega (arith, higher, g, number)) in
         ap (λ b. cond b (row ∷ map (change_row rs) js) (cond (nat_lt k.number j.number) (row ∷ change_row rs j ∷ map (change_row rs) js) (change_row rs j ∷ put_by number_of row (map (change_row rs) js))))
         (eq-eqb k.number j.number (ap (λ (x : Change). x.number) (sym same)))
@@ -151,14 +150,14 @@ queue_enters c v r name q p row sound led there named row_is own name_is = by_na
         queue_rows (item_rows c (entered c v r) t) t)
     by_name true e =
         let same : p ≡ q = name_alone c v sound led p q own there
-            (same_name_of p.name q.name (same_name_is p.name name e ∙ sym (same_name_is q.name name named))) in
+        (same_name_of p.name q.name (same_name_is p.name name e ∙ sym (same_name_is q.name name named))) in
         let at : same_name name p.name ≡ true = same_name_of name p.name (sym (same_name_is p.name name e)) in
         let mine : row ≡ entering_row v (item_rows c v p) r.change =
-            row_is ∙ ap (λ (x : Queue). entering_row v (item_rows c v x) r.change) (sym same) in
+        row_is ∙ ap (λ (x : Queue). entering_row v (item_rows c v x) r.change) (sym same) in
         let last : put_by (λ (j : ItemRow). j.serial) row (item_rows c v p) ≡ item_rows c (entered c v r) (with_item (next_item v r.change) p) =
-            put_last row (item_rows c v p) (λ x m. let low = row_drawn c v p x led own m in let high = ap serial_of mine in omega (arith, low, high))
-            ∙ ap (λ (x : ItemRow). item_rows c v p ++ x ∷ []) mine
-            ∙ sym (enters_behind c v p r (can_be_entered c v p led own)) in
+        put_last row (item_rows c v p) (λ x m. let low = row_drawn c v p x led own m in let high = ap serial_of mine in omega (arith, low, high))
+        ∙ ap (λ (x : ItemRow). item_rows c v p ++ x ∷ []) mine
+        ∙ sym (enters_behind c v p r (can_be_entered c v p led own)) in
         ap (λ rows. queue_rows rows p) (ap (λ b. cond b (put_by (λ (j : ItemRow). j.serial) row (item_rows c v p)) (item_rows c v p)) at ∙ last)
         ∙ ap (λ b. let t = cond b (with_item (next_item v r.change) p) p in queue_rows (item_rows c (entered c v r) t) t)
         (sym (ap (same_name p.name) (sym name_is) ∙ e))

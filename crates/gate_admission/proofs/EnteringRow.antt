@@ -1,6 +1,6 @@
 -- The row of a change that enters its queue stands behind the others.
 use Rattle.std.proofs.Common.{◌≡◌, ℕ, suc, ◌-◌, Bool, true, false, not, ◌&&◌, ◌||◌, cond, Option, Some, None, List, [], ◌∷◌, ◌++◌, map, length, refl, sym, ap, ◌∙◌, arith}
-use Rattle.std.specs.Prelude.{◌+◌, filter, option_map, option_and_then, slice_get, ◌==◌, ◌≢◌, if◌then◌else◌, All}
+use Rattle.std.specs.Prelude.{◌+◌, filter, option_map, option_and_then, slice_get, ◌==◌, ◌≢◌, All}
 use Rattle.std.specs.List.{list_any, list_all, AllPass}
 use Rattle.std.specs.Option.{option_map_or}
 use Rattle.std.proofs.lemmas.Bool.{eqb-true, not-true, ne_eqb, or_parts}

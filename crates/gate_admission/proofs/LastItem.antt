@@ -1,6 +1,6 @@
 -- The last item of a queue after edits, below a serial.
-use Rattle.std.proofs.Common.{◌≡◌, ◌≢◌, ℕ, suc, ◌+◌, ◌-◌, ◌<◌, ◌≤◌, ◌⊎◌, inl, inr, ⊎_elim, Bool, true, false, ◌&&◌, cond, Option, Some, None, List, [], ◌∷◌, filter, fold, length, refl, sym, ap, ◌∙◌, subst, arith, true≢false}
-use Rattle.std.specs.Prelude.{find, nat_lt, slice_get, max, ◌==◌, option_map, IfSome}
+use Rattle.std.proofs.Common.{◌≡◌, ◌≢◌, ℕ, suc, ◌-◌, ◌<◌, ◌≤◌, ◌⊎◌, inl, inr, ⊎_elim, Bool, true, false, ◌&&◌, cond, Option, Some, None, List, [], ◌∷◌, filter, fold, length, refl, sym, ap, ◌∙◌, subst, arith, true≢false}
+use Rattle.std.specs.Prelude.{nat_lt, slice_get, ◌==◌, option_map, IfSome}
 use Rattle.std.specs.Option.{option_map_or}
 use Rattle.std.proofs.lemmas.Bool.{eqb-true, eq-eqb, ltb-true, ltb-false, lt-ltb, le-ltb}
 use Rattle.std.proofs.lemmas.Option.{none-some}
@@ -62,7 +62,7 @@ put_most name end r o [] puts l = absurd puts
 put_most name end r o (e ∷ es) puts l = ⊎_elim
     (λ (p : Puts name r e).
     let here : AtMost r.serial (put_below name end e) =
-        subst (AtMost r.serial) (sym (put_at name end r e p l)) (let same : r.serial ≤ r.serial = omega arith in same) in
+    subst (AtMost r.serial) (sym (put_at name end r e p l)) (let same : r.serial ≤ r.serial = omega arith in same) in
     stays_most name end r.serial (later o (put_below name end e)) es (later_right r.serial o (put_below name end e) here))
     (λ (p : PutBy name r es). put_most name end r (later o (put_below name end e)) es p l)
     puts
@@ -71,9 +71,6 @@ put_most name end r o (e ∷ es) puts l = ⊎_elim
 
 abbrev last_of : Option ItemRow → List ItemRow → Option ItemRow
 last_of o rows = fold (λ last i. Some i) o rows
-
-
-
 
 most_from : (n : ℕ) (o : Option ItemRow) (rows : List ItemRow) → AtMost n (option_map (λ i. i.serial) o) →
     ((y : ItemRow) → In y rows → n ≤ y.serial) → AtMost n (option_map (λ i. i.serial) (last_of o rows))

@@ -1,23 +1,20 @@
 -- What the edits make of the tables is what the state has to which they lead.
-use Rattle.std.proofs.Common.{◌≡◌, ℕ, Bool, true, false, cond, Option, Some, None, List, [], ◌∷◌, map, fold, refl, sym, ap, ◌∙◌, subst}
+use Rattle.std.proofs.Common.{◌≡◌, ℕ, Bool, true, false, cond, Option, Some, None, List, [], ◌∷◌, map, fold, refl, sym, ap, ◌∙◌}
 use Rattle.std.specs.Prelude.{find, option_map, ◌==◌}
 use Rattle.std.specs.Option.{option_map_or, option_or}
 use Rattle.std.proofs.lemmas.Option.{none-some}
 use Rattle.gate_types.specs.declared.records.Change.{Change}
-use Rattle.gate_types.specs.declared.records.Item.{Item as ItemRow}
 use Rattle.gate_types.specs.declared.rows.ChangeRow.{ChangeRow}
 use Rattle.gate_types.specs.declared.edits.Edit.{Edit}
-use Rattle.gate_types.specs.declared.edits.Edit.TheVariants as edit
 use Rattle.gate_types.specs.Names.{same_name}
 use Rattle.gate_types.specs.Settings.{Settings}
-use Rattle.gate_types.specs.Counters.{Drawn}
 use Rattle.gate_types.specs.State.{Queue, State, known_change}
 use Rattle.gate_types.specs.Once.{Content}
-use Rattle.gate_types.specs.Rows.{item_rows, edited_items}
+use Rattle.gate_types.specs.Rows.{item_rows}
 use Rattle.gate_types.specs.Tables.{Tables, QueueRows, tables, queue_rows, change_row, edited_changes, edited_counters, edited_queue, edited_tables, fold_all}
 use Rattle.gate_raw.specs.Moves.{in_state}
 use Rattle.gate_book.specs.Reads.{queue_named, items_in}
-use Rattle.gate_book.specs.TableReads.{change_in, rows_named, items_named}
+use Rattle.gate_book.specs.TableReads.{change_in, rows_named}
 use Rattle.gate_laws.proofs.Alone.{same_name_is}
 use Rattle.gate_laws.proofs.Members.{found}
 use Rattle.gate_admission.specs.Led.{IsLed}

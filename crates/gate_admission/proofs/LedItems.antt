@@ -34,12 +34,12 @@ change_led c x edits v name n sound led there =
     let p = at.before in
     let own = queue_in v name q there.named in
     let rise : Rising serial_of (items_after name (item_rows c x.state p) edits) =
-        subst (λ (rows : List ItemRow). Rising serial_of rows) (sym at.items) (rows_rise c v q led.sound own) in
+    subst (λ (rows : List ItemRow). Rising serial_of rows) (sym at.items) (rows_rise c v q led.sound own) in
     let once : AreOnce (items_after name (item_rows c x.state p) edits) =
-        subst (λ (rows : List ItemRow). AreOnce rows) (sym at.items) (row_once c v q led.sound own) in
+    subst (λ (rows : List ItemRow). AreOnce rows) (sym at.items) (row_once c v q led.sound own) in
     let told : AreTold n (queued_of c x.state n) (item_rows c x.state p) =
-        λ r m e. subst (λ k. (i : _) × (queued_of c x.state k ≡ Some i) × (i.item.serial ≡ r.serial)) e
-        (stored_tells c x.state name p r sound at.named m) in
+    λ r m e. subst (λ k. (i : _) × (queued_of c x.state k ≡ Some i) × (i.item.serial ≡ r.serial)) e
+    (stored_tells c x.state name p r sound at.named m) in
     ap (λ o. option_or (item_left n (queued_of c x.state n) (items_after name (option_map_or (item_rows c x.state) o []) edits))
     (item_put n (items_after name (option_map_or (item_rows c x.state) o []) edits) edits)) at.named
     ∙ by_change name n (queued_of c x.state n) (item_rows c x.state p) edits rise once told
@@ -88,11 +88,11 @@ room_led c x edits v name sizes added dropped led e sum = by_queue (queue_named 
         let there = queue_led c x edits v name p led f in
         let q = there.queue in
         let stored : length p.items ≡ sizes.items =
-            ap (λ (o : Option QueueSizes). option_map_or (λ z. z.items) o 0) (sym (ap (option_map sizes_of) f) ∙ e) in
+        ap (λ (o : Option QueueSizes). option_map_or (λ z. z.items) o 0) (sym (ap (option_map sizes_of) f) ∙ e) in
         let old : length (items_in c x.state name) ≡ length p.items =
-            ap (λ o. length (option_map_or (item_rows c x.state) o [])) f ∙ rows_length c x.state p in
+        ap (λ o. length (option_map_or (item_rows c x.state) o [])) f ∙ rows_length c x.state p in
         let new : length (items_after name (items_in c x.state name) edits) ≡ length q.items =
-            ap length (items_led c x edits v name led there)
-            ∙ ap (λ o. length (option_map_or (item_rows c v) o [])) there.named ∙ rows_length c v q in
+        ap length (items_led c x edits v name led there)
+        ∙ ap (λ o. length (option_map_or (item_rows c v) o [])) there.named ∙ rows_length c v q in
         shifted (sizes.items + added) (length q.items) dropped (omega (arith, stored, old, new, sum))
         ∙ sym (ap (λ (o : Option Queue). option_map_or (λ q. nat_lt (length q.items) 1000) o false) there.named)

@@ -1,19 +1,17 @@
 -- The items of a queue after edits: in order, each stored before or put since, and found by serial and by change.
-use Rattle.std.proofs.Common.{◌≡◌, ◌≢◌, ℕ, suc, ◌+◌, ◌-◌, ◌<◌, ◌≤◌, ◌⊎◌, inl, inr, ⊎_elim, Bool, true, false, not, ◌&&◌, cond, Option, Some, None, List, [], ◌∷◌, ◌++◌, map, filter, fold, length, refl, sym, ap, ◌∙◌, subst, true≢false, arith}
-use Rattle.std.specs.Prelude.{find, nat_lt, slice_get, max, ◌==◌, option_map, option_and_then}
-use Rattle.std.specs.Option.{option_or}
-use Rattle.std.proofs.lemmas.Bool.{eqb-true, eq-eqb, ne_eqb, ltb-true, lt-ltb, le-ltb, and_parts, cases_lt}
-use Rattle.std.proofs.lemmas.Option.{none-some}
+use Rattle.std.proofs.Common.{◌≡◌, ℕ, ◌-◌, ◌<◌, ◌≤◌, ◌⊎◌, inl, inr, ⊎_elim, Bool, true, false, not, cond, Some, None, List, [], ◌∷◌, refl, sym, ap, ◌∙◌, arith}
+use Rattle.std.specs.Prelude.{◌==◌, option_and_then}
+use Rattle.std.proofs.lemmas.Bool.{eq-eqb, ne_eqb, lt-ltb, le-ltb, cases_lt}
 use Rattle.gate_types.specs.declared.records.Item.{Item as ItemRow}
 use Rattle.gate_types.specs.declared.edits.Edit.{Edit}
 use Rattle.gate_types.specs.declared.edits.Edit.TheVariants as edit
 use Rattle.gate_types.specs.Names.{same_name}
 use Rattle.gate_types.specs.State.{put_by}
 use Rattle.gate_types.specs.Rows.{edited_items}
-use Rattle.gate_book.specs.Reads.{first_above, last_below}
-use Rattle.gate_laws.proofs.Members.{In, found, not_found, from_filter, to_filter}
+use Rattle.gate_book.specs.Reads.{first_above}
+use Rattle.gate_laws.proofs.Members.{In, from_filter}
 use Rattle.gate_laws.proofs.Rising.{Rising, from_put, rising_put, rising_filter}
-use Rattle.gate_admission.specs.Seen.{items_after, item_at, if_at, if_of, item_if, item_if_at, serial_put, item_put, later, put_below, last_put_below}
+use Rattle.gate_admission.specs.Seen.{items_after, item_at, if_at}
 
 -- the serial of a row
 abbrev pub serial_of : ItemRow → ℕ

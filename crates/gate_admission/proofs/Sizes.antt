@@ -1,14 +1,13 @@
 -- How many items a queue has after edits.
-use Rattle.std.proofs.Common.{◌≡◌, ℕ, zero, suc, ◌+◌, ◌<◌, ◌≤◌, Bool, true, false, not, ◌&&◌, cond, Option, Some, None, List, [], ◌∷◌, ◌++◌, filter, fold, length, take, get_or, refl, sym, ap, ◌∙◌, subst, arith, add-one, inl, inr}
-use Rattle.std.specs.Prelude.{find, nat_lt, ◌==◌, is_some, slice_index}
-use Rattle.std.proofs.lemmas.Bool.{eqb-true, eq-eqb, ne_eqb, ltb-true, ltb-false, eqb-false}
+use Rattle.std.proofs.Common.{◌≡◌, ℕ, zero, suc, ◌+◌, ◌<◌, ◌≤◌, Bool, true, false, not, ◌&&◌, cond, Some, List, [], ◌∷◌, filter, length, take, get_or, refl, sym, ap, ◌∙◌, subst, arith, add-one, inl, inr}
+use Rattle.std.specs.Prelude.{nat_lt, ◌==◌, is_some}
+use Rattle.std.proofs.lemmas.Bool.{eqb-true, eq-eqb, ne_eqb, ltb-true, eqb-false}
 use Rattle.gate_types.specs.declared.records.Item.{Item as ItemRow}
 use Rattle.gate_types.specs.declared.edits.Edit.{Edit}
 use Rattle.gate_types.specs.declared.edits.Edit.TheVariants as edit
 use Rattle.gate_types.specs.Names.{same_name}
 use Rattle.gate_types.specs.State.{put_by}
 use Rattle.gate_types.specs.Rows.{edited_items}
-use Rattle.gate_laws.proofs.Members.{In}
 use Rattle.gate_laws.proofs.Rising.{Rising}
 use Rattle.gate_admission.specs.Seen.{items_after, item_at, grows, shrinks, one_if}
 use Rattle.gate_admission.proofs.QueueItems.{serial_of, none_from}
@@ -29,19 +28,19 @@ length_put i (y ∷ ys) r = by_equal (i.serial == y.serial) refl (nat_lt i.seria
         suc (length ys) + one_if (not (is_some (item_at i.serial (y ∷ ys))))
     by_equal true e l f h =
         let there : one_if (not (is_some (item_at i.serial (y ∷ ys)))) ≡ 0 =
-            ap (λ t. one_if (not (is_some (cond t (Some y) (item_at i.serial ys))))) (eq-eqb y.serial i.serial (sym (eqb-true i.serial y.serial e))) in
+        ap (λ t. one_if (not (is_some (cond t (Some y) (item_at i.serial ys))))) (eq-eqb y.serial i.serial (sym (eqb-true i.serial y.serial e))) in
         omega (arith, there)
     by_equal false e true f h =
         let low = ltb-true i.serial y.serial f in
         let gone : one_if (not (is_some (item_at i.serial (y ∷ ys)))) ≡ 1 =
-            ap (λ o. one_if (not (is_some o))) (none_from i.serial (y ∷ ys) (λ x m. elim m [
-              | inl g ↦ subst (λ (z : ItemRow). i.serial < z.serial) g low
-              | inr n ↦ (let up = r.0 x n in omega (arith, up, low))
-            ])) in
+        ap (λ o. one_if (not (is_some o))) (none_from i.serial (y ∷ ys) (λ x m. elim m [
+          | inl g ↦ subst (λ (z : ItemRow). i.serial < z.serial) g low
+          | inr n ↦ (let up = r.0 x n in omega (arith, up, low))
+        ])) in
         omega (arith, gone)
     by_equal false e false f h =
         let same : item_at i.serial (y ∷ ys) ≡ item_at i.serial ys =
-            ap (λ t. cond t (Some y) (item_at i.serial ys)) (ne_eqb y.serial i.serial (λ g. eqb-false i.serial y.serial e (sym g))) in
+        ap (λ t. cond t (Some y) (item_at i.serial ys)) (ne_eqb y.serial i.serial (λ g. eqb-false i.serial y.serial e (sym g))) in
         next (not (is_some (item_at i.serial ys))) h ∙ ap (λ o. suc (length ys) + one_if (not (is_some o))) (sym same)
 
 -- a row that is dropped takes one
@@ -56,7 +55,7 @@ length_drop k (y ∷ ys) r = by_test (y.serial == k) refl (length_drop k ys r.1)
         + one_if (is_some (cond b (Some y) (item_at k ys))) ≡ suc (length ys)
     by_test true e h =
         let none : one_if (is_some (item_at k ys)) ≡ 0 =
-            ap (λ o. one_if (is_some o)) (none_from k ys (λ x m. let up = r.0 x m in let same = eqb-true y.serial k e in omega (arith, up, same))) in
+        ap (λ o. one_if (is_some o)) (none_from k ys (λ x m. let up = r.0 x m in let same = eqb-true y.serial k e in omega (arith, up, same))) in
         omega (arith, none, h)
     by_test false e h = omega (arith, h)
 

@@ -1,12 +1,11 @@
 -- The rows of a sound state's queue: in order, and each of an item.
-use Rattle.std.proofs.Common.{◌≡◌, ℕ, ◌+◌, ◌<◌, ◌≤◌, Bool, Option, Some, None, List, [], ◌∷◌, map, refl, sym, ap, ◌∙◌, subst, arith, ◌⊎◌, inl, inr, flat_map}
+use Rattle.std.proofs.Common.{◌≡◌, ℕ, ◌≤◌, Bool, Option, Some, None, List, [], ◌∷◌, map, refl, sym, ap, ◌∙◌, subst, arith, inl, inr, flat_map}
 use Rattle.std.specs.Prelude.{find, ◌==◌, nat_le, true}
 use Rattle.std.proofs.Common.{true≢false, length}
 use Rattle.std.proofs.lemmas.List.{length-map}
 use Rattle.std.specs.List.Sorted.{IsStrictlyIncreasing}
 use Rattle.std.specs.Option.{option_map_or}
 use Rattle.std.proofs.lemmas.Bool.{leb-true, eqb-true, eq-eqb}
-use Rattle.std.proofs.lemmas.Option.{none-some}
 use Rattle.gate_types.specs.declared.records.Item.{Item as ItemRow}
 use Rattle.gate_types.specs.declared.records.Build.{Build}
 use Rattle.gate_types.specs.Names.{same_name}
@@ -112,7 +111,7 @@ stored_tells c s name q r sound named m = by_found (queued_of c s r.change) refl
         (k : QueuedItem) × (o ≡ Some k) × (k.item.serial ≡ r.serial)
     by_found None e =
         let own : In (record { queue = q.name; item = r }) all =
-            to_flat rows s.queues q (record { queue = q.name; item = r }) there (to_map (λ i. record { queue = q.name; item = i }) (item_rows c s q) r m) in
+        to_flat rows s.queues q (record { queue = q.name; item = r }) there (to_map (λ i. record { queue = q.name; item = i }) (item_rows c s q) r m) in
         absurd (true≢false (sym (eq-eqb r.change r.change refl) ∙ not_found test all e (record { queue = q.name; item = r }) own))
     by_found (Some k) e =
         let at = found test all k e in
@@ -122,7 +121,7 @@ stored_tells c s name q r sound named m = by_found (queued_of c s r.change) refl
         let j = row_is_of c s q r m in
         let row_is : row.0 ≡ k.item = ap (λ (x : QueuedItem). x.item) row.2 in
         let changes : i.item.change ≡ j.item.change =
-            i.change ∙ ap (λ (x : ItemRow). x.change) row_is ∙ eqb-true k.item.change r.change at.1 ∙ sym j.change in
+        i.change ∙ ap (λ (x : ItemRow). x.change) row_is ∙ eqb-true k.item.change r.change at.1 ∙ sym j.change in
         let same = (change_alone c s sound part.0 q i.item j.item part.1 there i.there j.there changes).1 in
         (k, refl, sym (i.serial ∙ ap (λ (x : ItemRow). x.serial) row_is) ∙ ap (λ (x : Item). x.serial) same ∙ j.serial)
 
@@ -132,10 +131,10 @@ pub row_drawn : (c : Settings) (s : State) (q : Queue) (r : ItemRow) → IsSound
 row_drawn c s q r sound there m =
     let i = row_is_of c s q r m in
     let own : In i.item.serial (serials_of q) =
-        to_left (map (λ (x : Item). x.serial) q.items) (map (λ x. x.serial) q.reports) i.item.serial (to_map (λ (x : Item). x.serial) q.items i.item i.there) in
+    to_left (map (λ (x : Item). x.serial) q.items) (map (λ x. x.serial) q.reports) i.item.serial (to_map (λ (x : Item). x.serial) q.items i.item i.there) in
     let all : In i.item.serial (drawn_serials s) =
-        to_left (flat_map serials_of s.queues) (map (λ (b : Build). b.serial) s.builds) i.item.serial
-        (to_flat serials_of s.queues q i.item.serial there own) in
+    to_left (flat_map serials_of s.queues) (map (λ (b : Build). b.serial) s.builds) i.item.serial
+    (to_flat serials_of s.queues q i.item.serial there own) in
     let low = leb-true i.item.serial s.counters.order (every (λ n. nat_le n s.counters.order ≡ true) (drawn_serials s) sound.serials_are_drawn i.item.serial all) in
     let e = i.serial in
     omega (arith, low, e)

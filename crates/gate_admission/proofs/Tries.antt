@@ -95,10 +95,11 @@ pub at_the_end : (c : Settings) (x : Content) (edits : List Edit) (order : ℕ) 
 at_the_end c x edits order v u low under e =
     let o = under.order in
     let a = under.approval in
-    let b = under.build in
-    (subst (λ (t : State). Leads c x edits (in_state x t)) (sym e) under.led.leads,
-    ap is_exhausted e ∙ le-ltb 1000000000000000 (max u.counters.approval (max u.counters.build u.counters.order))
-    (omega (arith, low, o, a, b)))
+    let b = under.build in (
+      subst (λ (t : State). Leads c x edits (in_state x t)) (sym e) under.led.leads,
+      ap is_exhausted e ∙ le-ltb 1000000000000000 (max u.counters.approval (max u.counters.build u.counters.order))
+          (omega (arith, low, o, a, b)),
+    )
 
 -- nobody may enter any more
 pub nobody_enters : (c : Settings) (v : State) (m : ℕ) → m ≤ length v.ready →

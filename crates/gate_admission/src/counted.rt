@@ -32,7 +32,10 @@ fn after(drawn: LastDrawn, edit: &Edit) -> LastDrawn
     ensures { result ≡ edited_counters drawn edit.now }
 {
     match edit {
-        Edit::SetCounter { counter, drawn: number } => match counter {
+        Edit::SetCounter {
+            counter,
+            drawn: number,
+        } => match counter {
             Counter::Approval => LastDrawn {
                 approval: *number,
                 ..drawn

@@ -239,7 +239,13 @@ fn with_entering(
 {
     let Item { serial, .. } = row;
     let edits = with_edit(edits, Edit::PutItem { queue, item: row })?;
-    let edits = with_edit(edits, Edit::PutChange { change, approval: None })?;
+    let edits = with_edit(
+        edits,
+        Edit::PutChange {
+            change,
+            approval: None,
+        },
+    )?;
     with_edit(
         edits,
         Edit::SetCounter {
@@ -273,6 +279,13 @@ pub fn enter<B: Book>(
     let Some(change) = known else {
         return Ok(edits);
     };
-    let row = entering_row(book, edits.as_slice(), &project.queue, &change, needs.as_slice(), serial)?;
+    let row = entering_row(
+        book,
+        edits.as_slice(),
+        &project.queue,
+        &change,
+        needs.as_slice(),
+        serial,
+    )?;
     Ok(with_entering(edits, project.queue.copy()?, change, row)?)
 }

@@ -41,7 +41,10 @@ fn after(queue: &Name, serial: Serial, item: Option<Item>, edit: &Edit) -> Optio
     ensures { result ≡ seen.item_after queue.now serial item edit.now }
 {
     match edit {
-        Edit::PutItem { queue: name, item: put } if same_name(name, queue) && put.serial == serial => Some(*put),
+        Edit::PutItem {
+            queue: name,
+            item: put,
+        } if same_name(name, queue) && put.serial == serial => Some(*put),
         Edit::DropItem(dropped) if *dropped == serial => None,
         _ => item,
     }
@@ -166,7 +169,8 @@ fn put_below(queue: &Name, below: u64, edit: &Edit) -> Option<Serial>
     ensures value { result ≡ seen.put_below queue.now below edit.now }
 {
     match edit {
-        Edit::PutItem { queue: name, item } if same_name(name, queue) && item.serial.get() < below => Some(item.serial),
+        Edit::PutItem { queue: name, item }
+            if same_name(name, queue) && item.serial.get() < below => Some(item.serial),
         _ => None,
     }
 }

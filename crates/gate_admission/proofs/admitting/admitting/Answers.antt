@@ -1,4 +1,4 @@
-use Rattle.std.proofs.Common.{◌≡◌, ◌+◌, ◌<◌, ◌≤◌, ◌∙◌, ◌||◌, true, false, length, sym, ap, subst, refl, arith, rules, ⊎_elim}
+use Rattle.std.proofs.Common.{◌≡◌, ◌+◌, ◌<◌, ◌≤◌, ◌∙◌, ◌||◌, length, sym, ap, subst, refl, arith, rules, ⊎_elim}
 use Rattle.std.proofs.lemmas.Bool.{cases_lt, false≢true}
 use Rattle.std.specs.Prelude.{nat_lt, vec_len}
 use Rattle.gate_types.specs.Counters.{Drawn}
@@ -36,9 +36,10 @@ loop-try-init g c =
           let a : drawn.approval ≡ v.counters.approval = ap (λ (d : Drawn). d.approval) counters in
           let b : drawn.build ≡ v.counters.build = ap (λ (d : Drawn). d.build) counters in
           let o : drawn.order ≡ v.counters.order = ap (λ (d : Drawn). d.order) counters in
-          let many : vec_len c.in_ok-ready_list.field-0 ≡ length c.in_ok-ready_list.field-0.items = search rules in
-          (record { led = led; order = sym (order ∙ o); approval = omega (arith, a, few.0); build = omega (arith, b, few.1) },
-          c.len-tries.ensures ∙ many ∙ ap length (c.in_ok-ready_list.ensures.found trusted s x next lawful v so_far2));
+          let many : vec_len c.in_ok-ready_list.field-0 ≡ length c.in_ok-ready_list.field-0.items = search rules in (
+            record { led = led; order = sym (order ∙ o); approval = omega (arith, a, few.0); build = omega (arith, b, few.1) },
+            c.len-tries.ensures ∙ many ∙ ap length (c.in_ok-ready_list.ensures.found trusted s x next lawful v so_far2),
+          );
     }
 
 pub loop-try-preserved : goal.loop-try-preserved
@@ -54,10 +55,12 @@ loop-try-preserved g c = record {
       let under = c.loop-try.invariant.found one x holds lawful v led in
       let u = tries s v c.loop-try._try in
       let so_far = subst (λ es. IsLed s x es u) (sym c.as_slice-in-loop-try.ensures.value) under.0.led in
-      let first = sym (c.in_ok-ready.ensures.found two x start lawful u so_far) ∙ c.in-Some.is in
-      (one_more s x c.loop-try.edits.items c.in_ok-edits.edits.items c.loop-try.order v c.loop-try._try c.in-Some.ready under.0 first
-      (c.in_ok-edits.ensures.led trusted x next lawful u under.0.led first
-      (c.in-Some-new.ensures.value ∙ ap (λ n. n + 1) (sym under.0.order))), under.1);
+      let first = sym (c.in_ok-ready.ensures.found two x start lawful u so_far) ∙ c.in-Some.is in (
+        one_more s x c.loop-try.edits.items c.in_ok-edits.edits.items c.loop-try.order v c.loop-try._try c.in-Some.ready under.0 first
+            (c.in_ok-edits.ensures.led trusted x next lawful u under.0.led first
+            (c.in-Some-new.ensures.value ∙ ap (λ n. n + 1) (sym under.0.order))),
+        under.1,
+      );
 }
 
 pub returns-in_default-clause-admitted : goal.returns-in_default-clause-admitted
@@ -84,9 +87,9 @@ returns-in_default-new-clause-admitted g c = λ trusted x holds lawful v sound l
     let so_far = subst (λ es. IsLed s x es u) (sym c.as_slice-in-loop-try.ensures.value) under.0.led in
     let first = sym (c.in_ok-ready.ensures.found trusted x start lawful u so_far) ∙ c.in-Some.is in
     let last : 1000000000000000 ≤ c.loop-try.order = ⊎_elim
-        (λ (l : c.loop-try.order < 1000000000000000). absurd (false≢true (c.in_default-new.ensures.range.1 (omega arith, omega arith))))
-        (λ (l : 1000000000000000 ≤ c.loop-try.order). l)
-        (cases_lt c.loop-try.order 1000000000000000) in
+    (λ (l : c.loop-try.order < 1000000000000000). absurd (false≢true (c.in_default-new.ensures.range.1 (omega arith, omega arith))))
+    (λ (l : 1000000000000000 ≤ c.loop-try.order). l)
+    (cases_lt c.loop-try.order 1000000000000000) in
     runs_out s v c.loop-try._try c.in-Some.ready (omega (arith, c.loop-try-test.true, under.1)) first
     (let o = under.0.order in omega (arith, o, last))
 

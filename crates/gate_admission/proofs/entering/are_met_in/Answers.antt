@@ -1,4 +1,4 @@
-use Rattle.std.proofs.Common.{◌≡◌, ◌+◌, ◌∙◌, ◌&&◌, ◌||◌, Bool, drop, sym, ap}
+use Rattle.std.proofs.Common.{◌+◌, ◌∙◌, ◌&&◌, ◌||◌, Bool, drop, sym, ap}
 use Rattle.std.specs.List.{list_all}
 use Rattle.gate_types.specs.declared.records.Need.{Need}
 use Rattle.gate_types.specs.State.{has_change}

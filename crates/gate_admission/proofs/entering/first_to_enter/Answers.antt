@@ -1,4 +1,4 @@
-use Rattle.std.proofs.Common.{◌≡◌, ◌+◌, ◌∙◌, Bool, Some, cond, drop, sym, ap}
+use Rattle.std.proofs.Common.{◌+◌, ◌∙◌, Bool, Some, cond, drop, sym, ap}
 use Rattle.std.specs.Prelude.{find}
 use Rattle.gate_types.specs.declared.records.Ready.{Ready}
 use Rattle.gate_types.specs.Admit.{may_enter}

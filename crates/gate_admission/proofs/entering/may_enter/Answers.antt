@@ -31,6 +31,6 @@ returns-clause-found g c = λ trusted x holds lawful v led.
     (ap (λ (n : List ℕ). find (λ p. same_name p.name n) s.projects) (sym (project_is v c.args.ready.change c.in_ok-known.known known))
     ∙ sym c.in-Some.ensures) in
     let needs = c.as_slice.ensures.value ∙ c.in_ok-needs.ensures.found one s x next lawful v led
-        ∙ needs_are v c.args.ready.change c.in_ok-known.known known in
+    ∙ needs_are v c.args.ready.change c.in_ok-known.known known in
     IfOk-weaker c.has_place.result _ _ (λ m e. e ∙ ap (has_place v c.in-Some.project.now.queue) needs ∙ sym may)
     (c.has_place.ensures.found trusted s x then lawful v led)

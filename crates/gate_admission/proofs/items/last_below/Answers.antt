@@ -1,4 +1,4 @@
-use Rattle.std.proofs.Common.{◌≡◌, ◌<◌, ◌∙◌, sym, ap, subst}
+use Rattle.std.proofs.Common.{◌<◌, ◌∙◌, sym, ap, subst}
 use Rattle.std.specs.Prelude.{IfSome}
 use Rattle.gate_book.specs.Reads.{items_in, last_below}
 use Rattle.gate_admission.specs.Seen.{items_after}

@@ -1,4 +1,4 @@
-use Rattle.std.proofs.Common.{◌<◌, None, sym, ap, ◌∙◌, subst}
+use Rattle.std.proofs.Common.{◌<◌, None, sym, ◌∙◌, subst}
 use Rattle.std.specs.Prelude.{IfSome, option_map}
 use Rattle.gate_admission.specs.Seen.{later, last_put_below}
 use Rattle.gate_admission.proofs.LastItem.{under_later, under_put, under_row}

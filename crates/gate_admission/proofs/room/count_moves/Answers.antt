@@ -1,4 +1,4 @@
-use Rattle.std.proofs.Common.{◌≡◌, ◌+◌, ◌∙◌, length, take, sym, ap, arith}
+use Rattle.std.proofs.Common.{◌≡◌, ◌+◌, length, take, ap, arith}
 use Rattle.gate_book.specs.Reads.{items_in}
 use Rattle.gate_types.specs.Rows.{edited_items}
 use Rattle.gate_admission.specs.Seen.{items_after, grows, shrinks, one_if}
@@ -26,11 +26,11 @@ loop-index-preserved g c = record {
       let start = c.loop-index.invariant.kept.holds_on zero s x holds in
       let next = c.in_ok-is_more.ensures.kept.holds_on one s x start in
       let more : length (items_after name rows (take (c.loop-index.index + 1) edits)) ≡ length (edited_items name all e) =
-          ap length (after_more name rows edits c.loop-index.index e c.loop-index-test.true c.index-edits-index.is) in
+      ap length (after_more name rows edits c.loop-index.index e c.loop-index-test.true c.index-edits-index.is) in
       let is_more : one_if c.in_ok-is_more.is_more ≡ one_if (grows name all e) =
-          ap one_if (c.in_ok-is_more.ensures.found one s x start lawful) in
+      ap one_if (c.in_ok-is_more.ensures.found one s x start lawful) in
       let is_less : one_if c.in_ok-is_less.is_less ≡ one_if (shrinks all e) =
-          ap one_if (c.in_ok-is_less.ensures.found trusted s x next lawful) in
+      ap one_if (c.in_ok-is_less.ensures.found trusted s x next lawful) in
       let step = size_step name all e up in
       let sum = c.loop-index.invariant.found zero s x holds lawful in
       omega (arith, more, is_more, is_less, step, sum, c.one_more_if-added.ensures, c.one_more_if-dropped.ensures);
