@@ -1,0 +1,35 @@
+-- What the lines of `approved` come to.
+use Rattle.std.proofs.Common.{◌≡◌, ℕ, ◌≤◌, true, false, not, Option, Some, None, refl, sym, true≢false}
+use Rattle.std.specs.Prelude.{nat_lt, ◌||◌, ◌==◌, find, flat_map}
+use Rattle.std.specs.Option.{option_map_or}
+use Rattle.std.proofs.lemmas.Bool.{le-ltb}
+use Rattle.gate_types.specs.declared.records.Change.{Change}
+use Rattle.gate_types.specs.declared.deliveries.Reply.TheVariants as reply
+use Rattle.gate_types.specs.Settings.{Settings}
+use Rattle.gate_types.specs.State.{Item, State, known_change, is_open, is_queued, is_ready}
+use Rattle.gate_types.specs.Settle.{settle}
+use Rattle.gate_types.specs.Step.{raw_approved, accepted, made_ready, approval_reply}
+use Rattle.gate_walk.specs.Delivery.{is_stale}
+use Rattle.gate_reads.specs.Standing.{StandsSo}
+use Rattle.gate_reads.specs.declared.standing.Stand.{Stand}
+use Rattle.gate_reads.specs.declared.standing.Stand.TheVariants as stand
+use Rattle.gate_ruling.specs.Approving.{is_nowhere}
+
+pub approved_raw : (c : Settings) (s : State) (n r : ℕ) (k : Change) → known_change s n ≡ Some k → r ≤ k.revision →
+    nat_lt r k.revision || not (is_open k) ≡ false → (is_queued s n ≡ false) × (is_ready s n ≡ false) →
+    raw_approved c s n r ≡ accepted (approval_reply n (settle c (made_ready n s))) (made_ready n s)
+approved_raw c s n r k known up past away = rw (known, le-ltb k.revision r up, past, away.1, away.0) refl
+
+-- the reply tells a place, or that the change waits
+pub approval_acts : (n : ℕ) (s : State) → is_stale (approval_reply n s) ≡ false
+approval_acts n s = by_found (find (λ i. i.change == n) (flat_map (λ q. q.items) s.queues))
+  where
+    by_found : (o : Option Item) → is_stale (option_map_or (λ i. reply.Queued i.serial) o reply.Waiting) ≡ false
+    by_found None = refl
+    by_found (Some i) = refl
+
+pub nowhere : (c : Settings) (s : State) (n : ℕ) (st : Stand) → StandsSo c s n st → is_nowhere st ≡ true →
+    (is_queued s n ≡ false) × (is_ready s n ≡ false)
+nowhere c s n (stand.Queued k) so h = absurd (true≢false (sym h))
+nowhere c s n stand.Ready so h = absurd (true≢false (sym h))
+nowhere c s n stand.Nowhere so h = so

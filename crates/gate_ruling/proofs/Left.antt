@@ -1,0 +1,220 @@
+-- An item leaves its queue: its report and the end of its row, then its builds.
+use Rattle.std.proofs.Common.{◌≡◌, ℕ, suc, ◌+◌, ◌<◌, Bool, true, false, not, cond, List, [], ◌∷◌, ◌++◌, map, length, filter, refl, sym, ap, ◌∙◌, subst, arith, inl, inr, true≢false}
+use Rattle.std.specs.Prelude.{◌==◌, nat_lt, min, Contains}
+use Rattle.std.specs.Option.{option_map_or}
+use Rattle.std.specs.List.Sorted.{IsStrictlyIncreasing}
+use Rattle.std.proofs.lemmas.Bool.{eq-eqb, ne_eqb, eqb-true, le-ltb, false_from_ne_true}
+use Rattle.gate_types.specs.declared.records.Build.{Build}
+use Rattle.gate_types.specs.declared.records.Item.{Item as ItemRow}
+use Rattle.gate_types.specs.declared.records.Report.{Report}
+use Rattle.gate_types.specs.declared.records.Verdict.{Verdict}
+use Rattle.gate_types.specs.declared.rows.ReportRow.{ReportRow}
+use Rattle.gate_types.specs.declared.edits.Edit.{Edit}
+use Rattle.gate_types.specs.Names.{same_name}
+use Rattle.gate_types.specs.Settings.{Settings, are_sound}
+use Rattle.gate_types.specs.State.{Item, Queue, State, put_by}
+use Rattle.gate_types.specs.Slot.{is_running}
+use Rattle.gate_types.specs.Sweep.{report_of}
+use Rattle.gate_types.specs.Step.{left_queue, leave}
+use Rattle.gate_types.specs.Rows.{item_of, numbered}
+use Rattle.gate_types.specs.Once.{Content}
+use Rattle.gate_types.specs.Tables.{change_row, edited_changes, edited_counters, edited_kept, edited_queue}
+use Rattle.gate_types.specs.Lawful.{IsSound}
+use Rattle.gate_types.specs.Forms.{IsLawfulContent}
+use Rattle.gate_book.specs.Reads.{items_in, reports_in, live_builds}
+use Rattle.gate_book.specs.declared.rows.QueuedItem.{QueuedItem}
+use Rattle.gate_laws.proofs.Members.{In, every, map_same, map_map, filter_same, filter_none}
+use Rattle.gate_laws.proofs.Rising.{Rising, rising}
+use Rattle.gate_laws.proofs.Alone.{serial_alone, change_alone, name_alone, same_name_is, same_name_of}
+use Rattle.gate_raw.specs.Moves.{Columns, row_by, in_state, Moves}
+use Rattle.gate_ruling.specs.Leaving.{stop_of, out_of_queue}
+use Rattle.gate_ruling.proofs.Folded.{shown, shown_after, by_parts, leave_it, moves_on}
+use Rattle.gate_ruling.proofs.Few.{few_reports}
+use Rattle.gate_ruling.proofs.Stored.{Stored, stored}
+use Rattle.gate_ruling.proofs.Stopped.{stopped}
+
+-- ---- lists
+
+-- a row behind all others
+put_last : (k : ℕ) (rs : List Report) (r : Report) (n : ℕ) → n ≡ k + length rs →
+    put_by (λ (x : ReportRow). x.place) (record { place = n + 1; report = r }) (numbered k rs)
+    ≡ numbered k (rs ++ r ∷ [])
+put_last k [] r n e = let at : n + 1 ≡ suc k = omega arith in ap (λ m. record { place = m; report = r } ∷ []) at
+put_last k (x ∷ rs) r n e =
+    let new : ReportRow = record { place = n + 1; report = r } in
+    let first : ReportRow = record { place = suc k; report = x } in
+    let rest = put_by (λ (y : ReportRow). y.place) new (numbered (suc k) rs) in
+    ap (λ t. cond t (new ∷ numbered (suc k) rs) (cond (nat_lt (n + 1) (suc k)) (new ∷ first ∷ numbered (suc k) rs)
+    (first ∷ rest))) (ne_eqb (n + 1) (suc k) (λ s. omega (arith, s)))
+    ∙ ap (λ t. cond t (new ∷ first ∷ numbered (suc k) rs) (first ∷ rest)) (le-ltb (n + 1) (suc k) (omega arith))
+    ∙ ap (λ l. first ∷ l) (put_last (suc k) rs r n (omega arith))
+
+-- what one element alone passes
+only_one : {X : Type 0} (key : X → ℕ) (t : X → Bool) (xs : List X) (x : X) → Rising key xs → In x xs →
+    t x ≡ true → ((y : X) → In y xs → t y ≡ true → y ≡ x) → filter t xs ≡ x ∷ []
+only_one key t [] x r m h alone = absurd m
+only_one {X = X} key t (y ∷ ys) x r m h alone = elim m [
+  | inl e ↦ (let rest = filter_none t ys (λ z mz. false_from_ne_true (t z) (λ hz.
+      let same : z ≡ y = alone z (inr mz) hz ∙ sym e in
+      let above : key y < key z = r.0 z mz in
+      let equal = ap key same in
+      absurd (omega (arith, above, equal)))) in
+      ap (λ b. cond b (y ∷ filter t ys) (filter t ys)) (ap t e ∙ h) ∙ (λ k. e k ∷ rest k))
+  | inr n ↦ ap (λ b. cond b (y ∷ filter t ys) (filter t ys)) (false_from_ne_true (t y) (λ hy.
+      let same : y ≡ x = alone y (inl refl) hy in
+      let above : key y < key x = r.0 x n in
+      let equal = ap key same in
+      absurd (omega (arith, above, equal))))
+      ∙ only_one key t ys x r.1 n h (λ z mz. alone z (inr mz))
+]
+
+-- rows by columns are dropped as their items are
+dropped : (columns : ℕ → Columns) (n : ℕ) (is : List Item) →
+    filter (λ (j : ItemRow). not (j.serial == n)) (map (row_by columns) is)
+    ≡ map (row_by columns) (filter (λ (i : Item). not (i.serial == n)) is)
+dropped columns n [] = refl
+dropped columns n (i ∷ is) = by_test (i.serial == n) (dropped columns n is)
+  where
+    by_test : (t : Bool) → filter (λ (j : ItemRow). not (j.serial == n)) (map (row_by columns) is)
+        ≡ map (row_by columns) (filter (λ (i : Item). not (i.serial == n)) is) →
+        cond (not t) (row_by columns i ∷ filter (λ (j : ItemRow). not (j.serial == n)) (map (row_by columns) is))
+        (filter (λ (j : ItemRow). not (j.serial == n)) (map (row_by columns) is))
+        ≡ map (row_by columns) (cond (not t) (i ∷ filter (λ (i : Item). not (i.serial == n)) is)
+        (filter (λ (i : Item). not (i.serial == n)) is))
+    by_test true h = h
+    by_test false h = ap (λ l. row_by columns i ∷ l) h
+
+alike : (a b : Bool) → (a ≡ true → b ≡ true) → (b ≡ true → a ≡ true) → a ≡ b
+alike true b f g = sym (f refl)
+alike false true f g = absurd (true≢false (sym (g refl)))
+alike false false f g = refl
+
+-- ---- one queue
+
+-- in any queue the item's serial is the item's, and so is its change
+same_test : (c : Settings) (s : State) (name : List ℕ) (row : ItemRow) → IsSound c s → Stored c s name row →
+    (q : Queue) → In q s.queues → (i : Item) → In i q.items → i.serial == row.serial ≡ (i.change == row.change)
+same_test c s name row sound h q mq i mi =
+    alike (i.serial == row.serial) (i.change == row.change)
+    (λ e. let one = serial_alone c s sound q h.queue i (item_of row) mq h.there mi h.item (eqb-true i.serial row.serial e) in
+    eq-eqb i.change row.change (ap (λ (j : Item). j.change) one.1))
+    (λ e. let one = change_alone c s sound q h.queue i (item_of row) mq h.there mi h.item (eqb-true i.change row.change e) in
+    eq-eqb i.serial row.serial (ap (λ (j : Item). j.serial) one.1))
+
+-- the items that leave: the one of the row from its queue, none from another
+gone : (c : Settings) (s : State) (name : List ℕ) (row : ItemRow) → IsSound c s → (h : Stored c s name row) →
+    filter (λ (i : Item). i.change == row.change) h.queue.items ≡ item_of row ∷ []
+gone c s name row sound h =
+    only_one (λ (i : Item). i.serial) (λ i. i.change == row.change) h.queue.items (item_of row)
+    (rising (λ (i : Item). i.serial) h.queue.items (every (λ (q : Queue). IsStrictlyIncreasing (map (λ (i : Item). i.serial) q.items)) s.queues sound.items_rise h.queue
+    h.there)) h.item
+    (eq-eqb row.change row.change refl) (λ i mi e.
+    (change_alone c s sound h.queue h.queue i (item_of row) h.there h.there mi h.item
+    (eqb-true i.change row.change e)).1)
+
+none_gone : (c : Settings) (s : State) (name : List ℕ) (row : ItemRow) → IsSound c s → Stored c s name row →
+    (q : Queue) → In q s.queues → same_name name q.name ≡ false →
+    filter (λ (i : Item). i.change == row.change) q.items ≡ []
+none_gone c s name row sound h q mq apart =
+    filter_none (λ (i : Item). i.change == row.change) q.items (λ i mi. false_from_ne_true (i.change == row.change) (λ e.
+    let one = change_alone c s sound q h.queue i (item_of row) mq h.there mi h.item (eqb-true i.change row.change e) in
+    let named = same_name_of name q.name (sym (same_name_is h.queue.name name h.named)
+    ∙ ap (λ (o : Queue). o.name) (sym one.0)) in
+    true≢false (sym named ∙ apart)))
+
+reports_left : (c : Settings) (s : State) (name : List ℕ) (row : ItemRow) (v : Verdict) → are_sound c ≡ true →
+    IsSound c s → (h : Stored c s name row) → (q : Queue) → In q s.queues → (t : Bool) → same_name name q.name ≡ t →
+    cond t (put_by (λ (x : ReportRow). x.place)
+    (record { place = length h.queue.reports + 1; report = report_of v (item_of row) }) (numbered 0 q.reports))
+    (numbered 0 q.reports) ≡ numbered 0 (left_queue v row.change q).reports
+reports_left c s name row v settings sound h q mq true e =
+    let one : h.queue ≡ q = name_alone c s settings sound h.queue q h.there mq
+    (same_name_of h.queue.name q.name (same_name_is h.queue.name name h.named ∙ same_name_is name q.name e)) in
+    let report = report_of v (item_of row) in
+    let place = length h.queue.reports + 1 in
+    subst (λ o. put_by (λ (x : ReportRow). x.place) (record { place = place; report = report }) (numbered 0 o.reports)
+    ≡ numbered 0 (left_queue v row.change o).reports) one
+    (put_last 0 h.queue.reports report (length h.queue.reports) (omega arith)
+    ∙ ap (λ l. numbered 0 (h.queue.reports ++ map (report_of v) l)) (sym (gone c s name row sound h)))
+reports_left c s name row v settings sound h q mq false e =
+    ap (numbered 0) (sym (nothing_more q.reports)
+    ∙ ap (λ l. q.reports ++ map (report_of v) l) (sym (none_gone c s name row sound h q mq e)))
+  where
+    nothing_more : (rs : List Report) → rs ++ [] ≡ rs
+    nothing_more [] = refl
+    nothing_more (r ∷ rs) = ap (λ l. r ∷ l) (nothing_more rs)
+
+queue_left : (c : Settings) (s : State) (k : QueuedItem) (v : Verdict) → are_sound c ≡ true → IsSound c s →
+    (h : Stored c s k.queue k.item) → (columns : ℕ → Columns) (q : Queue) → In q s.queues →
+    shown_after columns (out_of_queue k (length h.queue.reports + 1) v) q
+    ≡ shown columns (left_queue v k.item.change q)
+queue_left c s k v settings sound h columns q mq =
+    let items = dropped columns k.item.serial q.items
+    ∙ ap (map (row_by columns)) (filter_same (λ (i : Item). not (i.serial == k.item.serial))
+    (λ i. not (i.change == k.item.change)) q.items
+    (λ i mi. ap not (same_test c s k.queue k.item sound h q mq i mi))) in
+    let reports = reports_left c s k.queue k.item v settings sound h q mq (same_name k.queue q.name) refl in
+    λ i. record (shown columns q) { items = items i; reports = reports i }
+
+-- ---- all tables
+
+out : (c : Settings) (x : Content) (k : QueuedItem) (v : Verdict) → are_sound c ≡ true → IsSound c x.state →
+    (h : Stored c x.state k.queue k.item) →
+    Moves x (out_of_queue k (length h.queue.reports + 1) v)
+    (record x.state { queues = map (left_queue v k.item.change) x.state.queues })
+out c x k v settings sound h =
+    let edits = out_of_queue k (length h.queue.reports + 1) v in
+    by_parts x edits (record x.state { queues = map (left_queue v k.item.change) x.state.queues }) (record {
+      changes = refl;
+      queues = λ columns.
+          map_same (shown_after columns edits) (λ q. shown columns (left_queue v k.item.change q)) x.state.queues
+          (queue_left c x.state k v settings sound h columns)
+          ∙ sym (map_map (shown columns) (left_queue v k.item.change) x.state.queues);
+      builds = refl;
+      counters = refl;
+      kept = refl;
+    })
+
+stops : (c : Settings) (x : Content) (k : QueuedItem) (v : Verdict) → IsSound c x.state →
+    Stored c x.state k.queue k.item →
+    Moves (in_state x (record x.state { queues = map (left_queue v k.item.change) x.state.queues }))
+    (map stop_of (filter (λ b. is_running b.outcome) (live_builds x.state k.item.serial)))
+    (leave v k.item.change x.state)
+stops c x k v sound h =
+    let t = record x.state { queues = map (left_queue v k.item.change) x.state.queues } in
+    let runs = filter (λ (b : Build). is_running b.outcome) (live_builds x.state k.item.serial) in
+    by_parts (in_state x t) (map stop_of runs) (leave v k.item.change x.state) (record {
+      changes = leave_it edited_changes stop_of (map (change_row t.ready) t.changes) (λ b. refl) runs;
+      queues = λ columns. map_same (shown_after columns (map stop_of runs)) (shown columns) t.queues
+          (λ q m. leave_it (λ r e. edited_queue e r) stop_of (shown columns q) (λ b. refl) runs);
+      builds = stopped c x.state k.queue k.item sound h;
+      counters = leave_it edited_counters stop_of t.counters (λ b. refl) runs;
+      kept = leave_it edited_kept stop_of x.kept (λ b. refl) runs;
+    })
+
+leaves : (c : Settings) (x : Content) (k : QueuedItem) (v : Verdict) → are_sound c ≡ true → IsSound c x.state →
+    (h : Stored c x.state k.queue k.item) →
+    Moves x (out_of_queue k (length h.queue.reports + 1) v
+    ++ map stop_of (filter (λ b. is_running b.outcome) (live_builds x.state k.item.serial)))
+    (leave v k.item.change x.state)
+leaves c x k v settings sound h =
+    moves_on x (record x.state { queues = map (left_queue v k.item.change) x.state.queues })
+    (leave v k.item.change x.state) (out_of_queue k (length h.queue.reports + 1) v)
+    (map stop_of (filter (λ b. is_running b.outcome) (live_builds x.state k.item.serial)))
+    (out c x k v settings sound h) (stops c x k v sound h)
+
+-- the edits of an item that leaves, by what a book answered
+pub leaves_by : (c : Settings) (x : Content) (k : QueuedItem) (v : Verdict) → are_sound c ≡ true →
+    IsLawfulContent c x → Contains (items_in c x.state k.queue) k.item → (reports place : ℕ) →
+    reports ≡ reports_in x.state k.queue → place ≡ min (reports + 1) 18446744073709551615 → (builds : List Build) →
+    builds ≡ live_builds x.state k.item.serial → (edits : List Edit) →
+    edits ≡ out_of_queue k place v ++ map stop_of (filter (λ b. is_running b.outcome) builds) →
+    Moves x edits (leave v k.item.change x.state)
+leaves_by c x k v settings lawful there reports place told above builds live edits made =
+    let h = stored c x.state k.queue k.item there in
+    let few = few_reports c x lawful h.queue h.there in
+    let count : reports ≡ length h.queue.reports = told ∙ ap (λ o. option_map_or (λ (q : Queue). length q.reports) o 0) h.first in
+    let at : place ≡ length h.queue.reports + 1 = omega (arith, few, count, above) in
+    subst (λ es. Moves x es (leave v k.item.change x.state))
+    (sym (made ∙ (λ i. out_of_queue k (at i) v ++ map stop_of (filter (λ b. is_running b.outcome) (live i)))))
+    (leaves c x k v settings lawful.lawful.sound h)

@@ -1,0 +1,39 @@
+-- What the lines of `withdrawn` come to.
+use Rattle.std.proofs.Common.{◌≡◌, ℕ, ◌≤◌, true, false, not, Some, map, filter, refl}
+use Rattle.std.specs.Prelude.{◌==◌}
+use Rattle.std.specs.List.Sorted.{IsStrictlyIncreasing}
+use Rattle.std.proofs.lemmas.Bool.{le-ltb, eqb-true}
+use Rattle.gate_types.specs.declared.records.Change.{Change}
+use Rattle.gate_types.specs.declared.records.Verdict.TheVariants as verdict
+use Rattle.gate_types.specs.declared.deliveries.Reply.TheVariants as reply
+use Rattle.gate_types.specs.Settings.{Settings}
+use Rattle.gate_types.specs.State.{State, known_change, put_change, is_queued, is_ready}
+use Rattle.gate_types.specs.Admit.{without_ready}
+use Rattle.gate_types.specs.SubmitOrder.{is_submitting}
+use Rattle.gate_types.specs.Step.{raw_withdrawn, accepted, leave}
+use Rattle.gate_laws.proofs.Members.{found}
+use Rattle.gate_ruling.proofs.Put.{put_known}
+
+pub removed_raw : (c : Settings) (s : State) (n r : ℕ) (k : Change) → known_change s n ≡ Some k → r ≤ k.revision →
+    k.revision ≤ r → is_submitting c s n ≡ false → is_queued s n ≡ true →
+    raw_withdrawn c s n r ≡ accepted reply.Removed (leave verdict.Withdrawn n s)
+removed_raw c s n r k known up down free queued =
+    rw (known, le-ltb k.revision r up, le-ltb r k.revision down, free, queued) refl
+
+pub recorded_raw : (c : Settings) (s : State) (n r : ℕ) (k : Change) → known_change s n ≡ Some k → r ≤ k.revision →
+    k.revision ≤ r → is_submitting c s n ≡ false → is_queued s n ≡ false → is_ready s n ≡ true →
+    raw_withdrawn c s n r ≡ accepted reply.Recorded (without_ready n s)
+recorded_raw c s n r k known up down free queued ready =
+    rw (known, le-ltb k.revision r up, le-ltb r k.revision down, free, queued, ready) refl
+
+-- the number of the change that is known
+pub known_number : (s : State) (n : ℕ) (k : Change) → known_change s n ≡ Some k → k.number ≡ n
+known_number s n k known = eqb-true k.number n (found (λ (j : Change). j.number == n) s.changes k known).1
+
+-- a known change put anew is as it was, but for the ready list
+pub unready_again : (s : State) (n : ℕ) (k : Change) → IsStrictlyIncreasing (map (λ j. j.number) s.changes) →
+    known_change s n ≡ Some k → put_change k (without_ready k.number s) ≡ without_ready n s
+unready_again s n k rises known = λ i. record s {
+  changes = put_known s n k rises known i;
+  ready = filter (λ r. not (r.change == known_number s n k known i)) s.ready;
+}

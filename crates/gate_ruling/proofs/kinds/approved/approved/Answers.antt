@@ -1,0 +1,60 @@
+use Rattle.std.proofs.Common.{◌≡◌, ◌∙◌, ◌<◌, ◌+◌, ◌≤◌, Some, refl, sym, ap, subst, arith}
+use Rattle.gate_types.specs.Counters.{Drawn}
+use Rattle.gate_types.specs.State.{known_change}
+use Rattle.gate_types.specs.Settle.{settle}
+use Rattle.gate_types.specs.Step.{made_ready, approval_reply, settled_step}
+use Rattle.gate_raw.specs.Moves.{Moves}
+use Rattle.gate_ruling.proofs.Drawn.{approval_past}
+use Rattle.gate_ruling.proofs.Approved.{approved_raw, approval_acts, nowhere}
+use Rattle.gate_ruling.proofs.Put.{ready_moves}
+use Rattle.gate_ruling.proofs.kinds.approved.approved.Goals as goal
+
+pub returns-then-drawn-ge-LAST_NUMBER-clause-raw : goal.returns-then-drawn-ge-LAST_NUMBER-clause-raw
+returns-then-drawn-ge-LAST_NUMBER-clause-raw g c trusted x holds lawful =
+    let s = c.args.config.now in
+    let n = c.args.change in
+    let r = c.args.revision in
+    let k = c.in-Some.known in
+    let two = c.in_ok-drawn.ensures.kept.trusted_before trusted in
+    let one = c.in_ok-standing.ensures.kept.trusted_before two in
+    let at_one = c.in_ok-known.ensures.kept.holds_on one _ x holds in
+    let at_two = c.in_ok-standing.ensures.kept.holds_on two _ x at_one in
+    let known : known_change x.state n ≡ Some k = sym (c.in_ok-known.ensures.found one s x holds lawful) ∙ c.in-Some.is in
+    let up : r ≤ k.revision = omega arith in
+    let past = sym c.is_past.ensures ∙ c.if-is_past.false in
+    let away = nowhere s x.state n c.in_ok-standing.field-0 (c.in_ok-standing.ensures.found two x at_one lawful)
+    (sym c.is_nowhere.ensures ∙ c.if-not-is_nowhere.false) in
+    let drawn = ap (λ (d : Drawn). d.approval) (c.drawn.view_is ∙ c.in_ok-drawn.ensures.found trusted s x at_two lawful) in
+    let top = c.if-drawn-ge-LAST_NUMBER.true in
+    let t = made_ready n x.state in
+    let over : 1000000000000000 < t.counters.approval = omega (arith, drawn, top) in (
+      ap (settled_step s) (approved_raw s x.state n r k known up past away)
+          ∙ approval_past s (approval_reply n (settle s t)) t over,
+      refl,
+    )
+
+pub returns-clause-raw : goal.returns-clause-raw
+returns-clause-raw g c trusted x holds lawful =
+    let s = c.args.config.now in
+    let n = c.args.change in
+    let r = c.args.revision in
+    let k = c.in-Some.known in
+    let two = c.in_ok-drawn.ensures.kept.trusted_before trusted in
+    let one = c.in_ok-standing.ensures.kept.trusted_before two in
+    let at_one = c.in_ok-known.ensures.kept.holds_on one _ x holds in
+    let at_two = c.in_ok-standing.ensures.kept.holds_on two _ x at_one in
+    let known : known_change x.state n ≡ Some k = sym (c.in_ok-known.ensures.found one s x holds lawful) ∙ c.in-Some.is in
+    let up : r ≤ k.revision = omega arith in
+    let past = sym c.is_past.ensures ∙ c.if-is_past.false in
+    let away = nowhere s x.state n c.in_ok-standing.field-0 (c.in_ok-standing.ensures.found two x at_one lawful)
+    (sym c.is_nowhere.ensures ∙ c.if-not-is_nowhere.false) in
+    let drawn = ap (λ (d : Drawn). d.approval) (c.drawn.view_is ∙ c.in_ok-drawn.ensures.found trusted s x at_two lawful) in
+    record {
+      after = made_ready n x.state;
+      accepted = approved_raw s x.state n r k known up past away;
+      acts = approval_acts n (settle s (made_ready n x.state));
+      touches = refl;
+      moves = subst (λ es. Moves x es (made_ready n x.state)) (sym c.in_ok-made_ready.ensures)
+          (ready_moves x n k lawful.lawful.sound.changes_rise known away.1 _ (ap (λ m. m + 1) drawn));
+      unplaced = away.0;
+    }

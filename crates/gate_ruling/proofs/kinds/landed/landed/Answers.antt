@@ -1,0 +1,66 @@
+use Rattle.std.proofs.Common.{◌≡◌, ◌∙◌, ◌+◌, length, Some, true, refl, sym, ap, subst, arith, rules}
+use Rattle.std.specs.Prelude.{option_map}
+use Rattle.std.specs.Option.{option_map_or}
+use Rattle.gate_types.specs.declared.deliveries.Delivery.TheVariants as delivery
+use Rattle.gate_types.specs.declared.records.Verdict.TheVariants as verdict
+use Rattle.gate_types.specs.Settings.{are_sound}
+use Rattle.gate_types.specs.State.{change_queue, known_change}
+use Rattle.gate_types.specs.SubmitOrder.{shown_order}
+use Rattle.gate_types.specs.Window.{grow}
+use Rattle.gate_types.specs.Rows.{item_of}
+use Rattle.gate_types.specs.Step.{leave, landed_queue}
+use Rattle.gate_book.specs.Reads.{sizes_of}
+use Rattle.gate_book.specs.declared.rows.QueueSizes.{QueueSizes}
+use Rattle.gate_raw.specs.Moves.{Moves}
+use Rattle.gate_raw.specs.Touches.{Touches}
+use Rattle.gate_reads.specs.Orders.{TellsShown}
+use Rattle.gate_ruling.specs.Landing.{landing_edits}
+use Rattle.gate_ruling.proofs.Few.{few_landings}
+use Rattle.gate_ruling.proofs.Folded.{moves_on}
+use Rattle.gate_ruling.proofs.Stored.{stored}
+use Rattle.gate_ruling.proofs.Ordered.{has_order, same_queue, landed_touches, landed_state, landed_raw, lands}
+use Rattle.gate_ruling.proofs.kinds.landed.landed.Goals as goal
+
+pub returns-clause-raw : goal.returns-clause-raw
+returns-clause-raw g c trusted x holds lawful =
+    let s = c.args.config.now in
+    let number = c.args.order in
+    let k = c.in-Some.queued in
+    let known = c.in-Some-2.known in
+    let d = delivery.Landed number in
+    let settings : are_sound s ≡ true = search rules in
+    let sound = lawful.lawful.sound in
+    let three = c.in_ok-edits.ensures.kept.trusted_before trusted in
+    let two = c.in_ok-sizes.ensures.kept.trusted_before three in
+    let one = c.in_ok-known.ensures.kept.trusted_before two in
+    let at_one = c.in_ok-queued.ensures.kept.holds_on one _ x holds in
+    let at_two = c.in_ok-known.ensures.kept.holds_on two _ x at_one in
+    let at_three = c.in_ok-sizes.ensures.kept.holds_on three _ x at_two in
+    let o = has_order s x.state number k (subst (λ y. TellsShown s x.state y (shown_order s x.state number)) c.in-Some.is
+    (c.in_ok-queued.ensures.found one x holds lawful)) in
+    let h = stored s x.state k.queue k.item o.row.stored in
+    let is : known_change x.state k.item.change ≡ Some known =
+    sym (c.in_ok-known.ensures.found two s x at_one lawful) ∙ c.in-Some-2.is in
+    let sizes : c.in-Some-3.sizes ≡ sizes_of h.queue =
+    ap (λ y. option_map_or (λ (z : QueueSizes). z) y (sizes_of h.queue))
+    (sym c.in-Some-3.is ∙ c.in_ok-sizes.ensures.found three s x at_two lawful ∙ ap (option_map sizes_of) h.first) in
+    let count = ap (λ (z : QueueSizes). z.landings) sizes in
+    let few = few_landings s x lawful h.queue h.there in
+    let plus = c.saturating_add-place.ensures in
+    let place = c.saturating_add-place.result in
+    let at : place ≡ length h.queue.landings + 1 = omega (arith, count, few, plus) in
+    let window = c.grow.ensures ∙ ap (λ (z : QueueSizes). grow z.window) sizes in
+    let t = leave (verdict.Landed place) k.item.change x.state in
+    let u = change_queue k.queue (landed_queue (item_of k.item)) t in
+    let moves = subst (λ es. Moves x es u) (sym c.in_ok-edits-2.ensures)
+    (moves_on x t u c.in_ok-edits.edits.items (landing_edits k place c.grow.result)
+    (c.in_ok-edits.ensures.moves trusted x at_three lawful o.row.stored)
+    (lands s x k settings sound h place c.grow.result at window)) in
+    record {
+      after = landed_state k place known x.state;
+      accepted = landed_raw s x.state number k known sound o h (same_queue s x.state number k settings sound o h) is place at;
+      acts = refl;
+      touches = subst (λ y. Touches s x.state d (Some y)) (sym c.touched.ensures) (landed_touches s x.state number k o);
+      moves = c.in_ok-edits-3.ensures x u sound.changes_rise moves;
+      unplaced = tt;
+    }

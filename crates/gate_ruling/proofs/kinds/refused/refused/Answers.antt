@@ -1,0 +1,60 @@
+use Rattle.std.proofs.Common.{◌≡◌, ◌∙◌, List, [], ◌∷◌, ◌++◌, Some, true, refl, sym, ap, subst, rules}
+use Rattle.std.specs.Prelude.{find, option_map}
+use Rattle.std.specs.Option.{option_map_or}
+use Rattle.gate_types.specs.declared.deliveries.Delivery.TheVariants as delivery
+use Rattle.gate_types.specs.declared.edits.Edit.{Edit}
+use Rattle.gate_types.specs.declared.edits.Edit.TheVariants as edit
+use Rattle.gate_types.specs.declared.records.Verdict.TheVariants as verdict
+use Rattle.gate_types.specs.Names.{same_name}
+use Rattle.gate_types.specs.Settings.{are_sound}
+use Rattle.gate_types.specs.State.{change_queue}
+use Rattle.gate_types.specs.SubmitOrder.{shown_order}
+use Rattle.gate_types.specs.Window.{shrink}
+use Rattle.gate_types.specs.Step.{leave, shrunk_queue}
+use Rattle.gate_book.specs.Reads.{sizes_of}
+use Rattle.gate_book.specs.declared.rows.QueueSizes.{QueueSizes}
+use Rattle.gate_raw.specs.Moves.{Moves}
+use Rattle.gate_raw.specs.Touches.{Touches}
+use Rattle.gate_reads.specs.Orders.{TellsShown}
+use Rattle.gate_ruling.proofs.Folded.{moves_on}
+use Rattle.gate_ruling.proofs.Stored.{stored}
+use Rattle.gate_ruling.proofs.Ordered.{has_order, refused_touches, refused_raw, shrinks}
+use Rattle.gate_ruling.proofs.kinds.refused.refused.Goals as goal
+
+pub returns-clause-raw : goal.returns-clause-raw
+returns-clause-raw g c trusted x holds lawful =
+    let s = c.args.config.now in
+    let number = c.args.order in
+    let k = c.in-Some.queued in
+    let d = delivery.Refused number in
+    let settings : are_sound s ≡ true = search rules in
+    let sound = lawful.lawful.sound in
+    let two = c.in_ok-edits.ensures.kept.trusted_before trusted in
+    let one = c.in_ok-sizes.ensures.kept.trusted_before two in
+    let at_one = c.in_ok-queued.ensures.kept.holds_on one _ x holds in
+    let at_two = c.in_ok-sizes.ensures.kept.holds_on two _ x at_one in
+    let o = has_order s x.state number k (subst (λ y. TellsShown s x.state y (shown_order s x.state number)) c.in-Some.is
+    (c.in_ok-queued.ensures.found one x holds lawful)) in
+    let h = stored s x.state k.queue k.item o.row.stored in
+    let sizes : c.in-Some-2.sizes ≡ sizes_of h.queue =
+    ap (λ y. option_map_or (λ (z : QueueSizes). z) y (sizes_of h.queue))
+    (sym c.in-Some-2.is ∙ c.in_ok-sizes.ensures.found two s x at_one lawful ∙ ap (option_map sizes_of) h.first) in
+    let floor = c.floor_of.ensures
+    ∙ ap (λ n. option_map_or (λ r. r.floor) (find (λ r. same_name r.name n) s.queues) 1) c.as_str.ensures.value in
+    let window = c.shrink.ensures ∙ (λ i. shrink (sizes i).window (floor i)) in
+    let t = leave verdict.Refused k.item.change x.state in
+    let u = change_queue k.queue (shrunk_queue s) t in
+    let last : List Edit = edit.SetWindow k.queue c.shrink.result ∷ [] in
+    let edits = c.in_ok-with_edit.ensures
+    ∙ (λ i. c.in_ok-edits.edits.items ++ edit.SetWindow (c.in_ok-copy.ensures i) c.shrink.result ∷ []) in
+    record {
+      after = u;
+      accepted = refused_raw s x.state number k o;
+      acts = refl;
+      touches = subst (λ y. Touches s x.state d (Some y)) (sym c.touched.ensures) (refused_touches s x.state number k o);
+      moves = subst (λ es. Moves x es u) (sym edits)
+          (moves_on x t u c.in_ok-edits.edits.items last
+          (c.in_ok-edits.ensures.moves trusted x at_two lawful o.row.stored)
+          (shrinks s x k settings sound h c.shrink.result window));
+      unplaced = tt;
+    }

@@ -1,0 +1,66 @@
+use Rattle.std.proofs.Common.{◌≡◌, ◌∙◌, ◌≤◌, true, false, refl, sym, ap, subst}
+use Rattle.std.specs.Prelude.{nat_le, ◌||◌, not, length}
+use Rattle.std.specs.Option.{option_map_or}
+use Rattle.gate_types.specs.declared.deliveries.Delivery.TheVariants as delivery
+use Rattle.gate_types.specs.declared.records.Verdict.TheVariants as verdict
+use Rattle.gate_types.specs.declared.records.Change.{Change}
+use Rattle.gate_types.specs.declared.records.Stage.TheVariants as stage
+use Rattle.gate_types.specs.Names.{same_name}
+use Rattle.gate_types.specs.Needs.{needs}
+use Rattle.gate_types.specs.Settings.{Settings}
+use Rattle.gate_types.specs.State.{known_change, is_landed}
+use Rattle.gate_types.specs.SubmitOrder.{is_submitting}
+use Rattle.gate_types.specs.Step.{leave, revised, has_project, is_known_and}
+use Rattle.gate_raw.specs.Touches.{Touches}
+use Rattle.gate_ruling.proofs.GivenUp.{given_up}
+use Rattle.gate_ruling.proofs.Closed.{revision_raw}
+use Rattle.gate_ruling.proofs.kinds.revision.revision.Goals as goal
+
+pub returns-clause-raw : goal.returns-clause-raw
+returns-clause-raw g c trusted x holds lawful =
+    let s = c.args.config.now in
+    let n = c.args.change in
+    let r = c.args.revision in
+    let name = c.args.project.now in
+    let message = c.args.message.now in
+    let d = delivery.Revision n name r message in
+    let three = c.in_ok-left.ensures.kept.trusted_before trusted in
+    let two = c.in_ok-stand.ensures.kept.trusted_before three in
+    let one = c.in_ok-is_submitting.ensures.kept.trusted_before two in
+    let at_one = c.in_ok-known.ensures.kept.holds_on one _ x holds in
+    let at_two = c.in_ok-is_submitting.ensures.kept.holds_on two _ x at_one in
+    let at_three = c.in_ok-stand.ensures.kept.holds_on three _ x at_two in
+    let known : c.in_ok-known.known ≡ known_change x.state n = c.in_ok-known.ensures.found one s x holds lawful in
+    let there : has_project s name ≡ true = sym c.has_project.ensures ∙ c.if-not-has_project.false in
+    let own : is_known_and x.state n (λ k. not (same_name k.project name)) ≡ false =
+    ap (λ o. option_map_or (λ (k : Change). not (same_name k.project name)) o false) (sym known)
+    ∙ sym c.is_of_another.ensures ∙ c.if-is_of_another.false in
+    let late : is_known_and x.state n (λ k. nat_le r k.revision || is_landed k) ≡ false =
+    ap (λ o. option_map_or (λ (k : Change). nat_le r k.revision || is_landed k) o false) (sym known)
+    ∙ sym c.is_late.ensures ∙ c.if-is_late.false in
+    let free : is_submitting s x.state n ≡ false =
+    sym (c.in_ok-is_submitting.ensures.found two x at_one lawful) ∙ c.if-branch.false in
+    let texts : needs c.as_str.result.now c.as_str-2.result.now ≡ needs s.base message =
+    (λ i. needs ((c.as_str.ensures.value ∙ ap (λ (v : Settings). v.base) c.config.view_is) i) (c.as_str-2.ensures.value i)) in
+    let few : length (needs s.base message) ≤ 32 = subst (λ l. length l ≤ 32) texts c.in-Ok.ensures.few in
+    let listed : c.from_vec.result ≡ needs s.base message = c.from_vec.ensures ∙ c.in-Ok.ensures.ok ∙ texts in
+    let k : Change = record {
+      number = n;
+      project = c.in_ok-copy.field-0;
+      revision = r;
+      stage = stage.Open;
+      needs = c.from_vec.result;
+    } in
+    let is : k ≡ record { number = n; project = name; revision = r; stage = stage.Open; needs = needs s.base message } =
+    (λ i. record { number = n; project = c.in_ok-copy.ensures i; revision = r; stage = stage.Open; needs = listed i }) in
+    let so = c.in_ok-stand.ensures.found three x at_two lawful in
+    record {
+      after = revised k x.state;
+      accepted = revision_raw s x.state n name r message there own late free few k is;
+      acts = refl;
+      touches = subst (Touches s x.state d) (sym c.in_ok-left.ensures.touched)
+          (given_up s x.state d n verdict.Superseded c.in_ok-stand.stand so refl refl (λ i. refl));
+      moves = c.in_ok-edits.ensures x (leave verdict.Superseded n x.state) lawful.lawful.sound.changes_rise
+          (c.in_ok-left.ensures.moves trusted x at_three lawful n so);
+      unplaced = tt;
+    }

@@ -1,0 +1,80 @@
+//! `approved`: a change may land.
+ghost use Rattle.std.specs.Prelude.{◌≡◌, ◌∷◌, [], Some, IfOk};
+ghost use Rattle.gate_types.specs.declared.deliveries.Delivery.TheVariants as delivery;
+ghost use Rattle.gate_types.specs.declared.edits.Edit.TheVariants as edit;
+ghost use Rattle.gate_types.specs.declared.edits.Counter.TheVariants as counter;
+ghost use Rattle.gate_book.specs.Kept.{OfHeldUnder, IsKept};
+ghost use Rattle.gate_raw.specs.Raw.{IsRaw};
+ghost use Rattle.gate_ruling.specs.Approving.{is_nowhere};
+
+use crate::changing::is_past;
+use crate::edits::with_edit;
+use crate::numbers::LAST_NUMBER;
+use gate_book::book::Book;
+use gate_book::fault::BookFault;
+use gate_raw::raw::{Moved, Raw, Said};
+use gate_reads::standing::{Stand, standing};
+use gate_types::config::Config;
+use gate_types::deliveries::{Refusal, Reply};
+use gate_types::edits::{Counter, Edit};
+use gate_types::names::NoMemory;
+use gate_types::numbers::{ChangeNo, Revision};
+use gate_types::records::Change;
+use std::alloc::Global;
+
+fn is_nowhere(stand: &Stand) -> bool
+    ensures { result ≡ is_nowhere stand.now }
+{
+    matches!(stand, Stand::Nowhere)
+}
+
+/// The change is ready under a new approval number.
+fn made_ready(alloc: Global, known: Change, approval: u64) -> Result<Vec<Edit>, NoMemory>
+    ensures { IfOk result (λ edits. edits.items ≡ edit.PutChange known (Some approval) ∷
+        edit.SetCounter counter.Approval approval ∷ []) }
+{
+    let change = Edit::PutChange {
+        change: known,
+        approval: Some(approval),
+    };
+    let counter = Edit::SetCounter {
+        counter: Counter::Approval,
+        drawn: approval,
+    };
+    with_edit(with_edit(Vec::new(alloc), change)?, counter)
+}
+
+/// An open change that waits nowhere becomes ready; where it stands once all is settled is the reply.
+pub(crate) fn approved<B: Book>(
+    alloc: Global,
+    book: &mut B,
+    config: &Config,
+    change: ChangeNo,
+    revision: Revision,
+) -> Result<Raw, BookFault>
+    ensures raw { OfHeldUnder B.IsTrusted B.Holds book.old book.new config.now (λ x.
+        IfOk result (IsRaw config.now x (delivery.Approved change revision))) }
+    ensures kept { IsKept B.IsTrusted B.Holds B.LeavesOneOf book.old book.new }
+{
+    let Some(known) = book.change(change)? else {
+        return Ok(Raw::Refused(Refusal::UnknownChange));
+    };
+    if known.revision.get() < revision.get() {
+        return Ok(Raw::Refused(Refusal::UnknownRevision));
+    }
+    if is_past(&known, revision) {
+        return Ok(Raw::Stands(Reply::Stale));
+    }
+    if !is_nowhere(&standing(alloc, book, config, change)?) {
+        return Ok(Raw::Stands(Reply::Already));
+    }
+    let drawn = book.counters()?.approval;
+    if LAST_NUMBER <= drawn {
+        return Ok(Raw::Refused(Refusal::Exhausted));
+    }
+    Ok(Raw::Moved(Moved {
+        said: Said::PlaceOf(change),
+        edits: made_ready(alloc, known, drawn + 1)?,
+        touched: None,
+    }))
+}

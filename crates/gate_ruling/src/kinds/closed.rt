@@ -1,0 +1,71 @@
+//! `closed`: a change is given up.
+ghost use Rattle.std.specs.Prelude.{◌≡◌, if◌then◌else◌, is_some, IfOk};
+ghost use Rattle.gate_types.specs.declared.deliveries.Reply.TheVariants as reply;
+ghost use Rattle.gate_types.specs.declared.deliveries.Delivery.TheVariants as delivery;
+ghost use Rattle.gate_book.specs.Kept.{OfHeldUnder, IsKept};
+ghost use Rattle.gate_raw.specs.Raw.{IsRaw};
+
+use crate::changing::{is_past, put_anew};
+use crate::leaving::{Left, give_up_place};
+use gate_book::book::Book;
+use gate_book::fault::BookFault;
+use gate_raw::raw::{Moved, Raw, Said};
+use gate_reads::orders::is_submitting;
+use gate_reads::standing::standing;
+use gate_types::config::Config;
+use gate_types::deliveries::{Refusal, Reply};
+use gate_types::numbers::{ChangeNo, Revision};
+use gate_types::records::{Change, Stage, Verdict};
+use std::alloc::Global;
+
+/// An item is removed from its queue; of a change that is none this is recorded.
+fn removed_or_recorded(left: &Left) -> Reply
+    ensures { result ≡ (if is_some left.now.touched then reply.Removed else reply.Recorded) }
+{
+    if left.touched.is_some() {
+        Reply::Removed
+    } else {
+        Reply::Recorded
+    }
+}
+
+/// An open change is closed, and gives up its place; anything else is stale.
+pub(crate) fn closed<B: Book>(
+    alloc: Global,
+    book: &mut B,
+    config: &Config,
+    change: ChangeNo,
+    revision: Revision,
+) -> Result<Raw, BookFault>
+    ensures raw { OfHeldUnder B.IsTrusted B.Holds book.old book.new config.now (λ x.
+        IfOk result (IsRaw config.now x (delivery.Closed change revision))) }
+    ensures kept { IsKept B.IsTrusted B.Holds B.LeavesOneOf book.old book.new }
+{
+    let Some(known) = book.change(change)? else {
+        return Ok(Raw::Refused(Refusal::UnknownChange));
+    };
+    if known.revision.get() < revision.get() {
+        return Ok(Raw::Refused(Refusal::UnknownRevision));
+    }
+    if is_past(&known, revision) {
+        return Ok(Raw::Stands(Reply::Stale));
+    }
+    if is_submitting(alloc, book, config, change)? {
+        return Ok(Raw::Refused(Refusal::Submitting));
+    }
+    let stand = standing(alloc, book, config, change)?;
+    let left = give_up_place(alloc, book, config, stand, Verdict::Closed)?;
+    let reply = removed_or_recorded(&left);
+    let edits = put_anew(
+        left.edits,
+        Change {
+            stage: Stage::Closed,
+            ..known
+        },
+    )?;
+    Ok(Raw::Moved(Moved {
+        said: Said::Now(reply),
+        edits,
+        touched: left.touched,
+    }))
+}

@@ -1,0 +1,98 @@
+//! `landed`: the forge landed an order.
+ghost use Rattle.std.specs.Prelude.{◌≡◌, ◌++◌, IfOk};
+ghost use Rattle.gate_types.specs.declared.deliveries.Delivery.TheVariants as delivery;
+ghost use Rattle.gate_types.specs.State.{known_change};
+ghost use Rattle.gate_book.specs.Kept.{OfHeld, OfHeldUnder, IsKept};
+ghost use Rattle.gate_raw.specs.Raw.{IsRaw};
+ghost use Rattle.gate_ruling.specs.Landing.{landing_edits};
+
+use crate::changing::put_anew;
+use crate::leaving::{leaving, touched};
+use gate_book::book::Book;
+use gate_book::fault::BookFault;
+use gate_book::rows::QueuedItem;
+use gate_queue::window::grow;
+use gate_raw::raw::{Moved, Raw, Said};
+use gate_raw::touched::Event;
+use gate_reads::orders::shown_order;
+use gate_types::config::Config;
+use gate_types::deliveries::{Refusal, Reply};
+use gate_types::edits::Edit;
+use gate_types::names::NoMemory;
+use gate_types::numbers::Serial;
+use gate_types::records::{Change, Landing, Stage, Verdict};
+use std::alloc::Global;
+
+/// The item's landing at a place of its queue, and the window that follows.
+fn with_landing(
+    edits: Vec<Edit>,
+    queued: &QueuedItem,
+    place: u64,
+    window: u32,
+) -> Result<Vec<Edit>, NoMemory>
+    ensures { IfOk result (λ all. all.items ≡ edits.items ++ landing_edits queued.now place window) }
+{
+    let item = queued.item;
+    let queue = queued.queue.copy()?;
+    let landing = Landing {
+        serial: item.serial,
+        change: item.change,
+        revision: item.revision,
+    };
+    let mut edits = edits;
+    edits.push(Edit::PutLanding {
+        queue,
+        place,
+        landing,
+    })?;
+    let queue = queued.queue.copy()?;
+    edits.push(Edit::SetWindow { queue, window })?;
+    Ok(edits)
+}
+
+/// The change of an item.
+fn change_of<B: Book>(book: &mut B, queued: &QueuedItem) -> Result<Option<Change>, BookFault>
+    ensures found { OfHeld B.IsTrusted B.Holds book.old book.new (λ c x.
+        IfOk result (λ known. known ≡ known_change x.state queued.now.item.change)) }
+    ensures kept { IsKept B.IsTrusted B.Holds B.LeavesOneOf book.old book.new }
+{
+    book.change(queued.item.change)
+}
+
+/// The item of a shown order leaves its queue as the last of the landings, and the window grows.
+pub(crate) fn landed<B: Book>(
+    alloc: Global,
+    book: &mut B,
+    config: &Config,
+    order: Serial,
+) -> Result<Raw, BookFault>
+    ensures raw { OfHeldUnder B.IsTrusted B.Holds book.old book.new config.now (λ x.
+        IfOk result (IsRaw config.now x (delivery.Landed order))) }
+    ensures kept { IsKept B.IsTrusted B.Holds B.LeavesOneOf book.old book.new }
+{
+    let _settings = &config.base;
+    let Some(queued) = shown_order(alloc, book, config, order)? else {
+        return Ok(Raw::Refused(Refusal::NoOrder));
+    };
+    let Some(known) = change_of(book, &queued)? else {
+        return Err(BookFault::Damaged);
+    };
+    let Some(sizes) = book.queue(&queued.queue)? else {
+        return Err(BookFault::Damaged);
+    };
+    let place = sizes.landings.saturating_add(1);
+    let edits = leaving(alloc, book, config, &queued, Verdict::Landed(place))?;
+    let edits = with_landing(edits, &queued, place, grow(sizes.window))?;
+    let edits = put_anew(
+        edits,
+        Change {
+            stage: Stage::Landed,
+            ..known
+        },
+    )?;
+    Ok(Raw::Moved(Moved {
+        said: Said::Now(Reply::Landed(place)),
+        edits,
+        touched: Some(touched(queued, Event::Landed)),
+    }))
+}

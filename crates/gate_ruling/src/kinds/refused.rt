@@ -1,0 +1,72 @@
+//! `refused`: the forge did not land an order.
+ghost use Rattle.std.specs.Prelude.{◌≡◌, find, option_copied, IfOk};
+ghost use Rattle.std.specs.Option.{option_map_or};
+ghost use Rattle.gate_types.specs.Names.{same_name};
+ghost use Rattle.gate_types.specs.declared.deliveries.Delivery.TheVariants as delivery;
+ghost use Rattle.gate_book.specs.Kept.{OfHeldUnder, IsKept};
+ghost use Rattle.gate_raw.specs.Raw.{IsRaw};
+
+use crate::edits::with_edit;
+use crate::leaving::{leaving, touched};
+use gate_book::book::Book;
+use gate_book::fault::BookFault;
+use gate_queue::window::shrink;
+use gate_raw::raw::{Moved, Raw, Said};
+use gate_raw::touched::Event;
+use gate_reads::orders::shown_order;
+use gate_types::config::{Config, Queue};
+use gate_types::deliveries::{Refusal, Reply};
+use gate_types::edits::Edit;
+use gate_types::numbers::Serial;
+use gate_types::records::Verdict;
+use std::alloc::Global;
+
+fn setting_of<'c>(config: &'c Config, name: &str) -> Option<&'c Queue>
+    ensures { option_copied result ≡ find (λ q. same_name q.name name.now) config.now.queues }
+{
+    config
+        .queues
+        .as_slice()
+        .iter()
+        .find(|setting| setting.name.as_str() == name)
+}
+
+/// The floor of the window of a queue of the settings.
+fn floor_of(config: &Config, name: &str) -> u32
+    ensures { result ≡ option_map_or (λ q. q.floor) (find (λ q. same_name q.name name.now) config.now.queues) 1 }
+{
+    match setting_of(config, name) {
+        Some(setting) => setting.floor,
+        None => 1,
+    }
+}
+
+/// The item of a shown order leaves its queue, and the window shrinks.
+pub(crate) fn refused<B: Book>(
+    alloc: Global,
+    book: &mut B,
+    config: &Config,
+    order: Serial,
+) -> Result<Raw, BookFault>
+    ensures raw { OfHeldUnder B.IsTrusted B.Holds book.old book.new config.now (λ x.
+        IfOk result (IsRaw config.now x (delivery.Refused order))) }
+    ensures kept { IsKept B.IsTrusted B.Holds B.LeavesOneOf book.old book.new }
+{
+    let _settings = &config.base;
+    let Some(queued) = shown_order(alloc, book, config, order)? else {
+        return Ok(Raw::Refused(Refusal::NoOrder));
+    };
+    let Some(sizes) = book.queue(&queued.queue)? else {
+        return Err(BookFault::Damaged);
+    };
+    let edits = leaving(alloc, book, config, &queued, Verdict::Refused)?;
+    let window = Edit::SetWindow {
+        queue: queued.queue.copy()?,
+        window: shrink(sizes.window, floor_of(config, queued.queue.as_str())),
+    };
+    Ok(Raw::Moved(Moved {
+        said: Said::Now(Reply::Removed),
+        edits: with_edit(edits, window)?,
+        touched: Some(touched(queued, Event::Left(Verdict::Refused))),
+    }))
+}

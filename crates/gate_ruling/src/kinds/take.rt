@@ -1,0 +1,70 @@
+//! `take`: a worker asks for a build.
+ghost use Rattle.std.specs.Prelude.{◌≡◌, ◌≤◌, ◌+◌, ◌∷◌, [], min, Some, IfOk};
+ghost use Rattle.gate_types.specs.declared.deliveries.Delivery.TheVariants as delivery;
+ghost use Rattle.gate_types.specs.declared.edits.Edit.TheVariants as edit;
+ghost use Rattle.gate_types.specs.declared.edits.Counter.TheVariants as counter;
+ghost use Rattle.gate_book.specs.Kept.{OfHeldUnder, IsKept};
+ghost use Rattle.gate_raw.specs.Raw.{IsRaw};
+
+use crate::edits::with_edit;
+use crate::numbers::LAST_NUMBER;
+use gate_book::book::Book;
+use gate_book::fault::BookFault;
+use gate_raw::raw::{Moved, Raw, Said};
+use gate_reads::next_build::next_build;
+use gate_types::config::Config;
+use gate_types::deliveries::{Refusal, Reply};
+use gate_types::edits::{Counter, Edit};
+use gate_types::names::{NoMemory, PathName};
+use gate_types::numbers::BuildNo;
+use gate_types::records::Build;
+use std::alloc::Global;
+
+/// The number after those that were drawn; the last one again where all were.
+fn number_after(drawn: u64) -> Option<BuildNo>
+    ensures { result ≡ Some (min drawn 999999999999999 + 1) }
+{
+    BuildNo::new(drawn.min(LAST_NUMBER - 1) + 1)
+}
+
+/// The build starts, under a new number.
+fn started(alloc: Global, build: &Build) -> Result<Vec<Edit>, NoMemory>
+    ensures { IfOk result (λ edits. edits.items ≡ edit.PutBuild build.now ∷
+        edit.SetCounter counter.Build build.now.number ∷ []) }
+{
+    let started = Edit::PutBuild(build.copy()?);
+    let counter = Edit::SetCounter {
+        counter: Counter::Build,
+        drawn: build.number.get(),
+    };
+    with_edit(with_edit(Vec::new(alloc), started)?, counter)
+}
+
+/// The next build starts, if a job waits for one.
+pub(crate) fn take<B: Book>(
+    alloc: Global,
+    book: &mut B,
+    config: &Config,
+    worker: &PathName,
+) -> Result<Raw, BookFault>
+    ensures raw { OfHeldUnder B.IsTrusted B.Holds book.old book.new config.now (λ x.
+        IfOk result (IsRaw config.now x (delivery.Take worker.now))) }
+    ensures kept { IsKept B.IsTrusted B.Holds B.LeavesOneOf book.old book.new }
+{
+    let drawn = book.counters()?.build;
+    let Some(number) = number_after(drawn) else {
+        return Err(BookFault::Damaged);
+    };
+    let Some(build) = next_build(alloc, book, config, number)? else {
+        return Ok(Raw::Refused(Refusal::Idle));
+    };
+    if LAST_NUMBER <= drawn {
+        return Ok(Raw::Refused(Refusal::Exhausted));
+    }
+    let edits = started(alloc, &build)?;
+    Ok(Raw::Moved(Moved {
+        said: Said::Now(Reply::Build(build)),
+        edits,
+        touched: None,
+    }))
+}

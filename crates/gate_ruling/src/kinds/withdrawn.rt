@@ -1,0 +1,61 @@
+//! `withdrawn`: a change gives up its place.
+ghost use Rattle.std.specs.Prelude.{IfOk};
+ghost use Rattle.gate_types.specs.declared.deliveries.Delivery.TheVariants as delivery;
+ghost use Rattle.gate_book.specs.Kept.{OfHeldUnder, IsKept};
+ghost use Rattle.gate_raw.specs.Raw.{IsRaw};
+
+use crate::changing::put_anew;
+use crate::leaving::{leaving, touched};
+use gate_book::book::Book;
+use gate_book::fault::BookFault;
+use gate_raw::raw::{Moved, Raw, Said};
+use gate_raw::touched::Event;
+use gate_reads::orders::is_submitting;
+use gate_reads::standing::{Stand, standing};
+use gate_types::config::Config;
+use gate_types::deliveries::{Refusal, Reply};
+use gate_types::numbers::{ChangeNo, Revision};
+use gate_types::records::Verdict;
+use std::alloc::Global;
+
+/// An item leaves its queue; a ready change is so no longer; anything else is stale.
+pub(crate) fn withdrawn<B: Book>(
+    alloc: Global,
+    book: &mut B,
+    config: &Config,
+    change: ChangeNo,
+    revision: Revision,
+) -> Result<Raw, BookFault>
+    ensures raw { OfHeldUnder B.IsTrusted B.Holds book.old book.new config.now (λ x.
+        IfOk result (IsRaw config.now x (delivery.Withdrawn change revision))) }
+    ensures kept { IsKept B.IsTrusted B.Holds B.LeavesOneOf book.old book.new }
+{
+    let Some(known) = book.change(change)? else {
+        return Ok(Raw::Refused(Refusal::UnknownChange));
+    };
+    if known.revision.get() < revision.get() {
+        return Ok(Raw::Refused(Refusal::UnknownRevision));
+    }
+    if revision.get() < known.revision.get() {
+        return Ok(Raw::Stands(Reply::Stale));
+    }
+    if is_submitting(alloc, book, config, change)? {
+        return Ok(Raw::Refused(Refusal::Submitting));
+    }
+    match standing(alloc, book, config, change)? {
+        Stand::Queued(queued) => {
+            let edits = leaving(alloc, book, config, &queued, Verdict::Withdrawn)?;
+            Ok(Raw::Moved(Moved {
+                said: Said::Now(Reply::Removed),
+                edits,
+                touched: Some(touched(queued, Event::Left(Verdict::Withdrawn))),
+            }))
+        }
+        Stand::Ready => Ok(Raw::Moved(Moved {
+            said: Said::Now(Reply::Recorded),
+            edits: put_anew(Vec::new(alloc), known)?,
+            touched: None,
+        })),
+        Stand::Nowhere => Ok(Raw::Stands(Reply::Stale)),
+    }
+}
