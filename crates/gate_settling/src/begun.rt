@@ -1,11 +1,12 @@
 //! A walk before its first visit.
-ghost use Rattle.std.specs.Prelude.{◌≡◌, find, option_copied, option_map, IfOk, MatchOption};
+ghost use Rattle.std.specs.Prelude.{◌≡◌, find, option_copied, option_map, IfOk, MatchOption, IfErr};
 ghost use Rattle.gate_types.specs.Names.{same_name};
 ghost use Rattle.gate_walk.specs.TakenOut.{out_of};
 ghost use Rattle.gate_walk.specs.UnderWay.{Starts};
 ghost use Rattle.gate_book.specs.Kept.{OfHeldUnder, IsKept};
 ghost use Rattle.gate_settling.specs.Rows as rows;
 ghost use Rattle.gate_settling.specs.Touching.{Touching, delivered};
+ghost use Rattle.gate_settling.specs.Faults.{MayAnswer};
 
 use crate::rows::{has_landed, is_out};
 use gate_book::book::Book;
@@ -77,6 +78,7 @@ pub fn begun<B: Book>(
         (h : Touching config.now x touched.now) →
         IfOk result (λ found. MatchOption found ⊥ (λ walk. Starts (delivered h) walk))) }
     ensures kept { IsKept B.IsTrusted B.Holds B.LeavesOneOf book.old book.new }
+    ensures fault { IfErr result (MayAnswer B.MayFault) }
 {
     let Some(settings) = queue_named(config, &touched.queue) else {
         return Ok(None);

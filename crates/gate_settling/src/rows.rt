@@ -1,11 +1,12 @@
 //! What a visit is given of a row: as it is stored, with what the delivery makes of it.
-ghost use Rattle.std.specs.Prelude.{◌≡◌, ◌++◌, ◌∷◌, [], IfOk, map, find, option_copied};
+ghost use Rattle.std.specs.Prelude.{◌≡◌, ◌++◌, ◌∷◌, [], IfOk, map, find, option_copied, IfErr};
 ghost use Rattle.gate_types.specs.Names.{same_name};
 ghost use Rattle.gate_types.specs.State.{known_change};
 ghost use Rattle.gate_types.specs.Step.{outcome_of_ending};
 ghost use Rattle.gate_book.specs.Kept.{OfHeld, IsKept};
 ghost use Rattle.gate_book.specs.Reads as read;
 ghost use Rattle.gate_settling.specs.Rows as rows;
+ghost use Rattle.gate_settling.specs.Faults.{MayAnswer};
 
 use gate_book::book::Book;
 use gate_book::fault::BookFault;
@@ -82,6 +83,7 @@ fn need_now<B: Book>(
     ensures need { OfHeld B.IsTrusted B.Holds book.old book.new (λ c x.
         IfOk result (λ need. need ≡ rows.need_now c x.state touched.now change)) }
     ensures kept { IsKept B.IsTrusted B.Holds B.LeavesOneOf book.old book.new }
+    ensures fault { IfErr result (MayAnswer B.MayFault) }
 {
     let known = book.change(change)?;
     let queued = book.queued(change)?;
@@ -110,6 +112,7 @@ fn needs_now<B: Book>(
     ensures needs { OfHeld B.IsTrusted B.Holds book.old book.new (λ c x.
         IfOk result (λ needs. needs.items ≡ map (rows.need_now c x.state touched.now) changes.now)) }
     ensures kept { IsKept B.IsTrusted B.Holds B.LeavesOneOf book.old book.new }
+    ensures fault { IfErr result (MayAnswer B.MayFault) }
 {
     let mut needs = Vec::new(alloc);
     for change in changes {
@@ -217,6 +220,7 @@ fn builds_now<B: Book>(
     ensures builds { OfHeld B.IsTrusted B.Holds book.old book.new (λ c x.
         IfOk result (λ builds. builds.items ≡ map (rows.build_now event) (read.live_builds x.state serial))) }
     ensures kept { IsKept B.IsTrusted B.Holds B.LeavesOneOf book.old book.new }
+    ensures fault { IfErr result (MayAnswer B.MayFault) }
 {
     let live = book.live_builds(serial)?;
     Ok(builds_after(alloc, event, live.as_slice())?)
@@ -246,6 +250,7 @@ pub fn facts_now<'c, B: Book>(
     ensures builds { OfHeld B.IsTrusted B.Holds book.old book.new (λ c x. IfOk result (λ f.
         f.builds.items ≡ map (rows.build_now touched.now.event) (read.live_builds x.state serial))) }
     ensures kept { IsKept B.IsTrusted B.Holds B.LeavesOneOf book.old book.new }
+    ensures fault { IfErr result (MayAnswer B.MayFault) }
 {
     let known = book.change(change)?;
     let needs = needs_now(alloc, book, touched, needs_known(&known))?;

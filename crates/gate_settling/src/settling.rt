@@ -1,5 +1,5 @@
 //! The edits that settle the queue of a touched item.
-ghost use Rattle.std.specs.Prelude.{◌≡◌, ◌++◌, List, IfOk, false};
+ghost use Rattle.std.specs.Prelude.{◌≡◌, ◌++◌, List, IfOk, false, IfErr};
 ghost use Rattle.gate_types.specs.State.{State};
 ghost use Rattle.gate_types.specs.Step.{accepted, raw_step};
 ghost use Rattle.gate_types.specs.declared.deliveries.Delivery.{Delivery};
@@ -11,6 +11,7 @@ ghost use Rattle.gate_book.specs.Kept.{OfHeldUnder, IsKept};
 ghost use Rattle.gate_raw.specs.Moves.{Moves, in_state, swept};
 ghost use Rattle.gate_raw.specs.Touches.{Touches};
 ghost use Rattle.gate_settling.specs.Touching.{Touching, AreToldOf};
+ghost use Rattle.gate_settling.specs.Faults.{MayAnswer};
 
 use crate::begun::begun;
 use crate::walking::walked;
@@ -34,6 +35,7 @@ pub fn settling<B: Book>(
         Touches config.now x.state d touched.now → Moves x raw t →
         IfOk result (λ edits. Leads config.now x (raw ++ edits.items) (in_state x (swept config.now t)))) }
     ensures kept { IsKept B.IsTrusted B.Holds B.LeavesOneOf book.old book.new }
+    ensures fault { IfErr result (MayAnswer B.MayFault) }
 {
     let _settings = &config.base;
     match touched {
@@ -52,6 +54,7 @@ fn edits_of_walk<B: Book>(
     ensures told { OfHeldUnder B.IsTrusted B.Holds book.old book.new config.now (λ x.
         (h : Touching config.now x touched.now) → IfOk result (λ edits. AreToldOf h edits.items)) }
     ensures kept { IsKept B.IsTrusted B.Holds B.LeavesOneOf book.old book.new }
+    ensures fault { IfErr result (MayAnswer B.MayFault) }
 {
     match begun(alloc, book, config, touched)? {
         Some(walk) => Ok(walked(alloc, book, config, touched, walk)?.into_edits()),

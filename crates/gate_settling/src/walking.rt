@@ -1,10 +1,11 @@
 //! The visits of a walk, one after another.
-ghost use Rattle.std.specs.Prelude.{◌≡◌, ◌∷◌, Some, List, IfOk, OnOk};
+ghost use Rattle.std.specs.Prelude.{◌≡◌, ◌∷◌, Some, List, IfOk, OnOk, IfErr};
 ghost use Rattle.gate_walk.specs.Walk as walks;
 ghost use Rattle.gate_walk.specs.UnderWay.{HasVisited, GoesOn, Starts, row_wanted};
 ghost use Rattle.gate_book.specs.Kept.{OfHeldUnder, IsKept};
 ghost use Rattle.gate_settling.specs.Rows as rows;
 ghost use Rattle.gate_settling.specs.Touching.{Touching, delivered, sees, IsWalked};
+ghost use Rattle.gate_settling.specs.Faults.{MayAnswer};
 
 use crate::rows::facts_now;
 use crate::wanted::{first_wanted, wanted};
@@ -31,6 +32,7 @@ fn visited<B: Book>(
         IfOk result (λ next. GoesOn (delivered h) walk.old walk.new (sees h row) vs next)) }
     ensures from { IfOk result (λ next. rows.IsFrom row.serial next) }
     ensures kept { IsKept B.IsTrusted B.Holds B.LeavesOneOf book.old book.new }
+    ensures fault { IfErr result (MayAnswer B.MayFault) }
 {
     let facts = facts_now(alloc, book, config, touched, row.change, row.serial)?;
     let seen = Seen {
@@ -54,6 +56,7 @@ pub fn walked<B: Book>(
         (h : Touching config.now x touched.now) → Starts (delivered h) begun →
         IfOk result (λ walk. IsWalked h walk)) }
     ensures kept { IsKept B.IsTrusted B.Holds B.LeavesOneOf book.old book.new }
+    ensures fault { IfErr result (MayAnswer B.MayFault) }
 {
     let mut walk = begun;
     let mut next = first_wanted(book, touched)?;

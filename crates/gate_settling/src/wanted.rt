@@ -1,9 +1,10 @@
 //! The row that a walk wants next.
-ghost use Rattle.std.specs.Prelude.{◌≡◌, ◌<◌, ◌≤◌, ◌-◌, IfOk, IfSome};
+ghost use Rattle.std.specs.Prelude.{◌≡◌, ◌<◌, ◌≤◌, ◌-◌, IfOk, IfSome, IfErr};
 ghost use Rattle.gate_types.specs.State.{State};
 ghost use Rattle.gate_book.specs.Kept.{OfHeld, IsKept};
 ghost use Rattle.gate_book.specs.Reads as read;
 ghost use Rattle.gate_settling.specs.Rows as rows;
+ghost use Rattle.gate_settling.specs.Faults.{MayAnswer};
 
 use crate::rows::is_out;
 use gate_book::book::Book;
@@ -42,6 +43,7 @@ fn first_needing<B: Book>(
         row ≡ rows.first_needing_any x.state gone.now above (read.items_in c x.state queue.now))) }
     ensures rises { IfOk result (λ row. IfSome row (λ r. above < r.serial)) }
     ensures kept { IsKept B.IsTrusted B.Holds B.LeavesOneOf book.old book.new }
+    ensures fault { IfErr result (MayAnswer B.MayFault) }
 {
     let mut first = None;
     for change in gone {
@@ -57,6 +59,7 @@ pub fn first_wanted<B: Book>(book: &mut B, touched: &TouchedItem) -> Result<Opti
         row ≡ read.first_above (rows.first_behind touched.now) (read.items_in c x.state touched.now.queue))) }
     ensures rises { IfOk result (λ row. IfSome row (λ r. touched.now.item.serial ≤ r.serial)) }
     ensures kept { IsKept B.IsTrusted B.Holds B.LeavesOneOf book.old book.new }
+    ensures fault { IfErr result (MayAnswer B.MayFault) }
 {
     let serial = touched.item.serial.get();
     let above = if is_out(touched.event) {
@@ -79,6 +82,7 @@ pub fn wanted<B: Book>(
         IfOk result (λ row. row ≡ rows.row_for c x.state queue.now gone.now next)) }
     ensures rises { IfOk result (λ row. IfSome row (λ r. rows.IsAbove r.serial next)) }
     ensures kept { IsKept B.IsTrusted B.Holds B.LeavesOneOf book.old book.new }
+    ensures fault { IfErr result (MayAnswer B.MayFault) }
 {
     match next {
         Next::Go(serial) => book.next_item(queue, serial.get()),
