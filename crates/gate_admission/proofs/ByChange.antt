@@ -138,7 +138,8 @@ by_change name n stored rows edits up once told = by_found (item_in n all) refl
         ∙ ap (λ (s : ℕ). item_if n s all) k.2 ∙ at_own n all r up at.0 at.1 in
         ap (λ o. option_or o (item_put n all edits)) here)
         (λ (p : PutBy name r edits). ⊎_elim
-        (λ (f : left ≡ None). ap (λ o. option_or o (item_put n all edits)) f ∙ put_given name n all r edits up once at.0 at.1 p)
+        (λ (f : left ≡ None). ap (λ o. option_or o (item_put n all edits)) f
+        ∙ put_given name n all r edits up once at.0 at.1 p)
         (λ (f : left ≡ Some r). ap (λ o. option_or o (item_put n all edits)) f)
         (none_or n all r left once at.0 at.1 gives_left))
         (from_after name rows edits r at.0)

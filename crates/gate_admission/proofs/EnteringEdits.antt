@@ -85,10 +85,13 @@ changes_enter n rs k (j ∷ js) up e = by_test (j.number == n) refl e (changes_e
         let gone : row ≡ change_row (ready_without n rs) j =
         λ i. record {
           change = sym same i;
-          approval = sym (approval_without n j.number rs ∙ ap (λ b. cond b None (approval_of rs j.number)) (eq-eqb n j.number (sym number))) i;
+          approval = sym (approval_without n j.number rs
+              ∙ ap (λ b. cond b None (approval_of rs j.number)) (eq-eqb n j.number (sym number))) i;
         } in
         let rest = other_rows n rs js (λ x m g. let higher = up.0 x m in omega (arith, higher, g, number)) in
-        ap (λ b. cond b (row ∷ map (change_row rs) js) (cond (nat_lt k.number j.number) (row ∷ change_row rs j ∷ map (change_row rs) js) (change_row rs j ∷ put_by number_of row (map (change_row rs) js))))
+        ap (λ b. cond b (row ∷ map (change_row rs) js)
+        (cond (nat_lt k.number j.number) (row ∷ change_row rs j ∷ map (change_row rs) js)
+        (change_row rs j ∷ put_by number_of row (map (change_row rs) js))))
         (eq-eqb k.number j.number (ap (λ (x : Change). x.number) (sym same)))
         ∙ (λ i. gone i ∷ rest i)
     by_test false t f later =
@@ -96,7 +99,8 @@ changes_enter n rs k (j ∷ js) up e = by_test (j.number == n) refl e (changes_e
         let higher : j.number < k.number = up.0 k there.0 in
         let other : j.number ≢ n = λ g. true≢false (sym (eq-eqb j.number n g) ∙ t) in
         (λ i. cond (ne_eqb k.number j.number (λ g. omega (arith, higher, g)) i) (row ∷ map (change_row rs) js)
-        (cond (le-ltb k.number j.number (omega (arith, higher)) i) (row ∷ change_row rs j ∷ map (change_row rs) js) (change_row rs j ∷ put_by number_of row (map (change_row rs) js))))
+        (cond (le-ltb k.number j.number (omega (arith, higher)) i) (row ∷ change_row rs j ∷ map (change_row rs) js)
+        (change_row rs j ∷ put_by number_of row (map (change_row rs) js))))
         ∙ (λ i. other_row n rs j other i ∷ later f i)
 
 -- ---- queues
@@ -108,7 +112,8 @@ put_last row [] h = refl
 put_last row (y ∷ ys) h =
     let low = h y (inl refl) in
     (λ i. cond (ne_eqb row.serial y.serial (λ g. omega (arith, low, g)) i) (row ∷ ys)
-    (cond (le-ltb row.serial y.serial (omega (arith, low)) i) (row ∷ y ∷ ys) (y ∷ put_by (λ (j : ItemRow). j.serial) row ys)))
+    (cond (le-ltb row.serial y.serial (omega (arith, low)) i) (row ∷ y ∷ ys)
+    (y ∷ put_by (λ (j : ItemRow). j.serial) row ys)))
     ∙ ap (λ zs. y ∷ zs) (put_last row ys (λ r m. h r (inr m)))
 
 -- the serials of builds are drawn
@@ -116,9 +121,11 @@ build_drawn : (c : Settings) (s : State) → IsSound c s → (b : Build) → In 
 build_drawn c s sound b m =
     leb-true b.serial s.counters.order
     (every (λ n. nat_le n s.counters.order ≡ true) (drawn_serials s) sound.serials_are_drawn b.serial
-    (to_right (flat_map serials_of s.queues) (map (λ (x : Build). x.serial) s.builds) b.serial (to_map (λ (x : Build). x.serial) s.builds b m)))
+    (to_right (flat_map serials_of s.queues) (map (λ (x : Build). x.serial) s.builds) b.serial
+    (to_map (λ (x : Build). x.serial) s.builds b m)))
 
-times_part : (n : ℕ) (f : Queue → List ℕ) (qs : List Queue) (q : Queue) → In q qs → times n (f q) ≤ times n (flat_map f qs)
+times_part : (n : ℕ) (f : Queue → List ℕ) (qs : List Queue) (q : Queue) → In q qs →
+    times n (f q) ≤ times n (flat_map f qs)
 times_part n f [] q m = absurd m
 times_part n f (p ∷ ps) q m =
     let sum = ap (times n) (flat_map-cons f p ps) ∙ times-append n (f p) (flat_map f ps) in
@@ -130,13 +137,16 @@ times_part n f (p ∷ ps) q m =
 can_be_entered : (c : Settings) (s : State) (q : Queue) → IsSound c s → In q s.queues → CanBeEntered s q
 can_be_entered c s q sound m = record {
   no_build = all (λ (b : Build). not (b.serial == s.counters.order + 1) ≡ true) s.builds
-      (λ b k. let low = build_drawn c s sound b k in ap not (ne_eqb b.serial (s.counters.order + 1) (λ e. omega (arith, low, e))));
+      (λ b k. let low = build_drawn c s sound b k in
+      ap not (ne_eqb b.serial (s.counters.order + 1) (λ e. omega (arith, low, e))));
   differ = distinct_to (item_changes q)
-      (λ n. let one = changes_once c s sound n in let part = times_part n item_changes s.queues q m in omega (arith, one, part));
+      (λ n. let one = changes_once c s sound n in let part = times_part n item_changes s.queues q m in
+      omega (arith, one, part));
 }
 
 -- what becomes of the rows of a queue
-queue_enters : (c : Settings) (v : State) (r : Ready) (name : List ℕ) (q p : Queue) (row : ItemRow) → are_sound c ≡ true →
+queue_enters : (c : Settings) (v : State) (r : Ready) (name : List ℕ) (q p : Queue) (row : ItemRow) →
+    are_sound c ≡ true →
     IsSound c v → In q v.queues → same_name q.name name ≡ true → row ≡ entering_row v (item_rows c v q) r.change →
     In p v.queues → name ≡ (project_of c v r.change).queue →
     edited_queue (edit.PutItem name row) (queue_rows (item_rows c v p) p) ≡
@@ -154,17 +164,23 @@ queue_enters c v r name q p row sound led there named row_is own name_is = by_na
         let at : same_name name p.name ≡ true = same_name_of name p.name (sym (same_name_is p.name name e)) in
         let mine : row ≡ entering_row v (item_rows c v p) r.change =
         row_is ∙ ap (λ (x : Queue). entering_row v (item_rows c v x) r.change) (sym same) in
-        let last : put_by (λ (j : ItemRow). j.serial) row (item_rows c v p) ≡ item_rows c (entered c v r) (with_item (next_item v r.change) p) =
-        put_last row (item_rows c v p) (λ x m. let low = row_drawn c v p x led own m in let high = ap serial_of mine in omega (arith, low, high))
+        let last : put_by (λ (j : ItemRow). j.serial) row (item_rows c v p) ≡
+        item_rows c (entered c v r) (with_item (next_item v r.change) p) =
+        put_last row (item_rows c v p) (λ x m. let low = row_drawn c v p x led own m in
+        let high = ap serial_of mine in omega (arith, low, high))
         ∙ ap (λ (x : ItemRow). item_rows c v p ++ x ∷ []) mine
         ∙ sym (enters_behind c v p r (can_be_entered c v p led own)) in
-        ap (λ rows. queue_rows rows p) (ap (λ b. cond b (put_by (λ (j : ItemRow). j.serial) row (item_rows c v p)) (item_rows c v p)) at ∙ last)
-        ∙ ap (λ b. let t = cond b (with_item (next_item v r.change) p) p in queue_rows (item_rows c (entered c v r) t) t)
+        ap (λ rows. queue_rows rows p) (ap (λ b. cond b (put_by (λ (j : ItemRow). j.serial) row (item_rows c v p))
+        (item_rows c v p)) at ∙ last)
+        ∙ ap (λ b. let t = cond b (with_item (next_item v r.change) p) p in
+        queue_rows (item_rows c (entered c v r) t) t)
         (sym (ap (same_name p.name) (sym name_is) ∙ e))
     by_name false e =
         let at : same_name name p.name ≡ false = not_turned (same_name name p.name) refl in
-        ap (λ rows. queue_rows rows p) (ap (λ b. cond b (put_by (λ (j : ItemRow). j.serial) row (item_rows c v p)) (item_rows c v p)) at)
-        ∙ ap (λ b. let t = cond b (with_item (next_item v r.change) p) p in queue_rows (item_rows c (entered c v r) t) t)
+        ap (λ rows. queue_rows rows p) (ap (λ b. cond b (put_by (λ (j : ItemRow). j.serial) row (item_rows c v p))
+        (item_rows c v p)) at)
+        ∙ ap (λ b. let t = cond b (with_item (next_item v r.change) p) p in
+        queue_rows (item_rows c (entered c v r) t) t)
         (sym (ap (same_name p.name) (sym name_is) ∙ e))
       where
         not_turned : (b : Bool) → same_name name p.name ≡ b → b ≡ false
@@ -177,17 +193,20 @@ fold_append : (t : Tables) (a b : List Edit) → fold_all t (a ++ b) ≡ fold_al
 fold_append t [] b = refl
 fold_append t (e ∷ es) b = fold_append (edited_tables t e) es b
 
-pub entering_leads : (c : Settings) (x : Content) (edits : List Edit) (v : State) (r : Ready) (k : Change) (name : List ℕ)
+pub entering_leads : (c : Settings) (x : Content) (edits : List Edit) (v : State) (r : Ready) (k : Change)
+    (name : List ℕ)
     (q : Queue) (row : ItemRow) → are_sound c ≡ true → IsLed c x edits v → find (may_enter c v) v.ready ≡ Some r →
     known_change v r.change ≡ Some k → name ≡ (project_of c v r.change).queue → queue_named v name ≡ Some q →
     row ≡ entering_row v (item_rows c v q) r.change →
     IsLed c x (edits ++ entering_edits name k row) (entered c v r)
 entering_leads c x edits v r k name q row sound led first known name_is named row_is = record {
-  sound = subst (IsSound c) (ap (λ (o : Option Ready). option_map_or (entered c v) o v) first) (one_sound c v sound led.sound);
+  sound = subst (IsSound c) (ap (λ (o : Option Ready). option_map_or (entered c v) o v) first)
+      (one_sound c v sound led.sound);
   leads = fold_append (tables c x) edits (entering_edits name k row)
       ∙ ap (λ (t : Tables). fold_all t (entering_edits name k row)) led.leads
       ∙ (λ i. record {
-        changes = changes_enter r.change v.ready k v.changes (rising (λ (j : Change). j.number) v.changes led.sound.changes_rise) known i;
+        changes = changes_enter r.change v.ready k v.changes
+            (rising (λ (j : Change). j.number) v.changes led.sound.changes_rise) known i;
         queues = queues i;
         builds = v.builds;
         counters = record v.counters { order = serial i };
@@ -210,11 +229,15 @@ entering_leads c x edits v r k name q row sound led first known name_is named ro
     after : Queue → QueueRows
     after p = queue_rows (item_rows c (entered c v r) p) p
 
-    queues : map (edited_queue (edit.SetCounter counter.Order row.serial)) (map (edited_queue (edit.PutChange k None)) (map (edited_queue (edit.PutItem name row)) (map rows v.queues))) ≡ map after (map next v.queues)
+    queues : map (edited_queue (edit.SetCounter counter.Order row.serial))
+        (map (edited_queue (edit.PutChange k None)) (map (edited_queue (edit.PutItem name row)) (map rows v.queues)))
+        ≡ map after (map next v.queues)
     queues =
-        map_map (edited_queue (edit.SetCounter counter.Order row.serial)) (edited_queue (edit.PutChange k None)) (map (edited_queue (edit.PutItem name row)) (map rows v.queues))
+        map_map (edited_queue (edit.SetCounter counter.Order row.serial)) (edited_queue (edit.PutChange k None))
+        (map (edited_queue (edit.PutItem name row)) (map rows v.queues))
         ∙ map_map (λ (p : QueueRows). p) (edited_queue (edit.PutItem name row)) (map rows v.queues)
         ∙ map_map (edited_queue (edit.PutItem name row)) rows v.queues
         ∙ map_same (λ p. edited_queue (edit.PutItem name row) (rows p)) (λ p. after (next p)) v.queues
-        (λ p m. queue_enters c v r name q p row sound led.sound there (found (λ (y : Queue). same_name y.name name) v.queues q named).1 row_is m name_is)
+        (λ p m. queue_enters c v r name q p row sound led.sound there
+        (found (λ (y : Queue). same_name y.name name) v.queues q named).1 row_is m name_is)
         ∙ sym (map_map after next v.queues)

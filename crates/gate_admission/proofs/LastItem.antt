@@ -35,7 +35,8 @@ later_right n (Some a) (Some b) h = omega (arith, h)
 abbrev pub last_from : List ℕ → ℕ → Option ℕ → List Edit → Option ℕ
 last_from name end o edits = fold (λ last e. later last (put_below name end e)) o edits
 
-stays_most : (name : List ℕ) (end n : ℕ) (o : Option ℕ) (edits : List Edit) → AtMost n o → AtMost n (last_from name end o edits)
+stays_most : (name : List ℕ) (end n : ℕ) (o : Option ℕ) (edits : List Edit) → AtMost n o →
+    AtMost n (last_from name end o edits)
 stays_most name end n o [] h = h
 stays_most name end n o (e ∷ es) h =
     stays_most name end n (later o (put_below name end e)) es (later_left n o (put_below name end e) h)
@@ -63,7 +64,8 @@ put_most name end r o (e ∷ es) puts l = ⊎_elim
     (λ (p : Puts name r e).
     let here : AtMost r.serial (put_below name end e) =
     subst (AtMost r.serial) (sym (put_at name end r e p l)) (let same : r.serial ≤ r.serial = omega arith in same) in
-    stays_most name end r.serial (later o (put_below name end e)) es (later_right r.serial o (put_below name end e) here))
+    stays_most name end r.serial (later o (put_below name end e)) es
+    (later_right r.serial o (put_below name end e) here))
     (λ (p : PutBy name r es). put_most name end r (later o (put_below name end e)) es p l)
     puts
 
@@ -82,7 +84,8 @@ last_most : (o : Option ItemRow) (rows : List ItemRow) (r : ItemRow) → Rising 
 last_most o [] r up m = absurd m
 last_most o (y ∷ ys) r up m = elim m [
   | inl e ↦
-      most_from r.serial (Some y) ys (let same : r.serial ≤ y.serial = let f = ap serial_of e in omega (arith, f) in same)
+      most_from r.serial (Some y) ys (let same : r.serial ≤ y.serial = let f = ap serial_of e in omega (arith, f) in
+      same)
       (λ z n. let low = up.0 z n in let f = ap serial_of e in omega (arith, low, f))
   | inr n ↦ last_most (Some y) ys r up.1 n
 ]
@@ -97,13 +100,15 @@ last_in o (y ∷ ys) r e = ⊎_elim
 
 -- ---- the greatest serial below another
 
-pub greatest : (name : List ℕ) (end : ℕ) (rows : List ItemRow) (edits : List Edit) (r : ItemRow) → Rising serial_of rows →
+pub greatest : (name : List ℕ) (end : ℕ) (rows : List ItemRow) (edits : List Edit) (r : ItemRow) →
+    Rising serial_of rows →
     In r (items_after name rows edits) → r.serial < end →
     AtMost r.serial (later (last_put_below name end edits) (option_map (λ i. i.serial) (last_below end rows)))
 greatest name end rows edits r up m l = ⊎_elim
     (λ (n : In r rows).
     later_right r.serial (last_put_below name end edits) (option_map (λ i. i.serial) (last_below end rows))
-    (last_most None (filter (λ i. nat_lt i.serial end) rows) r (rising_filter serial_of (λ i. nat_lt i.serial end) rows up)
+    (last_most None (filter (λ i. nat_lt i.serial end) rows) r
+    (rising_filter serial_of (λ i. nat_lt i.serial end) rows up)
     (to_filter (λ i. nat_lt i.serial end) rows r n (lt-ltb r.serial end l))))
     (λ (p : PutBy name r edits).
     later_left r.serial (last_put_below name end edits) (option_map (λ i. i.serial) (last_below end rows))
@@ -141,7 +146,8 @@ last_here end k rows r up l most e = by_found (last_below end rows) refl here
     here = last_most None below r (rising_filter serial_of (λ i. nat_lt i.serial end) rows up)
         (to_filter (λ i. nat_lt i.serial end) rows r at.0 (lt-ltb r.serial end low))
 
-    by_found : (o : Option ItemRow) → last_of None below ≡ o → AtMost r.serial (option_map (λ i. i.serial) o) → o ≡ Some r
+    by_found : (o : Option ItemRow) → last_of None below ≡ o → AtMost r.serial (option_map (λ i. i.serial) o) →
+        o ≡ Some r
     by_found None f h = absurd h
     by_found (Some s) f h = ⊎_elim
         (λ (g : None ≡ Some s). absurd (none-some s g))
@@ -165,7 +171,8 @@ last_lower end k rows l most e =
         by_test : (b : Bool) → nat_lt y.serial end ≡ b → nat_lt y.serial k ≡ b
         by_test true f =
             let top = most y m (ltb-true y.serial end f) in
-            let other : y.serial ≢ k = λ g. true≢false (sym (eq-eqb y.serial k g) ∙ not_found (λ i. i.serial == k) rows e y m) in
+            let other : y.serial ≢ k = λ g. true≢false
+            (sym (eq-eqb y.serial k g) ∙ not_found (λ i. i.serial == k) rows e y m) in
             lt-ltb y.serial k (omega (arith, top, other))
         by_test false f = let high = ltb-false y.serial end f in le-ltb y.serial k (omega (arith, high, l))
 
@@ -230,7 +237,8 @@ pub under_put : (name : List ℕ) (end : ℕ) (o : Option ℕ) (edits : List Edi
     IfSome (last_from name end o edits) (λ k. k < end)
 under_put name end o [] h = h
 under_put name end o (e ∷ es) h =
-    under_put name end (later o (put_below name end e)) es (under_later end o (put_below name end e) h (under_edit name end e))
+    under_put name end (later o (put_below name end e)) es
+    (under_later end o (put_below name end e) h (under_edit name end e))
 
 pub under_row : (n : ℕ) (o : Option ItemRow) → IfSome o (λ i. i.serial < n) →
     IfSome (option_map (λ (i : ItemRow). i.serial) o) (λ k. k < n)

@@ -89,7 +89,8 @@ queues_all t (e ∷ es) name =
     ∙ ap (option_map (queue_after es)) (find_map (edited_queue e) (λ q. same_name q.name name) t.queues)
     ∙ by_found (rows_named t.queues name)
   where
-    by_found : (o : Option QueueRows) → option_map (queue_after es) (option_map (edited_queue e) o) ≡ option_map (queue_after (e ∷ es)) o
+    by_found : (o : Option QueueRows) → option_map (queue_after es) (option_map (edited_queue e) o) ≡
+        option_map (queue_after (e ∷ es)) o
     by_found None = refl
     by_found (Some q) = refl
 
@@ -103,7 +104,8 @@ items_of_queue (e ∷ es) q = items_of_queue es (edited_queue e q)
 
 -- a queue's rows in the tables of a content
 rows_are : (c : Settings) (x : Content) (name : List ℕ) →
-    rows_named (tables c x).queues name ≡ option_map (λ q. queue_rows (item_rows c x.state q) q) (queue_named x.state name)
+    rows_named (tables c x).queues name ≡ option_map (λ q. queue_rows (item_rows c x.state q) q)
+    (queue_named x.state name)
 rows_are c x name = find_map (λ q. queue_rows (item_rows c x.state q) q) (λ r. same_name r.name name) x.state.queues
 
 pub queues_led : (c : Settings) (x : Content) (edits : List Edit) (v : State) (name : List ℕ) → IsLed c x edits v →
@@ -114,10 +116,11 @@ queues_led c x edits v name led =
     ∙ queues_all (tables c x) edits name ∙ ap (option_map (queue_after edits)) (rows_are c x name)
 
 -- a queue of the state is there in the content, and its items are those after the edits
-pub record IsAfter (c : Settings) (x : Content) (edits : List Edit) (v : State) (name : List ℕ) (q : Queue) : Type 0 where
-  pub before : Queue
-  pub named : queue_named x.state name ≡ Some before
-  pub items : items_after name (item_rows c x.state before) edits ≡ item_rows c v q
+pub record IsAfter (c : Settings) (x : Content) (edits : List Edit) (v : State) (name : List ℕ) (q : Queue) : Type 0
+  where
+    pub before : Queue
+    pub named : queue_named x.state name ≡ Some before
+    pub items : items_after name (item_rows c x.state before) edits ≡ item_rows c v q
 
 pub queue_after_is : (c : Settings) (x : Content) (edits : List Edit) (v : State) (name : List ℕ) (q : Queue) →
     IsLed c x edits v → queue_named v name ≡ Some q → IsAfter c x edits v name q
@@ -126,12 +129,14 @@ queue_after_is c x edits v name q led named =
     ∙ queues_led c x edits v name led)
   where
     by_found : (o : Option Queue) → queue_named x.state name ≡ o →
-        Some (queue_rows (item_rows c v q) q) ≡ option_map (queue_after edits) (option_map (λ q. queue_rows (item_rows c x.state q) q) o) →
+        Some (queue_rows (item_rows c v q) q) ≡ option_map (queue_after edits)
+        (option_map (λ q. queue_rows (item_rows c x.state q) q) o) →
         IsAfter c x edits v name q
     by_found None e same = absurd (none-some (queue_rows (item_rows c v q) q) (sym same))
     by_found (Some p) e same =
         let rows = queue_rows (item_rows c x.state p) p in
-        let name_is : p.name ≡ name = same_name_is p.name name (found (λ (r : Queue). same_name r.name name) x.state.queues p e).1 in
+        let name_is : p.name ≡ name = same_name_is p.name name
+        (found (λ (r : Queue). same_name r.name name) x.state.queues p e).1 in
         record {
           before = p;
           named = e;
@@ -165,7 +170,8 @@ queue_led c x edits v name p led named = by_found (queue_named v name) refl (que
     ∙ ap (λ o. option_map (queue_after edits) (option_map (λ q. queue_rows (item_rows c x.state q) q) o)) named)
   where
     by_found : (o : Option Queue) → queue_named v name ≡ o →
-        option_map (λ q. queue_rows (item_rows c v q) q) o ≡ Some (queue_after edits (queue_rows (item_rows c x.state p) p)) →
+        option_map (λ q. queue_rows (item_rows c v q) q) o ≡
+        Some (queue_after edits (queue_rows (item_rows c x.state p) p)) →
         IsQueue v name
     by_found None e same = absurd (none-some (queue_after edits (queue_rows (item_rows c x.state p) p)) same)
     by_found (Some q) e same = record { queue = q; named = e }

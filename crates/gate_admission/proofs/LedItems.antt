@@ -40,7 +40,8 @@ change_led c x edits v name n sound led there =
     let told : AreTold n (queued_of c x.state n) (item_rows c x.state p) =
     λ r m e. subst (λ k. (i : _) × (queued_of c x.state k ≡ Some i) × (i.item.serial ≡ r.serial)) e
     (stored_tells c x.state name p r sound at.named m) in
-    ap (λ o. option_or (item_left n (queued_of c x.state n) (items_after name (option_map_or (item_rows c x.state) o []) edits))
+    ap (λ o. option_or (item_left n (queued_of c x.state n)
+    (items_after name (option_map_or (item_rows c x.state) o []) edits))
     (item_put n (items_after name (option_map_or (item_rows c x.state) o []) edits) edits)) at.named
     ∙ by_change name n (queued_of c x.state n) (item_rows c x.state p) edits rise once told
     ∙ ap (item_in n) at.items

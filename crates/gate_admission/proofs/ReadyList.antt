@@ -97,10 +97,13 @@ approval_put : (n : ℕ) (k : Change) (a : Option ℕ) (rows : List ChangeRow) �
     cond (k.number == n) a (approval_in rows n)
 approval_put n k a rows =
     ap (option_and_then (λ (r : ChangeRow). r.approval))
-    (find_put (λ (r : ChangeRow). r.change.number) n (record { change = k; approval = a }) rows) ∙ by_test (k.number == n)
+    (find_put (λ (r : ChangeRow). r.change.number) n (record { change = k; approval = a }) rows)
+    ∙ by_test (k.number == n)
   where
     by_test : (b : Bool) →
-        option_and_then (λ (r : ChangeRow). r.approval) (cond b (Some (record { change = k; approval = a })) (find (λ (r : ChangeRow). r.change.number == n) rows)) ≡
+        option_and_then (λ (r : ChangeRow). r.approval)
+        (cond b (Some (record { change = k; approval = a }))
+        (find (λ (r : ChangeRow). r.change.number == n) rows)) ≡
         cond b a (approval_in rows n)
     by_test true = refl
     by_test false = refl
@@ -136,7 +139,8 @@ ready_step rows rs k None h =
       there = λ r e. by_test r (n == r.change) refl (sym (approval_put r.change k None rows) ∙ e);
     }
   where
-    by_test : (r : Ready) (b : Bool) → k.number == r.change ≡ b → cond b None (approval_in rows r.change) ≡ Some r.approval →
+    by_test : (r : Ready) (b : Bool) → k.number == r.change ≡ b →
+        cond b None (approval_in rows r.change) ≡ Some r.approval →
         In r (ready_without k.number rs)
     by_test r true f e = absurd (none-some r.approval e)
     by_test r false f e =
@@ -146,8 +150,10 @@ ready_step rows rs k (Some a) h =
     let climbs = climbing_filter (λ (t : Ready). not (t.change == n)) rs h.climbing in
     let others = apart_filter (λ (t : Ready). not (t.change == n)) rs h.apart in
     record {
-      climbing = climbing_join (filter before rest) (new ∷ filter behind rest) (climbing_filter before rest climbs)
-          ((λ t m. ltb-false t.approval a (not-true (nat_lt t.approval a) (from_filter behind rest t m).1)), climbing_filter behind rest climbs)
+      climbing = climbing_join (filter before rest) (new ∷ filter behind rest) (climbing_filter before rest climbs) (
+        (λ t m. ltb-false t.approval a (not-true (nat_lt t.approval a) (from_filter behind rest t m).1)),
+        climbing_filter behind rest climbs,
+      )
           low;
       apart = apart_join (filter before rest) (new ∷ filter behind rest) (apart_filter before rest others)
           ((λ t m e. (other_than n rs t (from_filter behind rest t m).0).1 (sym e)), apart_filter behind rest others)
@@ -155,7 +161,8 @@ ready_step rows rs k (Some a) h =
       told = λ r m. ⊎_elim
           (λ (p : In r (filter before rest)). told r (from_filter before rest r p).0)
           (λ (p : In r (new ∷ filter behind rest)). ⊎_elim
-          (λ (e : new ≡ r). subst (λ (t : Ready). approval_in (edited_changes rows (edit.PutChange k (Some a))) t.change ≡ Some t.approval) e
+          (λ (e : new ≡ r). subst (λ (t : Ready). approval_in (edited_changes rows (edit.PutChange k (Some a)))
+          t.change ≡ Some t.approval) e
           (approval_put n k (Some a) rows ∙ ap (λ b. cond b (Some a) (approval_in rows n)) (eq-eqb n n refl)))
           (λ (q : In r (filter behind rest)). told r (from_filter behind rest r q).0)
           p)
@@ -175,11 +182,13 @@ ready_step rows rs k (Some a) h =
     behind : Ready → Bool
     behind r = not (nat_lt r.approval a)
 
-    told : (r : Ready) → In r rest → approval_in (edited_changes rows (edit.PutChange k (Some a))) r.change ≡ Some r.approval
+    told : (r : Ready) → In r rest → approval_in (edited_changes rows (edit.PutChange k (Some a))) r.change ≡
+        Some r.approval
     told r m =
         let at = other_than k.number rs r m in
         approval_put r.change k (Some a) rows
-        ∙ ap (λ b. cond b (Some a) (approval_in rows r.change)) (ne_eqb k.number r.change (λ e. at.1 (sym e))) ∙ h.told r at.0
+        ∙ ap (λ b. cond b (Some a) (approval_in rows r.change)) (ne_eqb k.number r.change (λ e. at.1 (sym e)))
+        ∙ h.told r at.0
 
     low : (r t : Ready) → In r (filter before rest) → In t (new ∷ filter behind rest) → r.approval ≤ t.approval
     low r t m p =
@@ -191,7 +200,8 @@ ready_step rows rs k (Some a) h =
         omega (arith, under, over))
         p
 
-    other : Apart rest → (r t : Ready) → In r (filter before rest) → In t (new ∷ filter behind rest) → r.change ≢ t.change
+    other : Apart rest → (r t : Ready) → In r (filter before rest) → In t (new ∷ filter behind rest) →
+        r.change ≢ t.change
     other apart r t m p e =
         let left = from_filter before rest r m in
         ⊎_elim
@@ -208,7 +218,8 @@ ready_step rows rs k (Some a) h =
     placed r false f m =
         to_right (filter before rest) (new ∷ filter behind rest) r (inr (to_filter behind rest r m (ap not f)))
 
-    by_test : (r : Ready) (b : Bool) → k.number == r.change ≡ b → cond b (Some a) (approval_in rows r.change) ≡ Some r.approval →
+    by_test : (r : Ready) (b : Bool) → k.number == r.change ≡ b →
+        cond b (Some a) (approval_in rows r.change) ≡ Some r.approval →
         In r (filter before rest ++ (new ∷ filter behind rest))
     by_test r true f e =
         let approval = some_is a r.approval e in
@@ -223,7 +234,8 @@ ready_all : (rows : List ChangeRow) (rs : List Ready) (edits : List Edit) → Ar
     AreReady (fold edited_changes rows edits) (fold ready_after rs edits)
 ready_all rows rs [] h = h
 ready_all rows rs (edit.PutChange k a ∷ es) h =
-    ready_all (edited_changes rows (edit.PutChange k a)) (ready_after rs (edit.PutChange k a)) es (ready_step rows rs k a h)
+    ready_all (edited_changes rows (edit.PutChange k a)) (ready_after rs (edit.PutChange k a)) es
+    (ready_step rows rs k a h)
 ready_all rows rs (edit.PutItem q i ∷ es) h = ready_all rows rs es h
 ready_all rows rs (edit.DropItem k ∷ es) h = ready_all rows rs es h
 ready_all rows rs (edit.PutLanding q p l ∷ es) h = ready_all rows rs es h
@@ -249,7 +261,8 @@ differ : (rs : List Ready) → Rising (λ (r : Ready). r.approval) rs →
     ((r t : Ready) → In r rs → In t rs → r.change ≡ t.change → r ≡ t) → Apart rs
 differ [] up h = tt
 differ (r ∷ rs) up h = (
-  (λ t m e. let same = ap (λ (x : Ready). x.approval) (h r t (inl refl) (inr m) e) in let low = up.0 t m in omega (arith, same, low)),
+  (λ t m e. let same = ap (λ (x : Ready). x.approval) (h r t (inl refl) (inr m) e) in let low = up.0 t m in
+      omega (arith, same, low)),
   differ rs up.1 (λ x t m n e. h x t (inr m) (inr n) e),
 )
 
@@ -258,7 +271,8 @@ apart_ready c s sound =
     differ s.ready (approvals_rise c s sound)
     (λ r t m n e. one_of (λ (x : Ready). x.change) s.ready r t
     (let most = distinct_from (waiting_changes s) sound.waiting_differ r.change in
-    let sum = times-append r.change (map (λ i. i.change) (flat_map (λ q. q.items) s.queues)) (map (λ (x : Ready). x.change) s.ready) in
+    let sum = times-append r.change (map (λ i. i.change) (flat_map (λ q. q.items) s.queues))
+    (map (λ (x : Ready). x.change) s.ready) in
     omega (arith, most, sum)) m n e)
 
 -- an open change is known
@@ -266,7 +280,8 @@ pub open_known : (s : State) (n : ℕ) → is_open (change_of s n) ≡ true → 
 open_known s n is = by_known (known_change s n) refl is
   where
     by_known : (o : Option Change) → known_change s n ≡ o →
-        is_open (unwrap_or o (record { number = n; project = []; revision = 0; stage = stage.Closed; needs = [] })) ≡ true →
+        is_open (unwrap_or o (record { number = n; project = []; revision = 0; stage = stage.Closed; needs = [] })) ≡
+        true →
         (k : Change) × (o ≡ Some k)
     by_known None e f = absurd (true≢false (sym f))
     by_known (Some k) e f = (k, refl)
@@ -278,7 +293,8 @@ row_tells s n =
     ap (option_and_then (λ (r : ChangeRow). r.approval))
     (find_map (change_row s.ready) (λ (r : ChangeRow). r.change.number == n) s.changes) ∙ by_found (known_change s n)
   where
-    by_found : (o : Option Change) → option_and_then (λ (r : ChangeRow). r.approval) (option_map (change_row s.ready) o) ≡
+    by_found : (o : Option Change) → option_and_then (λ (r : ChangeRow). r.approval)
+        (option_map (change_row s.ready) o) ≡
         option_and_then (λ (k : Change). approval_of s.ready k.number) o
     by_found None = refl
     by_found (Some k) = refl
@@ -291,7 +307,8 @@ listed rs r apart m = by_found (find (λ (t : Ready). t.change == r.change) rs) 
   where
     by_found : (o : Option Ready) → find (λ (t : Ready). t.change == r.change) rs ≡ o →
         option_map (λ (t : Ready). t.approval) o ≡ Some r.approval
-    by_found None e = absurd (true≢false (sym (eq-eqb r.change r.change refl) ∙ not_found (λ (t : Ready). t.change == r.change) rs e r m))
+    by_found None e = absurd (true≢false (sym (eq-eqb r.change r.change refl)
+        ∙ not_found (λ (t : Ready). t.change == r.change) rs e r m))
     by_found (Some t) e =
         let at = found (λ (t : Ready). t.change == r.change) rs t e in
         ap (λ (x : Ready). Some x.approval) (apart_same rs t r apart at.0 m (eqb-true t.change r.change at.1))
@@ -316,7 +333,8 @@ ready_of_sound c s sound =
       climbing = climbs s.ready (approvals_rise c s sound);
       apart = apart;
       told = λ r m.
-          let known = open_known s r.change (every (λ (t : Ready). is_open (change_of s t.change) ≡ true) s.ready sound.ready_are_open r m) in
+          let known = open_known s r.change (every (λ (t : Ready). is_open (change_of s t.change) ≡ true) s.ready
+          sound.ready_are_open r m) in
           row_tells s r.change ∙ ap (option_and_then (λ (k : Change). approval_of s.ready k.number)) known.1
           ∙ ap (approval_of s.ready) (number_is s r.change known.0 known.1) ∙ listed s.ready r apart m;
       there = λ r e. by_known r (known_change s r.change) refl (sym (row_tells s r.change) ∙ e);
@@ -354,14 +372,17 @@ same_list (r ∷ rs) (t ∷ ts) climb apart up f g =
 
     rest_g : (x : Ready) → In x ts → In x rs
     rest_g x m = ⊎_elim
-        (λ (e : r ≡ x). let same = ap (λ (y : Ready). y.approval) (sym first ∙ e) in let high = up.0 x m in absurd (omega (arith, same, high)))
+        (λ (e : r ≡ x). let same = ap (λ (y : Ready). y.approval) (sym first ∙ e) in let high = up.0 x m in
+        absurd (omega (arith, same, high)))
         (λ (n : In x rs). n)
         (g x (inr m))
 
 pub ready_led : (c : Settings) (x : Content) (edits : List Edit) (v : State) → IsSound c x.state → IsLed c x edits v →
     fold ready_after x.state.ready edits ≡ v.ready
 ready_led c x edits v sound led =
-    let after = ready_all (map (change_row x.state.ready) x.state.changes) x.state.ready edits (ready_of_sound c x.state sound) in
-    let now = subst (λ rows. AreReady rows v.ready) (sym (changes_led c x edits v led)) (ready_of_sound c v led.sound) in
+    let after = ready_all (map (change_row x.state.ready) x.state.changes) x.state.ready edits
+    (ready_of_sound c x.state sound) in
+    let now = subst (λ rows. AreReady rows v.ready) (sym (changes_led c x edits v led))
+    (ready_of_sound c v led.sound) in
     same_list (fold ready_after x.state.ready edits) v.ready after.climbing after.apart (approvals_rise c v led.sound)
     (λ r m. now.there r (after.told r m)) (λ r m. after.there r (now.told r m))

@@ -84,7 +84,8 @@ find_dropped {X = X} key k d (y ∷ ys) = by_test (key y == d) refl (find_droppe
 
     by_test : (b : Bool) → key y == d ≡ b →
         find (λ r. key r == k) (filter (λ r. not (key r == d)) ys) ≡ cond (d == k) None (find (λ r. key r == k) ys) →
-        find (λ r. key r == k) (cond (not b) (y ∷ filter (λ r. not (key r == d)) ys) (filter (λ r. not (key r == d)) ys))
+        find (λ r. key r == k) (cond (not b) (y ∷ filter (λ r. not (key r == d)) ys)
+        (filter (λ r. not (key r == d)) ys))
         ≡ cond (d == k) None (find (λ r. key r == k) (y ∷ ys))
     by_test true e h = h
         ∙ gone (d == k) (key y == k) (find (λ r. key r == k) ys) (ap (λ n. n == k) (eqb-true (key y) d e))
@@ -99,10 +100,13 @@ find_dropped {X = X} key k d (y ∷ ys) = by_test (key y == d) refl (find_droppe
 change_step : (n : ℕ) (rows : List ChangeRow) (e : Edit) →
     change_in (edited_changes rows e) n ≡ change_put n (change_in rows n) e
 change_step n rows (edit.PutChange k approval) =
-    ap (option_map (λ (r : ChangeRow). r.change)) (find_put (λ (r : ChangeRow). r.change.number) n (record { change = k; approval = approval }) rows)
+    ap (option_map (λ (r : ChangeRow). r.change))
+    (find_put (λ (r : ChangeRow). r.change.number) n (record { change = k; approval = approval }) rows)
     ∙ by_test (k.number == n)
   where
-    by_test : (b : Bool) → option_map (λ (r : ChangeRow). r.change) (cond b (Some (record { change = k; approval = approval })) (row_of rows n)) ≡ cond b (Some k) (change_in rows n)
+    by_test : (b : Bool) → option_map (λ (r : ChangeRow). r.change)
+        (cond b (Some (record { change = k; approval = approval })) (row_of rows n)) ≡
+        cond b (Some k) (change_in rows n)
     by_test true = refl
     by_test false = refl
 change_step n rows (edit.PutItem q i) = refl
@@ -156,7 +160,8 @@ item_step : (name : List ℕ) (serial : ℕ) (rows : List ItemRow) (e : Edit) �
     item_at serial (edited_items name rows e) ≡ item_after name serial (item_at serial rows) e
 item_step name serial rows (edit.PutItem q i) = by_name (same_name q name)
   where
-    by_name : (b : Bool) → item_at serial (cond b (put_by (λ j. j.serial) i rows) rows) ≡ cond (b && i.serial == serial) (Some i) (item_at serial rows)
+    by_name : (b : Bool) → item_at serial (cond b (put_by (λ j. j.serial) i rows) rows) ≡
+        cond (b && i.serial == serial) (Some i) (item_at serial rows)
     by_name true = find_put (λ (j : ItemRow). j.serial) serial i rows
     by_name false = refl
 item_step name serial rows (edit.DropItem k) = find_dropped (λ (j : ItemRow). j.serial) serial k rows

@@ -28,7 +28,8 @@ length_put i (y ∷ ys) r = by_equal (i.serial == y.serial) refl (nat_lt i.seria
         suc (length ys) + one_if (not (is_some (item_at i.serial (y ∷ ys))))
     by_equal true e l f h =
         let there : one_if (not (is_some (item_at i.serial (y ∷ ys)))) ≡ 0 =
-        ap (λ t. one_if (not (is_some (cond t (Some y) (item_at i.serial ys))))) (eq-eqb y.serial i.serial (sym (eqb-true i.serial y.serial e))) in
+        ap (λ t. one_if (not (is_some (cond t (Some y) (item_at i.serial ys)))))
+        (eq-eqb y.serial i.serial (sym (eqb-true i.serial y.serial e))) in
         omega (arith, there)
     by_equal false e true f h =
         let low = ltb-true i.serial y.serial f in
@@ -40,7 +41,8 @@ length_put i (y ∷ ys) r = by_equal (i.serial == y.serial) refl (nat_lt i.seria
         omega (arith, gone)
     by_equal false e false f h =
         let same : item_at i.serial (y ∷ ys) ≡ item_at i.serial ys =
-        ap (λ t. cond t (Some y) (item_at i.serial ys)) (ne_eqb y.serial i.serial (λ g. eqb-false i.serial y.serial e (sym g))) in
+        ap (λ t. cond t (Some y) (item_at i.serial ys))
+        (ne_eqb y.serial i.serial (λ g. eqb-false i.serial y.serial e (sym g))) in
         next (not (is_some (item_at i.serial ys))) h ∙ ap (λ o. suc (length ys) + one_if (not (is_some o))) (sym same)
 
 -- a row that is dropped takes one
@@ -55,7 +57,8 @@ length_drop k (y ∷ ys) r = by_test (y.serial == k) refl (length_drop k ys r.1)
         + one_if (is_some (cond b (Some y) (item_at k ys))) ≡ suc (length ys)
     by_test true e h =
         let none : one_if (is_some (item_at k ys)) ≡ 0 =
-        ap (λ o. one_if (is_some o)) (none_from k ys (λ x m. let up = r.0 x m in let same = eqb-true y.serial k e in omega (arith, up, same))) in
+        ap (λ o. one_if (is_some o)) (none_from k ys
+        (λ x m. let up = r.0 x m in let same = eqb-true y.serial k e in omega (arith, up, same))) in
         omega (arith, none, h)
     by_test false e h = omega (arith, h)
 
@@ -81,7 +84,8 @@ size_step name rows (edit.Keep k) r = refl
 
 -- one edit more
 pub after_more : (name : List ℕ) (rows : List ItemRow) (edits : List Edit) (k : ℕ) (e : Edit) → k < length edits →
-    e ≡ get_or edits k e → items_after name rows (take (k + 1) edits) ≡ edited_items name (items_after name rows (take k edits)) e
+    e ≡ get_or edits k e → items_after name rows (take (k + 1) edits) ≡
+    edited_items name (items_after name rows (take k edits)) e
 after_more name rows [] k e l at = absurd (omega (arith, l))
 after_more name rows (x ∷ xs) zero e l at = ap (λ y. edited_items name rows y) (sym at)
 after_more name rows (x ∷ xs) (suc k) e l at =

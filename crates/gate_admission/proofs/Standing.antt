@@ -38,10 +38,12 @@ place_serials c s q (i ∷ is) = ap (λ ns. i.serial ∷ ns) (place_serials c s 
 pub queue_in : (s : State) (name : List ℕ) (q : Queue) → queue_named s name ≡ Some q → In q s.queues
 queue_in s name q e = (found (λ (r : Queue). same_name r.name name) s.queues q e).0
 
-pub rows_rise : (c : Settings) (s : State) (q : Queue) → IsSound c s → In q s.queues → Rising serial_of (item_rows c s q)
+pub rows_rise : (c : Settings) (s : State) (q : Queue) → IsSound c s → In q s.queues →
+    Rising serial_of (item_rows c s q)
 rows_rise c s q sound there =
     rising serial_of (item_rows c s q)
-    (subst IsStrictlyIncreasing (sym (serials_behind s.builds [] (map (place_of c s q) q.items) ∙ place_serials c s q q.items))
+    (subst IsStrictlyIncreasing (sym (serials_behind s.builds [] (map (place_of c s q) q.items)
+    ∙ place_serials c s q q.items))
     (every (λ (r : Queue). IsStrictlyIncreasing (map (λ i. i.serial) r.items)) s.queues sound.items_rise q there))
 
 pub items_rise : (c : Settings) (s : State) (name : List ℕ) → IsSound c s → Rising serial_of (items_in c s name)
@@ -83,7 +85,8 @@ row_once c s q sound there r t m n e =
     let same = (change_alone c s sound q q i.item j.item there there i.there j.there (i.change ∙ e ∙ sym j.change)).1 in
     let serials : r.serial ≡ t.serial = sym i.serial ∙ ap (λ (k : Item). k.serial) same ∙ j.serial in
     let up = rows_rise c s q sound there in
-    some_inj r t (sym (at_there (item_rows c s q) r up m) ∙ ap (λ k. find (λ (x : ItemRow). x.serial == k) (item_rows c s q)) serials
+    some_inj r t (sym (at_there (item_rows c s q) r up m)
+    ∙ ap (λ k. find (λ (x : ItemRow). x.serial == k) (item_rows c s q)) serials
     ∙ at_there (item_rows c s q) t up n)
   where
     some_inj : (a b : ItemRow) → Some a ≡ Some b → a ≡ b
@@ -111,8 +114,10 @@ stored_tells c s name q r sound named m = by_found (queued_of c s r.change) refl
         (k : QueuedItem) × (o ≡ Some k) × (k.item.serial ≡ r.serial)
     by_found None e =
         let own : In (record { queue = q.name; item = r }) all =
-        to_flat rows s.queues q (record { queue = q.name; item = r }) there (to_map (λ i. record { queue = q.name; item = i }) (item_rows c s q) r m) in
-        absurd (true≢false (sym (eq-eqb r.change r.change refl) ∙ not_found test all e (record { queue = q.name; item = r }) own))
+        to_flat rows s.queues q (record { queue = q.name; item = r }) there
+        (to_map (λ i. record { queue = q.name; item = i }) (item_rows c s q) r m) in
+        absurd (true≢false (sym (eq-eqb r.change r.change refl)
+        ∙ not_found test all e (record { queue = q.name; item = r }) own))
     by_found (Some k) e =
         let at = found test all k e in
         let part = from_flat rows s.queues k at.0 in
@@ -131,11 +136,13 @@ pub row_drawn : (c : Settings) (s : State) (q : Queue) (r : ItemRow) → IsSound
 row_drawn c s q r sound there m =
     let i = row_is_of c s q r m in
     let own : In i.item.serial (serials_of q) =
-    to_left (map (λ (x : Item). x.serial) q.items) (map (λ x. x.serial) q.reports) i.item.serial (to_map (λ (x : Item). x.serial) q.items i.item i.there) in
+    to_left (map (λ (x : Item). x.serial) q.items) (map (λ x. x.serial) q.reports) i.item.serial
+    (to_map (λ (x : Item). x.serial) q.items i.item i.there) in
     let all : In i.item.serial (drawn_serials s) =
     to_left (flat_map serials_of s.queues) (map (λ (b : Build). b.serial) s.builds) i.item.serial
     (to_flat serials_of s.queues q i.item.serial there own) in
-    let low = leb-true i.item.serial s.counters.order (every (λ n. nat_le n s.counters.order ≡ true) (drawn_serials s) sound.serials_are_drawn i.item.serial all) in
+    let low = leb-true i.item.serial s.counters.order
+    (every (λ n. nat_le n s.counters.order ≡ true) (drawn_serials s) sound.serials_are_drawn i.item.serial all) in
     let e = i.serial in
     omega (arith, low, e)
 

@@ -40,7 +40,8 @@ same_counters c s (suc n) =
 -- one is past the last number
 past_one : (a b o : ℕ) → (nat_lt 1000000000000000 a || nat_lt 1000000000000000 b || nat_lt 1000000000000000 o) ≡ true →
     1000000000000000 < max a (max b o)
-past_one a b o h = by_tests (nat_lt 1000000000000000 a) refl (nat_lt 1000000000000000 b) refl (nat_lt 1000000000000000 o) refl h
+past_one a b o h = by_tests (nat_lt 1000000000000000 a) refl (nat_lt 1000000000000000 b) refl
+    (nat_lt 1000000000000000 o) refl h
   where
     by_tests : (p : Bool) → nat_lt 1000000000000000 a ≡ p → (q : Bool) → nat_lt 1000000000000000 b ≡ q → (r : Bool) →
         nat_lt 1000000000000000 o ≡ r → (p || q || r) ≡ true → 1000000000000000 < max a (max b o)
@@ -50,9 +51,11 @@ past_one a b o h = by_tests (nat_lt 1000000000000000 a) refl (nat_lt 10000000000
     by_tests false e false f false g k = absurd (true≢false (sym k))
 
 -- none is
-pub none_past : (a b o : ℕ) → (nat_lt 1000000000000000 a || nat_lt 1000000000000000 b || nat_lt 1000000000000000 o) ≡ false →
+pub none_past : (a b o : ℕ) → (nat_lt 1000000000000000 a || nat_lt 1000000000000000 b || nat_lt 1000000000000000 o) ≡
+    false →
     (a ≤ 1000000000000000) × (b ≤ 1000000000000000) × (o ≤ 1000000000000000)
-none_past a b o h = by_tests (nat_lt 1000000000000000 a) refl (nat_lt 1000000000000000 b) refl (nat_lt 1000000000000000 o) refl h
+none_past a b o h = by_tests (nat_lt 1000000000000000 a) refl (nat_lt 1000000000000000 b) refl
+    (nat_lt 1000000000000000 o) refl h
   where
     by_tests : (p : Bool) → nat_lt 1000000000000000 a ≡ p → (q : Bool) → nat_lt 1000000000000000 b ≡ q → (r : Bool) →
         nat_lt 1000000000000000 o ≡ r → (p || q || r) ≡ false →
@@ -73,7 +76,8 @@ past_stays c v h =
     let same = same_counters c v n in
     let more = order_rises c v n in
     ap is_exhausted (admit_tries c v)
-    ∙ lt-ltb 1000000000000000 (max (tries c v n).counters.approval (max (tries c v n).counters.build (tries c v n).counters.order))
+    ∙ lt-ltb 1000000000000000 (max (tries c v n).counters.approval
+    (max (tries c v n).counters.build (tries c v n).counters.order))
     (omega (arith, past, same.0, same.1, more))
 
 -- where no serial is left for one, the counter passes the last number
@@ -84,7 +88,8 @@ runs_out c v m r l e h =
     let n = length v.ready in
     let past = ltb-true 1000000000000000 (tries c v n).counters.order (none_left c v m n r l e h) in
     ap is_exhausted (admit_tries c v)
-    ∙ lt-ltb 1000000000000000 (max (tries c v n).counters.approval (max (tries c v n).counters.build (tries c v n).counters.order))
+    ∙ lt-ltb 1000000000000000 (max (tries c v n).counters.approval
+    (max (tries c v n).counters.build (tries c v n).counters.order))
     (omega (arith, past))
 
 -- ---- the end

@@ -23,7 +23,8 @@ last_put n edits = fold (change_put n) None edits
 abbrev pub with_approval : Option ℕ → ℕ → List Ready → List Ready
 with_approval None n ready = ready
 with_approval (Some a) n ready =
-    filter (λ r. nat_lt r.approval a) ready ++ (record { approval = a; change = n } ∷ filter (λ r. not (nat_lt r.approval a)) ready)
+    filter (λ r. nat_lt r.approval a) ready ++
+    (record { approval = a; change = n } ∷ filter (λ r. not (nat_lt r.approval a)) ready)
 
 -- the ready list without a change
 abbrev pub ready_without : ℕ → List Ready → List Ready
@@ -87,7 +88,8 @@ later (Some a) (Some b) = Some (max a b)
 
 -- the serial that an edit puts into a queue, if it is below this one
 abbrev pub put_below : List ℕ → ℕ → Edit → Option ℕ
-put_below name below (edit.PutItem queue i) = if same_name queue name && nat_lt i.serial below then Some i.serial else None
+put_below name below (edit.PutItem queue i) =
+    if same_name queue name && nat_lt i.serial below then Some i.serial else None
 put_below name below _ = None
 
 -- the greatest of these

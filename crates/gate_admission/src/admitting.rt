@@ -53,3 +53,6 @@ pub fn admitting<B: Book>(
     }
     Ok(Some(edits))
 }
+
+#[cfg(test)]
+mod tests;

@@ -189,7 +189,8 @@ fn ahead_behind<B: Book>(
     next: Serial,
 ) -> Result<Option<Serial>, BookFault>
     ensures found { OfLed B.IsTrusted B.Holds book.old book.new edits.now (λ c v.
-        IsQueue v queue.now → next ≡ v.counters.order + 1 → IfOk result (λ ahead. ahead ≡ ahead_behind (items_in c v queue.now))) }
+        IsQueue v queue.now → next ≡ v.counters.order + 1 →
+        IfOk result (λ ahead. ahead ≡ ahead_behind (items_in c v queue.now))) }
     ensures kept { IsKept B.IsTrusted B.Holds B.LeavesOneOf book.old book.new }
 {
     Ok(ahead_after(last_item(book, edits, queue, next)?))

@@ -4,7 +4,7 @@
 pub mod admitting;
 mod counted;
 mod entering;
-mod items;
-mod known;
+pub mod items;
+pub mod known;
 mod ready;
 mod room;

@@ -16,7 +16,7 @@ use gate_raw::touched::{Event, TouchedItem};
 use gate_types::config::{Config, Queue};
 use gate_types::names::Name;
 use gate_types::records::Verdict;
-use gate_walk::seen::same_name;
+use gate_queue::slots::same_name;
 use gate_walk::walk::{QueueFacts, TakenOut, Touched, Walk};
 use std::alloc::Global;
 

@@ -17,7 +17,8 @@ use gate_types::deliveries::Ending;
 use gate_types::names::NoMemory;
 use gate_types::numbers::{ChangeNo, Serial};
 use gate_types::records::{Build, Change, Outcome, Stage};
-use gate_walk::seen::{SeenNeed, same_name};
+use gate_queue::slots::same_name;
+use gate_walk::seen::SeenNeed;
 use std::alloc::Global;
 
 /// Whether the item left its queue.

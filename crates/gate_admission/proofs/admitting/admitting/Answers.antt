@@ -14,7 +14,8 @@ returns-then-is_past-clause-admitted g c = λ trusted x holds lawful v sound lea
     let led : IsLed s x c.args.edits.items v = record { sound = sound; leads = leads } in
     let so_far = subst (λ es. IsLed s x es v) (sym c.as_slice.ensures.value) led in
     past_stays s v
-    (ap (λ (d : Drawn). nat_lt 1000000000000000 d.approval || nat_lt 1000000000000000 d.build || nat_lt 1000000000000000 d.order)
+    (ap (λ (d : Drawn). nat_lt 1000000000000000 d.approval || nat_lt 1000000000000000 d.build || nat_lt
+    1000000000000000 d.order)
     (sym (c.in_ok-drawn.ensures.found trusted s x holds lawful v so_far))
     ∙ sym c.is_past.ensures ∙ c.if-is_past.true)
 
@@ -37,7 +38,13 @@ loop-try-init g c =
           let b : drawn.build ≡ v.counters.build = ap (λ (d : Drawn). d.build) counters in
           let o : drawn.order ≡ v.counters.order = ap (λ (d : Drawn). d.order) counters in
           let many : vec_len c.in_ok-ready_list.field-0 ≡ length c.in_ok-ready_list.field-0.items = search rules in (
-            record { led = led; order = sym (order ∙ o); approval = omega (arith, a, few.0); build = omega (arith, b, few.1) },
+            record {
+              led = led;
+              order = sym (order ∙ o);
+              approval = omega (arith, a, few.0);
+              build =
+                  omega (arith, b, few.1);
+            },
             c.len-tries.ensures ∙ many ∙ ap length (c.in_ok-ready_list.ensures.found trusted s x next lawful v so_far2),
           );
     }
@@ -56,7 +63,8 @@ loop-try-preserved g c = record {
       let u = tries s v c.loop-try._try in
       let so_far = subst (λ es. IsLed s x es u) (sym c.as_slice-in-loop-try.ensures.value) under.0.led in
       let first = sym (c.in_ok-ready.ensures.found two x start lawful u so_far) ∙ c.in-Some.is in (
-        one_more s x c.loop-try.edits.items c.in_ok-edits.edits.items c.loop-try.order v c.loop-try._try c.in-Some.ready under.0 first
+        one_more s x c.loop-try.edits.items c.in_ok-edits.edits.items c.loop-try.order v c.loop-try._try
+            c.in-Some.ready under.0 first
             (c.in_ok-edits.ensures.led trusted x next lawful u under.0.led first
             (c.in-Some-new.ensures.value ∙ ap (λ n. n + 1) (sym under.0.order))),
         under.1,
@@ -87,7 +95,8 @@ returns-in_default-new-clause-admitted g c = λ trusted x holds lawful v sound l
     let so_far = subst (λ es. IsLed s x es u) (sym c.as_slice-in-loop-try.ensures.value) under.0.led in
     let first = sym (c.in_ok-ready.ensures.found trusted x start lawful u so_far) ∙ c.in-Some.is in
     let last : 1000000000000000 ≤ c.loop-try.order = ⊎_elim
-    (λ (l : c.loop-try.order < 1000000000000000). absurd (false≢true (c.in_default-new.ensures.range.1 (omega arith, omega arith))))
+    (λ (l : c.loop-try.order < 1000000000000000). absurd
+    (false≢true (c.in_default-new.ensures.range.1 (omega arith, omega arith))))
     (λ (l : 1000000000000000 ≤ c.loop-try.order). l)
     (cases_lt c.loop-try.order 1000000000000000) in
     runs_out s v c.loop-try._try c.in-Some.ready (omega (arith, c.loop-try-test.true, under.1)) first
@@ -98,6 +107,8 @@ returns-clause-admitted g c = λ trusted x holds lawful v sound leads.
     let s = c.args.config.now in
     let led : IsLed s x c.args.edits.items v = record { sound = sound; leads = leads } in
     let under = c.loop-try.invariant.found trusted x holds lawful v led in
-    let all : c.loop-try._try ≡ length v.ready = omega (arith, c.loop-try-test.false, under.1, c.loop-try.auto._try-end) in
-    at_the_end s x c.loop-try.edits.items c.loop-try.order v (tries s v c.loop-try._try) c.loop-try.invariant.order under.0
+    let all : c.loop-try._try ≡ length v.ready =
+    omega (arith, c.loop-try-test.false, under.1, c.loop-try.auto._try-end) in
+    at_the_end s x c.loop-try.edits.items c.loop-try.order v (tries s v c.loop-try._try) c.loop-try.invariant.order
+    under.0
     (admit_tries s v ∙ ap (tries s v) (sym all))

@@ -25,7 +25,8 @@ returns-in_default-clause-led g c = λ trusted x holds lawful v led first serial
     let known = c.in_ok-known.ensures.found trusted s x holds lawful v so_far in
     let may = (found (may_enter s v) v.ready c.args.ready first).1 in
     absurd (true≢false (sym may ∙ no_project s v c.args.ready named
-    (ap (λ (n : List ℕ). find (λ p. same_name p.name n) s.projects) (sym (project_is v c.args.ready.change c.in_ok-known.known known))
+    (ap (λ (n : List ℕ). find (λ p. same_name p.name n) s.projects)
+    (sym (project_is v c.args.ready.change c.in_ok-known.known known))
     ∙ sym c.project_of.ensures ∙ ap option_copied c.in_default.is)))
 
 pub returns-in_default-known-clause-led : goal.returns-in_default-known-clause-led
@@ -56,19 +57,23 @@ returns-clause-led g c = λ trusted x holds lawful v led first serial.
     let told = c.in_ok-known.ensures.found zero s x holds lawful v so_far in
     let known : known_change v n ≡ Some k = sym told ∙ c.in-Some-known.is in
     let number : k.number ≡ n = number_is v n k known in
-    let project = ap (λ (m : List ℕ). find (λ p. same_name p.name m) s.projects) (sym (project_is v n c.in_ok-known.known told))
+    let project = ap (λ (m : List ℕ). find (λ p. same_name p.name m) s.projects)
+    (sym (project_is v n c.in_ok-known.known told))
     ∙ sym c.in-Some.ensures in
     let may = (found (may_enter s v) v.ready c.args.ready first).1 in
     let place = sym (in_project s v c.args.ready c.in-Some.project.now named project) ∙ may in
     let queue = place_there v c.in-Some.project.now.queue (needs_of v n) place in
     let needs = c.as_slice-4.ensures.value ∙ c.in_ok-needs.ensures.found one s x next lawful v so_far2
     ∙ needs_are v n c.in_ok-known.known told ∙ ap (needs_of v) (sym number) in
-    let row = c.in_ok-row.ensures.found trusted s x last lawful v so_far3 (ap (known_change v) number ∙ known) needs queue serial in
+    let row = c.in_ok-row.ensures.found trusted s x last lawful v so_far3 (ap (known_change v) number ∙ known) needs
+    queue serial in
     let copied = c.in_ok-copy.ensures in
     let row_is = row
     ∙ ap (λ o. entering_row v (option_map_or (item_rows s v) o []) k.number) queue.named
     ∙ ap (λ m. entering_row v (item_rows s v queue.queue) m) number in
     subst (λ es. IsLed s x es (entered s v c.args.ready))
-    (sym (c.in_ok-with_entering.ensures ∙ ap (λ name. c.args.edits.items ++ entering_edits name k c.in_ok-row.row) copied))
-    (entering_leads s x c.args.edits.items v c.args.ready k c.in-Some.project.now.queue queue.queue c.in_ok-row.row sound led first known
+    (sym (c.in_ok-with_entering.ensures ∙ ap (λ name. c.args.edits.items ++ entering_edits name k c.in_ok-row.row)
+    copied))
+    (entering_leads s x c.args.edits.items v c.args.ready k c.in-Some.project.now.queue queue.queue c.in_ok-row.row
+    sound led first known
     (queue_is s v n c.in-Some.project.now project) queue.named row_is)

@@ -37,5 +37,6 @@ loop-waiting-preserved g c = record {
 
 pub returns-clause-found : goal.returns-clause-found
 returns-clause-found g c = λ trusted x holds lawful v led.
-    sym (find_end (may_enter c.args.config.now v) c.deref-waiting-items.result.now c.loop-waiting.waiting-index c.loop-waiting-test.false)
+    sym (find_end (may_enter c.args.config.now v) c.deref-waiting-items.result.now c.loop-waiting.waiting-index
+    c.loop-waiting-test.false)
     ∙ c.loop-waiting.invariant.found trusted x holds lawful v led

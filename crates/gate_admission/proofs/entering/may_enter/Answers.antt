@@ -14,7 +14,8 @@ returns-in_default-clause-found g c = λ trusted x holds lawful v led.
     let named = are_named s x v sound lawful led.sound in
     let known = c.in_ok-known.ensures.found trusted s x holds lawful v led in
     sym (no_project s v c.args.ready named
-    (ap (λ (n : List ℕ). find (λ p. same_name p.name n) s.projects) (sym (project_is v c.args.ready.change c.in_ok-known.known known))
+    (ap (λ (n : List ℕ). find (λ p. same_name p.name n) s.projects)
+    (sym (project_is v c.args.ready.change c.in_ok-known.known known))
     ∙ sym c.project_of.ensures ∙ ap option_copied c.in_default.is))
 
 pub returns-clause-found : goal.returns-clause-found
@@ -28,7 +29,8 @@ returns-clause-found g c = λ trusted x holds lawful v led.
     let next = c.in_ok-known.ensures.kept.holds_on zero s x holds in
     let then = c.in_ok-needs.ensures.kept.holds_on one s x next in
     let may = in_project s v c.args.ready c.in-Some.project.now named
-    (ap (λ (n : List ℕ). find (λ p. same_name p.name n) s.projects) (sym (project_is v c.args.ready.change c.in_ok-known.known known))
+    (ap (λ (n : List ℕ). find (λ p. same_name p.name n) s.projects)
+    (sym (project_is v c.args.ready.change c.in_ok-known.known known))
     ∙ sym c.in-Some.ensures) in
     let needs = c.as_slice.ensures.value ∙ c.in_ok-needs.ensures.found one s x next lawful v led
     ∙ needs_are v c.args.ready.change c.in_ok-known.known known in

@@ -19,7 +19,8 @@ returns-in-Some-2-clause-found g c = λ trusted s x holds lawful.
     let start = c.loop-serial.invariant.kept.holds_on zero s x holds in
     let next = c.in_ok-serial.ensures.kept.holds_on one s x start in
     let low = subst (λ o. IfSome o (λ n. n < c.loop-serial.end)) c.in-Some.is c.in_ok-serial.ensures.falls in
-    sym (last_here c.loop-serial.end c.in-Some.serial all c.in-Some-2.item (rising_after name rows c.args.edits.now up) low
+    sym (last_here c.loop-serial.end c.in-Some.serial all c.in-Some-2.item
+    (rising_after name rows c.args.edits.now up) low
     (most_of name c.loop-serial.end c.in-Some.serial rows c.args.edits.now up
     (sym (c.in_ok-serial.ensures.found one s x start lawful) ∙ c.in-Some.is))
     (sym (c.in_ok-item.ensures.found trusted s x next lawful) ∙ c.in-Some-2.is))

@@ -12,4 +12,5 @@ returns-clause-found g c = λ trusted s x holds lawful.
     c.at_serial.ensures
     ∙ ap (option_and_then (if_at c.args.serial)) (c.in_ok-next_item.ensures.found trusted s x holds lawful
     ∙ ap (λ n. first_above (n - 1) rows) c.get.ensures.value)
-    ∙ sym (at_by_above c.args.serial rows c.get.ensures.range.0 (items_rise s x.state c.args.queue.now lawful.lawful.sound))
+    ∙ sym (at_by_above c.args.serial rows c.get.ensures.range.0
+    (items_rise s x.state c.args.queue.now lawful.lawful.sound))

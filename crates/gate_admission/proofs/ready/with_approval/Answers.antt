@@ -13,8 +13,10 @@ returns c =
     let before = filter (λ (r : Ready). nat_lt r.approval a) rs in
     let behind = filter (λ (r : Ready). not (nat_lt r.approval a)) rs in
     let first : c.in_ok-all.all.items ≡ before =
-    c.in_ok-all.ensures ∙ (λ i. c.new.ensures.items i ++ filter (λ (r : Ready). nat_lt r.approval a) (c.as_slice.ensures.value i)) in
-    let second : c.push.new.self.items ≡ before ++ row ∷ [] = c.in_ok-push.ensures.items ∙ ap (λ l. l ++ row ∷ []) first in
+    c.in_ok-all.ensures ∙ (λ i. c.new.ensures.items i ++ filter (λ (r : Ready). nat_lt r.approval a)
+    (c.as_slice.ensures.value i)) in
+    let second : c.push.new.self.items ≡ before ++ row ∷ [] = c.in_ok-push.ensures.items
+    ∙ ap (λ l. l ++ row ∷ []) first in
     IfOk-weaker c.push_behind.result _ _
     (λ all e. e ∙ (λ i. second i ++ filter (λ (r : Ready). not (nat_lt r.approval a)) (c.as_slice-2.ensures.value i))
     ∙ append_assoc before (row ∷ []) behind ∙ sym (ap (λ o. with_approval o c.args.change rs) c.in-Some.is))

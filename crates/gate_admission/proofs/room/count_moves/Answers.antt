@@ -11,8 +11,10 @@ use Rattle.gate_admission.proofs.room.count_moves.Goals as goal
 pub loop-index-preserved : goal.loop-index-preserved
 loop-index-preserved g c = record {
   kept = then (then c.loop-index.invariant.kept c.in_ok-is_more.ensures.kept) c.in_ok-is_less.ensures.kept;
-  added = let one = one_if_most c.in_ok-is_more.is_more in omega (arith, one, c.one_more_if-added.ensures, c.loop-index.invariant.added);
-  dropped = let one = one_if_most c.in_ok-is_less.is_less in omega (arith, one, c.one_more_if-dropped.ensures, c.loop-index.invariant.dropped);
+  added = let one = one_if_most c.in_ok-is_more.is_more in
+      omega (arith, one, c.one_more_if-added.ensures, c.loop-index.invariant.added);
+  dropped = let one = one_if_most c.in_ok-is_less.is_less in
+      omega (arith, one, c.one_more_if-dropped.ensures, c.loop-index.invariant.dropped);
   found = λ trusted s x holds lawful.
       let name = c.args.queue.now in
       let edits = c.args.edits.now in
@@ -25,7 +27,8 @@ loop-index-preserved g c = record {
       let zero = c.in_ok-is_more.ensures.kept.trusted_before one in
       let start = c.loop-index.invariant.kept.holds_on zero s x holds in
       let next = c.in_ok-is_more.ensures.kept.holds_on one s x start in
-      let more : length (items_after name rows (take (c.loop-index.index + 1) edits)) ≡ length (edited_items name all e) =
+      let more : length (items_after name rows (take (c.loop-index.index + 1) edits)) ≡
+      length (edited_items name all e) =
       ap length (after_more name rows edits c.loop-index.index e c.loop-index-test.true c.index-edits-index.is) in
       let is_more : one_if c.in_ok-is_more.is_more ≡ one_if (grows name all e) =
       ap one_if (c.in_ok-is_more.ensures.found one s x start lawful) in
