@@ -7,5 +7,9 @@ mod jobs;
 mod known;
 pub mod next_build;
 pub mod orders;
+#[cfg(test)]
+mod scene;
 mod shown;
 pub mod standing;
+#[cfg(test)]
+mod tests;
