@@ -1,7 +1,7 @@
 //! The gate: deliveries in, replies out, each exactly one step of the plain gate.
 #![tactic(auto)]
 
-mod engine;
+pub mod engine;
 pub mod fault;
 pub mod gate;
 mod keeper;

@@ -22,7 +22,7 @@ pub const RECORDED: &str = "{\"reply\":\"recorded\"}\n";
 pub const WAITING: &str = "{\"reply\":\"waiting\"}\n";
 
 /// The queue `core` with its projects `lib` and `app`.
-const CORE: &str = r#"
+pub const CORE: &str = r#"
 [forge]
 base = "https://forge/c/"
 

@@ -8,6 +8,8 @@ mod faults;
 #[cfg(test)]
 mod gates;
 #[cfg(test)]
+mod landings;
+#[cfg(test)]
 mod lines;
 #[cfg(test)]
 mod queues;

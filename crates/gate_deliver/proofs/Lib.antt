@@ -1,0 +1,5 @@
+mod Results
+mod KeptReply
+mod NextContents
+mod Steps
+mod Placed

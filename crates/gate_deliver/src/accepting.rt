@@ -1,0 +1,54 @@
+//! An accepted delivery: its reply is kept, and all edits are applied at once.
+ghost use Rattle.std.specs.Prelude.{◌≡◌, ◌++◌, ◌∷◌, [], IfOk, OnErr};
+ghost use Rattle.gate_types.specs.Settings.{Settings};
+ghost use Rattle.gate_types.specs.State.{State};
+ghost use Rattle.gate_types.specs.Once.{Content};
+ghost use Rattle.gate_types.specs.Forms.{IsLawfulContent};
+ghost use Rattle.gate_types.specs.Tables.{Leads};
+ghost use Rattle.gate_book.specs.Kept.{OfHeld};
+ghost use Rattle.gate_raw.specs.Moves.{in_state};
+ghost use Rattle.gate_deliver.specs.Ruled.{kept_on, IsAccepted, IsSpared};
+
+use gate_book::book::Book;
+use gate_book::fault::BookFault;
+use gate_types::deliveries::{Answer, Reply};
+use gate_types::edits::Edit;
+use gate_types::names::{NoMemory, Text};
+use gate_types::records::{Id, Kept};
+use gate_wire::write_reply;
+use std::alloc::Global;
+
+/// Keeps the reply, and applies all edits at once. No memory is taken once they are applied.
+pub fn accept<B: Book>(
+    alloc: Global,
+    book: &mut B,
+    id: Id,
+    said: Text,
+    reply: &Reply,
+    edits: Vec<Edit>,
+) -> Result<Answer, BookFault>
+    ensures ok { OfHeld B.IsTrusted B.Holds book.old book.new (λ c x. (u : State) →
+        IsLawfulContent c (kept_on x u id said reply.now) → Leads c x edits.items (in_state x u) →
+        IfOk result (λ a. IsAccepted (kept_on x u id said reply.now) reply.now a (B.Holds book.new c)
+        (B.LeavesOneOf book.new c))) }
+    ensures err { OfHeld B.IsTrusted B.Holds book.old book.new (λ c x. (u : State) →
+        IsLawfulContent c (kept_on x u id said reply.now) → Leads c x edits.items (in_state x u) →
+        OnErr result (IsSpared x (kept_on x u id said reply.now) (B.Holds book.new c)
+        (B.LeavesOneOf book.old c) (B.LeavesOneOf book.new c))) }
+    ensures trusted { B.IsTrusted book.new → B.IsTrusted book.old }
+{
+    let text = Text::new(write_reply(alloc, reply)?);
+    let reply = text.copy()?;
+    let edits = with_edit(edits, Edit::Keep(Kept { id, said, reply }))?;
+    book.apply(&edits)?;
+    Ok(Answer::Said(text))
+}
+
+/// The edits and one more.
+fn with_edit(edits: Vec<Edit>, edit: Edit) -> Result<Vec<Edit>, NoMemory>
+    ensures { IfOk result (λ all. all.items ≡ edits.items ++ edit ∷ []) }
+{
+    let mut all = edits;
+    all.push(edit)?;
+    Ok(all)
+}

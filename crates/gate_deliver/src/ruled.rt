@@ -1,0 +1,86 @@
+//! What becomes of a delivery under a new id, before anything changes.
+ghost use Rattle.std.specs.Prelude.{◌≡◌, ◌++◌, IfOk};
+ghost use Rattle.gate_types.specs.declared.deliveries.Delivery.{Delivery as DeliveryOf};
+ghost use Rattle.gate_book.specs.Kept.{OfHeldUnder, IsKept};
+ghost use Rattle.gate_raw.specs.Raw.{IsMoved};
+ghost use Rattle.gate_deliver.specs.Ruled.{IsRuled};
+
+use crate::speaking::speak;
+use gate_admission::admitting::admitting;
+use gate_book::book::Book;
+use gate_book::fault::BookFault;
+use gate_laws::{runs, settling as settling_laws};
+use gate_raw::raw::{Moved, Raw};
+use gate_ruling::raw::raw;
+use gate_settling::settling::settling;
+use gate_types::config::Config;
+use gate_types::deliveries::{Delivery, Refusal, Reply};
+use gate_types::edits::Edit;
+use gate_types::names::NoMemory;
+use std::alloc::Global;
+
+/// A delivery is refused; or it is accepted, with its reply, and these edits lead to its state.
+#[derive(Drop)]
+pub enum Ruled {
+    Refused(Refusal),
+    Accepted(Reply, Vec<Edit>),
+}
+
+/// Rules on a delivery under a new id. This only reads.
+pub fn rule<B: Book>(
+    alloc: Global,
+    book: &mut B,
+    config: &Config,
+    delivery: &Delivery,
+) -> Result<Ruled, BookFault>
+    ensures ruled { OfHeldUnder B.IsTrusted B.Holds book.old book.new config.now (λ x.
+        IfOk result (IsRuled config.now x delivery.now)) }
+    ensures kept { IsKept B.IsTrusted B.Holds B.LeavesOneOf book.old book.new }
+{
+    match raw(alloc, book, config, delivery)? {
+        Raw::Refused(refusal) => Ok(Ruled::Refused(refusal)),
+        Raw::Stands(reply) => Ok(Ruled::Accepted(reply, Vec::new(alloc))),
+        Raw::Moved(moved) => settle(alloc, book, config, moved),
+    }
+}
+
+/// Settles what was moved, and says the reply.
+fn settle<B: Book>(
+    alloc: Global,
+    book: &mut B,
+    config: &Config,
+    moved: Moved,
+) -> Result<Ruled, BookFault>
+    ensures ruled { OfHeldUnder B.IsTrusted B.Holds book.old book.new config.now (λ x. (d : DeliveryOf) →
+        IsMoved config.now x d moved → IfOk result (IsRuled config.now x d)) }
+    ensures kept { IsKept B.IsTrusted B.Holds B.LeavesOneOf book.old book.new }
+{
+    let _settings = &config.base;
+    runs::raw_step_is_sound();
+    settling_laws::rebase_is_sound();
+    settling_laws::sweep_is_sound();
+    settling_laws::admit_is_sound();
+    let Moved {
+        said,
+        edits,
+        touched,
+    } = moved;
+    let settled = joined(edits, settling(alloc, book, config, &touched)?)?;
+    match admitting(alloc, book, config, settled)? {
+        Some(all) => {
+            let reply = speak(book, config, said, &all)?;
+            Ok(Ruled::Accepted(reply, all))
+        }
+        None => Ok(Ruled::Refused(Refusal::Exhausted)),
+    }
+}
+
+/// The edits, and then these.
+fn joined(edits: Vec<Edit>, more: Vec<Edit>) -> Result<Vec<Edit>, NoMemory>
+    ensures { IfOk result (λ all. all.items ≡ edits.items ++ more.items) }
+{
+    let mut all = edits;
+    let mut more = more;
+    all.append(&mut more)?;
+    Ok(all)
+}

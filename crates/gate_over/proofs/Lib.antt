@@ -1,0 +1,2 @@
+mod LandingLemmas
+pub mod ReplyLemmas

@@ -1,0 +1,23 @@
+//! The gate as what answers lines.
+use crate::gate::Gate;
+use gate_book::book::Book;
+use gate_core::engine::{Respond, Said};
+use gate_types::deliveries::Answer;
+use gate_wire::{Door, read_delivery};
+use std::alloc::Global;
+
+impl<B: Book> Respond for Gate<B> {
+    ghost use Rattle.gate_over.specs.Held.{Tells};
+
+    ghost replies = { Tells B.IsTrusted B.Holds };
+
+    fn respond(&mut self, alloc: Global, line: &[u8]) -> Said {
+        match read_delivery(alloc, line, Door::Any) {
+            Ok((id, delivery)) => match self.deliver(alloc, id, delivery) {
+                Answer::Said(text) => Said::Text(text.into_string()),
+                Answer::Refused(refusal) => Said::Refused(refusal.text()),
+            },
+            Err(refusal) => Said::Refused(refusal.text()),
+        }
+    }
+}
