@@ -37,7 +37,8 @@ closed_acts said false e = ap is_stale e
 
 -- the change put anew is the known one, closed
 pub closed_is : (s : State) (n : ℕ) (k : Change) → known_change s n ≡ Some k →
-    put_change (record k { stage = stage.Closed }) (without_ready k.number (leave verdict.Closed n s)) ≡ closed_state n s
+    put_change (record k { stage = stage.Closed }) (without_ready k.number (leave verdict.Closed n s))
+    ≡ closed_state n s
 closed_is s n k known =
     let unknown : Change = record { number = n; project = []; revision = 0; stage = stage.Closed; needs = [] } in
     (λ i. put_change (record k { stage = stage.Closed })

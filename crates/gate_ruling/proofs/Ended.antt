@@ -50,7 +50,8 @@ at_serial c s n row h = by_found (find (λ k. k.item.serial == n) (queued_items 
     by_found (Some k) e f =
         let same : k.item ≡ row = ap (λ o. option_map_or (λ r. r) o k.item) f in
         let x = found (λ (k : QueuedItem). k.item.serial == n) (queued_items c s) k e in
-        let q = from_flat (λ (q : Queue). map (λ i. record { queue = q.name; item = i }) (item_rows c s q)) s.queues k x.0 in
+        let q = from_flat (λ (q : Queue). map (λ i. record { queue = q.name; item = i }) (item_rows c s q)) s.queues k
+        x.0 in
         let i = from_map (λ (i : ItemRow). record { queue = q.0.name; item = i }) (item_rows c s q.0) k q.2 in
         let is : i.0 ≡ row = ap (λ (k : QueuedItem). k.item) i.2 ∙ same in
         let stored = subst (λ r. In r (item_rows c s q.0)) is i.1 in
@@ -71,7 +72,8 @@ named_queue c s settings sound q m = by_found (queue_named s q.name) refl
   where
     by_found : (o : Option Queue) → queue_named s q.name ≡ o → o ≡ Some q
     by_found None e =
-        absurd (true≢false (sym (name_itself q.name) ∙ not_found (λ (o : Queue). same_name o.name q.name) s.queues e q m))
+        absurd (true≢false (sym (name_itself q.name)
+        ∙ not_found (λ (o : Queue). same_name o.name q.name) s.queues e q m))
     by_found (Some o) e =
         let x = found (λ (o : Queue). same_name o.name q.name) s.queues o e in
         ap Some (name_alone c s settings sound o q x.0 m x.1)

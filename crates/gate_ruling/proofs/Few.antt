@@ -13,7 +13,8 @@ use Rattle.gate_laws.proofs.FewRows.{rows_are_few}
 order_small : (d : Drawn) → are_counters_in_form d ≡ true → d.order ≤ 1000000000000000
 order_small d h =
     leb-true d.order 1000000000000000
-    (and_parts (nat_le d.approval 1000000000000000 && nat_le d.build 1000000000000000) (nat_le d.order 1000000000000000) h).1
+    (and_parts (nat_le d.approval 1000000000000000 && nat_le d.build 1000000000000000)
+    (nat_le d.order 1000000000000000) h).1
 
 pub few_reports : (c : Settings) (x : Content) → IsLawfulContent c x → (q : Queue) → In q x.state.queues →
     length q.reports ≤ 1000000000000000

@@ -96,9 +96,11 @@ same_test : (c : Settings) (s : State) (name : List ℕ) (row : ItemRow) → IsS
     (q : Queue) → In q s.queues → (i : Item) → In i q.items → i.serial == row.serial ≡ (i.change == row.change)
 same_test c s name row sound h q mq i mi =
     alike (i.serial == row.serial) (i.change == row.change)
-    (λ e. let one = serial_alone c s sound q h.queue i (item_of row) mq h.there mi h.item (eqb-true i.serial row.serial e) in
+    (λ e. let one = serial_alone c s sound q h.queue i (item_of row) mq h.there mi h.item
+    (eqb-true i.serial row.serial e) in
     eq-eqb i.change row.change (ap (λ (j : Item). j.change) one.1))
-    (λ e. let one = change_alone c s sound q h.queue i (item_of row) mq h.there mi h.item (eqb-true i.change row.change e) in
+    (λ e. let one = change_alone c s sound q h.queue i (item_of row) mq h.there mi h.item
+    (eqb-true i.change row.change e) in
     eq-eqb i.serial row.serial (ap (λ (j : Item). j.serial) one.1))
 
 -- the items that leave: the one of the row from its queue, none from another
@@ -106,7 +108,8 @@ gone : (c : Settings) (s : State) (name : List ℕ) (row : ItemRow) → IsSound 
     filter (λ (i : Item). i.change == row.change) h.queue.items ≡ item_of row ∷ []
 gone c s name row sound h =
     only_one (λ (i : Item). i.serial) (λ i. i.change == row.change) h.queue.items (item_of row)
-    (rising (λ (i : Item). i.serial) h.queue.items (every (λ (q : Queue). IsStrictlyIncreasing (map (λ (i : Item). i.serial) q.items)) s.queues sound.items_rise h.queue
+    (rising (λ (i : Item). i.serial) h.queue.items
+    (every (λ (q : Queue). IsStrictlyIncreasing (map (λ i. i.serial) q.items)) s.queues sound.items_rise h.queue
     h.there)) h.item
     (eq-eqb row.change row.change refl) (λ i mi e.
     (change_alone c s sound h.queue h.queue i (item_of row) h.there h.there mi h.item
@@ -116,7 +119,8 @@ none_gone : (c : Settings) (s : State) (name : List ℕ) (row : ItemRow) → IsS
     (q : Queue) → In q s.queues → same_name name q.name ≡ false →
     filter (λ (i : Item). i.change == row.change) q.items ≡ []
 none_gone c s name row sound h q mq apart =
-    filter_none (λ (i : Item). i.change == row.change) q.items (λ i mi. false_from_ne_true (i.change == row.change) (λ e.
+    filter_none (λ (i : Item). i.change == row.change) q.items (λ i mi. false_from_ne_true (i.change == row.change)
+    (λ e.
     let one = change_alone c s sound q h.queue i (item_of row) mq h.there mi h.item (eqb-true i.change row.change e) in
     let named = same_name_of name q.name (sym (same_name_is h.queue.name name h.named)
     ∙ ap (λ (o : Queue). o.name) (sym one.0)) in
@@ -213,7 +217,8 @@ pub leaves_by : (c : Settings) (x : Content) (k : QueuedItem) (v : Verdict) → 
 leaves_by c x k v settings lawful there reports place told above builds live edits made =
     let h = stored c x.state k.queue k.item there in
     let few = few_reports c x lawful h.queue h.there in
-    let count : reports ≡ length h.queue.reports = told ∙ ap (λ o. option_map_or (λ (q : Queue). length q.reports) o 0) h.first in
+    let count : reports ≡ length h.queue.reports = told
+    ∙ ap (λ o. option_map_or (λ (q : Queue). length q.reports) o 0) h.first in
     let at : place ≡ length h.queue.reports + 1 = omega (arith, few, count, above) in
     subst (λ es. Moves x es (leave v k.item.change x.state))
     (sym (made ∙ (λ i. out_of_queue k (at i) v ++ map stop_of (filter (λ b. is_running b.outcome) (live i)))))

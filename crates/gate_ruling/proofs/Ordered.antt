@@ -186,7 +186,8 @@ lands c x k settings sound h place w at is =
     let edits = landing_edits k place w in
     let left = left_queue v k.item.change h.queue in
     let there = turned h.queue.name k.queue true h.named in
-    let new : ℕ → List LandingRow = λ n. put_by (λ (y : LandingRow). y.place) (record { place = n; landing = landing_of k.item })
+    let new : ℕ → List LandingRow =
+    λ n. put_by (λ (y : LandingRow). y.place) (record { place = n; landing = landing_of k.item })
     (numbered_landings 0 h.queue.landings) in
     let rows = ap new at
     ∙ put_last 0 h.queue.landings (landing_of k.item) (length h.queue.landings) (omega arith) in
@@ -229,7 +230,8 @@ landed_raw c s number k known sound o h same is place at =
     ap not (false_from_ne_true (r.change == known.number) (λ e.
     queued_unready c s sound h.queue (item_of k.item) h.there h.item r m
     (eqb-true r.change known.number e ∙ known_number s n known is))))) in
-    let count : length o.order.queue.landings + 1 ≡ place = ap (λ (q : Queue). length q.landings + 1) (sym same) ∙ sym at in
+    let count : length o.order.queue.landings + 1 ≡ place =
+    ap (λ (q : Queue). length q.landings + 1) (sym same) ∙ sym at in
     ap (λ y. option_map_or (λ (o : Order). accepted (reply.Landed (length o.queue.landings + 1))
     (with_landing (length o.queue.landings + 1) o s)) y (refused refusal.NoOrder)) o.shown
     ∙ (λ i. accepted (reply.Landed (count i)) (with_stage stage.Landed (sym o.row.item i).change

@@ -63,7 +63,8 @@ rows_put old new k a own others (j ∷ js) r =
         let below = ltb-true k.number j.number f in
         (λ i. record { change = k; approval = sym own i } ∷ kept (j ∷ js) (later k.number j js below r) i)
     by_tests false e false f rest =
-        (λ i. record { change = j; approval = sym (others j.number (λ q. eqb-false k.number j.number e (sym q))) i } ∷ rest i)
+        let apart = others j.number (λ q. eqb-false k.number j.number e (sym q)) in
+        (λ i. record { change = j; approval = sym apart i } ∷ rest i)
 
 -- the change that is known stands in its place already
 pub put_known : (s : State) (n : ℕ) (k : Change) → IsStrictlyIncreasing (map number_of s.changes) →
@@ -73,7 +74,8 @@ put_known s n k rises h = along s.changes (rising number_of s.changes rises) h
     same_number : (ks : List Change) → find (λ j. j.number == n) ks ≡ Some k → In k ks × (k.number ≡ n)
     same_number ks e = let x = found (λ (j : Change). j.number == n) ks k e in (x.0, eqb-true k.number n x.1)
 
-    along : (ks : List Change) → Rising number_of ks → find (λ j. j.number == n) ks ≡ Some k → put_by number_of k ks ≡ ks
+    along : (ks : List Change) → Rising number_of ks → find (λ j. j.number == n) ks ≡ Some k →
+        put_by number_of k ks ≡ ks
     along [] r e = absurd (same_number [] e).0
     along (j ∷ js) r e = elim (same_number (j ∷ js) e).0 [
       | inl same ↦ ap (λ b. cond b (k ∷ js) (cond (nat_lt k.number j.number) (k ∷ j ∷ js) (j ∷ put_by number_of k js)))
@@ -162,7 +164,8 @@ put_moves : (x : Content) (s : State) (k : Change) (a : Option ℕ) (ready : Lis
     ((m : ℕ) → m ≢ k.number → approval_of ready m ≡ approval_of s.ready m) →
     Moves (in_state x s) (edit.PutChange k a ∷ []) (record s { changes = put_by number_of k s.changes; ready = ready })
 put_moves x s k a ready rises own others =
-    by_parts (in_state x s) (edit.PutChange k a ∷ []) (record s { changes = put_by number_of k s.changes; ready = ready })
+    by_parts (in_state x s) (edit.PutChange k a ∷ [])
+    (record s { changes = put_by number_of k s.changes; ready = ready })
     (record {
       changes = rows_put s.ready ready k a own others s.changes (rising number_of s.changes rises);
       queues = λ columns. refl;

@@ -52,7 +52,8 @@ one_after_another [] test bs = λ k. map (stop_if (λ b. sym (or_false (test b))
 one_after_another (c ∷ cs) test bs =
     ap (λ l. fold edited_build_rows l (map stop_of cs)) (first bs)
     ∙ one_after_another cs (λ b. test b || b.number == c.number) bs
-    ∙ (λ k. map (stop_if (λ b. or_assoc (test b) (b.number == c.number) (list_any (λ x. b.number == x.number) cs) k)) bs)
+    ∙ (λ k. map (stop_if (λ b. or_assoc (test b) (b.number == c.number)
+    (list_any (λ x. b.number == x.number) cs) k)) bs)
   where
     first : (l : List Build) → change_build c.number (with_live false) (map (stop_if test) l)
         ≡ map (stop_if (λ b. test b || b.number == c.number)) l
@@ -84,7 +85,8 @@ passes c s sound u r b m = by_test (u b && r b) refl
         true≢false (sym both ∙ e)))
 
 -- what leaves with a stored item is its serial alone
-serial_alone : (c : Settings) (s : State) (name : List ℕ) (row : ItemRow) → IsSound c s → Stored c s name row → (m : ℕ) →
+serial_alone : (c : Settings) (s : State) (name : List ℕ) (row : ItemRow) → IsSound c s → Stored c s name row →
+    (m : ℕ) →
     leaving row.change s m ≡ (m == row.serial)
 serial_alone c s name row sound h m = by_test (m == row.serial) refl
   where

@@ -19,12 +19,14 @@ returns-then-drawn-ge-LAST_NUMBER-clause-raw g c trusted x holds lawful =
     let one = c.in_ok-standing.ensures.kept.trusted_before two in
     let at_one = c.in_ok-known.ensures.kept.holds_on one _ x holds in
     let at_two = c.in_ok-standing.ensures.kept.holds_on two _ x at_one in
-    let known : known_change x.state n ≡ Some k = sym (c.in_ok-known.ensures.found one s x holds lawful) ∙ c.in-Some.is in
+    let known : known_change x.state n ≡ Some k = sym (c.in_ok-known.ensures.found one s x holds lawful)
+    ∙ c.in-Some.is in
     let up : r ≤ k.revision = omega arith in
     let past = sym c.is_past.ensures ∙ c.if-is_past.false in
     let away = nowhere s x.state n c.in_ok-standing.field-0 (c.in_ok-standing.ensures.found two x at_one lawful)
     (sym c.is_nowhere.ensures ∙ c.if-not-is_nowhere.false) in
-    let drawn = ap (λ (d : Drawn). d.approval) (c.drawn.view_is ∙ c.in_ok-drawn.ensures.found trusted s x at_two lawful) in
+    let drawn = ap (λ (d : Drawn). d.approval) (c.drawn.view_is
+    ∙ c.in_ok-drawn.ensures.found trusted s x at_two lawful) in
     let top = c.if-drawn-ge-LAST_NUMBER.true in
     let t = made_ready n x.state in
     let over : 1000000000000000 < t.counters.approval = omega (arith, drawn, top) in (
@@ -43,12 +45,14 @@ returns-clause-raw g c trusted x holds lawful =
     let one = c.in_ok-standing.ensures.kept.trusted_before two in
     let at_one = c.in_ok-known.ensures.kept.holds_on one _ x holds in
     let at_two = c.in_ok-standing.ensures.kept.holds_on two _ x at_one in
-    let known : known_change x.state n ≡ Some k = sym (c.in_ok-known.ensures.found one s x holds lawful) ∙ c.in-Some.is in
+    let known : known_change x.state n ≡ Some k = sym (c.in_ok-known.ensures.found one s x holds lawful)
+    ∙ c.in-Some.is in
     let up : r ≤ k.revision = omega arith in
     let past = sym c.is_past.ensures ∙ c.if-is_past.false in
     let away = nowhere s x.state n c.in_ok-standing.field-0 (c.in_ok-standing.ensures.found two x at_one lawful)
     (sym c.is_nowhere.ensures ∙ c.if-not-is_nowhere.false) in
-    let drawn = ap (λ (d : Drawn). d.approval) (c.drawn.view_is ∙ c.in_ok-drawn.ensures.found trusted s x at_two lawful) in
+    let drawn = ap (λ (d : Drawn). d.approval) (c.drawn.view_is
+    ∙ c.in_ok-drawn.ensures.found trusted s x at_two lawful) in
     record {
       after = made_ready n x.state;
       accepted = approved_raw s x.state n r k known up past away;

@@ -24,7 +24,8 @@ returns-clause-raw g c trusted x holds lawful =
     let at_one = c.in_ok-known.ensures.kept.holds_on one _ x holds in
     let at_two = c.in_ok-is_submitting.ensures.kept.holds_on two _ x at_one in
     let at_three = c.in_ok-stand.ensures.kept.holds_on three _ x at_two in
-    let known : known_change x.state n ≡ Some k = sym (c.in_ok-known.ensures.found one s x holds lawful) ∙ c.in-Some.is in
+    let known : known_change x.state n ≡ Some k = sym (c.in_ok-known.ensures.found one s x holds lawful)
+    ∙ c.in-Some.is in
     let free : is_submitting s x.state n ≡ false =
     sym (c.in_ok-is_submitting.ensures.found two x at_one lawful) ∙ c.if-branch.false in
     let so = c.in_ok-stand.ensures.found three x at_two lawful in

@@ -36,7 +36,8 @@ returns-clause-raw g c trusted x holds lawful =
     let at_one = c.in_ok-queued.ensures.kept.holds_on one _ x holds in
     let at_two = c.in_ok-known.ensures.kept.holds_on two _ x at_one in
     let at_three = c.in_ok-sizes.ensures.kept.holds_on three _ x at_two in
-    let o = has_order s x.state number k (subst (λ y. TellsShown s x.state y (shown_order s x.state number)) c.in-Some.is
+    let o = has_order s x.state number k
+    (subst (λ y. TellsShown s x.state y (shown_order s x.state number)) c.in-Some.is
     (c.in_ok-queued.ensures.found one x holds lawful)) in
     let h = stored s x.state k.queue k.item o.row.stored in
     let is : known_change x.state k.item.change ≡ Some known =
@@ -58,7 +59,8 @@ returns-clause-raw g c trusted x holds lawful =
     (lands s x k settings sound h place c.grow.result at window)) in
     record {
       after = landed_state k place known x.state;
-      accepted = landed_raw s x.state number k known sound o h (same_queue s x.state number k settings sound o h) is place at;
+      accepted = landed_raw s x.state number k known sound o h
+          (same_queue s x.state number k settings sound o h) is place at;
       acts = refl;
       touches = subst (λ y. Touches s x.state d (Some y)) (sym c.touched.ensures) (landed_touches s x.state number k o);
       moves = c.in_ok-edits-3.ensures x u sound.changes_rise moves;

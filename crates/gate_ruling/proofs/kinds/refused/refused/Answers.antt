@@ -33,7 +33,8 @@ returns-clause-raw g c trusted x holds lawful =
     let one = c.in_ok-sizes.ensures.kept.trusted_before two in
     let at_one = c.in_ok-queued.ensures.kept.holds_on one _ x holds in
     let at_two = c.in_ok-sizes.ensures.kept.holds_on two _ x at_one in
-    let o = has_order s x.state number k (subst (λ y. TellsShown s x.state y (shown_order s x.state number)) c.in-Some.is
+    let o = has_order s x.state number k
+    (subst (λ y. TellsShown s x.state y (shown_order s x.state number)) c.in-Some.is
     (c.in_ok-queued.ensures.found one x holds lawful)) in
     let h = stored s x.state k.queue k.item o.row.stored in
     let sizes : c.in-Some-2.sizes ≡ sizes_of h.queue =
@@ -51,7 +52,8 @@ returns-clause-raw g c trusted x holds lawful =
       after = u;
       accepted = refused_raw s x.state number k o;
       acts = refl;
-      touches = subst (λ y. Touches s x.state d (Some y)) (sym c.touched.ensures) (refused_touches s x.state number k o);
+      touches = subst (λ y. Touches s x.state d (Some y)) (sym c.touched.ensures)
+          (refused_touches s x.state number k o);
       moves = subst (λ es. Moves x es u) (sym edits)
           (moves_on x t u c.in_ok-edits.edits.items last
           (c.in_ok-edits.ensures.moves trusted x at_two lawful o.row.stored)

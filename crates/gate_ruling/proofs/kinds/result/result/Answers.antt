@@ -17,7 +17,8 @@ returns-clause-raw g c trusted x holds lawful =
     let settings : are_sound s ≡ true = search rules in
     let before = c.in_ok-item.ensures.kept.trusted_before trusted in
     let held = c.in_ok-known.ensures.kept.holds_on before _ x holds in
-    let known : build_of x.state n ≡ Some b = sym (c.in_ok-known.ensures.found before s x holds lawful) ∙ c.in-Some.is in
+    let known : build_of x.state n ≡ Some b = sym (c.in_ok-known.ensures.found before s x holds lawful)
+    ∙ c.in-Some.is in
     let item : item_at s x.state b.serial ≡ Some c.in-Some-2.item =
     sym (c.in_ok-item.ensures.found trusted s x held lawful) ∙ c.in-Some-2.is in
     let runs : b.live && is_running b.outcome ≡ true = sym c.is_under_way.ensures ∙ c.if-not-is_under_way.false in

@@ -40,8 +40,9 @@ returns-clause-raw g c trusted x holds lawful =
     ∙ sym c.is_late.ensures ∙ c.if-is_late.false in
     let free : is_submitting s x.state n ≡ false =
     sym (c.in_ok-is_submitting.ensures.found two x at_one lawful) ∙ c.if-branch.false in
+    let base : c.as_str.result.now ≡ s.base = c.as_str.ensures.value ∙ ap (λ (v : Settings). v.base) c.config.view_is in
     let texts : needs c.as_str.result.now c.as_str-2.result.now ≡ needs s.base message =
-    (λ i. needs ((c.as_str.ensures.value ∙ ap (λ (v : Settings). v.base) c.config.view_is) i) (c.as_str-2.ensures.value i)) in
+    (λ i. needs (base i) (c.as_str-2.ensures.value i)) in
     let few : length (needs s.base message) ≤ 32 = subst (λ l. length l ≤ 32) texts c.in-Ok.ensures.few in
     let listed : c.from_vec.result ≡ needs s.base message = c.from_vec.ensures ∙ c.in-Ok.ensures.ok ∙ texts in
     let k : Change = record {
@@ -52,7 +53,14 @@ returns-clause-raw g c trusted x holds lawful =
       needs = c.from_vec.result;
     } in
     let is : k ≡ record { number = n; project = name; revision = r; stage = stage.Open; needs = needs s.base message } =
-    (λ i. record { number = n; project = c.in_ok-copy.ensures i; revision = r; stage = stage.Open; needs = listed i }) in
+    (λ i. record {
+      number = n;
+      project = c.in_ok-copy.ensures i;
+      revision = r;
+      stage = stage.Open;
+      needs =
+          listed i;
+    }) in
     let so = c.in_ok-stand.ensures.found three x at_two lawful in
     record {
       after = revised k x.state;

@@ -26,7 +26,8 @@ returns-in_ok-edits-in-Queued-clause-raw g c trusted x holds lawful =
     let at_one = c.in_ok-known.ensures.kept.holds_on one _ x holds in
     let at_two = c.in_ok-is_submitting.ensures.kept.holds_on two _ x at_one in
     let at_three = c.in_ok-queued.ensures.kept.holds_on three _ x at_two in
-    let known : known_change x.state n ≡ Some k = sym (c.in_ok-known.ensures.found one s x holds lawful) ∙ c.in-Some.is in
+    let known : known_change x.state n ≡ Some k = sym (c.in_ok-known.ensures.found one s x holds lawful)
+    ∙ c.in-Some.is in
     let free : is_submitting s x.state n ≡ false =
     sym (c.in_ok-is_submitting.ensures.found two x at_one lawful) ∙ c.if-branch.false in
     let so = subst (StandsSo s x.state n) c.in-Queued.is (c.in_ok-queued.ensures.found three x at_two lawful) in
@@ -54,14 +55,16 @@ returns-in_ok-put_anew-in-Ready-clause-raw g c trusted x holds lawful =
     let one = c.in_ok-is_submitting.ensures.kept.trusted_before two in
     let at_one = c.in_ok-known.ensures.kept.holds_on one _ x holds in
     let at_two = c.in_ok-is_submitting.ensures.kept.holds_on two _ x at_one in
-    let known : known_change x.state n ≡ Some k = sym (c.in_ok-known.ensures.found one s x holds lawful) ∙ c.in-Some.is in
+    let known : known_change x.state n ≡ Some k = sym (c.in_ok-known.ensures.found one s x holds lawful)
+    ∙ c.in-Some.is in
     let free : is_submitting s x.state n ≡ false =
     sym (c.in_ok-is_submitting.ensures.found two x at_one lawful) ∙ c.if-branch.false in
     let so = subst (StandsSo s x.state n) c.in-Ready.is (c.in_ok-queued.ensures.found trusted x at_two lawful) in
     let up : r ≤ k.revision = omega arith in
     let down : k.revision ≤ r = omega arith in
     let rises = lawful.lawful.sound.changes_rise in
-    let none : Moves x c.new.result.items x.state = subst (λ (es : List Edit). Moves x es x.state) (sym c.new.ensures.items)
+    let none : Moves x c.new.result.items x.state =
+    subst (λ (es : List Edit). Moves x es x.state) (sym c.new.ensures.items)
     (λ columns. refl) in
     record {
       after = without_ready n x.state;
