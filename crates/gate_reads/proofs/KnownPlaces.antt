@@ -81,7 +81,7 @@ jobs_at c s p row known jobs m r k e =
     e ∙ jobs_are c s row.change known k ∙ ap (λ (i : ItemRow). (project_of c s i.change).jobs) r
     ∙ sym (place_facts c s x.0 p x.2).jobs
 
-needs_at : (c : Settings) (s : State) (q : Queue) (p : Place) (row : ItemRow) (known : Option Change)
+pub needs_at : (c : Settings) (s : State) (q : Queue) (p : Place) (row : ItemRow) (known : Option Change)
     (needs : List Need) → In p (places c s q) → row ≡ row_of s.builds p → known ≡ known_change s row.change →
     needs ≡ map (need_of s) (known_or_closed known).needs → needs ≡ p.needs
 needs_at c s q p row known needs m r k e =
@@ -97,7 +97,7 @@ pub met_is : (items : List Item) (needs : List Need) →
     are_met_among (map item_entry items) needs ≡ are_met_by items needs
 met_is items needs = λ k. list_all (λ n. n.landed || any_entry n.change items k) needs
 
-blocked_is : (p : Place) (ahead : List Entry) (needs : List Need) → ahead ≡ map item_entry p.ahead → needs ≡ p.needs →
+pub blocked_is : (p : Place) (ahead : List Entry) (needs : List Need) → ahead ≡ map item_entry p.ahead → needs ≡ p.needs →
     not (are_met_among ahead needs) ≡ is_blocked p
 blocked_is p ahead needs ea en = ap not ((λ k. are_met_among (ea k) (en k)) ∙ met_is p.ahead p.needs)
 

@@ -70,7 +70,7 @@ own_outcomes p job (b ∷ bs) h =
     by_own true r = by_job (of_job b) (filter of_job (filter (is_own p) bs)) counting r
     by_own false r = r ∙ not_job (of_job b) counting
 
-slots_are : (s : State) (p : Place) (builds : List Build) (job : Job) → builds ≡ live_builds s p.item.serial →
+pub slots_are : (s : State) (p : Place) (builds : List Build) (job : Job) → builds ≡ live_builds s p.item.serial →
     AllCount s.builds p →
     slot_among builds job ≡ slot_of s.builds p job
 slots_are s p builds job e h = ap (λ bs. slot_among bs job) e ∙ ap slot_of_outcomes (own_outcomes p job s.builds h)

@@ -72,6 +72,7 @@ choice_from c s k = slice_get (flat_map (choices c s) (drop k s.queues)) 0
 pub record IsThere (c : Settings) (s : State) (k : ℕ) (name : List ℕ) : Type 0 where
   pub queue : Queue
   pub named : queue_named s name ≡ Some queue
+  pub here : drop k s.queues ≡ queue ∷ drop (suc k) s.queues
   pub choice : choice_from c s k ≡ slice_get (choices c s queue ++ flat_map (choices c s) (drop (suc k) s.queues)) 0
 
 pub queue_there : (c : Settings) (s : State) (k : ℕ) (r : QueueSetting) (rs : List QueueSetting) → are_sound c ≡ true →
@@ -81,6 +82,7 @@ queue_there c s k r rs a h e l i =
     record {
       queue = at.queue;
       named = ap (queue_named s) (sym at.name_is) ∙ named_itself c s a h at.queue at.there;
+      here = at.here;
       choice = ap (λ (bs : List Build). slice_get bs 0) (ap (flat_map (choices c s)) at.here
           ∙ flat_map-cons (choices c s) at.queue (drop (suc k) s.queues));
     }

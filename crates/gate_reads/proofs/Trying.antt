@@ -156,7 +156,7 @@ tried_here {c} {s} {q} {left = left} h n o number b f =
     ∙ ap (option_map (with_number number)) (sym (tried_from h n o))
 
 -- what is ahead of the row behind it
-longer_is : (bs : List Build) (p : Place) → map item_entry (next_ahead bs p)
+pub longer_is : (bs : List Build) (p : Place) → map item_entry (next_ahead bs p)
     ≡ (if is_failing bs p then map item_entry p.ahead else map item_entry p.ahead ++ item_entry p.item ∷ [])
 longer_is bs p = by_failing (is_failing bs p)
   where

@@ -1,4 +1,4 @@
--- For the inside alone: what a job has come to, by the live builds of its item.
+-- What a job has come to, by the live builds of its item.
 use Rattle.std.specs.Prelude.{List, map, filter}
 use Rattle.gate_types.specs.declared.config.Job.{Job}
 use Rattle.gate_types.specs.declared.records.Build.{Build}

@@ -1,4 +1,4 @@
--- For the inside alone: what is known of a change, and what follows from it.
+-- What is known of a change, and what follows from it.
 use Rattle.std.specs.Prelude.{ℕ, List, [], Option, unwrap_or, find}
 use Rattle.gate_types.specs.declared.config.Job.{Job}
 use Rattle.gate_types.specs.declared.records.Change.{Change}

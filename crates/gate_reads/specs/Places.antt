@@ -1,4 +1,4 @@
--- For the inside alone: rows, and the places that they stand for.
+-- Rows, and the places that they stand for.
 use Rattle.std.specs.Prelude.{ℕ, Bool, true, ◌&&◌, ◌||◌, not, ◌==◌, ◌≡◌, List, map, length, Some, Contains}
 use Rattle.std.specs.List.{list_any, list_all}
 use Rattle.gate_types.specs.declared.records.Build.{Build}

@@ -26,7 +26,8 @@ fn has_change(ahead: &[Entry], change: ChangeNo) -> bool
     ahead.iter().any(|entry| entry.change == change)
 }
 
-fn are_met_among(ahead: &[Entry], needs: &[Need]) -> bool
+/// Whether each need has landed or is ahead.
+pub fn are_met_among(ahead: &[Entry], needs: &[Need]) -> bool
     ensures { result ≡ are_met_among ahead.now needs.now }
 {
     needs

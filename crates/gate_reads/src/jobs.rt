@@ -30,7 +30,7 @@ fn outcomes_among(alloc: Global, builds: &[Build], job: &Job) -> Result<Vec<Outc
 }
 
 /// What a job has come to, by the live builds of its item.
-fn slot_among(alloc: Global, builds: &[Build], job: &Job) -> Result<Slot, NoMemory>
+pub fn slot_among(alloc: Global, builds: &[Build], job: &Job) -> Result<Slot, NoMemory>
     ensures { IfOk result (λ slot. slot ≡ slot_among builds.now job.now) }
 {
     let outcomes = outcomes_among(alloc, builds, job)?;

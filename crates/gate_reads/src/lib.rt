@@ -2,9 +2,9 @@
 //! is loaded: items are gone through one after another, no further than the rule needs.
 #![tactic(auto)]
 
-mod due;
-mod jobs;
-mod known;
+pub mod due;
+pub mod jobs;
+pub mod known;
 pub mod next_build;
 pub mod orders;
 #[cfg(test)]

@@ -24,7 +24,7 @@ fn is_open(window: u32, left: u32) -> bool
 }
 
 /// What is ahead of the next item: an item that is failing stands in no line.
-fn push_unless_failing(ahead: &mut Sequence<Entry>, item: &Item) -> Result<(), NoMemory>
+pub fn push_unless_failing(ahead: &mut Sequence<Entry>, item: &Item) -> Result<(), NoMemory>
     ensures { OnOk result (ahead.new ≡ (if item.now.failing then ahead.old else ahead.old ++
         record { change = item.now.change; revision = item.now.revision } ∷ [])) }
 {

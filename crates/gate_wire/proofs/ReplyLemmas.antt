@@ -22,7 +22,7 @@ joined-rest (x ∷ y ∷ ys) rest =
     ∙ sym (ap (λ l. l ++ rest) (entry-rest x (44 ∷ joined (map entry (y ∷ ys)) [])) ∙ append_assoc (entry x []) (44 ∷ joined (map entry (y ∷ ys)) []) rest)
 
 -- the end of an array of entries, and what stands behind it
-joined-end : (es : List Entry) (rest : List ℕ) → joined (map entry es) (93 ∷ []) ++ rest ≡ joined (map entry es) (93 ∷ rest)
+pub joined-end : (es : List Entry) (rest : List ℕ) → joined (map entry es) (93 ∷ []) ++ rest ≡ joined (map entry es) (93 ∷ rest)
 joined-end es rest = ap (λ l. l ++ rest) (joined-rest es (93 ∷ [])) ∙ append_assoc (joined (map entry es) []) (93 ∷ []) rest ∙ sym (joined-rest es (93 ∷ rest))
 
 -- what stands between some entries and the next
@@ -66,7 +66,7 @@ array_ends es n text new all so_far more =
     ∙ ap (λ l. 91 ∷ l) (sym (joined-rest es (93 ∷ [])))
 
 -- the reply's text, the array in it
-abbrev front : ℕ → List ℕ → ℕ → List ℕ
+abbrev pub front : ℕ → List ℕ → ℕ → List ℕ
 front after ahead n = codes "{\"after\":" ++ (decimal after ++ (codes ",\"ahead\":" ++ (ahead ++ (codes ",\"build\":" ++ decimal n))))
 
 abbrev back : Build → List ℕ
@@ -74,7 +74,7 @@ back b =
     codes ",\"change\":" ++ (decimal b.change ++ (codes ",\"job\":\"" ++ (b.job ++ (codes "\",\"queue\":\"" ++ (b.queue
     ++ (codes "\",\"reply\":\"build\",\"revision\":" ++ (decimal b.revision ++ codes "}")))))))
 
-grouped : (a k x b n t : List ℕ) → (a ++ (k ++ (x ++ (b ++ n)))) ++ t ≡ a ++ (k ++ (x ++ (b ++ (n ++ t))))
+pub grouped : (a k x b n t : List ℕ) → (a ++ (k ++ (x ++ (b ++ n)))) ++ t ≡ a ++ (k ++ (x ++ (b ++ (n ++ t))))
 grouped a k x b n t = simp append_assoc
 
 pub build_written : (b : Build) (ahead text : List ℕ) → ahead ≡ array (map entry b.ahead) [] → text ≡ front b.after ahead b.number → text ++ back b ≡ reply_text (reply.Build b)

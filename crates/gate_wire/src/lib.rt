@@ -11,4 +11,4 @@ mod replies;
 pub use door::Door;
 pub use footers::needs;
 pub use reading::read_delivery;
-pub use replies::write_reply;
+pub use replies::{ahead_text, build_front, write_reply};

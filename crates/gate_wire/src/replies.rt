@@ -36,7 +36,7 @@ fn separator(place: usize) -> &'static str
 }
 
 /// The changes ahead of a build's own, as an array.
-fn ahead_text(alloc: Global, ahead: &[Entry]) -> Result<String, NoMemory>
+pub fn ahead_text(alloc: Global, ahead: &[Entry]) -> Result<String, NoMemory>
     ensures { IfOk result (λ s. string_bytes s ≡ array (map entry_piece ahead.now) []) }
 {
     let mut text = String::from_str(alloc, "[")?;
@@ -48,7 +48,7 @@ fn ahead_text(alloc: Global, ahead: &[Entry]) -> Result<String, NoMemory>
 }
 
 /// The first members of the reply that gives a build.
-fn build_front(alloc: Global, after: u64, ahead: &str, build: u64) -> Result<String, NoMemory>
+pub fn build_front(alloc: Global, after: u64, ahead: &str, build: u64) -> Result<String, NoMemory>
     ensures { IfOk result (λ s. string_bytes s ≡ codes "{\"after\":"
         ++ (decimal after ++ (codes ",\"ahead\":" ++ (ahead.now ++ (codes ",\"build\":" ++ decimal build))))) }
 {

@@ -1,0 +1,7 @@
+-- a build
+pub mod BuildLemmas
+-- the status
+pub mod Padding
+pub mod LineLemmas
+pub mod Pieces
+pub mod Shown

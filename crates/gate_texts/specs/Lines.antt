@@ -1,0 +1,32 @@
+-- Lines of the status text, by what a book tells.
+use Rattle.std.specs.Prelude.{ℕ, Bool, if◌then◌else◌, List, [], ◌∷◌, ◌++◌, map, codes, decimal}
+use Rattle.gate_types.specs.declared.config.Job.{Job}
+use Rattle.gate_types.specs.declared.records.Build.{Build}
+use Rattle.gate_types.specs.declared.records.Item.{Item as ItemRow}
+use Rattle.gate_types.specs.Columns.{right, left, row, number_or_dash}
+use Rattle.gate_types.specs.Status.{slot_word}
+use Rattle.gate_reads.specs.Jobs.{slot_among}
+
+-- as `unit=success`, by the live builds of the item
+abbrev pub job_column : List Build → Job → List ℕ
+job_column builds j = j.name ++ 61 ∷ slot_word (slot_among builds j)
+
+-- how an item stands
+abbrev pub standing_word : Bool → Bool → List ℕ
+standing_word blocked failing =
+    if blocked then codes "blocked" else (if failing then codes "failing" else codes "ok")
+
+-- serial, change, revision, ahead, standing, jobs
+abbrev pub item_line : ItemRow → Bool → List Build → List Job → List ℕ
+item_line i blocked builds jobs = row (
+    right 6 (decimal i.serial) ∷ right 9 (decimal i.change) ∷ right 4 (decimal i.revision) ∷
+    right 6 (number_or_dash i.ahead) ∷ left 7 (standing_word blocked i.failing) ∷ map (job_column builds) jobs)
+
+-- the line of a queue, with its window and how many landings it has
+abbrev pub queue_line : List ℕ → ℕ → ℕ → List ℕ
+queue_line name window landings =
+    row (codes "queue" ∷ name ∷ codes "window" ∷ decimal window ∷ codes "landed" ∷ decimal landings ∷ [])
+
+-- the line of a ready change
+abbrev pub waiting_line : ℕ → ℕ → List ℕ
+waiting_line change revision = row (codes "waiting" ∷ decimal change ∷ decimal revision ∷ [])
