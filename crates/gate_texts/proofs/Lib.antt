@@ -5,3 +5,5 @@ pub mod Padding
 pub mod LineLemmas
 pub mod Pieces
 pub mod Shown
+-- the orders
+pub mod Listed

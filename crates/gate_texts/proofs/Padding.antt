@@ -11,20 +11,19 @@ unfolding encode
 spaces zero = refl
 spaces (suc k) = ap (λ l. 32 ∷ l) (spaces k)
 
--- the padding before and after a number of n digits
-padded : (d : List ℕ) (k m : ℕ) → m ≡ 0 → repeat k (encode 32) ++ [] ++ [] ++ [] ++ (d ++ repeat m (encode 32)) ≡ replicate k 32 ++ d
+-- the padding before and after a number of some digits
+padded : (d : List ℕ) (k m : ℕ) → m ≡ 0 →
+    repeat k (encode 32) ++ [] ++ [] ++ [] ++ (d ++ repeat m (encode 32)) ≡ replicate k 32 ++ d
 padded d k m e =
-    (λ j. (append-nil (repeat k (encode 32) ++ [] ++ []) ∙ append-nil (repeat k (encode 32) ++ []) ∙ append-nil (repeat k (encode 32)) ∙ spaces k) j ++ (d ++ repeat (e j) (encode 32)))
-    ∙ ap (λ l. replicate k 32 ++ l) (append-nil d)
+    (λ j. front j ++ (d ++ repeat (e j) (encode 32))) ∙ ap (λ l. replicate k 32 ++ l) (append-nil d)
+  where
+    front : repeat k (encode 32) ++ [] ++ [] ++ [] ≡ replicate k 32
+    front = append-nil (repeat k (encode 32) ++ [] ++ []) ∙ append-nil (repeat k (encode 32) ++ [])
+        ∙ append-nil (repeat k (encode 32)) ∙ spaces k
 
-pub right_six : (d : List ℕ) → right 6 d ≡ padded_integral (format_spec 32 3 0 6 18446744073709551615) false [] d
+pub right_in : (n : ℕ) (d : List ℕ) →
+    right n d ≡ padded_integral (format_spec 32 3 0 n 18446744073709551615) false [] d
 unfolding padded_integral char_count
-right_six d = sym (padded d (6 - length d - 0 - 0) (6 - length d - 0 - 0 - (6 - length d - 0 - 0)) (omega arith) ∙ ap (λ k. replicate k 32 ++ d) (omega arith))
-
-pub right_nine : (d : List ℕ) → right 9 d ≡ padded_integral (format_spec 32 3 0 9 18446744073709551615) false [] d
-unfolding padded_integral char_count
-right_nine d = sym (padded d (9 - length d - 0 - 0) (9 - length d - 0 - 0 - (9 - length d - 0 - 0)) (omega arith) ∙ ap (λ k. replicate k 32 ++ d) (omega arith))
-
-pub right_four : (d : List ℕ) → right 4 d ≡ padded_integral (format_spec 32 3 0 4 18446744073709551615) false [] d
-unfolding padded_integral char_count
-right_four d = sym (padded d (4 - length d - 0 - 0) (4 - length d - 0 - 0 - (4 - length d - 0 - 0)) (omega arith) ∙ ap (λ k. replicate k 32 ++ d) (omega arith))
+right_in n d =
+    let before = n - length d - 0 - 0 in
+    sym (padded d before (before - before) (omega arith) ∙ ap (λ k. replicate k 32 ++ d) (omega arith))

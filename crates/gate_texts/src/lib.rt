@@ -3,4 +3,5 @@
 
 pub mod build;
 mod lines;
+pub mod orders;
 pub mod status;

@@ -12,5 +12,6 @@ returns c =
     let back = rw (c.as_str-queue.ensures.value, c.get-revision.ensures.value) at c.in_ok-back.ensures in
     let written = rw (c.get-change.ensures.value, c.as_str-job.ensures.value) at c.in_ok-text.ensures.ok in
     written
-    ∙ ap (λ l. string_bytes c.in_ok-front.front ++ (codes ",\"change\":" ++ (decimal b.change ++ (codes ",\"job\":\"" ++ (b.job ++ (34 ∷ l)))))) back
+    ∙ ap (λ l. string_bytes c.in_ok-front.front ++ (codes ",\"change\":" ++ (decimal b.change
+    ++ (codes ",\"job\":\"" ++ (b.job ++ (34 ∷ l)))))) back
     ∙ build_written b (string_bytes c.in_ok-ahead.ahead) (string_bytes c.in_ok-front.front) ahead begun

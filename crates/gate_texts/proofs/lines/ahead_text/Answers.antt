@@ -1,6 +1,6 @@
 use Rattle.std.proofs.Common.{rules}
-use Rattle.gate_texts.proofs.Padding.{right_six}
+use Rattle.gate_texts.proofs.Padding.{right_in}
 use Rattle.gate_texts.proofs.lines.ahead_text.Goals as goal
 
 pub returns-in-Some : goal.returns-in-Some
-returns-in-Some c = rw (c.in-Some.is, right_six) (search rules)
+returns-in-Some c = rw (c.in-Some.is, right_in 6) (search rules)

@@ -1,6 +1,6 @@
 use Rattle.std.proofs.Common.{rules}
-use Rattle.gate_texts.proofs.Padding.{right_six, right_nine, right_four}
+use Rattle.gate_texts.proofs.Padding.{right_in}
 use Rattle.gate_texts.proofs.lines.numbers_text.Goals as goal
 
 pub returns : goal.returns
-returns c = rw (right_six, right_nine, right_four) (search rules)
+returns c = rw (right_in 6, right_in 9, right_in 4) (search rules)

@@ -1,4 +1,4 @@
-use Rattle.std.proofs.Common.{◌≡◌, ◌++◌, ◌∙◌, sym, ap, subst, true}
+use Rattle.std.proofs.Common.{◌≡◌, ◌++◌, ◌∙◌, ap, subst, true}
 use Rattle.std.specs.Prelude.{string_bytes}
 use Rattle.gate_types.specs.Settings.{Settings, are_sound}
 use Rattle.gate_reads.proofs.Kept.{then}

@@ -1,0 +1,104 @@
+//! The orders that are shown, as a text.
+ghost use Rattle.std.specs.Prelude.{◌≡◌, ◌++◌, [], IfOk, OnOk, option_map, string_bytes};
+ghost use Rattle.gate_types.specs.SubmitOrder.{Order};
+ghost use Rattle.gate_types.specs.OrderList.{shown, order_list_text};
+ghost use Rattle.gate_book.specs.Kept.{OfHeld, OfHeldUnder, IsKept};
+ghost use Rattle.gate_reads.specs.Known.{known_or_closed};
+ghost use Rattle.gate_reads.specs.Orders.{order_in, IsRowOf};
+ghost use Rattle.gate_texts.specs.Listed.{order_piece, comma_behind, with_order};
+
+use gate_book::book::Book;
+use gate_book::fault::BookFault;
+use gate_reads::orders::order_of_queue;
+use gate_types::config::Config;
+use gate_types::names::{Name, NoMemory, Text};
+use gate_types::records::{Change, Item};
+use std::alloc::Global;
+
+fn project_of(change: &Option<Change>) -> &str
+    ensures { result.now ≡ (known_or_closed change.now).project }
+{
+    match change {
+        Some(change) => change.project.as_str(),
+        None => "",
+    }
+}
+
+/// The order of an item, its members in byte order of their names.
+fn text_of(alloc: Global, item: &Item, project: &str, queue: &str) -> Result<String, NoMemory>
+    ensures { IfOk result (λ s. string_bytes s ≡ order_piece item.now project.now queue.now []) }
+{
+    let change = item.change.get();
+    let order = item.serial.get();
+    let revision = item.revision.get();
+    let text = format!(in alloc;
+        "{{\"change\":{change},\"order\":{order},\"project\":\"{project}\",\"queue\":\"{queue}\",\
+         \"revision\":{revision}}}"
+    )?;
+    Ok(text)
+}
+
+fn order_text<B: Book>(
+    alloc: Global,
+    book: &mut B,
+    queue: &Name,
+    item: &Item,
+) -> Result<Text, BookFault>
+    ensures found { OfHeld B.IsTrusted B.Holds book.old book.new (λ c x. (o : Order) →
+        IsRowOf c x.state queue.now item.now o → IfOk result (λ text. text ≡ shown x.state o [])) }
+    ensures kept { IsKept B.IsTrusted B.Holds B.LeavesOneOf book.old book.new }
+{
+    let known = book.change(item.change)?;
+    let text = text_of(alloc, item, project_of(&known), queue.as_str())?;
+    Ok(Text::new(text))
+}
+
+/// The order of a queue, none where it shows none.
+fn order_of<B: Book>(
+    alloc: Global,
+    book: &mut B,
+    config: &Config,
+    queue: &Name,
+) -> Result<Option<Text>, BookFault>
+    ensures found { OfHeldUnder B.IsTrusted B.Holds book.old book.new config.now (λ x.
+        IfOk result (λ found. found
+        ≡ option_map (λ o. shown x.state o []) (order_in config.now x.state queue.now))) }
+    ensures kept { IsKept B.IsTrusted B.Holds B.LeavesOneOf book.old book.new }
+{
+    match order_of_queue(alloc, book, config, queue)? {
+        Some(item) => Ok(Some(order_text(alloc, book, queue, &item)?)),
+        None => Ok(None),
+    }
+}
+
+fn comma_behind(list: &str) -> &'static str
+    ensures { result.now ≡ comma_behind list.now }
+{
+    if list.is_empty() { "" } else { "," }
+}
+
+fn push_order(list: &mut String, order: &Option<Text>) -> Result<(), NoMemory>
+    ensures { OnOk result (string_bytes list.new ≡ with_order (string_bytes list.old) order.now) }
+{
+    if let Some(order) = order {
+        let comma = comma_behind(list.as_str());
+        list.push_str(comma)?;
+        list.push_str(order.as_str())?;
+    }
+    Ok(())
+}
+
+/// The orders that are shown.
+pub fn order_list<B: Book>(alloc: Global, book: &mut B, config: &Config) -> Result<Text, BookFault>
+    ensures found { OfHeldUnder B.IsTrusted B.Holds book.old book.new config.now (λ x.
+        IfOk result (λ text. text ≡ order_list_text config.now x.state)) }
+    ensures kept { IsKept B.IsTrusted B.Holds B.LeavesOneOf book.old book.new }
+{
+    let mut list = String::new(alloc);
+    for queue in config.queues.as_slice() {
+        let order = order_of(alloc, book, config, &queue.name)?;
+        push_order(&mut list, &order)?;
+    }
+    let text = format!(in alloc; "[{list}]")?;
+    Ok(Text::new(text))
+}
