@@ -1,15 +1,23 @@
 //! The gate: each delivery is exactly one step of the plain gate.
-ghost use Rattle.std.specs.Prelude.{◌≡◌};
+ghost use Rattle.std.specs.Prelude.{◌≡◌, ◌⊎◌, None, Some, option_map, IfOk, IfErr, MatchResult, string_bytes};
+ghost use Rattle.gate_types.specs.BuildText.{build_text};
 ghost use Rattle.gate_types.specs.Once.{is_unavailable};
-ghost use Rattle.gate_book.specs.Kept.{OfHeldUnder};
+ghost use Rattle.gate_types.specs.OrderList.{order_list_text};
+ghost use Rattle.gate_types.specs.Status.{status_text};
+ghost use Rattle.gate_types.specs.Step.{build_of};
+ghost use Rattle.gate_book.specs.Kept.{OfHeldUnder, IsKept};
 ghost use Rattle.gate_deliver.specs.Answered.{Answered, call};
 ghost use Rattle.gate_over.specs.Landing.{LandsRightly};
 
 use gate_book::book::Book;
 use gate_deliver::delivering::deliver;
 use gate_laws::orders;
+use gate_texts::build::build_text;
+use gate_texts::orders::order_list;
+use gate_texts::status::status;
 use gate_types::config::Config;
-use gate_types::deliveries::{Answer, Delivery};
+use gate_types::deliveries::{Answer, Delivery, Refusal};
+use gate_types::numbers::BuildNo;
 use gate_types::records::Id;
 use std::alloc::Global;
 
@@ -55,5 +63,61 @@ impl<B: Book> Gate<B> {
         orders::a_shown_order_stays();
         orders::only_shown_orders_are_answered();
         deliver(alloc, &mut self.book, config, id, &delivery)
+    }
+
+    /// The orders that are shown, as JSON.
+    ///
+    /// # Errors
+    ///
+    /// `Unavailable` where the book gave a fault or memory was refused.
+    pub fn orders(&mut self, alloc: Global) -> Result<String, Refusal>
+        ensures text { OfHeldUnder B.IsTrusted B.Holds self.old.book self.new.book self.old.config (λ x.
+            IfOk result (λ text. string_bytes text ≡ order_list_text self.old.config x.state)) }
+        ensures unavailable { IfErr result (λ r. r ≡ Refusal.Unavailable) }
+        ensures kept { IsKept B.IsTrusted B.Holds B.LeavesOneOf self.old.book self.new.book }
+        ensures settings { self.new.config ≡ self.old.config }
+    {
+        match order_list(alloc, &mut self.book, &self.config) {
+            Ok(text) => Ok(text.into_string()),
+            Err(_) => Err(Refusal::Unavailable),
+        }
+    }
+
+    /// The build of a number, as JSON.
+    ///
+    /// # Errors
+    ///
+    /// `UnknownBuild` where there is none of this number; `Unavailable` where the book gave a fault or memory was
+    /// refused.
+    pub fn build(&mut self, alloc: Global, number: BuildNo) -> Result<String, Refusal>
+        ensures answered { OfHeldUnder B.IsTrusted B.Holds self.old.book self.new.book self.old.config (λ x.
+            MatchResult result (λ text. option_map build_text (build_of x.state number) ≡ Some (string_bytes text))
+            (λ r. (r ≡ Refusal.Unavailable) ⊎ ((r ≡ Refusal.UnknownBuild) × (build_of x.state number ≡ None)))) }
+        ensures kept { IsKept B.IsTrusted B.Holds B.LeavesOneOf self.old.book self.new.book }
+        ensures settings { self.new.config ≡ self.old.config }
+    {
+        match build_text(alloc, &mut self.book, number) {
+            Ok(Some(text)) => Ok(text.into_string()),
+            Ok(None) => Err(Refusal::UnknownBuild),
+            Err(_) => Err(Refusal::Unavailable),
+        }
+    }
+
+    /// The status text.
+    ///
+    /// # Errors
+    ///
+    /// `Unavailable` where the book gave a fault or memory was refused.
+    pub fn status(&mut self, alloc: Global) -> Result<String, Refusal>
+        ensures text { OfHeldUnder B.IsTrusted B.Holds self.old.book self.new.book self.old.config (λ x.
+            IfOk result (λ text. string_bytes text ≡ status_text self.old.config x.state)) }
+        ensures unavailable { IfErr result (λ r. r ≡ Refusal.Unavailable) }
+        ensures kept { IsKept B.IsTrusted B.Holds B.LeavesOneOf self.old.book self.new.book }
+        ensures settings { self.new.config ≡ self.old.config }
+    {
+        match status(alloc, &mut self.book, &self.config) {
+            Ok(text) => Ok(text.into_string()),
+            Err(_) => Err(Refusal::Unavailable),
+        }
     }
 }
