@@ -11,12 +11,12 @@ ghost use Rattle.gate_settling.specs.Faults.{MayAnswer};
 use crate::rows::{has_landed, is_out};
 use gate_book::book::Book;
 use gate_book::fault::BookFault;
+use gate_queue::slots::same_name;
 use gate_queue::window::{grow, shrink};
 use gate_raw::touched::{Event, TouchedItem};
 use gate_types::config::{Config, Queue};
 use gate_types::names::Name;
 use gate_types::records::Verdict;
-use gate_queue::slots::same_name;
 use gate_walk::walk::{QueueFacts, TakenOut, Touched, Walk};
 use std::alloc::Global;
 

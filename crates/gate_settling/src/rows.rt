@@ -11,13 +11,13 @@ ghost use Rattle.gate_settling.specs.Faults.{MayAnswer};
 use gate_book::book::Book;
 use gate_book::fault::BookFault;
 use gate_book::rows::QueuedItem;
+use gate_queue::slots::same_name;
 use gate_raw::touched::{Event, TouchedItem};
 use gate_types::config::{Config, Job, Project};
 use gate_types::deliveries::Ending;
 use gate_types::names::NoMemory;
 use gate_types::numbers::{ChangeNo, Serial};
 use gate_types::records::{Build, Change, Outcome, Stage};
-use gate_queue::slots::same_name;
 use gate_walk::seen::SeenNeed;
 use std::alloc::Global;
 
