@@ -64,7 +64,7 @@ fn after_all(drawn: LastDrawn, edits: &[Edit]) -> LastDrawn
 }
 
 /// The last number drawn of each kind, after the edits.
-pub fn last_drawn<B: Book>(book: &mut B, edits: &[Edit]) -> Result<LastDrawn, BookFault>
+pub(crate) fn last_drawn<B: Book>(book: &mut B, edits: &[Edit]) -> Result<LastDrawn, BookFault>
     ensures found { OfLed B.IsTrusted B.Holds book.old book.new edits.now (λ c v.
         IfOk result (λ drawn. drawn ≡ v.counters)) }
     ensures kept { IsKept B.IsTrusted B.Holds B.LeavesOneOf book.old book.new }
@@ -79,7 +79,7 @@ pub fn last_drawn<B: Book>(book: &mut B, edits: &[Edit]) -> Result<LastDrawn, Bo
 }
 
 /// Whether one of them is past 10^15.
-pub fn is_past(drawn: LastDrawn) -> bool
+pub(crate) fn is_past(drawn: LastDrawn) -> bool
     ensures { result ≡ (nat_lt 1000000000000000 drawn.approval || nat_lt 1000000000000000 drawn.build ||
         nat_lt 1000000000000000 drawn.order) }
 {

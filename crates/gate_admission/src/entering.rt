@@ -101,7 +101,7 @@ fn may_enter<B: Book>(
 }
 
 /// The first ready change that may enter its queue.
-pub fn first_to_enter<B: Book>(
+pub(crate) fn first_to_enter<B: Book>(
     alloc: Global,
     book: &mut B,
     config: &Config,
@@ -257,7 +257,7 @@ fn with_entering(
 }
 
 /// The edits, and behind them those of a ready change that enters its queue under the next serial.
-pub fn enter<B: Book>(
+pub(crate) fn enter<B: Book>(
     alloc: Global,
     book: &mut B,
     config: &Config,

@@ -87,7 +87,7 @@ fn after_all(alloc: Global, ready: Vec<Ready>, edits: &[Edit]) -> Result<Vec<Rea
 }
 
 /// The ready list after the edits.
-pub fn ready_list<B: Book>(
+pub(crate) fn ready_list<B: Book>(
     alloc: Global,
     book: &mut B,
     edits: &[Edit],

@@ -84,7 +84,11 @@ fn count_moves<B: Book>(book: &mut B, edits: &[Edit], queue: &Name) -> Result<Mo
 }
 
 /// Whether a queue has fewer than 1,000 items after the edits.
-pub fn has_room<B: Book>(book: &mut B, edits: &[Edit], queue: &Name) -> Result<bool, BookFault>
+pub(crate) fn has_room<B: Book>(
+    book: &mut B,
+    edits: &[Edit],
+    queue: &Name,
+) -> Result<bool, BookFault>
     ensures found { OfLed B.IsTrusted B.Holds book.old book.new edits.now (λ c v.
         IfOk result (λ has. has ≡ has_room v queue.now)) }
     ensures kept { IsKept B.IsTrusted B.Holds B.LeavesOneOf book.old book.new }

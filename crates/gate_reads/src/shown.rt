@@ -14,7 +14,7 @@ use gate_types::records::Item;
 use std::alloc::Global;
 
 /// Whether each job of an item has ended.
-pub fn have_jobs_ended<B: Book>(
+pub(crate) fn have_jobs_ended<B: Book>(
     alloc: Global,
     book: &mut B,
     config: &Config,
@@ -31,7 +31,7 @@ pub fn have_jobs_ended<B: Book>(
 }
 
 /// Whether the order of an item is shown: its row tells whether it fails and whether something is ahead of it.
-pub fn is_shown<B: Book>(
+pub(crate) fn is_shown<B: Book>(
     alloc: Global,
     book: &mut B,
     config: &Config,

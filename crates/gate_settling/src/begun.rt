@@ -68,7 +68,7 @@ fn starting_point(touched: &TouchedItem) -> Touched
 }
 
 /// The walk for a touched item, before its first visit; none where its queue isn't there.
-pub fn begun<B: Book>(
+pub(crate) fn begun<B: Book>(
     alloc: Global,
     book: &mut B,
     config: &Config,

@@ -22,7 +22,7 @@ use gate_walk::seen::SeenNeed;
 use std::alloc::Global;
 
 /// Whether the item left its queue.
-pub fn is_out(event: Event) -> bool
+pub(crate) fn is_out(event: Event) -> bool
     ensures { result ≡ rows.is_out event }
 {
     match event {
@@ -33,7 +33,7 @@ pub fn is_out(event: Event) -> bool
 }
 
 /// Whether the item has landed.
-pub fn has_landed(event: Event) -> bool
+pub(crate) fn has_landed(event: Event) -> bool
     ensures { result ≡ rows.has_landed event }
 {
     match event {
@@ -236,7 +236,7 @@ pub struct RowFacts<'c> {
 }
 
 /// What stands beside the row of a change and a serial in the touched queue.
-pub fn facts_now<'c, B: Book>(
+pub(crate) fn facts_now<'c, B: Book>(
     alloc: Global,
     book: &mut B,
     config: &'c Config,

@@ -45,7 +45,7 @@ fn visited<B: Book>(
 }
 
 /// Visits rows until none is wanted.
-pub fn walked<B: Book>(
+pub(crate) fn walked<B: Book>(
     alloc: Global,
     book: &mut B,
     config: &Config,

@@ -54,7 +54,10 @@ fn first_needing<B: Book>(
 }
 
 /// The first row that a walk wants: that of the touched item, or the one behind it.
-pub fn first_wanted<B: Book>(book: &mut B, touched: &TouchedItem) -> Result<Option<Item>, BookFault>
+pub(crate) fn first_wanted<B: Book>(
+    book: &mut B,
+    touched: &TouchedItem,
+) -> Result<Option<Item>, BookFault>
     ensures row { OfHeld B.IsTrusted B.Holds book.old book.new (λ c x. IfOk result (λ row.
         row ≡ read.first_above (rows.first_behind touched.now) (read.items_in c x.state touched.now.queue))) }
     ensures rises { IfOk result (λ row. IfSome row (λ r. touched.now.item.serial ≤ r.serial)) }
@@ -72,7 +75,7 @@ pub fn first_wanted<B: Book>(book: &mut B, touched: &TouchedItem) -> Result<Opti
 }
 
 /// The row that a walk wants next, if it is there.
-pub fn wanted<B: Book>(
+pub(crate) fn wanted<B: Book>(
     book: &mut B,
     queue: &Name,
     gone: &[ChangeNo],

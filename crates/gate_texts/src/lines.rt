@@ -12,7 +12,12 @@ use gate_types::records::{Build, Item, Slot};
 use std::alloc::Global;
 
 /// The line of a queue, with how many landings it has.
-pub fn queue_line(alloc: Global, name: &str, window: u32, landings: u64) -> Result<String, NoMemory>
+pub(crate) fn queue_line(
+    alloc: Global,
+    name: &str,
+    window: u32,
+    landings: u64,
+) -> Result<String, NoMemory>
     ensures { IfOk result (λ s. string_bytes s ≡ line.queue_line name.now window landings) }
 {
     let text = format!(in alloc; "queue {name} window {window} landed {landings}\n")?;
@@ -20,7 +25,11 @@ pub fn queue_line(alloc: Global, name: &str, window: u32, landings: u64) -> Resu
 }
 
 /// The line of a ready change.
-pub fn waiting_line(alloc: Global, change: ChangeNo, revision: u64) -> Result<String, NoMemory>
+pub(crate) fn waiting_line(
+    alloc: Global,
+    change: ChangeNo,
+    revision: u64,
+) -> Result<String, NoMemory>
     ensures { IfOk result (λ s. string_bytes s ≡ line.waiting_line change revision) }
 {
     let change = change.get();
@@ -98,7 +107,7 @@ fn jobs_text(alloc: Global, builds: &[Build], jobs: &[Job]) -> Result<String, No
 }
 
 /// The line of an item, its live builds and its jobs known.
-pub fn item_line(
+pub(crate) fn item_line(
     alloc: Global,
     item: &Item,
     blocked: bool,
