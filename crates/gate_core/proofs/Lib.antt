@@ -1,15 +1,4 @@
 pub mod LineLemmas
 pub mod RunLemmas
 pub mod ReplyLemmas
-pub mod PlaceLemmas
-pub mod TableLemmas
-pub mod PlacedLemmas
-pub mod QueueLemmas
-pub mod QuietLemmas
-pub mod AdmitLemmas
-pub mod NeedLemmas
-pub mod StayLemmas
-pub mod StepLemmas
-pub mod ReviseLemmas
-pub mod PadLemmas
-pub mod StatusLemmas
+pub mod LandingLemmas

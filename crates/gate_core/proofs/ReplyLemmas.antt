@@ -1,5 +1,5 @@
 -- From lines answered in turn to the replies and the calls of the lines.
-use Rattle.std.proofs.Common.{◌≡◌, ℕ, ◌<◌, ◌≤◌, Bool, true, false, List, [], ◌∷◌, ◌++◌, map, length, take, Option, Result, Ok, Err, inl, inr, rules, refl, sym, ap, ◌∙◌, subst}
+use Rattle.std.proofs.Common.{◌≡◌, ◌≢◌, true≢false, ℕ, ◌<◌, ◌≤◌, Bool, true, false, List, [], ◌∷◌, ◌++◌, map, length, take, Option, Result, Ok, Err, inl, inr, rules, refl, sym, ap, ◌∙◌, subst}
 use Rattle.std.specs.Bool.{if◌then◌else◌}
 use Rattle.std.specs.Io.KnownBytes.{Appends}
 use Rattle.std.proofs.lemmas.List.{length-map}
@@ -8,19 +8,22 @@ use Rattle.std.proofs.lemmas.List.Sums.{fold-append}
 use Rattle.gate_types.specs.declared.records.Id.{Id}
 use Rattle.gate_types.specs.declared.deliveries.Delivery.{Delivery}
 use Rattle.gate_types.specs.declared.deliveries.Answer.{Answer}
+use Rattle.gate_types.specs.declared.deliveries.Answer.TheVariants as answer
 use Rattle.gate_types.specs.declared.deliveries.Refusal.{Refusal}
 use Rattle.gate_types.specs.declared.deliveries.Refusal.TheVariants as refusal
 use Rattle.gate_types.specs.Settings.{Settings}
-use Rattle.gate_types.specs.declared.deliveries.Answer.TheVariants as answer
 use Rattle.gate_types.specs.Once.{Content, Call, once, next_content, answer_of, answer_text, answers, is_unavailable}
 use Rattle.gate_types.specs.Refusals.{refusal_text}
-use Rattle.gate_core.specs.Gated.{Gated, Delivered, delivered, is_taken}
+use Rattle.gate_types.specs.Forms.{IsLawfulContent}
+use Rattle.gate_book.specs.Kept.{OfHeldUnder}
+use Rattle.gate_deliver.specs.Answered.{Answered, call}
+use Rattle.gate_core.specs.declared.gate.Gate.{Gate}
+use Rattle.gate_core.specs.Gated.{Gated}
 use Rattle.gate_core.specs.Limit.{limit, too_large}
-use Rattle.gate_wire.specs.declared.door.Door.TheVariants as door
-use Rattle.gate_wire.specs.Reading.{says}
-use Rattle.gate_core.specs.Heard.{if_taken, heard}
+use Rattle.gate_core.specs.Heard.{heard}
 use Rattle.gate_core.specs.Runs.{Answers, Runs, Broke}
 use Rattle.gate_core.specs.Replies.{CallsAreAnswered, call_replies, Marked, is_too_long, call_read, call_of, calls_of, gate_after, text_read, reply_to, replies, Told, Replayed, Cut}
+use Rattle.gate_core.specs.Held.{IsOver, Goes, Tells}
 
 -- the reply to a line, by whether it is too long, its mark and what was read
 abbrev reply_by : Bool → Bool → Gated → Result (Id × Delivery) Refusal → List ℕ
@@ -50,85 +53,169 @@ answered : (c : Settings) (x : Content) (id : Id) (d : Delivery) (u : Bool)
 answered c x id d true = refl
 answered c x id d false = refl
 
--- what a line says, by whether its kind is taken
-heard_by : (line : List ℕ) (x : Id × Delivery) (t : Bool) → says door.Any line ≡ Ok x → is_taken x.1 ≡ t → heard line ≡ (if t then Ok x else Err refusal.BadDelivery)
-heard_by line x t said e = ap if_taken said ∙ ap (λ t. if t then Ok x else Err refusal.BadDelivery) e
-
--- what a call gives, by whether its kind is taken
-abbrev delivered_by : Gated → Call → Bool → Delivered
-delivered_by g k t =
-    if t then record { answer = answer_of g.settings g.content k; gate = record g { content = next_content g.settings g.content k } }
-    else record { answer = answer.Refused refusal.BadDelivery; gate = g }
-
--- a line that says a delivery, by what its call gives and by whether its kind is taken
-told_by_kind : (g after : Gated) (line : List ℕ) (id : Id) (d : Delivery) (a : Answer) (t : Bool) → length line ≤ limit → heard line ≡ (if t then Ok (id, d) else Err refusal.BadDelivery)
-    → delivered_by g (record { id = id; delivery = d; unavailable = is_unavailable a }) t ≡ record { answer = a; gate = after } → Told g line (answer_text a) after
-told_by_kind g after line id d a true short said e =
+-- a line that says a delivery, by its answer
+pub told_call : (g : Gated) (line : List ℕ) (id : Id) (d : Delivery) (a : Answer) → length line ≤ limit →
+    heard line ≡ Ok (id, d) →
+    (let k : Call = record { id = id; delivery = d; unavailable = is_unavailable a } in
+    a ≡ answer_of g.settings g.content k →
+    Told g line (answer_text a) (record g { content = next_content g.settings g.content k }))
+told_call g line id d a short said e =
     let u = is_unavailable a in
-    told_by g after line (answer_text a) u false (Ok (id, d)) (fits line short) said
-    (ap (λ p. answer_text p.answer) (sym e) ∙ answered g.settings g.content id d u)
-    (ap (λ p. p.gate) (sym e))
-told_by_kind g after line id d a false short said e =
-    told_by g after line (answer_text a) false false (Err refusal.BadDelivery) (fits line short) said
-    (ap (λ p. answer_text p.answer) (sym e))
-    (ap (λ p. p.gate) (sym e))
+    let k : Call = record { id = id; delivery = d; unavailable = u } in
+    told_by g (record g { content = next_content g.settings g.content k }) line (answer_text a) u false (Ok (id, d))
+    (fits line short) said (ap answer_text e ∙ answered g.settings g.content id d u) refl
 
--- a line that says a delivery, by what its call gives
-pub told_call : (g after : Gated) (line : List ℕ) (id : Id) (d : Delivery) (a : Answer) → length line ≤ limit → says door.Any line ≡ Ok (id, d)
-    → delivered g (record { id = id; delivery = d; unavailable = is_unavailable a }) ≡ record { answer = a; gate = after } → Told g line (answer_text a) after
-told_call g after line id d a short said e =
-    told_by_kind g after line id d a (is_taken d) short (heard_by line (id, d) (is_taken d) said refl) e
+-- a line that is answered `unavailable` changes nothing
+stays_marked : (g : Gated) (r : Result (Id × Delivery) Refusal) → g ≡ gate_by false true g r
+stays_marked g (Ok x) = refl
+stays_marked g (Err e) = refl
+
+-- a line that is refused before any delivery is heard, by whether that is for want of memory
+told_by_refusal : (g : Gated) (line : List ℕ) (r : Refusal) (u : Bool) → length line ≤ limit →
+    is_unavailable (answer.Refused r) ≡ u → (r ≢ refusal.Unavailable → heard line ≡ Err r) →
+    Told g line (refusal_text r) g
+told_by_refusal g line refusal.Unavailable true short e said =
+    told_by g g line (refusal_text refusal.Unavailable) true false (heard line) (fits line short) refl refl
+    (stays_marked g (heard line))
+told_by_refusal g line r false short e said =
+    let other : r ≢ refusal.Unavailable = λ same. true≢false (sym (ap (λ q. is_unavailable (answer.Refused q)) same) ∙ e) in
+    told_by g g line (refusal_text r) false false (Err r) (fits line short) (said other) refl refl
+told_by_refusal g line r true short e said = absurd (true≢false (sym e))
+
+-- a line that is refused before any delivery is heard
+pub told_refusal : (g : Gated) (line : List ℕ) (r : Refusal) → length line ≤ limit →
+    (r ≢ refusal.Unavailable → heard line ≡ Err r) → Told g line (refusal_text r) g
+told_refusal g line r short said = told_by_refusal g line r (is_unavailable (answer.Refused r)) short refl said
 
 -- a line over the limit is
 long : (line : List ℕ) → limit < length line → is_too_long line ≡ true
 long line h = search rules
-
--- a line that the engine answers, too long or not
-answers_told : (g after : Gated) (line text : List ℕ) → Answers Told g line text after → Told g line text after
-answers_told g after line text (inl (short, h)) = h
-answers_told g after line text (inr (over, said, stays)) = told_by g after line text false true (heard line) (long line over) refl said stays
 
 -- lines in two parts, one after the other
 pub gate_after-append : (g : Gated) (ms ns : List Marked) → gate_after (gate_after g ms) ns ≡ gate_after g (ms ++ ns)
 gate_after-append g ms ns = ap (λ x. record g { content = x })
     (sym (ap (once g.settings g.content) (flat_map-append call_of ms ns) ∙ fold-append (next_content g.settings) g.content (calls_of ms) (calls_of ns)))
 
--- what the engine ran through is replayed
-pub replayed_of_runs : (g : Gated) (lines : List (List ℕ)) (text : List ℕ) (after : Gated) → Runs Told g lines text after → Replayed g lines text after
-replayed_of_runs g [] text after (said, stays) = record { marked = []; every_line = refl; said = said; stands = stays }
-replayed_of_runs g (line ∷ lines) text after (said, more, mid, answers, joined, rest) =
-    let told = answers_told g mid line said answers in
-    let later = replayed_of_runs mid lines more after rest in
+-- ---- gates over books
+
+-- what changes nothing
+pub goes_nowhere : {B : Type 0} (trusted : B → Type 0) (holds : B → Settings → Content → Type 0) (old new : Gate B)
+    (P : Gated → Gated → Type 0) → new ≡ old → ((g : Gated) → P g g) → Goes trusted holds old new P
+goes_nowhere trusted holds old new P stays at =
+    subst (λ n. Goes trusted holds old n P) (sym stays)
+    (record { settings = refl; trusted_before = λ t. t; passes = λ t g over. (g, over, at g) })
+
+-- one call behind another
+pub goes_on : {B : Type 0} (trusted : B → Type 0) (holds : B → Settings → Content → Type 0) (old mid new : Gate B)
+    (P Q R : Gated → Gated → Type 0) → Goes trusted holds old mid P → Goes trusted holds mid new Q →
+    ((g h after : Gated) → P g h → Q h after → R g after) → Goes trusted holds old new R
+goes_on trusted holds old mid new P Q R first next both = record {
+  settings = next.settings ∙ first.settings;
+  trusted_before = λ t. first.trusted_before (next.trusted_before t);
+  passes = λ t g over.
+      let a = first.passes (next.trusted_before t) g over in
+      let b = next.passes t a.0 (subst (λ c. IsOver holds c mid.book a.0) (sym first.settings) a.1) in
+      (b.0, subst (λ c. IsOver holds c new.book b.0) first.settings b.1, both g a.0 b.0 a.2 b.2);
+}
+
+-- a line that says a delivery, by what the gate's answer to it came to
+pub goes_told : {B : Type 0} (trusted : B → Type 0) (holds : B → Settings → Content → Type 0) (old new : Gate B)
+    (line : List ℕ) (id : Id) (d : Delivery) (a : Answer) (text : List ℕ) (left leaves : List Content → Type 0) →
+    new.config ≡ old.config → (trusted new.book → trusted old.book) → length line ≤ limit → heard line ≡ Ok (id, d) →
+    text ≡ answer_text a →
+    OfHeldUnder trusted holds old.book new.book old.config (λ x.
+    Answered old.config x (call id d (is_unavailable a)) a (holds new.book old.config) left leaves) →
+    Goes trusted holds old new (λ g after. Told g line text after)
+goes_told trusted holds old new line id d a text left leaves settings before short said is answered = record {
+  settings = settings;
+  trusted_before = before;
+  passes = λ t g over.
+      let k = call id d (is_unavailable a) in
+      let h = answered t g.content over.held over.lawful in
+      let same = sym over.settings in
+      let after : Gated = record g { content = next_content g.settings g.content k } in (
+        after,
+        record {
+          settings = over.settings;
+          held = subst (λ c. holds new.book old.config (next_content c g.content k)) same h.content;
+          lawful = subst (λ c. IsLawfulContent old.config (next_content c g.content k)) same h.lawful;
+        },
+        subst (λ s. Told g line s after) (sym is)
+            (told_call g line id d a short said (subst (λ c. a ≡ answer_of c g.content k) same h.answer)),
+      );
+}
+
+-- a line that the engine answers, too long or not
+answers_told : {B : Type 0} (trusted : B → Type 0) (holds : B → Settings → Content → Type 0) (old : Gate B)
+    (line text : List ℕ) (new : Gate B) → Answers (Tells trusted holds) old line text new →
+    Tells trusted holds old line text new
+answers_told trusted holds old line text new (inl (short, h)) = h
+answers_told trusted holds old line text new (inr (over, said, stays)) =
+    goes_nowhere trusted holds old new (λ g after. Told g line text after) stays
+    (λ g. told_by g g line text false true (heard line) (long line over) refl said refl)
+
+-- a line, and lines behind it
+replayed_cons : (g mid after : Gated) (line said : List ℕ) (lines : List (List ℕ)) (more text : List ℕ) →
+    text ≡ (said ++ 10 ∷ []) ++ more → Told g line said mid → Replayed mid lines more after →
+    Replayed g (line ∷ lines) text after
+replayed_cons g mid after line said lines more text joined told later =
     let m : Marked = record { line = line; unavailable = told.unavailable } in record {
       marked = m ∷ later.marked;
       every_line = ap (λ l. line ∷ l) later.every_line;
       said = joined ∙ ap (λ s. (s ++ 10 ∷ []) ++ more) told.said
           ∙ ap (λ s. (reply_to g m ++ 10 ∷ []) ++ s) (later.said ∙ ap (λ h. replies h later.marked) told.stands);
-      stands = later.stands ∙ ap (λ h. gate_after h later.marked) told.stands ∙ gate_after-append g (m ∷ []) later.marked;
+      stands = later.stands ∙ ap (λ h. gate_after h later.marked) told.stands
+          ∙ gate_after-append g (m ∷ []) later.marked;
     }
 
--- what the engine broke off is cut
-pub cut_of_broke : (g : Gated) (lines : List (List ℕ)) (after : Gated) (old new : Option (List ℕ)) (b : Broke Told g lines after old new)
-    → (text : List ℕ) × (cut : Cut g lines text after) × (length cut.done ≡ length b.done) × Appends old new text
-cut_of_broke g lines after old new b =
-    let done = replayed_of_runs g b.done b.text b.mid b.ran in
-    let told = answers_told b.mid after b.line b.said b.answered in
-    let m : Marked = record { line = b.line; unavailable = told.unavailable } in
-    let reply : b.said ≡ reply_to (gate_after g done.marked) m = told.said ∙ ap (λ h. reply_to h m) done.stands in (
-      b.text ++ take b.at (b.said ++ 10 ∷ []),
+-- what the engine ran through is replayed
+pub replayed_of_runs : {B : Type 0} (trusted : B → Type 0) (holds : B → Settings → Content → Type 0) (old : Gate B)
+    (lines : List (List ℕ)) (text : List ℕ) (new : Gate B) → Runs (Tells trusted holds) old lines text new →
+    Goes trusted holds old new (λ g after. Replayed g lines text after)
+replayed_of_runs trusted holds old [] text new (said, stays) =
+    goes_nowhere trusted holds old new (λ g after. Replayed g [] text after) stays
+    (λ g. record { marked = []; every_line = refl; said = said; stands = refl })
+replayed_of_runs trusted holds old (line ∷ lines) text new (said, more, mid, answers, joined, rest) =
+    goes_on trusted holds old mid new (λ g after. Told g line said after) (λ g after. Replayed g lines more after)
+    (λ g after. Replayed g (line ∷ lines) text after) (answers_told trusted holds old line said mid answers)
+    (replayed_of_runs trusted holds mid lines more new rest)
+    (λ g h after. replayed_cons g h after line said lines more text joined)
+
+-- lines, and a line behind them whose answer is cut
+cut_behind : (g mid after : Gated) (lines front : List (List ℕ)) (line : List ℕ) (more : List (List ℕ))
+    (text said : List ℕ) (at : ℕ) → lines ≡ front ++ line ∷ more → at < length (said ++ 10 ∷ []) →
+    Replayed g front text mid → Told mid line said after →
+    (cut : Cut g lines (text ++ take at (said ++ 10 ∷ [])) after) × (length cut.done ≡ length front)
+cut_behind g mid after lines front line more text said at split short done told =
+    let m : Marked = record { line = line; unavailable = told.unavailable } in
+    let reply : said ≡ reply_to (gate_after g done.marked) m = told.said ∙ ap (λ h. reply_to h m) done.stands in (
       record {
         done = done.marked;
         last = m;
-        unanswered = b.more;
-        every_line = ap (λ l. l ++ b.line ∷ b.more) done.every_line ∙ sym b.split;
-        at = b.at;
-        short = subst (λ s. b.at < length (s ++ 10 ∷ [])) reply b.short;
-        said = ap (λ s. s ++ take b.at (b.said ++ 10 ∷ [])) done.said ∙ ap (λ s. replies g done.marked ++ take b.at (s ++ 10 ∷ [])) reply;
-        stands = told.stands ∙ ap (λ h. gate_after h (m ∷ [])) done.stands ∙ gate_after-append g done.marked (m ∷ []);
+        unanswered = more;
+        every_line = ap (λ l. l ++ line ∷ more) done.every_line ∙ sym split;
+        at = at;
+        short = subst (λ s. at < length (s ++ 10 ∷ [])) reply short;
+        said = ap (λ s. s ++ take at (said ++ 10 ∷ [])) done.said
+            ∙ ap (λ s. replies g done.marked ++ take at (s ++ 10 ∷ [])) reply;
+        stands = told.stands ∙ ap (λ h. gate_after h (m ∷ [])) done.stands
+            ∙ gate_after-append g done.marked (m ∷ []);
       },
       sym (length-map done.marked (λ m. m.line)) ∙ ap length done.every_line,
-      b.written,
     )
+
+-- what the engine broke off is cut
+pub cut_of_broke : {B : Type 0} (trusted : B → Type 0) (holds : B → Settings → Content → Type 0) (old new : Gate B)
+    (lines : List (List ℕ)) (w v : Option (List ℕ)) (b : Broke (Tells trusted holds) old lines new w v) →
+    Goes trusted holds old new (λ g after.
+    (cut : Cut g lines (b.text ++ take b.at (b.said ++ 10 ∷ [])) after) × (length cut.done ≡ length b.done))
+cut_of_broke trusted holds old new lines w v b =
+    goes_on trusted holds old b.mid new (λ g after. Replayed g b.done b.text after)
+    (λ g after. Told g b.line b.said after)
+    (λ g after. (cut : Cut g lines (b.text ++ take b.at (b.said ++ 10 ∷ [])) after) × (length cut.done ≡ length b.done))
+    (replayed_of_runs trusted holds old b.done b.text b.mid b.ran)
+    (answers_told trusted holds b.mid b.line b.said new b.answered)
+    (λ g h after. cut_behind g h after lines b.done b.line b.more b.text b.said b.at b.split b.short)
 
 -- what a line adds to the replies to calls, by what was read
 abbrev AddsAnswer : Gated → List Marked → Bool → Bool → Result (Id × Delivery) Refusal → Type 0

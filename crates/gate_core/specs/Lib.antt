@@ -4,14 +4,8 @@ pub mod Limit
 pub mod Lines
 pub mod Gathered
 pub mod Replies
+pub mod Held
+pub mod Landing
 pub mod Said
 pub mod Line
 pub mod Runs
-pub mod Places
-pub mod Tables
-pub mod Placed
-pub mod Quiet
-pub mod Leaving
-pub mod Keeper
-pub mod Rulings
-pub mod QuietText

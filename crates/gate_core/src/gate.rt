@@ -1,67 +1,123 @@
 //! The gate: each delivery is exactly one step of the plain gate.
-ghost use Rattle.std.specs.Prelude.{◌≡◌, IfOk, IfErr, string_bytes};
+ghost use Rattle.std.specs.Prelude.{◌≡◌, ◌⊎◌, None, Some, option_map, IfOk, IfErr, MatchResult, string_bytes};
+ghost use Rattle.gate_types.specs.BuildText.{build_text};
 ghost use Rattle.gate_types.specs.Once.{is_unavailable};
+ghost use Rattle.gate_types.specs.OrderList.{order_list_text};
 ghost use Rattle.gate_types.specs.Status.{status_text};
+ghost use Rattle.gate_types.specs.Step.{build_of};
+ghost use Rattle.gate_book.specs.Kept.{OfHeldUnder, IsKept};
+ghost use Rattle.gate_deliver.specs.Answered.{Answered, call};
+ghost use Rattle.gate_core.specs.Landing.{LandsRightly};
 
-use crate::keeper::Keeper;
+use gate_book::book::Book;
+use gate_deliver::delivering::deliver;
+use gate_laws::orders;
+use gate_texts::build::build_text;
+use gate_texts::orders::order_list;
+use gate_texts::status::status;
 use gate_types::config::Config;
 use gate_types::deliveries::{Answer, Delivery, Refusal};
+use gate_types::numbers::BuildNo;
 use gate_types::records::Id;
 use std::alloc::Global;
-use std::marker::Model;
 
-/// A gate over its settings, with all that it knows in memory.
+/// A gate over a book, under its settings.
 #[derive(Drop)]
-pub struct Gate {
-    config: Config,
-    keeper: Keeper,
+pub struct Gate<B> {
+    pub config: Config,
+    pub book: B,
 }
 
-impl Model for Gate {
-    ghost use Rattle.gate_core.specs.Gated.{Gated};
-    ghost use Rattle.gate_core.specs.Keeper.{gated_of, IsSound};
-
-    ghost Value = { Gated };
-
-    ghost view = { λ g. gated_of g.config g.keeper };
-
-    ghost invariant = { λ g. IsSound g.config g.keeper };
-}
-
-impl Gate {
-    ghost use Rattle.gate_types.specs.declared.deliveries.Delivery.TheVariants as delivery;
-    ghost use Rattle.gate_core.specs.Gated.{opened, delivered};
-
-    /// A gate that has seen no delivery.
-    pub fn new(alloc: Global, config: Config) -> Gate
-        ensures { result ≡ opened config }
+impl<B: Book> Gate<B> {
+    /// A gate under these settings, over a book that was made under them.
+    pub fn new(config: Config, book: B) -> Gate<B>
+        ensures config { result.config ≡ config }
+        ensures book { result.book ≡ book }
     {
-        let _settings = &config.base;
-        Gate {
-            config,
-            keeper: Keeper::new(alloc),
-        }
+        Gate { config, book }
     }
 
-    /// The answer to a delivery. After a refusal nothing has changed. `unavailable` comes only
-    /// where memory is refused. Of the eight kinds a revision and an approval are taken by now;
-    /// any other is a bad delivery.
+    /// Gives the book back.
+    pub fn into_book(self) -> B
+        ensures { result ≡ self.book }
+    {
+        let Gate { config: _, book } = self;
+        book
+    }
+
+    /// The answer to a delivery. A first accepted delivery spends its id and its reply is kept; a spent id gets the
+    /// kept reply again if the delivery is the same, and `id-reused` if it is another one. After a refusal nothing has
+    /// changed; `unavailable` comes only where the book gave a fault or memory was refused.
     pub fn deliver(&mut self, alloc: Global, id: Id, delivery: Delivery) -> Answer
-        ensures { delivered self.old (record { id = id; delivery = delivery; unavailable = is_unavailable result })
-            ≡ record { answer = result; gate = self.new } }
+        ensures answered { OfHeldUnder B.IsTrusted B.Holds self.old.book self.new.book self.old.config (λ x.
+            Answered self.old.config x (call id delivery (is_unavailable result)) result
+            (B.Holds self.new.book self.old.config) (B.LeavesOneOf self.old.book self.old.config)
+            (B.LeavesOneOf self.new.book self.old.config)) }
+        ensures lands { OfHeldUnder B.IsTrusted B.Holds self.old.book self.new.book self.old.config (λ x.
+            LandsRightly self.old.config x (call id delivery (is_unavailable result)) result) }
+        ensures trusted { B.IsTrusted self.new.book → B.IsTrusted self.old.book }
+        ensures settings { self.new.config ≡ self.old.config }
     {
-        match self.keeper.answer(alloc, &self.config, id, delivery) {
-            Ok(answer) => answer,
-            Err(_) => Answer::Refused(Refusal::Unavailable),
+        let config = &self.config;
+        let _settings = &config.base;
+        orders::a_shown_order_stays();
+        orders::only_shown_orders_are_answered();
+        deliver(alloc, &mut self.book, config, id, &delivery)
+    }
+
+    /// The orders that are shown, as JSON.
+    ///
+    /// # Errors
+    ///
+    /// `Unavailable` where the book gave a fault or memory was refused.
+    pub fn orders(&mut self, alloc: Global) -> Result<String, Refusal>
+        ensures text { OfHeldUnder B.IsTrusted B.Holds self.old.book self.new.book self.old.config (λ x.
+            IfOk result (λ text. string_bytes text ≡ order_list_text self.old.config x.state)) }
+        ensures unavailable { IfErr result (λ r. r ≡ Refusal.Unavailable) }
+        ensures kept { IsKept B.IsTrusted B.Holds B.LeavesOneOf self.old.book self.new.book }
+        ensures settings { self.new.config ≡ self.old.config }
+    {
+        match order_list(alloc, &mut self.book, &self.config) {
+            Ok(text) => Ok(text.into_string()),
+            Err(_) => Err(Refusal::Unavailable),
         }
     }
 
-    /// The status text, or `unavailable` where memory is refused.
-    pub fn status(&self, alloc: Global) -> Result<String, Refusal>
-        ensures text { IfOk result (λ text. string_bytes text ≡ status_text self.now.settings self.now.content.state) }
-        ensures unavailable { IfErr result (λ r. r ≡ Refusal.Unavailable) }
+    /// The build of a number, as JSON.
+    ///
+    /// # Errors
+    ///
+    /// `UnknownBuild` where there is none of this number; `Unavailable` where the book gave a fault or memory was
+    /// refused.
+    pub fn build(&mut self, alloc: Global, number: BuildNo) -> Result<String, Refusal>
+        ensures answered { OfHeldUnder B.IsTrusted B.Holds self.old.book self.new.book self.old.config (λ x.
+            MatchResult result (λ text. option_map build_text (build_of x.state number) ≡ Some (string_bytes text))
+            (λ r. (r ≡ Refusal.Unavailable) ⊎ ((r ≡ Refusal.UnknownBuild) × (build_of x.state number ≡ None)))) }
+        ensures kept { IsKept B.IsTrusted B.Holds B.LeavesOneOf self.old.book self.new.book }
+        ensures settings { self.new.config ≡ self.old.config }
     {
-        let text = self.keeper.status(alloc, &self.config)?;
-        Ok(text)
+        match build_text(alloc, &mut self.book, number) {
+            Ok(Some(text)) => Ok(text.into_string()),
+            Ok(None) => Err(Refusal::UnknownBuild),
+            Err(_) => Err(Refusal::Unavailable),
+        }
+    }
+
+    /// The status text.
+    ///
+    /// # Errors
+    ///
+    /// `Unavailable` where the book gave a fault or memory was refused.
+    pub fn status(&mut self, alloc: Global) -> Result<String, Refusal>
+        ensures text { OfHeldUnder B.IsTrusted B.Holds self.old.book self.new.book self.old.config (λ x.
+            IfOk result (λ text. string_bytes text ≡ status_text self.old.config x.state)) }
+        ensures unavailable { IfErr result (λ r. r ≡ Refusal.Unavailable) }
+        ensures kept { IsKept B.IsTrusted B.Holds B.LeavesOneOf self.old.book self.new.book }
+        ensures settings { self.new.config ≡ self.old.config }
+    {
+        match status(alloc, &mut self.book, &self.config) {
+            Ok(text) => Ok(text.into_string()),
+            Err(_) => Err(Refusal::Unavailable),
+        }
     }
 }

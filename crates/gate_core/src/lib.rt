@@ -1,10 +1,9 @@
-//! The gate: deliveries in, replies out, each exactly one step of the plain gate.
+//! The gate over any book: deliveries in, replies out, each exactly one step of the plain gate.
 #![tactic(auto)]
 
 pub mod engine;
 pub mod fault;
 pub mod gate;
-mod keeper;
 mod line;
 pub mod replay;
 mod respond;

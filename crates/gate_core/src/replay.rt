@@ -5,10 +5,12 @@ ghost use Rattle.gate_types.specs.Tap.{inside, has_failed, Gave, IsReadOut, Took
 ghost use Rattle.gate_core.specs.Lines.{whole_lines, lines_of, ReadFor};
 ghost use Rattle.gate_core.specs.Gated.{Gated};
 ghost use Rattle.gate_core.specs.Replies.{Marked, Replayed, Cut, CallsAreAnswered};
+ghost use Rattle.gate_core.specs.Held.{Goes};
 
+use crate::gate::Gate;
+use gate_book::book::Book;
 use crate::engine::answer_lines;
 use crate::fault::IoFault;
-use crate::gate::Gate;
 use gate_types::tap::Tap;
 use std::alloc::Global;
 use std::io::{Read, Write};
@@ -22,9 +24,9 @@ use std::io::{Read, Write};
 /// `Read`: the reader failed; a line that was cut by this isn't acted on. `Write`: the writer
 /// failed within an answer, whose delivery stands, and nothing more was read. `NoMemory`: nothing
 /// was read or written. `Store`: never.
-pub fn replay<R: Read, W: Write>(
+pub fn replay<B: Book, R: Read, W: Write>(
     alloc: Global,
-    gate: &mut Gate,
+    gate: &mut Gate<B>,
     r: &mut Tap<R>,
     w: &mut Tap<W>,
 ) -> Result<u64, IoFault>
@@ -32,19 +34,20 @@ pub fn replay<R: Read, W: Write>(
     requires writer { has_failed w.old ≡ false }
     ensures ok { IfOk result (λ n. (input : List ℕ)
         × Gave R.remaining r.old r.new input × IsReadOut R.remaining r.new
-        × (text : List ℕ) × Replayed gate.old (lines_of input) text gate.new
-        × Took W.contents w.old w.new text
+        × (text : List ℕ) × Took W.contents w.old w.new text
+        × Goes B.IsTrusted B.Holds gate.old gate.new (λ g after. Replayed g (lines_of input) text after)
         × (n ≡ u64_saturate (length (lines_of input)))) }
     // the lines before the one that the error cut
     ensures read { IsErrOf result IoFault.Read → (front : List ℕ)
         × Gave R.remaining r.old r.new front
-        × (text : List ℕ) × Replayed gate.old (whole_lines front) text gate.new
-        × Took W.contents w.old w.new text }
+        × (text : List ℕ) × Took W.contents w.old w.new text
+        × Goes B.IsTrusted B.Holds gate.old gate.new (λ g after. Replayed g (whole_lines front) text after) }
     // the lines up to the one whose answer was cut, and no read beyond the one that ended it
     ensures write { IsErrOf result IoFault.Write → (lines : List (List ℕ))
-        × (text : List ℕ) × (cut : Cut gate.old lines text gate.new)
-        × ReadFor (R.remaining (inside r.old)) (R.remaining (inside r.new)) lines (length cut.done)
-        × Took W.contents w.old w.new text }
+        × (text : List ℕ) × Took W.contents w.old w.new text
+        × (done : ℕ) × ReadFor (R.remaining (inside r.old)) (R.remaining (inside r.new)) lines done
+        × Goes B.IsTrusted B.Holds gate.old gate.new (λ g after.
+        (cut : Cut g lines text after) × (length cut.done ≡ done)) }
     ensures memory { IsErrOf result IoFault.NoMemory →
         (gate.new ≡ gate.old) × (r.new ≡ r.old) × (w.new ≡ w.old) }
     ensures store { IsErrOf result IoFault.Store → ⊥ }

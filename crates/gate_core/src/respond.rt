@@ -1,14 +1,15 @@
 //! The gate as what answers lines.
-use crate::engine::{Respond, Said};
 use crate::gate::Gate;
+use gate_book::book::Book;
+use crate::engine::{Respond, Said};
 use gate_types::deliveries::Answer;
 use gate_wire::{Door, read_delivery};
 use std::alloc::Global;
 
-impl Respond for Gate {
-    ghost use Rattle.gate_core.specs.Replies.{Told};
+impl<B: Book> Respond for Gate<B> {
+    ghost use Rattle.gate_core.specs.Held.{Tells};
 
-    ghost replies = { Told };
+    ghost replies = { Tells B.IsTrusted B.Holds };
 
     fn respond(&mut self, alloc: Global, line: &[u8]) -> Said {
         match read_delivery(alloc, line, Door::Any) {

@@ -1,6 +1,7 @@
 -- How a command ends with a fault.
 use Rattle.std.proofs.Common.{◌≡◌, ℕ, Bool, true, subst, sym, inl, inr, ◌∙◌, arith}
-use Rattle.std.specs.Prelude.{Result, Ok, Err, OnOk, IfErr, IsErrOf}
+use Rattle.std.specs.Prelude.{Result, Ok, Err, OnOk, IfErr, IsErrOf, Option, List}
+use Rattle.gate_core.specs.Lines.{ReadFor}
 use Rattle.gate_core.specs.declared.fault.IoFault.{IoFault}
 use Rattle.gate_core.specs.declared.fault.IoFault.TheVariants as io
 use Rattle.gated_cli.specs.Doing.{Streams}
@@ -33,3 +34,7 @@ pub has_fault : {T : Type 0} (X : Type 0) (P Q : Fault → Type 0) (d : Result T
     → OnOk d ((n ≡ 0) × X) → IfErr d (λ f. (n ≡ 1) × P f) → IfErr d Q → n ≡ 1 → (f : Fault) × P f × Q f
 has_fault X P Q (Ok x) n done told ends e = let bad : 0 ≡ 1 = sym done.0 ∙ e in absurd (omega arith)
 has_fault X P Q (Err f) n done told ends e = (f, told.1, ends)
+
+-- what is read for some lines, where their number is given by another
+pub read_for : (old new : Option (List ℕ)) (lines : List (List ℕ)) (n m : ℕ) → m ≡ n → ReadFor old new lines n → ReadFor old new lines m
+read_for old new lines n m e h = subst (ReadFor old new lines) (sym e) h

@@ -3,3 +3,4 @@ pub mod Faults
 pub mod Doing
 pub mod Ending
 pub mod Program
+pub mod InMemory

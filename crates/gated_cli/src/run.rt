@@ -4,6 +4,8 @@ ghost use Rattle.gate_types.specs.Tap.{has_failed, Took, TookFront};
 ghost use Rattle.gated_cli.specs.Doing.{Does, Checks, Replays, HasSettings, beside, streams, settings_limit, status_of};
 ghost use Rattle.gated_cli.specs.Ending.{EndsBy, CheckEnds, ReplayEnds, IsEarly, Tells};
 ghost use Rattle.gated_cli.specs.Faults.{line_of};
+ghost use Rattle.gated_cli.specs.InMemory.{IsGate};
+ghost use Rattle.gate_core.specs.Gated.{Gated, opened};
 
 mod check;
 mod fault;
@@ -15,9 +17,14 @@ mod tests;
 use crate::command::Cmd;
 use crate::run::check::check_text;
 pub use fault::Fault;
+use gate_book::memory::MemBook;
 use gate_core::gate::Gate;
 use gate_core::replay::replay;
+use gate_laws::forms::empty_is_in_form;
+use gate_laws::runs::start_is_lawful;
+use gate_laws::typed::settings_are_in_form;
 use gate_types::config::Config;
+use gate_types::names::NoMemory;
 use gate_types::tap::{Failed, Tap};
 use std::alloc::Global;
 use std::fs;
@@ -136,20 +143,38 @@ fn replayed<F: Files + AllocGlobal, R: Read, W: Write>(
         (streams R.remaining W.contents input.new output.new)) }
 {
     let config = settings_of(rt, settings)?;
-    let mut gate = Gate::new(rt.alloc(), config);
+    let mut gate = opened(rt.alloc(), config)?;
     replay(rt.alloc(), &mut gate, input, output)?;
     if status {
-        write_status(rt.alloc(), &gate, output)?;
+        write_status(rt.alloc(), &mut gate, output)?;
     }
     Ok(())
 }
 
-fn write_status<W: Write>(alloc: Global, gate: &Gate, output: &mut Tap<W>) -> Result<(), Fault>
+/// A gate in memory that has seen no delivery.
+fn opened(alloc: Global, config: Config) -> Result<Gate<MemBook>, NoMemory>
+    ensures { IfOk result (λ gate. IsGate gate.config gate.book (opened config)) }
+{
+    let _settings = &config.base;
+    settings_are_in_form(&config);
+    start_is_lawful();
+    empty_is_in_form();
+    let book = MemBook::new(alloc, &config)?;
+    Ok(Gate::new(config, book))
+}
+
+fn write_status<W: Write>(
+    alloc: Global,
+    gate: &mut Gate<MemBook>,
+    output: &mut Tap<W>,
+) -> Result<(), Fault>
     requires { has_failed output.old ≡ false }
-    ensures ok { OnOk result (Took W.contents output.old output.new (status_of gate.now)) }
+    ensures ok { OnOk result ((g : Gated) → IsGate gate.old.config gate.old.book g →
+        Took W.contents output.old output.new (status_of g)) }
     ensures err { IfErr result (λ fault. ((fault ≡ Fault.Unavailable) × (output.new ≡ output.old))
         ⊎ ((fault ≡ Fault.Write) × (has_failed output.new ≡ true)
-        × TookFront W.contents output.old output.new (status_of gate.now))) }
+        × ((g : Gated) → IsGate gate.old.config gate.old.book g →
+        TookFront W.contents output.old output.new (status_of g)))) }
 {
     let Ok(text) = gate.status(alloc) else {
         return Err(Fault::Unavailable);

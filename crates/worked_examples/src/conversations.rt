@@ -152,13 +152,13 @@ fn each_refusal_of_a_revision_and_an_approval(rt: HostRuntime) -> Result<(), Fai
 {"code":"E6","error":"unknown-revision"}
 {"reply":"stale"}
 {"code":"E5","error":"unknown-change"}
-{"code":"E2","error":"bad-delivery"}
+{"reply":"stale"}
 {"order":1,"reply":"queued"}
 {"reply":"already"}
 {"reply":"recorded"}
-{"order":2,"reply":"queued"}
+{"reply":"waiting"}
 "#,
-        "queue core window 2 landed 0\n     1       101    2      - ok      unit=waiting docs=waiting\n     2       102    1      1 ok      unit=waiting\nend\n",
+        "queue core window 2 landed 0\n     1       101    2      - ok      unit=waiting docs=waiting\nwaiting 102 1\nend\n",
     )
 }
 
@@ -169,7 +169,7 @@ fn a_full_queue_lets_the_next_change_wait(rt: HostRuntime) -> Result<(), Fail> {
     approves(&rt, &mut gate, "lib", 1001, WAITING)?;
     shows_ends(
         &rt,
-        &gate,
+        &mut gate,
         "queue core window 2 landed 0\n     1         1    1      - ok      unit=waiting docs=waiting\n     2         2    1      1 ok ",
         "\n  1000      1000    1    999 ok      unit=waiting docs=waiting\nwaiting 1001 1\nend\n",
     )?;
@@ -184,7 +184,7 @@ fn a_full_queue_lets_the_next_change_wait(rt: HostRuntime) -> Result<(), Fail> {
     )?;
     shows_ends(
         &rt,
-        &gate,
+        &mut gate,
         "queue core window 2 landed 0\n     2         2    1      - ok      unit=waiting docs=waiting\n     3         3    1      2 ok ",
         "\n  1001      1001    1   1000 ok      unit=waiting docs=waiting\nwaiting 1 2\nend\n",
     )

@@ -1,6 +1,7 @@
 //! Conversations in which a reader, a writer or memory fails.
 use crate::gates::{UNAVAILABLE, new_gate, said, tells};
 use crate::streams::{Failing, Narrow};
+use gate_book::memory::MemBook;
 use gate_core::fault::IoFault;
 use gate_core::gate::Gate;
 use gate_core::replay::replay;
@@ -23,7 +24,7 @@ const OTHERS: &str =
 "#;
 
 /// The count, and what a writer takes that fails after some bytes.
-fn taken_by(alloc: Global, gate: &mut Gate, left: usize) -> (Result<u64, IoFault>, Vec<u8>) {
+fn taken_by(alloc: Global, gate: &mut Gate<MemBook>, left: usize) -> (Result<u64, IoFault>, Vec<u8>) {
     let mut r = Tap::new(LINES.as_bytes());
     let mut w = Tap::new(Narrow {
         taken: Vec::new(alloc),
@@ -36,7 +37,7 @@ fn taken_by(alloc: Global, gate: &mut Gate, left: usize) -> (Result<u64, IoFault
 }
 
 /// The count, and what is written where a reader fails after some reads of a byte.
-fn written_after(alloc: Global, gate: &mut Gate, left: usize) -> (Result<u64, IoFault>, Vec<u8>) {
+fn written_after(alloc: Global, gate: &mut Gate<MemBook>, left: usize) -> (Result<u64, IoFault>, Vec<u8>) {
     let mut r = Tap::new(Failing {
         bytes: LINES.as_bytes(),
         step: 1,
@@ -50,7 +51,7 @@ fn written_after(alloc: Global, gate: &mut Gate, left: usize) -> (Result<u64, Io
 /// So many of the lines' ids are spent, and the lines get their answers, new or kept.
 fn continues(
     rt: &(impl Abort + AllocGlobal),
-    gate: &mut Gate,
+    gate: &mut Gate<MemBook>,
     spent: usize,
 ) -> Result<(), IoFault> {
     let answers = match spent {

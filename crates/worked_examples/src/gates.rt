@@ -1,4 +1,5 @@
 //! What all tests share: settings, gates over them, what they are told and what they show.
+use gate_book::memory::MemBook;
 use gate_config::{ConfigFault, read};
 use gate_core::fault::IoFault;
 use gate_core::gate::Gate;
@@ -61,15 +62,24 @@ queue = "web"
 name = "unit"
 "#;
 
+/// A gate under these settings, over an empty book in memory.
+pub fn gate_under(alloc: Global, settings: &str) -> Result<Gate<MemBook>, ConfigFault> {
+    let config = read(alloc, settings.as_bytes())?;
+    let Ok(book) = MemBook::new(alloc, &config) else {
+        return Err(ConfigFault::NoMemory);
+    };
+    Ok(Gate::new(config, book))
+}
+
 /// A gate with the queue `core`.
-pub fn new_gate(alloc: Global) -> Result<Gate, ConfigFault> {
-    Ok(Gate::new(alloc, read(alloc, CORE.as_bytes())?))
+pub fn new_gate(alloc: Global) -> Result<Gate<MemBook>, ConfigFault> {
+    gate_under(alloc, CORE)
 }
 
 /// A gate with the queues `core` and `web`.
-pub fn gate_of_two_queues(alloc: Global) -> Result<Gate, Fail> {
+pub fn gate_of_two_queues(alloc: Global) -> Result<Gate<MemBook>, Fail> {
     let settings = format!(in alloc; "{CORE}{WEB}")?;
-    Ok(Gate::new(alloc, read(alloc, settings.as_bytes())?))
+    Ok(gate_under(alloc, settings.as_str())?)
 }
 
 /// The first revision of a change, under an id with the change's number.
@@ -93,7 +103,7 @@ pub fn approving(alloc: Global, change: u32) -> Result<String, AllocError> {
 }
 
 /// What a gate writes for lines.
-pub fn said(alloc: Global, gate: &mut Gate, lines: &str) -> Result<Vec<u8>, IoFault> {
+pub fn said(alloc: Global, gate: &mut Gate<MemBook>, lines: &str) -> Result<Vec<u8>, IoFault> {
     let Ok(written) = Vec::with_capacity(alloc, 256) else {
         return Err(IoFault::NoMemory);
     };
@@ -106,7 +116,7 @@ pub fn said(alloc: Global, gate: &mut Gate, lines: &str) -> Result<Vec<u8>, IoFa
 /// The lines get the answers.
 pub fn tells(
     rt: &(impl Abort + AllocGlobal),
-    gate: &mut Gate,
+    gate: &mut Gate<MemBook>,
     lines: &str,
     answers: &str,
 ) -> Result<(), IoFault> {
@@ -118,7 +128,7 @@ pub fn tells(
 /// The lines get the answers from a new gate, and leave the status.
 pub fn shows(
     rt: &(impl Abort + AllocGlobal),
-    mut gate: Gate,
+    mut gate: Gate<MemBook>,
     lines: &str,
     answers: &str,
     status: &str,
@@ -132,7 +142,7 @@ pub fn shows(
 /// The status begins and ends so.
 pub fn shows_ends(
     rt: &(impl Abort + AllocGlobal),
-    gate: &Gate,
+    gate: &mut Gate<MemBook>,
     front: &str,
     back: &str,
 ) -> Result<(), Fail> {
@@ -145,7 +155,7 @@ pub fn shows_ends(
 /// A change becomes known and approved, and its approval gets this answer.
 pub fn approves(
     rt: &(impl Abort + AllocGlobal),
-    gate: &mut Gate,
+    gate: &mut Gate<MemBook>,
     project: &str,
     change: u32,
     answer: &str,
@@ -163,7 +173,7 @@ pub fn approves(
 /// These changes are queued, each under its number as its order.
 pub fn fills(
     rt: &(impl Abort + AllocGlobal),
-    gate: &mut Gate,
+    gate: &mut Gate<MemBook>,
     project: &str,
     changes: Range<u32>,
 ) -> Result<(), Fail> {

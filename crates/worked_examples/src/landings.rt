@@ -1,11 +1,5 @@
 //! All kinds of deliveries, over a book in memory: builds, failures, landings.
-use crate::gates::CORE;
-use gate_book::memory::MemBook;
-use gate_config::read;
-use gate_over::gate::Gate;
-use gate_over::replay::replay;
-use gate_types::tap::Tap;
-use std::alloc::Global;
+use crate::gates::{new_gate, tells};
 use std::test::Fail;
 
 /// Change 101 of `lib` and 102 of `app` are queued, and each of their jobs is given to a worker.
@@ -70,40 +64,18 @@ const FAILED_ANSWERS: &str = r#"{"reply":"noted"}
 {"order":3,"reply":"queued"}
 "#;
 
-/// A gate over an empty book.
-fn opened(alloc: Global) -> Result<Gate<MemBook>, Fail> {
-    let config = read(alloc, CORE.as_bytes())?;
-    let book = MemBook::new(alloc, &config)?;
-    Ok(Gate::new(config, book))
-}
-
-/// What lines are answered, behind those by which all jobs are taken.
-fn answered(alloc: Global, lines: &str) -> Result<Vec<u8>, Fail> {
-    let mut gate = opened(alloc)?;
-    let mut written = Tap::new(Vec::new(alloc));
-    let mut taken = Tap::new(TAKEN.as_bytes());
-    replay(alloc, &mut gate, &mut taken, &mut written)?;
-    let mut input = Tap::new(lines.as_bytes());
-    replay(alloc, &mut gate, &mut input, &mut written)?;
-    Ok(written.into_inner())
-}
-
-fn expected(alloc: Global, answers: &str) -> Result<String, Fail> {
-    Ok(format!(in alloc; "{TAKEN_ANSWERS}{answers}")?)
-}
-
 #[test]
 fn changes_land_one_after_the_other(rt: HostRuntime) -> Result<(), Fail> {
-    let answers = answered(rt.alloc(), LANDED)?;
-    let wanted = expected(rt.alloc(), LANDED_ANSWERS)?;
-    assert_eq!(rt; answers.as_slice(), wanted.as_bytes());
+    let mut gate = new_gate(rt.alloc())?;
+    tells(&rt, &mut gate, TAKEN, TAKEN_ANSWERS)?;
+    tells(&rt, &mut gate, LANDED, LANDED_ANSWERS)?;
     Ok(())
 }
 
 #[test]
 fn a_failure_resets_the_items_behind_it(rt: HostRuntime) -> Result<(), Fail> {
-    let answers = answered(rt.alloc(), FAILED)?;
-    let wanted = expected(rt.alloc(), FAILED_ANSWERS)?;
-    assert_eq!(rt; answers.as_slice(), wanted.as_bytes());
+    let mut gate = new_gate(rt.alloc())?;
+    tells(&rt, &mut gate, TAKEN, TAKEN_ANSWERS)?;
+    tells(&rt, &mut gate, FAILED, FAILED_ANSWERS)?;
     Ok(())
 }

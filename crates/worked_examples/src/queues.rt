@@ -79,7 +79,7 @@ fn a_full_queue_keeps_no_other_from_filling(rt: HostRuntime) -> Result<(), Fail>
     fills(&rt, &mut gate, "site", 1001..1003)?;
     shows_ends(
         &rt,
-        &gate,
+        &mut gate,
         "queue core window 2 landed 0\n     1         1    1      - ok      unit=waiting docs=waiting\n",
         "\n  1000      1000    1    999 ok      unit=waiting docs=waiting
 queue web window 2 landed 0
@@ -108,7 +108,7 @@ fn a_place_goes_to_the_first_of_its_queue(rt: HostRuntime) -> Result<(), Fail> {
     )?;
     shows_ends(
         &rt,
-        &gate,
+        &mut gate,
         "queue core window 2 landed 0\n     2         2    1      - ok      unit=waiting docs=waiting\n",
         "\n  2000      2000    1   1999 ok      unit=waiting\nwaiting 3001 1\nwaiting 3003 1\nend\n",
     )

@@ -1,16 +1,20 @@
-use Rattle.std.proofs.Common.{ap₂, inl, inr}
+use Rattle.std.proofs.Common.{ap₂, inl, inr, sym, subst}
 use Rattle.std.proofs.KnownBytes.{Appends-trans}
 use Rattle.std.proofs.lemmas.Result.{err_from_is_err_and}
+use Rattle.gate_core.specs.Gated.{opened}
 use Rattle.gated_cli.specs.Doing.{status_of, streams}
+use Rattle.gated_cli.specs.InMemory.{IsGate}
 use Rattle.gated_cli.proofs.TellLemmas.{with_status, without_status}
-use Rattle.gated_cli.proofs.EndLemmas.{replay_ends, made_from, refused_status, cut_status}
+use Rattle.gated_cli.proofs.EndLemmas.{replay_ends, made_from, refused_status, cut_status, read_for}
 use Rattle.gated_cli.proofs.run.replayed.Goals as goal
 use Rattle.gated_cli.proofs.run.replayed.Goals.{then-status+in_ok-write_status, else-status}
 
 pub returns-clause-ok : goal.returns-clause-ok
 returns-clause-ok g c =
     let h = c.in_ok-replay.ensures.ok in
-    let shown = status_of c.replay.new.gate in
+    let went = h.5.passes tt (opened c.in_ok-config.config) c.in_ok-gate.ensures in
+    let over = subst (λ k. IsGate k c.replay.new.gate.book went.0) (sym h.5.settings) went.1 in
+    let shown = status_of went.0 in
     record {
       answers = record {
         config = c.in_ok-config.config;
@@ -19,12 +23,12 @@ returns-clause-ok g c =
         read = h.1;
         ended = h.2;
         replies = h.3;
-        gate = c.replay.new.gate;
-        answered = rw c.new-gate.ensures at h.4;
+        gate = went.0;
+        answered = went.2;
       };
       written = elim c.if-status.branch [
-        | then-status+in_ok-write_status w ↦ rw w.output-is (with_status _ _ c.args.status h.3 shown w.if-status.true (Appends-trans _ _ _ h.3 shown h.5 w.in_ok-write_status.ensures.ok))
-        | else-status w ↦ rw w.output-is (without_status _ _ c.args.status h.3 shown w.if-status.false h.5)
+        | then-status+in_ok-write_status w ↦ rw w.output-is (with_status _ _ c.args.status h.3 shown w.if-status.true (Appends-trans _ _ _ h.3 shown h.4 (w.in_ok-write_status.ensures.ok went.0 over)))
+        | else-status w ↦ rw w.output-is (without_status _ _ c.args.status h.3 shown w.if-status.false h.4)
       ];
     }
 
@@ -35,7 +39,8 @@ returns-in_err-replay-clause-err g c =
     (streams g.R.Read.remaining g.W.Write.contents c.args.input.now c.args.output.now)
     (streams g.R.Read.remaining g.W.Write.contents c.replay.new.r c.replay.new.w)
     c.in_err-replay.was
-    (λ e. let h = c.replay.ensures.read e in record {
+    (λ e. let h = c.replay.ensures.read e in
+    let went = h.4.passes tt (opened c.in_ok-config.config) c.in_ok-gate.ensures in record {
       failed = (c.replay.ensures.reader_failed e).0;
       unfailed = (c.replay.ensures.reader_failed e).1;
       config = c.in_ok-config.config;
@@ -43,11 +48,12 @@ returns-in_err-replay-clause-err g c =
       front = h.0;
       read = h.1;
       replies = h.2;
-      gate = c.replay.new.gate;
-      answered = rw c.new-gate.ensures at h.3;
-      written = h.4;
+      gate = went.0;
+      answered = went.2;
+      written = h.3;
     })
-    (λ e. let h = rw c.new-gate.ensures at (c.replay.ensures.write e) in (
+    (λ e. let h = c.replay.ensures.write e in
+    let went = h.5.passes tt (opened c.in_ok-config.config) c.in_ok-gate.ensures in (
       (c.replay.ensures.writer_failed e).1,
       record {
         unfailed = (c.replay.ensures.writer_failed e).0;
@@ -55,10 +61,10 @@ returns-in_err-replay-clause-err g c =
         settings = c.in_ok-config.ensures.ok;
         lines = h.0;
         replies = h.1;
-        gate = c.replay.new.gate;
-        answered = h.2;
-        read = h.3;
-        written = h.4;
+        gate = went.0;
+        answered = went.2.0;
+        read = read_for _ _ _ _ _ went.2.1 h.4;
+        written = h.2;
       },
     ))
     (λ e. ap₂ (streams g.R.Read.remaining g.W.Write.contents) (c.replay.ensures.memory e).1 (c.replay.ensures.memory e).2)
@@ -67,6 +73,8 @@ returns-in_err-replay-clause-err g c =
 pub returns-in_err-write_status-clause-err : goal.returns-in_err-write_status-clause-err
 returns-in_err-write_status-clause-err g c =
     let h = c.in_ok-replay.ensures.ok in
+    let went = h.5.passes tt (opened c.in_ok-config.config) c.in_ok-gate.ensures in
+    let over = subst (λ k. IsGate k c.replay.new.gate.book went.0) (sym h.5.settings) went.1 in
     let before = streams g.R.Read.remaining g.W.Write.contents c.args.input.now c.args.output.now in
     let after = streams g.R.Read.remaining g.W.Write.contents c.replay.new.r c.write_status.new.output in
     let p = err_from_is_err_and c.from_residual-in_err-write_status.result c.from_residual-in_err-write_status.ensures.1 in
@@ -80,12 +88,12 @@ returns-in_err-write_status-clause-err g c =
           read = h.1;
           ended = h.2;
           replies = h.3;
-          gate = c.replay.new.gate;
-          answered = rw c.new-gate.ensures at h.4;
+          gate = went.0;
+          answered = went.2;
         };
-        written = rw refused.1 h.5;
+        written = rw refused.1 h.4;
       })
-      | inr cut ↦ cut_status c.in_err-write_status.field-0.0 c.args.status before after cut.0 cut.1 (record {
+      | inr cut ↦ let front = cut.2 went.0 over in cut_status c.in_err-write_status.field-0.0 c.args.status before after cut.0 cut.1 (record {
         wanted = c.if-status.true;
         answers = record {
           config = c.in_ok-config.config;
@@ -94,11 +102,11 @@ returns-in_err-write_status-clause-err g c =
           read = h.1;
           ended = h.2;
           replies = h.3;
-          gate = c.replay.new.gate;
-          answered = rw c.new-gate.ensures at h.4;
+          gate = went.0;
+          answered = went.2;
         };
-        at = cut.2.0;
-        short = cut.2.1;
-        written = Appends-trans _ _ _ h.3 _ h.5 cut.2.2;
+        at = front.0;
+        short = front.1;
+        written = Appends-trans _ _ _ h.3 _ h.4 front.2;
       })
     ]))

@@ -1,6 +1,0 @@
-use Rattle.std.proofs.Common.{rules}
-use Rattle.gate_core.proofs.PadLemmas.{right_six, right_nine, right_four}
-use Rattle.gate_core.proofs.keeper.status.numbers_text.Goals as goal
-
-pub returns : goal.returns
-returns c = rw (right_six, right_nine, right_four) (search rules)

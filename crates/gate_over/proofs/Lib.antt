@@ -1,2 +1,0 @@
-mod LandingLemmas
-pub mod ReplyLemmas
