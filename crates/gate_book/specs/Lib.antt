@@ -8,3 +8,4 @@ pub mod Memory
 pub mod Reads
 pub mod TableReads
 pub mod Kept
+pub mod Faults

@@ -6,7 +6,7 @@ ghost use Rattle.gate_walk.specs.UnderWay.{Starts};
 ghost use Rattle.gate_book.specs.Kept.{OfHeldUnder, IsKept};
 ghost use Rattle.gate_settling.specs.Rows as rows;
 ghost use Rattle.gate_settling.specs.Touching.{Touching, delivered};
-ghost use Rattle.gate_settling.specs.Faults.{MayAnswer};
+ghost use Rattle.gate_book.specs.Faults.{MayAnswer};
 
 use crate::rows::{has_landed, is_out};
 use gate_book::book::Book;

@@ -6,7 +6,7 @@ ghost use Rattle.gate_types.specs.Step.{outcome_of_ending};
 ghost use Rattle.gate_book.specs.Kept.{OfHeld, IsKept};
 ghost use Rattle.gate_book.specs.Reads as read;
 ghost use Rattle.gate_settling.specs.Rows as rows;
-ghost use Rattle.gate_settling.specs.Faults.{MayAnswer};
+ghost use Rattle.gate_book.specs.Faults.{MayAnswer};
 
 use gate_book::book::Book;
 use gate_book::fault::BookFault;

@@ -11,7 +11,7 @@ ghost use Rattle.gate_book.specs.Kept.{OfHeldUnder, IsKept};
 ghost use Rattle.gate_raw.specs.Moves.{Moves, in_state, swept};
 ghost use Rattle.gate_raw.specs.Touches.{Touches};
 ghost use Rattle.gate_settling.specs.Touching.{Touching, AreToldOf};
-ghost use Rattle.gate_settling.specs.Faults.{MayAnswer};
+ghost use Rattle.gate_book.specs.Faults.{MayAnswer};
 
 use crate::begun::begun;
 use crate::walking::walked;

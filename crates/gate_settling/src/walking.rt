@@ -5,7 +5,7 @@ ghost use Rattle.gate_walk.specs.UnderWay.{HasVisited, GoesOn, Starts, row_wante
 ghost use Rattle.gate_book.specs.Kept.{OfHeldUnder, IsKept};
 ghost use Rattle.gate_settling.specs.Rows as rows;
 ghost use Rattle.gate_settling.specs.Touching.{Touching, delivered, sees, IsWalked};
-ghost use Rattle.gate_settling.specs.Faults.{MayAnswer};
+ghost use Rattle.gate_book.specs.Faults.{MayAnswer};
 
 use crate::rows::facts_now;
 use crate::wanted::{first_wanted, wanted};

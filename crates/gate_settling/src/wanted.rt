@@ -4,7 +4,7 @@ ghost use Rattle.gate_types.specs.State.{State};
 ghost use Rattle.gate_book.specs.Kept.{OfHeld, IsKept};
 ghost use Rattle.gate_book.specs.Reads as read;
 ghost use Rattle.gate_settling.specs.Rows as rows;
-ghost use Rattle.gate_settling.specs.Faults.{MayAnswer};
+ghost use Rattle.gate_book.specs.Faults.{MayAnswer};
 
 use crate::rows::is_out;
 use gate_book::book::Book;
