@@ -1,9 +1,10 @@
 //! The build that is due of one item.
-ghost use Rattle.std.specs.Prelude.{◌≡◌, ◌==◌, IfOk, option_map, slice_get};
+ghost use Rattle.std.specs.Prelude.{◌≡◌, ◌==◌, IfOk, IfErr, option_map, slice_get};
 ghost use Rattle.std.specs.List.{list_any};
 ghost use Rattle.gate_types.specs.State.{Queue};
 ghost use Rattle.gate_types.specs.Line.{Place};
 ghost use Rattle.gate_types.specs.Choice.{builds_for};
+ghost use Rattle.gate_book.specs.Faults.{MayAnswer};
 ghost use Rattle.gate_book.specs.Kept.{OfHeld, OfHeldUnder, IsKept};
 ghost use Rattle.gate_book.specs.Reads.{landings_before};
 ghost use Rattle.gate_reads.specs.NextBuild.{with_number};
@@ -48,6 +49,7 @@ fn build_on<B: Book>(
         let after = landings_before x.state queue.now item.now.serial in
         IfOk result (λ build. build ≡ build_on number queue.now ahead.now item.now after job.now.name)) }
     ensures kept { IsKept B.IsTrusted B.Holds B.LeavesOneOf book.old book.new }
+    ensures fault { IfErr result (MayAnswer B.MayFault) }
 {
     let after = book.landing_before(queue, item.serial)?;
     let queue = queue.copy()?;
@@ -81,6 +83,7 @@ pub fn build_of_item<B: Book>(
         IsBehind config.now x.state queue.now ahead.now item.now q p →
         IfOk result (λ found. found ≡ option_map (with_number number) (slice_get (builds_for x.state q p) 0))) }
     ensures kept { IsKept B.IsTrusted B.Holds B.LeavesOneOf book.old book.new }
+    ensures fault { IfErr result (MayAnswer B.MayFault) }
 {
     let known = book.change(item.change)?;
     let needs = needs_of(alloc, book, &known)?;

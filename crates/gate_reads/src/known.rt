@@ -1,7 +1,8 @@
 //! What is known of a change: its needs, each with whether it has landed, and the jobs of its project.
-ghost use Rattle.std.specs.Prelude.{◌≡◌, ◌++◌, ◌∷◌, [], IfOk, map, find, option_copied};
+ghost use Rattle.std.specs.Prelude.{◌≡◌, ◌++◌, ◌∷◌, [], IfOk, IfErr, map, find, option_copied};
 ghost use Rattle.gate_types.specs.Names.{same_name};
 ghost use Rattle.gate_types.specs.State.{is_landed};
+ghost use Rattle.gate_book.specs.Faults.{MayAnswer};
 ghost use Rattle.gate_book.specs.Kept.{OfHeld, IsKept};
 ghost use Rattle.gate_reads.specs.Known as known;
 
@@ -55,6 +56,7 @@ fn need<B: Book>(book: &mut B, number: ChangeNo) -> Result<Need, BookFault>
     ensures found { OfHeld B.IsTrusted B.Holds book.old book.new (λ c x.
         IfOk result (λ need. need ≡ known.need_of x.state number)) }
     ensures kept { IsKept B.IsTrusted B.Holds B.LeavesOneOf book.old book.new }
+    ensures fault { IfErr result (MayAnswer B.MayFault) }
 {
     let known = book.change(number)?;
     Ok(Need {
@@ -79,6 +81,7 @@ fn needs_with<B: Book>(
     ensures found { OfHeld B.IsTrusted B.Holds book.old book.new (λ c x.
         IfOk result (λ needs. needs.items ≡ map (known.need_of x.state) numbers.now)) }
     ensures kept { IsKept B.IsTrusted B.Holds B.LeavesOneOf book.old book.new }
+    ensures fault { IfErr result (MayAnswer B.MayFault) }
 {
     let mut needs = Vec::new(alloc);
     for number in numbers {
@@ -97,6 +100,7 @@ pub fn needs_of<B: Book>(
     ensures found { OfHeld B.IsTrusted B.Holds book.old book.new (λ c x.
         IfOk result (λ needs. needs.items ≡ map (known.need_of x.state) (known.known_or_closed change.now).needs)) }
     ensures kept { IsKept B.IsTrusted B.Holds B.LeavesOneOf book.old book.new }
+    ensures fault { IfErr result (MayAnswer B.MayFault) }
 {
     match change {
         Some(change) => needs_with(alloc, book, change.needs.as_slice()),

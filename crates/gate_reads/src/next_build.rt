@@ -1,7 +1,8 @@
 //! The build that a worker is given next.
-ghost use Rattle.std.specs.Prelude.{◌≡◌, ◌==◌, ◌||◌, ◌++◌, ◌∷◌, [], nat_lt, IfOk, OnOk, Some, if◌then◌else◌, option_map, slice_get};
+ghost use Rattle.std.specs.Prelude.{◌≡◌, ◌==◌, ◌||◌, ◌++◌, ◌∷◌, [], nat_lt, IfOk, IfErr, OnOk, Some, if◌then◌else◌, option_map, slice_get};
 ghost use Rattle.gate_types.specs.State.{Queue};
 ghost use Rattle.gate_types.specs.Choice.{choices, choose};
+ghost use Rattle.gate_book.specs.Faults.{MayAnswer};
 ghost use Rattle.gate_book.specs.Kept.{OfHeldUnder, IsKept};
 ghost use Rattle.gate_book.specs.Reads.{queue_named};
 ghost use Rattle.gate_reads.specs.NextBuild.{with_number};
@@ -51,6 +52,7 @@ fn first_build<B: Book>(
         queue_named x.state queue.now ≡ Some q → window ≡ q.window →
         IfOk result (λ found. found ≡ option_map (with_number number) (slice_get (choices config.now x.state q) 0))) }
     ensures kept { IsKept B.IsTrusted B.Holds B.LeavesOneOf book.old book.new }
+    ensures fault { IfErr result (MayAnswer B.MayFault) }
 {
     let mut ahead = Sequence::new(alloc);
     let mut above = 0;
@@ -80,6 +82,7 @@ fn build_of_queue<B: Book>(
         queue_named x.state queue.now ≡ Some q →
         IfOk result (λ found. found ≡ option_map (with_number number) (slice_get (choices config.now x.state q) 0))) }
     ensures kept { IsKept B.IsTrusted B.Holds B.LeavesOneOf book.old book.new }
+    ensures fault { IfErr result (MayAnswer B.MayFault) }
 {
     match book.queue(queue)? {
         Some(sizes) => first_build(alloc, book, config, queue, sizes.window, number),
@@ -98,6 +101,7 @@ pub fn next_build<B: Book>(
     ensures found { OfHeldUnder B.IsTrusted B.Holds book.old book.new config.now (λ x.
         IfOk result (λ found. found ≡ option_map (with_number number) (choose config.now x.state))) }
     ensures kept { IsKept B.IsTrusted B.Holds B.LeavesOneOf book.old book.new }
+    ensures fault { IfErr result (MayAnswer B.MayFault) }
 {
     for queue in config.queues.as_slice() {
         if let Some(build) = build_of_queue(alloc, book, config, &queue.name, number)? {

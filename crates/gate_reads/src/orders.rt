@@ -1,6 +1,7 @@
 //! The orders that are shown.
-ghost use Rattle.std.specs.Prelude.{◌≡◌, IfOk};
+ghost use Rattle.std.specs.Prelude.{◌≡◌, IfOk, IfErr};
 ghost use Rattle.gate_types.specs.SubmitOrder.{shown_order, is_submitting};
+ghost use Rattle.gate_book.specs.Faults.{MayAnswer};
 ghost use Rattle.gate_book.specs.Kept.{OfHeldUnder, IsKept};
 ghost use Rattle.gate_reads.specs.Orders.{order_in, TellsOrder, TellsShown};
 
@@ -24,6 +25,7 @@ pub fn order_of_queue<B: Book>(
     ensures found { OfHeldUnder B.IsTrusted B.Holds book.old book.new config.now (λ x.
         IfOk result (λ found. TellsOrder config.now x.state queue.now found (order_in config.now x.state queue.now))) }
     ensures kept { IsKept B.IsTrusted B.Holds B.LeavesOneOf book.old book.new }
+    ensures fault { IfErr result (MayAnswer B.MayFault) }
 {
     let mut above = 0;
     while let Some(item) = book.next_item(queue, above)? {
@@ -46,6 +48,7 @@ pub fn shown_order<B: Book>(
     ensures found { OfHeldUnder B.IsTrusted B.Holds book.old book.new config.now (λ x.
         IfOk result (λ found. TellsShown config.now x.state found (shown_order config.now x.state number))) }
     ensures kept { IsKept B.IsTrusted B.Holds B.LeavesOneOf book.old book.new }
+    ensures fault { IfErr result (MayAnswer B.MayFault) }
 {
     // No two queues have one name.
     let _settings = &config.base;
@@ -68,6 +71,7 @@ pub fn is_submitting<B: Book>(
     ensures found { OfHeldUnder B.IsTrusted B.Holds book.old book.new config.now (λ x.
         IfOk result (λ shown. shown ≡ is_submitting config.now x.state change)) }
     ensures kept { IsKept B.IsTrusted B.Holds B.LeavesOneOf book.old book.new }
+    ensures fault { IfErr result (MayAnswer B.MayFault) }
 {
     match book.queued(change)? {
         Some(queued) => is_shown(alloc, book, config, &queued.item),

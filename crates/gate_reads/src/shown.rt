@@ -1,7 +1,8 @@
 //! Whether the order of an item is shown.
-ghost use Rattle.std.specs.Prelude.{◌≡◌, IfOk};
+ghost use Rattle.std.specs.Prelude.{◌≡◌, IfOk, IfErr};
 ghost use Rattle.gate_types.specs.Line.{Place};
 ghost use Rattle.gate_types.specs.Standing.{are_finished};
+ghost use Rattle.gate_book.specs.Faults.{MayAnswer};
 ghost use Rattle.gate_book.specs.Kept.{OfHeldUnder, IsKept};
 ghost use Rattle.gate_reads.specs.Places.{IsAt, is_shown};
 
@@ -23,6 +24,7 @@ pub(crate) fn have_jobs_ended<B: Book>(
     ensures found { OfHeldUnder B.IsTrusted B.Holds book.old book.new config.now (λ x. (p : Place) →
         IsAt config.now x.state item.now p → IfOk result (λ ended. ended ≡ are_finished x.state.builds p)) }
     ensures kept { IsKept B.IsTrusted B.Holds B.LeavesOneOf book.old book.new }
+    ensures fault { IfErr result (MayAnswer B.MayFault) }
 {
     let known = book.change(item.change)?;
     let builds = book.live_builds(item.serial)?;
@@ -40,6 +42,7 @@ pub(crate) fn is_shown<B: Book>(
     ensures found { OfHeldUnder B.IsTrusted B.Holds book.old book.new config.now (λ x. (p : Place) →
         IsAt config.now x.state item.now p → IfOk result (λ shown. shown ≡ is_shown x.state.builds p)) }
     ensures kept { IsKept B.IsTrusted B.Holds B.LeavesOneOf book.old book.new }
+    ensures fault { IfErr result (MayAnswer B.MayFault) }
 {
     if item.failing || item.ahead.is_some() {
         return Ok(false);

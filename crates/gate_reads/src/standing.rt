@@ -1,6 +1,7 @@
 //! Where a change stands.
-ghost use Rattle.std.specs.Prelude.{◌≡◌, ◌==◌, IfOk};
+ghost use Rattle.std.specs.Prelude.{◌≡◌, ◌==◌, IfOk, IfErr};
 ghost use Rattle.std.specs.List.{list_any};
+ghost use Rattle.gate_book.specs.Faults.{MayAnswer};
 ghost use Rattle.gate_book.specs.Kept.{OfHeldUnder, IsKept};
 ghost use Rattle.gate_reads.specs.Standing.{StandsSo};
 
@@ -39,6 +40,7 @@ pub fn standing<B: Book>(
     ensures found { OfHeldUnder B.IsTrusted B.Holds book.old book.new config.now (λ x.
         IfOk result (StandsSo config.now x.state change)) }
     ensures kept { IsKept B.IsTrusted B.Holds B.LeavesOneOf book.old book.new }
+    ensures fault { IfErr result (MayAnswer B.MayFault) }
 {
     // No two queues have one name.
     let _settings = &config.base;
