@@ -1,7 +1,8 @@
 //! A build as a worker reads it.
-ghost use Rattle.std.specs.Prelude.{◌≡◌, ◌++◌, if◌then◌else◌, codes, decimal, IfOk, option_map, string_bytes};
+ghost use Rattle.std.specs.Prelude.{◌≡◌, ◌++◌, if◌then◌else◌, codes, decimal, IfOk, IfErr, option_map, string_bytes};
 ghost use Rattle.gate_types.specs.BuildText.{build_text, outcome_word};
 ghost use Rattle.gate_types.specs.Step.{build_of};
+ghost use Rattle.gate_book.specs.Faults.{MayAnswer};
 ghost use Rattle.gate_book.specs.Kept.{OfHeld, IsKept};
 
 use gate_book::book::Book;
@@ -74,6 +75,7 @@ pub fn build_text<B: Book>(
     ensures found { OfHeld B.IsTrusted B.Holds book.old book.new (λ c x.
         IfOk result (λ found. found ≡ option_map build_text (build_of x.state number))) }
     ensures kept { IsKept B.IsTrusted B.Holds B.LeavesOneOf book.old book.new }
+    ensures fault { IfErr result (MayAnswer B.MayFault) }
 {
     match book.build(number)? {
         Some(build) => Ok(Some(Text::new(text_of(alloc, &build)?))),

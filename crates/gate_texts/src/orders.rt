@@ -1,7 +1,8 @@
 //! The orders that are shown, as a text.
-ghost use Rattle.std.specs.Prelude.{◌≡◌, ◌++◌, [], IfOk, OnOk, option_map, string_bytes};
+ghost use Rattle.std.specs.Prelude.{◌≡◌, ◌++◌, [], IfOk, IfErr, OnOk, option_map, string_bytes};
 ghost use Rattle.gate_types.specs.SubmitOrder.{Order};
 ghost use Rattle.gate_types.specs.OrderList.{shown, order_list_text};
+ghost use Rattle.gate_book.specs.Faults.{MayAnswer};
 ghost use Rattle.gate_book.specs.Kept.{OfHeld, OfHeldUnder, IsKept};
 ghost use Rattle.gate_reads.specs.Known.{known_or_closed};
 ghost use Rattle.gate_reads.specs.Orders.{order_in, IsRowOf};
@@ -47,6 +48,7 @@ fn order_text<B: Book>(
     ensures found { OfHeld B.IsTrusted B.Holds book.old book.new (λ c x. (o : Order) →
         IsRowOf c x.state queue.now item.now o → IfOk result (λ text. text ≡ shown x.state o [])) }
     ensures kept { IsKept B.IsTrusted B.Holds B.LeavesOneOf book.old book.new }
+    ensures fault { IfErr result (MayAnswer B.MayFault) }
 {
     let known = book.change(item.change)?;
     let text = text_of(alloc, item, project_of(&known), queue.as_str())?;
@@ -64,6 +66,7 @@ fn order_of<B: Book>(
         IfOk result (λ found. found
         ≡ option_map (λ o. shown x.state o []) (order_in config.now x.state queue.now))) }
     ensures kept { IsKept B.IsTrusted B.Holds B.LeavesOneOf book.old book.new }
+    ensures fault { IfErr result (MayAnswer B.MayFault) }
 {
     match order_of_queue(alloc, book, config, queue)? {
         Some(item) => Ok(Some(order_text(alloc, book, queue, &item)?)),
@@ -93,6 +96,7 @@ pub fn order_list<B: Book>(alloc: Global, book: &mut B, config: &Config) -> Resu
     ensures found { OfHeldUnder B.IsTrusted B.Holds book.old book.new config.now (λ x.
         IfOk result (λ text. text ≡ order_list_text config.now x.state)) }
     ensures kept { IsKept B.IsTrusted B.Holds B.LeavesOneOf book.old book.new }
+    ensures fault { IfErr result (MayAnswer B.MayFault) }
 {
     let mut list = String::new(alloc);
     for queue in config.queues.as_slice() {

@@ -1,9 +1,10 @@
 //! The status text.
-ghost use Rattle.std.specs.Prelude.{◌≡◌, ℕ, List, Some, IfOk, string_bytes, flat_map};
+ghost use Rattle.std.specs.Prelude.{◌≡◌, ℕ, List, Some, IfOk, IfErr, string_bytes, flat_map};
 ghost use Rattle.gate_types.specs.State.{Queue};
 ghost use Rattle.gate_types.specs.Line.{Place};
 ghost use Rattle.gate_types.specs.Standing.{places};
 ghost use Rattle.gate_types.specs.Status.{item_row, queue_rows, waiting_row, status_text};
+ghost use Rattle.gate_book.specs.Faults.{MayAnswer};
 ghost use Rattle.gate_book.specs.Kept.{OfHeld, OfHeldUnder, IsKept};
 ghost use Rattle.gate_book.specs.Reads.{queue_named};
 ghost use Rattle.gate_reads.specs.Known.{known_or_closed};
@@ -34,6 +35,7 @@ fn item_text<B: Book>(
         (name : List ℕ) (q : Queue) (p : Place) → IsBehind config.now x.state name ahead.now item.now q p →
         IfOk result (λ text. string_bytes text ≡ item_row x.state.builds p)) }
     ensures kept { IsKept B.IsTrusted B.Holds B.LeavesOneOf book.old book.new }
+    ensures fault { IfErr result (MayAnswer B.MayFault) }
 {
     let known = book.change(item.change)?;
     let needs = needs_of(alloc, book, &known)?;
@@ -54,6 +56,7 @@ fn items_text<B: Book>(
         queue_named x.state queue.now ≡ Some q → IfOk result (λ text.
         string_bytes text ≡ flat_map (item_row x.state.builds) (places config.now x.state q))) }
     ensures kept { IsKept B.IsTrusted B.Holds B.LeavesOneOf book.old book.new }
+    ensures fault { IfErr result (MayAnswer B.MayFault) }
 {
     let mut text = String::new(alloc);
     let mut ahead = Sequence::new(alloc);
@@ -78,6 +81,7 @@ fn queue_text<B: Book>(
         queue_named x.state queue.now ≡ Some q →
         IfOk result (λ text. string_bytes text ≡ queue_rows config.now x.state q)) }
     ensures kept { IsKept B.IsTrusted B.Holds B.LeavesOneOf book.old book.new }
+    ensures fault { IfErr result (MayAnswer B.MayFault) }
 {
     let Some(sizes) = book.queue(queue)? else {
         return Ok(String::new(alloc));
@@ -93,6 +97,7 @@ fn queues_text<B: Book>(alloc: Global, book: &mut B, config: &Config) -> Result<
     ensures found { OfHeldUnder B.IsTrusted B.Holds book.old book.new config.now (λ x. IfOk result (λ text.
         string_bytes text ≡ flat_map (queue_rows config.now x.state) x.state.queues)) }
     ensures kept { IsKept B.IsTrusted B.Holds B.LeavesOneOf book.old book.new }
+    ensures fault { IfErr result (MayAnswer B.MayFault) }
 {
     let mut text = String::new(alloc);
     for queue in config.queues.as_slice() {
@@ -115,6 +120,7 @@ fn ready_line<B: Book>(alloc: Global, book: &mut B, ready: &Ready) -> Result<Str
     ensures found { OfHeld B.IsTrusted B.Holds book.old book.new (λ c x.
         IfOk result (λ text. string_bytes text ≡ waiting_row x.state ready.now)) }
     ensures kept { IsKept B.IsTrusted B.Holds B.LeavesOneOf book.old book.new }
+    ensures fault { IfErr result (MayAnswer B.MayFault) }
 {
     let known = book.change(ready.change)?;
     Ok(waiting_line(alloc, ready.change, revision_of(&known))?)
@@ -125,6 +131,7 @@ fn ready_text<B: Book>(alloc: Global, book: &mut B, ready: &[Ready]) -> Result<S
     ensures found { OfHeld B.IsTrusted B.Holds book.old book.new (λ c x.
         IfOk result (λ text. string_bytes text ≡ flat_map (waiting_row x.state) ready.now)) }
     ensures kept { IsKept B.IsTrusted B.Holds B.LeavesOneOf book.old book.new }
+    ensures fault { IfErr result (MayAnswer B.MayFault) }
 {
     let mut text = String::new(alloc);
     for waiting in ready {
@@ -139,6 +146,7 @@ pub fn status<B: Book>(alloc: Global, book: &mut B, config: &Config) -> Result<T
     ensures found { OfHeldUnder B.IsTrusted B.Holds book.old book.new config.now (λ x.
         IfOk result (λ text. text ≡ status_text config.now x.state)) }
     ensures kept { IsKept B.IsTrusted B.Holds B.LeavesOneOf book.old book.new }
+    ensures fault { IfErr result (MayAnswer B.MayFault) }
 {
     let queues = queues_text(alloc, book, config)?;
     let ready = book.ready()?;
