@@ -1,10 +1,11 @@
 //! The edits that let ready changes enter their queues.
-ghost use Rattle.std.specs.Prelude.{◌≡◌, true, false, MatchOption, IfOk};
+ghost use Rattle.std.specs.Prelude.{◌≡◌, true, false, MatchOption, IfOk, IfErr};
 ghost use Rattle.gate_types.specs.State.{State};
 ghost use Rattle.gate_types.specs.Admit.{admit};
 ghost use Rattle.gate_types.specs.Step.{is_exhausted};
 ghost use Rattle.gate_types.specs.Lawful.{IsSound};
 ghost use Rattle.gate_types.specs.Tables.{Leads};
+ghost use Rattle.gate_book.specs.Faults.{MayAnswer};
 ghost use Rattle.gate_book.specs.Kept.{OfHeldUnder, IsKept};
 ghost use Rattle.gate_raw.specs.Moves.{in_state};
 
@@ -32,6 +33,7 @@ pub fn admitting<B: Book>(
         (λ all. Leads config.now x all.items (in_state x (admit config.now v)) ×
         (is_exhausted (admit config.now v) ≡ false)))) }
     ensures kept { IsKept B.IsTrusted B.Holds B.LeavesOneOf book.old book.new }
+    ensures fault { IfErr result (MayAnswer B.MayFault) }
 {
     let _settings = &config.base;
     let drawn = last_drawn(book, edits.as_slice())?;

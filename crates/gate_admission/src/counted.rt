@@ -1,7 +1,8 @@
 //! The counters, as they are after edits.
-ghost use Rattle.std.specs.Prelude.{◌≡◌, ◌||◌, nat_lt, fold, IfOk};
+ghost use Rattle.std.specs.Prelude.{◌≡◌, ◌||◌, nat_lt, fold, IfOk, IfErr};
 ghost use Rattle.gate_types.specs.Counters.{Drawn};
 ghost use Rattle.gate_types.specs.Tables.{edited_counters};
+ghost use Rattle.gate_book.specs.Faults.{MayAnswer};
 ghost use Rattle.gate_book.specs.Kept.{IsKept};
 ghost use Rattle.gate_admission.specs.Led.{OfLed};
 
@@ -68,6 +69,7 @@ pub(crate) fn last_drawn<B: Book>(book: &mut B, edits: &[Edit]) -> Result<LastDr
     ensures found { OfLed B.IsTrusted B.Holds book.old book.new edits.now (λ c v.
         IfOk result (λ drawn. drawn ≡ v.counters)) }
     ensures kept { IsKept B.IsTrusted B.Holds B.LeavesOneOf book.old book.new }
+    ensures fault { IfErr result (MayAnswer B.MayFault) }
 {
     let counters = book.counters()?;
     let drawn = LastDrawn {

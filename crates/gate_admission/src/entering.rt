@@ -1,11 +1,12 @@
 //! A ready change enters its queue: whether it may, and the edits that stand for it.
-ghost use Rattle.std.specs.Prelude.{◌≡◌, ◌+◌, ◌++◌, ◌∷◌, [], ◌||◌, not, false, Some, find, option_and_then, IfOk};
+ghost use Rattle.std.specs.Prelude.{◌≡◌, ◌+◌, ◌++◌, ◌∷◌, [], ◌||◌, not, false, Some, find, option_and_then, IfOk, IfErr};
 ghost use Rattle.std.specs.List.{list_all};
 ghost use Rattle.std.specs.Option.{option_map_or};
 ghost use Rattle.gate_types.specs.State.{Queue, State, known_change, has_change};
 ghost use Rattle.gate_types.specs.Slot.{are_met_by};
 ghost use Rattle.gate_types.specs.Standing.{needs_of};
 ghost use Rattle.gate_types.specs.Admit.{may_enter, entered};
+ghost use Rattle.gate_book.specs.Faults.{MayAnswer};
 ghost use Rattle.gate_book.specs.Kept.{OfHeldUnder, IsKept};
 ghost use Rattle.gate_book.specs.Reads.{items_in, queue_named};
 ghost use Rattle.gate_admission.specs.Led.{IsLed, OfLed, OfLedUnder};
@@ -36,6 +37,7 @@ fn is_met_in<B: Book>(
         (q : Queue) → queue_named v queue.now ≡ Some q →
         IfOk result (λ met. met ≡ (need.now.landed || has_change q.items need.now.change))) }
     ensures kept { IsKept B.IsTrusted B.Holds B.LeavesOneOf book.old book.new }
+    ensures fault { IfErr result (MayAnswer B.MayFault) }
 {
     if need.landed {
         return Ok(true);
@@ -53,6 +55,7 @@ fn are_met_in<B: Book>(
     ensures found { OfLed B.IsTrusted B.Holds book.old book.new edits.now (λ c v.
         (q : Queue) → queue_named v queue.now ≡ Some q → IfOk result (λ met. met ≡ are_met_by q.items needs.now)) }
     ensures kept { IsKept B.IsTrusted B.Holds B.LeavesOneOf book.old book.new }
+    ensures fault { IfErr result (MayAnswer B.MayFault) }
 {
     for need in needs {
         if !is_met_in(book, edits, queue, need)? {
@@ -72,6 +75,7 @@ fn has_place<B: Book>(
     ensures found { OfLed B.IsTrusted B.Holds book.old book.new edits.now (λ c v.
         IfOk result (λ has. has ≡ has_place v queue.now needs.now)) }
     ensures kept { IsKept B.IsTrusted B.Holds B.LeavesOneOf book.old book.new }
+    ensures fault { IfErr result (MayAnswer B.MayFault) }
 {
     if !are_met_in(book, edits, queue, needs)? {
         return Ok(false);
@@ -90,6 +94,7 @@ fn may_enter<B: Book>(
     ensures found { OfLedUnder B.IsTrusted B.Holds book.old book.new config.now edits.now (λ v.
         IfOk result (λ may. may ≡ may_enter config.now v ready)) }
     ensures kept { IsKept B.IsTrusted B.Holds B.LeavesOneOf book.old book.new }
+    ensures fault { IfErr result (MayAnswer B.MayFault) }
 {
     let _settings = &config.base;
     let known = known(book, edits, ready.change)?;
@@ -110,6 +115,7 @@ pub(crate) fn first_to_enter<B: Book>(
     ensures found { OfLedUnder B.IsTrusted B.Holds book.old book.new config.now edits.now (λ v.
         IfOk result (λ found. found ≡ find (may_enter config.now v) v.ready)) }
     ensures kept { IsKept B.IsTrusted B.Holds B.LeavesOneOf book.old book.new }
+    ensures fault { IfErr result (MayAnswer B.MayFault) }
 {
     let ready = ready_list(alloc, book, edits)?;
     for waiting in &ready {
@@ -139,6 +145,7 @@ fn is_met<B: Book>(
     ensures found { OfLed B.IsTrusted B.Holds book.old book.new edits.now (λ c v.
         IsQueue v queue.now → IfOk result (λ met. met ≡ is_met_by_rows (items_in c v queue.now) need.now)) }
     ensures kept { IsKept B.IsTrusted B.Holds B.LeavesOneOf book.old book.new }
+    ensures fault { IfErr result (MayAnswer B.MayFault) }
 {
     if need.landed {
         return Ok(true);
@@ -157,6 +164,7 @@ fn are_met<B: Book>(
         IsQueue v queue.now →
         IfOk result (λ met. met ≡ list_all (is_met_by_rows (items_in c v queue.now)) needs.now)) }
     ensures kept { IsKept B.IsTrusted B.Holds B.LeavesOneOf book.old book.new }
+    ensures fault { IfErr result (MayAnswer B.MayFault) }
 {
     for need in needs {
         if !is_met(book, edits, queue, need)? {
@@ -192,6 +200,7 @@ fn ahead_behind<B: Book>(
         IsQueue v queue.now → next ≡ v.counters.order + 1 →
         IfOk result (λ ahead. ahead ≡ ahead_behind (items_in c v queue.now))) }
     ensures kept { IsKept B.IsTrusted B.Holds B.LeavesOneOf book.old book.new }
+    ensures fault { IfErr result (MayAnswer B.MayFault) }
 {
     Ok(ahead_after(last_item(book, edits, queue, next)?))
 }
@@ -210,6 +219,7 @@ fn entering_row<B: Book>(
         IsQueue v queue.now → serial ≡ v.counters.order + 1 →
         IfOk result (λ row. row ≡ entering_row v (items_in c v queue.now) change.now.number)) }
     ensures kept { IsKept B.IsTrusted B.Holds B.LeavesOneOf book.old book.new }
+    ensures fault { IfErr result (MayAnswer B.MayFault) }
 {
     let ahead = ahead_behind(book, edits, queue, serial)?;
     let met = are_met(book, edits, queue, needs)?;
@@ -270,6 +280,7 @@ pub(crate) fn enter<B: Book>(
         serial ≡ v.counters.order + 1 →
         IfOk result (λ all. IsLed config.now x all.items (entered config.now v ready))) }
     ensures kept { IsKept B.IsTrusted B.Holds B.LeavesOneOf book.old book.new }
+    ensures fault { IfErr result (MayAnswer B.MayFault) }
 {
     let _settings = &config.base;
     let known = known(book, edits.as_slice(), ready.change)?;

@@ -1,5 +1,6 @@
 //! The items of a queue, as they are after edits.
-ghost use Rattle.std.specs.Prelude.{◌≡◌, ◌<◌, ◌+◌, fold, IfOk, IfSome, option_map, option_and_then};
+ghost use Rattle.std.specs.Prelude.{◌≡◌, ◌<◌, ◌+◌, fold, IfOk, IfErr, IfSome, option_map, option_and_then};
+ghost use Rattle.gate_book.specs.Faults.{MayAnswer};
 ghost use Rattle.gate_book.specs.Kept.{OfHeld, IsKept};
 ghost use Rattle.gate_book.specs.Reads.{items_in, last_below, queued_of};
 ghost use Rattle.gate_admission.specs.Led.{OfLed};
@@ -33,6 +34,7 @@ fn stored_item<B: Book>(
     ensures found { OfHeld B.IsTrusted B.Holds book.old book.new (λ c x.
         IfOk result (λ found. found ≡ seen.item_at serial (items_in c x.state queue.now))) }
     ensures kept { IsKept B.IsTrusted B.Holds B.LeavesOneOf book.old book.new }
+    ensures fault { IfErr result (MayAnswer B.MayFault) }
 {
     Ok(at_serial(book.next_item(queue, serial.get() - 1)?, serial))
 }
@@ -70,6 +72,7 @@ pub fn item_at<B: Book>(
     ensures found { OfHeld B.IsTrusted B.Holds book.old book.new (λ c x. IfOk result (λ found.
         found ≡ seen.item_at serial (seen.items_after queue.now (items_in c x.state queue.now) edits.now))) }
     ensures kept { IsKept B.IsTrusted B.Holds B.LeavesOneOf book.old book.new }
+    ensures fault { IfErr result (MayAnswer B.MayFault) }
 {
     let stored = stored_item(book, queue, serial)?;
     Ok(after_all(queue, serial, stored, edits))
@@ -95,6 +98,7 @@ fn item_if<B: Book>(
     ensures found { OfHeld B.IsTrusted B.Holds book.old book.new (λ c x. IfOk result (λ found.
         found ≡ seen.item_if change serial (seen.items_after queue.now (items_in c x.state queue.now) edits.now))) }
     ensures kept { IsKept B.IsTrusted B.Holds B.LeavesOneOf book.old book.new }
+    ensures fault { IfErr result (MayAnswer B.MayFault) }
 {
     Ok(of_change(item_at(book, edits, queue, serial)?, change))
 }
@@ -119,6 +123,7 @@ fn item_put<B: Book>(
     ensures found { OfHeld B.IsTrusted B.Holds book.old book.new (λ c x. IfOk result (λ found. found ≡
         seen.item_put change (seen.items_after queue.now (items_in c x.state queue.now) edits.now) edits.now)) }
     ensures kept { IsKept B.IsTrusted B.Holds B.LeavesOneOf book.old book.new }
+    ensures fault { IfErr result (MayAnswer B.MayFault) }
 {
     for edit in edits {
         if let Some(serial) = serial_put(edit, change) {
@@ -141,6 +146,7 @@ fn item_left<B: Book>(
         seen.item_left change (queued_of c x.state change)
         (seen.items_after queue.now (items_in c x.state queue.now) edits.now))) }
     ensures kept { IsKept B.IsTrusted B.Holds B.LeavesOneOf book.old book.new }
+    ensures fault { IfErr result (MayAnswer B.MayFault) }
 {
     match book.queued(change)? {
         Some(stored) => item_if(book, edits, queue, stored.item.serial, change),
@@ -158,6 +164,7 @@ pub fn item_in<B: Book>(
     ensures found { OfLed B.IsTrusted B.Holds book.old book.new edits.now (λ c v.
         IsQueue v queue.now → IfOk result (λ found. found ≡ item_in change (items_in c v queue.now))) }
     ensures kept { IsKept B.IsTrusted B.Holds B.LeavesOneOf book.old book.new }
+    ensures fault { IfErr result (MayAnswer B.MayFault) }
 {
     match item_left(book, edits, queue, change)? {
         Some(item) => Ok(Some(item)),
@@ -216,6 +223,7 @@ fn serial_before<B: Book>(
         (option_map (λ i. i.serial) (last_below below (items_in c x.state queue.now))))) }
     ensures falls { IfOk result (λ found. IfSome found (λ serial. serial < below)) }
     ensures kept { IsKept B.IsTrusted B.Holds B.LeavesOneOf book.old book.new }
+    ensures fault { IfErr result (MayAnswer B.MayFault) }
 {
     let put = last_put_below(queue, below, edits);
     let stored = book.last_item(queue, below)?;
@@ -232,6 +240,7 @@ fn last_below<B: Book>(
     ensures found { OfHeld B.IsTrusted B.Holds book.old book.new (λ c x. IfOk result (λ found. found ≡
         last_below below (seen.items_after queue.now (items_in c x.state queue.now) edits.now))) }
     ensures kept { IsKept B.IsTrusted B.Holds B.LeavesOneOf book.old book.new }
+    ensures fault { IfErr result (MayAnswer B.MayFault) }
 {
     let mut end = below;
     while let Some(serial) = serial_before(book, edits, queue, end)? {
@@ -254,6 +263,7 @@ pub fn last_item<B: Book>(
         IsQueue v queue.now → next ≡ v.counters.order + 1 →
         IfOk result (λ found. found ≡ last_row (items_in c v queue.now))) }
     ensures kept { IsKept B.IsTrusted B.Holds B.LeavesOneOf book.old book.new }
+    ensures fault { IfErr result (MayAnswer B.MayFault) }
 {
     last_below(book, edits, queue, next.get())
 }

@@ -1,7 +1,8 @@
 //! What is known of a change after edits: its needs, and its project.
-ghost use Rattle.std.specs.Prelude.{◌≡◌, ◌++◌, ◌∷◌, [], IfOk, map, find, option_copied};
+ghost use Rattle.std.specs.Prelude.{◌≡◌, ◌++◌, ◌∷◌, [], IfOk, IfErr, map, find, option_copied};
 ghost use Rattle.gate_types.specs.Names.{same_name};
 ghost use Rattle.gate_types.specs.State.{known_change, is_landed};
+ghost use Rattle.gate_book.specs.Faults.{MayAnswer};
 ghost use Rattle.gate_book.specs.Kept.{IsKept};
 ghost use Rattle.gate_admission.specs.Led.{OfLed};
 ghost use Rattle.gate_admission.specs.Seen.{last_put};
@@ -46,6 +47,7 @@ pub fn known<B: Book>(
     ensures found { OfLed B.IsTrusted B.Holds book.old book.new edits.now (λ c v.
         IfOk result (λ found. found ≡ known_change v number)) }
     ensures kept { IsKept B.IsTrusted B.Holds B.LeavesOneOf book.old book.new }
+    ensures fault { IfErr result (MayAnswer B.MayFault) }
 {
     match last_put(edits, number) {
         Some(change) => Ok(Some(change.copy()?)),
@@ -87,6 +89,7 @@ fn need<B: Book>(book: &mut B, edits: &[Edit], number: ChangeNo) -> Result<Need,
     ensures found { OfLed B.IsTrusted B.Holds book.old book.new edits.now (λ c v.
         IfOk result (λ need. need ≡ need_of v number)) }
     ensures kept { IsKept B.IsTrusted B.Holds B.LeavesOneOf book.old book.new }
+    ensures fault { IfErr result (MayAnswer B.MayFault) }
 {
     let known = known(book, edits, number)?;
     Ok(Need {
@@ -112,6 +115,7 @@ fn needs_with<B: Book>(
     ensures found { OfLed B.IsTrusted B.Holds book.old book.new edits.now (λ c v.
         IfOk result (λ needs. needs.items ≡ map (need_of v) numbers.now)) }
     ensures kept { IsKept B.IsTrusted B.Holds B.LeavesOneOf book.old book.new }
+    ensures fault { IfErr result (MayAnswer B.MayFault) }
 {
     let mut needs = Vec::new(alloc);
     for number in numbers {
@@ -131,6 +135,7 @@ pub fn needs_of<B: Book>(
     ensures found { OfLed B.IsTrusted B.Holds book.old book.new edits.now (λ c v.
         IfOk result (λ needs. needs.items ≡ map (need_of v) (known_or_closed change.now).needs)) }
     ensures kept { IsKept B.IsTrusted B.Holds B.LeavesOneOf book.old book.new }
+    ensures fault { IfErr result (MayAnswer B.MayFault) }
 {
     match change {
         Some(change) => needs_with(alloc, book, edits, change.needs.as_slice()),

@@ -1,5 +1,6 @@
 //! The ready list, as it is after edits.
-ghost use Rattle.std.specs.Prelude.{◌≡◌, ◌++◌, ◌∷◌, [], not, ◌==◌, nat_lt, fold, filter, IfOk};
+ghost use Rattle.std.specs.Prelude.{◌≡◌, ◌++◌, ◌∷◌, [], not, ◌==◌, nat_lt, fold, filter, IfOk, IfErr};
+ghost use Rattle.gate_book.specs.Faults.{MayAnswer};
 ghost use Rattle.gate_book.specs.Kept.{IsKept};
 ghost use Rattle.gate_admission.specs.Led.{OfLed};
 ghost use Rattle.gate_admission.specs.Seen.{ready_without, with_approval, ready_after};
@@ -95,6 +96,7 @@ pub(crate) fn ready_list<B: Book>(
     ensures found { OfLed B.IsTrusted B.Holds book.old book.new edits.now (λ c v.
         IfOk result (λ found. found.items ≡ v.ready)) }
     ensures kept { IsKept B.IsTrusted B.Holds B.LeavesOneOf book.old book.new }
+    ensures fault { IfErr result (MayAnswer B.MayFault) }
 {
     let stored = book.ready()?.into_vec();
     Ok(after_all(alloc, stored, edits)?)

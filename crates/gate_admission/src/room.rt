@@ -1,5 +1,6 @@
 //! Whether a queue has room, after edits.
-ghost use Rattle.std.specs.Prelude.{◌≡◌, ◌≤◌, ◌<◌, ◌+◌, length, IfOk};
+ghost use Rattle.std.specs.Prelude.{◌≡◌, ◌≤◌, ◌<◌, ◌+◌, length, IfOk, IfErr};
+ghost use Rattle.gate_book.specs.Faults.{MayAnswer};
 ghost use Rattle.gate_book.specs.Kept.{OfHeld, IsKept};
 ghost use Rattle.gate_book.specs.Reads.{items_in};
 ghost use Rattle.gate_admission.specs.Led.{OfLed};
@@ -23,6 +24,7 @@ fn grows<B: Book>(
     ensures found { OfHeld B.IsTrusted B.Holds book.old book.new (λ c x. IfOk result (λ grows. grows ≡
         seen.grows queue.now (seen.items_after queue.now (items_in c x.state queue.now) before.now) edit.now)) }
     ensures kept { IsKept B.IsTrusted B.Holds B.LeavesOneOf book.old book.new }
+    ensures fault { IfErr result (MayAnswer B.MayFault) }
 {
     match edit {
         Edit::PutItem { queue: name, item } if same_name(name, queue) => {
@@ -42,6 +44,7 @@ fn shrinks<B: Book>(
     ensures found { OfHeld B.IsTrusted B.Holds book.old book.new (λ c x. IfOk result (λ shrinks. shrinks ≡
         seen.shrinks (seen.items_after queue.now (items_in c x.state queue.now) before.now) edit.now)) }
     ensures kept { IsKept B.IsTrusted B.Holds B.LeavesOneOf book.old book.new }
+    ensures fault { IfErr result (MayAnswer B.MayFault) }
 {
     match edit {
         Edit::DropItem(serial) => Ok(item_at(book, before, queue, *serial)?.is_some()),
@@ -69,6 +72,7 @@ fn count_moves<B: Book>(book: &mut B, edits: &[Edit], queue: &Name) -> Result<Mo
         length (items_in c x.state queue.now) + moves.added)) }
     ensures few { IfOk result (λ moves. (moves.added ≤ length edits.now) × (moves.dropped ≤ length edits.now)) }
     ensures kept { IsKept B.IsTrusted B.Holds B.LeavesOneOf book.old book.new }
+    ensures fault { IfErr result (MayAnswer B.MayFault) }
 {
     let mut added = 0;
     let mut dropped = 0;
@@ -92,6 +96,7 @@ pub(crate) fn has_room<B: Book>(
     ensures found { OfLed B.IsTrusted B.Holds book.old book.new edits.now (λ c v.
         IfOk result (λ has. has ≡ has_room v queue.now)) }
     ensures kept { IsKept B.IsTrusted B.Holds B.LeavesOneOf book.old book.new }
+    ensures fault { IfErr result (MayAnswer B.MayFault) }
 {
     let Some(sizes) = book.queue(queue)? else {
         return Ok(false);
