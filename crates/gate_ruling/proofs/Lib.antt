@@ -9,6 +9,8 @@ pub mod Put
 pub mod Stopped
 pub mod Left
 pub mod GivenUp
+-- what other rows name
+pub mod Missing
 -- the kinds
 pub mod Withdrawn
 pub mod Closed

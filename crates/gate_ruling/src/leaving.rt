@@ -1,7 +1,8 @@
 //! An item leaves its queue.
-ghost use Rattle.std.specs.Prelude.{◌≡◌, ℕ, ◌++◌, ◌∷◌, [], map, filter, IfOk, Contains};
+ghost use Rattle.std.specs.Prelude.{◌≡◌, ℕ, ◌++◌, ◌∷◌, [], map, filter, IfOk, IfErr, Contains};
 ghost use Rattle.gate_types.specs.Slot.{is_running};
 ghost use Rattle.gate_types.specs.Step.{leave};
+ghost use Rattle.gate_book.specs.Faults.{MayAnswer};
 ghost use Rattle.gate_book.specs.Kept.{OfHeldUnder, IsKept};
 ghost use Rattle.gate_book.specs.Reads.{items_in};
 ghost use Rattle.gate_raw.specs.Moves.{Moves};
@@ -87,6 +88,7 @@ pub(crate) fn leaving<B: Book>(
         Contains (items_in config.now x.state queued.now.queue) queued.now.item →
         IfOk result (λ edits. Moves x edits.items (leave verdict queued.now.item.change x.state))) }
     ensures kept { IsKept B.IsTrusted B.Holds B.LeavesOneOf book.old book.new }
+    ensures fault { IfErr result (MayAnswer B.MayFault) }
 {
     let _settings = &config.base;
     let reports = book.reports(&queued.queue)?;
@@ -119,6 +121,7 @@ pub(crate) fn give_up_place<B: Book>(
         IfOk result (λ left. Moves x left.edits.items (leave verdict n x.state))) }
     ensures touched { IfOk result (λ left. left.touched ≡ touched_of verdict stand) }
     ensures kept { IsKept B.IsTrusted B.Holds B.LeavesOneOf book.old book.new }
+    ensures fault { IfErr result (MayAnswer B.MayFault) }
 {
     let Stand::Queued(queued) = stand else {
         return Ok(Left {

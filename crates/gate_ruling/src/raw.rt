@@ -1,7 +1,9 @@
 //! What a delivery comes to, before settling.
-ghost use Rattle.std.specs.Prelude.{IfOk};
+ghost use Rattle.std.specs.Prelude.{IfOk, IfErr};
+ghost use Rattle.gate_book.specs.Faults.{MayAnswer};
 ghost use Rattle.gate_book.specs.Kept.{OfHeldUnder, IsKept};
 ghost use Rattle.gate_raw.specs.Raw.{IsRaw};
+ghost use Rattle.gate_ruling.specs.Faults.{MayRule};
 
 use crate::kinds::approved::approved;
 use crate::kinds::closed::closed;
@@ -28,6 +30,9 @@ pub fn raw<B: Book>(
     ensures raw { OfHeldUnder B.IsTrusted B.Holds book.old book.new config.now (λ x.
         IfOk result (IsRaw config.now x delivery.now)) }
     ensures kept { IsKept B.IsTrusted B.Holds B.LeavesOneOf book.old book.new }
+    ensures fault { IfErr result (MayRule B.MayFault) }
+    ensures undamaged { OfHeldUnder B.IsTrusted B.Holds book.old book.new config.now (λ x.
+        IfErr result (MayAnswer B.MayFault)) }
 {
     match delivery {
         Delivery::Revision {

@@ -1,7 +1,8 @@
 //! `closed`: a change is given up.
-ghost use Rattle.std.specs.Prelude.{◌≡◌, if◌then◌else◌, is_some, IfOk};
+ghost use Rattle.std.specs.Prelude.{◌≡◌, if◌then◌else◌, is_some, IfOk, IfErr};
 ghost use Rattle.gate_types.specs.declared.deliveries.Reply.TheVariants as reply;
 ghost use Rattle.gate_types.specs.declared.deliveries.Delivery.TheVariants as delivery;
+ghost use Rattle.gate_book.specs.Faults.{MayAnswer};
 ghost use Rattle.gate_book.specs.Kept.{OfHeldUnder, IsKept};
 ghost use Rattle.gate_raw.specs.Raw.{IsRaw};
 
@@ -40,6 +41,7 @@ pub(crate) fn closed<B: Book>(
     ensures raw { OfHeldUnder B.IsTrusted B.Holds book.old book.new config.now (λ x.
         IfOk result (IsRaw config.now x (delivery.Closed change revision))) }
     ensures kept { IsKept B.IsTrusted B.Holds B.LeavesOneOf book.old book.new }
+    ensures fault { IfErr result (MayAnswer B.MayFault) }
 {
     let Some(known) = book.change(change)? else {
         return Ok(Raw::Refused(Refusal::UnknownChange));

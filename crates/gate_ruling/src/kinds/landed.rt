@@ -1,10 +1,12 @@
 //! `landed`: the forge landed an order.
-ghost use Rattle.std.specs.Prelude.{◌≡◌, ◌++◌, IfOk};
+ghost use Rattle.std.specs.Prelude.{◌≡◌, ◌++◌, IfOk, IfErr};
 ghost use Rattle.gate_types.specs.declared.deliveries.Delivery.TheVariants as delivery;
 ghost use Rattle.gate_types.specs.State.{known_change};
+ghost use Rattle.gate_book.specs.Faults.{MayAnswer};
 ghost use Rattle.gate_book.specs.Kept.{OfHeld, OfHeldUnder, IsKept};
 ghost use Rattle.gate_raw.specs.Raw.{IsRaw};
 ghost use Rattle.gate_ruling.specs.Landing.{landing_edits};
+ghost use Rattle.gate_ruling.specs.Faults.{MayRule};
 
 use crate::changing::put_anew;
 use crate::leaving::{leaving, touched};
@@ -55,6 +57,7 @@ fn change_of<B: Book>(book: &mut B, queued: &QueuedItem) -> Result<Option<Change
     ensures found { OfHeld B.IsTrusted B.Holds book.old book.new (λ c x.
         IfOk result (λ known. known ≡ known_change x.state queued.now.item.change)) }
     ensures kept { IsKept B.IsTrusted B.Holds B.LeavesOneOf book.old book.new }
+    ensures fault { IfErr result (MayAnswer B.MayFault) }
 {
     book.change(queued.item.change)
 }
@@ -69,6 +72,9 @@ pub(crate) fn landed<B: Book>(
     ensures raw { OfHeldUnder B.IsTrusted B.Holds book.old book.new config.now (λ x.
         IfOk result (IsRaw config.now x (delivery.Landed order))) }
     ensures kept { IsKept B.IsTrusted B.Holds B.LeavesOneOf book.old book.new }
+    ensures fault { IfErr result (MayRule B.MayFault) }
+    ensures undamaged { OfHeldUnder B.IsTrusted B.Holds book.old book.new config.now (λ x.
+        IfErr result (MayAnswer B.MayFault)) }
 {
     let _settings = &config.base;
     let Some(queued) = shown_order(alloc, book, config, order)? else {

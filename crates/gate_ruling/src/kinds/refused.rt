@@ -1,10 +1,12 @@
 //! `refused`: the forge did not land an order.
-ghost use Rattle.std.specs.Prelude.{◌≡◌, find, option_copied, IfOk};
+ghost use Rattle.std.specs.Prelude.{◌≡◌, find, option_copied, IfOk, IfErr};
 ghost use Rattle.std.specs.Option.{option_map_or};
 ghost use Rattle.gate_types.specs.Names.{same_name};
 ghost use Rattle.gate_types.specs.declared.deliveries.Delivery.TheVariants as delivery;
+ghost use Rattle.gate_book.specs.Faults.{MayAnswer};
 ghost use Rattle.gate_book.specs.Kept.{OfHeldUnder, IsKept};
 ghost use Rattle.gate_raw.specs.Raw.{IsRaw};
+ghost use Rattle.gate_ruling.specs.Faults.{MayRule};
 
 use crate::edits::with_edit;
 use crate::leaving::{leaving, touched};
@@ -51,6 +53,9 @@ pub(crate) fn refused<B: Book>(
     ensures raw { OfHeldUnder B.IsTrusted B.Holds book.old book.new config.now (λ x.
         IfOk result (IsRaw config.now x (delivery.Refused order))) }
     ensures kept { IsKept B.IsTrusted B.Holds B.LeavesOneOf book.old book.new }
+    ensures fault { IfErr result (MayRule B.MayFault) }
+    ensures undamaged { OfHeldUnder B.IsTrusted B.Holds book.old book.new config.now (λ x.
+        IfErr result (MayAnswer B.MayFault)) }
 {
     let _settings = &config.base;
     let Some(queued) = shown_order(alloc, book, config, order)? else {

@@ -1,9 +1,11 @@
 //! `result`: a build has ended.
-ghost use Rattle.std.specs.Prelude.{◌≡◌, ◌&&◌, IfOk};
+ghost use Rattle.std.specs.Prelude.{◌≡◌, ◌&&◌, IfOk, IfErr};
 ghost use Rattle.gate_types.specs.Slot.{is_running};
 ghost use Rattle.gate_types.specs.declared.deliveries.Delivery.TheVariants as delivery;
+ghost use Rattle.gate_book.specs.Faults.{MayAnswer};
 ghost use Rattle.gate_book.specs.Kept.{OfHeldUnder, IsKept};
 ghost use Rattle.gate_raw.specs.Raw.{IsRaw};
+ghost use Rattle.gate_ruling.specs.Faults.{MayRule};
 
 use crate::edits::with_edit;
 use crate::leaving::is_running;
@@ -36,6 +38,9 @@ pub(crate) fn result<B: Book>(
     ensures raw { OfHeldUnder B.IsTrusted B.Holds book.old book.new config.now (λ x.
         IfOk result (IsRaw config.now x (delivery.Result build ending))) }
     ensures kept { IsKept B.IsTrusted B.Holds B.LeavesOneOf book.old book.new }
+    ensures fault { IfErr result (MayRule B.MayFault) }
+    ensures undamaged { OfHeldUnder B.IsTrusted B.Holds book.old book.new config.now (λ x.
+        IfErr result (MayAnswer B.MayFault)) }
 {
     let _settings = &config.base;
     let Some(known) = book.build(build)? else {

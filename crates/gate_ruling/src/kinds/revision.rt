@@ -1,10 +1,11 @@
 //! `revision`: a change at a new revision.
-ghost use Rattle.std.specs.Prelude.{◌≡◌, ◌||◌, not, false, nat_le, IfOk};
+ghost use Rattle.std.specs.Prelude.{◌≡◌, ◌||◌, not, false, nat_le, IfOk, IfErr};
 ghost use Rattle.std.specs.Option.{option_map_or};
 ghost use Rattle.gate_types.specs.declared.deliveries.Delivery.TheVariants as delivery;
 ghost use Rattle.gate_types.specs.Names.{same_name};
 ghost use Rattle.gate_types.specs.State.{is_landed};
 ghost use Rattle.gate_types.specs.Step.{has_project};
+ghost use Rattle.gate_book.specs.Faults.{MayAnswer};
 ghost use Rattle.gate_book.specs.Kept.{OfHeldUnder, IsKept};
 ghost use Rattle.gate_raw.specs.Raw.{IsRaw};
 
@@ -66,6 +67,7 @@ pub(crate) fn revision<B: Book>(
     ensures raw { OfHeldUnder B.IsTrusted B.Holds book.old book.new config.now (λ x.
         IfOk result (IsRaw config.now x (delivery.Revision change project.now revision message.now))) }
     ensures kept { IsKept B.IsTrusted B.Holds B.LeavesOneOf book.old book.new }
+    ensures fault { IfErr result (MayAnswer B.MayFault) }
 {
     if !has_project(config, project) {
         return Ok(Raw::Refused(Refusal::UnknownProject));

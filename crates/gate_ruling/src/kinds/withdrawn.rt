@@ -1,6 +1,7 @@
 //! `withdrawn`: a change gives up its place.
-ghost use Rattle.std.specs.Prelude.{IfOk};
+ghost use Rattle.std.specs.Prelude.{IfOk, IfErr};
 ghost use Rattle.gate_types.specs.declared.deliveries.Delivery.TheVariants as delivery;
+ghost use Rattle.gate_book.specs.Faults.{MayAnswer};
 ghost use Rattle.gate_book.specs.Kept.{OfHeldUnder, IsKept};
 ghost use Rattle.gate_raw.specs.Raw.{IsRaw};
 
@@ -29,6 +30,7 @@ pub(crate) fn withdrawn<B: Book>(
     ensures raw { OfHeldUnder B.IsTrusted B.Holds book.old book.new config.now (λ x.
         IfOk result (IsRaw config.now x (delivery.Withdrawn change revision))) }
     ensures kept { IsKept B.IsTrusted B.Holds B.LeavesOneOf book.old book.new }
+    ensures fault { IfErr result (MayAnswer B.MayFault) }
 {
     let Some(known) = book.change(change)? else {
         return Ok(Raw::Refused(Refusal::UnknownChange));

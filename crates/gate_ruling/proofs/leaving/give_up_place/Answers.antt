@@ -12,6 +12,7 @@ returns-in_default g c = record {
       (unqueued c.args.config.now x.state n c.args.stand c.in_default.not-Queued stands);
   touched = none_touched c.args.verdict c.args.stand c.in_default.not-Queued;
   kept = search rules;
+  fault = tt;
 }
 
 pub returns-clause-moves : goal.returns-clause-moves

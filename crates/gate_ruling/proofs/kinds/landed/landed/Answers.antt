@@ -19,6 +19,7 @@ use Rattle.gate_ruling.proofs.Few.{few_landings}
 use Rattle.gate_ruling.proofs.Folded.{moves_on}
 use Rattle.gate_ruling.proofs.Stored.{stored}
 use Rattle.gate_ruling.proofs.Ordered.{has_order, same_queue, landed_touches, landed_state, landed_raw, lands}
+use Rattle.gate_ruling.proofs.Missing.{change_there, sizes_there}
 use Rattle.gate_ruling.proofs.kinds.landed.landed.Goals as goal
 
 pub returns-clause-raw : goal.returns-clause-raw
@@ -66,3 +67,31 @@ returns-clause-raw g c trusted x holds lawful =
       moves = c.in_ok-edits-3.ensures x u sound.changes_rise moves;
       unplaced = tt;
     }
+
+pub returns-in_default-2-clause-undamaged : goal.returns-in_default-2-clause-undamaged
+returns-in_default-2-clause-undamaged g c trusted x holds lawful =
+    let s = c.args.config.now in
+    let k = c.in-Some.queued in
+    let before = c.in_ok-known.ensures.kept.trusted_before trusted in
+    let held = c.in_ok-queued.ensures.kept.holds_on before _ x holds in
+    let o = has_order s x.state c.args.order k
+    (subst (λ y. TellsShown s x.state y (shown_order s x.state c.args.order)) c.in-Some.is
+    (c.in_ok-queued.ensures.found before x holds lawful)) in
+    let h = stored s x.state k.queue k.item o.row.stored in
+    absurd (change_there s x.state k.queue k.item lawful.lawful.sound h
+    (sym (c.in_ok-known.ensures.found trusted s x held lawful) ∙ c.in_default-2.is))
+
+pub returns-in_default-3-clause-undamaged : goal.returns-in_default-3-clause-undamaged
+returns-in_default-3-clause-undamaged g c trusted x holds lawful =
+    let s = c.args.config.now in
+    let k = c.in-Some.queued in
+    let two = c.in_ok-sizes.ensures.kept.trusted_before trusted in
+    let one = c.in_ok-known.ensures.kept.trusted_before two in
+    let at_one = c.in_ok-queued.ensures.kept.holds_on one _ x holds in
+    let at_two = c.in_ok-known.ensures.kept.holds_on two _ x at_one in
+    let o = has_order s x.state c.args.order k
+    (subst (λ y. TellsShown s x.state y (shown_order s x.state c.args.order)) c.in-Some.is
+    (c.in_ok-queued.ensures.found one x holds lawful)) in
+    let h = stored s x.state k.queue k.item o.row.stored in
+    absurd (sizes_there s x.state k.queue k.item h
+    (sym (c.in_ok-sizes.ensures.found trusted s x at_two lawful) ∙ c.in_default-3.is))

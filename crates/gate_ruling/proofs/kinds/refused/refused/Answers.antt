@@ -19,6 +19,7 @@ use Rattle.gate_reads.specs.Orders.{TellsShown}
 use Rattle.gate_ruling.proofs.Folded.{moves_on}
 use Rattle.gate_ruling.proofs.Stored.{stored}
 use Rattle.gate_ruling.proofs.Ordered.{has_order, refused_touches, refused_raw, shrinks}
+use Rattle.gate_ruling.proofs.Missing.{sizes_there}
 use Rattle.gate_ruling.proofs.kinds.refused.refused.Goals as goal
 
 pub returns-clause-raw : goal.returns-clause-raw
@@ -60,3 +61,16 @@ returns-clause-raw g c trusted x holds lawful =
           (shrinks s x k settings sound h c.shrink.result window));
       unplaced = tt;
     }
+
+pub returns-in_default-2-clause-undamaged : goal.returns-in_default-2-clause-undamaged
+returns-in_default-2-clause-undamaged g c trusted x holds lawful =
+    let s = c.args.config.now in
+    let k = c.in-Some.queued in
+    let before = c.in_ok-sizes.ensures.kept.trusted_before trusted in
+    let held = c.in_ok-queued.ensures.kept.holds_on before _ x holds in
+    let o = has_order s x.state c.args.order k
+    (subst (λ y. TellsShown s x.state y (shown_order s x.state c.args.order)) c.in-Some.is
+    (c.in_ok-queued.ensures.found before x holds lawful)) in
+    let h = stored s x.state k.queue k.item o.row.stored in
+    absurd (sizes_there s x.state k.queue k.item h
+    (sym (c.in_ok-sizes.ensures.found trusted s x held lawful) ∙ c.in_default-2.is))
