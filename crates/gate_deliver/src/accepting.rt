@@ -1,10 +1,11 @@
 //! An accepted delivery: its reply is kept, and all edits are applied at once.
-ghost use Rattle.std.specs.Prelude.{◌≡◌, ◌++◌, ◌∷◌, [], IfOk, OnErr};
+ghost use Rattle.std.specs.Prelude.{◌≡◌, ◌++◌, ◌∷◌, [], IfOk, IfErr, OnErr};
 ghost use Rattle.gate_types.specs.Settings.{Settings};
 ghost use Rattle.gate_types.specs.State.{State};
 ghost use Rattle.gate_types.specs.Once.{Content};
 ghost use Rattle.gate_types.specs.Forms.{IsLawfulContent};
 ghost use Rattle.gate_types.specs.Tables.{Leads};
+ghost use Rattle.gate_book.specs.Faults.{MayAnswer};
 ghost use Rattle.gate_book.specs.Kept.{OfHeld};
 ghost use Rattle.gate_raw.specs.Moves.{in_state};
 ghost use Rattle.gate_deliver.specs.Ruled.{kept_on, IsAccepted, IsSpared};
@@ -36,6 +37,7 @@ pub fn accept<B: Book>(
         OnErr result (IsSpared x (kept_on x u id said reply.now) (B.Holds book.new c)
         (B.LeavesOneOf book.old c) (B.LeavesOneOf book.new c))) }
     ensures trusted { B.IsTrusted book.new → B.IsTrusted book.old }
+    ensures fault { IfErr result (MayAnswer B.MayFault) }
 {
     let text = Text::new(write_reply(alloc, reply)?);
     let reply = text.copy()?;

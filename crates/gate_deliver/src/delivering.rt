@@ -1,9 +1,11 @@
 //! The answer to a delivery.
-ghost use Rattle.std.specs.Prelude.{◌≡◌, None, true, false, IfOk, OnErr};
+ghost use Rattle.std.specs.Prelude.{◌≡◌, None, true, false, IfOk, IfErr, OnErr};
 ghost use Rattle.gate_types.specs.declared.deliveries.Answer.TheVariants as answers;
 ghost use Rattle.gate_types.specs.Canonical.{canonical_text};
 ghost use Rattle.gate_types.specs.Once.{kept_for, kept_answer, is_unavailable};
+ghost use Rattle.gate_book.specs.Faults.{MayAnswer};
 ghost use Rattle.gate_book.specs.Kept.{OfHeldUnder};
+ghost use Rattle.gate_ruling.specs.Faults.{MayRule};
 ghost use Rattle.gate_deliver.specs.Answered.{Answered, call};
 
 use crate::accepting::accept;
@@ -56,6 +58,9 @@ fn answer<B: Book>(
     ensures told { OfHeldUnder B.IsTrusted B.Holds book.old book.new config.now (λ x.
         IfOk result (λ a. is_unavailable a ≡ false)) }
     ensures trusted { B.IsTrusted book.new → B.IsTrusted book.old }
+    ensures fault { IfErr result (MayRule B.MayFault) }
+    ensures undamaged { OfHeldUnder B.IsTrusted B.Holds book.old book.new config.now (λ x.
+        IfErr result (MayAnswer B.MayFault)) }
 {
     let said = canonical(alloc, delivery)?;
     match book.delivery(&id)? {
@@ -100,6 +105,9 @@ fn act<B: Book>(
     ensures told { OfHeldUnder B.IsTrusted B.Holds book.old book.new config.now (λ x. kept_for id x.kept ≡ None →
         IfOk result (λ a. is_unavailable a ≡ false)) }
     ensures trusted { B.IsTrusted book.new → B.IsTrusted book.old }
+    ensures fault { IfErr result (MayRule B.MayFault) }
+    ensures undamaged { OfHeldUnder B.IsTrusted B.Holds book.old book.new config.now (λ x.
+        IfErr result (MayAnswer B.MayFault)) }
 {
     let _settings = &config.base;
     typed::settings_are_in_form(config);

@@ -1,8 +1,10 @@
 //! What becomes of a delivery under a new id, before anything changes.
-ghost use Rattle.std.specs.Prelude.{◌≡◌, ◌++◌, IfOk};
+ghost use Rattle.std.specs.Prelude.{◌≡◌, ◌++◌, IfOk, IfErr};
 ghost use Rattle.gate_types.specs.declared.deliveries.Delivery.{Delivery as DeliveryOf};
+ghost use Rattle.gate_book.specs.Faults.{MayAnswer};
 ghost use Rattle.gate_book.specs.Kept.{OfHeldUnder, IsKept};
 ghost use Rattle.gate_raw.specs.Raw.{IsMoved};
+ghost use Rattle.gate_ruling.specs.Faults.{MayRule};
 ghost use Rattle.gate_deliver.specs.Ruled.{IsRuled};
 
 use crate::speaking::speak;
@@ -36,6 +38,9 @@ pub fn rule<B: Book>(
     ensures ruled { OfHeldUnder B.IsTrusted B.Holds book.old book.new config.now (λ x.
         IfOk result (IsRuled config.now x delivery.now)) }
     ensures kept { IsKept B.IsTrusted B.Holds B.LeavesOneOf book.old book.new }
+    ensures fault { IfErr result (MayRule B.MayFault) }
+    ensures undamaged { OfHeldUnder B.IsTrusted B.Holds book.old book.new config.now (λ x.
+        IfErr result (MayAnswer B.MayFault)) }
 {
     match raw(alloc, book, config, delivery)? {
         Raw::Refused(refusal) => Ok(Ruled::Refused(refusal)),
@@ -54,6 +59,7 @@ fn settle<B: Book>(
     ensures ruled { OfHeldUnder B.IsTrusted B.Holds book.old book.new config.now (λ x. (d : DeliveryOf) →
         IsMoved config.now x d moved → IfOk result (IsRuled config.now x d)) }
     ensures kept { IsKept B.IsTrusted B.Holds B.LeavesOneOf book.old book.new }
+    ensures fault { IfErr result (MayAnswer B.MayFault) }
 {
     let _settings = &config.base;
     runs::raw_step_is_sound();

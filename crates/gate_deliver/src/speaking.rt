@@ -1,9 +1,10 @@
 //! The reply to an accepted delivery.
-ghost use Rattle.std.specs.Prelude.{◌≡◌, IfOk};
+ghost use Rattle.std.specs.Prelude.{◌≡◌, IfOk, IfErr};
 ghost use Rattle.gate_types.specs.State.{State};
 ghost use Rattle.gate_types.specs.Step.{approval_reply};
 ghost use Rattle.gate_types.specs.Lawful.{IsSound};
 ghost use Rattle.gate_types.specs.Tables.{Leads};
+ghost use Rattle.gate_book.specs.Faults.{MayAnswer};
 ghost use Rattle.gate_book.specs.Kept.{OfHeldUnder, IsKept};
 ghost use Rattle.gate_raw.specs.Moves.{in_state};
 ghost use Rattle.gate_raw.specs.Raw.{reply_by};
@@ -29,6 +30,7 @@ fn place_of<B: Book>(
         IsSound config.now u → Leads config.now x edits.now (in_state x u) →
         IfOk result (λ reply. reply ≡ approval_reply change u)) }
     ensures kept { IsKept B.IsTrusted B.Holds B.LeavesOneOf book.old book.new }
+    ensures fault { IfErr result (MayAnswer B.MayFault) }
 {
     let _settings = &config.base;
     let known = known(book, edits, change)?;
@@ -52,6 +54,7 @@ pub fn speak<B: Book>(
         IsSound config.now u → Leads config.now x edits.now (in_state x u) →
         IfOk result (λ reply. reply ≡ reply_by said u)) }
     ensures kept { IsKept B.IsTrusted B.Holds B.LeavesOneOf book.old book.new }
+    ensures fault { IfErr result (MayAnswer B.MayFault) }
 {
     match said {
         Said::Now(reply) => Ok(reply),
