@@ -1,5 +1,5 @@
 -- The rows that other rows of a sound state name are there.
-use Rattle.std.proofs.Common.{◌≡◌, ℕ, true, false, ◌&&◌, Option, Some, None, List, [], map, refl, sym, ap, ◌∙◌, subst, true≢false}
+use Rattle.std.proofs.Common.{◌≡◌, ℕ, true, ◌&&◌, Option, Some, None, List, [], map, refl, sym, ap, ◌∙◌, true≢false}
 use Rattle.std.specs.Prelude.{◌==◌, find, option_map, unwrap_or}
 use Rattle.std.specs.List.{AllPass}
 use Rattle.std.proofs.lemmas.Bool.{and_parts}
@@ -10,7 +10,7 @@ use Rattle.gate_types.specs.declared.records.Item.{Item as ItemRow}
 use Rattle.gate_types.specs.declared.records.Stage.TheVariants as stage
 use Rattle.gate_types.specs.Names.{same_name}
 use Rattle.gate_types.specs.Settings.{Settings}
-use Rattle.gate_types.specs.State.{Item, Queue, State, change_of, known_change, is_open, project_of}
+use Rattle.gate_types.specs.State.{Queue, State, change_of, known_change, is_open, project_of}
 use Rattle.gate_types.specs.Slot.{is_running}
 use Rattle.gate_types.specs.Standing.{places, with_ahead, place_of}
 use Rattle.gate_types.specs.Step.{build_of}
