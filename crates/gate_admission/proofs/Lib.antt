@@ -15,4 +15,6 @@ pub mod ReadyList
 pub mod Admitted
 pub mod EnteringRow
 pub mod EnteringEdits
+pub mod StillOut
+pub mod Passed
 pub mod Tries

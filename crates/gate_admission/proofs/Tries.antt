@@ -13,6 +13,7 @@ use Rattle.gate_types.specs.Admit.{may_enter, entered, admit_one, admit}
 use Rattle.gate_types.specs.Step.{is_exhausted}
 use Rattle.gate_raw.specs.Moves.{in_state}
 use Rattle.gate_admission.specs.Led.{IsLed}
+use Rattle.gate_admission.specs.Passed.{NoneEnters}
 use Rattle.gate_admission.proofs.Admitted.{tries, admit_tries, tries_more, all_in, one_in, none_left, order_rises}
 
 -- the edits lead to a state with this order counter, and its other counters aren't past the last number
@@ -118,3 +119,10 @@ pub one_more : (c : Settings) (x : Content) (edits all : List Edit) (order : ℕ
 one_more c x edits all order v m r under first led =
     subst (λ (t : State). IsUnder c x all (order + 1) t) (sym (tries_more c v m ∙ one_in c (tries c v m) r first))
     (record { led = led; order = ap (λ n. n + 1) under.order; approval = under.approval; build = under.build })
+
+-- so many are passed still
+pub passed_more : (c : Settings) (v : State) (m : ℕ) (r : Ready) (n : ℕ) →
+    find (may_enter c (tries c v m)) (tries c v m).ready ≡ Some r → NoneEnters c (entered c (tries c v m) r) n →
+    NoneEnters c (tries c v (m + 1)) n
+passed_more c v m r n first none =
+    subst (λ (t : State). NoneEnters c t n) (sym (tries_more c v m ∙ one_in c (tries c v m) r first)) none

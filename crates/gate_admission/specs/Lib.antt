@@ -2,3 +2,4 @@ pub mod Led
 pub mod Seen
 pub mod Known
 pub mod Enters
+pub mod Passed

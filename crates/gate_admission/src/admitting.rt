@@ -10,7 +10,8 @@ ghost use Rattle.gate_book.specs.Kept.{OfHeldUnder, IsKept};
 ghost use Rattle.gate_raw.specs.Moves.{in_state};
 
 use crate::counted::{is_past, last_drawn};
-use crate::entering::{enter, first_to_enter};
+use crate::entering::enter;
+use crate::passing::first_to_enter;
 use crate::ready::ready_list;
 use gate_book::book::Book;
 use gate_book::fault::BookFault;
@@ -43,15 +44,17 @@ pub fn admitting<B: Book>(
     let tries = ready_list(alloc, book, edits.as_slice())?.len();
     let mut edits = edits;
     let mut order = drawn.order;
+    let mut passed = 0;
     for _try in 0..tries {
-        let Some(ready) = first_to_enter(alloc, book, config, edits.as_slice())? else {
+        let Some(entrant) = first_to_enter(alloc, book, config, edits.as_slice(), passed)? else {
             return Ok(Some(edits));
         };
         let Some(serial) = Serial::new(order + 1) else {
             return Ok(None);
         };
-        edits = enter(alloc, book, config, edits, ready, serial)?;
+        edits = enter(alloc, book, config, edits, entrant.ready, serial)?;
         order += 1;
+        passed = entrant.passed;
     }
     Ok(Some(edits))
 }

@@ -15,7 +15,6 @@ ghost use Rattle.gate_admission.specs.Enters.{is_met_by_rows, ahead_after, ahead
 
 use crate::items::{item_in, last_item};
 use crate::known::{known, needs_of, project_of};
-use crate::ready::ready_list;
 use crate::room::has_room;
 use gate_book::book::Book;
 use gate_book::fault::BookFault;
@@ -84,7 +83,7 @@ fn has_place<B: Book>(
 }
 
 /// Whether a ready change may enter its queue.
-fn may_enter<B: Book>(
+pub(crate) fn may_enter<B: Book>(
     alloc: Global,
     book: &mut B,
     config: &Config,
@@ -103,27 +102,6 @@ fn may_enter<B: Book>(
     };
     let needs = needs_of(alloc, book, edits, &known)?;
     has_place(book, edits, &project.queue, needs.as_slice())
-}
-
-/// The first ready change that may enter its queue.
-pub(crate) fn first_to_enter<B: Book>(
-    alloc: Global,
-    book: &mut B,
-    config: &Config,
-    edits: &[Edit],
-) -> Result<Option<Ready>, BookFault>
-    ensures found { OfLedUnder B.IsTrusted B.Holds book.old book.new config.now edits.now (λ v.
-        IfOk result (λ found. found ≡ find (may_enter config.now v) v.ready)) }
-    ensures kept { IsKept B.IsTrusted B.Holds B.LeavesOneOf book.old book.new }
-    ensures fault { IfErr result (MayAnswer B.MayFault) }
-{
-    let ready = ready_list(alloc, book, edits)?;
-    for waiting in &ready {
-        if may_enter(alloc, book, config, edits, *waiting)? {
-            return Ok(Some(*waiting));
-        }
-    }
-    Ok(None)
 }
 
 fn is_fine(row: Option<Item>) -> bool

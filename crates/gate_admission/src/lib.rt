@@ -6,5 +6,6 @@ mod counted;
 mod entering;
 pub mod items;
 pub mod known;
+mod passing;
 mod ready;
 mod room;

@@ -5,7 +5,7 @@ use Rattle.gate_types.specs.Counters.{Drawn}
 use Rattle.gate_admission.specs.Led.{IsLed}
 use Rattle.gate_admission.proofs.Calls.{then}
 use Rattle.gate_admission.proofs.Admitted.{tries, admit_tries}
-use Rattle.gate_admission.proofs.Tries.{past_stays, none_past, at_the_end, nobody_enters, one_more, runs_out}
+use Rattle.gate_admission.proofs.Tries.{past_stays, none_past, at_the_end, nobody_enters, one_more, passed_more, runs_out}
 use Rattle.gate_admission.proofs.admitting.admitting.Goals as goal
 
 pub returns-then-is_past-clause-admitted : goal.returns-then-is_past-clause-admitted
@@ -46,28 +46,31 @@ loop-try-init g c =
                   omega (arith, b, few.1);
             },
             c.len-tries.ensures ∙ many ∙ ap length (c.in_ok-ready_list.ensures.found trusted s x next lawful v so_far2),
+            refl,
           );
     }
 
 pub loop-try-preserved : goal.loop-try-preserved
 loop-try-preserved g c = record {
-  kept = then (then c.loop-try.invariant.kept c.in_ok-ready.ensures.kept) c.in_ok-edits.ensures.kept;
+  kept = then (then c.loop-try.invariant.kept c.in_ok-entrant.ensures.kept) c.in_ok-edits.ensures.kept;
   order = (c.in-Some-new.ensures.range.0 refl).1;
   found = λ trusted x holds lawful v led.
       let s = c.args.config.now in
       let two = c.in_ok-edits.ensures.kept.trusted_before trusted in
-      let one = c.in_ok-ready.ensures.kept.trusted_before two in
+      let one = c.in_ok-entrant.ensures.kept.trusted_before two in
       let start = c.loop-try.invariant.kept.holds_on one s x holds in
-      let next = c.in_ok-ready.ensures.kept.holds_on two s x start in
+      let next = c.in_ok-entrant.ensures.kept.holds_on two s x start in
       let under = c.loop-try.invariant.found one x holds lawful v led in
       let u = tries s v c.loop-try._try in
       let so_far = subst (λ es. IsLed s x es u) (sym c.as_slice-in-loop-try.ensures.value) under.0.led in
-      let first = sym (c.in_ok-ready.ensures.found two x start lawful u so_far) ∙ c.in-Some.is in (
+      let enters = rw c.in-Some.is at (c.in_ok-entrant.ensures.found two x start lawful u so_far under.2) in
+      let r = c.in-Some.entrant.ready in (
         one_more s x c.loop-try.edits.items c.in_ok-edits.edits.items c.loop-try.order v c.loop-try._try
-            c.in-Some.ready under.0 first
-            (c.in_ok-edits.ensures.led trusted x next lawful u under.0.led first
+            r under.0 enters.first
+            (c.in_ok-edits.ensures.led trusted x next lawful u under.0.led enters.first
             (c.in-Some-new.ensures.value ∙ ap (λ n. n + 1) (sym under.0.order))),
         under.1,
+        passed_more s v c.loop-try._try r c.in-Some.entrant.passed enters.first enters.again,
       );
 }
 
@@ -75,12 +78,12 @@ pub returns-in_default-clause-admitted : goal.returns-in_default-clause-admitted
 returns-in_default-clause-admitted g c = λ trusted x holds lawful v sound leads.
     let s = c.args.config.now in
     let led : IsLed s x c.args.edits.items v = record { sound = sound; leads = leads } in
-    let one = c.in_ok-ready.ensures.kept.trusted_before trusted in
+    let one = c.in_ok-entrant.ensures.kept.trusted_before trusted in
     let start = c.loop-try.invariant.kept.holds_on one s x holds in
     let under = c.loop-try.invariant.found one x holds lawful v led in
     let u = tries s v c.loop-try._try in
     let so_far = subst (λ es. IsLed s x es u) (sym c.as_slice-in-loop-try.ensures.value) under.0.led in
-    let none = sym (c.in_ok-ready.ensures.found trusted x start lawful u so_far) ∙ c.in_default.is in
+    let none = rw c.in_default.is at (c.in_ok-entrant.ensures.found trusted x start lawful u so_far under.2) in
     at_the_end s x c.loop-try.edits.items c.loop-try.order v u c.loop-try.invariant.order under.0
     (nobody_enters s v c.loop-try._try (omega (arith, c.loop-try-test.true, under.1)) none)
 
@@ -88,18 +91,18 @@ pub returns-in_default-new-clause-admitted : goal.returns-in_default-new-clause-
 returns-in_default-new-clause-admitted g c = λ trusted x holds lawful v sound leads.
     let s = c.args.config.now in
     let led : IsLed s x c.args.edits.items v = record { sound = sound; leads = leads } in
-    let one = c.in_ok-ready.ensures.kept.trusted_before trusted in
+    let one = c.in_ok-entrant.ensures.kept.trusted_before trusted in
     let start = c.loop-try.invariant.kept.holds_on one s x holds in
     let under = c.loop-try.invariant.found one x holds lawful v led in
     let u = tries s v c.loop-try._try in
     let so_far = subst (λ es. IsLed s x es u) (sym c.as_slice-in-loop-try.ensures.value) under.0.led in
-    let first = sym (c.in_ok-ready.ensures.found trusted x start lawful u so_far) ∙ c.in-Some.is in
+    let enters = rw c.in-Some.is at (c.in_ok-entrant.ensures.found trusted x start lawful u so_far under.2) in
     let last : 1000000000000000 ≤ c.loop-try.order = ⊎_elim
     (λ (l : c.loop-try.order < 1000000000000000). absurd
     (false≢true (c.in_default-new.ensures.range.1 (omega arith, omega arith))))
     (λ (l : 1000000000000000 ≤ c.loop-try.order). l)
     (cases_lt c.loop-try.order 1000000000000000) in
-    runs_out s v c.loop-try._try c.in-Some.ready (omega (arith, c.loop-try-test.true, under.1)) first
+    runs_out s v c.loop-try._try c.in-Some.entrant.ready (omega (arith, c.loop-try-test.true, under.1)) enters.first
     (let o = under.0.order in omega (arith, o, last))
 
 pub returns-clause-admitted : goal.returns-clause-admitted
