@@ -205,6 +205,16 @@ pub struct Scene {
 }
 
 impl Scene {
+    fn empty(alloc: Global) -> Result<Scene, Fail> {
+        let config = settings(alloc)?;
+        let book = MemBook::new(alloc, &config)?;
+        Ok(Scene {
+            alloc,
+            config,
+            book,
+        })
+    }
+
     pub fn put(&mut self, edits: &[Edit]) -> Result<(), Fail> {
         self.book.apply(edits)?;
         Ok(())
@@ -217,22 +227,26 @@ impl Scene {
     }
 }
 
-/// 101, whose order is shown; 102, whose build runs; 105, which waits for one. 103 is ready, and 104 isn't approved.
-pub fn three_items(alloc: Global) -> Result<Scene, Fail> {
-    let config = settings(alloc)?;
-    let book = MemBook::new(alloc, &config)?;
-    let mut scene = Scene {
-        alloc,
-        config,
-        book,
-    };
+fn push_counters(edits: &mut Vec<Edit>) -> Result<(), Fail> {
+    edits.push(set_counter(Counter::Approval, 7))?;
+    edits.push(set_counter(Counter::Build, 2))?;
+    edits.push(set_counter(Counter::Order, 4))?;
+    Ok(())
+}
+
+fn rows(alloc: Global) -> Result<Vec<Edit>, Fail> {
     let mut edits = Vec::new(alloc);
     push_landing(alloc, &mut edits)?;
     push_changes(alloc, &mut edits)?;
     push_items(alloc, &mut edits)?;
-    edits.push(set_counter(Counter::Approval, 7))?;
-    edits.push(set_counter(Counter::Build, 2))?;
-    edits.push(set_counter(Counter::Order, 4))?;
-    scene.put(&edits)?;
+    push_counters(&mut edits)?;
+    Ok(edits)
+}
+
+/// 101, whose order is shown; 102, whose build runs; 105, which waits for one. 103 is ready, and 104 isn't approved.
+pub fn three_items(alloc: Global) -> Result<Scene, Fail> {
+    let mut scene = Scene::empty(alloc)?;
+    let rows = rows(alloc)?;
+    scene.put(&rows)?;
     Ok(scene)
 }
