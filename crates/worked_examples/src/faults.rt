@@ -24,7 +24,11 @@ const OTHERS: &str =
 "#;
 
 /// The count, and what a writer takes that fails after some bytes.
-fn taken_by(alloc: Global, gate: &mut Gate<MemBook>, left: usize) -> (Result<u64, IoFault>, Vec<u8>) {
+fn taken_by(
+    alloc: Global,
+    gate: &mut Gate<MemBook>,
+    left: usize,
+) -> (Result<u64, IoFault>, Vec<u8>) {
     let mut r = Tap::new(LINES.as_bytes());
     let mut w = Tap::new(Narrow {
         taken: Vec::new(alloc),
@@ -37,7 +41,11 @@ fn taken_by(alloc: Global, gate: &mut Gate<MemBook>, left: usize) -> (Result<u64
 }
 
 /// The count, and what is written where a reader fails after some reads of a byte.
-fn written_after(alloc: Global, gate: &mut Gate<MemBook>, left: usize) -> (Result<u64, IoFault>, Vec<u8>) {
+fn written_after(
+    alloc: Global,
+    gate: &mut Gate<MemBook>,
+    left: usize,
+) -> (Result<u64, IoFault>, Vec<u8>) {
     let mut r = Tap::new(Failing {
         bytes: LINES.as_bytes(),
         step: 1,

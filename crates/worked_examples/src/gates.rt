@@ -1,9 +1,11 @@
 //! What all tests share: settings, gates over them, what they are told and what they show.
+use gate_book::book::Book;
 use gate_book::memory::MemBook;
 use gate_config::{ConfigFault, read};
 use gate_core::fault::IoFault;
 use gate_core::gate::Gate;
 use gate_core::replay::replay;
+use gate_types::records::Counters;
 use gate_types::tap::Tap;
 use std::alloc::{AllocError, Global};
 use std::ops::Range;
@@ -22,16 +24,8 @@ pub const RECORDED: &str = "{\"reply\":\"recorded\"}\n";
 
 pub const WAITING: &str = "{\"reply\":\"waiting\"}\n";
 
-/// The queue `core` with its projects `lib` and `app`.
-pub const CORE: &str = r#"
-[forge]
-base = "https://forge/c/"
-
-[[queue]]
-name = "core"
-window = 2
-floor = 1
-
+/// The projects of the queue `core`.
+const LIB_AND_APP: &str = r#"
 [[project]]
 name = "lib"
 queue = "core"
@@ -62,8 +56,16 @@ queue = "web"
 name = "unit"
 "#;
 
+/// The queue `core` with this window and floor, and its projects `lib` and `app`.
+fn core(alloc: Global, window: u32, floor: u32) -> Result<String, AllocError> {
+    format!(in alloc;
+        "[forge]\nbase = \"https://forge/c/\"\n\n\
+         [[queue]]\nname = \"core\"\nwindow = {window}\nfloor = {floor}\n{LIB_AND_APP}"
+    )
+}
+
 /// A gate under these settings, over an empty book in memory.
-pub fn gate_under(alloc: Global, settings: &str) -> Result<Gate<MemBook>, ConfigFault> {
+fn gate_under(alloc: Global, settings: &str) -> Result<Gate<MemBook>, ConfigFault> {
     let config = read(alloc, settings.as_bytes())?;
     let Ok(book) = MemBook::new(alloc, &config) else {
         return Err(ConfigFault::NoMemory);
@@ -73,13 +75,35 @@ pub fn gate_under(alloc: Global, settings: &str) -> Result<Gate<MemBook>, Config
 
 /// A gate with the queue `core`.
 pub fn new_gate(alloc: Global) -> Result<Gate<MemBook>, ConfigFault> {
-    gate_under(alloc, CORE)
+    let Ok(settings) = core(alloc, 2, 1) else {
+        return Err(ConfigFault::NoMemory);
+    };
+    gate_under(alloc, settings.as_str())
+}
+
+/// The settings of two queues, `core` with this window and floor, and `web`.
+pub fn two_queues(alloc: Global, window: u32, floor: u32) -> Result<String, AllocError> {
+    let core = core(alloc, window, floor)?;
+    format!(in alloc; "{core}{WEB}")
+}
+
+/// A gate with the queues `core`, of this window and floor, and `web`.
+pub fn gate_of(alloc: Global, window: u32, floor: u32) -> Result<Gate<MemBook>, Fail> {
+    let settings = two_queues(alloc, window, floor)?;
+    Ok(gate_under(alloc, settings.as_str())?)
 }
 
 /// A gate with the queues `core` and `web`.
 pub fn gate_of_two_queues(alloc: Global) -> Result<Gate<MemBook>, Fail> {
-    let settings = format!(in alloc; "{CORE}{WEB}")?;
-    Ok(gate_under(alloc, settings.as_str())?)
+    gate_of(alloc, 2, 1)
+}
+
+/// A gate with the queues `core` and `web`, which has drawn these numbers before.
+pub fn gate_after(alloc: Global, counters: Counters) -> Result<Gate<MemBook>, Fail> {
+    let settings = two_queues(alloc, 2, 1)?;
+    let config = read(alloc, settings.as_bytes())?;
+    let book = MemBook::with_counters(alloc, &config, counters)?;
+    Ok(Gate::new(config, book))
 }
 
 /// The first revision of a change, under an id with the change's number.
@@ -103,7 +127,7 @@ pub fn approving(alloc: Global, change: u32) -> Result<String, AllocError> {
 }
 
 /// What a gate writes for lines.
-pub fn said(alloc: Global, gate: &mut Gate<MemBook>, lines: &str) -> Result<Vec<u8>, IoFault> {
+pub fn said<B: Book>(alloc: Global, gate: &mut Gate<B>, lines: &str) -> Result<Vec<u8>, IoFault> {
     let Ok(written) = Vec::with_capacity(alloc, 256) else {
         return Err(IoFault::NoMemory);
     };
@@ -114,9 +138,9 @@ pub fn said(alloc: Global, gate: &mut Gate<MemBook>, lines: &str) -> Result<Vec<
 }
 
 /// The lines get the answers.
-pub fn tells(
+pub fn tells<B: Book>(
     rt: &(impl Abort + AllocGlobal),
-    gate: &mut Gate<MemBook>,
+    gate: &mut Gate<B>,
     lines: &str,
     answers: &str,
 ) -> Result<(), IoFault> {

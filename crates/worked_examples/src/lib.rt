@@ -2,7 +2,11 @@
 #![tactic(auto)]
 
 #[cfg(test)]
+mod beginnings;
+#[cfg(test)]
 mod conversations;
+#[cfg(test)]
+mod failures;
 #[cfg(test)]
 mod faults;
 #[cfg(test)]
@@ -12,11 +16,15 @@ mod landings;
 #[cfg(test)]
 mod lines;
 #[cfg(test)]
+mod orders;
+#[cfg(test)]
 mod queues;
 #[cfg(test)]
 mod sizes;
 #[cfg(test)]
 mod streams;
+#[cfg(test)]
+mod talks;
 #[cfg(test)]
 mod taps;
 #[cfg(test)]
