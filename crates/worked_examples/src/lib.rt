@@ -16,6 +16,8 @@ mod landings;
 #[cfg(test)]
 mod lines;
 #[cfg(test)]
+mod needs;
+#[cfg(test)]
 mod orders;
 #[cfg(test)]
 mod queues;
@@ -29,3 +31,5 @@ mod talks;
 mod taps;
 #[cfg(test)]
 mod turns;
+#[cfg(test)]
+mod windows;
