@@ -6,6 +6,8 @@ mod beginnings;
 #[cfg(test)]
 mod conversations;
 #[cfg(test)]
+mod counters;
+#[cfg(test)]
 mod failures;
 #[cfg(test)]
 mod faults;
@@ -21,6 +23,10 @@ mod needs;
 mod orders;
 #[cfg(test)]
 mod queues;
+#[cfg(test)]
+mod refusals;
+#[cfg(test)]
+mod repeats;
 #[cfg(test)]
 mod sizes;
 #[cfg(test)]

@@ -1,0 +1,197 @@
+//! Each refusal of a delivery, and what is stale.
+use crate::gates::gate_of_two_queues;
+use crate::talks::Part::{Orders, Status, Talk};
+use crate::talks::goes;
+use std::test::Fail;
+
+const QUEUED_AND_BACK: &str = r#"
+> {"id":"00000000-0000-4000-8000-000000000001","kind":"withdrawn","change":101,"revision":1}
+< {"code":"E5","error":"unknown-change"}
+> {"id":"00000000-0000-4000-8000-000000000002","kind":"closed","change":101,"revision":1}
+< {"code":"E5","error":"unknown-change"}
+> {"id":"00000000-0000-4000-8000-000000000003","kind":"revision","change":101,"project":"lib","revision":2,"message":""}
+< {"reply":"recorded"}
+> {"id":"00000000-0000-4000-8000-000000000004","kind":"withdrawn","change":101,"revision":3}
+< {"code":"E6","error":"unknown-revision"}
+> {"id":"00000000-0000-4000-8000-000000000005","kind":"closed","change":101,"revision":3}
+< {"code":"E6","error":"unknown-revision"}
+> {"id":"00000000-0000-4000-8000-000000000006","kind":"withdrawn","change":101,"revision":1}
+< {"reply":"stale"}
+> {"id":"00000000-0000-4000-8000-000000000007","kind":"closed","change":101,"revision":1}
+< {"reply":"stale"}
+> {"id":"00000000-0000-4000-8000-000000000008","kind":"withdrawn","change":101,"revision":2}
+< {"reply":"stale"}
+> {"id":"00000000-0000-4000-8000-000000000009","kind":"approved","change":101,"revision":2}
+< {"order":1,"reply":"queued"}
+> {"id":"00000000-0000-4000-8000-000000000010","kind":"withdrawn","change":101,"revision":2}
+< {"reply":"removed"}
+> {"id":"00000000-0000-4000-8000-000000000011","kind":"approved","change":101,"revision":2}
+< {"order":2,"reply":"queued"}
+> {"id":"00000000-0000-4000-8000-000000000012","kind":"closed","change":101,"revision":2}
+< {"reply":"removed"}
+> {"id":"00000000-0000-4000-8000-000000000013","kind":"closed","change":101,"revision":2}
+< {"reply":"stale"}
+> {"id":"00000000-0000-4000-8000-000000000014","kind":"withdrawn","change":101,"revision":2}
+< {"reply":"stale"}
+> {"id":"00000000-0000-4000-8000-000000000015","kind":"approved","change":101,"revision":2}
+< {"reply":"stale"}
+> {"id":"00000000-0000-4000-8000-000000000016","kind":"revision","change":101,"project":"lib","revision":2,"message":""}
+< {"reply":"stale"}
+> {"id":"00000000-0000-4000-8000-000000000017","kind":"revision","change":101,"project":"lib","revision":3,"message":""}
+< {"reply":"recorded"}
+> {"id":"00000000-0000-4000-8000-000000000018","kind":"approved","change":101,"revision":3}
+< {"order":3,"reply":"queued"}
+"#;
+
+const THIRD_TIME: &str = "queue core window 2 landed 0
+     3       101    3      - ok      unit=waiting docs=waiting
+queue web window 2 landed 0
+end
+";
+
+/// A closed change is opened by its next revision alone.
+#[test]
+fn withdrawing_and_closing_a_queued_change(rt: HostRuntime) -> Result<(), Fail> {
+    goes(
+        &rt,
+        gate_of_two_queues(rt.alloc())?,
+        &[Talk(QUEUED_AND_BACK), Status(THIRD_TIME)],
+    )
+}
+
+const WAITED_AND_BACK: &str = r#"
+> {"id":"00000000-0000-4000-8000-000000000001","kind":"revision","change":102,"project":"app","revision":1,"message":"Depends-On: https://forge/c/900"}
+< {"reply":"recorded"}
+> {"id":"00000000-0000-4000-8000-000000000002","kind":"approved","change":102,"revision":1}
+< {"reply":"waiting"}
+> {"id":"00000000-0000-4000-8000-000000000003","kind":"withdrawn","change":102,"revision":1}
+< {"reply":"recorded"}
+> {"id":"00000000-0000-4000-8000-000000000004","kind":"withdrawn","change":102,"revision":1}
+< {"reply":"stale"}
+> {"id":"00000000-0000-4000-8000-000000000005","kind":"approved","change":102,"revision":1}
+< {"reply":"waiting"}
+> {"id":"00000000-0000-4000-8000-000000000006","kind":"closed","change":102,"revision":1}
+< {"reply":"recorded"}
+> {"id":"00000000-0000-4000-8000-000000000007","kind":"approved","change":102,"revision":1}
+< {"reply":"stale"}
+> {"id":"00000000-0000-4000-8000-000000000008","kind":"revision","change":103,"project":"app","revision":1,"message":""}
+< {"reply":"recorded"}
+> {"id":"00000000-0000-4000-8000-000000000009","kind":"closed","change":103,"revision":1}
+< {"reply":"recorded"}
+> {"id":"00000000-0000-4000-8000-000000000010","kind":"closed","change":103,"revision":1}
+< {"reply":"stale"}
+> {"id":"00000000-0000-4000-8000-000000000011","kind":"revision","change":104,"project":"app","revision":1,"message":"Depends-On: https://forge/c/900"}
+< {"reply":"recorded"}
+> {"id":"00000000-0000-4000-8000-000000000012","kind":"approved","change":104,"revision":1}
+< {"reply":"waiting"}
+> {"id":"00000000-0000-4000-8000-000000000013","kind":"revision","change":104,"project":"app","revision":2,"message":""}
+< {"reply":"recorded"}
+"#;
+
+const NOTHING_WAITS: &str = "queue core window 2 landed 0
+queue web window 2 landed 0
+end
+";
+
+/// A change that stands nowhere can be closed, and not withdrawn; a new revision waits nowhere.
+#[test]
+fn withdrawing_and_closing_a_waiting_change(rt: HostRuntime) -> Result<(), Fail> {
+    goes(
+        &rt,
+        gate_of_two_queues(rt.alloc())?,
+        &[Talk(WAITED_AND_BACK), Status(NOTHING_WAITS)],
+    )
+}
+
+const BUILT_AND_LANDED: &str = r#"
+> {"id":"00000000-0000-4000-8000-000000000001","kind":"take","worker":"w1"}
+< {"code":"E12","error":"idle"}
+> {"id":"00000000-0000-4000-8000-000000000002","kind":"result","build":1,"outcome":"success"}
+< {"code":"E11","error":"unknown-build"}
+> {"id":"00000000-0000-4000-8000-000000000003","kind":"landed","order":1}
+< {"code":"E10","error":"no-order"}
+> {"id":"00000000-0000-4000-8000-000000000004","kind":"refused","order":1}
+< {"code":"E10","error":"no-order"}
+> {"id":"00000000-0000-4000-8000-000000000005","kind":"revision","change":102,"project":"app","revision":1,"message":""}
+< {"reply":"recorded"}
+> {"id":"00000000-0000-4000-8000-000000000006","kind":"approved","change":102,"revision":1}
+< {"order":1,"reply":"queued"}
+> {"id":"00000000-0000-4000-8000-000000000007","kind":"landed","order":1}
+< {"code":"E10","error":"no-order"}
+> {"id":"00000000-0000-4000-8000-000000000008","kind":"take","worker":"w1"}
+< {"after":0,"ahead":[],"build":1,"change":102,"job":"unit","queue":"core","reply":"build","revision":1}
+> {"id":"00000000-0000-4000-8000-000000000009","kind":"take","worker":"w1"}
+< {"code":"E12","error":"idle"}
+> {"id":"00000000-0000-4000-8000-000000000010","kind":"landed","order":1}
+< {"code":"E10","error":"no-order"}
+> {"id":"00000000-0000-4000-8000-000000000011","kind":"result","build":2,"outcome":"success"}
+< {"code":"E11","error":"unknown-build"}
+> {"id":"00000000-0000-4000-8000-000000000012","kind":"result","build":1,"outcome":"success"}
+< {"reply":"noted"}
+> {"id":"00000000-0000-4000-8000-000000000013","kind":"result","build":1,"outcome":"failure"}
+< {"reply":"stale"}
+> {"id":"00000000-0000-4000-8000-000000000014","kind":"landed","order":2}
+< {"code":"E10","error":"no-order"}
+> {"id":"00000000-0000-4000-8000-000000000015","kind":"refused","order":2}
+< {"code":"E10","error":"no-order"}
+> {"id":"00000000-0000-4000-8000-000000000016","kind":"landed","order":1}
+< {"n":1,"reply":"landed"}
+> {"id":"00000000-0000-4000-8000-000000000017","kind":"result","build":1,"outcome":"success"}
+< {"reply":"stale"}
+> {"id":"00000000-0000-4000-8000-000000000018","kind":"landed","order":1}
+< {"code":"E10","error":"no-order"}
+> {"id":"00000000-0000-4000-8000-000000000019","kind":"refused","order":1}
+< {"code":"E10","error":"no-order"}
+> {"id":"00000000-0000-4000-8000-000000000020","kind":"take","worker":"w1"}
+< {"code":"E12","error":"idle"}
+"#;
+
+const LANDED_FOR_GOOD: &str = r#"
+> {"id":"00000000-0000-4000-8000-000000000021","kind":"revision","change":102,"project":"app","revision":2,"message":""}
+< {"reply":"stale"}
+> {"id":"00000000-0000-4000-8000-000000000022","kind":"approved","change":102,"revision":1}
+< {"reply":"stale"}
+> {"id":"00000000-0000-4000-8000-000000000023","kind":"withdrawn","change":102,"revision":1}
+< {"reply":"stale"}
+> {"id":"00000000-0000-4000-8000-000000000024","kind":"closed","change":102,"revision":1}
+< {"reply":"stale"}
+> {"id":"00000000-0000-4000-8000-000000000025","kind":"revision","change":102,"project":"lib","revision":2,"message":""}
+< {"code":"E8","error":"project-changed"}
+> {"id":"00000000-0000-4000-8000-000000000026","kind":"revision","change":102,"project":"none","revision":2,"message":""}
+< {"code":"E7","error":"unknown-project"}
+> {"id":"00000000-0000-4000-8000-000000000027","kind":"approved","change":102,"revision":2}
+< {"code":"E6","error":"unknown-revision"}
+> {"id":"00000000-0000-4000-8000-000000000028","kind":"withdrawn","change":102,"revision":2}
+< {"code":"E6","error":"unknown-revision"}
+> {"id":"00000000-0000-4000-8000-000000000029","kind":"closed","change":102,"revision":2}
+< {"code":"E6","error":"unknown-revision"}
+"#;
+
+const ONE_LANDED: &str = "queue core window 3 landed 1
+queue web window 2 landed 0
+end
+";
+
+/// Each build has one result, and each order one answer.
+#[test]
+fn building_and_landing_a_change(rt: HostRuntime) -> Result<(), Fail> {
+    goes(
+        &rt,
+        gate_of_two_queues(rt.alloc())?,
+        &[Talk(BUILT_AND_LANDED), Orders("[]"), Status(ONE_LANDED)],
+    )
+}
+
+/// Whatever is said of it is stale or refused.
+#[test]
+fn a_landed_change_has_landed_for_good(rt: HostRuntime) -> Result<(), Fail> {
+    goes(
+        &rt,
+        gate_of_two_queues(rt.alloc())?,
+        &[
+            Talk(BUILT_AND_LANDED),
+            Talk(LANDED_FOR_GOOD),
+            Status(ONE_LANDED),
+        ],
+    )
+}

@@ -1,0 +1,134 @@
+//! Repeated deliveries, over two queues.
+use crate::gates::gate_of_two_queues;
+use crate::talks::Part::{Status, Talk};
+use crate::talks::goes;
+use std::test::Fail;
+
+const REFUSED_AT_FIRST: &str = r#"
+> {"id":"00000000-0000-4000-8000-000000000001","kind":"approved","change":101,"revision":1}
+< {"code":"E5","error":"unknown-change"}
+> {"id":"00000000-0000-4000-8000-000000000002","kind":"revision","change":101,"project":"lib","revision":1,"message":""}
+< {"reply":"recorded"}
+> {"id":"00000000-0000-4000-8000-000000000001","kind":"approved","change":101,"revision":1}
+< {"order":1,"reply":"queued"}
+"#;
+
+const ONE_ITEM: &str = "queue core window 2 landed 0
+     1       101    1      - ok      unit=waiting docs=waiting
+queue web window 2 landed 0
+end
+";
+
+/// Its id is not spent: sent again, it is looked at anew.
+#[test]
+fn a_refused_delivery_may_be_sent_again(rt: HostRuntime) -> Result<(), Fail> {
+    goes(
+        &rt,
+        gate_of_two_queues(rt.alloc())?,
+        &[Talk(REFUSED_AT_FIRST), Status(ONE_ITEM)],
+    )
+}
+
+const SENT_TWICE: &str = r#"
+> {"id":"00000000-0000-4000-8000-000000000001","kind":"revision","change":101,"project":"lib","revision":1,"message":""}
+< {"reply":"recorded"}
+> {"id":"00000000-0000-4000-8000-000000000002","kind":"revision","change":102,"project":"app","revision":1,"message":""}
+< {"reply":"recorded"}
+> {"id":"0a000000-0000-4000-8000-000000000002","kind":"approved","change":101,"revision":1}
+< {"order":1,"reply":"queued"}
+> {"id":"0A000000-0000-4000-8000-000000000002","kind":"approved","change":101,"revision":1}
+< {"order":1,"reply":"queued"}
+> {"id":"00000000-0000-4000-8000-000000000003","kind":"approved","change":102,"revision":1}
+< {"order":2,"reply":"queued"}
+"#;
+
+const TWO_ITEMS: &str = "queue core window 2 landed 0
+     1       101    1      - ok      unit=waiting docs=waiting
+     2       102    1      1 ok      unit=waiting
+queue web window 2 landed 0
+end
+";
+
+const AND_AGAIN: &str = r#"
+> {"id":"0a000000-0000-4000-8000-000000000002","kind":"approved","change":101,"revision":2}
+< {"code":"E4","error":"id-reused"}
+> {"id":"0a000000-0000-4000-8000-000000000002","kind":"approved","change":101,"revision":1,"x":1}
+< {"order":1,"reply":"queued"}
+> {"id":"{0a000000-0000-4000-8000-000000000002}","revision":1, "change":101, "kind":"approved"}
+< {"order":1,"reply":"queued"}
+> {"id":"0a000000-0000-4000-8000-000000000002","kind":"approved","change":103,"revision":1}
+< {"code":"E4","error":"id-reused"}
+"#;
+
+/// Ids are compared by value, and deliveries by what they say.
+#[test]
+fn a_repeat_gets_the_kept_reply(rt: HostRuntime) -> Result<(), Fail> {
+    goes(
+        &rt,
+        gate_of_two_queues(rt.alloc())?,
+        &[
+            Talk(SENT_TWICE),
+            Status(TWO_ITEMS),
+            Talk(AND_AGAIN),
+            Status(TWO_ITEMS),
+        ],
+    )
+}
+
+const STALE_THEN: &str = r#"
+> {"id":"00000000-0000-4000-8000-000000000001","kind":"revision","change":101,"project":"lib","revision":1,"message":""}
+< {"reply":"recorded"}
+> {"id":"00000000-0000-4000-8000-000000000002","kind":"withdrawn","change":101,"revision":1}
+< {"reply":"stale"}
+> {"id":"00000000-0000-4000-8000-000000000003","kind":"approved","change":101,"revision":1}
+< {"order":1,"reply":"queued"}
+> {"id":"00000000-0000-4000-8000-000000000002","kind":"withdrawn","change":101,"revision":1}
+< {"reply":"stale"}
+"#;
+
+/// Its reply is kept too: the repeat takes nothing out, though a new delivery of the same would.
+#[test]
+fn a_stale_delivery_stays_stale(rt: HostRuntime) -> Result<(), Fail> {
+    goes(
+        &rt,
+        gate_of_two_queues(rt.alloc())?,
+        &[Talk(STALE_THEN), Status(ONE_ITEM)],
+    )
+}
+
+const TAKEN_TWICE: &str = r#"
+> {"id":"00000000-0000-4000-8000-000000000001","kind":"revision","change":101,"project":"lib","revision":1,"message":""}
+< {"reply":"recorded"}
+> {"id":"00000000-0000-4000-8000-000000000002","kind":"approved","change":101,"revision":1}
+< {"order":1,"reply":"queued"}
+> {"id":"00000000-0000-4000-8000-000000000003","kind":"take","worker":"w1"}
+< {"after":0,"ahead":[],"build":1,"change":101,"job":"unit","queue":"core","reply":"build","revision":1}
+> {"id":"00000000-0000-4000-8000-000000000003","kind":"take","worker":"w1"}
+< {"after":0,"ahead":[],"build":1,"change":101,"job":"unit","queue":"core","reply":"build","revision":1}
+> {"id":"00000000-0000-4000-8000-000000000004","kind":"take","worker":"w1"}
+< {"after":0,"ahead":[],"build":2,"change":101,"job":"docs","queue":"core","reply":"build","revision":1}
+> {"id":"00000000-0000-4000-8000-000000000003","kind":"take","worker":"w1"}
+< {"after":0,"ahead":[],"build":1,"change":101,"job":"unit","queue":"core","reply":"build","revision":1}
+> {"id":"00000000-0000-4000-8000-000000000003","kind":"take","worker":"w2"}
+< {"code":"E4","error":"id-reused"}
+> {"id":"00000000-0000-4000-8000-000000000005","kind":"result","build":1,"outcome":"success"}
+< {"reply":"noted"}
+> {"id":"00000000-0000-4000-8000-000000000003","kind":"take","worker":"w1"}
+< {"after":0,"ahead":[],"build":1,"change":101,"job":"unit","queue":"core","reply":"build","revision":1}
+"#;
+
+const TWO_BUILDS: &str = "queue core window 2 landed 0
+     1       101    1      - ok      unit=success docs=running
+queue web window 2 landed 0
+end
+";
+
+/// Under the same id and worker; another worker cannot use the id.
+#[test]
+fn a_repeated_take_gives_the_same_build(rt: HostRuntime) -> Result<(), Fail> {
+    goes(
+        &rt,
+        gate_of_two_queues(rt.alloc())?,
+        &[Talk(TAKEN_TWICE), Status(TWO_BUILDS)],
+    )
+}
