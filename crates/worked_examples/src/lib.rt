@@ -16,6 +16,8 @@ mod gates;
 #[cfg(test)]
 mod landings;
 #[cfg(test)]
+mod limits;
+#[cfg(test)]
 mod lines;
 #[cfg(test)]
 mod needs;
@@ -37,5 +39,7 @@ mod talks;
 mod taps;
 #[cfg(test)]
 mod turns;
+#[cfg(test)]
+mod watched;
 #[cfg(test)]
 mod windows;
