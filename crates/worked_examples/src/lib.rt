@@ -28,6 +28,8 @@ mod queues;
 #[cfg(test)]
 mod refusals;
 #[cfg(test)]
+mod refused;
+#[cfg(test)]
 mod repeats;
 #[cfg(test)]
 mod sizes;
