@@ -45,3 +45,5 @@ mod turns;
 mod watched;
 #[cfg(test)]
 mod windows;
+#[cfg(test)]
+mod wrong_gates;
