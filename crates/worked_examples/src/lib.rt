@@ -8,17 +8,25 @@ mod conversations;
 #[cfg(test)]
 mod counters;
 #[cfg(test)]
+mod dependents;
+#[cfg(test)]
 mod failures;
 #[cfg(test)]
 mod faults;
 #[cfg(test)]
+mod footers;
+#[cfg(test)]
 mod gates;
+#[cfg(test)]
+mod halvings;
 #[cfg(test)]
 mod landings;
 #[cfg(test)]
 mod limits;
 #[cfg(test)]
 mod lines;
+#[cfg(test)]
+mod losses;
 #[cfg(test)]
 mod needs;
 #[cfg(test)]

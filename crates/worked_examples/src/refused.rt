@@ -1,5 +1,5 @@
 //! Memory is refused once, wherever it may be.
-use crate::gates::{UNAVAILABLE, gate_of_two_queues, said};
+use crate::gates::{UNAVAILABLE, new_gate, said};
 use gate_book::memory::MemBook;
 use gate_core::gate::Gate;
 use std::alloc::Global;
@@ -49,7 +49,6 @@ const EACH_KIND: &str = r#"
 const STATUS: &str = "queue core window 1 landed 1
      4       101    1      - ok      unit=running docs=waiting
      5       105    1      4 ok      unit=waiting
-queue web window 2 landed 0
 end
 ";
 
@@ -119,7 +118,7 @@ pub fn refusals(rt: &(impl Abort + AllocGlobal), gate: &mut Gate<MemBook>) -> u3
 /// Passes whichever one allocation is refused from the first line on.
 #[test]
 fn a_refusal_of_memory_changes_nothing(rt: HostRuntime) -> Result<(), Fail> {
-    let mut gate = gate_of_two_queues(rt.alloc())?;
+    let mut gate = new_gate(rt.alloc())?;
     let refused = refusals(&rt, &mut gate);
     assert!(rt; refused < 2);
     Ok(())

@@ -33,8 +33,6 @@ impl Watched {
 }
 
 impl Book for Watched {
-    ghost use Rattle.std.specs.Prelude.{⊥};
-
     ghost Holds = { λ _ _ _. ⊥ };
 
     ghost IsTrusted = { λ _. ⊥ };
