@@ -8,8 +8,12 @@ pub mod known;
 pub mod next_build;
 pub mod orders;
 #[cfg(test)]
+mod puts;
+#[cfg(test)]
 mod scene;
 mod shown;
 pub mod standing;
 #[cfg(test)]
 mod tests;
+#[cfg(test)]
+mod texts;

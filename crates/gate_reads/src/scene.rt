@@ -3,46 +3,18 @@ ghost use Rattle.std.specs.Prelude.{◌≡◌, [], ◌∷◌, codes, true, false
 
 use crate::next_build::next_build;
 use crate::orders::{is_submitting, order_of_queue, shown_order};
+use crate::puts::{Put, build_no, change, edits, name, path, serial};
 use crate::standing::{Stand, standing};
+use crate::texts::{build_text, shown_text};
 use gate_book::book::Book;
 use gate_book::memory::MemBook;
 use gate_book::rows::QueuedItem;
 use gate_types::config::{Config, Job, Project, Queue};
-use gate_types::edits::Edit;
-use gate_types::names::{Base, Name, PathName};
-use gate_types::numbers::{BuildNo, ChangeNo, Revision, Serial};
-use gate_types::records::{Build, Change, Item, Landing, Outcome, Report, Stage, Verdict};
+use gate_types::names::Base;
+use gate_types::records::{Build, Item, Outcome, Stage};
 use gate_types::sequence::Sequence;
 use std::alloc::Global;
 use std::test::Fail;
-
-pub fn name(alloc: Global, text: &str) -> Result<Name, Fail>
-    ensures { IfOk result (λ name. name ≡ text.now) }
-{
-    Ok(Name::new(String::from_str(alloc, text)?).ok_or("no name")?)
-}
-
-fn path(alloc: Global, text: &str) -> Result<PathName, Fail>
-    ensures { IfOk result (λ name. name ≡ text.now) }
-{
-    Ok(PathName::new(String::from_str(alloc, text)?).ok_or("no path name")?)
-}
-
-pub fn serial(number: u64) -> Result<Serial, Fail> {
-    Ok(Serial::new(number).ok_or("no serial")?)
-}
-
-pub fn change(number: u64) -> Result<ChangeNo, Fail> {
-    Ok(ChangeNo::new(number).ok_or("no change number")?)
-}
-
-pub fn build_no(number: u64) -> Result<BuildNo, Fail> {
-    Ok(BuildNo::new(number).ok_or("no build number")?)
-}
-
-fn first() -> Result<Revision, Fail> {
-    Ok(Revision::new(1).ok_or("no revision")?)
-}
 
 /// `core` tests two items at once, `web` sets no bound.
 fn queues(alloc: Global) -> Result<Sequence<Queue>, Fail>
@@ -115,8 +87,12 @@ fn projects(alloc: Global) -> Result<Sequence<Project>, Fail>
     Ok(projects)
 }
 
-pub fn settings(alloc: Global) -> Result<Config, Fail> {
-    let base = Base::new(String::from_str(alloc, "https://forge/c/")?).ok_or("no base")?;
+fn base(alloc: Global) -> Result<Base, Fail> {
+    Ok(Base::new(String::from_str(alloc, "https://forge/c/")?).ok_or("no base")?)
+}
+
+fn settings(alloc: Global) -> Result<Config, Fail> {
+    let base = base(alloc)?;
     let queues = queues(alloc)?;
     let projects = projects(alloc)?;
     Ok(Config {
@@ -124,95 +100,6 @@ pub fn settings(alloc: Global) -> Result<Config, Fail> {
         queues,
         projects,
     })
-}
-
-/// A change of a project at revision 1, not ready.
-pub fn put_change(
-    alloc: Global,
-    number: u64,
-    project: &str,
-    stage: Stage,
-    approval: Option<u64>,
-) -> Result<Edit, Fail> {
-    let change = Change {
-        number: change(number)?,
-        project: path(alloc, project)?,
-        revision: first()?,
-        stage,
-        needs: Sequence::new(alloc),
-    };
-    Ok(Edit::PutChange { change, approval })
-}
-
-pub fn item(number: u64, of: u64, ahead: Option<u64>, failing: bool) -> Result<Item, Fail> {
-    let ahead = match ahead {
-        Some(ahead) => Some(serial(ahead)?),
-        None => None,
-    };
-    Ok(Item {
-        serial: serial(number)?,
-        change: change(of)?,
-        revision: first()?,
-        ahead,
-        failing,
-    })
-}
-
-pub fn put_item(alloc: Global, queue: &str, item: Item) -> Result<Edit, Fail> {
-    Ok(Edit::PutItem {
-        queue: name(alloc, queue)?,
-        item,
-    })
-}
-
-/// A live build of an item on so many landings.
-pub fn put_build(
-    alloc: Global,
-    number: u64,
-    item: (&str, u64, u64),
-    job: &str,
-    after: u64,
-    outcome: Outcome,
-) -> Result<Edit, Fail> {
-    Ok(Edit::PutBuild(Build {
-        number: build_no(number)?,
-        queue: name(alloc, item.0)?,
-        serial: serial(item.1)?,
-        change: change(item.2)?,
-        revision: first()?,
-        job: name(alloc, job)?,
-        after,
-        ahead: Sequence::new(alloc),
-        outcome,
-        live: true,
-    }))
-}
-
-/// Change 100 has landed in `core`.
-fn push_landing(alloc: Global, edits: &mut Vec<Edit>) -> Result<(), Fail> {
-    let landing = Landing {
-        serial: serial(1)?,
-        change: change(100)?,
-        revision: first()?,
-    };
-    let report = Report {
-        serial: serial(1)?,
-        change: change(100)?,
-        revision: first()?,
-        verdict: Verdict::Landed(1),
-    };
-    edits.push(put_change(alloc, 100, "lib", Stage::Landed, None)?)?;
-    edits.push(Edit::PutLanding {
-        queue: name(alloc, "core")?,
-        place: 1,
-        landing,
-    })?;
-    edits.push(Edit::PutReport {
-        queue: name(alloc, "core")?,
-        place: 1,
-        report,
-    })?;
-    Ok(())
 }
 
 /// Settings, and a book under them.
@@ -234,19 +121,27 @@ impl Scene {
         })
     }
 
-    pub fn apply(&mut self, edits: &[Edit]) -> Result<(), Fail> {
-        self.book.apply(edits)?;
+    pub fn put(&mut self, puts: &[Put]) -> Result<(), Fail> {
+        let edits = edits(self.alloc, puts)?;
+        self.book.apply(&edits)?;
         Ok(())
     }
 
-    pub fn put(&mut self, edit: Edit) -> Result<(), Fail> {
-        let edits = vec![in self.alloc; edit]?;
-        self.apply(&edits)
+    fn put_rows(&mut self) -> Result<(), Fail> {
+        self.put(&CHANGES)?;
+        self.put(&ITEMS)?;
+        self.put(&BUILDS)
     }
 
-    pub fn next(&mut self, number: u64) -> Result<Option<Build>, Fail> {
+    fn next(&mut self, number: u64) -> Result<Option<Build>, Fail> {
         let number = build_no(number)?;
         Ok(next_build(self.alloc, &mut self.book, &self.config, number)?)
+    }
+
+    /// The next build, as a text.
+    pub fn next_text(&mut self, number: u64) -> Result<String, Fail> {
+        let build = self.next(number)?.ok_or("no build")?;
+        Ok(build_text(self.alloc, &build)?)
     }
 
     /// The serial of the item that the next build is for, 0 where there is none.
@@ -255,14 +150,26 @@ impl Scene {
         Ok(build.map_or(0, |build| build.serial.get()))
     }
 
+    /// How many changes the next build has ahead.
+    pub fn next_ahead(&mut self) -> Result<usize, Fail> {
+        let build = self.next(6)?.ok_or("no build")?;
+        Ok(build.ahead.as_slice().len())
+    }
+
     pub fn order(&mut self, queue: &str) -> Result<Option<Item>, Fail> {
         let queue = name(self.alloc, queue)?;
         Ok(order_of_queue(self.alloc, &mut self.book, &self.config, &queue)?)
     }
 
-    pub fn shown(&mut self, number: u64) -> Result<Option<QueuedItem>, Fail> {
+    fn shown_item(&mut self, number: u64) -> Result<Option<QueuedItem>, Fail> {
         let number = serial(number)?;
         Ok(shown_order(self.alloc, &mut self.book, &self.config, number)?)
+    }
+
+    /// The queue and the item whose order is shown under a number, as a text.
+    pub fn shown(&mut self, number: u64) -> Result<String, Fail> {
+        let shown = self.shown_item(number)?;
+        Ok(shown_text(self.alloc, &shown)?)
     }
 
     pub fn is_submitting(&mut self, number: u64) -> Result<bool, Fail> {
@@ -270,52 +177,52 @@ impl Scene {
         Ok(is_submitting(self.alloc, &mut self.book, &self.config, number)?)
     }
 
-    pub fn stand(&mut self, number: u64) -> Result<Stand, Fail> {
+    /// The serial of the item that a change is, 0 where it is ready, and 99 where it is neither.
+    pub fn place(&mut self, number: u64) -> Result<u64, Fail> {
         let number = change(number)?;
-        Ok(standing(self.alloc, &mut self.book, &self.config, number)?)
+        match standing(self.alloc, &mut self.book, &self.config, number)? {
+            Stand::Queued(found) => Ok(found.item.serial.get()),
+            Stand::Ready => Ok(0),
+            Stand::Nowhere => Ok(99),
+        }
     }
 }
 
-fn push_changes(alloc: Global, edits: &mut Vec<Edit>) -> Result<(), Fail> {
-    for number in 101..104 {
-        edits.push(put_change(alloc, number, "lib", Stage::Open, None)?)?;
-    }
-    edits.push(put_change(alloc, 104, "lib", Stage::Open, Some(7))?)?;
-    edits.push(put_change(alloc, 201, "site", Stage::Open, None)?)?;
-    edits.push(put_change(alloc, 202, "site", Stage::Open, None)?)?;
-    Ok(())
-}
+/// The rows of the changes.
+const CHANGES: [Put; 9] = [
+    Put::Change(100, "lib", Stage::Landed, None),
+    Put::Landing("core", 1, 1, 100),
+    Put::Report("core", 1, 1, 100),
+    Put::Change(101, "lib", Stage::Open, None),
+    Put::Change(102, "lib", Stage::Open, None),
+    Put::Change(103, "lib", Stage::Open, None),
+    Put::Change(104, "lib", Stage::Open, Some(7)),
+    Put::Change(201, "site", Stage::Open, None),
+    Put::Change(202, "site", Stage::Open, None),
+];
 
-fn push_items(alloc: Global, edits: &mut Vec<Edit>) -> Result<(), Fail> {
-    edits.push(put_item(alloc, "core", item(2, 101, None, true)?)?)?;
-    edits.push(put_item(alloc, "core", item(3, 102, None, false)?)?)?;
-    edits.push(put_item(alloc, "core", item(5, 103, Some(3), false)?)?)?;
-    edits.push(put_item(alloc, "web", item(4, 201, None, false)?)?)?;
-    edits.push(put_item(alloc, "web", item(6, 202, Some(4), false)?)?)?;
-    Ok(())
-}
+/// The rows of the items.
+const ITEMS: [Put; 5] = [
+    Put::Item("core", 2, 101, None, true),
+    Put::Item("core", 3, 102, None, false),
+    Put::Item("core", 5, 103, Some(3), false),
+    Put::Item("web", 4, 201, None, false),
+    Put::Item("web", 6, 202, Some(4), false),
+];
 
-fn push_builds(alloc: Global, edits: &mut Vec<Edit>) -> Result<(), Fail> {
-    let of_101 = ("core", 2, 101);
-    let of_102 = ("core", 3, 102);
-    let of_201 = ("web", 4, 201);
-    edits.push(put_build(alloc, 1, of_101, "unit", 1, Outcome::Failure)?)?;
-    edits.push(put_build(alloc, 2, of_101, "docs", 1, Outcome::Running)?)?;
-    edits.push(put_build(alloc, 3, of_102, "unit", 1, Outcome::Success)?)?;
-    edits.push(put_build(alloc, 4, of_102, "docs", 1, Outcome::Running)?)?;
-    edits.push(put_build(alloc, 5, of_201, "unit", 0, Outcome::Success)?)?;
-    Ok(())
-}
+/// The rows of the builds.
+const BUILDS: [Put; 5] = [
+    Put::Build(1, ("core", 2, 101), "unit", 1, Outcome::Failure),
+    Put::Build(2, ("core", 2, 101), "docs", 1, Outcome::Running),
+    Put::Build(3, ("core", 3, 102), "unit", 1, Outcome::Success),
+    Put::Build(4, ("core", 3, 102), "docs", 1, Outcome::Running),
+    Put::Build(5, ("web", 4, 201), "unit", 0, Outcome::Success),
+];
 
 /// In `core`: 101, which fails and still runs `docs`; 102, which runs `docs` too; 103, past the window. In `web`: 201,
-/// which has passed, and 202, which waits. 104 is ready.
+/// which has passed, and 202, which waits. 104 is ready, and 100 has landed in `core`.
 pub fn two_queues(alloc: Global) -> Result<Scene, Fail> {
     let mut scene = Scene::empty(alloc)?;
-    let mut edits = Vec::new(alloc);
-    push_landing(alloc, &mut edits)?;
-    push_changes(alloc, &mut edits)?;
-    push_items(alloc, &mut edits)?;
-    push_builds(alloc, &mut edits)?;
-    scene.apply(&edits)?;
+    scene.put_rows()?;
     Ok(scene)
 }

@@ -1,78 +1,77 @@
 //! What a book is asked for, with each answer worked out by hand from the rules.
-use crate::scene::{Scene, build_no, item, name, put_build, put_change, put_item, two_queues};
-use crate::standing::Stand;
-use gate_types::edits::Edit;
-use gate_types::records::{Build, Outcome, Stage};
+use crate::puts::{Put, item};
+use crate::scene::{Scene, two_queues};
+use gate_types::records::{Outcome, Stage};
 use std::alloc::Global;
 use std::process::Abort;
 use std::test::Fail;
 
-/// That a build is a new one of change 202, behind 201.
-fn check_build(rt: &impl Abort, build: &Build) {
-    let ahead = build.ahead.as_slice();
-    assert_eq!(rt; build.number.get(), 6);
-    assert_eq!(rt; build.queue.as_str(), "web");
-    assert_eq!(rt; build.serial.get(), 6);
-    assert_eq!(rt; build.change.get(), 202);
-    assert_eq!(rt; build.revision.get(), 1);
-    assert_eq!(rt; build.job.as_str(), "unit");
-    assert_eq!(rt; build.after, 0);
-    assert_eq!(rt; ahead.len(), 1);
-    assert_eq!(rt; ahead[0].change.get(), 201);
-    assert_eq!(rt; build.outcome, Outcome::Running);
-    assert!(rt; build.live);
-}
-
 /// All jobs of the items in the window of `core` have builds, and so has the first item of `web`.
 #[test]
 fn the_next_build_is_of_the_first_waiting_job(rt: HostRuntime) -> Result<(), Fail> {
-    let mut scene = two_queues(rt.alloc())?;
-    let build = scene.next(6)?.ok_or("no build")?;
-    check_build(&rt, &build);
+    let build = two_queues(rt.alloc())?.next_text(6)?;
+    assert_eq!(rt; build.as_str(), "6 web 6 202,1 unit 0 running true : 201,1");
+    Ok(())
+}
+
+/// With these rows the next build is of the item with this serial; 0 stands for none.
+fn check_next(rt: &impl Abort, scene: &mut Scene, puts: &[Put], wanted: u64) -> Result<(), Fail> {
+    scene.put(puts)?;
+    assert_eq!(rt; scene.next_serial()?, wanted);
     Ok(())
 }
 
 /// 103 is the third item of `core`. The first of the two in the window is failing, and takes up a place all the same.
 #[test]
 fn a_failing_item_takes_up_a_place_in_the_window(rt: HostRuntime) -> Result<(), Fail> {
-    let alloc = rt.alloc();
-    let mut scene = two_queues(alloc)?;
-    let of_202 = ("web", 6, 202);
-    scene.put(put_build(alloc, 6, of_202, "unit", 0, Outcome::Running)?)?;
-    assert_eq!(rt; scene.next_serial()?, 0);
-    let queue = name(alloc, "core")?;
-    scene.put(Edit::SetWindow { queue, window: 3 })?;
-    assert_eq!(rt; scene.next_serial()?, 5);
-    Ok(())
+    const RUNNING: [Put; 1] = [Put::Build(6, ("web", 6, 202), "unit", 0, Outcome::Running)];
+    const WIDER: [Put; 1] = [Put::Window("core", 3)];
+    let mut scene = two_queues(rt.alloc())?;
+    check_next(&rt, &mut scene, &RUNNING, 0)?;
+    check_next(&rt, &mut scene, &WIDER, 5)
 }
 
 /// What is ahead of 103 is 102 alone, on the one landing of `core`.
 #[test]
 fn a_failing_item_stands_in_no_line(rt: HostRuntime) -> Result<(), Fail> {
-    let alloc = rt.alloc();
-    let mut scene = two_queues(alloc)?;
-    let queue = name(alloc, "core")?;
-    scene.put(Edit::SetWindow { queue, window: 0 })?;
-    let build = scene.next(6)?.ok_or("no build")?;
-    let ahead = build.ahead.as_slice();
-    assert_eq!(rt; build.change.get(), 103);
-    assert_eq!(rt; build.after, 1);
-    assert_eq!(rt; ahead.len(), 1);
-    assert_eq!(rt; ahead[0].change.get(), 102);
+    const UNBOUNDED: [Put; 1] = [Put::Window("core", 0)];
+    let mut scene = two_queues(rt.alloc())?;
+    scene.put(&UNBOUNDED)?;
+    let build = scene.next_text(6)?;
+    assert_eq!(rt;
+        build.as_str(),
+        "6 core 5 103,1 unit 1 running true : 102,1"
+    );
     Ok(())
 }
 
 /// A job that was lost twice waits again, and one that was lost three times has failed.
 #[test]
 fn a_lost_job_waits_twice(rt: HostRuntime) -> Result<(), Fail> {
-    let alloc = rt.alloc();
-    let mut scene = two_queues(alloc)?;
-    let of_202 = ("web", 6, 202);
-    scene.put(put_build(alloc, 6, of_202, "unit", 0, Outcome::Lost)?)?;
-    scene.put(put_build(alloc, 7, of_202, "unit", 0, Outcome::Lost)?)?;
-    assert_eq!(rt; scene.next_serial()?, 6);
-    scene.put(put_build(alloc, 8, of_202, "unit", 0, Outcome::Lost)?)?;
-    assert_eq!(rt; scene.next_serial()?, 0);
+    const TWICE: [Put; 2] = [
+        Put::Build(6, ("web", 6, 202), "unit", 0, Outcome::Lost),
+        Put::Build(7, ("web", 6, 202), "unit", 0, Outcome::Lost),
+    ];
+    const AGAIN: [Put; 1] = [Put::Build(8, ("web", 6, 202), "unit", 0, Outcome::Lost)];
+    let mut scene = two_queues(rt.alloc())?;
+    check_next(&rt, &mut scene, &TWICE, 6)?;
+    check_next(&rt, &mut scene, &AGAIN, 0)
+}
+
+/// A queue shows the order of this item, which has nothing ahead.
+fn check_order(
+    rt: &impl Abort,
+    scene: &mut Scene,
+    queue: &str,
+    serial: u64,
+    of: u64,
+) -> Result<(), Fail> {
+    assert_eq!(rt; scene.order(queue)?, Some(item(serial, of, None, false)?));
+    Ok(())
+}
+
+fn check_none(rt: &impl Abort, scene: &mut Scene, queue: &str) -> Result<(), Fail> {
+    assert_eq!(rt; scene.order(queue)?, None);
     Ok(())
 }
 
@@ -80,38 +79,35 @@ fn a_lost_job_waits_twice(rt: HostRuntime) -> Result<(), Fail> {
 /// doesn't vote, runs.
 #[test]
 fn an_order_waits_for_each_job(rt: HostRuntime) -> Result<(), Fail> {
+    const ENDED: [Put; 1] = [Put::Outcome(4, Outcome::Failure)];
     let mut scene = two_queues(rt.alloc())?;
-    assert_eq!(rt; scene.order("web")?, Some(item(4, 201, None, false)?));
-    assert_eq!(rt; scene.order("other")?, None);
-    assert_eq!(rt; scene.order("core")?, None);
-    let build = build_no(4)?;
-    scene.put(Edit::SetOutcome {
-        build,
-        outcome: Outcome::Failure,
-    })?;
-    assert_eq!(rt; scene.order("core")?, Some(item(3, 102, None, false)?));
-    Ok(())
+    check_order(&rt, &mut scene, "web", 4, 201)?;
+    check_none(&rt, &mut scene, "other")?;
+    check_none(&rt, &mut scene, "core")?;
+    scene.put(&ENDED)?;
+    check_order(&rt, &mut scene, "core", 3, 102)
 }
 
 #[test]
 fn a_shown_order_is_found_by_its_number(rt: HostRuntime) -> Result<(), Fail> {
-    let mut scene = two_queues(rt.alloc())?;
-    let found = scene.shown(4)?.ok_or("no order")?;
-    assert_eq!(rt; found.queue.as_str(), "web");
-    assert_eq!(rt; found.item, item(4, 201, None, false)?);
+    let order = two_queues(rt.alloc())?.shown(4)?;
+    assert_eq!(rt; order.as_str(), "web 4 201,1 0 false");
     Ok(())
 }
 
-/// 1 has landed, 2 fails, 3 still runs a job, 5 and 6 are behind others.
+fn check_no_order(rt: &impl Abort, scene: &mut Scene, number: u64) -> Result<(), Fail> {
+    let order = scene.shown(number)?;
+    assert_eq!(rt; order.as_str(), "none", "order {number}");
+    Ok(())
+}
+
+/// 1 has landed, 2 fails, 3 still runs a job, 5 and 6 are behind others, and 7 isn't known.
 #[test]
 fn other_numbers_are_of_no_order(rt: HostRuntime) -> Result<(), Fail> {
     let mut scene = two_queues(rt.alloc())?;
-    assert!(rt; scene.shown(1)?.is_none());
-    assert!(rt; scene.shown(2)?.is_none());
-    assert!(rt; scene.shown(3)?.is_none());
-    assert!(rt; scene.shown(5)?.is_none());
-    assert!(rt; scene.shown(6)?.is_none());
-    assert!(rt; scene.shown(7)?.is_none());
+    for number in [1, 2, 3, 5, 6, 7] {
+        check_no_order(&rt, &mut scene, number)?;
+    }
     Ok(())
 }
 
@@ -119,68 +115,44 @@ fn other_numbers_are_of_no_order(rt: HostRuntime) -> Result<(), Fail> {
 fn the_change_of_a_shown_order_is_submitting(rt: HostRuntime) -> Result<(), Fail> {
     let mut scene = two_queues(rt.alloc())?;
     assert!(rt; scene.is_submitting(201)?);
-    assert!(rt; !scene.is_submitting(100)?);
-    assert!(rt; !scene.is_submitting(101)?);
-    assert!(rt; !scene.is_submitting(102)?);
-    assert!(rt; !scene.is_submitting(104)?);
-    assert!(rt; !scene.is_submitting(202)?);
-    Ok(())
-}
-
-/// The serial of the item that a change is, 0 where it is ready, and 99 where it is neither.
-fn place(stand: &Stand) -> u64 {
-    match stand {
-        Stand::Queued(found) => found.item.serial.get(),
-        Stand::Ready => 0,
-        Stand::Nowhere => 99,
+    for number in [100, 101, 102, 104, 202] {
+        assert!(rt; !scene.is_submitting(number)?, "change {number}");
     }
+    Ok(())
 }
 
 #[test]
 fn a_change_is_queued_or_ready_or_neither(rt: HostRuntime) -> Result<(), Fail> {
     let mut scene = two_queues(rt.alloc())?;
-    assert_eq!(rt; place(&scene.stand(103)?), 5);
-    assert_eq!(rt; place(&scene.stand(202)?), 6);
-    assert_eq!(rt; place(&scene.stand(104)?), 0);
-    assert_eq!(rt; place(&scene.stand(100)?), 99);
-    assert_eq!(rt; place(&scene.stand(999)?), 99);
-    Ok(())
-}
-
-/// The change of an item of `web` behind all others, and the item.
-fn push_item(alloc: Global, edits: &mut Vec<Edit>, number: u64) -> Result<(), Fail> {
-    edits.push(put_change(alloc, number, "site", Stage::Open, None)?)?;
-    edits.push(put_item(alloc, "web", item(number, number, None, false)?)?)?;
-    Ok(())
-}
-
-/// Such an item whose build has passed.
-fn push_passed(alloc: Global, edits: &mut Vec<Edit>, number: u64) -> Result<(), Fail> {
-    push_item(alloc, edits, number)?;
-    let of_it = ("web", number, number);
-    edits.push(put_build(alloc, number, of_it, "unit", 0, Outcome::Success)?)?;
-    Ok(())
-}
-
-fn many(alloc: Global) -> Result<Vec<Edit>, Fail> {
-    let mut edits = Vec::new(alloc);
-    for number in 2..1001 {
-        push_passed(alloc, &mut edits, number)?;
+    for (number, place) in [(103, 5), (202, 6), (104, 0), (100, 99), (999, 99)] {
+        assert_eq!(rt; scene.place(number)?, place, "change {number}");
     }
-    push_item(alloc, &mut edits, 1001)?;
-    Ok(edits)
+    Ok(())
 }
 
-/// A thousand items in `web`, which sets no bound: the build of the last alone is due.
+/// A thousand items in `web`, all but the last with a build that has passed.
+fn many(alloc: Global) -> Result<Scene, Fail> {
+    const LAST: [Put; 2] = [
+        Put::Change(1_001, "site", Stage::Open, None),
+        Put::Item("web", 1_001, 1_001, None, false),
+    ];
+    let mut scene = Scene::empty(alloc)?;
+    for number in 2..1_001 {
+        scene.put(&[
+            Put::Change(number, "site", Stage::Open, None),
+            Put::Item("web", number, number, None, false),
+            Put::Build(number, ("web", number, number), "unit", 0, Outcome::Success),
+        ])?;
+    }
+    scene.put(&LAST)?;
+    Ok(scene)
+}
+
+/// In `web`, which sets no bound, the build of the last item alone is due.
 #[test]
 fn a_build_far_behind_is_found(rt: HostRuntime) -> Result<(), Fail> {
-    let alloc = rt.alloc();
-    let mut scene = Scene::empty(alloc)?;
-    let edits = many(alloc)?;
-    scene.apply(&edits)?;
-    let build = scene.next(6)?.ok_or("no build")?;
-    let ahead = build.ahead.as_slice();
-    assert_eq!(rt; build.serial.get(), 1001);
-    assert_eq!(rt; ahead.len(), 999);
+    let mut scene = many(rt.alloc())?;
+    assert_eq!(rt; scene.next_serial()?, 1_001);
+    assert_eq!(rt; scene.next_ahead()?, 999);
     Ok(())
 }
