@@ -7,44 +7,44 @@ use std::process::Abort;
 use std::test::Fail;
 
 /// Deliveries of all eight kinds are accepted; the last ones let a waiting change in.
-const EACH_KIND: &str = r#"
-> {"id":"00000000-0000-4000-8000-000000000001","kind":"revision","change":102,"project":"app","revision":1,"message":""}
-< {"reply":"recorded"}
-> {"id":"00000000-0000-4000-8000-000000000002","kind":"approved","change":102,"revision":1}
-< {"order":1,"reply":"queued"}
-> {"id":"00000000-0000-4000-8000-000000000003","kind":"take","worker":"w1"}
-< {"after":0,"ahead":[],"build":1,"change":102,"job":"unit","queue":"core","reply":"build","revision":1}
-> {"id":"00000000-0000-4000-8000-000000000004","kind":"result","build":1,"outcome":"success"}
-< {"reply":"noted"}
-> {"id":"00000000-0000-4000-8000-000000000005","kind":"landed","order":1}
-< {"n":1,"reply":"landed"}
-> {"id":"00000000-0000-4000-8000-000000000006","kind":"revision","change":104,"project":"app","revision":1,"message":""}
-< {"reply":"recorded"}
-> {"id":"00000000-0000-4000-8000-000000000007","kind":"approved","change":104,"revision":1}
-< {"order":2,"reply":"queued"}
-> {"id":"00000000-0000-4000-8000-000000000008","kind":"take","worker":"w1"}
-< {"after":1,"ahead":[],"build":2,"change":104,"job":"unit","queue":"core","reply":"build","revision":1}
-> {"id":"00000000-0000-4000-8000-000000000009","kind":"result","build":2,"outcome":"success"}
-< {"reply":"noted"}
-> {"id":"00000000-0000-4000-8000-000000000010","kind":"refused","order":2}
-< {"reply":"removed"}
-> {"id":"00000000-0000-4000-8000-000000000011","kind":"approved","change":104,"revision":1}
-< {"order":3,"reply":"queued"}
-> {"id":"00000000-0000-4000-8000-000000000012","kind":"withdrawn","change":104,"revision":1}
-< {"reply":"removed"}
-> {"id":"00000000-0000-4000-8000-000000000013","kind":"closed","change":104,"revision":1}
-< {"reply":"recorded"}
-> {"id":"00000000-0000-4000-8000-000000000014","kind":"revision","change":101,"project":"lib","revision":1,"message":""}
-< {"reply":"recorded"}
-> {"id":"00000000-0000-4000-8000-000000000015","kind":"revision","change":105,"project":"app","revision":1,"message":"Depends-On: https://forge/c/101"}
-< {"reply":"recorded"}
-> {"id":"00000000-0000-4000-8000-000000000016","kind":"approved","change":105,"revision":1}
-< {"reply":"waiting"}
-> {"id":"00000000-0000-4000-8000-000000000017","kind":"approved","change":101,"revision":1}
-< {"order":4,"reply":"queued"}
-> {"id":"00000000-0000-4000-8000-000000000018","kind":"take","worker":"w1"}
-< {"after":1,"ahead":[],"build":3,"change":101,"job":"unit","queue":"core","reply":"build","revision":1}
-"#;
+const DELIVERIES: &str =
+    r#"{"id":"00000000-0000-4000-8000-000000000001","kind":"revision","change":102,"project":"app","revision":1,"message":""}
+{"id":"00000000-0000-4000-8000-000000000002","kind":"approved","change":102,"revision":1}
+{"id":"00000000-0000-4000-8000-000000000003","kind":"take","worker":"w1"}
+{"id":"00000000-0000-4000-8000-000000000004","kind":"result","build":1,"outcome":"success"}
+{"id":"00000000-0000-4000-8000-000000000005","kind":"landed","order":1}
+{"id":"00000000-0000-4000-8000-000000000006","kind":"revision","change":104,"project":"app","revision":1,"message":""}
+{"id":"00000000-0000-4000-8000-000000000007","kind":"approved","change":104,"revision":1}
+{"id":"00000000-0000-4000-8000-000000000008","kind":"take","worker":"w1"}
+{"id":"00000000-0000-4000-8000-000000000009","kind":"result","build":2,"outcome":"success"}
+{"id":"00000000-0000-4000-8000-000000000010","kind":"refused","order":2}
+{"id":"00000000-0000-4000-8000-000000000011","kind":"approved","change":104,"revision":1}
+{"id":"00000000-0000-4000-8000-000000000012","kind":"withdrawn","change":104,"revision":1}
+{"id":"00000000-0000-4000-8000-000000000013","kind":"closed","change":104,"revision":1}
+{"id":"00000000-0000-4000-8000-000000000014","kind":"revision","change":101,"project":"lib","revision":1,"message":""}
+{"id":"00000000-0000-4000-8000-000000000015","kind":"revision","change":105,"project":"app","revision":1,"message":"Depends-On: https://forge/c/101"}
+{"id":"00000000-0000-4000-8000-000000000016","kind":"approved","change":105,"revision":1}
+{"id":"00000000-0000-4000-8000-000000000017","kind":"approved","change":101,"revision":1}
+{"id":"00000000-0000-4000-8000-000000000018","kind":"take","worker":"w1"}"#;
+
+const REPLIES: &str = r#"{"reply":"recorded"}
+{"order":1,"reply":"queued"}
+{"after":0,"ahead":[],"build":1,"change":102,"job":"unit","queue":"core","reply":"build","revision":1}
+{"reply":"noted"}
+{"n":1,"reply":"landed"}
+{"reply":"recorded"}
+{"order":2,"reply":"queued"}
+{"after":1,"ahead":[],"build":2,"change":104,"job":"unit","queue":"core","reply":"build","revision":1}
+{"reply":"noted"}
+{"reply":"removed"}
+{"order":3,"reply":"queued"}
+{"reply":"removed"}
+{"reply":"recorded"}
+{"reply":"recorded"}
+{"reply":"recorded"}
+{"reply":"waiting"}
+{"order":4,"reply":"queued"}
+{"after":1,"ahead":[],"build":3,"change":101,"job":"unit","queue":"core","reply":"build","revision":1}"#;
 
 const STATUS: &str = "queue core window 1 landed 1
      4       101    1      - ok      unit=running docs=waiting
@@ -77,18 +77,18 @@ fn is_answered(
     true
 }
 
-/// The line is answered, at once or after a refusal that changed nothing. Gives the number of refusals.
+/// The line is answered, at once or after a refusal that left the status as it was. Gives the number of refusals.
 fn is_answered_in_the_end(
     rt: &(impl Abort + AllocGlobal),
     gate: &mut Gate<MemBook>,
     line: &str,
     answer: &str,
+    status: &Option<String>,
 ) -> u32 {
-    let before = shown(rt.alloc(), gate);
     if is_answered(rt, gate, line, answer) {
         return 0;
     }
-    assert!(rt; before == shown(rt.alloc(), gate));
+    assert!(rt; shown(rt.alloc(), gate) == *status);
     assert!(rt; is_answered(rt, gate, line, answer));
     1
 }
@@ -96,22 +96,14 @@ fn is_answered_in_the_end(
 /// All lines are answered, and their repeats. Gives the number of refusals.
 pub fn refusals(rt: &(impl Abort + AllocGlobal), gate: &mut Gate<MemBook>) -> u32 {
     let mut refused = 0u32;
-    let mut told = "";
-    for line in EACH_KIND.lines() {
-        if let Some(line) = line.strip_prefix("> ") {
-            told = line;
-        } else if let Some(answer) = line.strip_prefix("< ") {
-            let first = is_answered_in_the_end(rt, gate, told, answer);
-            let again = is_answered_in_the_end(rt, gate, told, answer);
-            refused = refused.saturating_add(first).saturating_add(again);
-        }
+    let mut status = shown(rt.alloc(), gate);
+    for (line, reply) in DELIVERIES.lines().zip(REPLIES.lines()) {
+        let first = is_answered_in_the_end(rt, gate, line, reply, &status);
+        status = shown(rt.alloc(), gate);
+        let again = is_answered_in_the_end(rt, gate, line, reply, &status);
+        refused = refused.saturating_add(first).saturating_add(again);
     }
-    let status = shown(rt.alloc(), gate);
-    assert!(rt;
-        status
-            .as_ref()
-            .is_some_and(|status| status.as_str() == STATUS)
-    );
+    assert!(rt; status.is_some_and(|status| status.as_str() == STATUS));
     refused
 }
 
