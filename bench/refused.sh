@@ -1,10 +1,10 @@
 #!/bin/sh
 # Refuses each allocation in turn, one a run, of a conversation with deliveries of all kinds, that of the test
 # `a_refusal_of_memory_changes_nothing`: its asserts stop a run that goes wrong. The allocation that is refused is the
-# last of LAST, by default 1,700; each run makes others first, from 0 to LAST of them, by STEPs of 1.
+# last of LAST, by default 1,400; each run makes others first, from 0 to LAST of them, by STEPs of 1.
 set -eu
 . "$(dirname "$0")/scratch.sh"
-last=${LAST:-1700}
+last=${LAST:-1400}
 scratch "$top/bench/refused/swept" gate_types gate_laws gate_config gate_queue gate_walk gate_wire gate_book gate_raw \
     gate_reads gate_settling gate_admission gate_ruling gate_deliver gate_texts gate_core
 cp "$top/crates/worked_examples/src/gates.rt" "$top/crates/worked_examples/src/refused.rt" "$work/crates/timed/src"
