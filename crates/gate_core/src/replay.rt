@@ -7,10 +7,10 @@ ghost use Rattle.gate_core.specs.Gated.{Gated};
 ghost use Rattle.gate_core.specs.Replies.{Marked, Replayed, Cut, CallsAreAnswered};
 ghost use Rattle.gate_core.specs.Held.{Goes};
 
-use crate::gate::Gate;
-use gate_book::book::Book;
 use crate::engine::answer_lines;
 use crate::fault::IoFault;
+use crate::gate::Gate;
+use gate_book::book::Book;
 use gate_types::tap::Tap;
 use std::alloc::Global;
 use std::io::{Read, Write};
