@@ -18,6 +18,11 @@ cd "$work/crates/timed"
 rt try --steps 1 --fail-alloc "$last" --cases "$work/cases" >"$work/told" 2>&1 || true
 cp "$work/told" "${TOLD:-/dev/null}"
 tail -1 "$work/told"
+left=$(find "$work/cases" -type f | wc -l)
 for line in 'no gate' 'refused 0' 'refused 1'; do
-    echo "$line: $(grep -c "^$line\$" "$work/told" || true)"
+    runs=$(grep -c "^$line\$" "$work/told" || true)
+    echo "$line: $runs"
+    left=$((left - runs))
 done
+echo "went wrong: $left"
+[ "$left" -eq 0 ]
