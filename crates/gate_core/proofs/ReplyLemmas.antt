@@ -20,7 +20,8 @@ use Rattle.gate_deliver.specs.Answered.{Answered, call}
 use Rattle.gate_core.specs.declared.gate.Gate.{Gate}
 use Rattle.gate_core.specs.Gated.{Gated}
 use Rattle.gate_core.specs.Limit.{limit, too_large}
-use Rattle.gate_core.specs.Heard.{heard}
+use Rattle.gate_wire.specs.declared.door.Door.TheVariants as door
+use Rattle.gate_wire.specs.Reading.{says}
 use Rattle.gate_core.specs.Runs.{Answers, Runs, Broke}
 use Rattle.gate_core.specs.Replies.{CallsAreAnswered, call_replies, Marked, is_too_long, call_read, call_of, calls_of, gate_after, text_read, reply_to, replies, Told, Replayed, Cut}
 use Rattle.gate_core.specs.Held.{IsOver, Goes, Tells}
@@ -34,7 +35,7 @@ abbrev gate_by : Bool → Bool → Gated → Result (Id × Delivery) Refusal →
 gate_by long u g r = record g { content = once g.settings g.content ((if long then [] else call_read u r) ++ []) }
 
 -- a line is told of by what its reply and its gate are
-told_by : (g after : Gated) (line text : List ℕ) (u long : Bool) (r : Result (Id × Delivery) Refusal) → is_too_long line ≡ long → heard line ≡ r
+told_by : (g after : Gated) (line text : List ℕ) (u long : Bool) (r : Result (Id × Delivery) Refusal) → is_too_long line ≡ long → says door.Any line ≡ r
     → text ≡ reply_by long u g r → after ≡ gate_by long u g r → Told g line text after
 told_by g after line text u long r hl hr said stands = record {
   unavailable = u;
@@ -55,7 +56,7 @@ answered c x id d false = refl
 
 -- a line that says a delivery, by its answer
 pub told_call : (g : Gated) (line : List ℕ) (id : Id) (d : Delivery) (a : Answer) → length line ≤ limit →
-    heard line ≡ Ok (id, d) →
+    says door.Any line ≡ Ok (id, d) →
     (let k : Call = record { id = id; delivery = d; unavailable = is_unavailable a } in
     a ≡ answer_of g.settings g.content k →
     Told g line (answer_text a) (record g { content = next_content g.settings g.content k }))
@@ -72,11 +73,11 @@ stays_marked g (Err e) = refl
 
 -- a line that is refused before any delivery is heard, by whether that is for want of memory
 told_by_refusal : (g : Gated) (line : List ℕ) (r : Refusal) (u : Bool) → length line ≤ limit →
-    is_unavailable (answer.Refused r) ≡ u → (r ≢ refusal.Unavailable → heard line ≡ Err r) →
+    is_unavailable (answer.Refused r) ≡ u → (r ≢ refusal.Unavailable → says door.Any line ≡ Err r) →
     Told g line (refusal_text r) g
 told_by_refusal g line refusal.Unavailable true short e said =
-    told_by g g line (refusal_text refusal.Unavailable) true false (heard line) (fits line short) refl refl
-    (stays_marked g (heard line))
+    told_by g g line (refusal_text refusal.Unavailable) true false (says door.Any line) (fits line short) refl refl
+    (stays_marked g (says door.Any line))
 told_by_refusal g line r false short e said =
     let other : r ≢ refusal.Unavailable = λ same. true≢false (sym (ap (λ q. is_unavailable (answer.Refused q)) same) ∙ e) in
     told_by g g line (refusal_text r) false false (Err r) (fits line short) (said other) refl refl
@@ -84,7 +85,7 @@ told_by_refusal g line r true short e said = absurd (true≢false (sym e))
 
 -- a line that is refused before any delivery is heard
 pub told_refusal : (g : Gated) (line : List ℕ) (r : Refusal) → length line ≤ limit →
-    (r ≢ refusal.Unavailable → heard line ≡ Err r) → Told g line (refusal_text r) g
+    (r ≢ refusal.Unavailable → says door.Any line ≡ Err r) → Told g line (refusal_text r) g
 told_refusal g line r short said = told_by_refusal g line r (is_unavailable (answer.Refused r)) short refl said
 
 -- a line over the limit is
@@ -121,7 +122,7 @@ goes_on trusted holds old mid new P Q R first next both = record {
 -- a line that says a delivery, by what the gate's answer to it came to
 pub goes_told : {B : Type 0} (trusted : B → Type 0) (holds : B → Settings → Content → Type 0) (old new : Gate B)
     (line : List ℕ) (id : Id) (d : Delivery) (a : Answer) (text : List ℕ) (left leaves : List Content → Type 0) →
-    new.config ≡ old.config → (trusted new.book → trusted old.book) → length line ≤ limit → heard line ≡ Ok (id, d) →
+    new.config ≡ old.config → (trusted new.book → trusted old.book) → length line ≤ limit → says door.Any line ≡ Ok (id, d) →
     text ≡ answer_text a →
     OfHeldUnder trusted holds old.book new.book old.config (λ x.
     Answered old.config x (call id d (is_unavailable a)) a (holds new.book old.config) left leaves) →
@@ -152,7 +153,7 @@ answers_told : {B : Type 0} (trusted : B → Type 0) (holds : B → Settings →
 answers_told trusted holds old line text new (inl (short, h)) = h
 answers_told trusted holds old line text new (inr (over, said, stays)) =
     goes_nowhere trusted holds old new (λ g after. Told g line text after) stays
-    (λ g. told_by g g line text false true (heard line) (long line over) refl said refl)
+    (λ g. told_by g g line text false true (says door.Any line) (long line over) refl said refl)
 
 -- a line, and lines behind it
 replayed_cons : (g mid after : Gated) (line said : List ℕ) (lines : List (List ℕ)) (more text : List ℕ) →
@@ -234,4 +235,4 @@ adds_answer g ms false u (Ok x) rest =
 
 pub calls_answered : (g : Gated) (ms : List Marked) → CallsAreAnswered g ms
 calls_answered g [] = refl
-calls_answered g (m ∷ ms) = adds_answer g ms (is_too_long m.line) m.unavailable (heard m.line) (λ h. calls_answered h ms)
+calls_answered g (m ∷ ms) = adds_answer g ms (is_too_long m.line) m.unavailable (says door.Any m.line) (λ h. calls_answered h ms)

@@ -1,5 +1,4 @@
 pub mod Gated
-pub mod Heard
 pub mod Limit
 pub mod Lines
 pub mod Gathered

@@ -9,7 +9,8 @@ use Rattle.gate_types.specs.Once.{Call, once, answer_of, answer_text, answers}
 use Rattle.gate_types.specs.Refusals.{refusal_text}
 use Rattle.gate_core.specs.Gated.{Gated}
 use Rattle.gate_core.specs.Limit.{limit, too_large}
-use Rattle.gate_core.specs.Heard.{heard}
+use Rattle.gate_wire.specs.declared.door.Door.TheVariants as door
+use Rattle.gate_wire.specs.Reading.{says}
 
 -- a line of an input, marked if it was answered `unavailable`
 pub record Marked : Type 0 where
@@ -27,7 +28,7 @@ call_read unavailable (Err e) = []
 
 -- the call of a line: none where it is too long or says no delivery
 abbrev pub call_of : Marked → List Call
-call_of m = if is_too_long m.line then [] else call_read m.unavailable (heard m.line)
+call_of m = if is_too_long m.line then [] else call_read m.unavailable (says door.Any m.line)
 
 -- the calls of lines, in order
 abbrev pub calls_of : List Marked → List Call
@@ -48,7 +49,7 @@ abbrev pub reply_to : Gated → Marked → List ℕ
 reply_to g m =
     if is_too_long m.line then too_large else
     if m.unavailable then refusal_text refusal.Unavailable else
-    text_read g (heard m.line)
+    text_read g (says door.Any m.line)
 
 -- the replies to lines, one after another, each with an LF
 abbrev pub replies : Gated → List Marked → List ℕ
