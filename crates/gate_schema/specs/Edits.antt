@@ -1,0 +1,139 @@
+-- What the statements, and the edits that are made of them, make of what the tables hold.
+use Rattle.std.specs.Prelude.{ℕ, suc, pos, false, not, ◌==◌, ◌&&◌, if◌then◌else◌, List, [], ◌∷◌, ◌++◌, map, filter, fold, Option}
+use Rattle.sqlite_keyed.specs.Keyed.{insert_by}
+use Rattle.gate_types.specs.Names.{same_name}
+use Rattle.gate_types.specs.Rebase.{with_live}
+use Rattle.gate_types.specs.Rows.{with_outcome, change_build}
+use Rattle.gate_types.specs.State.{put_by}
+use Rattle.gate_types.specs.Tables.{set_counter}
+use Rattle.gate_types.specs.declared.edits.Counter.{Counter}
+use Rattle.gate_types.specs.declared.edits.Edit.{Edit}
+use Rattle.gate_types.specs.declared.edits.Edit.TheVariants as edit
+use Rattle.gate_types.specs.declared.records.Build.{Build}
+use Rattle.gate_types.specs.declared.records.Item.{Item}
+use Rattle.gate_types.specs.declared.records.Kept.{Kept}
+use Rattle.gate_types.specs.declared.records.Landing.{Landing}
+use Rattle.gate_types.specs.declared.records.Outcome.{Outcome}
+use Rattle.gate_types.specs.declared.records.Report.{Report}
+use Rattle.gate_types.specs.declared.records.Change.{Change}
+use Rattle.gate_types.specs.declared.rows.ChangeRow.{ChangeRow}
+use Rattle.gate_schema.specs.Rows.{Stored, QueueRow, ItemRow, NeedRow, QueueLanding, QueueReport, item_key, change_key, build_key}
+
+-- ---- one statement each
+
+-- the item of a serial taken out of a queue
+abbrev pub drop_item_of : ℕ → List ℕ → Stored → Stored
+drop_item_of n queue b =
+    record b { items = filter (λ y. not (item_key y == n && same_name y.queue queue)) b.items }
+
+-- the item of a serial taken out
+abbrev pub drop_item : ℕ → Stored → Stored
+drop_item n b = record b { items = filter (λ y. not (item_key y == n)) b.items }
+
+-- an item added at its serial
+abbrev pub add_item : ItemRow → Stored → Stored
+add_item x b = record b { items = insert_by (λ y. pos (item_key y)) b.items x }
+
+-- a change taken out, its needs left
+abbrev pub drop_change : ℕ → Stored → Stored
+drop_change n b = record b { changes = filter (λ y. not (change_key y == n)) b.changes }
+
+-- a change added at its number, without its needs
+abbrev pub add_change : ChangeRow → Stored → Stored
+add_change x b = record b { changes = insert_by (λ y. pos (change_key y)) b.changes x }
+
+-- the needs of a change taken out
+abbrev pub drop_needs : ℕ → Stored → Stored
+drop_needs n b = record b { needs = filter (λ y. not (y.change == n)) b.needs }
+
+-- needs added at the end
+abbrev pub add_needs : List NeedRow → Stored → Stored
+add_needs xs b = record b { needs = b.needs ++ xs }
+
+-- a build taken out
+abbrev pub drop_build : ℕ → Stored → Stored
+drop_build n b = record b { builds = filter (λ y. not (build_key y == n)) b.builds }
+
+-- a build added at its number
+abbrev pub add_build : Build → Stored → Stored
+add_build x b = record b { builds = insert_by (λ y. pos (build_key y)) b.builds x }
+
+-- the outcome of a build told
+abbrev pub set_outcome : ℕ → Outcome → Stored → Stored
+set_outcome n o b = record b { builds = change_build n (with_outcome o) b.builds }
+
+-- a build that stops being live
+abbrev pub stop_build : ℕ → Stored → Stored
+stop_build n b = record b { builds = change_build n (with_live false) b.builds }
+
+-- a landing added at the end
+abbrev pub add_landing : QueueLanding → Stored → Stored
+add_landing x b = record b { landings = b.landings ++ x ∷ [] }
+
+-- a report added at the end
+abbrev pub add_report : QueueReport → Stored → Stored
+add_report x b = record b { reports = b.reports ++ x ∷ [] }
+
+-- a kept delivery added at the end
+abbrev pub add_kept : Kept → Stored → Stored
+add_kept x b = record b { kept = b.kept ++ x ∷ [] }
+
+-- a queue with another window
+abbrev pub with_window : ℕ → QueueRow → QueueRow
+with_window w q = record q { window = w }
+
+-- the window of a queue set
+abbrev pub set_window : List ℕ → ℕ → Stored → Stored
+set_window name w b =
+    record b { queues = map (λ (q : QueueRow). if same_name q.name name then with_window w q else q) b.queues }
+
+-- a counter set
+abbrev pub draw : Counter → ℕ → Stored → Stored
+draw k n b = record b { counters = set_counter k n b.counters }
+
+-- ---- an edit
+
+-- the needs of a change, by their places from n on
+abbrev pub need_rows : ℕ → ℕ → List ℕ → List NeedRow
+need_rows number n [] = []
+need_rows number n (x ∷ xs) = (record { change = number; place = n; needed = x }) ∷ need_rows number (suc n) xs
+
+-- the row of an item of a queue
+abbrev pub item_in : List ℕ → Item → ItemRow
+item_in name i = record { queue = name; item = i }
+
+-- the row of a landing of a queue
+abbrev pub landing_in : List ℕ → ℕ → Landing → QueueLanding
+landing_in name n l = record { queue = name; row = record { place = n; landing = l } }
+
+-- the row of a report of a queue
+abbrev pub report_in : List ℕ → ℕ → Report → QueueReport
+report_in name n r = record { queue = name; row = record { place = n; report = r } }
+
+-- a change and its approval
+abbrev pub change_with : Change → Option ℕ → ChangeRow
+change_with k a = record { change = k; approval = a }
+
+-- a change put, with its needs in place of the old ones
+abbrev pub put_change : Change → Option ℕ → Stored → Stored
+put_change k a b =
+    add_needs (need_rows k.number 0 k.needs)
+    (drop_needs k.number (add_change (change_with k a) (drop_change k.number b)))
+
+-- what the tables hold after an edit
+abbrev pub after_edit : Edit → Stored → Stored
+after_edit (edit.PutChange k a) b = put_change k a b
+after_edit (edit.PutItem name i) b = add_item (item_in name i) (drop_item_of i.serial name b)
+after_edit (edit.DropItem n) b = drop_item n b
+after_edit (edit.PutLanding name n l) b = add_landing (landing_in name n l) b
+after_edit (edit.PutReport name n r) b = add_report (report_in name n r) b
+after_edit (edit.PutBuild x) b = add_build x (drop_build x.number b)
+after_edit (edit.SetOutcome n o) b = set_outcome n o b
+after_edit (edit.StopBuild n) b = stop_build n b
+after_edit (edit.SetWindow name w) b = set_window name w b
+after_edit (edit.SetCounter k n) b = draw k n b
+after_edit (edit.Keep k) b = add_kept k b
+
+-- the edits in turn
+abbrev pub after_edits : List Edit → Stored → Stored
+after_edits edits b = fold (λ c e. after_edit e c) b edits
