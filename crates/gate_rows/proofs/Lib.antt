@@ -1,0 +1,2 @@
+mod ThenLemmas
+mod AheadLemmas

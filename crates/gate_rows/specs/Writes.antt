@@ -1,0 +1,16 @@
+-- What a call within a transaction does, where the disk has returned what was written.
+use Rattle.std.specs.Prelude.{OnOk, Result}
+use Rattle.sqlite.specs.State.{HasCleanDisk, KeepsCommit, State, Survives}
+use Rattle.gate_schema.specs.Rows.{Changes, IsReady, Stored}
+
+-- on Ok, what the tables hold is changed so, and the transaction goes on
+abbrev pub Makes : {T E : Type 0} → State → State → Result T E → (Stored → Stored) → Type 0
+Makes old new result change = HasCleanDisk new → IsReady old → OnOk result (Changes old new change)
+
+-- nothing is committed
+abbrev pub Keeps : State → State → Type 0
+Keeps old new = HasCleanDisk new → IsReady old → KeepsCommit old new
+
+-- and a crash leaves nothing new
+abbrev pub LeavesNothing : State → State → Type 0
+LeavesNothing old new = Survives old new (λ _. ⊥)

@@ -1,0 +1,151 @@
+//! Edits of changes and their needs, within a transaction.
+ghost use Rattle.std.specs.Prelude.{◌≡◌, ◌<◌, ◌^◌, ◌∷◌, []};
+ghost use Rattle.sqlite.specs.Held.{state};
+ghost use Rattle.gate_schema.specs.Edits as edits;
+ghost use Rattle.gate_rows.specs.Writes.{Keeps, LeavesNothing, Makes};
+
+use crate::values::{change, number, number_if_any, revision, text, too_large};
+use crate::words::stage_text;
+use gate_types::numbers::ChangeNo;
+use gate_types::records::Change;
+use sqlite::{Alter, Error, Transaction};
+
+/// Takes the row of a change out, and leaves its needs.
+fn drop_change<S: Alter>(tx: &mut Transaction<'_, S>, n: ChangeNo) -> Result<(), Error>
+    ensures same_reference { tx.new.conn.ghost_name ≡ tx.old.conn.ghost_name }
+    ensures changes { Makes (state S.Store tx.old.conn.now) (state S.Store tx.new.conn.now) result
+        (edits.drop_change n) }
+    ensures kept { Keeps (state S.Store tx.old.conn.now) (state S.Store tx.new.conn.now) }
+    ensures crash { LeavesNothing (state S.Store tx.old.conn.now) (state S.Store tx.new.conn.now) }
+{
+    tx.execute("DELETE FROM change WHERE num = ?1", &[change(n)])?;
+    Ok(())
+}
+
+/// Adds the row of a change. An Err where no column can hold the number of its approval.
+fn add_change<S: Alter>(
+    tx: &mut Transaction<'_, S>,
+    k: &Change,
+    approval: Option<u64>,
+) -> Result<(), Error>
+    ensures same_reference { tx.new.conn.ghost_name ≡ tx.old.conn.ghost_name }
+    ensures changes { Makes (state S.Store tx.old.conn.now) (state S.Store tx.new.conn.now) result
+        (edits.add_change (edits.change_with k.now approval)) }
+    ensures kept { Keeps (state S.Store tx.old.conn.now) (state S.Store tx.new.conn.now) }
+    ensures crash { LeavesNothing (state S.Store tx.old.conn.now) (state S.Store tx.new.conn.now) }
+{
+    let Some(approval) = number_if_any(approval) else {
+        return Err(too_large());
+    };
+    tx.execute(
+        "INSERT INTO change (num, project, revision, state, approval) VALUES (?1, ?2, ?3, ?4, ?5)",
+        &[
+            change(k.number),
+            text(k.project.as_str()),
+            revision(k.revision),
+            text(stage_text(k.stage)),
+            approval,
+        ],
+    )?;
+    Ok(())
+}
+
+/// The row of a change, in place of the old one.
+fn renew_change<S: Alter>(
+    tx: &mut Transaction<'_, S>,
+    k: &Change,
+    approval: Option<u64>,
+) -> Result<(), Error>
+    ensures same_reference { tx.new.conn.ghost_name ≡ tx.old.conn.ghost_name }
+    ensures changes { Makes (state S.Store tx.old.conn.now) (state S.Store tx.new.conn.now) result
+        (λ b. edits.add_change (edits.change_with k.now approval) (edits.drop_change k.now.number b)) }
+    ensures kept { Keeps (state S.Store tx.old.conn.now) (state S.Store tx.new.conn.now) }
+    ensures crash { LeavesNothing (state S.Store tx.old.conn.now) (state S.Store tx.new.conn.now) }
+{
+    drop_change(tx, k.number)?;
+    add_change(tx, k, approval)
+}
+
+/// Takes the needs of a change out.
+fn drop_needs<S: Alter>(tx: &mut Transaction<'_, S>, n: ChangeNo) -> Result<(), Error>
+    ensures same_reference { tx.new.conn.ghost_name ≡ tx.old.conn.ghost_name }
+    ensures changes { Makes (state S.Store tx.old.conn.now) (state S.Store tx.new.conn.now) result
+        (edits.drop_needs n) }
+    ensures kept { Keeps (state S.Store tx.old.conn.now) (state S.Store tx.new.conn.now) }
+    ensures crash { LeavesNothing (state S.Store tx.old.conn.now) (state S.Store tx.new.conn.now) }
+{
+    tx.execute("DELETE FROM need WHERE change = ?1", &[change(n)])?;
+    Ok(())
+}
+
+/// Adds a need at its place.
+fn add_need<S: Alter>(
+    tx: &mut Transaction<'_, S>,
+    n: ChangeNo,
+    place: usize,
+    needed: ChangeNo,
+) -> Result<(), Error>
+    requires { place < 2 ^ 63 }
+    ensures same_reference { tx.new.conn.ghost_name ≡ tx.old.conn.ghost_name }
+    ensures changes { Makes (state S.Store tx.old.conn.now) (state S.Store tx.new.conn.now) result
+        (edits.add_needs ((record { change = n; place = place; needed = needed }) ∷ [])) }
+    ensures kept { Keeps (state S.Store tx.old.conn.now) (state S.Store tx.new.conn.now) }
+    ensures crash { LeavesNothing (state S.Store tx.old.conn.now) (state S.Store tx.new.conn.now) }
+{
+    tx.execute(
+        "INSERT INTO need (change, place, needed) VALUES (?1, ?2, ?3)",
+        &[change(n), number(place as u64), change(needed)],
+    )?;
+    Ok(())
+}
+
+/// Adds the needs of a change, by their places.
+fn add_needs<S: Alter>(
+    tx: &mut Transaction<'_, S>,
+    n: ChangeNo,
+    needs: &[ChangeNo],
+) -> Result<(), Error>
+    ensures same_reference { tx.new.conn.ghost_name ≡ tx.old.conn.ghost_name }
+    ensures changes { Makes (state S.Store tx.old.conn.now) (state S.Store tx.new.conn.now) result
+        (edits.add_needs (edits.need_rows n 0 needs.now)) }
+    ensures kept { Keeps (state S.Store tx.old.conn.now) (state S.Store tx.new.conn.now) }
+    ensures crash { LeavesNothing (state S.Store tx.old.conn.now) (state S.Store tx.new.conn.now) }
+{
+    for (place, needed) in needs.iter().enumerate() {
+        add_need(tx, n, place, *needed)?;
+    }
+    Ok(())
+}
+
+/// The needs of a change, in place of the old ones.
+fn renew_needs<S: Alter>(
+    tx: &mut Transaction<'_, S>,
+    n: ChangeNo,
+    needs: &[ChangeNo],
+) -> Result<(), Error>
+    ensures same_reference { tx.new.conn.ghost_name ≡ tx.old.conn.ghost_name }
+    ensures changes { Makes (state S.Store tx.old.conn.now) (state S.Store tx.new.conn.now) result
+        (λ b. edits.add_needs (edits.need_rows n 0 needs.now) (edits.drop_needs n b)) }
+    ensures kept { Keeps (state S.Store tx.old.conn.now) (state S.Store tx.new.conn.now) }
+    ensures crash { LeavesNothing (state S.Store tx.old.conn.now) (state S.Store tx.new.conn.now) }
+{
+    drop_needs(tx, n)?;
+    add_needs(tx, n, needs)
+}
+
+/// A change with its needs, in place of what was known of it. An Err where no column can hold the
+/// number of its approval.
+pub(crate) fn put_change<S: Alter>(
+    tx: &mut Transaction<'_, S>,
+    k: &Change,
+    approval: Option<u64>,
+) -> Result<(), Error>
+    ensures same_reference { tx.new.conn.ghost_name ≡ tx.old.conn.ghost_name }
+    ensures changes { Makes (state S.Store tx.old.conn.now) (state S.Store tx.new.conn.now) result
+        (edits.put_change k.now approval) }
+    ensures kept { Keeps (state S.Store tx.old.conn.now) (state S.Store tx.new.conn.now) }
+    ensures crash { LeavesNothing (state S.Store tx.old.conn.now) (state S.Store tx.new.conn.now) }
+{
+    renew_change(tx, k, approval)?;
+    renew_needs(tx, k.number, k.needs.as_slice())
+}

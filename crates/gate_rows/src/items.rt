@@ -1,0 +1,80 @@
+//! Edits of items, within a transaction.
+ghost use Rattle.std.specs.Prelude.{◌≡◌};
+ghost use Rattle.sqlite.specs.Held.{state};
+ghost use Rattle.gate_schema.specs.Edits as edits;
+ghost use Rattle.gate_rows.specs.Writes.{Keeps, LeavesNothing, Makes};
+
+use crate::values::{change, flag, revision, serial, serial_if_any, text};
+use gate_types::names::Name;
+use gate_types::numbers::Serial;
+use gate_types::records::Item;
+use sqlite::{Alter, Error, Transaction};
+
+/// Takes the item of a serial out.
+pub(crate) fn drop_item<S: Alter>(tx: &mut Transaction<'_, S>, number: Serial) -> Result<(), Error>
+    ensures same_reference { tx.new.conn.ghost_name ≡ tx.old.conn.ghost_name }
+    ensures changes { Makes (state S.Store tx.old.conn.now) (state S.Store tx.new.conn.now) result
+        (edits.drop_item number) }
+    ensures kept { Keeps (state S.Store tx.old.conn.now) (state S.Store tx.new.conn.now) }
+    ensures crash { LeavesNothing (state S.Store tx.old.conn.now) (state S.Store tx.new.conn.now) }
+{
+    tx.execute("DELETE FROM item WHERE serial = ?1", &[serial(number)])?;
+    Ok(())
+}
+
+/// Takes the item of a serial out of one queue.
+fn drop_item_of<S: Alter>(
+    tx: &mut Transaction<'_, S>,
+    number: Serial,
+    queue: &Name,
+) -> Result<(), Error>
+    ensures same_reference { tx.new.conn.ghost_name ≡ tx.old.conn.ghost_name }
+    ensures changes { Makes (state S.Store tx.old.conn.now) (state S.Store tx.new.conn.now) result
+        (edits.drop_item_of number queue.now) }
+    ensures kept { Keeps (state S.Store tx.old.conn.now) (state S.Store tx.new.conn.now) }
+    ensures crash { LeavesNothing (state S.Store tx.old.conn.now) (state S.Store tx.new.conn.now) }
+{
+    tx.execute(
+        "DELETE FROM item WHERE serial = ?1 AND queue = ?2",
+        &[serial(number), text(queue.as_str())],
+    )?;
+    Ok(())
+}
+
+/// Adds an item, whose serial no item has.
+fn add_item<S: Alter>(tx: &mut Transaction<'_, S>, queue: &Name, item: &Item) -> Result<(), Error>
+    ensures same_reference { tx.new.conn.ghost_name ≡ tx.old.conn.ghost_name }
+    ensures changes { Makes (state S.Store tx.old.conn.now) (state S.Store tx.new.conn.now) result
+        (edits.add_item (edits.item_in queue.now item.now)) }
+    ensures kept { Keeps (state S.Store tx.old.conn.now) (state S.Store tx.new.conn.now) }
+    ensures crash { LeavesNothing (state S.Store tx.old.conn.now) (state S.Store tx.new.conn.now) }
+{
+    tx.execute(
+        "INSERT INTO item (serial, queue, change, revision, ahead, failing) VALUES (?1, ?2, ?3, ?4, ?5, ?6)",
+        &[
+            serial(item.serial),
+            text(queue.as_str()),
+            change(item.change),
+            revision(item.revision),
+            serial_if_any(item.ahead),
+            flag(item.failing),
+        ],
+    )?;
+    Ok(())
+}
+
+/// The item of a serial, put in its queue. An Err where another queue has that serial.
+pub(crate) fn put_item<S: Alter>(
+    tx: &mut Transaction<'_, S>,
+    queue: &Name,
+    item: &Item,
+) -> Result<(), Error>
+    ensures same_reference { tx.new.conn.ghost_name ≡ tx.old.conn.ghost_name }
+    ensures changes { Makes (state S.Store tx.old.conn.now) (state S.Store tx.new.conn.now) result
+        (λ b. edits.add_item (edits.item_in queue.now item.now) (edits.drop_item_of item.now.serial queue.now b)) }
+    ensures kept { Keeps (state S.Store tx.old.conn.now) (state S.Store tx.new.conn.now) }
+    ensures crash { LeavesNothing (state S.Store tx.old.conn.now) (state S.Store tx.new.conn.now) }
+{
+    drop_item_of(tx, item.serial, queue)?;
+    add_item(tx, queue, item)
+}

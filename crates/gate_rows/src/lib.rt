@@ -1,0 +1,14 @@
+//! The rows of the gate's tables: each edit as statements within a transaction.
+#![tactic(auto)]
+
+mod ahead;
+mod apply;
+mod builds;
+mod changes;
+mod history;
+mod items;
+mod numbers;
+mod values;
+mod words;
+
+pub use apply::apply_one;
