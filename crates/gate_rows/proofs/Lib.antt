@@ -1,2 +1,4 @@
 mod ThenLemmas
 mod AheadLemmas
+mod PutLemmas
+mod TellsLemmas

@@ -7,6 +7,7 @@ mod builds;
 mod changes;
 mod history;
 mod items;
+pub mod laws;
 mod numbers;
 mod values;
 mod words;

@@ -1,0 +1,87 @@
+-- A row put by its key, as SQL does it and as the gate's tables do.
+use Rattle.std.proofs.Common.{◌≡◌, ◌≤◌, ◌<◌, ◌<ℤ◌, ℕ, pos, List, [], ◌∷◌, ◌++◌, filter, Bool, true, false, not, cond, eqb, ltb, refl, sym, ap, ◌∙◌, arith, int_cmp, Ordering, Less, Equal, Greater, IsPermutation}
+use Rattle.std.specs.List.{AllByRecursion}
+use Rattle.std.specs.Ordering.{match_ordering}
+use Rattle.std.proofs.lemmas.Bool.Decides.{nat_tests}
+use Rattle.std.proofs.lemmas.Int.{ints}
+use Rattle.std.proofs.lemmas.List.Sorted.{IsPermutation-refl, IsPermutation-cons, IsPermutation-swap, IsPermutation-trans}
+use Rattle.sqlite_keyed.specs.Keyed.{IsKeyedBy, insert_by}
+use Rattle.gate_types.specs.State.{put_by}
+
+cmp_above : (a b : ℕ) → a < b → int_cmp (pos b) (pos a) ≡ Greater
+cmp_above a b less = grind (arith, nat_tests, ints)
+
+cmp_below : (a b : ℕ) → b < a → int_cmp (pos b) (pos a) ≡ Less
+cmp_below a b less = grind (arith, nat_tests, ints)
+
+module _ {X : Type 0} (key : X → ℕ) where
+  -- rows above a key are kept where a row of that key, or of a lower one, is taken out
+  none_of : (m n : ℕ) (zs : List X) → m ≤ n → AllByRecursion (λ z. pos n <ℤ pos (key z)) zs → filter (λ z. not (eqb (key z) m)) zs ≡ zs
+  none_of m n [] low above = refl
+  none_of m n (z ∷ zs) low above =
+      let first = above.0 in
+      let more : n < key z = omega (arith, ints) in
+      let no : eqb (key z) m ≡ false = grind (arith, nat_tests) in
+      ap (λ c. cond (not c) (z ∷ filter (λ z. not (eqb (key z) m)) zs) (filter (λ z. not (eqb (key z) m)) zs)) no
+      ∙ ap (λ l. z ∷ l) (none_of m n zs low above.1)
+
+  -- and a row of such a key goes in front of them
+  in_front : (x : X) (n : ℕ) (zs : List X) → key x ≤ n → AllByRecursion (λ z. pos n <ℤ pos (key z)) zs → insert_by (λ y. pos (key y)) zs x ≡ x ∷ zs
+  in_front x n [] low above = refl
+  in_front x n (z ∷ zs) low above =
+      let first = above.0 in
+      let more : n < key z = omega (arith, ints) in
+      ap (λ o. match_ordering o (z ∷ insert_by (λ y. pos (key y)) zs x) (x ∷ zs) (x ∷ z ∷ zs)) (cmp_above (key x) (key z) (omega arith))
+
+  -- DELETE by key and INSERT put a row
+  pub put_is : (x : X) (xs : List X) → IsKeyedBy (λ y. pos (key y)) xs
+      → insert_by (λ y. pos (key y)) (filter (λ y. not (eqb (key y) (key x))) xs) x ≡ put_by key x xs
+  put_is x [] up = refl
+  put_is x (y ∷ ys) up = go (eqb (key x) (key y)) refl (ltb (key x) (key y)) refl (put_is x ys up.1)
+    where
+      go : (same : Bool) → eqb (key x) (key y) ≡ same → (less : Bool) → ltb (key x) (key y) ≡ less
+          → insert_by (λ z. pos (key z)) (filter (λ z. not (eqb (key z) (key x))) ys) x ≡ put_by key x ys
+          → insert_by (λ z. pos (key z)) (filter (λ z. not (eqb (key z) (key x))) (y ∷ ys)) x ≡ put_by key x (y ∷ ys)
+      go true e less l more =
+          let other : eqb (key y) (key x) ≡ true = grind (arith, nat_tests) in
+          let low : key x ≤ key y = grind (arith, nat_tests) in
+          let rest = filter (λ z. not (eqb (key z) (key x))) ys in
+          ap (λ c. insert_by (λ z. pos (key z)) (cond (not c) (y ∷ rest) rest) x) other
+          ∙ ap (λ zs. insert_by (λ z. pos (key z)) zs x) (none_of (key x) (key y) ys low up.0)
+          ∙ in_front x (key y) ys low up.0
+          ∙ sym (ap (λ c. cond c (x ∷ ys) (cond (ltb (key x) (key y)) (x ∷ y ∷ ys) (y ∷ put_by key x ys))) e)
+      go false e true l more =
+          let other : eqb (key y) (key x) ≡ false = grind (arith, nat_tests) in
+          let below : key x < key y = grind (arith, nat_tests) in
+          let rest = filter (λ z. not (eqb (key z) (key x))) ys in
+          ap (λ c. insert_by (λ z. pos (key z)) (cond (not c) (y ∷ rest) rest) x) other
+          ∙ ap (λ o. match_ordering o (y ∷ insert_by (λ z. pos (key z)) rest x) (x ∷ rest) (x ∷ y ∷ rest)) (cmp_above (key x) (key y) below)
+          ∙ ap (λ zs. x ∷ y ∷ zs) (none_of (key x) (key y) ys (omega arith) up.0)
+          ∙ sym (ap (λ c. cond c (x ∷ ys) (cond (ltb (key x) (key y)) (x ∷ y ∷ ys) (y ∷ put_by key x ys))) e
+          ∙ ap (λ c. cond c (x ∷ y ∷ ys) (y ∷ put_by key x ys)) l)
+      go false e false l more =
+          let other : eqb (key y) (key x) ≡ false = grind (arith, nat_tests) in
+          let above : key y < key x = grind (arith, nat_tests) in
+          let rest = filter (λ z. not (eqb (key z) (key x))) ys in
+          ap (λ c. insert_by (λ z. pos (key z)) (cond (not c) (y ∷ rest) rest) x) other
+          ∙ ap (λ o. match_ordering o (y ∷ insert_by (λ z. pos (key z)) rest x) (x ∷ rest) (x ∷ y ∷ rest)) (cmp_below (key x) (key y) above)
+          ∙ ap (λ zs. y ∷ zs) more
+          ∙ sym (ap (λ c. cond c (x ∷ ys) (cond (ltb (key x) (key y)) (x ∷ y ∷ ys) (y ∷ put_by key x ys))) e
+          ∙ ap (λ c. cond c (x ∷ y ∷ ys) (y ∷ put_by key x ys)) l)
+
+  -- a row whose key is new is added
+  pub put_new : (x : X) (ys : List X) → AllByRecursion (λ y. eqb (key y) (key x) ≡ false) ys → IsPermutation (x ∷ ys) (put_by key x ys)
+  put_new x [] fresh = IsPermutation-refl (x ∷ [])
+  put_new x (y ∷ ys) fresh = go (ltb (key x) (key y)) refl (put_new x ys fresh.1)
+    where
+      go : (less : Bool) → ltb (key x) (key y) ≡ less → IsPermutation (x ∷ ys) (put_by key x ys) → IsPermutation (x ∷ y ∷ ys) (put_by key x (y ∷ ys))
+      go true l more =
+          let first = fresh.0 in
+          let no : eqb (key x) (key y) ≡ false = grind (arith, nat_tests) in
+          rw (no, l) (IsPermutation-refl (x ∷ y ∷ ys))
+      go false l more =
+          let first = fresh.0 in
+          let no : eqb (key x) (key y) ≡ false = grind (arith, nat_tests) in
+          rw (no, l) (IsPermutation-trans (x ∷ y ∷ ys) (y ∷ x ∷ ys) (y ∷ put_by key x ys)
+          (IsPermutation-swap (x ∷ y ∷ ys) (y ∷ x ∷ ys) 0 1 (omega arith) (omega arith) refl)
+          (IsPermutation-cons y (x ∷ ys) (put_by key x ys) more))
