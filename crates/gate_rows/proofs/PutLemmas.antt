@@ -1,5 +1,5 @@
 -- A row put by its key, as SQL does it and as the gate's tables do.
-use Rattle.std.proofs.Common.{◌≡◌, ◌≤◌, ◌<◌, ◌<ℤ◌, ℕ, pos, List, [], ◌∷◌, ◌++◌, filter, Bool, true, false, not, cond, eqb, ltb, refl, sym, ap, ◌∙◌, arith, int_cmp, Ordering, Less, Equal, Greater, IsPermutation}
+use Rattle.std.proofs.Common.{◌≡◌, ◌≤◌, ◌<◌, ◌<ℤ◌, ◌⊎◌, inl, inr, ℕ, pos, List, [], ◌∷◌, ◌++◌, filter, Bool, true, false, not, cond, eqb, ltb, refl, sym, ap, ◌∙◌, arith, int_cmp, Ordering, Less, Equal, Greater, IsPermutation}
 use Rattle.std.specs.List.{AllByRecursion}
 use Rattle.std.specs.Ordering.{match_ordering}
 use Rattle.std.proofs.lemmas.Bool.Decides.{nat_tests}
@@ -13,6 +13,13 @@ cmp_above a b less = grind (arith, nat_tests, ints)
 
 cmp_below : (a b : ℕ) → b < a → int_cmp (pos b) (pos a) ≡ Less
 cmp_below a b less = grind (arith, nat_tests, ints)
+
+pub below_or : (a b : ℕ) → (a < b) ⊎ (b ≤ a)
+below_or a b = go (ltb a b) refl
+  where
+    go : (less : Bool) → ltb a b ≡ less → (a < b) ⊎ (b ≤ a)
+    go true l = let h : a < b = grind (arith, nat_tests) in inl h
+    go false l = let h : b ≤ a = grind (arith, nat_tests) in inr h
 
 module _ {X : Type 0} (key : X → ℕ) where
   -- rows above a key are kept where a row of that key, or of a lower one, is taken out
@@ -85,3 +92,23 @@ module _ {X : Type 0} (key : X → ℕ) where
           rw (no, l) (IsPermutation-trans (x ∷ y ∷ ys) (y ∷ x ∷ ys) (y ∷ put_by key x ys)
           (IsPermutation-swap (x ∷ y ∷ ys) (y ∷ x ∷ ys) 0 1 (omega arith) (omega arith) refl)
           (IsPermutation-cons y (x ∷ ys) (put_by key x ys) more))
+
+  -- a row put before, at and behind the first of others
+  pub put_before : (x y : X) (ys : List X) → key x < key y → put_by key x (y ∷ ys) ≡ x ∷ y ∷ ys
+  put_before x y ys less =
+      let no : eqb (key x) (key y) ≡ false = grind (arith, nat_tests) in
+      let yes : ltb (key x) (key y) ≡ true = grind (arith, nat_tests) in
+      ap (λ c. cond c (x ∷ ys) (cond (ltb (key x) (key y)) (x ∷ y ∷ ys) (y ∷ put_by key x ys))) no
+      ∙ ap (λ c. cond c (x ∷ y ∷ ys) (y ∷ put_by key x ys)) yes
+
+  pub put_first : (x y : X) (ys : List X) → key x ≡ key y → put_by key x (y ∷ ys) ≡ x ∷ ys
+  put_first x y ys same =
+      let yes : eqb (key x) (key y) ≡ true = grind (arith, nat_tests) in
+      ap (λ c. cond c (x ∷ ys) (cond (ltb (key x) (key y)) (x ∷ y ∷ ys) (y ∷ put_by key x ys))) yes
+
+  pub put_after : (x y : X) (ys : List X) → key y < key x → put_by key x (y ∷ ys) ≡ y ∷ put_by key x ys
+  put_after x y ys less =
+      let no : eqb (key x) (key y) ≡ false = grind (arith, nat_tests) in
+      let none : ltb (key x) (key y) ≡ false = grind (arith, nat_tests) in
+      ap (λ c. cond c (x ∷ ys) (cond (ltb (key x) (key y)) (x ∷ y ∷ ys) (y ∷ put_by key x ys))) no
+      ∙ ap (λ c. cond c (x ∷ y ∷ ys) (y ∷ put_by key x ys)) none

@@ -70,7 +70,7 @@ placed_window f name w names windows n (q ∷ qs) =
     ∙ sym (ap (λ m. (record { name = m; place = n; window = (f q).window }) ∷ rest) (names q) ∙ ap (λ w. (record { name = q.name; place = n; window = w }) ∷ rest) (windows q))
 
 -- an edit that leaves what stands of each queue
-queues_stay : (f : QueueRows → QueueRows) → ((q : QueueRows) → (f q).name ≡ q.name) → ((q : QueueRows) → (f q).window ≡ q.window) → ((q : QueueRows) → (f q).items ≡ q.items)
+pub queues_stay : (f : QueueRows → QueueRows) → ((q : QueueRows) → (f q).name ≡ q.name) → ((q : QueueRows) → (f q).window ≡ q.window) → ((q : QueueRows) → (f q).items ≡ q.items)
     → ((q : QueueRows) → (f q).landings ≡ q.landings) → ((q : QueueRows) → (f q).reports ≡ q.reports)
     → (queues : List QueueRow) (items : List ItemRow) (landings : List QueueLanding) (reports : List QueueReport) (told : List QueueRows)
     → TellsQueues queues items landings reports told → TellsQueues queues items landings reports (map f told)
