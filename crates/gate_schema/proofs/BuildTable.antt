@@ -1,10 +1,9 @@
 -- The builds: what each statement on them means, and what it makes of what the tables hold.
-use Rattle.std.proofs.Common.{◌≡◌, ◌≤◌, ℕ, pos, List, [], ◌∷◌, ◌++◌, map, drop, filter, length, Bool, true, false, not, cond, ◌&&◌, Ok, codes, refl, sym, ap, subst, ◌∙◌, arith, eqb}
-use Rattle.std.specs.Prelude.{bytes_eq}
+use Rattle.std.proofs.Common.{◌≡◌, ◌≤◌, ℕ, pos, List, [], ◌∷◌, map, filter, length, false, not, Ok, codes, refl, sym, ap, subst, ◌∙◌, arith, eqb}
 use Rattle.std.proofs.lemmas.List.{length-map}
 use Rattle.sqlite.specs.Cast.{cast_row}
 use Rattle.sqlite.specs.Command.TheVariants.{Insert, Delete, Update}
-use Rattle.sqlite.specs.Edit.{edit_of, edited, with_rowid, next_rowid}
+use Rattle.sqlite.specs.Edit.{edit_of, edited, with_rowid}
 use Rattle.sqlite.specs.Listing.{understood}
 use Rattle.sqlite.specs.Order.{Row}
 use Rattle.sqlite.specs.Program.{overlay}
@@ -13,8 +12,7 @@ use Rattle.sqlite.specs.Rowids.TheVariants.{Chosen}
 use Rattle.sqlite.specs.Source.TheVariants.{Values}
 use Rattle.sqlite.specs.State.{State, ExecutesInside}
 use Rattle.sqlite.specs.Term.{Term, lit, col}
-use Rattle.sqlite.specs.Tree.{Trees}
-use Rattle.sqlite.specs.declared.types.Value.TheVariants.{Null, Int, Text as Words, Blob as Octets}
+use Rattle.sqlite.specs.declared.types.Value.TheVariants.{Null, Int, Text as Words}
 use Rattle.sqlite.proofs.Callers.{runs_as, statement_of}
 use Rattle.sqlite_schema.specs.declared.program.Program.{Program}
 use Rattle.sqlite_keyed.specs.Keyed.{IsKeyedBy, insert_by}

@@ -4,15 +4,15 @@ use Rattle.std.specs.List.{AllByRecursion}
 use Rattle.std.specs.Ordering.{match_ordering, ordering_reverse}
 use Rattle.std.proofs.lemmas.Cmp.{tied_itself}
 use Rattle.sqlite.specs.Order.{Row, value_cmp}
-use Rattle.sqlite.specs.declared.types.Value.TheVariants.{Null, Int}
+use Rattle.sqlite.specs.declared.types.Value.TheVariants.{Int}
 use Rattle.sqlite.specs.Edit.{id_in, put_all, without_all}
-use Rattle.sqlite_trees.specs.Tree.{IsTable, rowid, put_row, without_rowid, has_rowid}
+use Rattle.sqlite_trees.specs.Tree.{rowid, put_row, without_rowid, has_rowid}
 use Rattle.sqlite_trees.specs.View.{is_int}
 use Rattle.sqlite_value.proofs.OrderLemmas.{value_cmp_total, value_cmp-Int}
-use Rattle.sqlite_keyed.specs.Keyed.{IsKeyedBy, insert_by}
+use Rattle.sqlite_keyed.specs.Keyed.{insert_by}
 use Rattle.sqlite_keyed.proofs.KeyedLemmas.{Less-from_lt, IsKeyedBy-insert_by}
-use Rattle.sqlite_keyed.proofs.ListLemmas.{ascending-map, ascending_weaker, ascending-filter, ascending_from_map, filter-map, filter_same, map-map, map_same, all_map}
-use Rattle.gate_schema.specs.Rows.{IsNumbered, IsKeyed, IsListed}
+use Rattle.sqlite_keyed.proofs.ListLemmas.{ascending-map, ascending_weaker, ascending-filter, filter-map, filter_same, map-map, map_same}
+use Rattle.gate_schema.specs.Rows.{IsNumbered, IsKeyed}
 use Rattle.gate_schema.proofs.DeleteLemmas.{is_its}
 
 abbrev pub changed : {X : Type 0} → (X → Bool) → (X → X) → List X → List X

@@ -1,9 +1,7 @@
 -- The needs: what each statement on them means, and what it makes of what the tables hold.
-use Rattle.std.proofs.Common.{◌≡◌, ◌≤◌, ℕ, pos, List, [], ◌∷◌, ◌++◌, map, drop, filter, length, Bool, true, false, not, cond, ◌&&◌, Ok, codes, refl, sym, ap, subst, ◌∙◌, arith, eqb}
-use Rattle.std.specs.Prelude.{bytes_eq}
-use Rattle.std.proofs.lemmas.List.{length-map}
+use Rattle.std.proofs.Common.{◌≡◌, ℕ, pos, List, [], ◌∷◌, ◌++◌, drop, filter, not, Ok, codes, refl, sym, ap, subst, ◌∙◌, eqb}
 use Rattle.sqlite.specs.Cast.{cast_row}
-use Rattle.sqlite.specs.Command.TheVariants.{Insert, Delete, Update}
+use Rattle.sqlite.specs.Command.TheVariants.{Insert, Delete}
 use Rattle.sqlite.specs.Edit.{edit_of, edited, with_rowid, next_rowid}
 use Rattle.sqlite.specs.Listing.{understood}
 use Rattle.sqlite.specs.Order.{Row}
@@ -13,16 +11,12 @@ use Rattle.sqlite.specs.Rowids.TheVariants.{Chosen}
 use Rattle.sqlite.specs.Source.TheVariants.{Values}
 use Rattle.sqlite.specs.State.{State, ExecutesInside}
 use Rattle.sqlite.specs.Term.{Term, lit, col}
-use Rattle.sqlite.specs.Tree.{Trees}
-use Rattle.sqlite.specs.declared.types.Value.TheVariants.{Null, Int, Text as Words, Blob as Octets}
+use Rattle.sqlite.specs.declared.types.Value.TheVariants.{Null, Int}
 use Rattle.sqlite.proofs.Callers.{runs_as, statement_of}
 use Rattle.sqlite_schema.specs.declared.program.Program.{Program}
-use Rattle.sqlite_keyed.specs.Keyed.{IsKeyedBy, insert_by}
-use Rattle.sqlite_keyed.proofs.ListLemmas.{filter-map, filter_same}
-use Rattle.sqlite_keyed.proofs.RuleLemmas.{at_most_one}
 use Rattle.sqlite_tied.proofs.RuleLemmas.{and_true}
 use Rattle.sqlite_tied.specs.Compute.{everything}
-use Rattle.sqlite_trees.specs.Tree.{rowid, put_row}
+use Rattle.sqlite_trees.specs.Tree.{put_row}
 use Rattle.gate_schema.specs.Edits.{add_needs, drop_needs}
 use Rattle.gate_schema.specs.Rows.{NeedRow, IsReady, Changes, IsListed, need_columns}
 use Rattle.gate_schema.specs.Schema.{gate_schema, need_at}

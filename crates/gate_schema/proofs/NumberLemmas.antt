@@ -1,10 +1,10 @@
 -- A row whose rowid SQLite chooses goes to the end.
-use Rattle.std.proofs.Common.{◌≡◌, ℕ, ℤ, pos, ◌+ℤ◌, ◌<ℤ◌, List, [], ◌∷◌, ◌++◌, map, drop, Bool, true, false, IsTrue, refl, sym, ap, subst, ◌∙◌, arith, Ordering, Less, Equal, Greater, int_cmp}
+use Rattle.std.proofs.Common.{◌≡◌, ℤ, pos, ◌+ℤ◌, ◌<ℤ◌, List, [], ◌∷◌, ◌++◌, IsTrue, refl, sym, ap, ◌∙◌, arith, Less}
 use Rattle.std.specs.List.{AllByRecursion, fold}
 use Rattle.std.proofs.lemmas.Int.{ints}
 use Rattle.sqlite.specs.Order.{Row, value_cmp}
-use Rattle.sqlite.specs.declared.types.Value.TheVariants.{Null, Int}
-use Rattle.sqlite_trees.specs.Tree.{IsAscending, rowid, put_row}
+use Rattle.sqlite.specs.declared.types.Value.TheVariants.{Int}
+use Rattle.sqlite_trees.specs.Tree.{rowid, put_row}
 use Rattle.sqlite_trees.specs.View.{is_int}
 use Rattle.sqlite.specs.Edit.{id_in, next_rowid}
 use Rattle.sqlite_value.proofs.OrderLemmas.{value_cmp-Int}

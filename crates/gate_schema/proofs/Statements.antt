@@ -1,5 +1,5 @@
 -- When a text is a statement, and the pieces that the gate's statements share.
-use Rattle.std.proofs.Common.{◌≡◌, ℕ, List, [], ◌∷◌, pos, negsuc, false}
+use Rattle.std.proofs.Common.{◌≡◌, ℕ, List, [], negsuc, false}
 use Rattle.sqlite.specs.Collation.TheVariants.{Binary}
 use Rattle.sqlite.specs.Command.{Command}
 use Rattle.sqlite.specs.Command.TheVariants.{Select}

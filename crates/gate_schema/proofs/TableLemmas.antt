@@ -1,14 +1,12 @@
 -- Lists of records beside the rows of a table.
-use Rattle.std.proofs.Common.{◌≡◌, ◌≢◌, ◌≤◌, ℕ, ℤ, pos, List, [], ◌∷◌, ◌++◌, map, drop, filter, length, Bool, true, false, not, cond, IsTrue, Ok, refl, sym, ap, subst, ◌∙◌, arith, eqb, true≢false, is_eq, Ordering, Less, Equal, Greater, int_cmp}
-use Rattle.std.specs.List.{AllByRecursion}
+use Rattle.std.proofs.Common.{◌≡◌, ◌≢◌, ℕ, List, [], ◌∷◌, ◌++◌, map, drop, false, IsTrue, refl, sym, ap, subst, ◌∙◌, arith, eqb}
 use Rattle.std.proofs.lemmas.Bool.Decides.{nat_tests}
-use Rattle.sqlite.specs.Order.{Row, value_cmp}
-use Rattle.sqlite.specs.declared.types.Value.TheVariants.{Null, Int}
+use Rattle.sqlite.specs.Order.{Row}
+use Rattle.sqlite.specs.declared.types.Value.TheVariants.{Int}
 use Rattle.sqlite.specs.Tree.{Trees}
 use Rattle.sqlite.specs.State.{State}
-use Rattle.sqlite.specs.Edit.{Edit, id_in, next_rowid, numbered}
-use Rattle.sqlite.specs.Rowids.TheVariants.{Chosen}
-use Rattle.sqlite_trees.specs.Tree.{IsTable, rowid, put_row, without_rowid, has_rowid}
+use Rattle.sqlite.specs.Edit.{Edit, next_rowid, numbered}
+use Rattle.sqlite_trees.specs.Tree.{rowid, put_row}
 use Rattle.sqlite_trees.specs.Objects.{catalog_tree}
 use Rattle.sqlite_trees.specs.View.{is_int}
 use Rattle.sqlite_trees.proofs.TreeLemmas.{IsTable-put_row, all-put_row}

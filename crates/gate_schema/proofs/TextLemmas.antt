@@ -1,5 +1,5 @@
 -- The texts of the schema lead from nothing to it.
-use Rattle.std.proofs.Common.{◌≡◌, Ok, refl, codes, [], ◌∷◌, List, ℕ, inl, inr}
+use Rattle.std.proofs.Common.{refl, codes, [], ◌∷◌, inl, inr}
 use Rattle.sqlite.specs.Listing.{understood}
 use Rattle.sqlite_tied.specs.Compute.{everything}
 use Rattle.gate_schema.specs.Made.{MakesTableOf, MakesIndexOf, Leads}

@@ -4,7 +4,6 @@ use Rattle.sqlite_keyed.specs.Keyed.{insert_by}
 use Rattle.gate_types.specs.Names.{same_name}
 use Rattle.gate_types.specs.Rebase.{with_live}
 use Rattle.gate_types.specs.Rows.{with_outcome, change_build}
-use Rattle.gate_types.specs.State.{put_by}
 use Rattle.gate_types.specs.Tables.{set_counter}
 use Rattle.gate_types.specs.declared.edits.Counter.{Counter}
 use Rattle.gate_types.specs.declared.edits.Edit.{Edit}
