@@ -1,0 +1,86 @@
+-- A body that is asked for is within the limit.
+use Rattle.std.proofs.Common.{◌≡◌, ℕ, ◌<◌, ◌≤◌, Bool, true, false, cond, ltb, List, [], ◌∷◌, Option, Some, None, map, subst, sym, refl}
+use Rattle.std.specs.Prelude.{⊤, codes}
+use Rattle.std.specs.List.{count_by}
+use Rattle.std.specs.Str.{bytes_eq}
+use Rattle.std.specs.Str.Parse.{digits_value}
+use Rattle.std.proofs.lemmas.Bool.{ltb-false}
+use Rattle.httparse.specs.Grammar.{RequestHead}
+use Rattle.httparse.specs.Spans.{name_and_value}
+use Rattle.gate_http.specs.declared.fields.BodyLength.{BodyLength}
+use Rattle.gate_http.specs.declared.fields.BodyLength.TheVariants as body
+use Rattle.gate_http.specs.declared.fault.Fault.TheVariants as fault
+use Rattle.gate_http.specs.declared.routes.Route.{Route}
+use Rattle.gate_http.specs.declared.routes.Route.TheVariants as route
+use Rattle.gate_wire.specs.declared.door.Door.{Door}
+use Rattle.gate_wire.specs.declared.door.Door.TheVariants as door
+use Rattle.gate_http.specs.Digits.{are_digits}
+use Rattle.gate_http.specs.Fields.{Pair, length_within, length_said, length_in, length_unless, length_of, named as named_of}
+use Rattle.gate_http.specs.Routes.{route_of, path_of}
+use Rattle.gate_http.specs.Way.{Decided, refused, posted, shown, named, posted_of, by_post, by_get, on_route, decided_of, decided, is_head}
+
+abbrev pub FitsBody : BodyLength → Type 0
+FitsBody body.Missing = ⊤
+FitsBody body.Bad = ⊤
+FitsBody body.Long = ⊤
+FitsBody (body.Bytes n) = n ≤ 65536
+
+abbrev pub IsBounded : Decided → Type 0
+IsBounded (refused f b) = ⊤
+IsBounded (posted d n) = n ≤ 65536
+IsBounded (shown p) = ⊤
+IsBounded (named id) = ⊤
+
+fits_either : (t : Bool) (n : ℕ) → ltb 65536 n ≡ t → FitsBody (cond t body.Long (body.Bytes n))
+fits_either true n e = tt
+fits_either false n e = ltb-false 65536 n e
+
+fits_within : (n : ℕ) → FitsBody (length_within n)
+fits_within n = fits_either (ltb 65536 n) n refl
+
+fits_cond : (t : Bool) (a b : BodyLength) → FitsBody a → FitsBody b → FitsBody (cond t a b)
+fits_cond true a b h k = h
+fits_cond false a b h k = k
+
+fits_in : (fields : List Pair) → FitsBody (length_in fields)
+fits_in [] = tt
+fits_in (f ∷ []) = fits_cond (are_digits f.1) (length_within (digits_value 10 f.1)) body.Bad (fits_within (digits_value 10 f.1)) tt
+fits_in (f ∷ g ∷ more) = tt
+
+fits_unless : (encodings lengths : List Pair) → FitsBody (length_unless encodings lengths)
+fits_unless [] lengths = fits_in lengths
+fits_unless (e ∷ es) lengths = tt
+
+bounded_post : (d : Door) (l : BodyLength) → FitsBody l → IsBounded (posted_of d l)
+bounded_post d body.Missing h = tt
+bounded_post d body.Bad h = tt
+bounded_post d body.Long h = tt
+bounded_post d (body.Bytes n) h = h
+
+bounded_cond : (t : Bool) (a b : Decided) → IsBounded a → IsBounded b → IsBounded (cond t a b)
+bounded_cond true a b h k = h
+bounded_cond false a b h k = k
+
+bounded_by_post : (h : RequestHead) (d : Door) → IsBounded (by_post h d)
+bounded_by_post h d = bounded_cond _ (posted_of d (length_of (map name_and_value h.fields))) (refused fault.NotPost (is_head h)) (bounded_post d (length_of (map name_and_value h.fields)) (fits_unless (named_of (codes "transfer-encoding") (map name_and_value h.fields)) (named_of (codes "content-length") (map name_and_value h.fields)))) tt
+
+bounded_by_get : (h : RequestHead) (d : Decided) → IsBounded d → IsBounded (by_get h d)
+bounded_by_get h d k = bounded_cond _ d (refused fault.NotGet (is_head h)) k tt
+
+bounded_route : (h : RequestHead) (path : List ℕ) (r : Option Route) → IsBounded (on_route h path r)
+bounded_route h path None = tt
+bounded_route h path (Some route.Forge) = bounded_by_post h door.Forge
+bounded_route h path (Some route.Worker) = bounded_by_post h door.Worker
+bounded_route h path (Some route.Status) = bounded_by_get h _ tt
+bounded_route h path (Some route.Orders) = bounded_by_get h _ tt
+bounded_route h path (Some route.Builds) = bounded_by_get h _ tt
+
+bounded_of : (found : Option RequestHead) → IsBounded (decided_of found)
+bounded_of None = tt
+bounded_of (Some h) = bounded_route h (path_of h.target) (route_of (path_of h.target))
+
+pub bounded : (head : List ℕ) (found : Option RequestHead) → IsBounded (decided head found)
+bounded head found = bounded_cond _ (refused fault.HeadTooLarge false) (decided_of found) tt (bounded_of found)
+
+pub posted_within : (head : List ℕ) (found : Option RequestHead) (d : Door) (n : ℕ) → posted d n ≡ decided head found → n ≤ 65536
+posted_within head found d n e = subst IsBounded (sym e) (bounded head found)

@@ -1,0 +1,10 @@
+mod HeadLemmas
+mod DigitLemmas
+mod FieldLemmas
+mod RouteLemmas
+mod RequestLemmas
+mod BoundLemmas
+mod ResponseLemmas
+mod ExchangeLemmas
+mod WriteLemmas
+mod LawLemmas

@@ -1,0 +1,17 @@
+-- What is read so far has no head in it, and is all that was taken.
+use Rattle.std.proofs.Common.{◌≡◌, ◌≤◌, false, length, vec_len, vec_capacity, ◌-◌}
+use Rattle.std.specs.Io.KnownBytes.{Consumes}
+use Rattle.gate_http.proofs.HeadLemmas.{IsOpen}
+use Rattle.gate_http.proofs.head.read_head.Given as goal
+
+abbrev pub invariant-loop-byte : goal.invariant-loop-byte
+invariant-loop-byte g l = record {
+  unfailed : l.reader.failed ≡ false;
+  read : Consumes (g.R.Read.remaining l.fn.reader.inner) (g.R.Read.remaining l.reader.inner) l.head.items;
+  no_head : IsOpen l.head.items;
+  within : vec_len l.head ≤ 8192;
+  room : 8192 ≤ vec_capacity l.head;
+}
+
+abbrev pub decreases-loop-byte : goal.decreases-loop-byte
+decreases-loop-byte g l = 8192 - vec_len l.head

@@ -1,0 +1,87 @@
+-- Laws of the definitions, and examples.
+use Rattle.std.specs.Prelude.{ℕ, ◌≡◌, ◌≤◌, ◌==◌, List, [], ◌∷◌, ◌++◌, length, count_by, Option, Some, None, true, false, codes}
+use Rattle.httparse.specs.Grammar.{RequestHead, ReadsRequest, crlf, lf}
+use Rattle.gate_http.specs.declared.fault.Fault.TheVariants as fault
+use Rattle.gate_wire.specs.declared.door.Door.TheVariants as door
+use Rattle.gate_http.specs.declared.respond.Page.TheVariants as pages
+use Rattle.gate_http.specs.declared.routes.Route.TheVariants as route
+use Rattle.gate_http.specs.Asked.{page, delivery}
+use Rattle.gate_http.specs.Head.{Front, front_of, whole}
+use Rattle.gate_http.specs.Routes.{route_of, path_of}
+use Rattle.gate_http.specs.Way.{FindsIn, Finds, way, silence, question, refusal, taken}
+use Rattle.gate_http.specs.Response.{fault_response}
+
+-- two request heads that are found are one
+abbrev pub FoundOnce : Front → Option RequestHead → Option RequestHead → Type 0
+FoundOnce front a b = FindsIn front a → FindsIn front b → a ≡ b
+
+-- of 66 lines, one is the request line and one is empty
+abbrev pub FewLinesFit : List ℕ → RequestHead → List ℕ → Type 0
+FewLinesFit head h rest = ReadsRequest head h rest → count_by (λ b. b == 10) head ≤ 66 → length h.fields ≤ 64
+
+-- nothing is said to an empty input alone
+abbrev pub SilenceIsForNothing : List ℕ → Option RequestHead → Type 0
+SilenceIsForNothing input found = way input found ≡ silence → input ≡ []
+
+abbrev pub PathsHaveRoutes : Type 0
+PathsHaveRoutes =
+    (route_of (codes "/forge") ≡ Some route.Forge)
+    × (route_of (codes "/worker") ≡ Some route.Worker)
+    × (route_of (path_of (codes "/status?x")) ≡ Some route.Status)
+    × (route_of (codes "/orders") ≡ Some route.Orders)
+    × (route_of (codes "/builds/3") ≡ Some route.Builds)
+    × (route_of (codes "/builds/") ≡ None)
+    × (route_of (codes "/builds/3/") ≡ None)
+    × (route_of (codes "/nowhere") ≡ None)
+
+abbrev pub example_head : List ℕ
+example_head = codes "GET /status HTTP/1.1\r\n\n"
+
+abbrev pub example_request : RequestHead
+example_request = record {
+  blank = [];
+  method = codes "GET";
+  target = codes "/status";
+  minor = 1;
+  line_end = crlf;
+  fields = [];
+  last = lf;
+}
+
+-- the head is found, it asks for the status page, and what follows is left
+abbrev pub ExampleIsRead : Type 0
+ExampleIsRead =
+    (front_of (example_head ++ codes "rest") ≡ whole example_head (codes "rest"))
+    × Finds example_head (Some example_request)
+    × (way (example_head ++ codes "rest") (Some example_request) ≡ question (page pages.Status))
+    × (taken (example_head ++ codes "rest") (Some example_request) ≡ example_head)
+
+abbrev pub posted_head : List ℕ
+posted_head = codes "POST /forge HTTP/1.1\ncontent-length:\t02 \n\n"
+
+abbrev pub posted_request : RequestHead
+posted_request = record {
+  blank = [];
+  method = codes "POST";
+  target = codes "/forge";
+  minor = 1;
+  line_end = lf;
+  fields = record { name = codes "content-length"; raw = codes "\t02 "; end = lf } ∷ [];
+  last = lf;
+}
+
+-- the length is read, and what follows the body is left; a body that is too short is cut
+abbrev pub PostIsRead : Type 0
+PostIsRead =
+    Finds posted_head (Some posted_request)
+    × (way (posted_head ++ codes "{}rest") (Some posted_request) ≡ question (delivery door.Forge (codes "{}")))
+    × (taken (posted_head ++ codes "{}rest") (Some posted_request) ≡ posted_head ++ codes "{}")
+    × (way (posted_head ++ codes "{") (Some posted_request) ≡ refusal fault.Cut false)
+
+abbrev pub ExampleIsAnswered : Type 0
+ExampleIsAnswered =
+    (fault_response fault.Cut false ≡ codes "HTTP/1.1 400 Bad Request\r\n"
+    ++ codes "Content-Type: application/json\r\nContent-Length: 15\r\nConnection: close\r\n\r\n"
+    ++ codes "{\"error\":\"cut\"}")
+    × (fault_response fault.NotGet true ≡ codes "HTTP/1.1 405 Method Not Allowed\r\n"
+    ++ codes "Content-Type: application/json\r\nContent-Length: 18\r\nAllow: GET\r\nConnection: close\r\n\r\n")

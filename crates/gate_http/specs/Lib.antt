@@ -1,0 +1,11 @@
+pub mod Head
+pub mod Digits
+pub mod Fields
+pub mod Routes
+pub mod Faults
+pub mod Asked
+pub mod Way
+pub mod Response
+pub mod Exchange
+pub mod Parts
+pub mod Laws

@@ -1,0 +1,134 @@
+-- What becomes of an input.
+use Rattle.std.specs.Prelude.{ℕ, ◌≡◌, ◌≤◌, Bool, false, List, [], ◌++◌, length, map, take, drop, count_by, Option, Some, None, nat_lt, ◌==◌, if◌then◌else◌, codes}
+use Rattle.std.specs.Str.{bytes_eq}
+use Rattle.httparse.specs.Grammar.{RequestHead, ReadsRequest}
+use Rattle.httparse.specs.Spans.{name_and_value}
+use Rattle.gate_http.specs.declared.fault.Fault.{Fault}
+use Rattle.gate_http.specs.declared.fault.Fault.TheVariants as fault
+use Rattle.gate_wire.specs.declared.door.Door.{Door}
+use Rattle.gate_wire.specs.declared.door.Door.TheVariants as door
+use Rattle.gate_http.specs.declared.respond.Page.{Page}
+use Rattle.gate_http.specs.declared.respond.Page.TheVariants as pages
+use Rattle.gate_http.specs.declared.routes.Route.{Route}
+use Rattle.gate_http.specs.declared.routes.Route.TheVariants as route
+use Rattle.gate_http.specs.declared.fields.BodyLength.{BodyLength}
+use Rattle.gate_http.specs.declared.fields.BodyLength.TheVariants as body
+use Rattle.gate_http.specs.Asked.{Asked, delivery, page, build}
+use Rattle.gate_http.specs.Head.{Front, empty, cut, too_large, whole, front_of, head_limit}
+use Rattle.gate_http.specs.Fields.{length_of}
+use Rattle.gate_http.specs.Routes.{route_of, path_of}
+
+-- the bytes are a request head of at most 64 fields
+abbrev pub IsRequest : List ℕ → RequestHead → Type 0
+IsRequest head h = (rest : List ℕ) × ReadsRequest head h rest × (length h.fields ≤ 64)
+
+-- the request head that the bytes are, if they are one: there is never more than one
+abbrev pub Finds : List ℕ → Option RequestHead → Type 0
+Finds head None = (h : RequestHead) → IsRequest head h → ⊥
+Finds head (Some h) = IsRequest head h
+
+-- what a head asks for: an answer of HTTP's own, maybe without its body; a delivery of so many bytes; a page; a build
+pub data Decided : Type 0 where
+  refused : Fault → Bool → Decided
+  posted : Door → ℕ → Decided
+  shown : Page → Decided
+  named : List ℕ → Decided
+
+abbrev pub is_head : RequestHead → Bool
+is_head h = bytes_eq h.method (codes "HEAD")
+
+-- a delivery, by what its length is
+abbrev pub posted_of : Door → BodyLength → Decided
+posted_of d body.Missing = refused fault.NoLength false
+posted_of d body.Bad = refused fault.BadRequest false
+posted_of d body.Long = refused fault.TooLarge false
+posted_of d (body.Bytes n) = posted d n
+
+-- a delivery, if the method is POST
+abbrev pub by_post : RequestHead → Door → Decided
+by_post h d =
+    if bytes_eq h.method (codes "POST") then posted_of d (length_of (map name_and_value h.fields))
+    else refused fault.NotPost (is_head h)
+
+-- this, if the method is GET
+abbrev pub by_get : RequestHead → Decided → Decided
+by_get h d = if bytes_eq h.method (codes "GET") then d else refused fault.NotGet (is_head h)
+
+abbrev pub on_route : RequestHead → List ℕ → Option Route → Decided
+on_route h path None = refused fault.NoRoute (is_head h)
+on_route h path (Some route.Forge) = by_post h door.Forge
+on_route h path (Some route.Worker) = by_post h door.Worker
+on_route h path (Some route.Status) = by_get h (shown pages.Status)
+on_route h path (Some route.Orders) = by_get h (shown pages.Orders)
+on_route h path (Some route.Builds) = by_get h (named (drop 8 path))
+
+-- a request
+abbrev pub decided_of : Option RequestHead → Decided
+decided_of None = refused fault.BadRequest false
+decided_of (Some h) = on_route h (path_of h.target) (route_of (path_of h.target))
+
+-- a head: it may have 66 lines
+abbrev pub decided : List ℕ → Option RequestHead → Decided
+decided head found =
+    if nat_lt 66 (count_by (λ b. b == 10) head) then refused fault.HeadTooLarge false else decided_of found
+
+-- what becomes of an input: nothing, an answer of HTTP's own, or a question to the gate
+pub data Way : Type 0 where
+  silence : Way
+  refusal : Fault → Bool → Way
+  question : Asked → Way
+
+-- by what the head asks for, and the bytes behind it
+abbrev pub way_on : List ℕ → Decided → Way
+way_on rest (refused f bodiless) = refusal f bodiless
+way_on rest (posted d n) =
+    if nat_lt (length rest) n then refusal fault.Cut false else question (delivery d (take n rest))
+way_on rest (shown p) = question (page p)
+way_on rest (named id) = question (build id)
+
+abbrev pub way_from : Front → Option RequestHead → Way
+way_from empty found = silence
+way_from cut found = refusal fault.Cut false
+way_from too_large found = refusal fault.HeadTooLarge false
+way_from (whole head rest) found = way_on rest (decided head found)
+
+abbrev pub way : List ℕ → Option RequestHead → Way
+way input found = way_from (front_of input) found
+
+-- the bytes behind the head that are read
+abbrev pub body_on : List ℕ → Decided → List ℕ
+body_on rest (refused f bodiless) = []
+body_on rest (posted d n) = take n rest
+body_on rest (shown p) = []
+body_on rest (named id) = []
+
+-- the bytes of an input that are read: no others are taken from the reader
+abbrev pub taken_from : List ℕ → Front → Option RequestHead → List ℕ
+taken_from input empty found = []
+taken_from input cut found = input
+taken_from input too_large found = take head_limit input
+taken_from input (whole head rest) found = head ++ body_on rest (decided head found)
+
+abbrev pub taken : List ℕ → Option RequestHead → List ℕ
+taken input found = taken_from input (front_of input) found
+
+-- the request head of an input's head, where it has one
+abbrev pub FindsIn : Front → Option RequestHead → Type 0
+FindsIn empty found = found ≡ None
+FindsIn cut found = found ≡ None
+FindsIn too_large found = found ≡ None
+FindsIn (whole head rest) found = Finds head found
+
+-- an input, and the request head that its head is, if it is one
+pub record Request : Type 0 where
+  pub input : List ℕ
+  pub found : Option RequestHead
+  pub finds : FindsIn (front_of input) found
+
+-- what becomes of a request
+abbrev pub way_of : Request → Way
+way_of r = way r.input r.found
+
+-- the bytes of a request that are read
+abbrev pub taken_of : Request → List ℕ
+taken_of r = taken r.input r.found

@@ -1,0 +1,15 @@
+//! The gate over HTTP: one request of a connection is read, acted on, and answered. `docs/FORMATS.md` has the routes.
+#![tactic(auto)]
+
+mod body;
+mod digits;
+pub mod engine;
+pub mod fault;
+mod fields;
+mod head;
+pub mod laws;
+mod request;
+pub mod respond;
+mod response;
+mod routes;
+pub mod served;

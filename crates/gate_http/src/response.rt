@@ -1,0 +1,127 @@
+//! The text of a response, and its writing.
+ghost use Rattle.std.specs.Prelude.{◌≡◌, ◌≤◌, ◌+◌, ◌++◌, [], false, true, OnOk, OnErr, length, vec_len, vec_capacity};
+ghost use Rattle.gate_types.specs.Tap.{inside, has_failed, Took, TookFront};
+ghost use Rattle.gate_http.specs.Response.{phrase, line, status_line, head_text, allow_line};
+
+use crate::fault::Fault;
+use gate_types::tap::{Failed, Tap};
+use itoa::Buffer;
+use std::io::Write;
+
+/// The room that the head of a response needs at most.
+pub(crate) const HEAD_ROOM: usize = 256;
+
+/// The phrase of a status.
+fn phrase_of(status: u16) -> &'static str
+    ensures value { result.now ≡ phrase status }
+    ensures short { length result.now ≤ 31 }
+{
+    match status {
+        200 => "OK",
+        400 => "Bad Request",
+        404 => "Not Found",
+        405 => "Method Not Allowed",
+        409 => "Conflict",
+        411 => "Length Required",
+        413 => "Payload Too Large",
+        422 => "Unprocessable Entity",
+        431 => "Request Header Fields Too Large",
+        503 => "Service Unavailable",
+        507 => "Insufficient Storage",
+        _ => "",
+    }
+}
+
+/// The line of the method that a route takes.
+pub(crate) fn allow_of(fault: Fault) -> &'static str
+    ensures value { result.now ≡ allow_line fault }
+    ensures short { length result.now ≤ 13 }
+{
+    match fault {
+        Fault::NotPost => "Allow: POST\r\n",
+        Fault::NotGet => "Allow: GET\r\n",
+        _ => "",
+    }
+}
+
+/// Appends the text where there is room for it.
+fn put(room: &mut Vec<u8>, text: &str)
+    requires { vec_len room.old + length text.now ≤ vec_capacity room.old }
+    ensures items { room.new.items ≡ room.old.items ++ text.now }
+    ensures len { vec_len room.new ≡ vec_len room.old + length text.now }
+    ensures capacity { vec_capacity room.old ≤ vec_capacity room.new }
+{
+    room.extend_from_slice(text.as_bytes()).unwrap();
+}
+
+/// Appends the line of a status.
+fn put_status_line(room: &mut Vec<u8>, status: u16)
+    requires { vec_len room.old + 83 ≤ vec_capacity room.old }
+    ensures items { room.new.items ≡ room.old.items ++ status_line status }
+    ensures len { vec_len room.new ≤ vec_len room.old + 83 }
+    ensures capacity { vec_capacity room.old ≤ vec_capacity room.new }
+{
+    let mut digits = Buffer::new();
+    put(room, "HTTP/1.1 ");
+    put(room, digits.format(status));
+    put(room, " ");
+    put(room, phrase_of(status));
+    put(room, "\r\n");
+}
+
+/// Appends a line.
+fn put_line(room: &mut Vec<u8>, name: &str, value: &str)
+    requires { vec_len room.old + length name.now + length value.now + 2 ≤ vec_capacity room.old }
+    ensures items { room.new.items ≡ room.old.items ++ line name.now value.now }
+    ensures len { vec_len room.new ≡ vec_len room.old + length name.now + length value.now + 2 }
+    ensures capacity { vec_capacity room.old ≤ vec_capacity room.new }
+{
+    put(room, name);
+    put(room, value);
+    put(room, "\r\n");
+}
+
+/// The head of a response. It takes no memory but the room.
+fn put_head(room: &mut Vec<u8>, status: u16, kind: &str, len: usize, allow: &str)
+    requires empty { room.old.items ≡ [] }
+    requires room { 256 ≤ vec_capacity room.old }
+    requires kind { length kind.now ≤ 16 }
+    requires allow { length allow.now ≤ 13 }
+    ensures { room.new.items ≡ head_text status kind.now len allow.now }
+{
+    let mut digits = Buffer::new();
+    put_status_line(room, status);
+    put_line(room, "Content-Type: ", kind);
+    put_line(room, "Content-Length: ", digits.format(len));
+    put(room, allow);
+    put(room, "Connection: close\r\n\r\n");
+}
+
+/// Writes a response: its head, which tells of a body of `len` bytes, and the body or nothing. The
+/// room is that for the head.
+pub(crate) fn write_response<W: Write>(
+    writer: &mut Tap<W>,
+    room: &mut Vec<u8>,
+    status: u16,
+    kind: &str,
+    len: usize,
+    allow: &str,
+    body: &str,
+) -> Result<(), Failed>
+    requires writer { has_failed writer.old ≡ false }
+    requires empty { room.old.items ≡ [] }
+    requires room { 256 ≤ vec_capacity room.old }
+    requires kind { length kind.now ≤ 16 }
+    requires allow { length allow.now ≤ 13 }
+    ensures ok { OnOk result
+        (Took W.contents writer.old writer.new (head_text status kind.now len allow.now ++ body.now)) }
+    ensures err { OnErr result
+        (TookFront W.contents writer.old writer.new (head_text status kind.now len allow.now ++ body.now)) }
+    ensures unfailed { OnOk result (has_failed writer.new ≡ false) }
+    ensures failed { OnErr result (has_failed writer.new ≡ true) }
+{
+    put_head(room, status, kind, len, allow);
+    writer.write_all(room.as_slice())?;
+    writer.write_all(body.as_bytes())?;
+    Ok(())
+}

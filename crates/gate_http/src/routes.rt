@@ -1,0 +1,51 @@
+//! The routes.
+ghost use Rattle.std.specs.Prelude.{◌≡◌, IfOk};
+ghost use Rattle.gate_http.specs.Routes.{routes, route_of, path_of};
+
+use matchit::{InsertError, Router};
+use std::alloc::Global;
+
+/// Where a path leads.
+#[derive(Clone, Copy)]
+pub(crate) enum Route {
+    Forge,
+    Worker,
+    Status,
+    Orders,
+    Builds,
+}
+
+/// The router of the routes.
+pub(crate) fn router(alloc: Global) -> Result<Router<Route>, InsertError>
+    ensures { IfOk result (λ r. r ≡ routes) }
+{
+    let mut router = Router::new(alloc);
+    router.insert("/forge", Route::Forge)?;
+    router.insert("/worker", Route::Worker)?;
+    router.insert("/status", Route::Status)?;
+    router.insert("/orders", Route::Orders)?;
+    router.insert("/builds/{id}", Route::Builds)?;
+    Ok(router)
+}
+
+/// The route of a path.
+#[tactic(auto, unfolding(crate::specs::Routes::route_of))]
+pub(crate) fn find_route(router: &Router<Route>, path: &str) -> Option<Route>
+    requires { router.now ≡ routes }
+    ensures { result ≡ route_of path.now }
+{
+    match router.at(path) {
+        Ok(found) => Some(*found.value),
+        Err(_) => None,
+    }
+}
+
+/// A target up to its first question mark.
+pub(crate) fn cut_query(target: &str) -> &str
+    ensures { result.now ≡ path_of target.now }
+{
+    match target.split_once('?') {
+        Some((path, _)) => path,
+        None => target,
+    }
+}
