@@ -7,4 +7,5 @@ mod BoundLemmas
 mod ResponseLemmas
 mod ExchangeLemmas
 mod WriteLemmas
+mod ServingLemmas
 mod LawLemmas

@@ -4,8 +4,8 @@ use Rattle.std.specs.Prelude.{IsErrOf}
 use Rattle.std.specs.Io.KnownBytes.{Appends}
 use Rattle.gate_types.specs.Tap.{WritesFront}
 use Rattle.gate_http.specs.declared.served.Served.{Served}
-use Rattle.gate_http.specs.declared.served.IoFault.{IoFault}
-use Rattle.gate_http.specs.declared.served.IoFault.TheVariants as io
+use Rattle.gate_core.specs.declared.fault.IoFault.{IoFault}
+use Rattle.gate_core.specs.declared.fault.IoFault.TheVariants as io
 use Rattle.gate_http.specs.Exchange.{Responding, Exchange}
 
 module _ {S : Type 0} (responds : Responding S) where

@@ -7,5 +7,7 @@ pub mod Asked
 pub mod Way
 pub mod Response
 pub mod Exchange
+pub mod Answer
+pub mod Serving
 pub mod Parts
 pub mod Laws

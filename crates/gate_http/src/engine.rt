@@ -14,7 +14,8 @@ use crate::request::{Decision, decide};
 use crate::respond::{Page, Respond, status_of, text_of};
 use crate::response::{HEAD_ROOM, allow_of, write_response};
 use crate::routes::{Route, router};
-use crate::served::{IoFault, Served};
+use crate::served::Served;
+use gate_core::fault::IoFault;
 use gate_types::deliveries::Answer;
 use gate_types::tap::Tap;
 use matchit::Router;
@@ -140,7 +141,7 @@ fn answer<G: Respond, R: Read, W: Write>(
         Decision::Refuse(fault, bodiless) => refuse(writer, room, fault, bodiless),
         Decision::Post(door, n) => match read_body(reader, body, n) {
             Ok(true) => {
-                let said = gate.deliver(alloc, door, body.as_slice());
+                let said = gate.hear(alloc, door, body.as_slice());
                 tell(writer, room, &said, false)
             }
             Ok(false) => refuse(writer, room, Fault::Cut, false),

@@ -44,7 +44,7 @@ pub trait Respond {
     ghost responds: { Self → Asked → Answer → Self → Type 0 };
 
     /// The answer to a delivery's bytes, by the door that they came in by.
-    fn deliver(&mut self, alloc: Global, door: Door, body: &[u8]) -> Answer
+    fn hear(&mut self, alloc: Global, door: Door, body: &[u8]) -> Answer
         requires { length body.now ≤ body_limit }
         ensures { responds self.old (delivery door body.now) result self.new };
 

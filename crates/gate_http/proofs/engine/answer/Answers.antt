@@ -74,22 +74,22 @@ returns-in-Refuse-clause-write g c =
 
 pub returns-in-Ok-true-clause-ok : goal.returns-in-Ok-true-clause-ok
 returns-in-Ok-true-clause-ok g c =
-    answers g.G.Respond.responds _ _ _ _ _ _ (Answered (answer_status c.deliver-said.result))
-    (answer_response false c.deliver-said.result) c.tell.result
-    (λ served e. exchange_posted g.G.Respond.responds _ _ _ _ _ served _ _ c.in-Post.door c.in-Post.n c.deliver-said.result
+    answers g.G.Respond.responds _ _ _ _ _ _ (Answered (answer_status c.hear-said.result))
+    (answer_response false c.hear-said.result) c.tell.result
+    (λ served e. exchange_posted g.G.Respond.responds _ _ _ _ _ served _ _ c.in-Post.door c.in-Post.n c.hear-said.result
     (rw c.in-Ok-Whole.field-0-is at c.in-Ok-Whole.ensures.ok)
     (rw c.as_slice.ensures.value at c.in-Post.ensures) (rw c.in-Ok-true.field-0-test at c.in-Ok-true.ensures.ok)
-    (rw c.as_slice-in-Ok-true.ensures.value at c.deliver-said.ensures) e)
+    (rw c.as_slice-in-Ok-true.ensures.value at c.hear-said.ensures) e)
     c.tell.ensures.ok
 
 pub returns-in-Ok-true-clause-write : goal.returns-in-Ok-true-clause-write
 returns-in-Ok-true-clause-write g c =
-    breaks g.G.Respond.responds _ _ _ _ _ _ (Answered (answer_status c.deliver-said.result))
-    (answer_response false c.deliver-said.result) c.tell.result
-    (λ served e. exchange_posted g.G.Respond.responds _ _ _ _ _ served _ _ c.in-Post.door c.in-Post.n c.deliver-said.result
+    breaks g.G.Respond.responds _ _ _ _ _ _ (Answered (answer_status c.hear-said.result))
+    (answer_response false c.hear-said.result) c.tell.result
+    (λ served e. exchange_posted g.G.Respond.responds _ _ _ _ _ served _ _ c.in-Post.door c.in-Post.n c.hear-said.result
     (rw c.in-Ok-Whole.field-0-is at c.in-Ok-Whole.ensures.ok)
     (rw c.as_slice.ensures.value at c.in-Post.ensures) (rw c.in-Ok-true.field-0-test at c.in-Ok-true.ensures.ok)
-    (rw c.as_slice-in-Ok-true.ensures.value at c.deliver-said.ensures) e)
+    (rw c.as_slice-in-Ok-true.ensures.value at c.hear-said.ensures) e)
     c.tell.ensures.err
 
 pub returns-in-Ok-false-clause-ok : goal.returns-in-Ok-false-clause-ok

@@ -1,0 +1,44 @@
+-- What serving a request comes to, by what a gate's book held.
+use Rattle.std.specs.Prelude.{ℕ, ◌≡◌, true, false, List, [], ◌∷◌, ◌++◌}
+use Rattle.gate_types.specs.declared.deliveries.Answer.{Answer}
+use Rattle.gate_types.specs.Settings.{Settings}
+use Rattle.gate_types.specs.Once.{Content, Call, acts, next_content, is_unavailable}
+use Rattle.gate_book.specs.Kept.{OfHeldUnder}
+use Rattle.gate_deliver.specs.Answered.{spared}
+use Rattle.gate_core.specs.declared.gate.Gate.{Gate}
+use Rattle.gate_core.specs.Held.{Goes}
+use Rattle.gate_http.specs.declared.served.Served.{Served}
+use Rattle.gate_http.specs.Asked.{Asked}
+use Rattle.gate_http.specs.Way.{Way}
+use Rattle.gate_http.specs.Answer.{Answers, answer_to, calls_asked, calls_of, gate_after, is_unavailable as is_503}
+
+-- what a crash leaves after a call: the content after it alone, after a first reply; what it could leave before, after a
+-- kept reply or a refusal; and after `unavailable` one content more: what the delivery would have given
+pub record Survives (c : Settings) (x : Content) (k : Call) (left leaves : List Content → Type 0) : Type 0 where
+  pub acted : acts c x k ≡ true → leaves (next_content c x k ∷ [])
+  pub stood : k.unavailable ≡ false → acts c x k ≡ false → (ys : List Content) → left ys → leaves ys
+  pub failed : k.unavailable ≡ true → (ys : List Content) → left ys → leaves (ys ++ spared c x k ∷ [])
+
+-- a crash after at most one call; where there is none, what it could leave before
+abbrev pub CrashLeaves : Settings → Content → List Call → (List Content → Type 0) → (List Content → Type 0) → Type 0
+CrashLeaves c x [] left leaves = (ys : List Content) → left ys → leaves ys
+CrashLeaves c x (k ∷ ks) left leaves = Survives c x k left leaves
+
+-- a gate was asked this and gave this answer: the answer and the content of the plain gate, and what a crash leaves
+pub record Responds {B : Type 0} (trusted : B → Type 0) (holds : B → Settings → Content → Type 0)
+    (leaves : B → Settings → List Content → Type 0) (old : Gate B) (asked : Asked) (a : Answer) (new : Gate B)
+    : Type 0 where
+  pub answers : Goes trusted holds old new (λ g after.
+      (a ≡ answer_to (is_unavailable a) g asked) × (after ≡ gate_after g (calls_asked (is_unavailable a) asked)))
+  pub crash : OfHeldUnder trusted holds old.book new.book old.config (λ x.
+      CrashLeaves old.config x (calls_asked (is_unavailable a) asked) (leaves old.book old.config)
+      (leaves new.book old.config))
+
+-- a request came to this text: the plain gate's answer and content, and what a crash leaves
+pub record Serves {B : Type 0} (trusted : B → Type 0) (holds : B → Settings → Content → Type 0)
+    (leaves : B → Settings → List Content → Type 0) (old new : Gate B) (w : Way) (served : Served) (text : List ℕ)
+    : Type 0 where
+  pub answers : Goes trusted holds old new (λ g after. Answers g w served text after)
+  pub crash : OfHeldUnder trusted holds old.book new.book old.config (λ x.
+      CrashLeaves old.config x (calls_of (is_503 served) w) (leaves old.book old.config)
+      (leaves new.book old.config))
