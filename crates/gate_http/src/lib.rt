@@ -4,6 +4,8 @@
 mod body;
 mod digits;
 pub mod engine;
+#[cfg(test)]
+mod fakes;
 pub mod fault;
 mod fields;
 mod gate;
@@ -16,3 +18,5 @@ mod response;
 mod routes;
 pub mod serve;
 pub mod served;
+#[cfg(test)]
+mod tests;
