@@ -1,0 +1,9 @@
+//! Requests to a gate over settings files: tests that cross crates.
+#![tactic(auto)]
+
+#[cfg(test)]
+mod gates;
+#[cfg(test)]
+mod requests;
+#[cfg(test)]
+mod streams;
