@@ -1,8 +1,6 @@
 -- A body that is asked for is within the limit.
-use Rattle.std.proofs.Common.{◌≡◌, ℕ, ◌<◌, ◌≤◌, Bool, true, false, cond, ltb, List, [], ◌∷◌, Option, Some, None, map, subst, sym, refl}
+use Rattle.std.proofs.Common.{◌≡◌, ℕ, ◌≤◌, Bool, true, false, cond, ltb, List, [], ◌∷◌, Option, Some, None, map, subst, sym, refl}
 use Rattle.std.specs.Prelude.{⊤, codes}
-use Rattle.std.specs.List.{count_by}
-use Rattle.std.specs.Str.{bytes_eq}
 use Rattle.std.specs.Str.Parse.{digits_value}
 use Rattle.std.proofs.lemmas.Bool.{ltb-false}
 use Rattle.httparse.specs.Grammar.{RequestHead}
@@ -15,7 +13,7 @@ use Rattle.gate_http.specs.declared.routes.Route.TheVariants as route
 use Rattle.gate_wire.specs.declared.door.Door.{Door}
 use Rattle.gate_wire.specs.declared.door.Door.TheVariants as door
 use Rattle.gate_http.specs.Digits.{are_digits}
-use Rattle.gate_http.specs.Fields.{Pair, length_within, length_said, length_in, length_unless, length_of, named as named_of}
+use Rattle.gate_http.specs.Fields.{Pair, length_within, length_in, length_unless, length_of, named as named_of}
 use Rattle.gate_http.specs.Routes.{route_of, path_of}
 use Rattle.gate_http.specs.Way.{Decided, refused, posted, shown, named, posted_of, by_post, by_get, on_route, decided_of, decided, is_head}
 

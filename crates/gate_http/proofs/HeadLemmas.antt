@@ -1,16 +1,15 @@
 -- How an input begins, byte by byte.
-use Rattle.std.proofs.Common.{◌≡◌, ℕ, ◌+◌, ◌-◌, ◌<◌, ◌≤◌, Bool, true, false, cond, ltb, List, [], ◌∷◌, ◌++◌, length, take, drop, get_or, Option, Some, None, arith, refl, sym, ap, subst, ◌∙◌, append_assoc, append-nil, length-append}
+use Rattle.std.proofs.Common.{◌≡◌, ℕ, ◌+◌, ◌-◌, ◌<◌, ◌≤◌, Bool, true, false, cond, List, [], ◌∷◌, ◌++◌, length, take, get_or, Option, Some, None, arith, refl, sym, ap, subst, ◌∙◌, append_assoc, append-nil, length-append}
 use Rattle.std.specs.Io.KnownBytes.{Consumes, IsAtEnd}
 use Rattle.std.proofs.Math.Seq.{take-append-add, drop-append_seam}
 use Rattle.std.proofs.lemmas.List.{take_all}
 use Rattle.std.proofs.lemmas.Bool.{le-ltb, lt-ltb}
-use Rattle.std.proofs.KnownBytes.{Consumes-trans, Consumes-kept}
-use Rattle.gate_http.specs.declared.fault.Fault.TheVariants as fault
+use Rattle.std.proofs.KnownBytes.{Consumes-trans}
 use Rattle.gate_http.specs.declared.head.Came.TheVariants as came
 use Rattle.gate_http.specs.Parts.{HeadComes}
 use Rattle.gate_http.specs.Exchange.{Waits, IsUnfinished}
 use Rattle.gate_http.specs.Way.{way, way_from, FindsIn}
-use Rattle.gate_http.specs.Head.{ends_head, head_from, front_of, front_with, front_without, Front, empty, cut, too_large, whole}
+use Rattle.gate_http.specs.Head.{ends_head, head_from, front_of, front_with, front_without, empty, cut, too_large, whole}
 
 -- no front of it ends in an empty line: whatever follows, the head ends later
 pub record IsOpen (begun : List ℕ) : Type 0 where

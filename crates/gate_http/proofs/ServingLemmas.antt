@@ -9,7 +9,7 @@ use Rattle.gate_types.specs.declared.deliveries.Answer.TheVariants.{Said, Refuse
 use Rattle.gate_types.specs.declared.deliveries.Refusal.{Refusal}
 use Rattle.gate_types.specs.declared.deliveries.Refusal.TheVariants as refusal
 use Rattle.gate_types.specs.Settings.{Settings}
-use Rattle.gate_types.specs.Once.{Content, Call, acts, next_content, answer_of, is_unavailable}
+use Rattle.gate_types.specs.Once.{Content, next_content, answer_of, is_unavailable}
 use Rattle.gate_types.specs.Forms.{IsLawfulContent}
 use Rattle.gate_types.specs.BuildText.{build_text}
 use Rattle.gate_types.specs.Step.{build_of}
@@ -28,7 +28,7 @@ use Rattle.gate_http.specs.Response.{answer_response}
 use Rattle.gate_http.specs.Way.{Way, silence, refusal as refusing, question}
 use Rattle.gate_http.specs.Exchange.{Meant}
 use Rattle.gate_http.specs.Answer.{build_number, answer_read, answer_found, answer_to, calls_asked, gate_after, calls_of, Answers, is_unavailable as is_503}
-use Rattle.gate_http.specs.Serving.{Survives, CrashLeaves, Responds, Serves}
+use Rattle.gate_http.specs.Serving.{CrashLeaves, Responds, Serves}
 
 -- an answer by its mark
 abbrev marked : Bool → Answer → Answer

@@ -1,5 +1,5 @@
 -- What the plain gate answers to a request, and the gate after it.
-use Rattle.std.specs.Prelude.{ℕ, ◌≡◌, Bool, true, false, ◌&&◌, not, nat_eq, nat_le, ◌==◌, if◌then◌else◌, List, [], codes, Option, Some, None, option_and_then, Result, Ok, Err}
+use Rattle.std.specs.Prelude.{ℕ, ◌≡◌, Bool, false, ◌&&◌, not, nat_eq, nat_le, ◌==◌, if◌then◌else◌, List, [], codes, Option, Some, None, option_and_then, Result, Ok, Err}
 use Rattle.std.specs.List.{starts_with}
 use Rattle.std.specs.Str.Parse.{digits_value}
 use Rattle.gate_types.specs.declared.records.Id.{Id}

@@ -1,5 +1,5 @@
 -- What is read so far is all that was taken.
-use Rattle.std.proofs.Common.{◌≡◌, ◌≤◌, false, length, vec_len, vec_capacity, ◌-◌}
+use Rattle.std.proofs.Common.{◌≡◌, ◌≤◌, false, vec_len, vec_capacity, ◌-◌}
 use Rattle.std.specs.Io.KnownBytes.{Consumes}
 use Rattle.gate_http.proofs.body.read_body.Given as goal
 

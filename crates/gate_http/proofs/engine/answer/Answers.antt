@@ -1,6 +1,6 @@
 -- Each response stands on what was read, on what was decided, and on what was written.
-use Rattle.std.proofs.Common.{[], true, false, refl, arith, ◌≤◌}
-use Rattle.std.proofs.KnownBytes.{Appends-nil, Consumes-kept}
+use Rattle.std.proofs.Common.{[], false, refl, arith, ◌≤◌}
+use Rattle.std.proofs.KnownBytes.{Appends-nil}
 use Rattle.gate_http.specs.declared.fault.Fault.TheVariants as fault
 use Rattle.gate_http.specs.declared.served.Served.TheVariants.{Answered}
 use Rattle.gate_http.specs.Faults.{fault_status}

@@ -1,5 +1,5 @@
 -- What is read so far has no head in it, and is all that was taken.
-use Rattle.std.proofs.Common.{◌≡◌, ◌≤◌, false, length, vec_len, vec_capacity, ◌-◌}
+use Rattle.std.proofs.Common.{◌≡◌, ◌≤◌, false, vec_len, vec_capacity, ◌-◌}
 use Rattle.std.specs.Io.KnownBytes.{Consumes}
 use Rattle.gate_http.proofs.HeadLemmas.{IsOpen}
 use Rattle.gate_http.proofs.head.read_head.Given as goal

@@ -1,4 +1,4 @@
-use Rattle.std.proofs.Common.{◌≡◌, ◌++◌, rules, arith, subst}
+use Rattle.std.proofs.Common.{◌≡◌, rules, arith, subst}
 use Rattle.gate_http.specs.Way.{way_of}
 use Rattle.gate_http.specs.Serving.{Serves}
 use Rattle.gate_http.proofs.memory.serve_bytes.Goals as goal

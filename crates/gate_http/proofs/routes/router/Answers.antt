@@ -1,6 +1,4 @@
-use Rattle.std.proofs.Common.{codes, refl}
-use Rattle.matchit.specs.Route.{parse_route}
-use Rattle.gate_http.specs.declared.routes.Route.TheVariants.{Forge, Worker, Status, Orders, Builds}
+use Rattle.std.proofs.Common.{refl}
 use Rattle.gate_http.specs.Routes.{routes, with_route}
 use Rattle.gate_http.proofs.RouteLemmas.{placed_read}
 use Rattle.gate_http.proofs.routes.router.Goals as goal
