@@ -43,12 +43,14 @@ placed n (q ∷ qs) = (record { name = q.name; place = n; window = q.window }) �
 
 -- the needs of a change; none where it isn't known
 abbrev pub needs_in : List ChangeRow → ℕ → List ℕ
-needs_in rows n = option_map_or (λ (r : ChangeRow). r.change.needs) (find (λ (r : ChangeRow). r.change.number == n) rows) []
+needs_in rows n =
+    option_map_or (λ (r : ChangeRow). r.change.needs) (find (λ (r : ChangeRow). r.change.number == n) rows) []
 
 -- ---- all of it
 
 -- what stands of the queues: each by its place, its items in order, its landings and reports in any order
-pub record TellsQueues (queues : List QueueRow) (items : List ItemRow) (landings : List QueueLanding) (reports : List QueueReport) (told : List QueueRows) : Type 0 where
+pub record TellsQueues (queues : List QueueRow) (items : List ItemRow) (landings : List QueueLanding)
+    (reports : List QueueReport) (told : List QueueRows) : Type 0 where
   pub places : queues ≡ placed 0 told
   pub items_are : (name : List ℕ) → items_of name items ≡ of_queue (λ q. q.items) name told
   pub landings_are : (name : List ℕ) → IsPermutation (landings_of name landings) (of_queue (λ q. q.landings) name told)
