@@ -13,7 +13,7 @@ use Rattle.gate_types.specs.declared.rows.LandingRow.{LandingRow}
 use Rattle.gate_types.specs.declared.rows.ReportRow.{ReportRow}
 use Rattle.gate_schema.specs.Edits.{after_edit}
 use Rattle.gate_schema.specs.Rows.{QueueLanding, QueueReport, Stored}
-use Rattle.gate_rows.specs.Tells.{Fits, Tells, landings_of, of_queue, reports_of}
+use Rattle.gate_rows.specs.Tells.{Fits, Tells, landings_of, reports_of}
 use Rattle.gate_rows.proofs.ItemTells.{like, nothing_added}
 use Rattle.gate_rows.proofs.PutLemmas.{put_new}
 use Rattle.gate_rows.proofs.TellsLemmas.{of_queue_changed, of_queue_same, placed_same}

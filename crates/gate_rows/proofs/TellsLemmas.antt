@@ -1,10 +1,7 @@
 -- What is told of the tables, edit by edit.
-use Rattle.std.proofs.Common.{◌≡◌, ◌<ℤ◌, ℕ, suc, pos, List, [], ◌∷◌, ◌++◌, map, filter, Bool, true, false, not, cond, ◌&&◌, ◌||◌, eqb, Some, None, Option, refl, sym, ap, subst, ◌∙◌, arith, int_cmp, Ordering, Less, Equal, Greater, IsPermutation}
-use Rattle.std.specs.List.{AllByRecursion, list_any}
+use Rattle.std.proofs.Common.{◌≡◌, ℕ, suc, List, [], ◌∷◌, ◌++◌, map, filter, Bool, true, false, not, cond, eqb, Some, None, refl, sym, ap, subst, ◌∙◌, IsPermutation}
 use Rattle.std.specs.Option.{option_map_or}
-use Rattle.std.specs.Ordering.{match_ordering}
 use Rattle.std.specs.Prelude.{find}
-use Rattle.std.proofs.lemmas.Bool.Decides.{nat_tests}
 use Rattle.std.proofs.lemmas.Cmp.{nat_list_eq_equiv}
 use Rattle.gate_types.specs.Names.{same_name}
 use Rattle.gate_types.specs.State.{put_by}
@@ -12,7 +9,6 @@ use Rattle.gate_types.specs.Tables.{QueueRows, Tables, edited_queue, edited_tabl
 use Rattle.gate_types.specs.Rows.{with_outcome, change_build}
 use Rattle.gate_types.specs.Rebase.{with_live}
 use Rattle.gate_types.specs.declared.edits.Counter.{Counter}
-use Rattle.gate_types.specs.declared.edits.Edit.{Edit}
 use Rattle.gate_types.specs.declared.edits.Edit.TheVariants as edit
 use Rattle.gate_types.specs.declared.records.Build.{Build}
 use Rattle.gate_types.specs.declared.records.Kept.{Kept}

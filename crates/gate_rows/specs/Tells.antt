@@ -82,19 +82,26 @@ pub record StandsFor (db : Trees) (c : Settings) (x : Content) : Type 0 where
 abbrev pub IsQueue : List ℕ → Stored → Type 0
 IsQueue name b = list_any (λ (q : QueueRow). same_name q.name name) b.queues ≡ true
 
--- an item is put in a queue that is there, and no other queue has its serial; a landing or report is put in a
--- queue that is there, at a place where none is
-abbrev pub Fits : Edit → Stored → Type 0
-Fits (edit.PutItem name i) b =
-    IsQueue name b ×
+-- a row is put in a queue that is there
+abbrev pub NamesQueue : Edit → Stored → Type 0
+NamesQueue (edit.PutItem name i) b = IsQueue name b
+NamesQueue (edit.PutLanding name n l) b = IsQueue name b
+NamesQueue (edit.PutReport name n r) b = IsQueue name b
+NamesQueue _ b = ⊤
+
+-- no other queue has the serial of an item that is put; no landing or report stands at the place of one that is put
+abbrev pub FitsBeside : Edit → Stored → Type 0
+FitsBeside (edit.PutItem name i) b =
     AllByRecursion (λ (y : ItemRow). (y.item.serial == i.serial) ≡ true → same_name y.queue name ≡ true) b.items
-Fits (edit.PutLanding name n l) b =
-    IsQueue name b ×
+FitsBeside (edit.PutLanding name n l) b =
     AllByRecursion (λ (y : QueueLanding). (same_name y.queue name && y.row.place == n) ≡ false) b.landings
-Fits (edit.PutReport name n r) b =
-    IsQueue name b ×
+FitsBeside (edit.PutReport name n r) b =
     AllByRecursion (λ (y : QueueReport). (same_name y.queue name && y.row.place == n) ≡ false) b.reports
-Fits _ b = ⊤
+FitsBeside _ b = ⊤
+
+-- both
+abbrev pub Fits : Edit → Stored → Type 0
+Fits e b = NamesQueue e b × FitsBeside e b
 
 -- the rows with keys rise by them
 pub record IsInOrder (b : Stored) : Type 0 where

@@ -1,11 +1,16 @@
 -- What a call within a transaction does, where the disk has returned what was written.
 use Rattle.std.specs.Prelude.{OnOk, Result}
 use Rattle.sqlite.specs.State.{HasCleanDisk, KeepsCommit, State, Survives}
-use Rattle.gate_schema.specs.Rows.{Changes, IsReady, Stored}
+use Rattle.gate_schema.specs.Rows.{AreNamed, Changes, IsReady, Stands, Stored}
 
 -- on Ok, what the tables hold is changed so, and the transaction goes on
 abbrev pub Makes : {T E : Type 0} → State → State → Result T E → (Stored → Stored) → Type 0
 Makes old new result change = HasCleanDisk new → IsReady old → OnOk result (Changes old new change)
+
+-- on Ok, this was so of what the tables held
+abbrev pub Found : {T E : Type 0} → State → State → Result T E → (Stored → Type 0) → Type 0
+Found old new result P =
+    HasCleanDisk new → IsReady old → OnOk result ((b : Stored) → AreNamed b → Stands old.now.trees b → P b)
 
 -- nothing is committed
 abbrev pub Keeps : State → State → Type 0

@@ -29,7 +29,7 @@ fn separator(place: usize) -> &'static str
 }
 
 /// The entries' text.
-pub(crate) fn write_ahead(alloc: Global, ahead: &[Entry]) -> Result<String, AllocError>
+pub fn write_ahead(alloc: Global, ahead: &[Entry]) -> Result<String, AllocError>
     ensures { IfOk result (λ text. string_bytes text ≡ ahead_text ahead.now) }
 {
     let mut text = String::from_str(alloc, "[")?;

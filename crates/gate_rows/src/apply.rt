@@ -2,7 +2,8 @@
 ghost use Rattle.std.specs.Prelude.{◌≡◌};
 ghost use Rattle.sqlite.specs.Held.{state};
 ghost use Rattle.gate_schema.specs.Edits as edits;
-ghost use Rattle.gate_rows.specs.Writes.{Keeps, LeavesNothing, Makes};
+ghost use Rattle.gate_rows.specs.Tells.{FitsBeside};
+ghost use Rattle.gate_rows.specs.Writes.{Found, Keeps, LeavesNothing, Makes};
 
 use crate::builds::{put_build, set_outcome, stop_build};
 use crate::changes::put_change;
@@ -23,6 +24,7 @@ pub fn apply_one<S: Alter>(
     ensures same_reference { tx.new.conn.ghost_name ≡ tx.old.conn.ghost_name }
     ensures changes { Makes (state S.Store tx.old.conn.now) (state S.Store tx.new.conn.now) result
         (edits.after_edit edit.now) }
+    ensures fits { Found (state S.Store tx.old.conn.now) (state S.Store tx.new.conn.now) result (FitsBeside edit.now) }
     ensures kept { Keeps (state S.Store tx.old.conn.now) (state S.Store tx.new.conn.now) }
     ensures crash { LeavesNothing (state S.Store tx.old.conn.now) (state S.Store tx.new.conn.now) }
 {

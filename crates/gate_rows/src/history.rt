@@ -1,8 +1,10 @@
 //! Edits that add to what happened: landings, reports and kept deliveries, within a transaction.
 ghost use Rattle.std.specs.Prelude.{◌≡◌};
 ghost use Rattle.sqlite.specs.Held.{state};
+ghost use Rattle.gate_types.specs.declared.edits.Edit.TheVariants as edit;
 ghost use Rattle.gate_schema.specs.Edits as edits;
-ghost use Rattle.gate_rows.specs.Writes.{Keeps, LeavesNothing, Makes};
+ghost use Rattle.gate_rows.specs.Tells.{FitsBeside};
+ghost use Rattle.gate_rows.specs.Writes.{Found, Keeps, LeavesNothing, Makes};
 
 use crate::values::{any_number, bytes, change, landing_place, revision, serial, text, too_large};
 use crate::words::verdict_text;
@@ -10,7 +12,7 @@ use gate_types::names::Name;
 use gate_types::records::{Kept, Landing, Report};
 use sqlite::{Alter, Error, Transaction};
 
-/// The landing at a place of its queue, where none is. An Err where no column can hold the place.
+/// The landing at a place of its queue. An Err where one is there, or where no column can hold the place.
 pub(crate) fn put_landing<S: Alter>(
     tx: &mut Transaction<'_, S>,
     queue: &Name,
@@ -20,6 +22,8 @@ pub(crate) fn put_landing<S: Alter>(
     ensures same_reference { tx.new.conn.ghost_name ≡ tx.old.conn.ghost_name }
     ensures changes { Makes (state S.Store tx.old.conn.now) (state S.Store tx.new.conn.now) result
         (edits.add_landing (edits.landing_in queue.now place l.now)) }
+    ensures fits { Found (state S.Store tx.old.conn.now) (state S.Store tx.new.conn.now) result
+        (FitsBeside (edit.PutLanding queue.now place l.now)) }
     ensures kept { Keeps (state S.Store tx.old.conn.now) (state S.Store tx.new.conn.now) }
     ensures crash { LeavesNothing (state S.Store tx.old.conn.now) (state S.Store tx.new.conn.now) }
 {
@@ -39,7 +43,7 @@ pub(crate) fn put_landing<S: Alter>(
     Ok(())
 }
 
-/// The report at a place of its queue, where none is. An Err where no column can hold the place, or
+/// The report at a place of its queue. An Err where one is there, or where no column can hold the place, or
 /// that of the landing.
 pub(crate) fn put_report<S: Alter>(
     tx: &mut Transaction<'_, S>,
@@ -50,6 +54,8 @@ pub(crate) fn put_report<S: Alter>(
     ensures same_reference { tx.new.conn.ghost_name ≡ tx.old.conn.ghost_name }
     ensures changes { Makes (state S.Store tx.old.conn.now) (state S.Store tx.new.conn.now) result
         (edits.add_report (edits.report_in queue.now place r.now)) }
+    ensures fits { Found (state S.Store tx.old.conn.now) (state S.Store tx.new.conn.now) result
+        (FitsBeside (edit.PutReport queue.now place r.now)) }
     ensures kept { Keeps (state S.Store tx.old.conn.now) (state S.Store tx.new.conn.now) }
     ensures crash { LeavesNothing (state S.Store tx.old.conn.now) (state S.Store tx.new.conn.now) }
 {

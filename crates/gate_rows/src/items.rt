@@ -1,8 +1,12 @@
 //! Edits of items, within a transaction.
-ghost use Rattle.std.specs.Prelude.{◌≡◌};
+ghost use Rattle.std.specs.Prelude.{◌≡◌, ◌==◌, false};
+ghost use Rattle.std.specs.List.{AllByRecursion};
 ghost use Rattle.sqlite.specs.Held.{state};
+ghost use Rattle.gate_types.specs.declared.edits.Edit.TheVariants as edit;
 ghost use Rattle.gate_schema.specs.Edits as edits;
-ghost use Rattle.gate_rows.specs.Writes.{Keeps, LeavesNothing, Makes};
+ghost use Rattle.gate_schema.specs.Rows.{ItemRow};
+ghost use Rattle.gate_rows.specs.Tells.{FitsBeside};
+ghost use Rattle.gate_rows.specs.Writes.{Found, Keeps, LeavesNothing, Makes};
 
 use crate::values::{change, flag, revision, serial, serial_if_any, text};
 use gate_types::names::Name;
@@ -41,11 +45,13 @@ fn drop_item_of<S: Alter>(
     Ok(())
 }
 
-/// Adds an item, whose serial no item has.
+/// Adds an item. An Err where an item has its serial.
 fn add_item<S: Alter>(tx: &mut Transaction<'_, S>, queue: &Name, item: &Item) -> Result<(), Error>
     ensures same_reference { tx.new.conn.ghost_name ≡ tx.old.conn.ghost_name }
     ensures changes { Makes (state S.Store tx.old.conn.now) (state S.Store tx.new.conn.now) result
         (edits.add_item (edits.item_in queue.now item.now)) }
+    ensures fresh { Found (state S.Store tx.old.conn.now) (state S.Store tx.new.conn.now) result
+        (λ b. AllByRecursion (λ (y : ItemRow). (y.item.serial == item.now.serial) ≡ false) b.items) }
     ensures kept { Keeps (state S.Store tx.old.conn.now) (state S.Store tx.new.conn.now) }
     ensures crash { LeavesNothing (state S.Store tx.old.conn.now) (state S.Store tx.new.conn.now) }
 {
@@ -72,6 +78,8 @@ pub(crate) fn put_item<S: Alter>(
     ensures same_reference { tx.new.conn.ghost_name ≡ tx.old.conn.ghost_name }
     ensures changes { Makes (state S.Store tx.old.conn.now) (state S.Store tx.new.conn.now) result
         (λ b. edits.add_item (edits.item_in queue.now item.now) (edits.drop_item_of item.now.serial queue.now b)) }
+    ensures fits { Found (state S.Store tx.old.conn.now) (state S.Store tx.new.conn.now) result
+        (FitsBeside (edit.PutItem queue.now item.now)) }
     ensures kept { Keeps (state S.Store tx.old.conn.now) (state S.Store tx.new.conn.now) }
     ensures crash { LeavesNothing (state S.Store tx.old.conn.now) (state S.Store tx.new.conn.now) }
 {

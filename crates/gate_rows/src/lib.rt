@@ -9,7 +9,8 @@ mod history;
 mod items;
 pub mod laws;
 mod numbers;
-mod values;
+pub mod values;
 mod words;
 
+pub use ahead::write_ahead;
 pub use apply::apply_one;

@@ -10,8 +10,8 @@ use gate_types::records::Verdict;
 use sqlite::types::ValueRef;
 use sqlite::{Error, ErrorCode};
 
-/// A number that a column can hold, which ends below 2^63.
-pub(crate) fn number<'a>(n: u64) -> ValueRef<'a>
+/// A number as a parameter: a column can hold it below 2^63.
+pub fn number<'a>(n: u64) -> ValueRef<'a>
     requires { n < 2 ^ 63 }
     ensures { owned result ≡ Int (pos n) }
 {
@@ -56,7 +56,8 @@ pub(crate) fn too_large() -> Error {
     Error::SqliteFailure(ErrorCode::TooBig)
 }
 
-pub(crate) fn serial<'a>(n: Serial) -> ValueRef<'a>
+/// A serial as a parameter.
+pub fn serial<'a>(n: Serial) -> ValueRef<'a>
     ensures { owned result ≡ Int (pos n) }
 {
     number(n.get())
@@ -72,7 +73,8 @@ pub(crate) fn serial_if_any<'a>(n: Option<Serial>) -> ValueRef<'a>
     }
 }
 
-pub(crate) fn change<'a>(n: ChangeNo) -> ValueRef<'a>
+/// The number of a change as a parameter.
+pub fn change<'a>(n: ChangeNo) -> ValueRef<'a>
     ensures { owned result ≡ Int (pos n) }
 {
     number(n.get())
@@ -84,19 +86,22 @@ pub(crate) fn revision<'a>(n: Revision) -> ValueRef<'a>
     number(n.get())
 }
 
-pub(crate) fn build<'a>(n: BuildNo) -> ValueRef<'a>
+/// The number of a build as a parameter.
+pub fn build<'a>(n: BuildNo) -> ValueRef<'a>
     ensures { owned result ≡ Int (pos n) }
 {
     number(n.get())
 }
 
-pub(crate) fn text<'a>(s: &'a str) -> ValueRef<'a>
+/// A text as a parameter.
+pub fn text<'a>(s: &'a str) -> ValueRef<'a>
     ensures { owned result ≡ Text s.now }
 {
     ValueRef::Text(s.as_bytes())
 }
 
-pub(crate) fn bytes<'a>(b: &'a [u8]) -> ValueRef<'a>
+/// A blob as a parameter.
+pub fn bytes<'a>(b: &'a [u8]) -> ValueRef<'a>
     ensures { owned result ≡ Blob b.now }
 {
     ValueRef::Blob(b)

@@ -1,5 +1,4 @@
 use Rattle.sqlite.specs.Held.{state}
-use Rattle.gate_schema.specs.Edits as edits
 use Rattle.gate_schema.proofs.BuildTable.{drops_build}
 use Rattle.gate_rows.proofs.builds.drop_build.Goals as goal
 

@@ -1,5 +1,4 @@
 use Rattle.sqlite.specs.Held.{state}
-use Rattle.gate_schema.specs.Edits as edits
 use Rattle.gate_schema.proofs.NeedTable.{adds_need}
 use Rattle.gate_rows.proofs.changes.add_need.Goals as goal
 

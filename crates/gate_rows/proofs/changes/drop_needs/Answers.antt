@@ -1,5 +1,4 @@
 use Rattle.sqlite.specs.Held.{state}
-use Rattle.gate_schema.specs.Edits as edits
 use Rattle.gate_schema.proofs.NeedTable.{drops_needs}
 use Rattle.gate_rows.proofs.changes.drop_needs.Goals as goal
 

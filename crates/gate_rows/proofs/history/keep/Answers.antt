@@ -1,5 +1,4 @@
 use Rattle.sqlite.specs.Held.{state}
-use Rattle.gate_schema.specs.Edits as edits
 use Rattle.gate_schema.proofs.DeliveryTable.{adds_kept}
 use Rattle.gate_rows.proofs.history.keep.Goals as goal
 

@@ -1,5 +1,4 @@
 use Rattle.sqlite.specs.Held.{state}
-use Rattle.gate_schema.specs.Edits as edits
 use Rattle.gate_schema.proofs.ItemTable.{drops_item}
 use Rattle.gate_rows.proofs.items.drop_item.Goals as goal
 

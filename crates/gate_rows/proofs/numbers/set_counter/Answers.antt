@@ -1,5 +1,4 @@
 use Rattle.sqlite.specs.Held.{state}
-use Rattle.gate_schema.specs.Edits as edits
 use Rattle.gate_schema.proofs.CounterTable.{sets_counter}
 use Rattle.gate_rows.proofs.numbers.set_counter.Goals as goal
 

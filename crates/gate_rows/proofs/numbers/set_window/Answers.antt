@@ -1,5 +1,4 @@
 use Rattle.sqlite.specs.Held.{state}
-use Rattle.gate_schema.specs.Edits as edits
 use Rattle.gate_schema.proofs.QueueTable.{sets_window}
 use Rattle.gate_rows.proofs.numbers.set_window.Goals as goal
 

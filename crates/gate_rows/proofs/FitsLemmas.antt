@@ -1,0 +1,91 @@
+-- What an INSERT that ends well says of the rows that were there.
+use Rattle.std.proofs.Common.{◌≡◌, ℕ, pos, List, [], ◌∷◌, map, filter, Bool, true, false, not, cond, ◌&&◌, eqb, Ok, refl, sym, ap, subst, ◌∙◌, arith, is_eq}
+use Rattle.std.specs.List.{AllByRecursion, list_any}
+use Rattle.std.proofs.lemmas.Bool.{and_parts, not-true, or_parts}
+use Rattle.std.proofs.lemmas.Bool.Decides.{nat_tests}
+use Rattle.sqlite.specs.Cast.{cast_row}
+use Rattle.sqlite.specs.Command.TheVariants.{Insert}
+use Rattle.sqlite.specs.Edit.{are_fresh, with_rowid}
+use Rattle.sqlite.specs.Listing.{understood}
+use Rattle.sqlite.specs.Order.{Row, value_cmp}
+use Rattle.sqlite.specs.Rowids.TheVariants.{Chosen}
+use Rattle.sqlite.specs.Source.TheVariants.{Values}
+use Rattle.sqlite.specs.State.{State, ExecutesInside}
+use Rattle.sqlite.specs.declared.types.Value.TheVariants.{Int}
+use Rattle.sqlite.proofs.Callers.{runs_as, statement_of}
+use Rattle.sqlite_catalog.specs.Listing.{IsSound}
+use Rattle.sqlite_trees.specs.Tree.{rowid}
+use Rattle.gate_types.specs.Names.{same_name}
+use Rattle.gate_schema.specs.Rows.{AreNamed, IsReady, ItemRow, QueueLanding, QueueReport, Stands, Stored, item_key, item_row, landing_columns, report_columns}
+use Rattle.gate_schema.specs.Schema.{gate_schema, item_at}
+use Rattle.gate_schema.proofs.ItemTable.{add_item_is, add_item_sql, add_item_terms, item_params}
+use Rattle.gate_schema.proofs.LandingTable.{add_landing_is, add_landing_sql, add_landing_terms, adds_landing}
+use Rattle.gate_schema.proofs.ReportTable.{add_report_is, add_report_sql, add_report_terms, adds_report}
+use Rattle.gate_schema.proofs.RowLemmas.{cast_int, cast_null, cast_or_null}
+use Rattle.gate_schema.proofs.ValueLemmas.{value_cmp-pos}
+use Rattle.gate_schema.proofs.WriteLemmas.{inserts}
+use Rattle.gate_rows.proofs.UniqueLemmas.{landing_place_free, report_place_free}
+
+-- ---- items
+
+-- SQL's order of serials tells where they are equal
+is_serial : (m n : ℕ) → is_eq (value_cmp (Int (pos m)) (Int (pos n))) ≡ eqb m n
+is_serial m n = ap is_eq (value_cmp-pos m n) ∙ grind (arith, nat_tests)
+
+-- a rowid that no row has is the serial of no item
+none_taken : (n : ℕ) (ys : List ItemRow) → list_any (λ (r : Row). is_eq (value_cmp (rowid r) (Int (pos n)))) (map item_row ys) ≡ false
+    → AllByRecursion (λ (y : ItemRow). eqb y.item.serial n ≡ false) ys
+none_taken n [] none = tt
+none_taken n (y ∷ ys) none =
+    let parts = or_parts _ _ none in
+    (sym (is_serial y.item.serial n) ∙ parts.0, none_taken n ys parts.1)
+
+-- an INSERT of an item finds no item of its serial
+pub serial_free : (x : ItemRow) (old new : State) (count : ℕ) → IsReady old → ExecutesInside 0 add_item_sql (item_params x) old new (Ok count)
+    → (b : Stored) → Stands old.now.trees b → AllByRecursion (λ (y : ItemRow). eqb y.item.serial x.item.serial ≡ false) b.items
+serial_free x old new count ready h b stands =
+    let params = item_params x in
+    let w = runs_as add_item_sql params old new gate_schema ready.schema_is (Insert 5 (Values add_item_terms 7)) add_item_is.0 add_item_is.1 count h.0 in
+    let e = inserts gate_schema (λ _ _ _. refl) old new ready.schema_is 5 (item_at 11) refl (statement_of add_item_sql (understood gate_schema add_item_sql)) params count refl (Values add_item_terms 7) w in
+    let rows : e.0 ≡ item_row x ∷ [] = e.1.1 in
+    let stored : cast_row (item_at 11) (item_row x) ≡ item_row x = rw (cast_int, cast_null, cast_int, cast_int, cast_or_null, cast_int) in
+    let one : are_fresh (old.now.trees 11) (with_rowid Chosen (old.now.trees 11) (cast_row (item_at 11) (item_row x)) ∷ []) ≡ true = rw rows at e.2.applies.fresh in
+    let fresh : are_fresh (old.now.trees 11) (item_row x ∷ []) ≡ true =
+    subst (λ r. are_fresh (old.now.trees 11) (with_rowid Chosen (old.now.trees 11) r ∷ []) ≡ true) stored one in
+    none_taken x.item.serial b.items
+    (subst (λ rs. list_any (λ (r : Row). is_eq (value_cmp (rowid r) (Int (pos x.item.serial)))) rs ≡ false) stands.item.rows_are (not-true _ (and_parts _ _ fresh).0))
+
+-- where no item of a serial is left once that of a queue is taken out, no other queue has one
+pub others_differ : (n : ℕ) (name : List ℕ) (rows : List ItemRow)
+    → AllByRecursion (λ (y : ItemRow). eqb y.item.serial n ≡ false) (filter (λ (y : ItemRow). not (eqb (item_key y) n && same_name y.queue name)) rows)
+    → AllByRecursion (λ (y : ItemRow). eqb y.item.serial n ≡ true → same_name y.queue name ≡ true) rows
+others_differ n name [] free = tt
+others_differ n name (y ∷ ys) free = go (eqb y.item.serial n) refl (same_name y.queue name) refl free (others_differ n name ys)
+  where
+    go : (c : Bool) → eqb y.item.serial n ≡ c → (m : Bool) → same_name y.queue name ≡ m
+        → AllByRecursion (λ (y : ItemRow). eqb y.item.serial n ≡ false)
+        (cond (not (c && m)) (y ∷ filter (λ (y : ItemRow). not (eqb (item_key y) n && same_name y.queue name)) ys) (filter (λ (y : ItemRow). not (eqb (item_key y) n && same_name y.queue name)) ys))
+        → (AllByRecursion (λ (y : ItemRow). eqb y.item.serial n ≡ false) (filter (λ (y : ItemRow). not (eqb (item_key y) n && same_name y.queue name)) ys)
+        → AllByRecursion (λ (y : ItemRow). eqb y.item.serial n ≡ true → same_name y.queue name ≡ true) ys)
+        → AllByRecursion (λ (y : ItemRow). eqb y.item.serial n ≡ true → same_name y.queue name ≡ true) (y ∷ ys)
+    go true e true f free more = ((λ _. f), more free)
+    go true e false f free more = ((λ _. absurd (let no = free.0 in cc)), more free.1)
+    go false e m f free more = ((λ is. absurd cc), more free.1)
+
+-- ---- landings and reports
+
+-- an INSERT of a landing finds its place free
+pub landing_free : (x : QueueLanding) (old new : State) (count : ℕ) → IsReady old → ExecutesInside 0 add_landing_sql (landing_columns x) old new (Ok count)
+    → (b : Stored) → AreNamed b → Stands old.now.trees b → AllByRecursion (λ (y : QueueLanding). (same_name y.queue x.queue && eqb y.row.place x.row.place) ≡ false) b.landings
+landing_free x old new count ready h b named stands =
+    let w = runs_as add_landing_sql (landing_columns x) old new gate_schema ready.schema_is (Insert 7 (Values add_landing_terms 6)) add_landing_is.0 add_landing_is.1 count h.0 in
+    let made = adds_landing x old new count ready h in
+    landing_place_free new.now.trees b.landings x (subst (λ s. IsSound s new.now.trees) made.ready.schema_is w.sound) (made.stands b named stands).landing
+
+-- an INSERT of a report finds its place free
+pub report_free : (x : QueueReport) (old new : State) (count : ℕ) → IsReady old → ExecutesInside 0 add_report_sql (report_columns x) old new (Ok count)
+    → (b : Stored) → AreNamed b → Stands old.now.trees b → AllByRecursion (λ (y : QueueReport). (same_name y.queue x.queue && eqb y.row.place x.row.place) ≡ false) b.reports
+report_free x old new count ready h b named stands =
+    let w = runs_as add_report_sql (report_columns x) old new gate_schema ready.schema_is (Insert 8 (Values add_report_terms 8)) add_report_is.0 add_report_is.1 count h.0 in
+    let made = adds_report x old new count ready h in
+    report_place_free new.now.trees b.reports x (subst (λ s. IsSound s new.now.trees) made.ready.schema_is w.sound) (made.stands b named stands).report
