@@ -1,0 +1,96 @@
+-- What each read says of what the tables hold; of the items of a queue it is `items_of`.
+use Rattle.std.specs.Prelude.{ℕ, ◌&&◌, ◌==◌, ◌<◌, nat_lt, if◌then◌else◌, List, [], ◌∷◌, map, filter, find, fold, flat_map, length, Option, option_map, AllPairs, IsPermutation}
+use Rattle.std.specs.Option.{option_map_or}
+use Rattle.gate_types.specs.Names.{same_name}
+use Rattle.gate_types.specs.declared.records.Build.{Build}
+use Rattle.gate_types.specs.declared.records.Change.{Change}
+use Rattle.gate_types.specs.declared.records.Item.{Item}
+use Rattle.gate_types.specs.declared.records.Ready.{Ready}
+use Rattle.gate_types.specs.declared.rows.ChangeRow.{ChangeRow}
+use Rattle.gate_types.specs.declared.rows.LandingRow.{LandingRow}
+use Rattle.gate_types.specs.declared.rows.ReportRow.{ReportRow}
+use Rattle.gate_book.specs.declared.rows.QueueSizes.{QueueSizes}
+use Rattle.gate_book.specs.declared.rows.QueuedItem.{QueuedItem}
+use Rattle.gate_schema.specs.Rows.{ItemRow, QueueRow, Stored, build_key, change_key, item_key}
+use Rattle.gate_schema.specs.Shown.{needs_it}
+use Rattle.gate_rows.specs.Tells.{items_of, landings_of, reports_of}
+
+-- ---- items
+
+-- the item of a serial
+abbrev pub item_at : Stored → ℕ → Option Item
+item_at b serial = option_map (λ (r : ItemRow). r.item) (find (λ (r : ItemRow). item_key r == serial) b.items)
+
+-- an item, with its queue's name
+abbrev pub queued : ItemRow → QueuedItem
+queued r = record { queue = r.queue; item = r.item }
+
+-- the item of a change, with its queue's name
+abbrev pub queued_of : Stored → ℕ → Option QueuedItem
+queued_of b n = option_map queued (find (λ (r : ItemRow). r.item.change == n) b.items)
+
+-- the first item of a queue above a serial whose change needs this one
+abbrev pub first_needing : Stored → List ℕ → ℕ → ℕ → Option Item
+first_needing b name n serial =
+    find (λ (i : Item). nat_lt serial i.serial && needs_it b.needs n i.change) (items_of name b.items)
+
+-- ---- changes
+
+-- what is known of a change
+abbrev pub known_change : Stored → ℕ → Option Change
+known_change b n = option_map (λ (r : ChangeRow). r.change) (find (λ (r : ChangeRow). change_key r == n) b.changes)
+
+-- a change that is ready
+abbrev pub ready_row : ChangeRow → List Ready
+ready_row r = option_map_or (λ a. (record { approval = a; change = r.change.number }) ∷ []) r.approval []
+
+-- the changes that are ready, by their numbers
+abbrev pub ready_rows : List ChangeRow → List Ready
+ready_rows rows = flat_map ready_row rows
+
+-- these are the changes that are ready, in order of approval
+pub record AreReady (b : Stored) (found : List Ready) : Type 0 where
+  pub are : IsPermutation found (ready_rows b.changes)
+  pub rise : AllPairs (λ (r s : Ready). r.approval < s.approval) found
+
+-- ---- builds
+
+-- the build of a number
+abbrev pub build_of : Stored → ℕ → Option Build
+build_of b n = find (λ (x : Build). build_key x == n) b.builds
+
+-- the live builds of a serial
+abbrev pub live_builds : Stored → ℕ → List Build
+live_builds b serial = filter (λ (x : Build). x.live && x.serial == serial) b.builds
+
+-- ---- queues, landings and reports
+
+-- the greatest of these, 0 of none
+abbrev pub greatest : List ℕ → ℕ
+greatest ns = fold (λ m n. if nat_lt m n then n else m) 0 ns
+
+-- the last place of a landing of a queue
+abbrev pub last_landing : Stored → List ℕ → ℕ
+last_landing b name = greatest (map (λ (r : LandingRow). r.place) (landings_of name b.landings))
+
+-- the last place of a landing of a queue with a lower serial
+abbrev pub landing_before : Stored → List ℕ → ℕ → ℕ
+landing_before b name serial =
+    greatest (map (λ (r : LandingRow). r.place)
+    (filter (λ (r : LandingRow). nat_lt r.landing.serial serial) (landings_of name b.landings)))
+
+-- the last place of a report of a queue
+abbrev pub last_report : Stored → List ℕ → ℕ
+last_report b name = greatest (map (λ (r : ReportRow). r.place) (reports_of name b.reports))
+
+-- the window of a queue, how many items it has, and the place of its last landing
+abbrev pub sizes_of : Stored → List ℕ → QueueRow → QueueSizes
+sizes_of b name q = record {
+  window = q.window;
+  items = length (items_of name b.items);
+  landings = last_landing b name;
+}
+
+-- the same of the queue of a name
+abbrev pub queue_sizes : Stored → List ℕ → Option QueueSizes
+queue_sizes b name = option_map (sizes_of b name) (find (λ (q : QueueRow). same_name q.name name) b.queues)

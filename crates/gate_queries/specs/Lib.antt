@@ -1,0 +1,6 @@
+pub mod Finds
+pub mod Asked
+pub mod Whole
+pub mod Reads
+pub mod Shown
+pub mod Ahead

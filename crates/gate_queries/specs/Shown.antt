@@ -1,0 +1,24 @@
+-- What the reads show of a row that isn't a record of its table.
+use Rattle.std.specs.Prelude.{ℕ, pos, [], ◌∷◌}
+use Rattle.sqlite.specs.Order.{Row}
+use Rattle.sqlite.specs.declared.types.Value.TheVariants.{Int, Text as Words}
+use Rattle.gate_types.specs.declared.records.Change.{Change}
+use Rattle.gate_types.specs.declared.records.Kept.{Kept}
+use Rattle.gate_types.specs.declared.records.Ready.{Ready}
+use Rattle.gate_schema.specs.Words.{stage_word}
+
+-- a change that is ready
+abbrev pub ready_shown : Ready → Row
+ready_shown r = Int (pos r.approval) ∷ Int (pos r.change) ∷ []
+
+-- a number
+abbrev pub number_shown : ℕ → Row
+number_shown n = Int (pos n) ∷ []
+
+-- a change, without its number and its needs
+abbrev pub change_shown : Change → Row
+change_shown k = Words k.project ∷ Int (pos k.revision) ∷ Words (stage_word k.stage) ∷ []
+
+-- a kept delivery, without its id
+abbrev pub kept_shown : Kept → Row
+kept_shown k = Words k.said ∷ Words k.reply ∷ []

@@ -1,0 +1,24 @@
+//! The reads of a gate's book as queries of its tables, each by key.
+#![tactic(auto)]
+
+mod ahead;
+mod builds;
+mod changes;
+mod columns;
+mod counter_reads;
+mod deliveries;
+pub mod fault;
+mod item_reads;
+mod item_rows;
+mod queues;
+pub mod read;
+mod ready_reads;
+mod words;
+
+pub use builds::{build, live_builds};
+pub use changes::change;
+pub use counter_reads::counters;
+pub use deliveries::delivery;
+pub use item_reads::{item, items, last_item, needing, next_item, queued};
+pub use queues::{landing_before, queue, reports};
+pub use ready_reads::ready;

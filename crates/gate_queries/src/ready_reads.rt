@@ -1,0 +1,56 @@
+//! The read of the ready list.
+ghost use Rattle.std.specs.Prelude.{◌≡◌, true, false, List, map};
+ghost use Rattle.std.specs.List.{AllPass};
+ghost use Rattle.sqlite.specs.Held.{state};
+ghost use Rattle.gate_types.specs.Forms.{is_ready_in_form};
+ghost use Rattle.gate_book.specs.Reads.{Answers};
+ghost use Rattle.gate_queries.specs.Asked.{AreReady};
+ghost use Rattle.gate_queries.specs.Reads.{IsOnlyRead, Opened, Reads};
+ghost use Rattle.gate_queries.specs.Shown.{ready_shown};
+
+use crate::columns::{change_in, number_in};
+use crate::read::read_rows;
+use gate_book::fault::BookFault;
+use gate_types::records::Ready;
+use gate_types::sequence::Sequence;
+use sqlite::{Alter, Connection, Row};
+use std::alloc::Global;
+
+/// The ready change of a row; `Damaged` where a column isn't in form.
+fn ready_in(row: &Row) -> Result<Ready, BookFault>
+    ensures { (r : Ready) → row.now ≡ ready_shown r → is_ready_in_form r ≡ true → Answers r result }
+{
+    Ok(Ready {
+        approval: number_in(row, 0)?,
+        change: change_in(row, 1)?,
+    })
+}
+
+/// The ready changes of all rows, in their order.
+fn all_ready(alloc: Global, rows: &[Row]) -> Result<Sequence<Ready>, BookFault>
+    ensures { (rs : List Ready) → rows.now ≡ map ready_shown rs → AllPass is_ready_in_form rs → Answers rs result }
+{
+    let mut found = Vec::with_capacity(alloc, rows.len())?;
+    for row in rows {
+        let ready = ready_in(row)?;
+        found.push_reserved(ready);
+    }
+    Ok(Sequence::from_vec(found))
+}
+
+/// The changes that are ready, in order of approval.
+///
+/// `NoMemory` where memory is refused, `Store` where the query fails, `Damaged` where a row isn't in form.
+pub fn ready<S: Alter>(conn: &mut Connection<S>) -> Result<Sequence<Ready>, BookFault>
+    ensures found { Reads (state S.Store conn.old) (state S.Store conn.new) result (λ b found. AreReady b found) }
+    ensures opened { Opened (state S.Store conn.old) (state S.Store conn.new) result }
+    ensures only_reads { IsOnlyRead (state S.Store conn.old) (state S.Store conn.new) }
+{
+    // The test finds its rows by the index of the approvals; IS NOT NULL would read all changes.
+    let rows = read_rows(
+        conn,
+        "SELECT approval, num FROM change WHERE approval > 0 ORDER BY approval",
+        &[],
+    )?;
+    all_ready(*rows.allocator(), &rows)
+}
