@@ -1,0 +1,33 @@
+use Rattle.std.proofs.Common.{arith, subst, sym}
+use Rattle.sqlite.specs.Held.{state}
+use Rattle.sqlite.specs.State.{HasCleanDisk}
+use Rattle.gate_types.specs.Once.{Content}
+use Rattle.gate_rows.specs.Tells.{StandsFor}
+use Rattle.gate_sql.specs.Held.{HoldsFor}
+use Rattle.gate_sql.proofs.AgainLemmas.{one_held, one_stands}
+use Rattle.gate_sql.proofs.book.SqlBook.open_store.Goals as goal
+
+pub returns-in-Ok-open-clause-opens : goal.returns-in-Ok-open-clause-opens
+returns-in-Ok-open-clause-opens g c clean x it =
+    let first : HasCleanDisk (state g.S.Store c.in-Ok.conn) = c.in-Ok-open.ensures.clean clean in
+    c.in-Ok-open.ensures.opens (c.in-Ok.ensures.opens first).0.is_open x (subst (λ t. StandsFor t c.args.config.now x) (sym (c.in-Ok.ensures.trees first)) it) clean
+
+pub returns-in-Ok-open-clause-one : goal.returns-in-Ok-open-clause-one
+returns-in-Ok-open-clause-one g c clean xs it =
+    let first : HasCleanDisk (state g.S.Store c.in-Ok.conn) = c.in-Ok-open.ensures.clean clean in
+    let opens : (x : Content) → StandsFor (g.S.Store.view c.args.store).trees c.args.config.now x → HoldsFor (state g.S.Store c.in-Ok-open.book.conn) c.in-Ok-open.book.queues.items c.args.config.now x =
+    λ x it. c.in-Ok-open.ensures.opens (c.in-Ok.ensures.opens first).0.is_open x (subst (λ t. StandsFor t c.args.config.now x) (sym (c.in-Ok.ensures.trees first)) it) clean in
+    one_held _ _ _ _ opens xs it
+
+pub returns-in-Err-open-clause-fault : goal.returns-in-Err-open-clause-fault
+returns-in-Err-open-clause-fault g c x it clean =
+    let last : HasCleanDisk (state g.S.Store c.in-Err-open.conn) = omega (arith, clean, c.into_store.ensures.quiet.clean) in
+    let first : HasCleanDisk (state g.S.Store c.in-Ok.conn) = c.in-Err-open.ensures.clean last in
+    c.in-Err-open.ensures.opens (c.in-Ok.ensures.opens first).0.is_open x (subst (λ t. StandsFor t c.args.config.now x) (sym (c.in-Ok.ensures.trees first)) it) last
+
+pub returns-in-Ok-open-clause-settled : goal.returns-in-Ok-open-clause-settled
+returns-in-Ok-open-clause-settled g c clean xs it db left =
+    let first : HasCleanDisk (state g.S.Store c.in-Ok.conn) = c.in-Ok-open.ensures.clean clean in
+    let settled : (x : Content) → StandsFor (g.S.Store.view c.args.store).trees c.args.config.now x → StandsFor db c.args.config.now x =
+    λ x it. c.in-Ok-open.ensures.settled (c.in-Ok.ensures.opens first).0.is_open x (subst (λ t. StandsFor t c.args.config.now x) (sym (c.in-Ok.ensures.trees first)) it) clean db left in
+    one_stands _ _ _ settled xs it

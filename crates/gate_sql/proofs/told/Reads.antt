@@ -1,0 +1,34 @@
+-- Each read of the file is that of the content whose tables it holds.
+use Rattle.std.proofs.Common.{ap}
+use Rattle.std.specs.Prelude.{◌&&◌, ◌==◌, filter, find}
+use Rattle.gate_types.specs.declared.records.Build.{Build}
+use Rattle.gate_types.specs.Forms.{IsLawfulContent}
+use Rattle.gate_types.specs.Once.{Content}
+use Rattle.gate_types.specs.Settings.{Settings}
+use Rattle.gate_types.specs.Tables.{tables}
+use Rattle.gate_schema.specs.Rows.{AreNamed, Stored, build_key}
+use Rattle.gate_rows.specs.Tells.{Tells}
+use Rattle.gate_sql.specs.Answers.{IsAnsweredBy}
+use Rattle.gate_sql.proofs.told.ChangeReads.{change_is, ready_is}
+use Rattle.gate_sql.proofs.told.ItemReads.{item_is, needing_is, queued_is}
+use Rattle.gate_sql.proofs.told.Items.{items_are}
+use Rattle.gate_sql.proofs.told.QueueReads.{landing_before_is, queue_is, reports_are}
+
+-- all of them
+pub reads_are_told : {c : Settings} {x : Content} {b : Stored} → IsLawfulContent c x → AreNamed b →
+    Tells b (tables c x) → IsAnsweredBy b c x
+reads_are_told {c = c} {x = x} {b = b} lawful named told = record {
+  items = items_are c x b told;
+  item = item_is c x b lawful told named;
+  queued = queued_is c x b lawful told named;
+  needing = needing_is c x b told;
+  change = change_is c x b told;
+  ready = ready_is c x b told lawful;
+  build = λ n. ap (find (λ (y : Build). build_key y == n)) told.builds_are;
+  live_builds = λ serial. ap (filter (λ (y : Build). y.live && y.serial == serial)) told.builds_are;
+  queue = queue_is c x b told;
+  reports = reports_are c x b told;
+  landing_before = landing_before_is c x b told lawful;
+  counters = told.counters_are;
+  kept = told.kept_are;
+}

@@ -1,0 +1,43 @@
+-- When what the file's tables hold answers each read as a content does.
+use Rattle.std.specs.Prelude.{◌≡◌, ℕ, List, option_map}
+use Rattle.gate_types.specs.Once.{Content}
+use Rattle.gate_types.specs.Settings.{Settings}
+use Rattle.gate_types.specs.State.{known_change}
+use Rattle.gate_types.specs.Step.{build_of}
+use Rattle.gate_types.specs.declared.records.Ready.{Ready}
+use Rattle.gate_schema.specs.Rows.{Stored}
+use Rattle.gate_rows.specs.Tells.{items_of}
+use Rattle.gate_book.specs.Reads as content
+use Rattle.gate_queries.specs.Asked as file
+
+-- each read of the tables is that of the content
+pub record IsAnsweredBy (b : Stored) (c : Settings) (x : Content) : Type 0 where
+  -- the items of a queue, front to back
+  pub items : (name : List ℕ) → items_of name b.items ≡ content.items_in c x.state name
+  -- the item of a serial
+  pub item : (serial : ℕ) → file.item_at b serial ≡ content.item_at c x.state serial
+  -- the item of a change, with its queue's name
+  pub queued : (n : ℕ) → file.queued_of b n ≡ content.queued_of c x.state n
+  -- the first item of a queue above a serial whose change needs another
+  pub needing : (name : List ℕ) (n serial : ℕ) →
+      file.first_needing b name n serial ≡ content.first_needing x.state n serial (content.items_in c x.state name)
+  -- what is known of a change
+  pub change : (n : ℕ) → file.known_change b n ≡ known_change x.state n
+  -- the changes that are ready, in order of approval
+  pub ready : (found : List Ready) → file.AreReady b found → found ≡ x.state.ready
+  -- the build of a number
+  pub build : (n : ℕ) → file.build_of b n ≡ build_of x.state n
+  -- the live builds of a serial
+  pub live_builds : (serial : ℕ) → file.live_builds b serial ≡ content.live_builds x.state serial
+  -- the window of a queue, and how many items and landings it has
+  pub queue : (name : List ℕ) →
+      file.queue_sizes b name ≡ option_map content.sizes_of (content.queue_named x.state name)
+  -- how many reports a queue has made
+  pub reports : (name : List ℕ) → file.last_report b name ≡ content.reports_in x.state name
+  -- how many landings of a queue have a lower serial
+  pub landing_before : (name : List ℕ) (serial : ℕ) →
+      file.landing_before b name serial ≡ content.landings_before x.state name serial
+  -- the last number drawn of each kind
+  pub counters : b.counters ≡ x.state.counters
+  -- what is kept of deliveries
+  pub kept : b.kept ≡ x.kept

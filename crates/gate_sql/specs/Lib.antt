@@ -1,0 +1,7 @@
+pub mod Held
+pub mod Answers
+pub mod Opens
+pub mod Making
+pub mod Reading
+pub mod Applies
+pub mod Handed

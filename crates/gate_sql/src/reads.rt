@@ -1,0 +1,98 @@
+//! A book's reads and edits, from the tables of a file.
+use crate::applying::apply;
+use crate::book::SqlBook;
+use gate_book::book::Book;
+use gate_book::fault::BookFault;
+use gate_book::rows::{QueueSizes, QueuedItem};
+use gate_types::edits::Edit;
+use gate_types::names::Name;
+use gate_types::numbers::{BuildNo, ChangeNo, Serial};
+use gate_types::records::{Build, Change, Counters, Id, Item, Kept, Ready};
+use gate_types::sequence::Sequence;
+use sqlite::Alter;
+
+impl<S: Alter> Book for SqlBook<S> {
+    ghost use Rattle.std.specs.Prelude.{⊤};
+    ghost use Rattle.sqlite.specs.Held.{state};
+    ghost use Rattle.sqlite.specs.State.{HasCleanDisk};
+    ghost use Rattle.gate_sql.specs.Held.{HoldsFor, LeavesFor, one_more};
+
+    ghost Holds = { λ book c x. HoldsFor (state S.Store book.conn) book.queues.items c x };
+
+    ghost IsTrusted = { λ book. HasCleanDisk (state S.Store book.conn) };
+
+    ghost LeavesOneOf = { λ book c xs. LeavesFor (state S.Store book.conn) c xs };
+
+    ghost MayFault = { λ _. ⊤ };
+
+    ghost leaves_more = { λ book c xs x leaves db may. one_more db c xs x (leaves db may) };
+
+    fn delivery(&mut self, id: &Id) -> Result<Option<Kept>, BookFault> {
+        gate_queries::delivery(&mut self.conn, id)
+    }
+
+    fn change(&mut self, number: ChangeNo) -> Result<Option<Change>, BookFault> {
+        gate_queries::change(&mut self.conn, number)
+    }
+
+    fn queue(&mut self, name: &Name) -> Result<Option<QueueSizes>, BookFault> {
+        gate_queries::queue(&mut self.conn, name)
+    }
+
+    fn reports(&mut self, queue: &Name) -> Result<u64, BookFault> {
+        gate_queries::reports(&mut self.conn, queue)
+    }
+
+    fn landing_before(&mut self, queue: &Name, serial: Serial) -> Result<u64, BookFault> {
+        gate_queries::landing_before(&mut self.conn, queue, serial)
+    }
+
+    fn items(&mut self, queue: &Name) -> Result<Sequence<Item>, BookFault> {
+        gate_queries::items(&mut self.conn, queue)
+    }
+
+    fn item(&mut self, serial: Serial) -> Result<Option<Item>, BookFault> {
+        gate_queries::item(&mut self.conn, serial)
+    }
+
+    fn queued(&mut self, change: ChangeNo) -> Result<Option<QueuedItem>, BookFault> {
+        gate_queries::queued(&mut self.conn, change)
+    }
+
+    fn next_item(&mut self, queue: &Name, above: u64) -> Result<Option<Item>, BookFault> {
+        gate_queries::next_item(&mut self.conn, queue, above)
+    }
+
+    fn last_item(&mut self, queue: &Name, below: u64) -> Result<Option<Item>, BookFault> {
+        gate_queries::last_item(&mut self.conn, queue, below)
+    }
+
+    fn needing(
+        &mut self,
+        queue: &Name,
+        change: ChangeNo,
+        above: u64,
+    ) -> Result<Option<Item>, BookFault> {
+        gate_queries::needing(&mut self.conn, queue, change, above)
+    }
+
+    fn live_builds(&mut self, serial: Serial) -> Result<Sequence<Build>, BookFault> {
+        gate_queries::live_builds(&mut self.conn, serial)
+    }
+
+    fn build(&mut self, number: BuildNo) -> Result<Option<Build>, BookFault> {
+        gate_queries::build(&mut self.conn, number)
+    }
+
+    fn ready(&mut self) -> Result<Sequence<Ready>, BookFault> {
+        gate_queries::ready(&mut self.conn)
+    }
+
+    fn counters(&mut self) -> Result<Counters, BookFault> {
+        gate_queries::counters(&mut self.conn)
+    }
+
+    fn apply(&mut self, edits: &[Edit]) -> Result<(), BookFault> {
+        apply(self.alloc, &mut self.conn, self.queues.as_slice(), edits)
+    }
+}
