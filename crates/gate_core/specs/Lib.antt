@@ -8,3 +8,4 @@ pub mod Landing
 pub mod Said
 pub mod Line
 pub mod Runs
+pub mod Faults

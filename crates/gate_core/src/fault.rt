@@ -1,4 +1,5 @@
 //! What ends a replay before its input does.
+ghost use Rattle.std.specs.Prelude.{◌≡◌};
 
 /// Why a replay ended early.
 #[derive(Clone, Copy, Debug, PartialEq, Eq)]
@@ -11,4 +12,20 @@ pub enum IoFault {
     NoMemory,
     /// The store failed. A gate in memory never answers this.
     Store,
+}
+
+impl IoFault {
+    ghost use Rattle.gate_core.specs.Faults.{fault_text};
+
+    /// The fault's number, a space and its word, as it is printed.
+    pub fn text(self) -> &'static str
+        ensures { result.now ≡ fault_text self }
+    {
+        match self {
+            IoFault::Read => "I1 read",
+            IoFault::Write => "I2 write",
+            IoFault::NoMemory => "I3 no-memory",
+            IoFault::Store => "I7 store",
+        }
+    }
 }
