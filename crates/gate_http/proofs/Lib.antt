@@ -9,3 +9,4 @@ mod ExchangeLemmas
 mod WriteLemmas
 mod ServingLemmas
 mod LawLemmas
+mod ConnectionLemmas

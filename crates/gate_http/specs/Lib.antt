@@ -11,3 +11,4 @@ pub mod Answer
 pub mod Serving
 pub mod Parts
 pub mod Laws
+pub mod Connections

@@ -2,6 +2,7 @@
 #![tactic(auto)]
 
 mod body;
+pub mod connections;
 mod digits;
 pub mod engine;
 #[cfg(test)]

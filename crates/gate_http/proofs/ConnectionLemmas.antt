@@ -1,0 +1,160 @@
+-- Connections, one after another: the gate after them, and the faults that were told.
+use Rattle.std.proofs.Common.{◌≡◌, ◌≤◌, ℕ, ◌+◌, Bool, true, false, true≢false, List, [], ◌∷◌, ◌++◌, length, take, Option, Result, Ok, Err, IfOk, arith, refl, sym, ap, ◌∙◌, subst, append-nil, length-append}
+use Rattle.std.specs.Prelude.{IsErrOf}
+use Rattle.std.specs.Io.KnownBytes.{Appends}
+use Rattle.std.proofs.KnownBytes.{Appends-trans, Appends-nil}
+use Rattle.std.proofs.lemmas.List.{take-append-le}
+use Rattle.std.proofs.lemmas.List.Concat.{flat_map-append}
+use Rattle.std.proofs.lemmas.List.Sums.{fold-append}
+use Rattle.gate_types.specs.declared.records.Id.{Id}
+use Rattle.gate_types.specs.declared.deliveries.Delivery.{Delivery}
+use Rattle.gate_types.specs.declared.deliveries.Refusal.{Refusal}
+use Rattle.gate_types.specs.declared.tap.Tap.{Tap}
+use Rattle.gate_types.specs.Settings.{Settings}
+use Rattle.gate_types.specs.Tap.{inside, has_failed, WritesFront, Took, TookFront}
+use Rattle.gate_types.specs.Once.{Content, Call, next_content}
+use Rattle.gate_wire.specs.Reading.{says}
+use Rattle.gate_core.specs.declared.fault.IoFault.{IoFault}
+use Rattle.gate_core.specs.declared.fault.IoFault.TheVariants as fault
+use Rattle.gate_core.specs.declared.gate.Gate.{Gate}
+use Rattle.gate_core.specs.Gated.{Gated}
+use Rattle.gate_core.specs.Held.{Goes}
+use Rattle.gate_core.specs.Replies.{call_read}
+use Rattle.gate_core.proofs.ReplyLemmas.{goes_nowhere, goes_on}
+use Rattle.gate_http.specs.declared.served.Served.{Served}
+use Rattle.gate_http.specs.Asked.{Asked, delivery, page, build}
+use Rattle.gate_http.specs.Way.{Way, silence, refusal, question, Request, way_of}
+use Rattle.gate_http.specs.Answer.{calls_asked, calls_of, gate_after, Answers, is_unavailable as is_503}
+use Rattle.gate_http.specs.Serving.{Serves}
+use Rattle.gate_http.specs.Connections.{IsCalled, fault_line, fault_lines, AreTold}
+use Rattle.gate_http.proofs.ResponseLemmas.{writes_later}
+
+-- ---- calls
+
+-- what was read of a delivery is at most one call
+one_read : (u : Bool) (r : Result (Id × Delivery) Refusal) → length (call_read u r) ≤ 1
+one_read u (Ok x) = omega arith
+one_read u (Err e) = omega arith
+
+-- a request is at most one
+one_call : (u : Bool) (w : Way) → length (calls_of u w) ≤ 1
+one_call u silence = omega arith
+one_call u (refusal f bodiless) = omega arith
+one_call u (question (delivery door body)) = one_read u (says door body)
+one_call u (question (page p)) = omega arith
+one_call u (question (build id)) = omega arith
+
+-- calls, and then others
+more_calls : (m n : ℕ) (g h after : Gated) → IsCalled m g h → IsCalled n h after → IsCalled (m + n) g after
+more_calls m n g h after first next = record {
+  calls = first.calls ++ next.calls;
+  few = omega (arith, first.few, next.few, length-append first.calls next.calls);
+  stands = next.stands ∙ ap (λ x. gate_after x next.calls) first.stands
+      ∙ ap (λ x. record g { content = x }) (sym (fold-append (next_content g.settings) g.content first.calls next.calls));
+}
+
+module _ {B : Type 0} (trusted : B → Type 0) (holds : B → Settings → Content → Type 0)
+    (leaves : B → Settings → List Content → Type 0) where
+  -- a gate that nothing was asked of
+  pub uncalled : (n : ℕ) (old new : Gate B) → new ≡ old → Goes trusted holds old new (IsCalled n)
+  uncalled n old new stays = goes_nowhere trusted holds old new (IsCalled n) stays
+      (λ g. record { calls = []; few = omega arith; stands = refl })
+
+  -- a request was served
+  served_once : (old new : Gate B) (w : Way) (served : Served) (text : List ℕ)
+      → Serves trusted holds leaves old new w served text → Goes trusted holds old new (IsCalled 1)
+  served_once old new w served text s = record {
+    settings = s.answers.settings;
+    trusted_before = s.answers.trusted_before;
+    passes = λ t g over.
+        let p = s.answers.passes t g over in (
+          p.0,
+          p.1,
+          record { calls = calls_of (is_503 served) w; few = one_call (is_503 served) w; stands = p.2.stands },
+        );
+  }
+
+  -- however it was served
+  pub called_once : (Read Left : Request → Type 0) (Wrote Broke : List ℕ → Type 0)
+      (old new : Gate B) (r : Result Served IoFault)
+      → IfOk r (λ served. (q : Request) × Read q × (text : List ℕ) × Wrote text
+      × Serves trusted holds leaves old new (way_of q) served text)
+      → (IsErrOf r fault.Write → (q : Request) × Left q × (served : Served) × (text : List ℕ) × Broke text
+      × Serves trusted holds leaves old new (way_of q) served text)
+      → (IsErrOf r fault.Read → new ≡ old) → (IsErrOf r fault.NoMemory → new ≡ old)
+      → (IsErrOf r fault.Store → ⊥) → Goes trusted holds old new (IsCalled 1)
+  called_once Read Left Wrote Broke old new (Ok served) ok write read memory store =
+      served_once old new (way_of ok.0) served ok.2 ok.4
+  called_once Read Left Wrote Broke old new (Err fault.Write) ok write read memory store =
+      let w = write refl in served_once old new (way_of w.0) w.2 w.3 w.5
+  called_once Read Left Wrote Broke old new (Err fault.Read) ok write read memory store = uncalled 1 old new (read refl)
+  called_once Read Left Wrote Broke old new (Err fault.NoMemory) ok write read memory store = uncalled 1 old new (memory refl)
+  called_once Read Left Wrote Broke old new (Err fault.Store) ok write read memory store = absurd (store refl)
+
+  -- one connection more
+  pub called_on : (n : ℕ) (old mid new : Gate B) → Goes trusted holds old mid (IsCalled n)
+      → Goes trusted holds mid new (IsCalled 1) → Goes trusted holds old new (IsCalled (n + 1))
+  called_on n old mid new first next =
+      goes_on trusted holds old mid new (IsCalled n) (IsCalled 1) (IsCalled (n + 1)) first next (more_calls n 1)
+
+-- ---- faults
+
+-- a beginning of a text is one of the text and more
+pub writes_sooner : (a b : Option (List ℕ)) (xs ys : List ℕ) → WritesFront a b xs → WritesFront a b (xs ++ ys)
+writes_sooner a b xs ys (n, short, w) = (
+  n,
+  omega (arith, short, length-append xs ys),
+  subst (Appends a b) (sym (take-append-le n xs ys (omega (arith, short)))) w,
+)
+
+module _ {T : Type 0} (held : T → Option (List ℕ)) where
+  -- no fault
+  pub none_told : (tap : Tap T) → has_failed tap ≡ false → AreTold held tap tap []
+  none_told tap unfailed = record {
+    whole = λ _. Appends-nil (held (inside tap));
+    cut = λ failed. absurd (true≢false (sym failed ∙ unfailed));
+  }
+
+  -- a fault, and whether its line was written
+  pub one_told : (old new : Tap T) (f : IoFault) → (has_failed new ≡ false → Took held old new (fault_line f))
+      → (has_failed new ≡ true → TookFront held old new (fault_line f)) → AreTold held old new (f ∷ [])
+  one_told old new f whole cut = record {
+    whole = λ e. subst (Took held old new) (sym (append-nil (fault_line f))) (whole e);
+    cut = λ e. subst (TookFront held old new) (sym (append-nil (fault_line f))) (cut e);
+  }
+
+  -- faults, and then one more
+  both_told : (old mid new : Tap T) (faults : List IoFault) (f : IoFault) → has_failed mid ≡ false
+      → AreTold held old mid faults → AreTold held mid new (f ∷ []) → AreTold held old new (faults ++ f ∷ [])
+  both_told old mid new faults f unfailed first next =
+      let joined = sym (flat_map-append fault_line faults (f ∷ [])) in record {
+        whole = λ e. subst (Took held old new) joined (Appends-trans (held (inside old)) (held (inside mid))
+            (held (inside new)) (fault_lines faults) (fault_lines (f ∷ [])) (first.whole unfailed) (next.whole e));
+        cut = λ e. subst (TookFront held old new) joined (writes_later (held (inside old)) (held (inside mid))
+            (held (inside new)) (fault_lines faults) (fault_lines (f ∷ [])) (first.whole unfailed) (next.cut e));
+      }
+
+  -- at most so many faults were told
+  abbrev pub Tells : ℕ → Tap T → Tap T → Type 0
+  Tells n old new = (faults : List IoFault) × (length faults ≤ n) × AreTold held old new faults
+
+  -- one connection more, without a fault
+  pub told_still : (n : ℕ) (old new : Tap T) → Tells n old new → Tells (n + 1) old new
+  told_still n old new h = (h.0, omega (arith, h.1), h.2)
+
+  told_by : (n : ℕ) (old mid new : Tap T) (f : IoFault) (failed : Bool) → has_failed mid ≡ failed → Tells n old mid
+      → (has_failed mid ≡ false → AreTold held mid new (f ∷ [])) → (has_failed mid ≡ true → new ≡ mid)
+      → Tells (n + 1) old new
+  told_by n old mid new f false is h told silent = (
+    h.0 ++ f ∷ [],
+    omega (arith, h.1, length-append h.0 (f ∷ [])),
+    both_told old mid new h.0 f is h.2 (told is),
+  )
+  told_by n old mid new f true is h told silent =
+      subst (λ t. Tells (n + 1) old t) (sym (silent is)) (told_still n old mid h)
+
+  -- one connection more, with a fault
+  pub told_on : (n : ℕ) (old mid new : Tap T) (f : IoFault) → Tells n old mid
+      → (has_failed mid ≡ false → AreTold held mid new (f ∷ [])) → (has_failed mid ≡ true → new ≡ mid)
+      → Tells (n + 1) old new
+  told_on n old mid new f h told silent = told_by n old mid new f (has_failed mid) refl h told silent

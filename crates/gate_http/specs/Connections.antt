@@ -1,0 +1,29 @@
+-- What serving connections, one after another, comes to.
+use Rattle.std.specs.Prelude.{ℕ, ◌≡◌, ◌≤◌, Bool, true, false, List, [], ◌∷◌, ◌++◌, length, Option, codes}
+use Rattle.std.specs.List.{flat_map}
+use Rattle.gate_types.specs.declared.tap.Tap.{Tap}
+use Rattle.gate_types.specs.Tap.{has_failed, Took, TookFront}
+use Rattle.gate_types.specs.Once.{Call}
+use Rattle.gate_core.specs.declared.fault.IoFault.{IoFault}
+use Rattle.gate_core.specs.Faults.{fault_text}
+use Rattle.gate_core.specs.Gated.{Gated}
+use Rattle.gate_http.specs.Answer.{gate_after}
+
+-- the gate after some calls in turn, at most so many
+pub record IsCalled (most : ℕ) (g after : Gated) : Type 0 where
+  pub calls : List Call
+  pub few : length calls ≤ most
+  pub stands : after ≡ gate_after g calls
+
+-- the line that tells of a fault
+abbrev pub fault_line : IoFault → List ℕ
+fault_line f = codes "gated: " ++ (fault_text f ++ 10 ∷ [])
+
+-- a line for each of these faults
+abbrev pub fault_lines : List IoFault → List ℕ
+fault_lines faults = flat_map fault_line faults
+
+-- faults were told by a line each; of the lines a writer that failed took a beginning
+pub record AreTold {T : Type 0} (held : T → Option (List ℕ)) (old new : Tap T) (faults : List IoFault) : Type 0 where
+  pub whole : has_failed new ≡ false → Took held old new (fault_lines faults)
+  pub cut : has_failed new ≡ true → TookFront held old new (fault_lines faults)

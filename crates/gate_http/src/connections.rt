@@ -1,0 +1,115 @@
+//! Connections are served, one after another.
+ghost use Rattle.std.specs.Prelude.{◌≡◌, ◌≤◌, List, [], ◌∷◌, length, true, false, OnOk, OnErr};
+ghost use Rattle.gate_types.specs.Tap.{has_failed, Took, TookFront};
+ghost use Rattle.gate_core.specs.declared.fault.IoFault.{IoFault};
+ghost use Rattle.gate_core.specs.Held.{Goes};
+ghost use Rattle.gate_http.specs.Connections.{IsCalled, fault_line, AreTold};
+
+use crate::serve::serve_one;
+use gate_book::book::Book;
+use gate_core::fault::IoFault;
+use gate_core::gate::Gate;
+use gate_types::tap::{Failed, Tap};
+use std::alloc::Global;
+use std::io::{BufReader, BufWriter, Read, Write};
+use std::net::{OpenListener, OpenStream, Shutdown};
+
+/// The listener failed to accept a connection.
+#[derive(Clone, Copy, Debug, PartialEq, Eq)]
+pub struct NotListening;
+
+/// Writes the line that tells of a fault, or a beginning of it where the writer fails.
+fn write_fault<E: Write>(fault: IoFault, errors: &mut Tap<E>) -> Result<(), Failed>
+    requires { has_failed errors.old ≡ false }
+    ensures ok { OnOk result (Took E.contents errors.old errors.new (fault_line fault)) }
+    ensures unfailed { OnOk result (has_failed errors.new ≡ false) }
+    ensures err { OnErr result (TookFront E.contents errors.old errors.new (fault_line fault)) }
+    ensures failed { OnErr result (has_failed errors.new ≡ true) }
+{
+    errors.write_all(b"gated: ")?;
+    errors.write_line(fault.text())?;
+    Ok(())
+}
+
+/// Tells of a fault, unless an earlier one could not be told.
+fn tell<E: Write>(fault: IoFault, errors: &mut Tap<E>)
+    ensures told { has_failed errors.old ≡ false → AreTold E.contents errors.old errors.new (fault ∷ []) }
+    ensures silent { has_failed errors.old ≡ true → errors.new ≡ errors.old }
+{
+    if !errors.failed() {
+        let _ = write_fault(fault, errors);
+    }
+}
+
+/// Sends what the buffer holds, and says that no more follows.
+fn hang_up<S: Write + OpenStream + Drop>(mut writer: BufWriter<S>) -> Result<(), IoFault> {
+    let sent = writer.flush();
+    let (stream, _) = writer.into_parts();
+    let _ = stream.shutdown(Shutdown::Write);
+    match sent {
+        Ok(()) => Ok(()),
+        Err(_) => Err(IoFault::Write),
+    }
+}
+
+/// Serves one connection, and closes it.
+///
+/// # Errors
+///
+/// `Read`: the stream gave an error, or could not be had twice. `Write`: the answer could not be
+/// sent. `NoMemory`: there was none for a buffer or for the request. `Store`: never.
+fn serve_stream<S: Read + Write + OpenStream + Drop, B: Book>(
+    alloc: Global,
+    gate: &mut Gate<B>,
+    stream: S,
+) -> Result<(), IoFault>
+    ensures { Goes B.IsTrusted B.Holds gate.old gate.new (IsCalled 1) }
+{
+    let Ok(other) = stream.try_clone() else {
+        return Err(IoFault::Read);
+    };
+    let Ok(reader) = BufReader::new(alloc, other) else {
+        return Err(IoFault::NoMemory);
+    };
+    let Ok(writer) = BufWriter::new(alloc, stream) else {
+        return Err(IoFault::NoMemory);
+    };
+    let mut reader = Tap::new(reader);
+    let mut writer = Tap::new(writer);
+    let served = serve_one(alloc, gate, &mut reader, &mut writer);
+    served.and(hang_up(writer.into_inner()))
+}
+
+/// Serves so many connections of the listener, one after another: of each one request is read,
+/// acted on and answered, and the connection is closed. A client that sends nothing counts. A
+/// fault of a connection is told on `errors`, by `gated: `, its text and LF, and the next
+/// connection is served; where `errors` has failed, no more is told.
+///
+/// # Errors
+///
+/// The listener failed to accept a connection. What was served before stands.
+pub fn serve<L: OpenListener, B: Book, E: Write>(
+    alloc: Global,
+    listener: &L,
+    gate: &mut Gate<B>,
+    count: u64,
+    errors: &mut Tap<E>,
+) -> Result<(), NotListening>
+where
+    L::Stream: Read + Write + OpenStream,
+    requires { has_failed errors.old ≡ false }
+    // each connection is at most one call
+    ensures gate { Goes B.IsTrusted B.Holds gate.old gate.new (IsCalled count) }
+    ensures told { (faults : List IoFault) × (length faults ≤ count)
+        × AreTold E.contents errors.old errors.new faults }
+{
+    for _ in 0..count {
+        let Ok((stream, _)) = listener.accept() else {
+            return Err(NotListening);
+        };
+        if let Err(fault) = serve_stream(alloc, gate, stream) {
+            tell(fault, errors);
+        }
+    }
+    Ok(())
+}
