@@ -47,6 +47,11 @@ queue = "web"
 name = "unit"
 "#;
 
+/// Change 101 of `lib` is known.
+pub const KNOWN: &str =
+    r#"{"id":"0b000000-0000-4000-8000-000000000001","kind":"revision","change":101,"project":"lib","revision":1,"message":""}
+"#;
+
 /// An empty gate.
 pub fn new_gate(alloc: Global) -> Result<Gate<MemBook>, ConfigFault> {
     let config = read(alloc, SETTINGS.as_bytes())?;
@@ -69,16 +74,17 @@ pub fn posting(alloc: Global, door: &str, body: &str) -> Result<String, AllocErr
     format!(in alloc; "POST /{door} HTTP/1.1\r\nHost: gate\r\nContent-Length: {len}\r\n\r\n{body}")
 }
 
-/// The request gets this response.
-pub fn gets(
+/// Each request gets its response, one after another.
+pub fn all_get(
     rt: &impl Abort,
     alloc: Global,
     gate: &mut Gate<MemBook>,
-    request: &[u8],
-    response: &str,
+    rows: &[(&str, &str)],
 ) -> Result<(), Fail> {
-    let (_, bytes) = serve_bytes(alloc, gate, request)?;
-    assert_eq!(rt; bytes.as_slice(), response.as_bytes());
+    for (request, response) in rows {
+        let (_, bytes) = serve_bytes(alloc, gate, request.as_bytes())?;
+        assert_eq!(rt; bytes.as_slice(), response.as_bytes());
+    }
     Ok(())
 }
 
@@ -94,5 +100,18 @@ pub fn posts(
     let request = posting(alloc, door, delivery)?;
     let (_, bytes) = serve_bytes(alloc, gate, request.as_bytes())?;
     assert!(rt; bytes.as_slice().ends_with(body.as_bytes()));
+    Ok(())
+}
+
+/// Each delivery to its door gets a response that ends in its body, one after another.
+pub fn all_post(
+    rt: &impl Abort,
+    alloc: Global,
+    gate: &mut Gate<MemBook>,
+    rows: &[(&str, &str, &str)],
+) -> Result<(), Fail> {
+    for (door, delivery, body) in rows {
+        posts(rt, alloc, gate, door, delivery, body)?;
+    }
     Ok(())
 }

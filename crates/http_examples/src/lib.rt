@@ -2,6 +2,10 @@
 #![tactic(auto)]
 
 #[cfg(test)]
+mod broken;
+#[cfg(test)]
+mod connections;
+#[cfg(test)]
 mod gates;
 #[cfg(test)]
 mod requests;

@@ -1,13 +1,17 @@
 //! Requests to a gate in memory, with the responses typed from the formats.
-use crate::gates::{gets, new_gate, posts, told};
+use crate::gates::{all_get, all_post, new_gate, posts, told};
+use gate_book::memory::MemBook;
+use gate_core::gate::Gate;
+use gate_http::memory::serve_bytes;
 use std::alloc::{AllocError, Global};
+use std::process::Abort;
 use std::test::Fail;
 
-const CALL: &[u8] =
-    b"POST /forge HTTP/1.1\r\nHost: gate\r\nContent-Length: 89\r\n\r\n{\"id\":\"00000000-0000-4000-8000-000000000001\",\"kind\":\"approved\",\"change\":101,\"revision\":1}";
+const CALL: &str =
+    "POST /forge HTTP/1.1\r\nHost: gate\r\nContent-Length: 89\r\n\r\n{\"id\":\"00000000-0000-4000-8000-000000000001\",\"kind\":\"approved\",\"change\":101,\"revision\":1}";
 
-const PADDED: &[u8] =
-    b"POST /forge HTTP/1.1\r\nHost: gate\r\nContent-Length: 00089\r\n\r\n{\"id\":\"00000000-0000-4000-8000-000000000001\",\"kind\":\"approved\",\"change\":101,\"revision\":1}";
+const PADDED: &str =
+    "POST /forge HTTP/1.1\r\nHost: gate\r\nContent-Length: 00089\r\n\r\n{\"id\":\"00000000-0000-4000-8000-000000000001\",\"kind\":\"approved\",\"change\":101,\"revision\":1}";
 
 const UNKNOWN: &str =
     "HTTP/1.1 404 Not Found\r\nContent-Type: application/json\r\nContent-Length: 38\r\nConnection: close\r\n\r\n{\"code\":\"E5\",\"error\":\"unknown-change\"}";
@@ -26,6 +30,13 @@ const NO_ORDERS: &str =
 
 const STOPPED: &str =
     "HTTP/1.1 200 OK\r\nContent-Type: application/json\r\nContent-Length: 126\r\nConnection: close\r\n\r\n{\"after\":0,\"ahead\":[[101,1]],\"build\":3,\"change\":102,\"job\":\"unit\",\"live\":false,\"outcome\":\"running\",\"queue\":\"core\",\"revision\":1}";
+
+const TAKE: &str = r#"{"id":"0c000000-0000-4000-8000-000000000001","kind":"take","worker":"w1"}"#;
+
+const WRONG_DOOR: &str =
+    "Content-Length: 34\r\nConnection: close\r\n\r\n{\"code\":\"E3\",\"error\":\"wrong-door\"}";
+
+const IDLE: &str = "\r\n\r\n{\"code\":\"E12\",\"error\":\"idle\"}";
 
 const BAD_JSON: &str = "\r\n\r\n{\"code\":\"E1\",\"error\":\"bad-json\"}";
 
@@ -47,150 +58,86 @@ const FAILED: &str =
 
 #[test]
 fn an_empty_gate_responds(rt: HostRuntime) -> Result<(), Fail> {
-    let alloc = rt.alloc();
-    let mut gate = new_gate(alloc)?;
-    gets(&rt, alloc, &mut gate, CALL, UNKNOWN)?;
-    gets(&rt, alloc, &mut gate, PADDED, UNKNOWN)?;
-    gets(
-        &rt,
-        alloc,
-        &mut gate,
-        b"GET /builds/0 HTTP/1.1\r\n\r\n",
-        NO_BUILD,
-    )?;
-    gets(
-        &rt,
-        alloc,
-        &mut gate,
-        b"GET /orders?x HTTP/1.1\r\n\r\n",
-        NO_ORDERS,
-    )?;
-    gets(
-        &rt,
-        alloc,
-        &mut gate,
-        b"GET /status HTTP/1.1\r\n\r\n",
-        EMPTY,
-    )
+    let mut gate = new_gate(rt.alloc())?;
+    let rows = [
+        (CALL, UNKNOWN),
+        (PADDED, UNKNOWN),
+        ("GET /builds/0 HTTP/1.1\r\n\r\n", NO_BUILD),
+        ("GET /orders?x HTTP/1.1\r\n\r\n", NO_ORDERS),
+        ("GET /status HTTP/1.1\r\n\r\n", EMPTY),
+    ];
+    all_get(&rt, rt.alloc(), &mut gate, &rows)
 }
 
 #[test]
 fn a_door_is_for_its_kinds(rt: HostRuntime) -> Result<(), Fail> {
-    let alloc = rt.alloc();
-    let mut gate = new_gate(alloc)?;
-    let take =
-        "{\"id\":\"0c000000-0000-4000-8000-000000000001\",\"kind\":\"take\",\"worker\":\"w1\"}";
-    posts(
-        &rt,
-        alloc,
-        &mut gate,
-        "forge",
-        take,
-        "Content-Length: 34\r\nConnection: close\r\n\r\n{\"code\":\"E3\",\"error\":\"wrong-door\"}",
-    )?;
-    posts(
-        &rt,
-        alloc,
-        &mut gate,
-        "worker",
-        take,
-        "\r\n\r\n{\"code\":\"E12\",\"error\":\"idle\"}",
-    )
+    let mut gate = new_gate(rt.alloc())?;
+    let rows = [("forge", TAKE, WRONG_DOOR), ("worker", TAKE, IDLE)];
+    all_post(&rt, rt.alloc(), &mut gate, &rows)
 }
 
 #[test]
 fn a_stopped_build_is_shown(rt: HostRuntime) -> Result<(), Fail> {
-    let alloc = rt.alloc();
-    let mut gate = new_gate(alloc)?;
-    told(alloc, &mut gate, FAILED)?;
-    gets(
-        &rt,
-        alloc,
-        &mut gate,
-        b"GET /builds/3 HTTP/1.1\r\n\r\n",
-        STOPPED,
-    )?;
-    gets(
-        &rt,
-        alloc,
-        &mut gate,
-        b"GET /builds/03 HTTP/1.1\r\n\r\n",
-        NO_BUILD,
-    )?;
-    gets(
-        &rt,
-        alloc,
-        &mut gate,
-        b"GET /builds/5 HTTP/1.1\r\n\r\n",
-        NO_BUILD,
-    )?;
-    gets(
-        &rt,
-        alloc,
-        &mut gate,
-        b"GET /builds/1000000000000001 HTTP/1.1\r\n\r\n",
-        NO_BUILD,
-    )
+    let mut gate = new_gate(rt.alloc())?;
+    told(rt.alloc(), &mut gate, FAILED)?;
+    let rows = [
+        ("GET /builds/3 HTTP/1.1\r\n\r\n", STOPPED),
+        ("GET /builds/03 HTTP/1.1\r\n\r\n", NO_BUILD),
+        ("GET /builds/5 HTTP/1.1\r\n\r\n", NO_BUILD),
+        ("GET /builds/1000000000000001 HTTP/1.1\r\n\r\n", NO_BUILD),
+    ];
+    all_get(&rt, rt.alloc(), &mut gate, &rows)
+}
+
+/// The call is refused, wherever it is cut.
+fn is_cut(rt: &impl Abort, alloc: Global, gate: &mut Gate<MemBook>) -> Result<(), Fail> {
+    for n in 1..CALL.len() {
+        let (_, bytes) = serve_bytes(alloc, gate, &CALL.as_bytes()[..n])?;
+        assert_eq!(rt; bytes.as_slice(), CUT.as_bytes());
+    }
+    Ok(())
 }
 
 #[test]
 fn a_cut_delivery_changes_nothing(rt: HostRuntime) -> Result<(), Fail> {
-    let alloc = rt.alloc();
-    let mut gate = new_gate(alloc)?;
-    for n in 1..CALL.len() {
-        gets(&rt, alloc, &mut gate, &CALL[..n], CUT)?;
+    let mut gate = new_gate(rt.alloc())?;
+    is_cut(&rt, rt.alloc(), &mut gate)?;
+    let rows = [("GET /status HTTP/1.1\r\n\r\n", EMPTY)];
+    all_get(&rt, rt.alloc(), &mut gate, &rows)
+}
+
+/// So many times a text, and so many brackets that close.
+fn repeated(alloc: Global, text: &str, times: usize, closing: usize) -> Result<String, AllocError> {
+    let mut body = text.repeat(alloc, times)?;
+    for _ in 0..closing {
+        body.push(']')?;
     }
-    gets(
-        &rt,
-        alloc,
-        &mut gate,
-        b"GET /status HTTP/1.1\r\n\r\n",
-        EMPTY,
-    )
+    Ok(body)
+}
+
+/// Such a body is answered so.
+fn is_answered(
+    rt: &impl Abort,
+    alloc: Global,
+    gate: &mut Gate<MemBook>,
+    row: (&str, usize, usize, &str),
+) -> Result<(), Fail> {
+    let (text, times, closing, answer) = row;
+    let body = repeated(alloc, text, times, closing)?;
+    posts(rt, alloc, gate, "forge", body.as_str(), answer)
 }
 
 #[test]
 fn hostile_bodies_are_refused(rt: HostRuntime) -> Result<(), Fail> {
-    let alloc = rt.alloc();
-    let mut gate = new_gate(alloc)?;
-    posts(&rt, alloc, &mut gate, "forge", "", BAD_JSON)?;
-    posts(
-        &rt,
-        alloc,
-        &mut gate,
-        "forge",
-        "[".repeat(alloc, 128)?.as_str(),
-        BAD_JSON,
-    )?;
-    posts(
-        &rt,
-        alloc,
-        &mut gate,
-        "forge",
-        nested(alloc, 127)?.as_str(),
-        BAD_DELIVERY,
-    )?;
-    posts(
-        &rt,
-        alloc,
-        &mut gate,
-        "forge",
-        nested(alloc, 128)?.as_str(),
-        BAD_JSON,
-    )?;
-    posts(
-        &rt,
-        alloc,
-        &mut gate,
-        "forge",
-        " ".repeat(alloc, 65536)?.as_str(),
-        BAD_JSON,
-    )
-}
-
-/// So many brackets that open, and as many that close.
-fn nested(alloc: Global, n: usize) -> Result<String, AllocError> {
-    let mut text = "[".repeat(alloc, n)?;
-    text.push_str("]".repeat(alloc, n)?.as_str())?;
-    Ok(text)
+    let mut gate = new_gate(rt.alloc())?;
+    for row in [
+        ("", 0, 0, BAD_JSON),
+        ("[", 128, 0, BAD_JSON),
+        ("[", 127, 127, BAD_DELIVERY),
+        ("[", 128, 128, BAD_JSON),
+        (" ", 65536, 0, BAD_JSON),
+    ] {
+        is_answered(&rt, rt.alloc(), &mut gate, row)?;
+    }
+    Ok(())
 }

@@ -1,5 +1,5 @@
 //! Requests over readers and writers that fail, and what their repeats get.
-use crate::gates::{new_gate, posting, posts, told};
+use crate::gates::{KNOWN, new_gate, posting, posts, told};
 use gate_book::memory::MemBook;
 use gate_core::fault::IoFault;
 use gate_core::gate::Gate;
@@ -9,12 +9,8 @@ use gate_types::tap::Tap;
 use std::alloc::Global;
 use std::io;
 use std::io::{Read, Write};
+use std::process::Abort;
 use std::test::Fail;
-
-/// Change 101 of `lib` is known.
-const KNOWN: &str =
-    r#"{"id":"0b000000-0000-4000-8000-000000000001","kind":"revision","change":101,"project":"lib","revision":1,"message":""}
-"#;
 
 const APPROVED: &str =
     r#"{"id":"0b000000-0000-4000-8000-000000000002","kind":"approved","change":101,"revision":1}"#;
@@ -127,6 +123,20 @@ fn a_repeat_after_a_cut_answer_gets_the_kept_reply(rt: HostRuntime) -> Result<()
     Ok(())
 }
 
+/// A request that breaks off after so many bytes is not answered.
+fn breaks_off(
+    rt: &impl Abort,
+    alloc: Global,
+    gate: &mut Gate<MemBook>,
+    request: &str,
+    reads: usize,
+) -> Result<(), Fail> {
+    let (served, bytes) = written(alloc, gate, request, reads, 1000);
+    assert_eq!(rt; served, Err(IoFault::Read));
+    assert_eq!(rt; bytes.len(), 0);
+    Ok(())
+}
+
 #[test]
 fn a_request_that_breaks_off_is_not_acted_on(rt: HostRuntime) -> Result<(), Fail> {
     let alloc = rt.alloc();
@@ -134,9 +144,7 @@ fn a_request_that_breaks_off_is_not_acted_on(rt: HostRuntime) -> Result<(), Fail
     told(alloc, &mut gate, KNOWN)?;
     let request = posting(alloc, "forge", APPROVED)?;
     for reads in 0..request.len() {
-        let (served, bytes) = written(alloc, &mut gate, request.as_str(), reads, 1000);
-        assert_eq!(rt; served, Err(IoFault::Read));
-        assert_eq!(rt; bytes.len(), 0);
+        breaks_off(&rt, alloc, &mut gate, request.as_str(), reads)?;
     }
     let (_, bytes) = written(alloc, &mut gate, "GET /orders HTTP/1.1\r\n\r\n", 1000, 1000);
     assert!(rt; bytes.as_slice().ends_with(b"[]"));
