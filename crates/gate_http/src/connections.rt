@@ -1,5 +1,5 @@
 //! Connections are served, one after another.
-ghost use Rattle.std.specs.Prelude.{◌≡◌, ◌≤◌, List, [], ◌∷◌, length, true, false, OnOk, OnErr};
+ghost use Rattle.std.specs.Prelude.{◌≡◌, ◌≤◌, List, [], ◌∷◌, length, true, false, OnOk, OnErr, IfErr, IsErrOf};
 ghost use Rattle.gate_types.specs.Tap.{has_failed, Took, TookFront};
 ghost use Rattle.gate_core.specs.declared.fault.IoFault.{IoFault};
 ghost use Rattle.gate_core.specs.Held.{Goes};
@@ -42,7 +42,9 @@ fn tell<E: Write>(fault: IoFault, errors: &mut Tap<E>)
 }
 
 /// Sends what the buffer holds, and says that no more follows.
-fn hang_up<S: Write + OpenStream + Drop>(mut writer: BufWriter<S>) -> Result<(), IoFault> {
+fn hang_up<S: Write + OpenStream + Drop>(mut writer: BufWriter<S>) -> Result<(), IoFault>
+    ensures { IfErr result (λ e. e ≡ IoFault.Write) }
+{
     let sent = writer.flush();
     let (stream, _) = writer.into_parts();
     let _ = stream.shutdown(Shutdown::Write);
@@ -63,7 +65,8 @@ fn serve_stream<S: Read + Write + OpenStream + Drop, B: Book>(
     gate: &mut Gate<B>,
     stream: S,
 ) -> Result<(), IoFault>
-    ensures { Goes B.IsTrusted B.Holds gate.old gate.new (IsCalled 1) }
+    ensures gate { Goes B.IsTrusted B.Holds gate.old gate.new (IsCalled 1) }
+    ensures store { IsErrOf result IoFault.Store → ⊥ }
 {
     let Ok(other) = stream.try_clone() else {
         return Err(IoFault::Read);
