@@ -1,5 +1,5 @@
 -- Connections, one after another: the gate after them, and the faults that were told.
-use Rattle.std.proofs.Common.{◌≡◌, ◌≤◌, ℕ, ◌+◌, Bool, true, false, true≢false, List, [], ◌∷◌, ◌++◌, length, take, Option, Result, Ok, Err, IfOk, arith, refl, sym, ap, ◌∙◌, subst, append-nil, length-append}
+use Rattle.std.proofs.Common.{◌≡◌, ◌≤◌, ℕ, ◌+◌, Bool, true, false, true≢false, List, [], ◌∷◌, ◌++◌, length, Option, Result, Ok, Err, IfOk, arith, refl, sym, ap, ◌∙◌, subst, append-nil, length-append}
 use Rattle.std.specs.Prelude.{IsErrOf}
 use Rattle.std.specs.Io.KnownBytes.{Appends}
 use Rattle.std.proofs.KnownBytes.{Appends-trans, Appends-nil}
@@ -12,7 +12,7 @@ use Rattle.gate_types.specs.declared.deliveries.Refusal.{Refusal}
 use Rattle.gate_types.specs.declared.tap.Tap.{Tap}
 use Rattle.gate_types.specs.Settings.{Settings}
 use Rattle.gate_types.specs.Tap.{inside, has_failed, WritesFront, Took, TookFront}
-use Rattle.gate_types.specs.Once.{Content, Call, next_content}
+use Rattle.gate_types.specs.Once.{Content, next_content}
 use Rattle.gate_wire.specs.Reading.{says}
 use Rattle.gate_core.specs.declared.fault.IoFault.{IoFault}
 use Rattle.gate_core.specs.declared.fault.IoFault.TheVariants as fault
@@ -22,9 +22,9 @@ use Rattle.gate_core.specs.Held.{Goes}
 use Rattle.gate_core.specs.Replies.{call_read}
 use Rattle.gate_core.proofs.ReplyLemmas.{goes_nowhere, goes_on}
 use Rattle.gate_http.specs.declared.served.Served.{Served}
-use Rattle.gate_http.specs.Asked.{Asked, delivery, page, build}
+use Rattle.gate_http.specs.Asked.{delivery, page, build}
 use Rattle.gate_http.specs.Way.{Way, silence, refusal, question, Request, way_of}
-use Rattle.gate_http.specs.Answer.{calls_asked, calls_of, gate_after, Answers, is_unavailable as is_503}
+use Rattle.gate_http.specs.Answer.{calls_of, gate_after, is_unavailable as is_503}
 use Rattle.gate_http.specs.Serving.{Serves}
 use Rattle.gate_http.specs.Connections.{IsCalled, fault_line, fault_lines, AreTold}
 use Rattle.gate_http.proofs.ResponseLemmas.{writes_later}
