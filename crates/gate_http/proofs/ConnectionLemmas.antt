@@ -1,7 +1,10 @@
 -- Connections, one after another: the gate after them, and the faults that were told.
-use Rattle.std.proofs.Common.{◌≡◌, ◌≤◌, ℕ, ◌+◌, Bool, true, false, true≢false, List, [], ◌∷◌, ◌++◌, length, Option, Result, Ok, Err, IfOk, arith, refl, sym, ap, ◌∙◌, subst, append-nil, length-append}
-use Rattle.std.specs.Prelude.{IsErrOf}
-use Rattle.std.specs.Io.KnownBytes.{Appends}
+use Rattle.std.proofs.Common.{◌≡◌, ◌≤◌, ℕ, ◌+◌, Bool, true, false, true≢false, List, [], ◌∷◌, ◌++◌, length, Option, None, Some, Result, Ok, Err, IfOk, arith, refl, sym, ap, ◌∙◌, subst, append-nil, length-append}
+use Rattle.std.specs.Prelude.{IsErrOf, OnOk}
+use Rattle.std.specs.Result.{result_and}
+use Rattle.std.specs.Io.KnownBytes.{Appends, Keeps, append_known}
+use Rattle.std.specs.Io.Buffered.{writer_contents, writer_buffer, writer_inner}
+use Rattle.std.specs.declared.io.buffered.BufWriter.{BufWriter}
 use Rattle.std.proofs.KnownBytes.{Appends-trans, Appends-nil}
 use Rattle.std.proofs.lemmas.List.{take-append-le}
 use Rattle.std.proofs.lemmas.List.Concat.{flat_map-append}
@@ -96,6 +99,37 @@ module _ {B : Type 0} (trusted : B → Type 0) (holds : B → Settings → Conte
       → Goes trusted holds mid new (IsCalled 1) → Goes trusted holds old new (IsCalled (n + 1))
   called_on n old mid new first next =
       goes_on trusted holds old mid new (IsCalled n) (IsCalled 1) (IsCalled (n + 1)) first next (more_calls n 1)
+
+-- ---- responses
+
+-- what a buffer took is in what is behind it, once the buffer is empty
+passed_on : (a b o : Option (List ℕ)) (text buffer : List ℕ) → Appends a b text → Keeps b (append_known o buffer)
+    → buffer ≡ [] → Appends a o text
+passed_on None b o text buffer p q e = tt
+passed_on (Some x) None o text buffer p q e = absurd p
+passed_on (Some x) (Some y) None text buffer p q e = absurd q
+passed_on (Some x) (Some y) (Some z) text buffer p q e =
+    sym (append-nil z) ∙ ap (λ w. z ++ w) (sym e) ∙ q ∙ p
+
+-- a response that was sent
+pub sent_whole : {W A U : Type 0} (held : W → Option (List ℕ)) (Read : Request → Type 0)
+    (Does : Request → Served → List ℕ → Type 0) (a b : Option (List ℕ)) (new : BufWriter W A) (stream : W)
+    (served : Result Served IoFault) (sent : Result U IoFault)
+    → IfOk served (λ s. (r : Request) × Read r × (text : List ℕ) × Appends a b text × Does r s text)
+    → Keeps b (writer_contents held new) → OnOk sent (writer_buffer new ≡ []) → stream ≡ writer_inner new
+    → OnOk (result_and served sent) ((r : Request) × Read r × (s : Served) × (text : List ℕ)
+    × Appends a (held stream) text × Does r s text)
+sent_whole held Read Does a b new stream (Ok s) (Ok u) h keeps empty at = (
+  h.0,
+  h.1,
+  s,
+  h.2,
+  subst (λ w. Appends a (held w) h.2) (sym at)
+      (passed_on a b (held (writer_inner new)) h.2 (writer_buffer new) h.3 keeps empty),
+  h.4,
+)
+sent_whole held Read Does a b new stream (Ok s) (Err e) h keeps empty at = tt
+sent_whole held Read Does a b new stream (Err e) sent h keeps empty at = tt
 
 -- ---- faults
 

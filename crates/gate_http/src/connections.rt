@@ -1,11 +1,17 @@
 //! Connections are served, one after another.
-ghost use Rattle.std.specs.Prelude.{◌≡◌, ◌≤◌, List, [], ◌∷◌, length, true, false, OnOk, OnErr, IfErr, IsErrOf};
-ghost use Rattle.gate_types.specs.Tap.{has_failed, Took, TookFront};
+ghost use Rattle.std.specs.Prelude.{◌≡◌, ◌≤◌, ℕ, List, [], ◌∷◌, length, true, false, OnOk, OnErr, IfErr, IsErrOf};
+ghost use Rattle.std.specs.Io.Buffered.{writer_buffer, writer_contents};
+ghost use Rattle.std.specs.Io.KnownBytes.{Appends, Keeps};
+ghost use Rattle.gate_types.specs.Tap.{inside, has_failed, Took, TookFront};
 ghost use Rattle.gate_core.specs.declared.fault.IoFault.{IoFault};
 ghost use Rattle.gate_core.specs.Held.{Goes};
+ghost use Rattle.gate_http.specs.Way.{Request, way_of};
+ghost use Rattle.gate_http.specs.Exchange.{IsRead};
+ghost use Rattle.gate_http.specs.Serving.{Serves};
 ghost use Rattle.gate_http.specs.Connections.{IsCalled, fault_line, AreTold};
 
 use crate::serve::serve_one;
+use crate::served::Served;
 use gate_book::book::Book;
 use gate_core::fault::IoFault;
 use gate_core::gate::Gate;
@@ -41,24 +47,51 @@ fn tell<E: Write>(fault: IoFault, errors: &mut Tap<E>)
     }
 }
 
-/// Sends what the buffer holds, and says that no more follows.
-fn hang_up<S: Write + OpenStream + Drop>(mut writer: BufWriter<S>) -> Result<(), IoFault>
-    ensures { IfErr result (λ e. e ≡ IoFault.Write) }
+/// Sends what the buffer holds.
+fn send<W: Write + Drop>(writer: &mut BufWriter<W>) -> Result<(), IoFault>
+    ensures bytes { Keeps (writer_contents W.contents writer.old) (writer_contents W.contents writer.new) }
+    ensures ok { OnOk result (writer_buffer writer.new ≡ []) }
+    ensures err { IfErr result (λ e. e ≡ IoFault.Write) }
 {
-    let sent = writer.flush();
-    let (stream, _) = writer.into_parts();
-    let _ = stream.shutdown(Shutdown::Write);
-    match sent {
+    match writer.flush() {
         Ok(()) => Ok(()),
         Err(_) => Err(IoFault::Write),
     }
 }
 
-/// Serves one connection, and closes it.
+/// Serves one request, sends the response, and gives back what it was sent to.
 ///
 /// # Errors
 ///
-/// `Read`: the stream gave an error, or could not be had twice. `Write`: the answer could not be
+/// Those of `serve_one`; and `Write` where the end of the response could not be sent.
+fn serve_whole<B: Book, R: Read, W: Write + Drop>(
+    alloc: Global,
+    gate: &mut Gate<B>,
+    reader: &mut Tap<R>,
+    writer: BufWriter<W>,
+) -> (Result<(), IoFault>, W)
+    requires { has_failed reader.old ≡ false }
+    ensures gate { Goes B.IsTrusted B.Holds gate.old gate.new (IsCalled 1) }
+    // nothing of the response is left in the buffer
+    ensures sent { OnOk result.0 ((r : Request)
+        × IsRead (R.remaining (inside reader.old)) (R.remaining (inside reader.new)) r
+        × (served : Served) × (text : List ℕ)
+        × Appends (writer_contents W.contents writer) (W.contents result.1) text
+        × Serves B.IsTrusted B.Holds B.LeavesOneOf gate.old gate.new (way_of r) served text) }
+    ensures store { IsErrOf result.0 IoFault.Store → ⊥ }
+{
+    let mut writer = Tap::new(writer);
+    let served = serve_one(alloc, gate, reader, &mut writer);
+    let mut writer = writer.into_inner();
+    let sent = send(&mut writer);
+    (served.and(sent), writer.into_parts().0)
+}
+
+/// Serves one connection, says that no more follows, and closes it.
+///
+/// # Errors
+///
+/// `Read`: the stream gave an error, or could not be had twice. `Write`: the response could not be
 /// sent. `NoMemory`: there was none for a buffer or for the request. `Store`: never.
 fn serve_stream<S: Read + Write + OpenStream + Drop, B: Book>(
     alloc: Global,
@@ -77,10 +110,9 @@ fn serve_stream<S: Read + Write + OpenStream + Drop, B: Book>(
     let Ok(writer) = BufWriter::new(alloc, stream) else {
         return Err(IoFault::NoMemory);
     };
-    let mut reader = Tap::new(reader);
-    let mut writer = Tap::new(writer);
-    let served = serve_one(alloc, gate, &mut reader, &mut writer);
-    served.and(hang_up(writer.into_inner()))
+    let (served, stream) = serve_whole(alloc, gate, &mut Tap::new(reader), writer);
+    let _ = stream.shutdown(Shutdown::Write);
+    served
 }
 
 /// Serves so many connections of the listener, one after another: of each one request is read,
