@@ -3,3 +3,4 @@ pub mod UsageLemmas
 pub mod TellLemmas
 pub mod EndLemmas
 pub mod CheckLemmas
+mod FileLemmas

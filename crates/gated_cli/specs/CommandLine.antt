@@ -10,11 +10,15 @@ use Rattle.clap.specs.declared.error.kind.ErrorKind.{ErrorKind}
 use Rattle.clap.specs.declared.error.kind.ErrorKind.TheVariants as kind
 use Rattle.clap.specs.declared.builder.action.ArgAction.TheVariants.{SetTrue}
 use Rattle.gated_cli.specs.declared.command.Cmd.{Cmd}
-use Rattle.gated_cli.specs.declared.command.Cmd.TheVariants.{Check, Replay}
+use Rattle.gated_cli.specs.declared.command.Cmd.TheVariants.{Check, Init, Replay, Deliver}
 
 -- the settings file, a word that has to be there
 abbrev pub settings_rule : Rule
 settings_rule = record (new_rule (codes "settings")) { required = true; value_names = 1 }
+
+-- the gate's file, the word behind
+abbrev pub file_rule : Rule
+file_rule = record (new_rule (codes "file")) { required = true; value_names = 1 }
 
 -- the flag `--status`
 abbrev pub status_rule : Rule
@@ -28,37 +32,60 @@ check = with_rule (new_app (codes "check")) settings_rule
 abbrev pub replay : App
 replay = with_rule (with_rule (new_app (codes "replay")) settings_rule) status_rule
 
+-- a command with a settings file and the gate's file
+abbrev pub over_file : Text → App
+over_file name = with_rule (with_rule (new_app name) settings_rule) file_rule
+
+-- `init SETTINGS FILE`
+abbrev pub init : App
+init = over_file (codes "init")
+
+-- `deliver SETTINGS FILE`
+abbrev pub deliver : App
+deliver = over_file (codes "deliver")
+
 -- the program's name, before any command
 abbrev pub bare : App
 bare = new_app (codes "gated")
 
 -- the program's command line, where a command has to be given
 abbrev pub gated : App
-gated = with_subcommand (with_subcommand
-    (record bare { top = record bare.top { subcommand_required = true } }) check.top) replay.top
+gated = with_subcommand (with_subcommand (with_subcommand (with_subcommand
+    (record bare { top = record bare.top { subcommand_required = true } })
+    check.top) init.top) replay.top) deliver.top
 
 -- what a command line says
 pub data Said : Type 0 where
   check_of : Text → Said
+  init_of : Text × Text → Said
   replay_of : Text → Bool → Said
+  deliver_of : Text × Text → Said
 
 abbrev pub said : Option Cmd → Option Said
 said None = None
 said (Some (Check settings)) = Some (check_of settings.now)
+said (Some (Init settings file)) = Some (init_of (settings.now, file.now))
 said (Some (Replay settings status)) = Some (replay_of settings.now status)
+said (Some (Deliver settings file)) = Some (deliver_of (settings.now, file.now))
 
 -- a flag was given
 abbrev pub is_set : Option Text → Bool
 is_set None = false
 is_set (Some text) = bytes_eq text (codes "true")
 
+-- the settings file and the gate's file
+abbrev pub files_of : List Row → Option (Text × Text)
+files_of rows =
+    option_and_then (λ s. option_map (λ f. (s, f)) (first_of (codes "file") rows)) (first_of (codes "settings") rows)
+
 -- what a subcommand and its rows say
 abbrev pub said_of : Text × List Row → Option Said
 said_of (name, rows) =
     if bytes_eq name (codes "check") then option_map check_of (first_of (codes "settings") rows) else (
+    if bytes_eq name (codes "init") then option_map init_of (files_of rows) else (
     if bytes_eq name (codes "replay") then option_map
-    (λ s. replay_of s (is_set (first_of (codes "status") rows))) (first_of (codes "settings") rows)
-    else None)
+    (λ s. replay_of s (is_set (first_of (codes "status") rows))) (first_of (codes "settings") rows) else (
+    if bytes_eq name (codes "deliver") then option_map deliver_of (files_of rows) else None)))
 
 abbrev pub says : Option Cmd → Option (Text × List Row) → Type 0
 says cmd rows = said cmd ≡ option_and_then said_of rows

@@ -8,7 +8,7 @@ use Rattle.gate_types.specs.Tap.{inside, has_failed}
 use Rattle.gate_types.specs.declared.tap.Tap.{Tap}
 use Rattle.gate_config.specs.Reading.{said_by}
 use Rattle.gated_cli.specs.declared.command.Cmd.{Cmd}
-use Rattle.gated_cli.specs.declared.command.Cmd.TheVariants.{Check, Replay}
+use Rattle.gated_cli.specs.declared.command.Cmd.TheVariants.{Check, Init, Replay, Deliver}
 use Rattle.gate_core.specs.Gated.{Gated, opened}
 use Rattle.gate_core.specs.Lines.{lines_of}
 use Rattle.gate_core.specs.Replies.{Replayed}
@@ -73,7 +73,17 @@ pub record Checks (before after : Streams) : Type 0 where
   pub unread : after.left ≡ before.left
   pub written : Appends before.held after.held (check_text config ++ 10 ∷ [])
 
--- what a command that is done has read and written
+-- all of the input is read, and the output grows by the replies; which they are, no stream tells
+pub record Delivers (before after : Streams) : Type 0 where
+  pub input : List ℕ
+  pub read : Consumes before.left after.left input
+  pub ended : IsAtEnd after.left
+  pub replies : List ℕ
+  pub written : Appends before.held after.held replies
+
+-- what a command that is done has read and written; what it made of a file no stream tells
 abbrev pub Does : Cmd → Streams → Streams → Type 0
 Does (Check settings) before after = Checks before after
+Does (Init settings file) before after = after ≡ before
 Does (Replay settings status) before after = Replays status before after
+Does (Deliver settings file) before after = Delivers before after

@@ -9,19 +9,26 @@ use Rattle.gate_config.specs.Reading.{said_by, Gives}
 use Rattle.gate_core.specs.Gated.{Gated, opened}
 use Rattle.gate_core.specs.Lines.{whole_lines, ReadFor}
 use Rattle.gate_core.specs.Replies.{Replayed, Cut}
-use Rattle.gated_cli.specs.Doing.{Streams, Answers, HasSettings, settings_limit, status_of, check_text}
+use Rattle.gated_cli.specs.Doing.{Streams, Answers, Delivers, HasSettings, settings_limit, status_of, check_text}
 use Rattle.gated_cli.specs.declared.command.Cmd.{Cmd}
-use Rattle.gated_cli.specs.declared.command.Cmd.TheVariants.{Check, Replay}
+use Rattle.gated_cli.specs.declared.command.Cmd.TheVariants.{Check, Init, Replay, Deliver}
 use Rattle.gated_cli.specs.declared.run.fault.Fault.{Fault}
 use Rattle.gated_cli.specs.declared.run.fault.Fault.TheVariants as fault
 
--- a fault that comes before the input and the output are touched; a fault of the settings is that
--- of some file within the limit, or memory was refused
+-- a fault that comes before the input and the output are touched: of the gate's file, of the settings file, or that
+-- memory was refused; a fault of the settings is that of some file within the limit
 abbrev pub IsEarly : Fault → Type 0
 IsEarly (fault.Settings f) = (file : List ℕ) × (length file ≤ settings_limit) × Gives (Err f) (said_by file)
 IsEarly fault.SettingsFile = ⊤
+IsEarly (fault.File f) = ⊤
 IsEarly fault.NoMemory = ⊤
 IsEarly _ = ⊥
+
+-- a fault of the gate's file, or want of memory before it was read
+abbrev pub IsOfFile : Fault → Type 0
+IsOfFile (fault.File f) = ⊤
+IsOfFile fault.NoMemory = ⊤
+IsOfFile _ = ⊥
 
 -- the input failed and the output didn't, and the lines that were whole by then are replied to
 pub record InputFails (before after : Streams) : Type 0 where
@@ -82,9 +89,42 @@ abbrev pub CheckEnds : Fault → Streams → Streams → Type 0
 CheckEnds fault.Write before after = (after.output_failed ≡ true) × CountsAreCut before after
 CheckEnds fault before after = IsEarly fault × (after ≡ before)
 
+-- the input failed and the output didn't, which grew by replies
+pub record DeliveryStops (before after : Streams) : Type 0 where
+  pub failed : after.input_failed ≡ true
+  pub unfailed : after.output_failed ≡ false
+  pub front : List ℕ
+  pub read : Consumes before.left after.left front
+  pub replies : List ℕ
+  pub written : Appends before.held after.held replies
+
+-- the output failed within the reply to some line, and the input, which didn't, was read no further than for it
+pub record DeliveryIsCut (before after : Streams) : Type 0 where
+  pub unfailed : after.input_failed ≡ false
+  pub failed : after.output_failed ≡ true
+  pub lines : List (List ℕ)
+  pub done : ℕ
+  pub read : ReadFor before.left after.left lines done
+  pub replies : List ℕ
+  pub written : Appends before.held after.held replies
+
+-- how deliveries over a file end with a fault; all are answered where the file can't be closed
+abbrev pub DeliveryEnds : Fault → Streams → Streams → Type 0
+DeliveryEnds fault.Read before after = DeliveryStops before after
+DeliveryEnds fault.Write before after = DeliveryIsCut before after
+DeliveryEnds fault.Store before after = Delivers before after
+DeliveryEnds fault before after = IsEarly fault × (after ≡ before)
+
+-- a fault of making a file: an early one, or that the file can't be closed
+abbrev pub IsOfMaking : Fault → Type 0
+IsOfMaking fault.Store = ⊤
+IsOfMaking f = IsEarly f
+
 -- how a command ends with a fault
 abbrev pub EndsBy : Fault → Cmd → Streams → Streams → Type 0
 EndsBy fault (Check settings) before after = CheckEnds fault before after
+EndsBy fault (Init settings file) before after = IsOfMaking fault × (after ≡ before)
+EndsBy fault (Deliver settings file) before after = DeliveryEnds fault before after
 EndsBy fault (Replay settings status) before after = ReplayEnds status fault before after
 
 -- the whole text is written, or a beginning where the writer has failed

@@ -5,6 +5,8 @@ use Rattle.gate_config.specs.declared.fault.ConfigFault.{ConfigFault}
 use Rattle.gate_config.specs.declared.fault.ConfigFault.TheVariants as config
 use Rattle.gate_core.specs.declared.fault.IoFault.{IoFault}
 use Rattle.gate_core.specs.declared.fault.IoFault.TheVariants as io
+use Rattle.gate_sql.specs.declared.open_fault.OpenFault.{OpenFault}
+use Rattle.gate_sql.specs.declared.open_fault.OpenFault.TheVariants as file
 use Rattle.gated_cli.specs.declared.run.fault.Fault.{Fault}
 use Rattle.gated_cli.specs.declared.run.fault.Fault.TheVariants as fault
 
@@ -26,9 +28,17 @@ settings_number config.NoMemory = codes "C11"
 abbrev pub settings_text : ConfigFault → List ℕ
 settings_text f = settings_number f ++ codes " " ++ word_of f
 
+-- a fault of the gate's file
+abbrev pub file_text : OpenFault → List ℕ
+file_text file.WrongFile = codes "O1 wrong-file"
+file_text file.OtherSchema = codes "O2 other-schema"
+file_text file.OtherSettings = codes "O3 other-settings"
+file_text file.Unavailable = codes "O4 unavailable"
+
 -- a fault's number, a space and its word
 abbrev pub text_of : Fault → List ℕ
 text_of (fault.Settings f) = settings_text f
+text_of (fault.File f) = file_text f
 text_of fault.Unavailable = codes "E15 unavailable"
 text_of fault.Read = codes "I1 read"
 text_of fault.Write = codes "I2 write"

@@ -4,3 +4,4 @@ pub mod Doing
 pub mod Ending
 pub mod Program
 pub mod InMemory
+pub mod OverFile

@@ -3,8 +3,8 @@ ghost use Rattle.std.specs.Prelude.{◌≡◌, codes, IfOk, IfErr, map, is_some,
 ghost use Rattle.clap.specs.Words.{app_of, rule_of, subcommand_rows_of, rows_of, found_of, first_of};
 ghost use Rattle.clap.specs.Words.{kind_of, takes};
 ghost use Rattle.clap.specs.declared.builder.command.Command.TheViews.{out-Command as fields_of};
-ghost use Rattle.gated_cli.specs.CommandLine.{gated, check, replay, settings_rule, is_set, said, says, said_of};
-ghost use Rattle.gated_cli.specs.CommandLine.{asked, Names, IsExplained};
+ghost use Rattle.gated_cli.specs.CommandLine.{gated, check, replay, over_file, settings_rule, is_set, said, says, said_of};
+ghost use Rattle.gated_cli.specs.CommandLine.{asked, files_of, Names, IsExplained};
 
 use clap::error::ErrorKind;
 use clap::{Arg, ArgAction, ArgMatches, Command, Error};
@@ -19,9 +19,13 @@ mod tests;
 pub enum Cmd<'a> {
     /// Reads the settings of a file, and prints how many queues, projects and jobs they have.
     Check { settings: &'a str },
+    /// Makes the tables of a gate that has seen no delivery, in a file.
+    Init { settings: &'a str, file: &'a str },
     /// Answers the deliveries of standard input over the settings of a file, then prints the
     /// status if that is asked for.
     Replay { settings: &'a str, status: bool },
+    /// Answers the deliveries of standard input over the gate that a file keeps.
+    Deliver { settings: &'a str, file: &'a str },
 }
 
 /// Why a command line asks for nothing to be done: it is refused, or it asks for help. It prints
@@ -56,7 +60,17 @@ fn app<'a>(alloc: Global) -> Result<Command<'a>, AllocError>
         )
         .subcommand_required(true)
         .subcommand(check(alloc)?)?
-        .subcommand(replay(alloc)?)
+        .subcommand(over_file(
+            alloc,
+            "init",
+            "Makes the tables of a new gate in FILE. Run it once, before the first delivery.",
+        )?)?
+        .subcommand(replay(alloc)?)?
+        .subcommand(over_file(
+            alloc,
+            "deliver",
+            "Answers each line of standard input, a delivery, over the gate that FILE keeps.",
+        )?)
 }
 
 /// The settings file, which each command names.
@@ -76,6 +90,24 @@ fn check<'a>(alloc: Global) -> Result<Command<'a>, AllocError>
     Command::new(alloc, "check")
         .about("Reads the settings file, and prints how many queues, projects and jobs it has.")
         .arg(settings(alloc))
+}
+
+/// A command over the gate that a file keeps.
+fn over_file<'a>(
+    alloc: Global,
+    name: &'static str,
+    about: &'static str,
+) -> Result<Command<'a>, AllocError>
+    ensures { IfOk result (λ c. (app_of c ≡ over_file name.now) × ((fields_of c).has_globals ≡ false)) }
+{
+    let file = Arg::new(alloc, "file")
+        .value_name("FILE")
+        .help("The gate's file, a SQLite database that `gated init` made")
+        .required(true);
+    Command::new(alloc, name)
+        .about(about)
+        .arg(settings(alloc))?
+        .arg(file)
 }
 
 fn replay<'a>(alloc: Global) -> Result<Command<'a>, AllocError>
@@ -105,8 +137,12 @@ fn entered<'a>(name: &str, inner: &ArgMatches<'a>) -> Option<Cmd<'a>>
 {
     if name == "check" {
         checking(inner)
+    } else if name == "init" {
+        initing(inner)
     } else if name == "replay" {
         replaying(inner)
+    } else if name == "deliver" {
+        delivering(inner)
     } else {
         None
     }
@@ -131,6 +167,27 @@ fn replaying<'a>(inner: &ArgMatches<'a>) -> Option<Cmd<'a>>
         }),
         None => None,
     }
+}
+
+fn initing<'a>(inner: &ArgMatches<'a>) -> Option<Cmd<'a>>
+    ensures { said result ≡ said_of (codes "init", rows_of (found_of inner.now)) }
+{
+    let (settings, file) = files(inner)?;
+    Some(Cmd::Init { settings, file })
+}
+
+fn delivering<'a>(inner: &ArgMatches<'a>) -> Option<Cmd<'a>>
+    ensures { said result ≡ said_of (codes "deliver", rows_of (found_of inner.now)) }
+{
+    let (settings, file) = files(inner)?;
+    Some(Cmd::Deliver { settings, file })
+}
+
+/// The settings file, and the gate's file.
+fn files<'a>(inner: &ArgMatches<'a>) -> Option<(&'a str, &'a str)>
+    ensures { option_map (λ p. (p.0.now, p.1.now)) result ≡ files_of (rows_of (found_of inner.now)) }
+{
+    Some((value(inner, "settings")?, value(inner, "file")?))
 }
 
 /// The value of an argument.

@@ -2,6 +2,7 @@
 #![tactic(auto)]
 
 pub mod command;
+pub mod machine;
 pub mod program;
 pub mod run;
 #[cfg(test)]

@@ -12,6 +12,7 @@ ghost use Rattle.gated_cli.specs.Program.{Obeys, FailsBy, HelpFails, out_of_memo
 mod tests;
 
 use crate::command::{Usage, command};
+use crate::machine::GateFiles;
 use crate::run::{Fault, ended, run};
 use clap::error::ErrorKind;
 use gate_types::tap::{Failed, Tap};
@@ -27,7 +28,7 @@ const REFUSED: u8 = 2;
 /// Does what the words ask for, of which the first is the program's name, and gives the status
 /// that the program ends with: 0 where it is done, or help is given; 1 after a fault; 2 where the
 /// words are refused, which `errors` is told.
-pub fn program<F: Files + AllocGlobal, S: AsStr, R: Read, W: Write, E: Write>(
+pub fn program<F: Files + GateFiles + AllocGlobal, S: AsStr, R: Read, W: Write, E: Write>(
     rt: &F,
     words: &[S],
     input: &mut Tap<R>,

@@ -1,8 +1,8 @@
 //! Does what a command line asks for.
 ghost use Rattle.std.specs.Prelude.{◌≡◌, ◌⊎◌, ◌≤◌, ℕ, List, Option, Bool, OnOk, IfOk, IfErr, length, false, true};
 ghost use Rattle.gate_types.specs.Tap.{has_failed, Took, TookFront};
-ghost use Rattle.gated_cli.specs.Doing.{Does, Checks, Replays, HasSettings, beside, streams, settings_limit, status_of};
-ghost use Rattle.gated_cli.specs.Ending.{EndsBy, CheckEnds, ReplayEnds, IsEarly, Tells};
+ghost use Rattle.gated_cli.specs.Doing.{Does, Checks, Delivers, Replays, HasSettings, beside, streams, settings_limit, status_of};
+ghost use Rattle.gated_cli.specs.Ending.{EndsBy, CheckEnds, DeliveryEnds, ReplayEnds, IsEarly, IsOfMaking, Tells};
 ghost use Rattle.gated_cli.specs.Faults.{line_of};
 ghost use Rattle.gated_cli.specs.InMemory.{IsGate};
 ghost use Rattle.gate_core.specs.Gated.{Gated, opened};
@@ -10,11 +10,15 @@ ghost use Rattle.gate_core.specs.Gated.{Gated, opened};
 mod check;
 mod fault;
 #[cfg(test)]
+mod file_tests;
+#[cfg(test)]
 mod memory_tests;
+pub mod over_file;
 #[cfg(test)]
 mod tests;
 
 use crate::command::Cmd;
+use crate::machine::GateFiles;
 use crate::run::check::check_text;
 pub use fault::Fault;
 use gate_book::memory::MemBook;
@@ -38,7 +42,7 @@ const SETTINGS_LIMIT: usize = 1_048_576;
 /// where it is done, refused deliveries included; 1 after a fault, which is told on `errors` by
 /// one line: `gated: ` and the fault's text. A fault of the settings leaves input and output as
 /// they were.
-pub fn run<F: Files + AllocGlobal, R: Read, W: Write, E: Write>(
+pub fn run<F: Files + GateFiles + AllocGlobal, R: Read, W: Write, E: Write>(
     rt: &F,
     cmd: Cmd<'_>,
     input: &mut Tap<R>,
@@ -87,7 +91,7 @@ fn tell<E: Write>(fault: Fault, errors: &mut Tap<E>) -> Result<(), Failed>
     Ok(())
 }
 
-fn perform<F: Files + AllocGlobal, R: Read, W: Write>(
+fn perform<F: Files + GateFiles + AllocGlobal, R: Read, W: Write>(
     rt: &F,
     cmd: Cmd<'_>,
     input: &mut Tap<R>,
@@ -104,12 +108,14 @@ fn perform<F: Files + AllocGlobal, R: Read, W: Write>(
 {
     match cmd {
         Cmd::Check { settings } => checked(rt, settings, output)?,
+        Cmd::Init { settings, file } => made(rt, settings, file)?,
         Cmd::Replay { settings, status } => replayed(rt, settings, status, input, output)?,
+        Cmd::Deliver { settings, file } => delivered(rt, settings, file, input, output)?,
     }
     Ok(())
 }
 
-fn checked<F: Files + AllocGlobal, W: Write>(
+fn checked<F: Files + GateFiles + AllocGlobal, W: Write>(
     rt: &F,
     path: &str,
     output: &mut Tap<W>,
@@ -126,7 +132,7 @@ fn checked<F: Files + AllocGlobal, W: Write>(
     Ok(())
 }
 
-fn replayed<F: Files + AllocGlobal, R: Read, W: Write>(
+fn replayed<F: Files + GateFiles + AllocGlobal, R: Read, W: Write>(
     rt: &F,
     settings: &str,
     status: bool,
@@ -183,7 +189,36 @@ fn write_status<W: Write>(
     Ok(())
 }
 
-fn settings_of<F: Files + AllocGlobal>(rt: &F, path: &str) -> Result<Config, Fault>
+/// Makes the tables of a new gate in a file.
+fn made<F: Files + GateFiles + AllocGlobal>(rt: &F, settings: &str, file: &str) -> Result<(), Fault>
+    ensures { IfErr result IsOfMaking }
+{
+    let config = settings_of(rt, settings)?;
+    rt.make(file, &config)
+}
+
+/// Answers the input over the gate that a file keeps.
+fn delivered<F: Files + GateFiles + AllocGlobal, R: Read, W: Write>(
+    rt: &F,
+    settings: &str,
+    file: &str,
+    input: &mut Tap<R>,
+    output: &mut Tap<W>,
+) -> Result<(), Fault>
+    requires reader { has_failed input.old ≡ false }
+    requires writer { has_failed output.old ≡ false }
+    ensures ok { OnOk result (Delivers
+        (streams R.remaining W.contents input.old output.old)
+        (streams R.remaining W.contents input.new output.new)) }
+    ensures err { IfErr result (λ fault. DeliveryEnds fault
+        (streams R.remaining W.contents input.old output.old)
+        (streams R.remaining W.contents input.new output.new)) }
+{
+    let config = settings_of(rt, settings)?;
+    rt.deliver(file, config, input, output)
+}
+
+fn settings_of<F: Files + GateFiles + AllocGlobal>(rt: &F, path: &str) -> Result<Config, Fault>
     ensures ok { IfOk result (λ config. HasSettings config) }
     ensures err { IfErr result IsEarly }
 {
@@ -192,7 +227,7 @@ fn settings_of<F: Files + AllocGlobal>(rt: &F, path: &str) -> Result<Config, Fau
 }
 
 /// The bytes of a settings file, of which no more than one past the limit is read.
-fn bytes_of<F: Files + AllocGlobal>(rt: &F, path: &str) -> Result<Vec<u8>, Fault>
+fn bytes_of<F: Files + GateFiles + AllocGlobal>(rt: &F, path: &str) -> Result<Vec<u8>, Fault>
     ensures ok { IfOk result (λ bytes. length bytes.items ≤ settings_limit) }
     ensures err { IfErr result IsEarly }
 {

@@ -1,9 +1,10 @@
 //! The faults that end a command.
 ghost use Rattle.std.specs.Prelude.{◌≡◌};
-ghost use Rattle.gated_cli.specs.Faults.{text_of, settings_text};
+ghost use Rattle.gated_cli.specs.Faults.{text_of, file_text, settings_text};
 
 use gate_config::ConfigFault;
 use gate_core::fault::IoFault;
+use gate_sql::open_fault::OpenFault;
 use gate_types::tap::Failed;
 use std::alloc::AllocError;
 
@@ -12,6 +13,8 @@ use std::alloc::AllocError;
 pub enum Fault {
     /// The settings file has this fault.
     Settings(ConfigFault),
+    /// The gate's file has this fault, or can't be opened.
+    File(OpenFault),
     /// Memory was refused while the status text was made.
     Unavailable,
     /// The input answered an error.
@@ -33,6 +36,7 @@ impl Fault {
     {
         match self {
             Fault::Settings(fault) => settings_text(fault),
+            Fault::File(fault) => file_text(fault),
             Fault::Unavailable => "E15 unavailable",
             Fault::Read => "I1 read",
             Fault::Write => "I2 write",
@@ -58,6 +62,17 @@ fn settings_text(fault: ConfigFault) -> &'static str
         ConfigFault::NoVotingJob => "C9 no-voting-job",
         ConfigFault::Limit => "C10 limit",
         ConfigFault::NoMemory => "C11 no-memory",
+    }
+}
+
+fn file_text(fault: OpenFault) -> &'static str
+    ensures { result.now ≡ file_text fault }
+{
+    match fault {
+        OpenFault::WrongFile => "O1 wrong-file",
+        OpenFault::OtherSchema => "O2 other-schema",
+        OpenFault::OtherSettings => "O3 other-settings",
+        OpenFault::Unavailable => "O4 unavailable",
     }
 }
 

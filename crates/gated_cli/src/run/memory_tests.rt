@@ -1,6 +1,8 @@
 //! A settings file whose bytes find no memory.
 use crate::command::Cmd;
-use crate::run::run;
+use crate::machine::GateFiles;
+use crate::run::{Fault, run};
+use gate_types::config::Config;
 use gate_types::tap::Tap;
 use std::alloc::{AllocError, Allocator, Global};
 use std::fs::{Metadata, OpenFile, OpenOptions};
@@ -116,6 +118,22 @@ impl Files for Starved<'_> {
     }
 }
 
+impl GateFiles for Starved<'_> {
+    fn make(&self, _file: &str, _config: &Config) -> Result<(), Fault> {
+        Err(Fault::NoMemory)
+    }
+
+    fn deliver<R: io::Read, W: io::Write>(
+        &self,
+        _file: &str,
+        _config: Config,
+        _input: &mut Tap<R>,
+        _output: &mut Tap<W>,
+    ) -> Result<(), Fault> {
+        Err(Fault::NoMemory)
+    }
+}
+
 #[test]
 fn a_settings_file_without_memory_ends_the_command(rt: HostRuntime) {
     let settings = "run_starved.toml";
@@ -124,6 +142,14 @@ fn a_settings_file_without_memory_ends_the_command(rt: HostRuntime) {
         Cmd::Replay {
             settings,
             status: true,
+        },
+        Cmd::Init {
+            settings,
+            file: "run_starved.gate",
+        },
+        Cmd::Deliver {
+            settings,
+            file: "run_starved.gate",
         },
     ];
     for cmd in commands {

@@ -2,14 +2,27 @@ use Rattle.std.proofs.Common.{ap, ap₂, true, ◌≡◌, ◌∙◌}
 use Rattle.std.proofs.lemmas.Result.{IfOk-weaker}
 use Rattle.clap.specs.Simple.{app_of_fields}
 use Rattle.clap.specs.Words.{App, app_of, with_subcommand}
-use Rattle.gated_cli.specs.CommandLine.{bare, check}
+use Rattle.gated_cli.specs.CommandLine.{bare, check, init, replay}
 use Rattle.gated_cli.proofs.command.app.Goals as goal
+
+-- the program that needs a command
+abbrev requiring : App → App
+requiring a = record a { top = record a.top { subcommand_required = true } }
+
+abbrev strict_app : App
+strict_app = requiring bare
+
+abbrev with_check : App
+with_check = with_subcommand strict_app check.top
 
 pub returns : goal.returns
 returns c =
     let about : app_of c.about.result ≡ bare = ap app_of_fields c.about.ensures ∙ c.new.ensures.app in
-    let strict : app_of c.subcommand_required.result ≡ record bare { top = record bare.top { subcommand_required = true } } =
-    ap app_of_fields c.subcommand_required.ensures ∙ ap (λ (a : App). record a { top = record a.top { subcommand_required = true } }) about in
-    let checking : app_of c.in_ok-subcommand.field-0 ≡ with_subcommand (record bare { top = record bare.top { subcommand_required = true } }) check.top =
+    let strict : app_of c.subcommand_required.result ≡ strict_app = ap app_of_fields c.subcommand_required.ensures ∙ ap requiring about in
+    let checking : app_of c.in_ok-subcommand.field-0 ≡ with_check =
     c.in_ok-subcommand.ensures.shape c.in_ok-check.ensures.1 ∙ ap₂ with_subcommand strict (ap (λ (a : App). a.top) c.in_ok-check.ensures.0) in
-    IfOk-weaker c.subcommand-2.result _ _ (λ r h. h.shape c.in_ok-replay.ensures.1 ∙ ap₂ with_subcommand checking (ap (λ (a : App). a.top) c.in_ok-replay.ensures.0)) c.subcommand-2.ensures
+    let making : app_of c.in_ok-subcommand-2.field-0 ≡ with_subcommand with_check init.top =
+    c.in_ok-subcommand-2.ensures.shape c.in_ok-over_file.ensures.1 ∙ ap₂ with_subcommand checking (ap (λ (a : App). a.top) c.in_ok-over_file.ensures.0) in
+    let replaying : app_of c.in_ok-subcommand-3.field-0 ≡ with_subcommand (with_subcommand with_check init.top) replay.top =
+    c.in_ok-subcommand-3.ensures.shape c.in_ok-replay.ensures.1 ∙ ap₂ with_subcommand making (ap (λ (a : App). a.top) c.in_ok-replay.ensures.0) in
+    IfOk-weaker c.subcommand-4.result _ _ (λ r h. h.shape c.in_ok-over_file-2.ensures.1 ∙ ap₂ with_subcommand replaying (ap (λ (a : App). a.top) c.in_ok-over_file-2.ensures.0)) c.subcommand-4.ensures

@@ -1,0 +1,54 @@
+use Rattle.std.proofs.Common.{◌≡◌, ◌∙◌, ap, refl, subst, sym}
+use Rattle.std.specs.Prelude.{length}
+use Rattle.sqlite.specs.Held.{state}
+use Rattle.sqlite.specs.State.{HasCleanDisk}
+use Rattle.gate_core.specs.Gated.{Gated}
+use Rattle.gate_core.specs.Held.{Goes}
+use Rattle.gate_core.specs.Lines.{lines_of, whole_lines}
+use Rattle.gate_core.specs.Replies.{Cut, Replayed}
+use Rattle.gate_sql.specs.Held.{HoldsFor}
+use Rattle.gated_cli.specs.OverFile.{GoesOver}
+use Rattle.gated_cli.proofs.FileLemmas.{goes_over, of_memory, of_read, of_write}
+use Rattle.gated_cli.proofs.run.over_file.deliver.Goals as goal
+
+pub returns-in-Ok-done-clause-ok : goal.returns-in-Ok-done-clause-ok
+returns-in-Ok-done-clause-ok g c =
+    let h = c.in-Ok-done.ensures.ok in
+    let last = c.into_conn-conn.ensures ∙ ap (λ book. book.conn) c.into_book.ensures in
+    let P : Gated → Gated → Type 0 = λ gate after. Replayed gate (lines_of h.0) h.3 after in
+    let over = goes_over (λ book. state g.S.Store book.conn) (λ book. book.queues.items) (state g.S.Store c.args.conn) c.args.config c.new-gate.result.config
+    c.new-gate.result.book c.replay-done.new.gate.book P c.new-gate.ensures.config
+    (λ clean gate file. subst (λ book. HoldsFor (state g.S.Store book.conn) book.queues.items c.args.config gate.content) (sym c.new-gate.ensures.book)
+    (c.in-Ok.ensures.opens file.up gate.content file.stands (subst (λ book. HasCleanDisk (state g.S.Store book.conn)) c.new-gate.ensures.book clean)))
+    h.5.trusted_before h.5.passes in
+    (h.0, h.1, h.2, h.3, h.4, subst (λ conn. GoesOver (state g.S.Store c.args.conn) (state g.S.Store conn) c.args.config P) (sym last) over)
+
+pub returns-in-Err-done-clause-read : goal.returns-in-Err-done-clause-read
+returns-in-Err-done-clause-read g c e =
+    let h = c.in-Err-done.ensures.read (of_read c.in-Err-done.fault c.from.result c.from.ensures e) in
+    let last = c.into_conn-conn.ensures ∙ ap (λ book. book.conn) c.into_book.ensures in
+    let P : Gated → Gated → Type 0 = λ gate after. Replayed gate (whole_lines h.0) h.2 after in
+    let over = goes_over (λ book. state g.S.Store book.conn) (λ book. book.queues.items) (state g.S.Store c.args.conn) c.args.config c.new-gate.result.config
+    c.new-gate.result.book c.replay-done.new.gate.book P c.new-gate.ensures.config
+    (λ clean gate file. subst (λ book. HoldsFor (state g.S.Store book.conn) book.queues.items c.args.config gate.content) (sym c.new-gate.ensures.book)
+    (c.in-Ok.ensures.opens file.up gate.content file.stands (subst (λ book. HasCleanDisk (state g.S.Store book.conn)) c.new-gate.ensures.book clean)))
+    h.4.trusted_before h.4.passes in
+    (h.0, h.1, h.2, h.3, subst (λ conn. GoesOver (state g.S.Store c.args.conn) (state g.S.Store conn) c.args.config P) (sym last) over)
+
+pub returns-in-Err-done-clause-write : goal.returns-in-Err-done-clause-write
+returns-in-Err-done-clause-write g c e =
+    let h = c.in-Err-done.ensures.write (of_write c.in-Err-done.fault c.from.result c.from.ensures e) in
+    let last = c.into_conn-conn.ensures ∙ ap (λ book. book.conn) c.into_book.ensures in
+    let P : Gated → Gated → Type 0 = λ gate after. (cut : Cut gate h.0 h.1 after) × (length cut.done ≡ h.3) in
+    let over = goes_over (λ book. state g.S.Store book.conn) (λ book. book.queues.items) (state g.S.Store c.args.conn) c.args.config c.new-gate.result.config
+    c.new-gate.result.book c.replay-done.new.gate.book P c.new-gate.ensures.config
+    (λ clean gate file. subst (λ book. HoldsFor (state g.S.Store book.conn) book.queues.items c.args.config gate.content) (sym c.new-gate.ensures.book)
+    (c.in-Ok.ensures.opens file.up gate.content file.stands (subst (λ book. HasCleanDisk (state g.S.Store book.conn)) c.new-gate.ensures.book clean)))
+    h.5.trusted_before h.5.passes in
+    (h.0, h.1, h.2, h.3, h.4, subst (λ conn. GoesOver (state g.S.Store c.args.conn) (state g.S.Store conn) c.args.config P) (sym last) over)
+
+pub returns-in-Err-done-clause-fault : goal.returns-in-Err-done-clause-fault
+returns-in-Err-done-clause-fault g c unread unwritten =
+    let is = of_memory c.in-Err-done.fault c.from.result c.from.ensures c.in-Err-done.ensures.store unread unwritten in
+    let same = c.in-Err-done.ensures.memory is.0 in
+    (is.1, same.1, same.2)

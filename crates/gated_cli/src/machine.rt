@@ -1,0 +1,93 @@
+//! The gates' files of a machine.
+ghost use Rattle.std.specs.Prelude.{◌≡◌, IfErr, OnErr, OnOk};
+
+use crate::run::{Fault, over_file};
+use gate_sql::open_fault::OpenFault;
+use gate_types::config::Config;
+use gate_types::tap::Tap;
+use sqlite::{Connection, File, FileStore};
+use std::fs;
+use std::io::{Read, Write};
+
+/// The gates' files of a machine, by their paths.
+pub trait GateFiles {
+    ghost use Rattle.std.specs.Prelude.{◌≡◌, IfErr, OnOk, false};
+    ghost use Rattle.gate_types.specs.Tap.{has_failed};
+    ghost use Rattle.gated_cli.specs.Doing.{Delivers, streams};
+    ghost use Rattle.gated_cli.specs.Ending.{DeliveryEnds, IsOfMaking};
+
+    /// Makes the tables of a new gate in a file, which is made where it isn't there. `File` as for `SqlBook::create`,
+    /// and where it can't be opened; `Store` where it can't be closed.
+    fn make(&self, file: &str, config: &Config) -> Result<(), Fault>
+        ensures { IfErr result IsOfMaking };
+
+    /// Answers each line of the input over the gate that a file keeps. `File` where the file isn't there or can't be
+    /// opened, and as for `SqlBook::open`; `Read`, `Write` and `NoMemory` as for `replay`; `Store` where all is answered
+    /// and the file can't be closed.
+    fn deliver<R: Read, W: Write>(
+        &self,
+        file: &str,
+        config: Config,
+        input: &mut Tap<R>,
+        output: &mut Tap<W>,
+    ) -> Result<(), Fault>
+        requires reader { has_failed input.old ≡ false }
+        requires writer { has_failed output.old ≡ false }
+        ensures ok { OnOk result (Delivers
+            (streams R.remaining W.contents input.old output.old)
+            (streams R.remaining W.contents input.new output.new)) }
+        ensures err { IfErr result (λ fault. DeliveryEnds fault
+            (streams R.remaining W.contents input.old output.old)
+            (streams R.remaining W.contents input.new output.new)) };
+}
+
+impl GateFiles for HostRuntime {
+    fn make(&self, file: &str, config: &Config) -> Result<(), Fault> {
+        let conn = database(self, file)?;
+        let (conn, done) = over_file::make(self.alloc(), conn, config);
+        closed(conn, done)
+    }
+
+    fn deliver<R: Read, W: Write>(
+        &self,
+        file: &str,
+        config: Config,
+        input: &mut Tap<R>,
+        output: &mut Tap<W>,
+    ) -> Result<(), Fault> {
+        let conn = present(self, file)?;
+        let (conn, done) = over_file::deliver(self.alloc(), conn, config, input, output);
+        closed(conn, done)
+    }
+}
+
+/// The database of a file that is there.
+fn present(rt: &HostRuntime, file: &str) -> Result<Connection<FileStore<File>>, Fault>
+    ensures { IfErr result (λ f. f ≡ Fault.File OpenFault.Unavailable) }
+{
+    match fs::open(rt, file) {
+        Ok(_) => database(rt, file),
+        Err(_) => Err(Fault::File(OpenFault::Unavailable)),
+    }
+}
+
+/// The database of a file, which is made where it isn't there.
+fn database(rt: &HostRuntime, file: &str) -> Result<Connection<FileStore<File>>, Fault>
+    ensures { IfErr result (λ f. f ≡ Fault.File OpenFault.Unavailable) }
+{
+    match Connection::open(rt, file) {
+        Ok(conn) => Ok(conn),
+        Err(_) => Err(Fault::File(OpenFault::Unavailable)),
+    }
+}
+
+/// Closes the database, and gives what became of the command: its fault before one of closing.
+fn closed(conn: Connection<FileStore<File>>, done: Result<(), Fault>) -> Result<(), Fault>
+    ensures fault { OnErr done (result ≡ done) }
+    ensures store { OnOk done (IfErr result (λ f. f ≡ Fault.Store)) }
+{
+    match (conn.close(), done) {
+        (Err(_), Ok(())) => Err(Fault::Store),
+        (_, done) => done,
+    }
+}

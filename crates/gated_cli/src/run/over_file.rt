@@ -1,0 +1,90 @@
+//! The gate over a file.
+ghost use Rattle.std.specs.Prelude.{◌≡◌, ◌≢◌, ℕ, List, OnOk, OnErr, IfErr, IsErrOf, true, false, length};
+ghost use Rattle.sqlite.specs.Held.{state};
+ghost use Rattle.sqlite.specs.State.{HasCleanDisk};
+ghost use Rattle.gate_types.specs.Once.{empty};
+ghost use Rattle.gate_types.specs.Tap.{inside, has_failed, Gave, IsReadOut, Took};
+ghost use Rattle.gate_core.specs.Lines.{whole_lines, lines_of, ReadFor};
+ghost use Rattle.gate_core.specs.Replies.{Replayed, Cut};
+ghost use Rattle.gate_queries.specs.Finds.{Stays};
+ghost use Rattle.gate_schema.specs.Schema.{schema_with};
+ghost use Rattle.gate_sql.specs.Held.{ShowsFor};
+ghost use Rattle.gated_cli.specs.Ending.{IsOfFile};
+ghost use Rattle.gated_cli.specs.OverFile.{GoesOver};
+
+use crate::run::fault::Fault;
+use gate_core::gate::Gate;
+use gate_core::replay::replay;
+use gate_sql::book::SqlBook;
+use gate_types::config::Config;
+use gate_types::tap::Tap;
+use sqlite::{Alter, Connection};
+use std::alloc::Global;
+use std::io::{Read, Write};
+
+/// Makes the tables of a gate that has seen no delivery, and hands the connection back.
+pub fn make<S: Alter + Drop>(
+    alloc: Global,
+    conn: Connection<S>,
+    config: &Config,
+) -> (Connection<S>, Result<(), Fault>)
+    ensures made { (state S.Store conn).now.schema ≡ schema_with 0 0 → HasCleanDisk (state S.Store result.0) →
+        OnOk result.1 (ShowsFor (state S.Store result.0) config.now (empty config.now)) }
+    ensures none { HasCleanDisk (state S.Store result.0) →
+        OnErr result.1 (Stays (state S.Store conn) (state S.Store result.0)) }
+    ensures fault { IfErr result.1 IsOfFile }
+{
+    match SqlBook::create(alloc, conn, config) {
+        Ok(book) => (book.into_conn(), Ok(())),
+        Err((fault, conn)) => (conn, Err(Fault::File(fault))),
+    }
+}
+
+/// Answers each line of the input over the gate that the tables stand for, as `replay` does, and hands the connection
+/// back.
+pub fn deliver<S: Alter + Drop, R: Read, W: Write>(
+    alloc: Global,
+    conn: Connection<S>,
+    config: Config,
+    input: &mut Tap<R>,
+    output: &mut Tap<W>,
+) -> (Connection<S>, Result<(), Fault>)
+    requires reader { has_failed input.old ≡ false }
+    requires writer { has_failed output.old ≡ false }
+    ensures ok { OnOk result.1 ((read : List ℕ)
+        × Gave R.remaining input.old input.new read × IsReadOut R.remaining input.new
+        × (text : List ℕ) × Took W.contents output.old output.new text
+        × GoesOver (state S.Store conn) (state S.Store result.0) config
+        (λ g after. Replayed g (lines_of read) text after)) }
+    // the lines before the one that the error cut
+    ensures read { IsErrOf result.1 Fault.Read → (front : List ℕ)
+        × Gave R.remaining input.old input.new front
+        × (text : List ℕ) × Took W.contents output.old output.new text
+        × GoesOver (state S.Store conn) (state S.Store result.0) config
+        (λ g after. Replayed g (whole_lines front) text after) }
+    // the lines up to the one whose answer was cut, and no read beyond the one that ended it
+    ensures write { IsErrOf result.1 Fault.Write → (lines : List (List ℕ))
+        × (text : List ℕ) × Took W.contents output.old output.new text
+        × (done : ℕ) × ReadFor (R.remaining (inside input.old)) (R.remaining (inside input.new)) lines done
+        × GoesOver (state S.Store conn) (state S.Store result.0) config
+        (λ g after. (cut : Cut g lines text after) × (length cut.done ≡ done)) }
+    ensures fault { IfErr result.1 (λ f. f ≢ Fault.Read → f ≢ Fault.Write →
+        IsOfFile f × (input.new ≡ input.old) × (output.new ≡ output.old)) }
+    ensures unfailed { OnOk result.1 (has_failed output.new ≡ false) }
+    ensures reader_failed { IsErrOf result.1 Fault.Read →
+        (has_failed input.new ≡ true) × (has_failed output.new ≡ false) }
+    ensures writer_failed { IsErrOf result.1 Fault.Write →
+        (has_failed input.new ≡ false) × (has_failed output.new ≡ true) }
+{
+    let book = match SqlBook::open(alloc, conn, &config) {
+        Ok(book) => book,
+        Err((fault, conn)) => return (conn, Err(Fault::File(fault))),
+    };
+    let mut gate = Gate::new(config, book);
+    let done = replay(alloc, &mut gate, input, output);
+    let conn = gate.into_book().into_conn();
+    match done {
+        Ok(_) => (conn, Ok(())),
+        Err(fault) => (conn, Err(Fault::from(fault))),
+    }
+}
