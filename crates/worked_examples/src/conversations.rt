@@ -1,23 +1,18 @@
 //! Conversations with a gate, with the answers typed from its rules.
-use crate::gates::{WAITING, approves, fills, new_gate, shows, shows_ends, tells};
+use crate::books::shows;
+use crate::gates::{CORE, WAITING, approves, fills, new_gate, shows_ends, tells};
 use std::test::Fail;
 
 #[test]
 fn the_empty_gate_has_a_queue(rt: HostRuntime) -> Result<(), Fail> {
-    shows(
-        &rt,
-        new_gate(rt.alloc())?,
-        "",
-        "",
-        "queue core window 2 landed 0\nend\n",
-    )
+    shows(&rt, CORE, "", "", "queue core window 2 landed 0\nend\n")
 }
 
 #[test]
 fn what_is_no_delivery_is_refused(rt: HostRuntime) -> Result<(), Fail> {
     shows(
         &rt,
-        new_gate(rt.alloc())?,
+        CORE,
         "nul\n\n{}\n[]",
         r#"{"code":"E1","error":"bad-json"}
 {"code":"E1","error":"bad-json"}
@@ -32,7 +27,7 @@ fn what_is_no_delivery_is_refused(rt: HostRuntime) -> Result<(), Fail> {
 fn a_refused_delivery_does_not_spend_its_id(rt: HostRuntime) -> Result<(), Fail> {
     shows(
         &rt,
-        new_gate(rt.alloc())?,
+        CORE,
         r#"{"id":"00000000-0000-4000-8000-000000000001","kind":"approved","change":101,"revision":1}
 {"id":"00000000-0000-4000-8000-000000000002","kind":"revision","change":101,"project":"lib","revision":1,"message":""}
 {"id":"00000000-0000-4000-8000-000000000001","kind":"approved","change":101,"revision":1}
@@ -49,7 +44,7 @@ fn a_refused_delivery_does_not_spend_its_id(rt: HostRuntime) -> Result<(), Fail>
 fn a_repeat_gets_the_kept_reply(rt: HostRuntime) -> Result<(), Fail> {
     shows(
         &rt,
-        new_gate(rt.alloc())?,
+        CORE,
         r#"{"id":"00000000-0000-4000-8000-000000000001","kind":"revision","change":101,"project":"lib","revision":1,"message":""}
 {"id":"00000000-0000-4000-8000-000000000002","kind":"revision","change":102,"project":"app","revision":1,"message":""}
 {"id":"0a000000-0000-4000-8000-000000000002","kind":"approved","change":101,"revision":1}
@@ -70,7 +65,7 @@ fn a_repeat_gets_the_kept_reply(rt: HostRuntime) -> Result<(), Fail> {
 fn an_id_serves_one_delivery(rt: HostRuntime) -> Result<(), Fail> {
     shows(
         &rt,
-        new_gate(rt.alloc())?,
+        CORE,
         r#"{"id":"00000000-0000-4000-8000-000000000001","kind":"revision","change":101,"project":"lib","revision":1,"message":""}
 {"id":"0a000000-0000-4000-8000-000000000002","kind":"approved","change":101,"revision":1}
 {"id":"0a000000-0000-4000-8000-000000000002","kind":"approved","change":101,"revision":2}
@@ -129,7 +124,7 @@ fn a_new_revision_supersedes_the_item(rt: HostRuntime) -> Result<(), Fail> {
 fn each_refusal_of_a_revision_and_an_approval(rt: HostRuntime) -> Result<(), Fail> {
     shows(
         &rt,
-        new_gate(rt.alloc())?,
+        CORE,
         r#"{"id":"00000000-0000-4000-8000-000000000001","kind":"revision","change":101,"project":"site","revision":2,"message":""}
 {"id":"00000000-0000-4000-8000-000000000002","kind":"revision","change":101,"project":"lib","revision":2,"message":""}
 {"id":"00000000-0000-4000-8000-000000000003","kind":"revision","change":101,"project":"app","revision":3,"message":""}

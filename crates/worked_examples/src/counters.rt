@@ -1,7 +1,6 @@
 //! The last numbers: nothing is drawn past 10^15.
-use crate::gates::gate_after;
+use crate::books::goes_after;
 use crate::talks::Part::{Build, Orders, Status, Talk};
-use crate::talks::goes;
 use gate_types::records::Counters;
 use std::test::Fail;
 
@@ -24,16 +23,13 @@ end
 /// The approval is refused, and the change is not ready.
 #[test]
 fn no_order_is_drawn_past_the_last(rt: HostRuntime) -> Result<(), Fail> {
-    goes(
+    goes_after(
         &rt,
-        gate_after(
-            rt.alloc(),
-            Counters {
-                approval: 0,
-                build: 0,
-                order: LAST,
-            },
-        )?,
+        Counters {
+            approval: 0,
+            build: 0,
+            order: LAST,
+        },
         &[Talk(NO_ORDER_LEFT), Status(EMPTY)],
     )
 }
@@ -54,16 +50,13 @@ end
 /// A number longer than its places takes what it needs.
 #[test]
 fn the_last_order_is_drawn(rt: HostRuntime) -> Result<(), Fail> {
-    goes(
+    goes_after(
         &rt,
-        gate_after(
-            rt.alloc(),
-            Counters {
-                approval: 0,
-                build: 0,
-                order: LAST - 1,
-            },
-        )?,
+        Counters {
+            approval: 0,
+            build: 0,
+            order: LAST - 1,
+        },
         &[Talk(LAST_ORDER), Status(LAST_ITEM)],
     )
 }
@@ -88,16 +81,13 @@ end
 /// A change that waits for another is accepted, though no order is left.
 #[test]
 fn an_approval_that_waits_draws_no_order(rt: HostRuntime) -> Result<(), Fail> {
-    goes(
+    goes_after(
         &rt,
-        gate_after(
-            rt.alloc(),
-            Counters {
-                approval: 0,
-                build: 0,
-                order: LAST,
-            },
-        )?,
+        Counters {
+            approval: 0,
+            build: 0,
+            order: LAST,
+        },
         &[Talk(WAITS_WITHOUT_ORDER), Status(ONE_WAITS)],
     )
 }
@@ -105,16 +95,13 @@ fn an_approval_that_waits_draws_no_order(rt: HostRuntime) -> Result<(), Fail> {
 /// One order is left, and the approval would let two changes in.
 #[test]
 fn an_approval_is_refused_where_another_order_would_be_drawn(rt: HostRuntime) -> Result<(), Fail> {
-    goes(
+    goes_after(
         &rt,
-        gate_after(
-            rt.alloc(),
-            Counters {
-                approval: 0,
-                build: 0,
-                order: LAST - 1,
-            },
-        )?,
+        Counters {
+            approval: 0,
+            build: 0,
+            order: LAST - 1,
+        },
         &[Talk(WAITS_WITHOUT_ORDER), Status(ONE_WAITS)],
     )
 }
@@ -160,16 +147,13 @@ const LANDS_ALONE: &str = r#"
 /// It would let a waiting change in. Once that is closed, the landing is accepted.
 #[test]
 fn a_landing_is_refused_where_an_order_would_be_drawn(rt: HostRuntime) -> Result<(), Fail> {
-    goes(
+    goes_after(
         &rt,
-        gate_after(
-            rt.alloc(),
-            Counters {
-                approval: 0,
-                build: 0,
-                order: LAST - 1,
-            },
-        )?,
+        Counters {
+            approval: 0,
+            build: 0,
+            order: LAST - 1,
+        },
         &[
             Talk(LANDING_REFUSED),
             Orders(LAST_SHOWN),
@@ -209,16 +193,13 @@ end
 /// The gate is idle where nothing waits, and exhausted where something does.
 #[test]
 fn no_build_is_drawn_past_the_last(rt: HostRuntime) -> Result<(), Fail> {
-    goes(
+    goes_after(
         &rt,
-        gate_after(
-            rt.alloc(),
-            Counters {
-                approval: 0,
-                build: LAST - 1,
-                order: 0,
-            },
-        )?,
+        Counters {
+            approval: 0,
+            build: LAST - 1,
+            order: 0,
+        },
         &[
             Talk(LAST_BUILD),
             Build(LAST, LAST_BUILD_TEXT),
@@ -249,16 +230,13 @@ end
 /// What would draw none is answered as ever.
 #[test]
 fn no_approval_is_drawn_past_the_last(rt: HostRuntime) -> Result<(), Fail> {
-    goes(
+    goes_after(
         &rt,
-        gate_after(
-            rt.alloc(),
-            Counters {
-                approval: LAST - 1,
-                build: 0,
-                order: 0,
-            },
-        )?,
+        Counters {
+            approval: LAST - 1,
+            build: 0,
+            order: 0,
+        },
         &[Talk(LAST_APPROVAL), Status(FIRST_ALONE)],
     )
 }

@@ -1,7 +1,7 @@
 //! What leaves a queue with a change that it needs.
-use crate::gates::{gate_of, gate_of_two_queues};
+use crate::books::goes;
+use crate::gates::{CORE_AND_WEB, within};
 use crate::talks::Part::{Build, Orders, Status, Talk};
-use crate::talks::goes;
 use std::test::Fail;
 
 const NEED_FAILS: &str = r#"
@@ -61,7 +61,7 @@ end
 fn what_needs_a_failed_change_leaves_with_it(rt: HostRuntime) -> Result<(), Fail> {
     goes(
         &rt,
-        gate_of(rt.alloc(), 4, 1)?,
+        within(4, 1),
         &[
             Talk(NEED_FAILS),
             Status(BLOCKED),
@@ -159,7 +159,7 @@ const THIRD_SHOWN: &str =
 fn a_landing_lets_those_behind_it_leave(rt: HostRuntime) -> Result<(), Fail> {
     goes(
         &rt,
-        gate_of(rt.alloc(), 4, 1)?,
+        within(4, 1),
         &[
             Talk(FOUR_TAKEN),
             Talk(SECOND_FAILS),
@@ -203,7 +203,7 @@ end
 fn what_needs_a_withdrawn_change_leaves_with_it(rt: HostRuntime) -> Result<(), Fail> {
     goes(
         &rt,
-        gate_of_two_queues(rt.alloc())?,
+        CORE_AND_WEB,
         &[Talk(NEED_WITHDRAWN), Status(NEED_BACK)],
     )
 }

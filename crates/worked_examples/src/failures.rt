@@ -1,8 +1,8 @@
 //! Failed builds, and items that leave: what is tested again, and without what.
 use crate::beginnings::{FIRST_FAILED, THREE_TAKEN, TWO_TAKEN};
-use crate::gates::{gate_of, gate_of_two_queues};
+use crate::books::goes;
+use crate::gates::{CORE_AND_WEB, within};
 use crate::talks::Part::{Build, Status, Talk};
-use crate::talks::goes;
 use std::test::Fail;
 
 const BEYOND_THE_WINDOW: &str = "queue core window 2 landed 0
@@ -18,7 +18,7 @@ end
 fn jobs_are_given_out_within_the_window(rt: HostRuntime) -> Result<(), Fail> {
     goes(
         &rt,
-        gate_of_two_queues(rt.alloc())?,
+        CORE_AND_WEB,
         &[Talk(THREE_TAKEN), Status(BEYOND_THE_WINDOW)],
     )
 }
@@ -40,7 +40,7 @@ const LATE_BUILD: &str =
 fn a_failure_resets_the_items_behind_it(rt: HostRuntime) -> Result<(), Fail> {
     goes(
         &rt,
-        gate_of_two_queues(rt.alloc())?,
+        CORE_AND_WEB,
         &[
             Talk(THREE_TAKEN),
             Talk(FIRST_FAILED),
@@ -77,7 +77,7 @@ end
 fn a_failed_change_comes_back_when_it_is_approved_again(rt: HostRuntime) -> Result<(), Fail> {
     goes(
         &rt,
-        gate_of_two_queues(rt.alloc())?,
+        CORE_AND_WEB,
         &[Talk(TWO_TAKEN), Talk(COMES_BACK), Status(BEHIND_THE_SECOND)],
     )
 }
@@ -115,7 +115,7 @@ end
 fn a_withdrawal_resets_the_items_behind_it(rt: HostRuntime) -> Result<(), Fail> {
     goes(
         &rt,
-        gate_of_two_queues(rt.alloc())?,
+        CORE_AND_WEB,
         &[
             Talk(TWO_TAKEN),
             Talk(SECOND_FAILS),
@@ -143,7 +143,7 @@ end
 fn a_job_that_does_not_vote_fails_no_item(rt: HostRuntime) -> Result<(), Fail> {
     goes(
         &rt,
-        gate_of_two_queues(rt.alloc())?,
+        CORE_AND_WEB,
         &[Talk(TWO_TAKEN), Talk(DOCS_FAIL), Status(DOCS_FAILED)],
     )
 }
@@ -213,7 +213,7 @@ const BEHIND_BUILT_ANEW: &str = r#"
 fn a_failure_in_the_middle_resets_all_behind_it(rt: HostRuntime) -> Result<(), Fail> {
     goes(
         &rt,
-        gate_of(rt.alloc(), 4, 1)?,
+        within(4, 1),
         &[
             Talk(FOUR_TAKEN),
             Talk(MIDDLE_FAILS),
@@ -242,7 +242,7 @@ const STOPPED_BUILD: &str =
 fn what_runs_stops_when_its_item_leaves(rt: HostRuntime) -> Result<(), Fail> {
     goes(
         &rt,
-        gate_of_two_queues(rt.alloc())?,
+        CORE_AND_WEB,
         &[
             Talk(TWO_TAKEN),
             Talk(WITHDRAWN_HALF_BUILT),

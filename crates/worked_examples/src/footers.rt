@@ -1,7 +1,7 @@
 //! The lines of a message that name what a change needs.
-use crate::gates::{RECORDED, gate_of_two_queues, new_gate, revising, tells};
+use crate::books::goes;
+use crate::gates::{CORE_AND_WEB, RECORDED, new_gate, revising, tells};
 use crate::talks::Part::{Status, Talk};
-use crate::talks::goes;
 use std::alloc::{AllocError, Global};
 use std::test::Fail;
 
@@ -44,7 +44,7 @@ end
 fn a_message_names_what_a_change_needs(rt: HostRuntime) -> Result<(), Fail> {
     goes(
         &rt,
-        gate_of_two_queues(rt.alloc())?,
+        CORE_AND_WEB,
         &[
             Talk(FIRST_IS_THERE),
             Status(SEVEN_MISSING),
@@ -92,7 +92,7 @@ end
 fn a_change_waits_for_each_of_its_needs(rt: HostRuntime) -> Result<(), Fail> {
     goes(
         &rt,
-        gate_of_two_queues(rt.alloc())?,
+        CORE_AND_WEB,
         &[
             Talk(SEVEN_IS_THERE),
             Status(FIRST_MISSING),

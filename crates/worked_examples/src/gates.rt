@@ -64,8 +64,47 @@ fn core(alloc: Global, window: u32, floor: u32) -> Result<String, AllocError> {
     )
 }
 
+/// The queues of a gate: `core` with this window and floor, and `web`, if it has one.
+#[derive(Clone, Copy)]
+pub struct Queues {
+    pub window: u32,
+    pub floor: u32,
+    pub web: bool,
+}
+
+pub const CORE: Queues = Queues {
+    window: 2,
+    floor: 1,
+    web: false,
+};
+
+pub const CORE_AND_WEB: Queues = Queues {
+    window: 2,
+    floor: 1,
+    web: true,
+};
+
+/// The queues `core`, with this window and floor, and `web`.
+pub fn within(window: u32, floor: u32) -> Queues {
+    Queues {
+        window,
+        floor,
+        web: true,
+    }
+}
+
+/// The settings of these queues.
+pub fn settings_of(alloc: Global, queues: Queues) -> Result<String, AllocError> {
+    let core = core(alloc, queues.window, queues.floor)?;
+    if queues.web {
+        format!(in alloc; "{core}{WEB}")
+    } else {
+        Ok(core)
+    }
+}
+
 /// A gate under these settings, over an empty book in memory.
-fn gate_under(alloc: Global, settings: &str) -> Result<Gate<MemBook>, ConfigFault> {
+pub fn gate_under(alloc: Global, settings: &str) -> Result<Gate<MemBook>, ConfigFault> {
     let config = read(alloc, settings.as_bytes())?;
     let Ok(book) = MemBook::new(alloc, &config) else {
         return Err(ConfigFault::NoMemory);
@@ -73,34 +112,22 @@ fn gate_under(alloc: Global, settings: &str) -> Result<Gate<MemBook>, ConfigFaul
     Ok(Gate::new(config, book))
 }
 
-/// A gate with the queue `core`.
-pub fn new_gate(alloc: Global) -> Result<Gate<MemBook>, ConfigFault> {
-    let Ok(settings) = core(alloc, 2, 1) else {
+/// A gate with these queues, over an empty book in memory.
+pub fn gate_of(alloc: Global, queues: Queues) -> Result<Gate<MemBook>, ConfigFault> {
+    let Ok(settings) = settings_of(alloc, queues) else {
         return Err(ConfigFault::NoMemory);
     };
     gate_under(alloc, settings.as_str())
 }
 
-/// The settings of two queues, `core` with this window and floor, and `web`.
-pub fn two_queues(alloc: Global, window: u32, floor: u32) -> Result<String, AllocError> {
-    let core = core(alloc, window, floor)?;
-    format!(in alloc; "{core}{WEB}")
-}
-
-/// A gate with the queues `core`, of this window and floor, and `web`.
-pub fn gate_of(alloc: Global, window: u32, floor: u32) -> Result<Gate<MemBook>, Fail> {
-    let settings = two_queues(alloc, window, floor)?;
-    Ok(gate_under(alloc, settings.as_str())?)
-}
-
-/// A gate with the queues `core` and `web`.
-pub fn gate_of_two_queues(alloc: Global) -> Result<Gate<MemBook>, Fail> {
-    gate_of(alloc, 2, 1)
+/// A gate with the queue `core`, over an empty book in memory.
+pub fn new_gate(alloc: Global) -> Result<Gate<MemBook>, ConfigFault> {
+    gate_of(alloc, CORE)
 }
 
 /// A gate with the queues `core` and `web`, which has drawn these numbers before.
 pub fn gate_after(alloc: Global, counters: Counters) -> Result<Gate<MemBook>, Fail> {
-    let settings = two_queues(alloc, 2, 1)?;
+    let settings = settings_of(alloc, CORE_AND_WEB)?;
     let config = read(alloc, settings.as_bytes())?;
     let book = MemBook::with_counters(alloc, &config, counters)?;
     Ok(Gate::new(config, book))
@@ -146,20 +173,6 @@ pub fn tells<B: Book>(
 ) -> Result<(), IoFault> {
     let written = said(rt.alloc(), gate, lines)?;
     assert_eq!(rt; written.as_slice(), answers.as_bytes());
-    Ok(())
-}
-
-/// The lines get the answers from a new gate, and leave the status.
-pub fn shows(
-    rt: &(impl Abort + AllocGlobal),
-    mut gate: Gate<MemBook>,
-    lines: &str,
-    answers: &str,
-    status: &str,
-) -> Result<(), Fail> {
-    tells(rt, &mut gate, lines, answers)?;
-    let text = gate.status(rt.alloc())?;
-    assert_eq!(rt; text.as_str(), status);
     Ok(())
 }
 

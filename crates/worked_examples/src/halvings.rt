@@ -1,7 +1,7 @@
 //! What halves a window, and what does not.
-use crate::gates::gate_of;
+use crate::books::goes;
+use crate::gates::within;
 use crate::talks::Part::{Status, Talk};
-use crate::talks::goes;
 use std::test::Fail;
 
 const ONE_REFUSED: &str = r#"
@@ -56,7 +56,7 @@ end
 fn what_is_taken_back_leaves_the_window_as_it_is(rt: HostRuntime) -> Result<(), Fail> {
     goes(
         &rt,
-        gate_of(rt.alloc(), 4, 1)?,
+        within(4, 1),
         &[
             Talk(ONE_REFUSED),
             Status(HALVED),
@@ -133,7 +133,7 @@ end
 fn a_landing_may_halve_the_window_twice(rt: HostRuntime) -> Result<(), Fail> {
     goes(
         &rt,
-        gate_of(rt.alloc(), 5, 1)?,
+        within(5, 1),
         &[
             Talk(TWO_FAIL),
             Status(TWO_FAILING),

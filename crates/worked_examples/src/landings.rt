@@ -1,8 +1,8 @@
 //! Landings: what lands, behind what, and what is kept behind it.
 use crate::beginnings::{FIRST_FAILED, THREE_TAKEN, TWO_TAKEN};
-use crate::gates::gate_of_two_queues;
+use crate::books::goes;
+use crate::gates::CORE_AND_WEB;
 use crate::talks::Part::{Orders, Status, Talk};
-use crate::talks::goes;
 use std::test::Fail;
 
 const SECOND_SUCCEEDS: &str = r#"
@@ -41,7 +41,7 @@ end
 fn a_change_lands_past_a_failing_one(rt: HostRuntime) -> Result<(), Fail> {
     goes(
         &rt,
-        gate_of_two_queues(rt.alloc())?,
+        CORE_AND_WEB,
         &[
             Talk(THREE_TAKEN),
             Talk(FIRST_FAILED),
@@ -91,7 +91,7 @@ end
 fn a_change_lands_though_a_job_that_does_not_vote_failed(rt: HostRuntime) -> Result<(), Fail> {
     goes(
         &rt,
-        gate_of_two_queues(rt.alloc())?,
+        CORE_AND_WEB,
         &[
             Talk(DOCS_FAILED),
             Orders("[]"),
@@ -129,7 +129,7 @@ const DOCS_END: &str = r#"
 fn a_change_waits_for_a_job_that_does_not_vote(rt: HostRuntime) -> Result<(), Fail> {
     goes(
         &rt,
-        gate_of_two_queues(rt.alloc())?,
+        CORE_AND_WEB,
         &[
             Talk(DOCS_RUN),
             Orders("[]"),
@@ -175,7 +175,7 @@ end
 fn a_landing_keeps_the_builds_behind_it(rt: HostRuntime) -> Result<(), Fail> {
     goes(
         &rt,
-        gate_of_two_queues(rt.alloc())?,
+        CORE_AND_WEB,
         &[
             Talk(TWO_TAKEN),
             Talk(FIRST_OF_TWO_LANDS),
@@ -214,7 +214,7 @@ const LANDED: &str = r#"
 fn changes_land_one_after_the_other(rt: HostRuntime) -> Result<(), Fail> {
     goes(
         &rt,
-        gate_of_two_queues(rt.alloc())?,
+        CORE_AND_WEB,
         &[Talk(TWO_TAKEN), Talk(LANDED), Status(BOTH_LANDED)],
     )
 }
@@ -233,7 +233,7 @@ const BUILT_BEHIND_LANDINGS: &str = r#"
 fn a_build_counts_the_landings_before_it(rt: HostRuntime) -> Result<(), Fail> {
     goes(
         &rt,
-        gate_of_two_queues(rt.alloc())?,
+        CORE_AND_WEB,
         &[Talk(TWO_TAKEN), Talk(LANDED), Talk(BUILT_BEHIND_LANDINGS)],
     )
 }

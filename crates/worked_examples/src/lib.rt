@@ -4,6 +4,8 @@
 #[cfg(test)]
 mod beginnings;
 #[cfg(test)]
+mod books;
+#[cfg(test)]
 mod conversations;
 #[cfg(test)]
 mod counters;

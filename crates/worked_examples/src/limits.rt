@@ -1,5 +1,5 @@
 //! Queues of 1,000 items, as many as one may have.
-use crate::gates::{fills, gate_of, gate_of_two_queues, shows_ends, tells};
+use crate::gates::{CORE_AND_WEB, fills, gate_of, shows_ends, tells, within};
 use crate::talks::Part::Talk;
 use crate::talks::goes_on;
 use crate::watched::Watched;
@@ -47,7 +47,7 @@ fn unwatched(gate: Gate<Watched>) -> Gate<MemBook> {
 
 /// A gate whose queue `web` is full, and whose first two items have builds.
 fn full_web(rt: &(impl Abort + AllocGlobal)) -> Result<Gate<MemBook>, Fail> {
-    let mut gate = gate_of_two_queues(rt.alloc())?;
+    let mut gate = gate_of(rt.alloc(), CORE_AND_WEB)?;
     fills(rt, &mut gate, "site", 1..1001)?;
     goes_on(rt, &mut gate, &[Talk(FIRST_TWO_TAKEN)])?;
     Ok(gate)
@@ -128,7 +128,7 @@ fn takes_all(rt: &(impl Abort + AllocGlobal), gate: &mut Gate<MemBook>) -> Resul
 
 /// A gate whose queue `core` is full, and whose window is given to workers.
 fn window_taken(rt: &(impl Abort + AllocGlobal)) -> Result<Gate<MemBook>, Fail> {
-    let mut gate = gate_of(rt.alloc(), 100, 1)?;
+    let mut gate = gate_of(rt.alloc(), within(100, 1))?;
     fills(rt, &mut gate, "lib", 1..2)?;
     fills(rt, &mut gate, "app", 2..1001)?;
     goes_on(rt, &mut gate, &[Talk(FRONT_TAKEN)])?;

@@ -1,8 +1,8 @@
 //! Lost builds: a job is tried three times.
 use crate::beginnings::TWO_TAKEN;
-use crate::gates::gate_of_two_queues;
+use crate::books::goes;
+use crate::gates::CORE_AND_WEB;
 use crate::talks::Part::{Build, Status, Talk};
-use crate::talks::goes;
 use std::test::Fail;
 
 const LOST_TWICE: &str = r#"
@@ -49,7 +49,7 @@ const LOST_BUILD: &str =
 fn a_lost_build_is_tried_three_times(rt: HostRuntime) -> Result<(), Fail> {
     goes(
         &rt,
-        gate_of_two_queues(rt.alloc())?,
+        CORE_AND_WEB,
         &[
             Talk(LOST_TWICE),
             Status(THIRD_TRY),
@@ -89,7 +89,7 @@ end
 fn losses_with_other_changes_ahead_do_not_count(rt: HostRuntime) -> Result<(), Fail> {
     goes(
         &rt,
-        gate_of_two_queues(rt.alloc())?,
+        CORE_AND_WEB,
         &[
             Talk(TWO_TAKEN),
             Talk(LOST_ON_TWO_LINES),

@@ -1,7 +1,7 @@
 //! Changes that need others, and when they enter their queue.
-use crate::gates::gate_of_two_queues;
+use crate::books::goes;
+use crate::gates::CORE_AND_WEB;
 use crate::talks::Part::{Status, Talk};
-use crate::talks::goes;
 use std::test::Fail;
 
 const NEEDS_THE_FIRST: &str = r#"
@@ -31,7 +31,7 @@ end
 fn a_change_waits_for_what_it_needs(rt: HostRuntime) -> Result<(), Fail> {
     goes(
         &rt,
-        gate_of_two_queues(rt.alloc())?,
+        CORE_AND_WEB,
         &[Talk(NEEDS_THE_FIRST), Status(NEED_AHEAD)],
     )
 }
@@ -69,7 +69,7 @@ end
 fn one_approval_may_let_many_in(rt: HostRuntime) -> Result<(), Fail> {
     goes(
         &rt,
-        gate_of_two_queues(rt.alloc())?,
+        CORE_AND_WEB,
         &[Talk(NEEDED_BY_ALL), Status(ALL_ENTERED)],
     )
 }
@@ -116,7 +116,7 @@ end
 fn changes_that_need_each_other_wait_for_good(rt: HostRuntime) -> Result<(), Fail> {
     goes(
         &rt,
-        gate_of_two_queues(rt.alloc())?,
+        CORE_AND_WEB,
         &[Talk(IN_CIRCLES), Status(WAITING_FOR_GOOD)],
     )
 }
@@ -163,7 +163,7 @@ end
 fn a_need_in_another_queue_lands_first(rt: HostRuntime) -> Result<(), Fail> {
     goes(
         &rt,
-        gate_of_two_queues(rt.alloc())?,
+        CORE_AND_WEB,
         &[
             Talk(NEEDED_IN_ANOTHER_QUEUE),
             Status(STANDS_IN_ANOTHER_QUEUE),

@@ -1,8 +1,8 @@
 //! Orders: when they are shown, and how they are answered.
 use crate::beginnings::{FIRST_FAILED, THREE_TAKEN, TWO_TAKEN};
-use crate::gates::gate_of_two_queues;
+use crate::books::goes;
+use crate::gates::CORE_AND_WEB;
 use crate::talks::Part::{Orders, Status, Talk};
-use crate::talks::goes;
 use std::test::Fail;
 
 const SECOND_SUCCEEDS: &str = r#"
@@ -49,7 +49,7 @@ end
 fn an_order_is_shown_until_it_is_answered(rt: HostRuntime) -> Result<(), Fail> {
     goes(
         &rt,
-        gate_of_two_queues(rt.alloc())?,
+        CORE_AND_WEB,
         &[
             Talk(THREE_TAKEN),
             Talk(FIRST_FAILED),
@@ -120,7 +120,7 @@ const FREE: &str = r#"
 fn a_change_whose_order_is_shown_cannot_be_taken_back(rt: HostRuntime) -> Result<(), Fail> {
     goes(
         &rt,
-        gate_of_two_queues(rt.alloc())?,
+        CORE_AND_WEB,
         &[
             Talk(BUILT),
             Talk(HELD),
@@ -154,7 +154,7 @@ end
 fn no_order_is_shown_behind_an_undecided_item(rt: HostRuntime) -> Result<(), Fail> {
     goes(
         &rt,
-        gate_of_two_queues(rt.alloc())?,
+        CORE_AND_WEB,
         &[
             Talk(TWO_TAKEN),
             Talk(SECOND_FIRST),
@@ -190,7 +190,7 @@ end
 fn a_refused_order_resets_the_items_behind_it(rt: HostRuntime) -> Result<(), Fail> {
     goes(
         &rt,
-        gate_of_two_queues(rt.alloc())?,
+        CORE_AND_WEB,
         &[
             Talk(TWO_TAKEN),
             Talk(FIRST_REFUSED),
@@ -239,7 +239,7 @@ end
 fn each_queue_shows_its_order(rt: HostRuntime) -> Result<(), Fail> {
     goes(
         &rt,
-        gate_of_two_queues(rt.alloc())?,
+        CORE_AND_WEB,
         &[
             Talk(BUILT_IN_BOTH),
             Orders(BOTH_SHOWN),

@@ -1,14 +1,13 @@
 //! Conversations over two queues.
-use crate::gates::{
-    RECORDED, WAITING, approves, fills, gate_of_two_queues, shows, shows_ends, tells,
-};
+use crate::books::shows;
+use crate::gates::{CORE_AND_WEB, RECORDED, WAITING, approves, fills, gate_of, shows_ends, tells};
 use std::test::Fail;
 
 #[test]
 fn each_queue_has_a_line(rt: HostRuntime) -> Result<(), Fail> {
     shows(
         &rt,
-        gate_of_two_queues(rt.alloc())?,
+        CORE_AND_WEB,
         "",
         "",
         "queue core window 2 landed 0\nqueue web window 2 landed 0\nend\n",
@@ -19,7 +18,7 @@ fn each_queue_has_a_line(rt: HostRuntime) -> Result<(), Fail> {
 fn a_change_stands_in_its_projects_queue(rt: HostRuntime) -> Result<(), Fail> {
     shows(
         &rt,
-        gate_of_two_queues(rt.alloc())?,
+        CORE_AND_WEB,
         r#"{"id":"00000000-0000-4000-8000-000000000001","kind":"revision","change":101,"project":"lib","revision":1,"message":""}
 {"id":"00000000-0000-4000-8000-000000000002","kind":"revision","change":201,"project":"site","revision":1,"message":""}
 {"id":"00000000-0000-4000-8000-000000000003","kind":"revision","change":102,"project":"app","revision":1,"message":""}
@@ -48,7 +47,7 @@ end
 fn a_revision_leaves_the_other_queue_alone(rt: HostRuntime) -> Result<(), Fail> {
     shows(
         &rt,
-        gate_of_two_queues(rt.alloc())?,
+        CORE_AND_WEB,
         r#"{"id":"00000000-0000-4000-8000-000000000001","kind":"revision","change":101,"project":"lib","revision":1,"message":""}
 {"id":"00000000-0000-4000-8000-000000000002","kind":"revision","change":201,"project":"site","revision":1,"message":""}
 {"id":"00000000-0000-4000-8000-000000000003","kind":"approved","change":101,"revision":1}
@@ -73,7 +72,7 @@ end
 
 #[test]
 fn a_full_queue_keeps_no_other_from_filling(rt: HostRuntime) -> Result<(), Fail> {
-    let mut gate = gate_of_two_queues(rt.alloc())?;
+    let mut gate = gate_of(rt.alloc(), CORE_AND_WEB)?;
     fills(&rt, &mut gate, "lib", 1..1001)?;
     approves(&rt, &mut gate, "app", 2001, WAITING)?;
     fills(&rt, &mut gate, "site", 1001..1003)?;
@@ -93,7 +92,7 @@ end
 
 #[test]
 fn a_place_goes_to_the_first_of_its_queue(rt: HostRuntime) -> Result<(), Fail> {
-    let mut gate = gate_of_two_queues(rt.alloc())?;
+    let mut gate = gate_of(rt.alloc(), CORE_AND_WEB)?;
     fills(&rt, &mut gate, "lib", 1..1001)?;
     fills(&rt, &mut gate, "site", 1001..2001)?;
     approves(&rt, &mut gate, "site", 3001, WAITING)?;

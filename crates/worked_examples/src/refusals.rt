@@ -1,7 +1,7 @@
 //! Each refusal of a delivery, and what is stale.
-use crate::gates::gate_of_two_queues;
+use crate::books::goes;
+use crate::gates::CORE_AND_WEB;
 use crate::talks::Part::{Orders, Status, Talk};
-use crate::talks::goes;
 use std::test::Fail;
 
 const QUEUED_AND_BACK: &str = r#"
@@ -54,7 +54,7 @@ end
 fn withdrawing_and_closing_a_queued_change(rt: HostRuntime) -> Result<(), Fail> {
     goes(
         &rt,
-        gate_of_two_queues(rt.alloc())?,
+        CORE_AND_WEB,
         &[Talk(QUEUED_AND_BACK), Status(THIRD_TIME)],
     )
 }
@@ -98,7 +98,7 @@ end
 fn withdrawing_and_closing_a_waiting_change(rt: HostRuntime) -> Result<(), Fail> {
     goes(
         &rt,
-        gate_of_two_queues(rt.alloc())?,
+        CORE_AND_WEB,
         &[Talk(WAITED_AND_BACK), Status(NOTHING_WAITS)],
     )
 }
@@ -177,7 +177,7 @@ end
 fn building_and_landing_a_change(rt: HostRuntime) -> Result<(), Fail> {
     goes(
         &rt,
-        gate_of_two_queues(rt.alloc())?,
+        CORE_AND_WEB,
         &[Talk(BUILT_AND_LANDED), Orders("[]"), Status(ONE_LANDED)],
     )
 }
@@ -187,7 +187,7 @@ fn building_and_landing_a_change(rt: HostRuntime) -> Result<(), Fail> {
 fn a_landed_change_has_landed_for_good(rt: HostRuntime) -> Result<(), Fail> {
     goes(
         &rt,
-        gate_of_two_queues(rt.alloc())?,
+        CORE_AND_WEB,
         &[
             Talk(BUILT_AND_LANDED),
             Talk(LANDED_FOR_GOOD),

@@ -1,7 +1,7 @@
 //! Repeated deliveries, over two queues.
-use crate::gates::gate_of_two_queues;
+use crate::books::goes;
+use crate::gates::CORE_AND_WEB;
 use crate::talks::Part::{Status, Talk};
-use crate::talks::goes;
 use std::test::Fail;
 
 const REFUSED_AT_FIRST: &str = r#"
@@ -24,7 +24,7 @@ end
 fn a_refused_delivery_may_be_sent_again(rt: HostRuntime) -> Result<(), Fail> {
     goes(
         &rt,
-        gate_of_two_queues(rt.alloc())?,
+        CORE_AND_WEB,
         &[Talk(REFUSED_AT_FIRST), Status(ONE_ITEM)],
     )
 }
@@ -65,7 +65,7 @@ const AND_AGAIN: &str = r#"
 fn a_repeat_gets_the_kept_reply(rt: HostRuntime) -> Result<(), Fail> {
     goes(
         &rt,
-        gate_of_two_queues(rt.alloc())?,
+        CORE_AND_WEB,
         &[
             Talk(SENT_TWICE),
             Status(TWO_ITEMS),
@@ -89,11 +89,7 @@ const STALE_THEN: &str = r#"
 /// Its reply is kept too: the repeat takes nothing out, though a new delivery of the same would.
 #[test]
 fn a_stale_delivery_stays_stale(rt: HostRuntime) -> Result<(), Fail> {
-    goes(
-        &rt,
-        gate_of_two_queues(rt.alloc())?,
-        &[Talk(STALE_THEN), Status(ONE_ITEM)],
-    )
+    goes(&rt, CORE_AND_WEB, &[Talk(STALE_THEN), Status(ONE_ITEM)])
 }
 
 const TAKEN_TWICE: &str = r#"
@@ -126,9 +122,5 @@ end
 /// Under the same id and worker; another worker cannot use the id.
 #[test]
 fn a_repeated_take_gives_the_same_build(rt: HostRuntime) -> Result<(), Fail> {
-    goes(
-        &rt,
-        gate_of_two_queues(rt.alloc())?,
-        &[Talk(TAKEN_TWICE), Status(TWO_BUILDS)],
-    )
+    goes(&rt, CORE_AND_WEB, &[Talk(TAKEN_TWICE), Status(TWO_BUILDS)])
 }

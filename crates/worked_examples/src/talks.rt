@@ -45,7 +45,7 @@ fn answers<B: Book>(
 }
 
 /// The status of the gate is this.
-fn has_status<B: Book>(
+pub fn has_status<B: Book>(
     rt: &(impl Abort + AllocGlobal),
     gate: &mut Gate<B>,
     status: &str,
@@ -94,13 +94,4 @@ pub fn goes_on<B: Book>(
         }
     }
     Ok(())
-}
-
-/// A gate says all this.
-pub fn goes<B: Book + Drop>(
-    rt: &(impl Abort + AllocGlobal),
-    mut gate: Gate<B>,
-    parts: &[Part],
-) -> Result<(), Fail> {
-    goes_on(rt, &mut gate, parts)
 }

@@ -1,8 +1,8 @@
 //! Windows: how many items of a queue are tested at once.
 use crate::beginnings::{FIRST_FAILED, THREE_TAKEN};
-use crate::gates::{gate_of, gate_of_two_queues};
+use crate::books::goes;
+use crate::gates::{CORE_AND_WEB, within};
 use crate::talks::Part::{Status, Talk};
-use crate::talks::goes;
 use std::test::Fail;
 
 const NONE_DUE: &str = r#"
@@ -15,7 +15,7 @@ const NONE_DUE: &str = r#"
 fn a_failing_item_holds_its_place_in_the_window(rt: HostRuntime) -> Result<(), Fail> {
     goes(
         &rt,
-        gate_of_two_queues(rt.alloc())?,
+        CORE_AND_WEB,
         &[Talk(THREE_TAKEN), Talk(FIRST_FAILED), Talk(NONE_DUE)],
     )
 }
@@ -74,7 +74,7 @@ end
 fn a_window_of_0_has_no_end(rt: HostRuntime) -> Result<(), Fail> {
     goes(
         &rt,
-        gate_of(rt.alloc(), 0, 1)?,
+        within(0, 1),
         &[
             Talk(ALL_TAKEN),
             Status(STILL_WITHOUT_END),
@@ -122,7 +122,7 @@ end
 fn a_window_is_halved_down_to_its_floor(rt: HostRuntime) -> Result<(), Fail> {
     goes(
         &rt,
-        gate_of(rt.alloc(), 5, 3)?,
+        within(5, 3),
         &[
             Talk(FAILS_ONCE),
             Status(AT_THE_FLOOR),
@@ -174,7 +174,7 @@ end
 fn a_window_grows_up_to_1000(rt: HostRuntime) -> Result<(), Fail> {
     goes(
         &rt,
-        gate_of(rt.alloc(), 999, 1)?,
+        within(999, 1),
         &[
             Talk(FIRST_LANDS),
             Status(AT_THE_END),

@@ -1,9 +1,9 @@
 //! For some gates that are wrong in one thing, a conversation that ends otherwise with them. Each test has the name of
 //! the wrong gate on which it fails.
 use crate::beginnings::TWO_TAKEN;
-use crate::gates::gate_of_two_queues;
+use crate::books::goes;
+use crate::gates::{CORE_AND_WEB, within};
 use crate::talks::Part::{Orders, Status, Talk};
-use crate::talks::goes;
 use std::test::Fail;
 
 const SUCCESS_BEFORE_A_FAILURE: &str = r#"
@@ -30,7 +30,7 @@ end
 fn lands_on_a_success_from_before_a_failure(rt: HostRuntime) -> Result<(), Fail> {
     goes(
         &rt,
-        gate_of_two_queues(rt.alloc())?,
+        CORE_AND_WEB,
         &[
             Talk(TWO_TAKEN),
             Talk(SUCCESS_BEFORE_A_FAILURE),
@@ -59,7 +59,7 @@ const SECOND_SHOWN: &str =
 fn resets_builds_behind_landing(rt: HostRuntime) -> Result<(), Fail> {
     goes(
         &rt,
-        gate_of_two_queues(rt.alloc())?,
+        CORE_AND_WEB,
         &[
             Talk(TWO_TAKEN),
             Talk(SUCCESS_BEHIND_A_LANDING),
@@ -71,7 +71,7 @@ fn resets_builds_behind_landing(rt: HostRuntime) -> Result<(), Fail> {
 /// Each job within the window is given to a worker.
 #[test]
 fn always_idle(rt: HostRuntime) -> Result<(), Fail> {
-    goes(&rt, gate_of_two_queues(rt.alloc())?, &[Talk(TWO_TAKEN)])
+    goes(&rt, CORE_AND_WEB, &[Talk(TWO_TAKEN)])
 }
 
 const ONE_LANDS: &str = r#"
@@ -95,11 +95,7 @@ end
 /// A change that has passed its jobs lands.
 #[test]
 fn never_lands(rt: HostRuntime) -> Result<(), Fail> {
-    goes(
-        &rt,
-        gate_of_two_queues(rt.alloc())?,
-        &[Talk(ONE_LANDS), Status(ONE_LANDED)],
-    )
+    goes(&rt, CORE_AND_WEB, &[Talk(ONE_LANDS), Status(ONE_LANDED)])
 }
 
 const EACH_KIND: &str = r#"
@@ -141,7 +137,7 @@ end
 fn always_unavailable(rt: HostRuntime) -> Result<(), Fail> {
     goes(
         &rt,
-        gate_of_two_queues(rt.alloc())?,
+        CORE_AND_WEB,
         &[Talk(EACH_KIND), Orders("[]"), Status(ONE_OF_TWO_LANDED)],
     )
 }
