@@ -1,0 +1,9 @@
+//! A gate's file, closed and opened again, and stopped at each write: tests that cross crates.
+#![tactic(auto)]
+
+#[cfg(test)]
+mod files;
+#[cfg(test)]
+mod openings;
+#[cfg(test)]
+mod stops;
