@@ -1,6 +1,6 @@
 //! Why a file isn't opened as a gate's, or made one.
 
-/// The file is as it was.
+/// What the file's tables hold is as it was.
 #[derive(Clone, Copy, Debug, PartialEq, Eq)]
 pub enum OpenFault {
     /// O1: it is no gate's file; or, where one is made, it holds a table, an index or a view of a name that a gate's
