@@ -3,11 +3,7 @@
 # same transactions, each commit synced: for each pair LINES:LENGTH, over a queue of LENGTH changes, at LINES lines.
 set -eu
 . "$(dirname "$0")/scratch.sh"
-program=$top/crates/gated/out/gated
-settings=$top/bench/settings.toml
-if [ ! -x "$program" ]; then
-    (cd "$top/crates/gated" && rt run -- replay "$settings" </dev/null)
-fi
+. "$(dirname "$0")/program.sh"
 if [ $# -eq 0 ]; then
     set -- 1000:10 10000:10
 fi

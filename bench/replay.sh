@@ -1,12 +1,7 @@
 #!/bin/sh
 # Deliveries a second of `gated replay`, over a queue of LENGTH changes, at LINES lines: for each pair LINES:LENGTH.
 set -eu
-top=$(cd "$(dirname "$0")/.." && pwd)
-program=$top/crates/gated/out/gated
-settings=$top/bench/settings.toml
-if [ ! -x "$program" ]; then
-    (cd "$top/crates/gated" && rt run -- replay "$settings" </dev/null)
-fi
+. "$(dirname "$0")/program.sh"
 if [ $# -eq 0 ]; then
     set -- 1000:10 10000:10 100000:10 10000:100 10000:1000
 fi
