@@ -26,7 +26,8 @@ more_of n (Some d) = grown n d
 -- a byte within the number of a change
 abbrev pub step_in_change : ℕ → ℕ → Part
 step_in_change n c =
-    if c == 44 then (if is_change_number n then Between n else Bad) else or_bad (more_of n (digit_of c)) (λ m. InChange m)
+    if c == 44 then (if is_change_number n then Between n else Bad)
+    else or_bad (more_of n (digit_of c)) (λ m. InChange m)
 
 -- a byte within a revision
 abbrev pub step_in_revision : ℕ → ℕ → ℕ → Part

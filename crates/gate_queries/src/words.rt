@@ -50,7 +50,8 @@ pub(crate) fn stage_in(row: &Row, at: usize) -> Result<Stage, BookFault>
 
 /// The outcome in a column. `Damaged` where it holds none.
 pub(crate) fn outcome_in(row: &Row, at: usize) -> Result<Outcome, BookFault>
-    ensures ok { (outcome : _) → column row.now at ≡ Text (outcome_word outcome) → IfOk result (λ found. found ≡ outcome) }
+    ensures ok { (outcome : _) → column row.now at ≡ Text (outcome_word outcome) →
+        IfOk result (λ found. found ≡ outcome) }
     ensures form { IfOk result (λ found. column row.now at ≡ Text (outcome_word found)) }
     ensures err { (outcome : _) → column row.now at ≡ Text (outcome_word outcome) → OnErr result ⊥ }
 {

@@ -22,8 +22,8 @@ pub trait GateFiles {
         ensures { IfErr result IsOfMaking };
 
     /// Answers each line of the input over the gate that a file keeps. `File` where the file isn't there or can't be
-    /// opened, and as for `SqlBook::open`; `Read`, `Write` and `NoMemory` as for `replay`; `Store` where all is answered
-    /// and the file can't be closed.
+    /// opened, and as for `SqlBook::open`; `Read`, `Write` and `NoMemory` as for `replay`; `Store` where all is
+    /// answered and the file can't be closed.
     fn deliver<R: Read, W: Write>(
         &self,
         file: &str,
