@@ -10,3 +10,5 @@ pub mod LoopLemmas
 pub mod MemoryLemmas
 pub mod ReadLemmas
 pub mod ReadyLemmas
+pub mod Padding
+pub mod HistoryLemmas

@@ -79,7 +79,7 @@ length_landings : (n : ℕ) (ls : List Landing) → length (numbered_landings n 
 length_landings n [] = refl
 length_landings n (l ∷ ls) = ap (λ m. suc m) (length_landings (suc n) ls)
 
-length_reports : (n : ℕ) (rs : List Report) → length (numbered n rs) ≡ length rs
+pub length_reports : (n : ℕ) (rs : List Report) → length (numbered n rs) ≡ length rs
 length_reports n [] = refl
 length_reports n (r ∷ rs) = ap (λ m. suc m) (length_reports (suc n) rs)
 

@@ -6,6 +6,8 @@ pub mod Queues
 pub mod Replies
 pub mod Memory
 pub mod Reads
+pub mod Text
+pub mod Writes
 pub mod TableReads
 pub mod Kept
 pub mod Faults

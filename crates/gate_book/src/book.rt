@@ -1,16 +1,18 @@
 //! What keeps a gate's content.
-use crate::fault::BookFault;
+use crate::fault::{BookFault, HistoryFault};
 use crate::rows::{QueueSizes, QueuedItem};
 use gate_types::edits::Edit;
 use gate_types::names::Name;
 use gate_types::numbers::{BuildNo, ChangeNo, Serial};
 use gate_types::records::{Build, Change, Counters, Id, Item, Kept, Ready};
 use gate_types::sequence::Sequence;
+use gate_types::tap::Tap;
+use std::io::Write;
 
 /// A book holds a content: the state of a gate, and what is kept of its deliveries. It is asked by
 /// key, and changed by edits, all or none. After a fault it holds what it held.
 pub trait Book {
-    ghost use Rattle.std.specs.Prelude.{◌≡◌, ◌<◌, [], ◌∷◌, ◌++◌, List, option_map, IfOk, IfErr, IfSome};
+    ghost use Rattle.std.specs.Prelude.{◌≡◌, ◌<◌, false, [], ◌∷◌, ◌++◌, List, option_map, IfOk, IfErr, IfSome};
     ghost use Rattle.gate_types.specs.Settings.{Settings};
     ghost use Rattle.gate_types.specs.State.{known_change};
     ghost use Rattle.gate_types.specs.Step.{build_of};
@@ -19,7 +21,9 @@ pub trait Book {
     ghost use Rattle.gate_types.specs.Tables.{Leads};
     ghost use Rattle.gate_book.specs.declared.fault.BookFault.{BookFault};
     ghost use Rattle.gate_book.specs.Reads as read;
+    ghost use Rattle.gate_types.specs.Tap.{has_failed};
     ghost use Rattle.gate_book.specs.Kept.{OfHeld, IsKept, IsApplied};
+    ghost use Rattle.gate_book.specs.Writes.{WritesHistory, Stops};
 
     // While it answers at all, it answers by this content, under these settings.
     ghost Holds: { Self → Settings → Content → Type 0 };
@@ -142,6 +146,21 @@ pub trait Book {
         ensures found { OfHeld IsTrusted Holds self.old self.new (λ c x. read.Answers x.state.counters result) }
         ensures kept { IsKept IsTrusted Holds LeavesOneOf self.old self.new }
         ensures fault { IfErr result MayFault };
+
+    /// Writes the front and then the history text of a queue, each line while its report is read, so that however long
+    /// the history is, one line is held. The first report, or that there is none, is read before the first byte is
+    /// written: so `NoQueue` and `Unavailable` mean that nothing was. `Broken` and `Write` leave a beginning.
+    fn history<W: Write>(
+        &mut self,
+        queue: &str,
+        front: &[u8],
+        w: &mut Tap<W>,
+    ) -> Result<(), HistoryFault>
+        requires { has_failed w.old ≡ false }
+        ensures found { OfHeld IsTrusted Holds self.old self.new (λ c x.
+            WritesHistory x.state queue.now front.now W.contents w.old w.new result) }
+        ensures stops { Stops w.old w.new result }
+        ensures kept { IsKept IsTrusted Holds LeavesOneOf self.old self.new };
 
     /// All edits or none, where they lead from the content that is held to a lawful one.
     fn apply(&mut self, edits: &[Edit]) -> Result<(), BookFault>

@@ -5,16 +5,19 @@ ghost use Rattle.gate_types.specs.Tables.{tables};
 ghost use Rattle.gate_book.specs.Memory.{start_with};
 
 use crate::book::Book;
-use crate::fault::BookFault;
+use crate::fault::{BookFault, HistoryFault};
 use crate::rows::{QueueSizes, QueuedItem};
 use crate::tables::MemTables;
+use crate::writing::write_history;
 use gate_types::config::Config;
 use gate_types::edits::Edit;
 use gate_types::names::{Name, NoMemory};
 use gate_types::numbers::{BuildNo, ChangeNo, Serial};
 use gate_types::records::{Build, Change, Counters, Id, Item, Kept, Ready};
 use gate_types::sequence::Sequence;
+use gate_types::tap::Tap;
 use std::alloc::Global;
+use std::io::Write;
 use std::marker::Model;
 
 /// A book that keeps all in memory. The time of an edit, or of a read by key, grows with what is
@@ -152,6 +155,20 @@ impl Book for MemBook {
 
     fn counters(&mut self) -> Result<Counters, BookFault> {
         Ok(self.tables.counters())
+    }
+
+    fn history<W: Write>(
+        &mut self,
+        queue: &str,
+        front: &[u8],
+        w: &mut Tap<W>,
+    ) -> Result<(), HistoryFault> {
+        match self.tables.queue_called(queue) {
+            Some(found) => {
+                write_history(self.alloc, found.name(), found.report_rows(), front, w)
+            }
+            None => Err(HistoryFault::NoQueue),
+        }
     }
 
     fn apply(&mut self, edits: &[Edit]) -> Result<(), BookFault> {

@@ -237,10 +237,16 @@ impl QueueTable {
         }
     }
 
-    pub(crate) fn has_name(&self, name: &Name) -> bool
+    pub(crate) fn name(&self) -> &str
+        ensures { result.now ≡ (rows_of self.now).name }
+    {
+        self.name.as_str()
+    }
+
+    pub(crate) fn has_name(&self, name: &str) -> bool
         ensures { result ≡ same_name self.now.name name.now }
     {
-        same_name(&self.name, name)
+        self.name.as_str() == name
     }
 
     pub(crate) fn sizes(&self) -> QueueSizes
@@ -270,6 +276,12 @@ impl QueueTable {
         ensures { result.now ≡ (rows_of self.now).items }
     {
         &self.items
+    }
+
+    pub(crate) fn report_rows(&self) -> &[ReportRow]
+        ensures { result.now ≡ (rows_of self.now).reports }
+    {
+        &self.reports
     }
 
     /// The first item above a serial.

@@ -162,7 +162,7 @@ fn first_needing<'a>(
 }
 
 /// The queue of a name.
-fn queue_of<'a>(queues: &'a [QueueTable], name: &Name) -> Option<&'a QueueTable>
+fn queue_of<'a>(queues: &'a [QueueTable], name: &str) -> Option<&'a QueueTable>
     requires { AllByRecursion queue.IsKept queues.now }
     ensures found { option_copied result ≡ find (λ q. same_name q.name name.now) queues.now }
     ensures kept { IfSome result (λ q. queue.IsKept q.now) }
@@ -245,6 +245,16 @@ impl MemTables {
         }
     }
 
+    /// The queue that is called so, if one is.
+    pub(crate) fn queue_called(&self, name: &str) -> Option<&QueueTable>
+        requires { IsKept self.now }
+        ensures found { option_map queue.rows_of (option_copied result)
+            ≡ rows_named (tables_of self.now).queues name.now }
+        ensures kept { IfSome result (λ q. queue.IsKept q.now) }
+    {
+        queue_of(&self.queues, name)
+    }
+
     /// The queue of a name.
     fn queue_named(&self, name: &Name) -> Option<&QueueTable>
         requires { IsKept self.now }
@@ -252,7 +262,7 @@ impl MemTables {
             ≡ rows_named (tables_of self.now).queues name.now }
         ensures kept { IfSome result (λ q. queue.IsKept q.now) }
     {
-        queue_of(&self.queues, name)
+        self.queue_called(name.as_str())
     }
 
     pub(crate) fn delivery(&self, id: &Id) -> Result<Option<Kept>, NoMemory>

@@ -10,6 +10,7 @@ mod DecodeLemmas
 mod DeliveryReads
 mod ExistsLemmas
 mod GreatestLemmas
+mod HistoryLemmas
 mod ItemReads
 mod ItemTexts
 mod KeyedReads
@@ -22,6 +23,7 @@ mod QueueReads
 mod QueueTexts
 mod ReadLemmas
 mod ReadyReads
+mod ReportReads
 mod ShownLemmas
 mod SortedLemmas
 mod StayLemmas

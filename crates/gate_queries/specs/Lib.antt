@@ -4,3 +4,4 @@ pub mod Whole
 pub mod Reads
 pub mod Shown
 pub mod Ahead
+pub mod History

@@ -13,6 +13,7 @@ mod item_rows;
 mod queues;
 pub mod read;
 mod ready_reads;
+mod report_reads;
 mod words;
 
 pub use builds::{build, live_builds};
@@ -22,3 +23,4 @@ pub use deliveries::delivery;
 pub use item_reads::{item, items, last_item, needing, next_item, queued};
 pub use queues::{landing_before, queue, reports};
 pub use ready_reads::ready;
+pub use report_reads::history;

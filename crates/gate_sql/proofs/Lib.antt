@@ -13,3 +13,4 @@ mod JudgeLemmas
 mod AgainLemmas
 pub mod ApplyLemmas
 mod LeaveLemmas
+mod HistoryLemmas

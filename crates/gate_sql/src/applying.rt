@@ -24,14 +24,14 @@ use sqlite::{Alter, Connection, Error, Transaction};
 use std::alloc::Global;
 
 /// Whether the two are the same bytes.
-fn same_name(name: &Name, other: &Name) -> bool
+fn same_name(name: &Name, other: &str) -> bool
     ensures { result ≡ same_name name.now other.now }
 {
-    name.as_str() == other.as_str()
+    name.as_str() == other
 }
 
 /// Whether one of these queues has this name.
-fn is_among(queues: &[Name], name: &Name) -> bool
+pub(crate) fn is_among(queues: &[Name], name: &str) -> bool
     ensures { result ≡ is_among queues.now name.now }
 {
     queues.iter().any(|queue| same_name(queue, name))
@@ -45,7 +45,7 @@ fn is_known(queues: &[Name], edit: &Edit) -> bool
         Edit::PutItem { queue, .. }
         | Edit::PutLanding { queue, .. }
         | Edit::PutReport { queue, .. }
-        | Edit::SetWindow { queue, .. } => is_among(queues, queue),
+        | Edit::SetWindow { queue, .. } => is_among(queues, queue.as_str()),
         _ => true,
     }
 }

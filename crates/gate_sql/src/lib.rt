@@ -5,6 +5,8 @@ mod applying;
 pub mod book;
 mod creating;
 mod filling;
+#[cfg(test)]
+mod history_tests;
 pub mod laws;
 mod making;
 pub mod open_fault;

@@ -1,15 +1,17 @@
 //! A book's reads and edits, from the tables of a file.
-use crate::applying::apply;
+use crate::applying::{apply, is_among};
 use crate::book::SqlBook;
 use gate_book::book::Book;
-use gate_book::fault::BookFault;
+use gate_book::fault::{BookFault, HistoryFault};
 use gate_book::rows::{QueueSizes, QueuedItem};
 use gate_types::edits::Edit;
 use gate_types::names::Name;
 use gate_types::numbers::{BuildNo, ChangeNo, Serial};
 use gate_types::records::{Build, Change, Counters, Id, Item, Kept, Ready};
 use gate_types::sequence::Sequence;
+use gate_types::tap::Tap;
 use sqlite::Alter;
+use std::io::Write;
 
 impl<S: Alter> Book for SqlBook<S> {
     ghost use Rattle.std.specs.Prelude.{⊤};
@@ -90,6 +92,18 @@ impl<S: Alter> Book for SqlBook<S> {
 
     fn counters(&mut self) -> Result<Counters, BookFault> {
         gate_queries::counters(&mut self.conn)
+    }
+
+    fn history<W: Write>(
+        &mut self,
+        queue: &str,
+        front: &[u8],
+        w: &mut Tap<W>,
+    ) -> Result<(), HistoryFault> {
+        if !is_among(self.queues.as_slice(), queue) {
+            return Err(HistoryFault::NoQueue);
+        }
+        gate_queries::history(self.alloc, &mut self.conn, queue, front, w)
     }
 
     fn apply(&mut self, edits: &[Edit]) -> Result<(), BookFault> {

@@ -1,7 +1,6 @@
 -- a build
 pub mod BuildLemmas
 -- the status
-pub mod Padding
 pub mod LineLemmas
 pub mod Pieces
 pub mod Shown

@@ -1,6 +1,6 @@
 //! A book that gives up where a delivery reads more than the rows that it can change.
 use gate_book::book::Book;
-use gate_book::fault::BookFault;
+use gate_book::fault::{BookFault, HistoryFault};
 use gate_book::memory::MemBook;
 use gate_book::rows::{QueueSizes, QueuedItem};
 use gate_types::edits::Edit;
@@ -8,6 +8,8 @@ use gate_types::names::Name;
 use gate_types::numbers::{BuildNo, ChangeNo, Serial};
 use gate_types::records::{Build, Change, Counters, Id, Item, Kept, Ready};
 use gate_types::sequence::Sequence;
+use gate_types::tap::Tap;
+use std::io::Write;
 
 /// The items of a queue that a delivery may ask for, one after another.
 const ITEMS: u32 = 2;
@@ -112,6 +114,15 @@ impl Book for Watched {
 
     fn counters(&mut self) -> Result<Counters, BookFault> {
         self.book.counters()
+    }
+
+    fn history<W: Write>(
+        &mut self,
+        queue: &str,
+        front: &[u8],
+        w: &mut Tap<W>,
+    ) -> Result<(), HistoryFault> {
+        self.book.history(queue, front, w)
     }
 
     fn apply(&mut self, edits: &[Edit]) -> Result<(), BookFault> {

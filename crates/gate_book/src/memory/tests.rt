@@ -2,6 +2,7 @@ ghost use Rattle.std.specs.Prelude.{◌≡◌, [], ◌∷◌, true, IfOk};
 
 use super::MemBook;
 use crate::book::Book;
+use crate::fault::HistoryFault;
 use crate::rows::QueueSizes;
 use gate_types::config::{Config, Job, Project, Queue};
 use gate_types::edits::{Counter, Edit};
@@ -11,7 +12,10 @@ use gate_types::records::{
     Build, Change, Counters, Id, Item, Kept, Landing, Outcome, Report, Stage, Verdict,
 };
 use gate_types::sequence::Sequence;
+use gate_types::tap::Tap;
 use std::alloc::Global;
+use std::io;
+use std::io::Write;
 use std::test::Fail;
 
 fn name(alloc: Global, text: &str) -> Result<Name, Fail> {
@@ -321,5 +325,97 @@ fn many_replies_are_found(rt: HostRuntime) -> Result<(), Fail> {
     }
     assert!(rt; book.delivery(&id(99_999))?.is_some());
     assert!(rt; book.delivery(&id(100_000))?.is_none());
+    Ok(())
+}
+
+const HISTORY: &[u8] = b"front
+history core
+     1      2       102    1 landed          1
+     2      1       101    1 failed          -
+end 2
+";
+
+const EMPTY: &[u8] = b"history core\nend 0\n";
+
+fn left(place: u64, serial: u64, change: u64, verdict: Verdict, queue: Name) -> Result<Edit, Fail> {
+    Ok(Edit::PutReport {
+        queue,
+        place,
+        report: Report {
+            serial: serial_no(serial)?,
+            change: change_no(change)?,
+            revision: Revision::new(1).ok_or("no revision")?,
+            verdict,
+        },
+    })
+}
+
+/// Item 2 has landed, then item 1 has failed.
+fn book_of_reports(alloc: Global) -> Result<MemBook, Fail> {
+    let config = settings(alloc)?;
+    let mut book = MemBook::new(alloc, &config)?;
+    let mut edits = Vec::new(alloc);
+    edits.push(left(1, 2, 102, Verdict::Landed(1), name(alloc, "core")?)?)?;
+    edits.push(left(2, 1, 101, Verdict::Failed, name(alloc, "core")?)?)?;
+    book.apply(&edits)?;
+    Ok(book)
+}
+
+/// Takes bytes while it has room for them, and fails then.
+#[derive(Drop)]
+struct Short {
+    bytes: Vec<u8>,
+    room: usize,
+}
+
+impl Write for Short {
+    fn write(&mut self, buf: &[u8]) -> io::Result<usize> {
+        if self.room == 0 {
+            return Err(io::Error::from(io::ErrorKind::Interrupted));
+        }
+        let n = buf.len().min(self.room);
+        self.room -= n;
+        self.bytes.write(&buf[..n])
+    }
+
+    fn flush(&mut self) -> io::Result<()> {
+        Ok(())
+    }
+}
+
+/// What asking for a history came to, and what a writer with this room took of it.
+fn written(
+    alloc: Global,
+    book: &mut MemBook,
+    queue: &str,
+    front: &[u8],
+    room: usize,
+) -> (Result<(), HistoryFault>, Vec<u8>) {
+    let mut w = Tap::new(Short {
+        bytes: Vec::new(alloc),
+        room,
+    });
+    let done = book.history(queue, front, &mut w);
+    let Short { bytes, room: _ } = w.into_inner();
+    (done, bytes)
+}
+
+#[test]
+fn a_history_is_written_behind_its_front(rt: HostRuntime) -> Result<(), Fail> {
+    let alloc = rt.alloc();
+    let mut book = book_of_reports(alloc)?;
+    let (done, text) = written(alloc, &mut book, "core", b"front\n", 1000);
+    assert_eq!(rt; done, Ok(()));
+    assert_eq!(rt; text.as_slice(), HISTORY);
+    let (done, text) = written(alloc, &mut book, "core", b"front\n", 20);
+    assert_eq!(rt; done, Err(HistoryFault::Write));
+    assert_eq!(rt; text.as_slice(), &HISTORY[..20]);
+    let (done, text) = written(alloc, &mut book, "cor", b"front\n", 1000);
+    assert_eq!(rt; done, Err(HistoryFault::NoQueue));
+    assert_eq!(rt; text.len(), 0);
+    let mut book = MemBook::new(alloc, &settings(alloc)?)?;
+    let (done, text) = written(alloc, &mut book, "core", b"", 1000);
+    assert_eq!(rt; done, Ok(()));
+    assert_eq!(rt; text.as_slice(), EMPTY);
     Ok(())
 }

@@ -132,7 +132,7 @@ window_placed c s name n (q ∷ qs) = by_name (same_name q.name name) (window_pl
     by_name false e = e
 
 -- its reports
-abbrev reports_in : State → List ℕ → List Report
+abbrev pub reports_in : State → List ℕ → List Report
 reports_in s name = option_map_or (λ (q : Queue). q.reports) (content.queue_named s name) []
 
 module _ (c : Settings) (x : Content) (b : Stored) (told : Tells b (tables c x)) where
@@ -150,7 +150,7 @@ module _ (c : Settings) (x : Content) (b : Stored) (told : Tells b (tables c x))
       by_queue (Some q) = refl
 
   -- its reports, numbered
-  report_rows : (name : List ℕ) →
+  pub report_rows : (name : List ℕ) →
       of_queue (λ q. q.reports) name (tables c x).queues ≡ numbered 0 (reports_in x.state name)
   report_rows name =
       ap (λ o. option_map_or (λ (r : QueueRows). r.reports) o []) (read.named_is c x name)

@@ -4,7 +4,7 @@ use Rattle.std.specs.Option.{option_copied}
 use Rattle.gate_types.specs.Names.{same_name}
 use Rattle.gate_book.specs.Queues as queue
 use Rattle.gate_book.proofs.MemoryLemmas.{find_map}
-use Rattle.gate_book.proofs.tables.MemTables.queue_named.Goals as goal
+use Rattle.gate_book.proofs.tables.MemTables.queue_called.Goals as goal
 
 pub returns-clause-found : goal.returns-clause-found
 returns-clause-found c =
