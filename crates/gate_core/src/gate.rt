@@ -1,15 +1,18 @@
 //! The gate: each delivery is exactly one step of the plain gate.
-ghost use Rattle.std.specs.Prelude.{◌≡◌, ◌⊎◌, None, Some, option_map, IfOk, IfErr, MatchResult, string_bytes};
+ghost use Rattle.std.specs.Prelude.{◌≡◌, ◌⊎◌, false, None, Some, option_map, IfOk, IfErr, MatchResult, string_bytes};
 ghost use Rattle.gate_types.specs.BuildText.{build_text};
 ghost use Rattle.gate_types.specs.Once.{is_unavailable};
 ghost use Rattle.gate_types.specs.OrderList.{order_list_text};
 ghost use Rattle.gate_types.specs.Status.{status_text};
 ghost use Rattle.gate_types.specs.Step.{build_of};
+ghost use Rattle.gate_types.specs.Tap.{has_failed};
 ghost use Rattle.gate_book.specs.Kept.{OfHeldUnder, IsKept};
+ghost use Rattle.gate_book.specs.Writes.{WritesHistory, Stops};
 ghost use Rattle.gate_deliver.specs.Answered.{Answered, call};
 ghost use Rattle.gate_core.specs.Landing.{LandsRightly};
 
 use gate_book::book::Book;
+use gate_book::fault::HistoryFault;
 use gate_deliver::delivering::deliver;
 use gate_laws::orders;
 use gate_texts::build::build_text;
@@ -19,7 +22,9 @@ use gate_types::config::Config;
 use gate_types::deliveries::{Answer, Delivery, Refusal};
 use gate_types::numbers::BuildNo;
 use gate_types::records::Id;
+use gate_types::tap::Tap;
 use std::alloc::Global;
+use std::io::Write;
 
 /// A gate over a book, under its settings.
 #[derive(Drop)]
@@ -119,5 +124,28 @@ impl<B: Book> Gate<B> {
             Ok(text) => Ok(text.into_string()),
             Err(_) => Err(Refusal::Unavailable),
         }
+    }
+
+    /// Writes the front and then the history text of a queue.
+    ///
+    /// # Errors
+    ///
+    /// `NoQueue` where no queue has the name, and `Unavailable` where the book gave a fault or memory was refused:
+    /// nothing was written. `Broken` where such a fault came later, and `Write` where the writer failed: a beginning
+    /// was written.
+    pub fn history<W: Write>(
+        &mut self,
+        queue: &str,
+        front: &[u8],
+        w: &mut Tap<W>,
+    ) -> Result<(), HistoryFault>
+        requires { has_failed w.old ≡ false }
+        ensures written { OfHeldUnder B.IsTrusted B.Holds self.old.book self.new.book self.old.config (λ x.
+            WritesHistory x.state queue.now front.now W.contents w.old w.new result) }
+        ensures stops { Stops w.old w.new result }
+        ensures kept { IsKept B.IsTrusted B.Holds B.LeavesOneOf self.old.book self.new.book }
+        ensures settings { self.new.config ≡ self.old.config }
+    {
+        self.book.history(queue, front, w)
     }
 }
