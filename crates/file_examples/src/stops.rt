@@ -1,5 +1,8 @@
-//! A delivery to a file that is stopped at each call of the disk.
+//! A gate's file that is stopped at each call of the disk: in a delivery of each kind, and while it is made.
 use crate::files::{SETTINGS, gate_in, new_gate, said, tells};
+use gate_config::read;
+use gate_sql::book::SqlBook;
+use gate_sql::open_fault::OpenFault;
 use sqlite::{Alter, Connection, Error, FileStore, Files, Options};
 use sqlite_disk::{Crash, Disk, Fuse, Memory};
 use std::alloc::Global;
@@ -7,33 +10,56 @@ use std::io;
 use std::process::Abort;
 use std::test::Fail;
 
-/// A change waits for another, which is known.
-const BEFORE: &str =
-    r#"{"id":"00000000-0000-4000-8000-000000000001","kind":"revision","change":101,"project":"lib","revision":1,"message":""}
+/// Deliveries of all eight kinds, each accepted, and each changing a row besides its own: the first approval of 101 lets
+/// both changes enter.
+const DAY: &str =
+    r#"{"id":"00000000-0000-4000-8000-000000000001","kind":"revision","change":101,"project":"app","revision":1,"message":""}
 {"id":"00000000-0000-4000-8000-000000000002","kind":"revision","change":102,"project":"app","revision":1,"message":"Depends-On: https://forge/c/101"}
 {"id":"00000000-0000-4000-8000-000000000003","kind":"approved","change":102,"revision":1}
-"#;
+{"id":"00000000-0000-4000-8000-000000000004","kind":"approved","change":101,"revision":1}
+{"id":"00000000-0000-4000-8000-000000000005","kind":"take","worker":"w1"}
+{"id":"00000000-0000-4000-8000-000000000006","kind":"result","build":1,"outcome":"success"}
+{"id":"00000000-0000-4000-8000-000000000007","kind":"landed","order":1}
+{"id":"00000000-0000-4000-8000-000000000008","kind":"withdrawn","change":102,"revision":1}
+{"id":"00000000-0000-4000-8000-000000000009","kind":"approved","change":102,"revision":1}
+{"id":"00000000-0000-4000-8000-000000000010","kind":"take","worker":"w1"}
+{"id":"00000000-0000-4000-8000-000000000011","kind":"result","build":2,"outcome":"success"}
+{"id":"00000000-0000-4000-8000-000000000012","kind":"refused","order":3}
+{"id":"00000000-0000-4000-8000-000000000013","kind":"closed","change":102,"revision":1}"#;
 
-const BEFORE_ANSWERED: &str = r#"{"reply":"recorded"}
+/// What each is answered.
+const ANSWERS: &str = r#"{"reply":"recorded"}
 {"reply":"recorded"}
 {"reply":"waiting"}
-"#;
+{"order":1,"reply":"queued"}
+{"after":0,"ahead":[],"build":1,"change":101,"job":"unit","queue":"core","reply":"build","revision":1}
+{"reply":"noted"}
+{"n":1,"reply":"landed"}
+{"reply":"removed"}
+{"order":3,"reply":"queued"}
+{"after":1,"ahead":[],"build":2,"change":102,"job":"unit","queue":"core","reply":"build","revision":1}
+{"reply":"noted"}
+{"reply":"removed"}
+{"reply":"recorded"}"#;
 
-const STATUS_BEFORE: &str = "queue core window 2 landed 0
-queue web window 2 landed 0
-waiting 102 1
-end
-";
+/// A delivery, and what it is answered.
+#[derive(Clone, Copy)]
+struct Line<'a> {
+    said: &'a str,
+    answer: &'a str,
+}
 
-/// The delivery that is stopped: both changes enter their queue.
-const APPROVAL: &str =
-    r#"{"id":"00000000-0000-4000-8000-000000000004","kind":"approved","change":101,"revision":1}"#;
+impl Line<'_> {
+    fn has_answer(&self, written: &[u8]) -> bool {
+        match written {
+            [answer @ .., b'\n'] => answer == self.answer.as_bytes(),
+            _ => false,
+        }
+    }
+}
 
-const QUEUED: &str = "{\"order\":1,\"reply\":\"queued\"}\n";
-
-const STATUS_AFTER: &str = "queue core window 2 landed 0
-     1       101    1      - ok      unit=waiting docs=waiting
-     2       102    1      1 ok      unit=waiting
+/// The status of a gate that has seen no delivery.
+const NO_DELIVERY: &str = "queue core window 2 landed 0
 queue web window 2 landed 0
 end
 ";
@@ -62,14 +88,15 @@ fn rows_in<S: Alter>(alloc: Global, conn: &mut Connection<S>) -> Result<String, 
     Ok(rows)
 }
 
-/// What the gate in the file answers to the delivery, if there is one, and the connection.
+/// What the gate in the file answers to a delivery, if there is one, and the connection.
 fn answered<S: Alter + Drop>(
     alloc: Global,
     conn: Connection<S>,
+    delivery: &str,
 ) -> (Option<Vec<u8>>, Connection<S>) {
     match gate_in(alloc, conn, SETTINGS) {
         Ok(mut gate) => {
-            let answer = said(alloc, &mut gate, APPROVAL).ok();
+            let answer = said(alloc, &mut gate, delivery).ok();
             (answer, gate.into_book().into_conn())
         }
         Err((_, conn)) => (None, conn),
@@ -119,18 +146,8 @@ fn closed(conn: Connection<FileStore<Fuse<Memory>>>) -> (bool, Files<Fuse<Memory
     }
 }
 
-/// A new file, whose gate was told all that comes before the delivery.
-fn filled<S: Alter + Drop>(
-    rt: &(impl Abort + AllocGlobal),
-    conn: Connection<S>,
-) -> Result<Connection<S>, Fail> {
-    let mut gate = new_gate(rt.alloc(), conn)?;
-    tells(rt, &mut gate, BEFORE, BEFORE_ANSWERED, STATUS_BEFORE)?;
-    Ok(gate.into_book().into_conn())
-}
-
-/// A gate's file before the delivery, closed.
-fn file_before(rt: &(impl Abort + AllocGlobal)) -> Result<Files<Fuse<Memory>>, Fail> {
+/// The files of a gate that has seen no delivery, closed, and all its rows.
+fn new_files(rt: &(impl Abort + AllocGlobal)) -> Result<(Files<Fuse<Memory>>, String), Fail> {
     let files = Files {
         log: fused(rt.alloc(), &[], u64::MAX)?,
         db: fused(rt.alloc(), &[], u64::MAX)?,
@@ -138,11 +155,11 @@ fn file_before(rt: &(impl Abort + AllocGlobal)) -> Result<Files<Fuse<Memory>>, F
     let Ok(conn) = connected(rt.alloc(), files) else {
         return Err(Fail::new("an empty file isn't opened"));
     };
-    let (is_whole, files) = closed(filled(rt, conn)?);
-    if is_whole {
-        Ok(files)
-    } else {
-        Err(Fail::new("the file isn't closed"))
+    let mut conn = new_gate(rt.alloc(), conn)?.into_book().into_conn();
+    let rows = rows_in(rt.alloc(), &mut conn)?;
+    match closed(conn) {
+        (true, files) => Ok((files, rows)),
+        (false, _) => Err(Fail::new("the file isn't closed")),
     }
 }
 
@@ -155,8 +172,8 @@ struct Run {
     left: Files<Fuse<Memory>>,
 }
 
-/// Tells the delivery to the gate in the file, and closes the file.
-fn tell(alloc: Global, files: Files<Fuse<Memory>>) -> Run {
+/// Tells a delivery to the gate in the file, and closes the file.
+fn tell(alloc: Global, files: Files<Fuse<Memory>>, delivery: &str) -> Run {
     let conn = match connected(alloc, files) {
         Ok(conn) => conn,
         Err(left) => {
@@ -167,7 +184,7 @@ fn tell(alloc: Global, files: Files<Fuse<Memory>>) -> Run {
             };
         }
     };
-    let (answer, conn) = answered(alloc, conn);
+    let (answer, conn) = answered(alloc, conn, delivery);
     let (is_whole, left) = closed(conn);
     Run {
         answer,
@@ -176,35 +193,43 @@ fn tell(alloc: Global, files: Files<Fuse<Memory>>) -> Run {
     }
 }
 
-/// The status of the gate in a file, what it answers to the delivery then, and all rows after that.
+/// All rows of a file, what its gate answers to a delivery then, and all rows after that.
 #[derive(Drop)]
 struct Found {
-    status: String,
-    answer: Vec<u8>,
     rows: String,
+    answer: Vec<u8>,
+    rows_then: String,
 }
 
-fn found_in<S: Alter + Drop>(alloc: Global, conn: Connection<S>) -> Result<Found, Fail> {
+fn found_in<S: Alter + Drop>(
+    alloc: Global,
+    mut conn: Connection<S>,
+    delivery: &str,
+) -> Result<Found, Fail> {
+    let rows = rows_in(alloc, &mut conn)?;
     let Ok(mut gate) = gate_in(alloc, conn, SETTINGS) else {
         return Err(Fail::new("no gate is in the file"));
     };
-    let status = gate.status(alloc)?;
-    let answer = said(alloc, &mut gate, APPROVAL)?;
+    let answer = said(alloc, &mut gate, delivery)?;
     let mut conn = gate.into_book().into_conn();
-    let rows = rows_in(alloc, &mut conn)?;
+    let rows_then = rows_in(alloc, &mut conn)?;
     Ok(Found {
-        status,
-        answer,
         rows,
+        answer,
+        rows_then,
     })
 }
 
 /// What is found in the files after a crash, which loses all that wasn't synced.
-fn found_after_a_crash(alloc: Global, mut files: Files<Fuse<Memory>>) -> Result<Found, Fail> {
+fn found_after_a_crash(
+    alloc: Global,
+    mut files: Files<Fuse<Memory>>,
+    delivery: &str,
+) -> Result<Found, Fail> {
     files.log.crash();
     files.db.crash();
     match connected(alloc, files) {
-        Ok(conn) => found_in(alloc, conn),
+        Ok(conn) => found_in(alloc, conn, delivery),
         Err(_) => Err(Fail::new("the files aren't opened after a crash")),
     }
 }
@@ -214,55 +239,58 @@ fn found_after_a_crash(alloc: Global, mut files: Files<Fuse<Memory>>) -> Result<
 enum Stop {
     Log(u64),
     Database(u64),
-    Never,
 }
 
-/// A run with a stop: whether it ended without meeting it; whether the delivery was found done after a crash; and all
-/// rows, once the delivery was sent again.
+/// The files before a delivery, and all rows before it and after it.
 #[derive(Drop)]
+struct Step {
+    files: Files<Fuse<Memory>>,
+    before: String,
+    after: String,
+}
+
+/// Whether a run with a stop ended without meeting it, and whether the delivery was found done after a crash.
+#[derive(Clone, Copy)]
 struct End {
     is_whole: bool,
     is_done: bool,
-    rows: String,
 }
 
-/// After a stop and a crash the gate is as before the delivery or as after it, and as after it if that was answered.
-/// Sent again, the delivery gets its answer.
+/// After a stop and a crash the rows are those before the delivery or those after it, and those after it if it was
+/// answered. Sent again, the delivery gets its answer, and the rows are those after it.
 fn stopped(
     rt: &(impl Abort + AllocGlobal),
-    start: &Files<Fuse<Memory>>,
+    step: &Step,
+    line: &Line<'_>,
     stop: Stop,
 ) -> Result<End, Fail> {
     let (log_calls, db_calls) = match stop {
         Stop::Log(calls) => (calls, u64::MAX),
         Stop::Database(calls) => (u64::MAX, calls),
-        Stop::Never => (u64::MAX, u64::MAX),
     };
-    let files = copied(rt.alloc(), start, log_calls, db_calls)?;
-    let Run {
-        answer,
-        is_whole,
-        left,
-    } = tell(rt.alloc(), files);
-    let is_answered = answer.is_some_and(|answer| answer.as_slice() == QUEUED.as_bytes());
-    let found = found_after_a_crash(rt.alloc(), left)?;
-    let is_done = found.status.as_str() == STATUS_AFTER;
+    let files = copied(rt.alloc(), &step.files, log_calls, db_calls)?;
+    let run = tell(rt.alloc(), files, line.said);
+    let is_answered = run
+        .answer
+        .is_some_and(|answer| line.has_answer(answer.as_slice()));
+    let found = found_after_a_crash(rt.alloc(), run.left, line.said)?;
+    let is_done = found.rows.as_str() == step.after.as_str();
     assert!(rt; is_done || !is_answered);
-    assert!(rt; is_done || found.status.as_str() == STATUS_BEFORE);
-    assert_eq!(rt; found.answer.as_slice(), QUEUED.as_bytes());
+    assert!(rt; is_done || found.rows.as_str() == step.before.as_str());
+    assert!(rt; line.has_answer(found.answer.as_slice()));
+    assert_eq!(rt; found.rows_then.as_str(), step.after.as_str());
     Ok(End {
-        is_whole,
+        is_whole: run.is_whole,
         is_done,
-        rows: found.rows,
     })
 }
 
 /// One of the files stops at each call in turn, until a run ends without a stop. Gives how many runs left the file as
-/// before the delivery, and how many as after it. Each has these rows in the end.
+/// before the delivery, and how many as after it.
 fn each_stop(
     rt: &(impl Abort + AllocGlobal),
-    start: &Files<Fuse<Memory>>,
-    rows: &str,
+    step: &Step,
+    line: &Line<'_>,
     is_log: bool,
 ) -> Result<(u32, u32), Fail> {
     let mut before = 0u32;
@@ -273,8 +301,7 @@ fn each_stop(
         } else {
             Stop::Database(calls)
         };
-        let end = stopped(rt, start, stop)?;
-        assert_eq!(rt; end.rows.as_str(), rows, "after {calls} calls");
+        let end = stopped(rt, step, line, stop)?;
         if end.is_whole {
             return Ok((before, after));
         }
@@ -287,14 +314,139 @@ fn each_stop(
     Err(Fail::new("each run is stopped"))
 }
 
+/// The files after a delivery that nothing stops, and all their rows.
+fn told(
+    rt: &(impl Abort + AllocGlobal),
+    files: Files<Fuse<Memory>>,
+    line: &Line<'_>,
+) -> Result<(Files<Fuse<Memory>>, String), Fail> {
+    let Ok(conn) = connected(rt.alloc(), files) else {
+        return Err(Fail::new("the file isn't opened"));
+    };
+    let (answer, mut conn) = answered(rt.alloc(), conn, line.said);
+    let Some(answer) = answer else {
+        return Err(Fail::new("the delivery isn't answered"));
+    };
+    assert!(rt; line.has_answer(answer.as_slice()));
+    let rows = rows_in(rt.alloc(), &mut conn)?;
+    match closed(conn) {
+        (true, files) => Ok((files, rows)),
+        (false, _) => Err(Fail::new("the file isn't closed")),
+    }
+}
+
+/// Stops a delivery at each call of the log, then at each call of the database file; and goes on to the files after it.
+fn each_stop_of(
+    rt: &(impl Abort + AllocGlobal),
+    files: Files<Fuse<Memory>>,
+    before: String,
+    line: &Line<'_>,
+) -> Result<(Files<Fuse<Memory>>, String), Fail> {
+    let copies = copied(rt.alloc(), &files, u64::MAX, u64::MAX)?;
+    let (next, after) = told(rt, copies, line)?;
+    let step = Step {
+        files,
+        before,
+        after,
+    };
+    for is_log in [true, false] {
+        let (before, after) = each_stop(rt, &step, line, is_log)?;
+        assert!(rt;
+            before > 0 && after > 0,
+            "{before} before, {after} after: {:?}",
+            line.said
+        );
+    }
+    Ok((next, step.after))
+}
+
 #[test]
 fn a_stop_leaves_the_file_before_or_after_a_delivery(rt: HostRuntime) -> Result<(), Fail> {
-    let start = file_before(&rt)?;
-    let whole = stopped(&rt, &start, Stop::Never)?;
-    assert!(rt; whole.is_whole && whole.is_done);
+    let (mut files, mut rows) = new_files(&rt)?;
+    for (said, answer) in DAY.lines().zip(ANSWERS.lines()) {
+        (files, rows) = each_stop_of(&rt, files, rows, &Line { said, answer })?;
+    }
+    Ok(())
+}
+
+/// Makes a gate in new files, one of which stops after so many calls; and closes them. Whether nothing stopped that.
+fn made(alloc: Global, stop: Stop) -> Result<(bool, Files<Fuse<Memory>>), Fail> {
+    let (log_calls, db_calls) = match stop {
+        Stop::Log(calls) => (calls, u64::MAX),
+        Stop::Database(calls) => (u64::MAX, calls),
+    };
+    let files = Files {
+        log: fused(alloc, &[], log_calls)?,
+        db: fused(alloc, &[], db_calls)?,
+    };
+    let config = read(alloc, SETTINGS.as_bytes())?;
+    match connected(alloc, files) {
+        Ok(conn) => match SqlBook::create(alloc, conn, &config) {
+            Ok(book) => Ok(closed(book.into_conn())),
+            Err((_, conn)) => Ok((false, closed(conn).1)),
+        },
+        Err(left) => Ok((false, left)),
+    }
+}
+
+/// After a crash there is a gate that has seen no delivery, or no table.
+fn is_empty_or_none(
+    rt: &(impl Abort + AllocGlobal),
+    mut files: Files<Fuse<Memory>>,
+) -> Result<bool, Fail> {
+    files.log.crash();
+    files.db.crash();
+    let Ok(conn) = connected(rt.alloc(), files) else {
+        return Err(Fail::new("the files aren't opened after a crash"));
+    };
+    match gate_in(rt.alloc(), conn, SETTINGS) {
+        Ok(mut gate) => {
+            tells(rt, &mut gate, "", "", NO_DELIVERY)?;
+            Ok(true)
+        }
+        Err((fault, mut conn)) => {
+            assert_eq!(rt; fault, OpenFault::WrongFile);
+            let tables = conn.query_all("SELECT name FROM sqlite_schema", &[])?;
+            assert_eq!(rt; tables.len(), 0);
+            Ok(false)
+        }
+    }
+}
+
+/// Stops the making of a gate at each call of one of the files, until a run ends without a stop. Gives how many runs
+/// left no table, and how many a gate.
+fn each_stop_of_making(rt: &(impl Abort + AllocGlobal), is_log: bool) -> Result<(u32, u32), Fail> {
+    let mut none = 0u32;
+    let mut some = 0u32;
+    for calls in 0..10_000 {
+        let stop = if is_log {
+            Stop::Log(calls)
+        } else {
+            Stop::Database(calls)
+        };
+        let (is_whole, left) = made(rt.alloc(), stop)?;
+        let is_made = is_empty_or_none(rt, left)?;
+        if is_whole {
+            assert!(rt; is_made);
+            return Ok((none, some));
+        }
+        if is_made {
+            some = some.saturating_add(1);
+        } else {
+            none = none.saturating_add(1);
+        }
+    }
+    Err(Fail::new("each run is stopped"))
+}
+
+#[test]
+fn a_stop_leaves_no_table_or_an_empty_gate(rt: HostRuntime) -> Result<(), Fail> {
     for is_log in [true, false] {
-        let (before, after) = each_stop(&rt, &start, whole.rows.as_str(), is_log)?;
-        assert!(rt; before > 0 && after > 0, "{before} before, {after} after");
+        let (none, some) = each_stop_of_making(&rt, is_log)?;
+        assert!(rt;
+            none > 0 && some > 0,
+            "{none} without a table, {some} with a gate"
+        );
     }
     Ok(())
 }
