@@ -1,6 +1,6 @@
 """Kills `gated deliver` or `gated serve` by SIGKILL, at random moments of a conversation, and starts it again.
 
-kill.py PROGRAM deliver|serve KILLS LINES SEED FOLDER: so many kills while so many lines are told, over a file in FOLDER.
+kill.py PROGRAM deliver|serve KILLS LINES SEED FOLDER: so many kills while so many lines are told, over a file there.
 
 The client notes each answer. After a kill it copies the file and its log, and has the system's SQLite look at the copy:
 the database is whole, and holds each delivery that was answered as accepted, once, in order, and no other but the one

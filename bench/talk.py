@@ -1,4 +1,4 @@
-"""A seeded conversation with a gate in memory, and how `gated` is run and read: what `kill.py` and `hostile.py` share."""
+"""A seeded conversation with a gate in memory, and how `gated` is run and read; for `kill.py` and `hostile.py`."""
 import json
 import random
 import re
