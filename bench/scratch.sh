@@ -4,16 +4,21 @@ top=$(cd "$(dirname "$0")/.." && pwd)
 work=$(mktemp -d)
 trap 'rm -rf "$work"' EXIT
 
-# scratch PROGRAM CRATE..: copies of these crates, and over them a crate `timed` with that program.
+# scratch PROGRAM CRATE..: copies of these crates, and over them a crate `timed` with that program, a file or a folder of
+# them. LIBRARIES names libraries of the kit that the program uses besides.
 scratch() {
     mkdir -p "$work/crates/timed/src"
-    cp "$1" "$work/crates/timed/src/main.rt"
+    if [ -d "$1" ]; then
+        cp "$1"/*.rt "$work/crates/timed/src"
+    else
+        cp "$1" "$work/crates/timed/src/main.rt"
+    fi
     shift
     for crate; do
         cp -R "$top/crates/$crate" "$work/crates"
         grep "^$crate:" "$top/crates.txt" >>"$work/crates.txt"
     done
-    echo "timed: $*" >>"$work/crates.txt"
+    echo "timed: $* ${LIBRARIES:-}" >>"$work/crates.txt"
 }
 
 # Proves, builds and runs the program without input. What it printed stands in the file "$work/told" then.
