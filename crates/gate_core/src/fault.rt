@@ -1,7 +1,7 @@
-//! What ends a replay before its input does.
+//! What ends a replay, or a request, before its end.
 ghost use Rattle.std.specs.Prelude.{◌≡◌};
 
-/// Why a replay ended early.
+/// Why a replay or a request ended early.
 #[derive(Clone, Copy, Debug, PartialEq, Eq)]
 pub enum IoFault {
     /// The reader answered an error.
@@ -10,7 +10,7 @@ pub enum IoFault {
     Write,
     /// Memory was refused before anything was read.
     NoMemory,
-    /// The store failed. A gate in memory never answers this.
+    /// A history broke off: the store failed, or memory was refused. A replay never answers this.
     Store,
 }
 

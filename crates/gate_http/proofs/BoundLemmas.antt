@@ -15,7 +15,7 @@ use Rattle.gate_wire.specs.declared.door.Door.TheVariants as door
 use Rattle.gate_http.specs.Digits.{are_digits}
 use Rattle.gate_http.specs.Fields.{Pair, length_within, length_in, length_unless, length_of, named as named_of}
 use Rattle.gate_http.specs.Routes.{route_of, path_of}
-use Rattle.gate_http.specs.Way.{Decided, refused, posted, shown, named, posted_of, by_post, by_get, on_route, decided_of, decided, is_head}
+use Rattle.gate_http.specs.Way.{Decided, refused, posted, shown, named, recalled, posted_of, by_post, by_get, on_route, decided_of, decided, is_head}
 
 abbrev pub FitsBody : BodyLength → Type 0
 FitsBody body.Missing = ⊤
@@ -28,6 +28,7 @@ IsBounded (refused f b) = ⊤
 IsBounded (posted d n) = n ≤ 65536
 IsBounded (shown p) = ⊤
 IsBounded (named id) = ⊤
+IsBounded (recalled name) = ⊤
 
 fits_either : (t : Bool) (n : ℕ) → ltb 65536 n ≡ t → FitsBody (cond t body.Long (body.Bytes n))
 fits_either true n e = tt
@@ -72,6 +73,7 @@ bounded_route h path (Some route.Worker) = bounded_by_post h door.Worker
 bounded_route h path (Some route.Status) = bounded_by_get h _ tt
 bounded_route h path (Some route.Orders) = bounded_by_get h _ tt
 bounded_route h path (Some route.Builds) = bounded_by_get h _ tt
+bounded_route h path (Some route.History) = bounded_by_get h _ tt
 
 bounded_of : (found : Option RequestHead) → IsBounded (decided_of found)
 bounded_of None = tt

@@ -1,5 +1,5 @@
 -- Connections, one after another: the gate after them, and the faults that were told.
-use Rattle.std.proofs.Common.{◌≡◌, ◌≤◌, ℕ, ◌+◌, Bool, true, false, true≢false, List, [], ◌∷◌, ◌++◌, length, Option, None, Some, Result, Ok, Err, IfOk, arith, refl, sym, ap, ◌∙◌, subst, append-nil, length-append}
+use Rattle.std.proofs.Common.{◌≡◌, ◌≤◌, ℕ, ◌+◌, Bool, true, false, true≢false, List, [], ◌∷◌, ◌++◌, length, Option, None, Some, Result, Ok, Err, IfOk, IfErr, arith, refl, sym, ap, ◌∙◌, subst, append-nil, length-append}
 use Rattle.std.specs.Prelude.{IsErrOf, OnOk}
 use Rattle.std.specs.Result.{result_and}
 use Rattle.std.specs.Io.KnownBytes.{Appends, Keeps, append_known}
@@ -25,10 +25,11 @@ use Rattle.gate_core.specs.Held.{Goes}
 use Rattle.gate_core.specs.Replies.{call_read}
 use Rattle.gate_core.proofs.ReplyLemmas.{goes_nowhere, goes_on}
 use Rattle.gate_http.specs.declared.served.Served.{Served}
+use Rattle.gate_http.specs.declared.served.Served.TheVariants.{Answered}
 use Rattle.gate_http.specs.Asked.{delivery, page, build}
-use Rattle.gate_http.specs.Way.{Way, silence, refusal, question, Request, way_of}
+use Rattle.gate_http.specs.Way.{Way, silence, refusal, question, history, Request, way_of}
 use Rattle.gate_http.specs.Answer.{calls_of, gate_after, is_unavailable as is_503}
-use Rattle.gate_http.specs.Serving.{Serves}
+use Rattle.gate_http.specs.Serving.{Serves, ServesHistory, ServesBy}
 use Rattle.gate_http.specs.Connections.{IsCalled, fault_line, fault_lines, AreTold}
 use Rattle.gate_http.proofs.ResponseLemmas.{writes_later}
 
@@ -46,6 +47,7 @@ one_call u (refusal f bodiless) = omega arith
 one_call u (question (delivery door body)) = one_read u (says door body)
 one_call u (question (page p)) = omega arith
 one_call u (question (build id)) = omega arith
+one_call u (history name) = omega arith
 
 -- calls, and then others
 more_calls : (m n : ℕ) (g h after : Gated) → IsCalled m g h → IsCalled n h after → IsCalled (m + n) g after
@@ -77,22 +79,44 @@ module _ {B : Type 0} (trusted : B → Type 0) (holds : B → Settings → Conte
         );
   }
 
+  -- a history was asked for
+  recalled_once : (old new : Gate B) (name : List ℕ) (served : Served) (Takes : List ℕ → Type 0)
+      → ServesHistory trusted holds leaves old new name served Takes → Goes trusted holds old new (IsCalled 1)
+  recalled_once old new name served Takes s = record {
+    settings = s.answers.settings;
+    trusted_before = s.answers.trusted_before;
+    passes = λ t g over.
+        let p = s.answers.passes t g over in
+        (p.0, p.1, record { calls = []; few = omega arith; stands = p.2.2.stands });
+  }
+
+  -- either was
+  done_once : (old new : Gate B) (w : Way) (served : Served) (Takes : List ℕ → Type 0)
+      → ServesBy trusted holds leaves old new w served Takes → Goes trusted holds old new (IsCalled 1)
+  done_once old new silence served Takes h = served_once old new silence served h.0 h.2
+  done_once old new (refusal f bodiless) served Takes h = served_once old new (refusal f bodiless) served h.0 h.2
+  done_once old new (question asked) served Takes h = served_once old new (question asked) served h.0 h.2
+  done_once old new (history name) served Takes h = recalled_once old new name served Takes h
+
   -- however it was served
-  pub called_once : (Read Left : Request → Type 0) (Wrote Broke : List ℕ → Type 0)
+  pub called_once : (Read : Request → Type 0) (Wrote Broke Begun : List ℕ → Type 0)
       (old new : Gate B) (r : Result Served IoFault)
-      → IfOk r (λ served. (q : Request) × Read q × (text : List ℕ) × Wrote text
-      × Serves trusted holds leaves old new (way_of q) served text)
-      → (IsErrOf r fault.Write → (q : Request) × Left q × (served : Served) × (text : List ℕ) × Broke text
-      × Serves trusted holds leaves old new (way_of q) served text)
+      → IfOk r (λ served. (q : Request) × Read q × ServesBy trusted holds leaves old new (way_of q) served Wrote)
+      → (IsErrOf r fault.Write → (q : Request) × Read q × (served : Served)
+      × ServesBy trusted holds leaves old new (way_of q) served Broke)
       → (IsErrOf r fault.Read → new ≡ old) → (IsErrOf r fault.NoMemory → new ≡ old)
-      → (IsErrOf r fault.Store → ⊥) → Goes trusted holds old new (IsCalled 1)
-  called_once Read Left Wrote Broke old new (Ok served) ok write read memory store =
-      served_once old new (way_of ok.0) served ok.2 ok.4
-  called_once Read Left Wrote Broke old new (Err fault.Write) ok write read memory store =
-      let w = write refl in served_once old new (way_of w.0) w.2 w.3 w.5
-  called_once Read Left Wrote Broke old new (Err fault.Read) ok write read memory store = uncalled 1 old new (read refl)
-  called_once Read Left Wrote Broke old new (Err fault.NoMemory) ok write read memory store = uncalled 1 old new (memory refl)
-  called_once Read Left Wrote Broke old new (Err fault.Store) ok write read memory store = absurd (store refl)
+      → (IsErrOf r fault.Store → (q : Request) × Read q × (name : List ℕ) × (way_of q ≡ history name)
+      × ServesHistory trusted holds leaves old new name (Answered 200) Begun)
+      → Goes trusted holds old new (IsCalled 1)
+  called_once Read Wrote Broke Begun old new (Ok served) ok write read memory store =
+      done_once old new (way_of ok.0) served Wrote ok.2
+  called_once Read Wrote Broke Begun old new (Err fault.Write) ok write read memory store =
+      let w = write refl in done_once old new (way_of w.0) w.2 Broke w.3
+  called_once Read Wrote Broke Begun old new (Err fault.Read) ok write read memory store = uncalled 1 old new (read refl)
+  called_once Read Wrote Broke Begun old new (Err fault.NoMemory) ok write read memory store =
+      uncalled 1 old new (memory refl)
+  called_once Read Wrote Broke Begun old new (Err fault.Store) ok write read memory store =
+      let s = store refl in recalled_once old new s.2 (Answered 200) Begun s.4
 
   -- one connection more
   pub called_on : (n : ℕ) (old mid new : Gate B) → Goes trusted holds old mid (IsCalled n)
@@ -113,23 +137,39 @@ passed_on (Some x) (Some y) (Some z) text buffer p q e =
 
 -- a response that was sent
 pub sent_whole : {W A U : Type 0} (held : W → Option (List ℕ)) (Read : Request → Type 0)
-    (Does : Request → Served → List ℕ → Type 0) (a b : Option (List ℕ)) (new : BufWriter W A) (stream : W)
-    (served : Result Served IoFault) (sent : Result U IoFault)
-    → IfOk served (λ s. (r : Request) × Read r × (text : List ℕ) × Appends a b text × Does r s text)
+    (Does : Request → Served → (List ℕ → Type 0) → Type 0)
+    (weaker : (r : Request) (s : Served) (P Q : List ℕ → Type 0) → ((text : List ℕ) → P text → Q text)
+    → Does r s P → Does r s Q)
+    (a b : Option (List ℕ)) (new : BufWriter W A) (stream : W) (served : Result Served IoFault) (sent : Result U IoFault)
+    → IfOk served (λ s. (r : Request) × Read r × Does r s (Appends a b))
     → Keeps b (writer_contents held new) → OnOk sent (writer_buffer new ≡ []) → stream ≡ writer_inner new
-    → OnOk (result_and served sent) ((r : Request) × Read r × (s : Served) × (text : List ℕ)
-    × Appends a (held stream) text × Does r s text)
-sent_whole held Read Does a b new stream (Ok s) (Ok u) h keeps empty at = (
+    → OnOk (result_and served sent) ((r : Request) × Read r × (s : Served) × Does r s (Appends a (held stream)))
+sent_whole held Read Does weaker a b new stream (Ok s) (Ok u) h keeps empty at = (
   h.0,
   h.1,
   s,
-  h.2,
-  subst (λ w. Appends a (held w) h.2) (sym at)
-      (passed_on a b (held (writer_inner new)) h.2 (writer_buffer new) h.3 keeps empty),
-  h.4,
+  weaker h.0 s (Appends a b) (Appends a (held stream))
+      (λ text p. subst (λ w. Appends a (held w) text) (sym at)
+      (passed_on a b (held (writer_inner new)) text (writer_buffer new) p keeps empty)) h.2,
 )
-sent_whole held Read Does a b new stream (Ok s) (Err e) h keeps empty at = tt
-sent_whole held Read Does a b new stream (Err e) sent h keeps empty at = tt
+sent_whole held Read Does weaker a b new stream (Ok s) (Err e) h keeps empty at = tt
+sent_whole held Read Does weaker a b new stream (Err e) sent h keeps empty at = tt
+
+-- the fault of what failed
+abbrev fault_in : {T : Type 0} → Result T IoFault → IoFault
+fault_in (Ok u) = fault.Store
+fault_in (Err e) = e
+
+-- what broke off before it was sent
+pub broke_off : {T : Type 0} (Why : Type 0) (served : Result Served IoFault) (sent : Result T IoFault)
+    → (IsErrOf served fault.Store → Why) → IfErr sent (λ e. e ≡ fault.Write)
+    → IsErrOf (result_and served sent) fault.Store → Why
+broke_off Why (Err e) sent why write is = why (ap Err (ap fault_in is))
+broke_off Why (Ok s) (Ok u) why write is = cc
+broke_off Why (Ok s) (Err fault.Store) why write is = cc
+broke_off Why (Ok s) (Err fault.Write) why write is = cc
+broke_off Why (Ok s) (Err fault.Read) why write is = cc
+broke_off Why (Ok s) (Err fault.NoMemory) why write is = cc
 
 -- ---- faults
 

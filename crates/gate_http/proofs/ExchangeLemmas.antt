@@ -17,9 +17,9 @@ use Rattle.gate_http.specs.declared.respond.Page.{Page}
 use Rattle.gate_http.specs.Faults.{fault_status}
 use Rattle.gate_http.specs.Asked.{delivery, page, build, answer_status, is_status_page}
 use Rattle.gate_http.specs.Head.{Front, empty, cut, too_large, whole, front_of}
-use Rattle.gate_http.specs.Way.{Decided, refused, posted, shown, named, decided, refusal, question, way_on, way_from, body_on, taken_from, Finds, FindsIn}
+use Rattle.gate_http.specs.Way.{Decided, refused, posted, shown, named, recalled, decided, refusal, question, history, way_on, way_from, body_on, taken_from, Finds, FindsIn, Request, way_of}
 use Rattle.gate_http.specs.Response.{fault_response, answer_response}
-use Rattle.gate_http.specs.Exchange.{Responding, Exchange, Meant, IsKnown, IsUnfinished, Waits}
+use Rattle.gate_http.specs.Exchange.{Responding, Exchange, Meant, IsKnown, IsRead, IsUnfinished, Waits}
 use Rattle.gate_http.specs.Parts.{HeadComes, BodyComes}
 use Rattle.gate_http.proofs.HeadLemmas.{begins_empty}
 
@@ -177,3 +177,20 @@ body_waits from mid left head body d n h (found, finds, p) short took =
       unfinished = subst (λ x. IsUnfinished (way_from x found)) (sym e)
           (subst (λ x. IsUnfinished (way_on body x)) p (subst IsUnfinished (sym asked) refl));
     }
+
+-- a request for a history: what follows the head is left
+pub recall_read : (from left : Option (List ℕ)) (head name : List ℕ) → HeadComes came.Whole head from left
+    → (found : Option RequestHead) × Finds head found × (recalled name ≡ decided head found)
+    → (r : Request) × IsRead from left r × (way_of r ≡ history name)
+recall_read from left head name h (found, finds, d) =
+    let k = known from left head h.read in
+    let e = h.begins k.0 in (
+      record { input = head ++ k.0; found = found; finds = subst (λ x. FindsIn x found) (sym e) finds },
+      record {
+        known = k.1;
+        taken = subst (λ x. Consumes from left (taken_from (head ++ k.0) x found)) (sym e)
+            (subst (λ x. Consumes from left (head ++ body_on k.0 x)) d
+            (subst (Consumes from left) (sym (append-nil head)) h.read));
+      },
+      ap (λ x. way_from x found) e ∙ ap (way_on k.0) (sym d),
+    )

@@ -1,6 +1,6 @@
 -- What a gate over a book answers to what is asked, and what serving a request comes to.
-use Rattle.std.proofs.Common.{◌≡◌, ◌≢◌, true≢false, ℕ, Bool, true, false, List, [], ◌∷◌, ◌++◌, Option, Some, None, Result, Ok, Err, inl, inr, IfOk, IfErr, refl, sym, ap, ◌∙◌, subst}
-use Rattle.std.specs.Prelude.{◌⊎◌, MatchResult, if◌then◌else◌, ◌==◌, option_map, option_and_then, unwrap_or}
+use Rattle.std.proofs.Common.{◌≡◌, ◌≢◌, true≢false, ℕ, Bool, true, false, List, [], ◌∷◌, ◌++◌, Option, Some, None, Result, Ok, Err, inl, inr, OnOk, IfOk, IfErr, refl, sym, ap, ◌∙◌, subst}
+use Rattle.std.specs.Prelude.{◌⊎◌, ⊤, MatchResult, IsErrOf, if◌then◌else◌, ◌==◌, option_map, option_and_then, unwrap_or}
 use Rattle.gate_types.specs.declared.records.Id.{Id}
 use Rattle.gate_types.specs.declared.records.Build.{Build}
 use Rattle.gate_types.specs.declared.deliveries.Delivery.{Delivery}
@@ -12,10 +12,17 @@ use Rattle.gate_types.specs.Settings.{Settings}
 use Rattle.gate_types.specs.Once.{Content, next_content, answer_of, is_unavailable}
 use Rattle.gate_types.specs.Forms.{IsLawfulContent}
 use Rattle.gate_types.specs.BuildText.{build_text}
+use Rattle.gate_types.specs.History.{history_text}
+use Rattle.gate_types.specs.State.{State}
+use Rattle.gate_types.specs.Tap.{Took, TookFront}
+use Rattle.gate_types.specs.declared.tap.Tap.{Tap}
 use Rattle.gate_types.specs.Step.{build_of}
 use Rattle.gate_wire.specs.declared.door.Door.{Door}
 use Rattle.gate_wire.specs.Reading.{says}
 use Rattle.gate_book.specs.Kept.{OfHeldUnder, IsKept}
+use Rattle.gate_book.specs.Writes.{OfQueue, WritesHistory}
+use Rattle.gate_book.specs.declared.fault.HistoryFault.{HistoryFault}
+use Rattle.gate_book.specs.declared.fault.HistoryFault.TheVariants as broken
 use Rattle.gate_deliver.specs.Answered.{Answered, call, spared}
 use Rattle.gate_core.specs.declared.gate.Gate.{Gate}
 use Rattle.gate_core.specs.Gated.{Gated}
@@ -24,11 +31,11 @@ use Rattle.gate_core.specs.Held.{IsOver, Goes}
 use Rattle.gate_http.specs.declared.served.Served.{Served}
 use Rattle.gate_http.specs.declared.served.Served.TheVariants.{Answered as AnsweredBy}
 use Rattle.gate_http.specs.Asked.{Asked, delivery, answer_status, is_status_page}
-use Rattle.gate_http.specs.Response.{answer_response}
-use Rattle.gate_http.specs.Way.{Way, silence, refusal as refusing, question}
-use Rattle.gate_http.specs.Exchange.{Meant}
-use Rattle.gate_http.specs.Answer.{build_number, answer_read, answer_found, answer_to, calls_asked, gate_after, calls_of, Answers, is_unavailable as is_503}
-use Rattle.gate_http.specs.Serving.{CrashLeaves, Responds, Serves}
+use Rattle.gate_http.specs.Response.{answer_response, history_response}
+use Rattle.gate_http.specs.Way.{Way, silence, refusal as refusing, question, history, Request, way_of}
+use Rattle.gate_http.specs.Exchange.{Meant, IsRead, Exchange, Recalled, recited, missing, failed, Recall, HasText, OfHistory}
+use Rattle.gate_http.specs.Answer.{build_number, answer_read, answer_found, answer_to, calls_asked, gate_after, calls_of, served_as, answer, Answers, history_of, history_status, is_unavailable as is_503}
+use Rattle.gate_http.specs.Serving.{CrashLeaves, Responds, Recalls, Serves, ServesHistory, ServesBy}
 
 -- an answer by its mark
 abbrev marked : Bool → Answer → Answer
@@ -71,6 +78,34 @@ pub named_is : (x : Content) (id : List ℕ) (a : Answer) (number : Option ℕ) 
     → a ≡ marked (is_unavailable a) (answer_found (option_and_then (build_of x.state) (build_number id)))
 named_is x id a number e h =
     subst (λ o. a ≡ marked (is_unavailable a) (answer_found (option_and_then (build_of x.state) o))) e h
+
+-- a text of a queue is one of its history
+has_history : (s : State) (name front : List ℕ) (Takes : List ℕ → Type 0) → OfQueue s name front Takes
+    → HasText (λ text. Takes (front ++ text)) (history_of s name)
+has_history s name front Takes h =
+    subst (λ q. HasText (λ text. Takes (front ++ text)) (option_map history_text q)) (sym h.named) h.taken
+
+-- an answer to a request for a history
+answers_so : (g after : Gated) (name : List ℕ) (served : Served) (status : ℕ) (text : List ℕ)
+    → served ≡ AnsweredBy status → AnsweredBy status ≡ served_as (status == 503) g (history name)
+    → text ≡ answer (status == 503) g (history name) → after ≡ g → Answers g (history name) served text after
+answers_so g after name served status text e is said stays = record {
+  status = subst (λ s. s ≡ served_as (is_503 s) g (history name)) (sym e) is;
+  said = subst (λ s. text ≡ answer (is_503 s) g (history name)) (sym e) said;
+  stands = stays;
+}
+
+-- the answer with a history
+found_answers : (g after : Gated) (name : List ℕ) (served : Served) (Takes : List ℕ → Type 0) (t : Option (List ℕ))
+    → history_of g.content.state name ≡ t → served ≡ AnsweredBy 200 → OfHistory Takes t → after ≡ g
+    → (text : List ℕ) × Takes text × Answers g (history name) served text after
+found_answers g after name served Takes None at e h stays = absurd h
+found_answers g after name served Takes (Some t) at e h stays = (
+  history_response (Some t),
+  h,
+  answers_so g after name served 200 (history_response (Some t)) e (ap (λ o. AnsweredBy (history_status o)) (sym at))
+      (ap history_response (sym at)) stays,
+)
 
 module _ {B : Type 0} (trusted : B → Type 0) (holds : B → Settings → Content → Type 0)
     (leaves : B → Settings → List Content → Type 0) where
@@ -290,3 +325,152 @@ module _ {B : Type 0} (trusted : B → Type 0) (holds : B → Settings → Conte
             subst (λ u. CrashLeaves old.config x (calls_asked u asked) (leaves old.book old.config)
             (leaves new.book old.config)) (sym e) (r.crash t x held lawful);
       }
+  serves_meant (history name) old new served text h = absurd h
+
+  -- ---- histories
+
+  -- what is so of a history of what a book held, where that stays
+  recalls : (old new : Gate B) (name : List ℕ) (P : Option (List ℕ) → Type 0) → new.config ≡ old.config
+      → IsKept trusted holds leaves old.book new.book
+      → OfHeldUnder trusted holds old.book new.book old.config (λ x. P (history_of x.state name))
+      → Recalls trusted holds leaves old name P new
+  recalls old new name P settings kept told = record {
+    answers = record {
+      settings = settings;
+      trusted_before = kept.trusted_before;
+      passes = λ t g over. (
+        g,
+        record {
+          settings = over.settings;
+          held = kept.holds_on t old.config g.content over.held;
+          lawful = over.lawful;
+        },
+        (told t g.content over.held over.lawful, refl),
+      );
+    };
+    crash = λ t x held lawful. kept.leaves_on t old.config x held;
+  }
+
+  pub recalls_nothing : (old new : Gate B) (name : List ℕ) → new.config ≡ old.config
+      → IsKept trusted holds leaves old.book new.book → Recalls trusted holds leaves old name (λ text. ⊤) new
+  recalls_nothing old new name settings kept = recalls old new name (λ text. ⊤) settings kept (λ t x held lawful. tt)
+
+  module _ {W : Type 0} (contents : W → Option (List ℕ)) (old new : Gate B) (name front : List ℕ) (w after : Tap W)
+      (settings : new.config ≡ old.config) (kept : IsKept trusted holds leaves old.book new.book) where
+    -- what is told of asking for a history
+    abbrev IsTold : Result (Unit {0}) HistoryFault → Type 0
+    IsTold r = OfHeldUnder trusted holds old.book new.book old.config (λ x.
+        WritesHistory x.state name front contents w after r)
+
+    -- a beginning of it was written
+    begun : OfHeldUnder trusted holds old.book new.book old.config (λ x.
+        OfQueue x.state name front (TookFront contents w after))
+        → Recalls trusted holds leaves old name (HasText (λ text. TookFront contents w after (front ++ text))) new
+    begun h = recalls old new name (HasText (λ text. TookFront contents w after (front ++ text))) settings kept
+        (λ t x held lawful.
+        has_history x.state name front (TookFront contents w after) (h t x held lawful))
+
+    pub recalls_whole : (r : Result (Unit {0}) HistoryFault) → IsTold r → OnOk r (Recalls trusted holds leaves old name
+        (HasText (λ text. Took contents w after (front ++ text))) new)
+    recalls_whole (Ok u) h = recalls old new name (HasText (λ text. Took contents w after (front ++ text))) settings kept
+        (λ t x held lawful. has_history x.state name front (Took contents w after) (h t x held lawful))
+    recalls_whole (Err f) h = tt
+
+    pub recalls_missing : (r : Result (Unit {0}) HistoryFault) → IsTold r → IsErrOf r broken.NoQueue
+        → Recalls trusted holds leaves old name (λ text. text ≡ None) new
+    recalls_missing r h e = recalls old new name (λ text. text ≡ None) settings kept
+        (λ t x held lawful. ap (option_map history_text)
+        (subst (λ q. WritesHistory x.state name front contents w after q) e (h t x held lawful)))
+
+    pub recalls_broken : (r : Result (Unit {0}) HistoryFault) → IsTold r → IsErrOf r broken.Broken
+        → Recalls trusted holds leaves old name (HasText (λ text. TookFront contents w after (front ++ text))) new
+    recalls_broken r h e = begun (λ t x held lawful.
+        subst (λ q. WritesHistory x.state name front contents w after q) e (h t x held lawful))
+
+    pub recalls_write : (r : Result (Unit {0}) HistoryFault) → IsTold r → IsErrOf r broken.Write
+        → Recalls trusted holds leaves old name (HasText (λ text. TookFront contents w after (front ++ text))) new
+    recalls_write r h e = begun (λ t x held lawful.
+        subst (λ q. WritesHistory x.state name front contents w after q) e (h t x held lawful))
+
+  -- what a request for a history comes to
+  serves_told : (old new : Gate B) (name : List ℕ) (served : Served) (Takes : List ℕ → Type 0)
+      (P : Option (List ℕ) → Type 0) → Recalls trusted holds leaves old name P new
+      → ((g after : Gated) → P (history_of g.content.state name) → after ≡ g
+      → (text : List ℕ) × Takes text × Answers g (history name) served text after)
+      → ServesHistory trusted holds leaves old new name served Takes
+  serves_told old new name served Takes P r by = record {
+    answers = record {
+      settings = r.answers.settings;
+      trusted_before = r.answers.trusted_before;
+      passes = λ t g over.
+          let p = r.answers.passes t g over in (p.0, p.1, by g p.0 p.2.0 p.2.1);
+    };
+    crash = r.crash;
+  }
+
+  -- where it was found
+  pub serves_found : (old new : Gate B) (name : List ℕ) (served : Served) (Takes : List ℕ → Type 0)
+      → served ≡ AnsweredBy 200 → Recalls trusted holds leaves old name (OfHistory Takes) new
+      → ServesHistory trusted holds leaves old new name served Takes
+  serves_found old new name served Takes e r =
+      serves_told old new name served Takes (OfHistory Takes) r (λ g after h stays.
+      found_answers g after name served Takes (history_of g.content.state name) refl e h stays)
+
+  serves_recalled : (old new : Gate B) (name : List ℕ) (served : Served) (Takes : List ℕ → Type 0)
+      → Recalled (Recalls trusted holds leaves) old name Takes new served
+      → ServesHistory trusted holds leaves old new name served Takes
+  serves_recalled old new name served Takes (recited e r) = serves_found old new name served Takes e r
+  serves_recalled old new name served Takes (missing e r takes) =
+      serves_told old new name served Takes (λ text. text ≡ None) r (λ g after h stays. (
+        history_response None,
+        takes,
+        answers_so g after name served 404 (history_response None) e (ap (λ o. AnsweredBy (history_status o)) (sym h))
+            (ap history_response (sym h)) stays,
+      ))
+  serves_recalled old new name served Takes (failed e r takes) =
+      serves_told old new name served Takes (λ text. ⊤) r (λ g after h stays. (
+        answer_response false (Refused refusal.Unavailable),
+        takes,
+        answers_so g after name served 503 (answer_response false (Refused refusal.Unavailable)) e refl refl stays,
+      ))
+
+  -- what any request comes to
+  serves_by : (w : Way) (old new : Gate B) (served : Served) (text : List ℕ) (Takes : List ℕ → Type 0)
+      → Meant (Responds trusted holds leaves) w old served text new → Takes text
+      → ServesBy trusted holds leaves old new w served Takes
+  serves_by silence old new served text Takes h takes = (text, takes, serves_meant silence old new served text h)
+  serves_by (refusing f bodiless) old new served text Takes h takes =
+      (text, takes, serves_meant (refusing f bodiless) old new served text h)
+  serves_by (question asked) old new served text Takes h takes =
+      (text, takes, serves_meant (question asked) old new served text h)
+  serves_by (history name) old new served text Takes h takes = absurd h
+
+  pub serves_read : (from left : Option (List ℕ)) (old new : Gate B) (served : Served) (Takes : List ℕ → Type 0)
+      → ((text : List ℕ) × Exchange (Responds trusted holds leaves) from left old served text new × Takes text)
+      ⊎ Recall (Recalls trusted holds leaves) from left old served Takes new
+      → (r : Request) × IsRead from left r × ServesBy trusted holds leaves old new (way_of r) served Takes
+  serves_read from left old new served Takes (inl (text, h, takes)) =
+      (h.request, h.read, serves_by (way_of h.request) old new served text Takes h.meant takes)
+  serves_read from left old new served Takes (inr h) = (
+    h.request,
+    h.read,
+    subst (λ w. ServesBy trusted holds leaves old new w served Takes) (sym h.asks)
+        (serves_recalled old new h.name served Takes h.recalled),
+  )
+
+  -- of what a text is so, something weaker is
+  pub serves_weaker : (w : Way) (old new : Gate B) (served : Served) (P Q : List ℕ → Type 0)
+      → ((text : List ℕ) → P text → Q text) → ServesBy trusted holds leaves old new w served P
+      → ServesBy trusted holds leaves old new w served Q
+  serves_weaker silence old new served P Q weaker h = (h.0, weaker h.0 h.1, h.2)
+  serves_weaker (refusing f bodiless) old new served P Q weaker h = (h.0, weaker h.0 h.1, h.2)
+  serves_weaker (question asked) old new served P Q weaker h = (h.0, weaker h.0 h.1, h.2)
+  serves_weaker (history name) old new served P Q weaker h = record {
+    answers = record {
+      settings = h.answers.settings;
+      trusted_before = h.answers.trusted_before;
+      passes = λ t g over.
+          let p = h.answers.passes t g over in (p.0, p.1, (p.2.0, weaker p.2.0 p.2.1, p.2.2));
+    };
+    crash = h.crash;
+  }

@@ -1,5 +1,5 @@
 -- What the plain gate answers to a request, and the gate after it.
-use Rattle.std.specs.Prelude.{ℕ, ◌≡◌, Bool, false, ◌&&◌, not, nat_eq, nat_le, ◌==◌, if◌then◌else◌, List, [], codes, Option, Some, None, option_and_then, Result, Ok, Err}
+use Rattle.std.specs.Prelude.{ℕ, ◌≡◌, Bool, false, ◌&&◌, not, nat_eq, nat_le, ◌==◌, if◌then◌else◌, List, [], codes, Option, Some, None, option_map, option_and_then, Result, Ok, Err}
 use Rattle.std.specs.List.{starts_with}
 use Rattle.std.specs.Str.Parse.{digits_value}
 use Rattle.gate_types.specs.declared.records.Id.{Id}
@@ -10,11 +10,14 @@ use Rattle.gate_types.specs.declared.deliveries.Answer.TheVariants.{Said, Refuse
 use Rattle.gate_types.specs.declared.deliveries.Refusal.{Refusal}
 use Rattle.gate_types.specs.declared.deliveries.Refusal.TheVariants as refusal
 use Rattle.gate_types.specs.Once.{Call, once, answer_of}
+use Rattle.gate_types.specs.State.{State}
 use Rattle.gate_types.specs.Step.{build_of}
 use Rattle.gate_types.specs.Status.{status_text}
 use Rattle.gate_types.specs.OrderList.{order_list_text}
 use Rattle.gate_types.specs.BuildText.{build_text}
+use Rattle.gate_types.specs.History.{history_text}
 use Rattle.gate_wire.specs.Reading.{says, passing}
+use Rattle.gate_book.specs.Reads.{queue_named}
 use Rattle.gate_core.specs.Gated.{Gated}
 use Rattle.gate_core.specs.Replies.{call_read}
 use Rattle.gate_http.specs.declared.respond.Page.TheVariants as pages
@@ -23,8 +26,8 @@ use Rattle.gate_http.specs.declared.served.Served.TheVariants.{Nothing, Answered
 use Rattle.gate_http.specs.Digits.{are_digits}
 use Rattle.gate_http.specs.Faults.{fault_status}
 use Rattle.gate_http.specs.Asked.{Asked, delivery, page, build, answer_status, is_status_page}
-use Rattle.gate_http.specs.Way.{Way, silence, refusal, question}
-use Rattle.gate_http.specs.Response.{fault_response, answer_response}
+use Rattle.gate_http.specs.Way.{Way, silence, refusal, question, history}
+use Rattle.gate_http.specs.Response.{fault_response, answer_response, history_response}
 
 -- the number of a build in a path: from 1 to 10^15, in digits without a leading zero
 abbrev pub build_number : List ℕ → Option ℕ
@@ -53,6 +56,15 @@ answer_asked g (build id) = answer_found (option_and_then (build_of g.content.st
 abbrev pub answer_to : Bool → Gated → Asked → Answer
 answer_to unavailable g asked = if unavailable then Refused refusal.Unavailable else answer_asked g asked
 
+-- the history text of the queue of a name
+abbrev pub history_of : State → List ℕ → Option (List ℕ)
+history_of s name = option_map history_text (queue_named s name)
+
+-- the status of the answer with it
+abbrev pub history_status : Option (List ℕ) → ℕ
+history_status None = 404
+history_status (Some text) = 200
+
 -- the call that is made by what is asked: none but by a delivery
 abbrev pub calls_asked : Bool → Asked → List Call
 calls_asked unavailable (delivery door body) = call_read unavailable (says door body)
@@ -68,18 +80,24 @@ abbrev pub calls_of : Bool → Way → List Call
 calls_of unavailable silence = []
 calls_of unavailable (refusal f bodiless) = []
 calls_of unavailable (question asked) = calls_asked unavailable asked
+calls_of unavailable (history name) = []
 
 -- whether a request is answered, and by which status
 abbrev pub served_as : Bool → Gated → Way → Served
 served_as unavailable g silence = Nothing
 served_as unavailable g (refusal f bodiless) = Answered (fault_status f)
 served_as unavailable g (question asked) = Answered (answer_status (answer_to unavailable g asked))
+served_as unavailable g (history name) =
+    Answered (if unavailable then 503 else history_status (history_of g.content.state name))
 
 -- the response to a request
 abbrev pub answer : Bool → Gated → Way → List ℕ
 answer unavailable g silence = []
 answer unavailable g (refusal f bodiless) = fault_response f bodiless
 answer unavailable g (question asked) = answer_response (is_status_page asked) (answer_to unavailable g asked)
+answer unavailable g (history name) =
+    if unavailable then answer_response false (Refused refusal.Unavailable)
+    else history_response (history_of g.content.state name)
 
 -- no other status than 503 is `unavailable`
 abbrev pub is_unavailable : Served → Bool

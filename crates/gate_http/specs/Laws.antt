@@ -7,9 +7,9 @@ use Rattle.gate_http.specs.declared.respond.Page.TheVariants as pages
 use Rattle.gate_http.specs.declared.routes.Route.TheVariants as route
 use Rattle.gate_http.specs.Asked.{page, delivery}
 use Rattle.gate_http.specs.Head.{Front, front_of, whole}
-use Rattle.gate_http.specs.Routes.{route_of, path_of}
+use Rattle.gate_http.specs.Routes.{route_of, path_of, parameter_of}
 use Rattle.gate_http.specs.Way.{FindsIn, Finds, way, silence, question, refusal, taken}
-use Rattle.gate_http.specs.Response.{fault_response}
+use Rattle.gate_http.specs.Response.{fault_response, history_response}
 
 -- two request heads that are found are one
 abbrev pub FoundOnce : Front → Option RequestHead → Option RequestHead → Type 0
@@ -32,6 +32,10 @@ PathsHaveRoutes =
     × (route_of (codes "/builds/3") ≡ Some route.Builds)
     × (route_of (codes "/builds/") ≡ None)
     × (route_of (codes "/builds/3/") ≡ None)
+    × (route_of (codes "/history/core") ≡ Some route.History)
+    × (parameter_of (codes "/history/core") ≡ codes "core")
+    × (route_of (codes "/history/") ≡ None)
+    × (route_of (codes "/history/core/") ≡ None)
     × (route_of (codes "/nowhere") ≡ None)
 
 abbrev pub example_head : List ℕ
@@ -85,3 +89,8 @@ ExampleIsAnswered =
     ++ codes "{\"error\":\"cut\"}")
     × (fault_response fault.NotGet true ≡ codes "HTTP/1.1 405 Method Not Allowed\r\n"
     ++ codes "Content-Type: application/json\r\nContent-Length: 18\r\nAllow: GET\r\nConnection: close\r\n\r\n")
+    × (history_response None ≡ codes "HTTP/1.1 404 Not Found\r\n"
+    ++ codes "Content-Type: application/json\r\nContent-Length: 20\r\nConnection: close\r\n\r\n"
+    ++ codes "{\"error\":\"no-queue\"}")
+    × (history_response (Some (codes "history core\nend 0\n")) ≡ codes "HTTP/1.1 200 OK\r\n"
+    ++ codes "Content-Type: text/plain\r\nConnection: close\r\n\r\nhistory core\nend 0\n")

@@ -10,7 +10,7 @@ use Rattle.gate_http.specs.declared.request.Decision.{Decision}
 use Rattle.gate_http.specs.declared.request.Decision.TheVariants as decision
 use Rattle.gate_http.specs.Head.{cut, too_large, whole, front_of}
 use Rattle.gate_http.specs.Fields.{Pair}
-use Rattle.gate_http.specs.Way.{Decided, refused, posted, shown, named}
+use Rattle.gate_http.specs.Way.{Decided, refused, posted, shown, named, recalled}
 
 -- so many bytes were read, and whatever follows, the input begins like this
 abbrev pub Begins : Came → List ℕ → Option (List ℕ) → Type 0
@@ -54,3 +54,4 @@ view (decision.Refuse f bodiless) = refused f bodiless
 view (decision.Post d n) = posted d n
 view (decision.Show p) = shown p
 view (decision.ShowBuild id) = named id.now
+view (decision.ShowHistory name) = recalled name.now

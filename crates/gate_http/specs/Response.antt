@@ -1,5 +1,5 @@
 -- The texts of responses.
-use Rattle.std.specs.Prelude.{ℕ, Bool, ◌&&◌, List, [], ◌++◌, length, ◌==◌, if◌then◌else◌, codes, decimal}
+use Rattle.std.specs.Prelude.{ℕ, Bool, false, ◌&&◌, List, [], ◌++◌, length, ◌==◌, if◌then◌else◌, Option, None, Some, codes, decimal}
 use Rattle.gate_types.specs.declared.deliveries.Answer.{Answer}
 use Rattle.gate_types.specs.Once.{answer_text}
 use Rattle.gate_http.specs.declared.fault.Fault.{Fault}
@@ -32,6 +32,7 @@ allow_line fault.BadRequest = []
 allow_line fault.NoRoute = []
 allow_line fault.NoLength = []
 allow_line fault.TooLarge = []
+allow_line fault.NoQueue = []
 
 -- a line of a head
 unfoldable pub line : List ℕ → List ℕ → List ℕ
@@ -65,3 +66,12 @@ abbrev pub answer_response : Bool → Answer → List ℕ
 answer_response is_plain a =
     head_text (answer_status a) (if is_plain && answer_status a == 200 then plain else json) (length (answer_text a)) []
     ++ answer_text a
+
+-- the head of the response with a history, which has no length: its body ends where the connection is closed
+unfoldable pub history_head : List ℕ
+history_head = status_line 200 ++ (line (codes "Content-Type: ") plain ++ codes "Connection: close\r\n\r\n")
+
+-- the response with a history text, or where there is no such queue
+abbrev pub history_response : Option (List ℕ) → List ℕ
+history_response None = fault_response fault.NoQueue false
+history_response (Some text) = history_head ++ text

@@ -1,5 +1,5 @@
 -- What serving a request comes to, by what a gate's book held.
-use Rattle.std.specs.Prelude.{ℕ, ◌≡◌, true, false, List, [], ◌∷◌, ◌++◌}
+use Rattle.std.specs.Prelude.{ℕ, ◌≡◌, true, false, List, [], ◌∷◌, ◌++◌, Option}
 use Rattle.gate_types.specs.declared.deliveries.Answer.{Answer}
 use Rattle.gate_types.specs.Settings.{Settings}
 use Rattle.gate_types.specs.Once.{Content, Call, acts, next_content, is_unavailable}
@@ -9,8 +9,8 @@ use Rattle.gate_core.specs.declared.gate.Gate.{Gate}
 use Rattle.gate_core.specs.Held.{Goes}
 use Rattle.gate_http.specs.declared.served.Served.{Served}
 use Rattle.gate_http.specs.Asked.{Asked}
-use Rattle.gate_http.specs.Way.{Way}
-use Rattle.gate_http.specs.Answer.{Answers, answer_to, calls_asked, calls_of, gate_after, is_unavailable as is_503}
+use Rattle.gate_http.specs.Way.{Way, history}
+use Rattle.gate_http.specs.Answer.{Answers, answer_to, calls_asked, calls_of, gate_after, history_of, is_unavailable as is_503}
 
 -- what a crash leaves after a call: the content after it alone, after a first reply; what it could leave before, after a
 -- kept reply or a refusal; and after `unavailable` one content more: what the delivery would have given
@@ -34,6 +34,14 @@ pub record Responds {B : Type 0} (trusted : B → Type 0) (holds : B → Setting
       CrashLeaves old.config x (calls_asked (is_unavailable a) asked) (leaves old.book old.config)
       (leaves new.book old.config))
 
+-- a gate was asked for a queue's history: what is so of it in the content, which stays; and what a crash leaves
+pub record Recalls {B : Type 0} (trusted : B → Type 0) (holds : B → Settings → Content → Type 0)
+    (leaves : B → Settings → List Content → Type 0) (old : Gate B) (name : List ℕ) (P : Option (List ℕ) → Type 0)
+    (new : Gate B) : Type 0 where
+  pub answers : Goes trusted holds old new (λ g after. P (history_of g.content.state name) × (after ≡ g))
+  pub crash : OfHeldUnder trusted holds old.book new.book old.config (λ x.
+      CrashLeaves old.config x [] (leaves old.book old.config) (leaves new.book old.config))
+
 -- a request came to this text: the plain gate's answer and content, and what a crash leaves
 pub record Serves {B : Type 0} (trusted : B → Type 0) (holds : B → Settings → Content → Type 0)
     (leaves : B → Settings → List Content → Type 0) (old new : Gate B) (w : Way) (served : Served) (text : List ℕ)
@@ -42,3 +50,21 @@ pub record Serves {B : Type 0} (trusted : B → Type 0) (holds : B → Settings 
   pub crash : OfHeldUnder trusted holds old.book new.book old.config (λ x.
       CrashLeaves old.config x (calls_of (is_503 served) w) (leaves old.book old.config)
       (leaves new.book old.config))
+
+-- a request for a history came to a text of which this is so: the plain gate's answer and content, and what a crash
+-- leaves; which text it is, is told where the book is trusted as the call ends
+pub record ServesHistory {B : Type 0} (trusted : B → Type 0) (holds : B → Settings → Content → Type 0)
+    (leaves : B → Settings → List Content → Type 0) (old new : Gate B) (name : List ℕ) (served : Served)
+    (Takes : List ℕ → Type 0) : Type 0 where
+  pub answers : Goes trusted holds old new (λ g after.
+      (text : List ℕ) × Takes text × Answers g (history name) served text after)
+  pub crash : OfHeldUnder trusted holds old.book new.book old.config (λ x.
+      CrashLeaves old.config x [] (leaves old.book old.config) (leaves new.book old.config))
+
+-- a request came to a text of which this is so
+abbrev pub ServesBy : {B : Type 0} → (B → Type 0) → (B → Settings → Content → Type 0) →
+    (B → Settings → List Content → Type 0) → Gate B → Gate B → Way → Served → (List ℕ → Type 0) → Type 0
+ServesBy trusted holds leaves old new (history name) served Takes =
+    ServesHistory trusted holds leaves old new name served Takes
+ServesBy trusted holds leaves old new w served Takes =
+    (text : List ℕ) × Takes text × Serves trusted holds leaves old new w served text

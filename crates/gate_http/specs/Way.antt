@@ -16,7 +16,7 @@ use Rattle.gate_http.specs.declared.fields.BodyLength.TheVariants as body
 use Rattle.gate_http.specs.Asked.{Asked, delivery, page, build}
 use Rattle.gate_http.specs.Head.{Front, empty, cut, too_large, whole, front_of, head_limit}
 use Rattle.gate_http.specs.Fields.{length_of}
-use Rattle.gate_http.specs.Routes.{route_of, path_of}
+use Rattle.gate_http.specs.Routes.{route_of, path_of, parameter_of}
 
 -- the bytes are a request head of at most 64 fields
 abbrev pub IsRequest : List ℕ → RequestHead → Type 0
@@ -27,12 +27,14 @@ abbrev pub Finds : List ℕ → Option RequestHead → Type 0
 Finds head None = (h : RequestHead) → IsRequest head h → ⊥
 Finds head (Some h) = IsRequest head h
 
--- what a head asks for: an answer of HTTP's own, maybe without its body; a delivery of so many bytes; a page; a build
+-- what a head asks for: an answer of HTTP's own, maybe without its body; a delivery of so many bytes; a page; a build;
+-- the history of a queue
 pub data Decided : Type 0 where
   refused : Fault → Bool → Decided
   posted : Door → ℕ → Decided
   shown : Page → Decided
   named : List ℕ → Decided
+  recalled : List ℕ → Decided
 
 abbrev pub is_head : RequestHead → Bool
 is_head h = bytes_eq h.method (codes "HEAD")
@@ -61,6 +63,7 @@ on_route h path (Some route.Worker) = by_post h door.Worker
 on_route h path (Some route.Status) = by_get h (shown pages.Status)
 on_route h path (Some route.Orders) = by_get h (shown pages.Orders)
 on_route h path (Some route.Builds) = by_get h (named (drop 8 path))
+on_route h path (Some route.History) = by_get h (recalled (parameter_of path))
 
 -- a request
 abbrev pub decided_of : Option RequestHead → Decided
@@ -72,11 +75,12 @@ abbrev pub decided : List ℕ → Option RequestHead → Decided
 decided head found =
     if nat_lt 66 (count_by (λ b. b == 10) head) then refused fault.HeadTooLarge false else decided_of found
 
--- what becomes of an input: nothing, an answer of HTTP's own, or a question to the gate
+-- what becomes of an input: nothing, an answer of HTTP's own, a question to the gate, or the history of a queue
 pub data Way : Type 0 where
   silence : Way
   refusal : Fault → Bool → Way
   question : Asked → Way
+  history : List ℕ → Way
 
 -- by what the head asks for, and the bytes behind it
 abbrev pub way_on : List ℕ → Decided → Way
@@ -85,6 +89,7 @@ way_on rest (posted d n) =
     if nat_lt (length rest) n then refusal fault.Cut false else question (delivery d (take n rest))
 way_on rest (shown p) = question (page p)
 way_on rest (named id) = question (build id)
+way_on rest (recalled name) = history name
 
 abbrev pub way_from : Front → Option RequestHead → Way
 way_from empty found = silence
@@ -101,6 +106,7 @@ body_on rest (refused f bodiless) = []
 body_on rest (posted d n) = take n rest
 body_on rest (shown p) = []
 body_on rest (named id) = []
+body_on rest (recalled name) = []
 
 -- the bytes of an input that are read: no others are taken from the reader
 abbrev pub taken_from : List ℕ → Front → Option RequestHead → List ℕ

@@ -5,9 +5,9 @@ ghost use Rattle.std.specs.Io.KnownBytes.{Appends, Keeps};
 ghost use Rattle.gate_types.specs.Tap.{inside, has_failed, Took, TookFront};
 ghost use Rattle.gate_core.specs.declared.fault.IoFault.{IoFault};
 ghost use Rattle.gate_core.specs.Held.{Goes};
-ghost use Rattle.gate_http.specs.Way.{Request, way_of};
+ghost use Rattle.gate_http.specs.Way.{Request, way_of, history};
 ghost use Rattle.gate_http.specs.Exchange.{IsRead};
-ghost use Rattle.gate_http.specs.Serving.{Serves};
+ghost use Rattle.gate_http.specs.Serving.{ServesBy};
 ghost use Rattle.gate_http.specs.Connections.{IsCalled, fault_line, AreTold};
 
 use crate::serve::serve_one;
@@ -75,10 +75,12 @@ fn serve_whole<B: Book, R: Read, W: Write + Drop>(
     // nothing of the response is left in the buffer
     ensures sent { OnOk result.0 ((r : Request)
         × IsRead (R.remaining (inside reader.old)) (R.remaining (inside reader.new)) r
-        × (served : Served) × (text : List ℕ)
-        × Appends (writer_contents W.contents writer) (W.contents result.1) text
-        × Serves B.IsTrusted B.Holds B.LeavesOneOf gate.old gate.new (way_of r) served text) }
-    ensures store { IsErrOf result.0 IoFault.Store → ⊥ }
+        × (served : Served) × ServesBy B.IsTrusted B.Holds B.LeavesOneOf gate.old gate.new (way_of r) served
+        (Appends (writer_contents W.contents writer) (W.contents result.1))) }
+    // a history broke off
+    ensures store { IsErrOf result.0 IoFault.Store → (r : Request)
+        × IsRead (R.remaining (inside reader.old)) (R.remaining (inside reader.new)) r
+        × (name : List ℕ) × (way_of r ≡ history name) }
 {
     let mut writer = Tap::new(writer);
     let served = serve_one(alloc, gate, reader, &mut writer);
@@ -92,14 +94,13 @@ fn serve_whole<B: Book, R: Read, W: Write + Drop>(
 /// # Errors
 ///
 /// `Read`: the stream gave an error, or could not be had twice. `Write`: the response could not be
-/// sent. `NoMemory`: there was none for a buffer or for the request. `Store`: never.
+/// sent. `NoMemory`: there was none for a buffer or for the request. `Store`: a history broke off.
 fn serve_stream<S: Read + Write + OpenStream + Drop, B: Book>(
     alloc: Global,
     gate: &mut Gate<B>,
     stream: S,
 ) -> Result<(), IoFault>
     ensures gate { Goes B.IsTrusted B.Holds gate.old gate.new (IsCalled 1) }
-    ensures store { IsErrOf result IoFault.Store → ⊥ }
 {
     let Ok(other) = stream.try_clone() else {
         return Err(IoFault::Read);

@@ -5,18 +5,19 @@ ghost use Rattle.gate_http.specs.Faults.{fault_status, fault_text};
 ghost use Rattle.gate_http.specs.Routes.{routes};
 ghost use Rattle.gate_http.specs.Asked.{page, answer_status, is_status_page};
 ghost use Rattle.gate_http.specs.Response.{fault_response, answer_response};
-ghost use Rattle.gate_http.specs.Exchange.{AnswersTo, BreaksTo, Waits};
+ghost use Rattle.gate_http.specs.Exchange.{AnswersTo, BreaksTo, StopsAt, Waits, OfHistory, Recalled};
 
 use crate::body::{BODY_LIMIT, read_body};
 use crate::fault::Fault;
 use crate::head::{Came, HEAD_LIMIT, read_head};
 use crate::request::{Decision, decide};
 use crate::respond::{Page, Respond, status_of, text_of};
-use crate::response::{HEAD_ROOM, allow_of, write_response};
+use crate::response::{HEAD_ROOM, allow_of, history_head, write_response};
 use crate::routes::{Route, router};
 use crate::served::Served;
+use gate_book::fault::HistoryFault;
 use gate_core::fault::IoFault;
-use gate_types::deliveries::Answer;
+use gate_types::deliveries::{Answer, Refusal};
 use gate_types::tap::Tap;
 use matchit::Router;
 use std::alloc::Global;
@@ -101,6 +102,38 @@ fn tell<W: Write>(
     }
 }
 
+/// Writes the history of a queue behind its head, line by line, or an answer in its place.
+fn tell_history<G: Respond, W: Write>(
+    gate: &mut G,
+    writer: &mut Tap<W>,
+    room: &mut Vec<u8>,
+    queue: &str,
+) -> Result<Served, IoFault>
+    requires writer { has_failed writer.old ≡ false }
+    requires empty { room.old.items ≡ [] }
+    requires room { 256 ≤ vec_capacity room.old }
+    ensures ok { IfOk result (λ served.
+        Recalled G.recalls gate.old queue.now (Took W.contents writer.old writer.new) gate.new served) }
+    ensures write { IsErrOf result IoFault.Write → (served : Served)
+        × Recalled G.recalls gate.old queue.now (TookFront W.contents writer.old writer.new) gate.new served }
+    ensures store { IsErrOf result IoFault.Store →
+        G.recalls gate.old queue.now (OfHistory (TookFront W.contents writer.old writer.new)) gate.new }
+    ensures others { IfErr result (λ e. (e ≡ IoFault.Write) ⊎ (e ≡ IoFault.Store)) }
+    ensures unfailed { OnOk result (has_failed writer.new ≡ false) }
+    ensures store_unfailed { IsErrOf result IoFault.Store → has_failed writer.new ≡ false }
+    ensures failed { IsErrOf result IoFault.Write → has_failed writer.new ≡ true }
+{
+    match gate.show_history(queue, history_head().as_bytes(), writer) {
+        Ok(()) => Ok(Served::Answered(200)),
+        Err(HistoryFault::NoQueue) => refuse(writer, room, Fault::NoQueue, false),
+        Err(HistoryFault::Unavailable) => {
+            tell(writer, room, &Answer::Refused(Refusal::Unavailable), false)
+        }
+        Err(HistoryFault::Broken) => Err(IoFault::Store),
+        Err(HistoryFault::Write) => Err(IoFault::Write),
+    }
+}
+
 /// Answers one request, with room for its head, for its body and for the head of the response.
 fn answer<G: Respond, R: Read, W: Write>(
     alloc: Global,
@@ -118,15 +151,18 @@ fn answer<G: Respond, R: Read, W: Write>(
     requires head { (head.old.items ≡ []) × (8192 ≤ vec_capacity head.old) }
     requires body { (body.old.items ≡ []) × (65536 ≤ vec_capacity body.old) }
     requires room { (room.old.items ≡ []) × (256 ≤ vec_capacity room.old) }
-    ensures ok { IfOk result (λ served. AnswersTo G.responds R.remaining W.contents
+    ensures ok { IfOk result (λ served. AnswersTo G.responds G.recalls R.remaining W.contents
         reader.old reader.new gate.old gate.new writer.old writer.new served) }
-    ensures write { IsErrOf result IoFault.Write → BreaksTo G.responds R.remaining W.contents
+    ensures write { IsErrOf result IoFault.Write → BreaksTo G.responds G.recalls R.remaining W.contents
         reader.old reader.new gate.old gate.new writer.old writer.new }
     ensures read { IsErrOf result IoFault.Read →
         Waits (R.remaining (inside reader.old)) (R.remaining (inside reader.new))
         × (gate.new ≡ gate.old) × (writer.new ≡ writer.old) }
-    ensures others { IfErr result (λ e. (e ≡ IoFault.Read) ⊎ (e ≡ IoFault.Write)) }
+    ensures store { IsErrOf result IoFault.Store → StopsAt G.recalls R.remaining W.contents
+        reader.old reader.new gate.old gate.new writer.old writer.new }
+    ensures others { IfErr result (λ e. (e ≡ IoFault.Read) ⊎ (e ≡ IoFault.Write) ⊎ (e ≡ IoFault.Store)) }
     ensures unfailed { OnOk result (has_failed writer.new ≡ false) }
+    ensures store_unfailed { IsErrOf result IoFault.Store → has_failed writer.new ≡ false }
     ensures reader_failed { IsErrOf result IoFault.Read → has_failed reader.new ≡ true }
     ensures writer_failed { IsErrOf result IoFault.Write → has_failed writer.new ≡ true }
 {
@@ -155,6 +191,7 @@ fn answer<G: Respond, R: Read, W: Write>(
             let said = gate.show_build(alloc, id);
             tell(writer, room, &said, false)
         }
+        Decision::ShowHistory(queue) => tell_history(gate, writer, room, queue),
     }
 }
 
@@ -165,7 +202,7 @@ fn answer<G: Respond, R: Read, W: Write>(
 /// # Errors
 ///
 /// `Read` where the reader failed: nothing was asked or written. `Write` where the writer did, within
-/// the answer. `NoMemory` before anything is read. `Store` never.
+/// the answer. `NoMemory` before anything is read. `Store` where a history broke off behind a beginning of it.
 pub fn answer_request<G: Respond, R: Read, W: Write>(
     alloc: Global,
     gate: &mut G,
@@ -174,17 +211,19 @@ pub fn answer_request<G: Respond, R: Read, W: Write>(
 ) -> Result<Served, IoFault>
     requires reader { has_failed reader.old ≡ false }
     requires writer { has_failed writer.old ≡ false }
-    ensures ok { IfOk result (λ served. AnswersTo G.responds R.remaining W.contents
+    ensures ok { IfOk result (λ served. AnswersTo G.responds G.recalls R.remaining W.contents
         reader.old reader.new gate.old gate.new writer.old writer.new served) }
-    ensures write { IsErrOf result IoFault.Write → BreaksTo G.responds R.remaining W.contents
+    ensures write { IsErrOf result IoFault.Write → BreaksTo G.responds G.recalls R.remaining W.contents
         reader.old reader.new gate.old gate.new writer.old writer.new }
     ensures read { IsErrOf result IoFault.Read →
         Waits (R.remaining (inside reader.old)) (R.remaining (inside reader.new))
         × (gate.new ≡ gate.old) × (writer.new ≡ writer.old) }
     ensures memory { IsErrOf result IoFault.NoMemory →
         (gate.new ≡ gate.old) × (reader.new ≡ reader.old) × (writer.new ≡ writer.old) }
-    ensures store { IsErrOf result IoFault.Store → ⊥ }
+    ensures store { IsErrOf result IoFault.Store → StopsAt G.recalls R.remaining W.contents
+        reader.old reader.new gate.old gate.new writer.old writer.new }
     ensures unfailed { OnOk result (has_failed writer.new ≡ false) }
+    ensures store_unfailed { IsErrOf result IoFault.Store → has_failed writer.new ≡ false }
     ensures reader_failed { IsErrOf result IoFault.Read → has_failed reader.new ≡ true }
     ensures writer_failed { IsErrOf result IoFault.Write → has_failed writer.new ≡ true }
 {

@@ -2,6 +2,7 @@
 use crate::engine::answer_request;
 use crate::respond::{Page, Respond};
 use crate::served::Served;
+use gate_book::fault::HistoryFault;
 use gate_core::fault::IoFault;
 use gate_types::deliveries::{Answer, Refusal};
 use gate_types::names::Text;
@@ -64,7 +65,19 @@ pub const GET_ALONE: &[u8] =
 pub const GET_ALONE_TO_HEAD: &[u8] =
     b"HTTP/1.1 405 Method Not Allowed\r\nContent-Type: application/json\r\nContent-Length: 18\r\nAllow: GET\r\nConnection: close\r\n\r\n";
 
-/// Counts what it took. A delivery has to begin with a brace.
+pub const HISTORY: &[u8] =
+    b"HTTP/1.1 200 OK\r\nContent-Type: text/plain\r\nConnection: close\r\n\r\nhistory core\nend 0\n";
+
+pub const TORN: &[u8] =
+    b"HTTP/1.1 200 OK\r\nContent-Type: text/plain\r\nConnection: close\r\n\r\nhistory core\n";
+
+pub const NO_QUEUE: &[u8] =
+    b"HTTP/1.1 404 Not Found\r\nContent-Type: application/json\r\nContent-Length: 20\r\nConnection: close\r\n\r\n{\"error\":\"no-queue\"}";
+
+pub const UNAVAILABLE: &[u8] =
+    b"HTTP/1.1 503 Service Unavailable\r\nContent-Type: application/json\r\nContent-Length: 36\r\nConnection: close\r\n\r\n{\"code\":\"E15\",\"error\":\"unavailable\"}";
+
+/// Counts what it took. A delivery has to begin with a brace. The history of `torn` breaks off behind its first line.
 #[derive(Drop)]
 pub struct Counting {
     pub taken: u64,
@@ -79,6 +92,8 @@ fn said(alloc: Global, text: &str) -> Answer {
 
 impl Respond for Counting {
     ghost responds = { λ old asked answer new. Unit {0} };
+
+    ghost recalls = { λ old name P new. Unit {0} };
 
     fn hear(&mut self, alloc: Global, door: Door, body: &[u8]) -> Answer {
         if !body.starts_with(b"{") {
@@ -107,6 +122,27 @@ impl Respond for Counting {
         } else {
             Answer::Refused(Refusal::UnknownBuild)
         }
+    }
+
+    fn show_history<W: Write>(
+        &mut self,
+        queue: &str,
+        front: &[u8],
+        w: &mut Tap<W>,
+    ) -> Result<(), HistoryFault> {
+        if queue == "shut" {
+            return Err(HistoryFault::Unavailable);
+        }
+        if queue != "core" && queue != "torn" {
+            return Err(HistoryFault::NoQueue);
+        }
+        w.write_all(front)?;
+        w.write_line("history core")?;
+        if queue == "torn" {
+            return Err(HistoryFault::Broken);
+        }
+        w.write_line("end 0")?;
+        Ok(())
     }
 }
 

@@ -1,7 +1,7 @@
 //! What HTTP itself refuses.
 ghost use Rattle.std.specs.Prelude.{◌≡◌};
 
-/// Why a request doesn't reach the gate.
+/// Why a request gets an answer of HTTP's own.
 #[derive(Clone, Copy)]
 pub enum Fault {
     /// The first 8,192 bytes hold no head, or the head has over 66 lines.
@@ -20,6 +20,8 @@ pub enum Fault {
     NoLength,
     /// The body has over 65,536 bytes.
     TooLarge,
+    /// No queue has the name.
+    NoQueue,
 }
 
 impl Fault {
@@ -36,6 +38,7 @@ impl Fault {
             Fault::NotPost | Fault::NotGet => 405,
             Fault::NoLength => 411,
             Fault::TooLarge => 413,
+            Fault::NoQueue => 404,
         }
     }
 
@@ -51,6 +54,7 @@ impl Fault {
             Fault::NotPost | Fault::NotGet => "{\"error\":\"method\"}",
             Fault::NoLength => "{\"error\":\"length\"}",
             Fault::TooLarge => "{\"error\":\"too-large\"}",
+            Fault::NoQueue => "{\"error\":\"no-queue\"}",
         }
     }
 }

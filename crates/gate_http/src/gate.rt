@@ -5,12 +5,15 @@ ghost use Rattle.gate_http.specs.Answer.{build_number};
 use crate::digits::number_of;
 use crate::respond::{Page, Respond};
 use gate_book::book::Book;
+use gate_book::fault::HistoryFault;
 use gate_core::gate::Gate;
 use gate_types::deliveries::{Answer, Refusal};
 use gate_types::names::Text;
 use gate_types::numbers::BuildNo;
+use gate_types::tap::Tap;
 use gate_wire::{Door, read_delivery};
 use std::alloc::Global;
+use std::io::Write;
 
 /// The number of a build, by what stands for it in a path.
 fn build_named(id: &[u8]) -> Option<BuildNo>
@@ -36,9 +39,11 @@ fn answer_with(shown: Result<String, Refusal>) -> Answer
 }
 
 impl<B: Book> Respond for Gate<B> {
-    ghost use Rattle.gate_http.specs.Serving.{Responds};
+    ghost use Rattle.gate_http.specs.Serving.{Responds, Recalls};
 
     ghost responds = { Responds B.IsTrusted B.Holds B.LeavesOneOf };
+
+    ghost recalls = { Recalls B.IsTrusted B.Holds B.LeavesOneOf };
 
     fn hear(&mut self, alloc: Global, door: Door, body: &[u8]) -> Answer {
         match read_delivery(alloc, body, door) {
@@ -59,5 +64,14 @@ impl<B: Book> Respond for Gate<B> {
             Some(number) => answer_with(self.build(alloc, number)),
             None => Answer::Refused(Refusal::UnknownBuild),
         }
+    }
+
+    fn show_history<W: Write>(
+        &mut self,
+        queue: &str,
+        front: &[u8],
+        w: &mut Tap<W>,
+    ) -> Result<(), HistoryFault> {
+        self.history(queue, front, w)
     }
 }

@@ -11,6 +11,8 @@ pub mod fault;
 mod fields;
 mod gate;
 mod head;
+#[cfg(test)]
+mod histories;
 pub mod laws;
 pub mod memory;
 mod request;

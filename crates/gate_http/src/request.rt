@@ -9,7 +9,7 @@ ghost use Rattle.gate_http.specs.Parts.{view};
 use crate::fault::Fault;
 use crate::fields::{BodyLength, body_length};
 use crate::respond::Page;
-use crate::routes::{Route, cut_query, find_route};
+use crate::routes::{Route, cut_query, find_route, parameter};
 use gate_wire::Door;
 use httparse::Status;
 use httparse::spans::{EMPTY_HEADER_SPAN, HeaderSpan, RequestSpans, parse_request};
@@ -31,6 +31,8 @@ pub(crate) enum Decision<'a> {
     Show(Page),
     /// A build, by what stands for its number.
     ShowBuild(&'a [u8]),
+    /// The history of a queue, by what stands for its name.
+    ShowHistory(&'a str),
 }
 
 /// The head of a request, where these bytes are one of at most 64 fields.
@@ -93,6 +95,7 @@ fn ask<'a>(
             let bytes = path.as_bytes();
             Decision::ShowBuild(&bytes[bytes.len().min(8)..])
         }
+        Route::History => Decision::ShowHistory(parameter(path)),
     }
 }
 

@@ -1,7 +1,7 @@
 //! The text of a response, and its writing.
 ghost use Rattle.std.specs.Prelude.{◌≡◌, ◌≤◌, ◌+◌, ◌++◌, [], false, true, OnOk, OnErr, length, vec_len, vec_capacity};
 ghost use Rattle.gate_types.specs.Tap.{inside, has_failed, Took, TookFront};
-ghost use Rattle.gate_http.specs.Response.{phrase, line, status_line, head_text, allow_line};
+ghost use Rattle.gate_http.specs.Response.{phrase, line, status_line, head_text, allow_line, history_head};
 
 use crate::fault::Fault;
 use gate_types::tap::{Failed, Tap};
@@ -95,6 +95,13 @@ fn put_head(room: &mut Vec<u8>, status: u16, kind: &str, len: usize, allow: &str
     put_line(room, "Content-Length: ", digits.format(len));
     put(room, allow);
     put(room, "Connection: close\r\n\r\n");
+}
+
+/// The head of the response with a history.
+pub(crate) fn history_head() -> &'static str
+    ensures { result.now ≡ history_head }
+{
+    "HTTP/1.1 200 OK\r\nContent-Type: text/plain\r\nConnection: close\r\n\r\n"
 }
 
 /// Writes a response: its head, which tells of a body of `len` bytes, and the body or nothing. The

@@ -1,6 +1,6 @@
 //! The routes.
 ghost use Rattle.std.specs.Prelude.{◌≡◌, IfOk};
-ghost use Rattle.gate_http.specs.Routes.{routes, route_of, path_of};
+ghost use Rattle.gate_http.specs.Routes.{routes, route_of, path_of, behind_slash, parameter_of};
 
 use matchit::{InsertError, Router};
 use std::alloc::Global;
@@ -13,6 +13,7 @@ pub(crate) enum Route {
     Status,
     Orders,
     Builds,
+    History,
 }
 
 /// The router of the routes.
@@ -25,6 +26,7 @@ pub(crate) fn router(alloc: Global) -> Result<Router<Route>, InsertError>
     router.insert("/status", Route::Status)?;
     router.insert("/orders", Route::Orders)?;
     router.insert("/builds/{id}", Route::Builds)?;
+    router.insert("/history/{queue}", Route::History)?;
     Ok(router)
 }
 
@@ -48,4 +50,21 @@ pub(crate) fn cut_query(target: &str) -> &str
         Some((path, _)) => path,
         None => target,
     }
+}
+
+/// What stands behind the first slash.
+fn after_slash(text: &str) -> &str
+    ensures { result.now ≡ behind_slash text.now }
+{
+    match text.split_once('/') {
+        Some((_, rest)) => rest,
+        None => "",
+    }
+}
+
+/// What a path has in the place of its parameter.
+pub(crate) fn parameter(path: &str) -> &str
+    ensures { result.now ≡ parameter_of path.now }
+{
+    after_slash(after_slash(path))
 }

@@ -56,6 +56,22 @@ const FAILED: &str =
 {"id":"0b000000-0000-4000-8000-000000000010","kind":"result","build":3,"outcome":"success"}
 "#;
 
+/// The other change lands, and then the first one leaves.
+const LANDED: &str =
+    r#"{"id":"0b000000-0000-4000-8000-000000000011","kind":"result","build":4,"outcome":"success"}
+{"id":"0b000000-0000-4000-8000-000000000012","kind":"landed","order":2}
+{"id":"0b000000-0000-4000-8000-000000000013","kind":"result","build":2,"outcome":"success"}
+"#;
+
+const HISTORY: &str =
+    "HTTP/1.1 200 OK\r\nContent-Type: text/plain\r\nConnection: close\r\n\r\nhistory core\n     1      2       102    1 landed          1\n     2      1       101    1 failed          -\nend 2\n";
+
+const NO_HISTORY: &str =
+    "HTTP/1.1 200 OK\r\nContent-Type: text/plain\r\nConnection: close\r\n\r\nhistory web\nend 0\n";
+
+const NO_QUEUE: &str =
+    "HTTP/1.1 404 Not Found\r\nContent-Type: application/json\r\nContent-Length: 20\r\nConnection: close\r\n\r\n{\"error\":\"no-queue\"}";
+
 #[test]
 fn an_empty_gate_responds(rt: HostRuntime) -> Result<(), Fail> {
     let mut gate = new_gate(rt.alloc())?;
@@ -85,6 +101,20 @@ fn a_stopped_build_is_shown(rt: HostRuntime) -> Result<(), Fail> {
         ("GET /builds/03 HTTP/1.1\r\n\r\n", NO_BUILD),
         ("GET /builds/5 HTTP/1.1\r\n\r\n", NO_BUILD),
         ("GET /builds/1000000000000001 HTTP/1.1\r\n\r\n", NO_BUILD),
+    ];
+    all_get(&rt, rt.alloc(), &mut gate, &rows)
+}
+
+#[test]
+fn a_history_has_what_left(rt: HostRuntime) -> Result<(), Fail> {
+    let mut gate = new_gate(rt.alloc())?;
+    told(rt.alloc(), &mut gate, FAILED)?;
+    told(rt.alloc(), &mut gate, LANDED)?;
+    let rows = [
+        ("GET /history/core HTTP/1.1\r\n\r\n", HISTORY),
+        ("GET /history/web HTTP/1.1\r\n\r\n", NO_HISTORY),
+        ("GET /history/cor HTTP/1.1\r\n\r\n", NO_QUEUE),
+        ("GET /history/%63ore HTTP/1.1\r\n\r\n", NO_QUEUE),
     ];
     all_get(&rt, rt.alloc(), &mut gate, &rows)
 }

@@ -7,6 +7,7 @@ pub returns : goal.returns
 unfolding routes with_route
 returns c =
     rw (
+      placed_read _ _ _ _ c.in_ok-insert-6.ensures,
       placed_read _ _ _ _ c.in_ok-insert-5.ensures,
       placed_read _ _ _ _ c.in_ok-insert-4.ensures,
       placed_read _ _ _ _ c.in_ok-insert-3.ensures,
