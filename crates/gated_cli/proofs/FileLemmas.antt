@@ -1,19 +1,18 @@
 -- From a gate over a book of tables to a conversation over a file.
-use Rattle.std.proofs.Common.{refl, ◌≡◌, ◌≢◌, ◌∙◌, sym, subst, List, ℕ}
-use Rattle.std.specs.Prelude.{Err, IfErr, IsErrOf, Ok, OnErr, OnOk, Result}
+use Rattle.std.proofs.Common.{refl, ◌≡◌, ◌≢◌, ◌∙◌, sym, subst, Bool, List, Option, ℕ}
+use Rattle.std.specs.Prelude.{Err, IfErr, IsErrOf, None, Ok, OnErr, OnOk, Result}
 use Rattle.sqlite.specs.State.{HasCleanDisk, State}
 use Rattle.gate_types.specs.Forms.{IsLawfulContent}
-use Rattle.gate_types.specs.Once.{Content}
 use Rattle.gate_types.specs.Settings.{Settings}
 use Rattle.gate_core.specs.Gated.{Gated}
 use Rattle.gate_core.specs.Held.{IsOver, Passes}
 use Rattle.gate_core.specs.declared.fault.IoFault.{IoFault}
 use Rattle.gate_core.specs.declared.fault.IoFault.TheVariants as io
 use Rattle.gate_sql.specs.Held.{HoldsFor}
-use Rattle.gated_cli.specs.Doing.{Delivers, Streams}
-use Rattle.gated_cli.specs.Ending.{DeliveryEnds, DeliveryIsCut, DeliveryStops, IsOfFile, IsOfMaking}
+use Rattle.gated_cli.specs.Doing.{Announces, Delivers, Streams}
+use Rattle.gated_cli.specs.Ending.{AnnouncementIsCut, DeliveryEnds, DeliveryIsCut, DeliveryStops, IsOfFile, IsOfMaking, IsOfServing, ServingEnds}
 use Rattle.gated_cli.specs.Faults.{of_replay}
-use Rattle.gated_cli.specs.OverFile.{GoesOver, IsFileOf, ShowsGate}
+use Rattle.gated_cli.specs.OverFile.{GoesOver, IsFileOf, IsOfServingOver, file_fault}
 use Rattle.gated_cli.specs.declared.run.fault.Fault.{Fault}
 use Rattle.gated_cli.specs.declared.run.fault.Fault.TheVariants as fault
 
@@ -57,6 +56,44 @@ goes_over at names before c d old new P is opens clean passes up g file =
     let shown = subst (λ k. HoldsFor (at new) (names new) k went.0.content) is went.1.held in
     (went.0, record { settings = went.1.settings ∙ is; shows = shown.shows; lawful = subst (λ k. IsLawfulContent k went.0.content) is went.1.lawful }, went.2)
 
+-- ---- serving
+
+-- a fault of serving is none of the file
+pub no_file_fault : (X : Fault → Type 0) (r : Result (Unit {0}) Fault) → IfErr r (λ f. IsOfServing f × X f) → file_fault r ≡ None
+no_file_fault X (Ok x) h = refl
+no_file_fault X (Err (fault.File o)) h = absurd h.0
+no_file_fault X (Err (fault.Settings s)) h = refl
+no_file_fault X (Err fault.NoMemory) h = refl
+no_file_fault X (Err fault.Unavailable) h = refl
+no_file_fault X (Err fault.Read) h = refl
+no_file_fault X (Err fault.Write) h = refl
+no_file_fault X (Err fault.Listener) h = refl
+no_file_fault X (Err fault.SettingsFile) h = refl
+no_file_fault X (Err fault.Store) h = refl
+
+-- and one of serving over a file
+serving_over : (f : Fault) → IsOfServing f → IsOfServingOver f
+serving_over fault.Listener of = tt
+serving_over fault.Write of = tt
+serving_over fault.NoMemory of = tt
+serving_over (fault.File o) of = tt
+serving_over (fault.Settings s) of = absurd of
+serving_over fault.Unavailable of = absurd of
+serving_over fault.Read of = absurd of
+serving_over fault.SettingsFile of = absurd of
+serving_over fault.Store of = absurd of
+
+pub serving_over_file : (X : Fault → Type 0) (r : Result (Unit {0}) Fault) → IfErr r (λ f. IsOfServing f × X f) → IfErr r (λ f. IsOfServingOver f × X f)
+serving_over_file X (Ok x) h = tt
+serving_over_file X (Err f) h = (serving_over f h.0, h.1)
+
+-- the output failed within the line
+pub line_is_cut : (asked : ℕ) (f : Fault) (b a : Option (List ℕ) → Bool → Streams) → f ≡ fault.Write →
+    ((left : Option (List ℕ)) → (failed : Bool) → AnnouncementIsCut asked (b left failed) (a left failed)) →
+    IsOfServing f × ((left : Option (List ℕ)) → (failed : Bool) → ServingEnds asked f (b left failed) (a left failed))
+line_is_cut asked f b a is cut =
+    subst (λ f. IsOfServing f × ((left : Option (List ℕ)) → (failed : Bool) → ServingEnds asked f (b left failed) (a left failed))) (sym is) (tt, cut)
+
 -- ---- closing the file
 
 -- a fault of a file is one of making it
@@ -68,6 +105,7 @@ making_of fault.Unavailable of = absurd of
 making_of fault.Read of = absurd of
 making_of fault.Write of = absurd of
 making_of fault.SettingsFile of = absurd of
+making_of fault.Listener of = absurd of
 making_of fault.Store of = absurd of
 
 -- what was made, or why not, and then closed
@@ -87,6 +125,7 @@ answering_of fault.NoMemory b a stops cut other = (tt, (other (λ e. cc) (λ e. 
 answering_of (fault.Settings s) b a stops cut other = absurd (other (λ e. cc) (λ e. cc)).0
 answering_of fault.Unavailable b a stops cut other = absurd (other (λ e. cc) (λ e. cc)).0
 answering_of fault.SettingsFile b a stops cut other = absurd (other (λ e. cc) (λ e. cc)).0
+answering_of fault.Listener b a stops cut other = absurd (other (λ e. cc) (λ e. cc)).0
 answering_of fault.Store b a stops cut other = absurd (other (λ e. cc) (λ e. cc)).0
 
 -- what was answered, or why not, and then closed
@@ -96,3 +135,15 @@ pub delivery_ends : (done result : Result (Unit {0}) Fault) (b a : Streams) → 
 delivery_ends (Ok x) (Ok y) b a kept store ok stops cut other = tt
 delivery_ends (Ok x) (Err f) b a kept store ok stops cut other = subst (λ f. DeliveryEnds f b a) (sym store) ok
 delivery_ends (Err f) result b a kept store ok stops cut other = subst (λ r. IfErr r (λ f. DeliveryEnds f b a)) (sym kept) (answering_of f b a stops cut other)
+
+-- what was served, or why not, and then closed
+pub serving_ends : (asked : ℕ) (done result : Result (Unit {0}) Fault) (b a : Option (List ℕ) → Bool → Streams) →
+    OnErr done (result ≡ done) → OnOk done (IfErr result (λ f. f ≡ fault.Store)) →
+    OnOk done ((left : Option (List ℕ)) → (failed : Bool) → Announces asked (b left failed) (a left failed)) →
+    IfErr done (λ f. IsOfServingOver f × ((left : Option (List ℕ)) → (failed : Bool) → ServingEnds asked f (b left failed) (a left failed))) →
+    IfErr result (λ f. (left : Option (List ℕ)) → (failed : Bool) → ServingEnds asked f (b left failed) (a left failed))
+serving_ends asked (Ok x) (Ok y) b a kept store ok err = tt
+serving_ends asked (Ok x) (Err f) b a kept store ok err =
+    λ left failed. subst (λ f. ServingEnds asked f (b left failed) (a left failed)) (sym store) (ok left failed)
+serving_ends asked (Err f) result b a kept store ok err =
+    subst (λ r. IfErr r (λ f. (left : Option (List ℕ)) → (failed : Bool) → ServingEnds asked f (b left failed) (a left failed))) (sym kept) err.1

@@ -4,3 +4,5 @@ pub mod TellLemmas
 pub mod EndLemmas
 pub mod CheckLemmas
 mod FileLemmas
+pub mod TalkLemmas
+pub mod NumberLemmas

@@ -1,13 +1,24 @@
 -- Which errors of a command line ask for help, and which refuse it.
 use Rattle.std.proofs.Common.{◌≡◌, Bool, true, false, not, List, [], ◌∷◌, refl, sym, subst, ap, inl, inr, arith, ◌∙◌}
-use Rattle.std.specs.Prelude.{◌⊎◌, is_none}
+use Rattle.std.specs.Prelude.{◌⊎◌, is_none, option_and_then}
 use Rattle.std.specs.List.{list_any, list_all}
 use Rattle.std.proofs.lemmas.Bool.{and_parts, or_parts, false≢true, true≢false}
-use Rattle.clap.specs.Words.{Text, kind_of, IsAmong, Kinds, fault_of}
+use Rattle.clap.specs.Words.{App, HasKind, HasMatchesOf, Text, kind_of, IsAmong, Kinds, fault_of, subcommand_rows_of}
+use Rattle.clap.specs.declared.parser.matches.ArgMatches.{ArgMatches}
 use Rattle.clap.specs.declared.error.Error.{Error}
 use Rattle.clap.specs.declared.error.kind.ErrorKind.{ErrorKind}
 use Rattle.clap.specs.declared.error.kind.ErrorKind.TheVariants as kind
-use Rattle.gated_cli.specs.CommandLine.{gated, asked, is_help, is_refused, may_be_refused, may_ask_help, IsExplained}
+use Rattle.gated_cli.specs.CommandLine.{gated, asked, said_of, is_help, is_refused, may_be_refused, may_ask_help, IsExplained}
+
+-- what the matches of words say is what the words ask for
+pub matched_asks : (a : App) (words : List Text) (m : ArgMatches) → a ≡ gated → HasMatchesOf a words m
+    → option_and_then said_of (subcommand_rows_of m) ≡ asked words
+matched_asks a words m is has = ap (option_and_then said_of) (subst (λ a. HasMatchesOf a words m) is has refl).1
+
+-- an error that is one of the words' is explained by them
+pub kind_explains : (a : App) (words : List Text) (e f : Error) → f ≡ e → a ≡ gated → HasKind (fault_of a words) e → IsExplained words f
+kind_explains a words e f same is h =
+    inl (subst (HasKind (fault_of gated words)) (sym same) (subst (λ a. HasKind (fault_of a words) e) is h))
 
 -- one kind asks for help
 pub help_kind : (k : ErrorKind) → is_help k ≡ true → k ≡ kind.DisplayHelp

@@ -1,16 +1,19 @@
 -- The command line, and what its matches say.
-use Rattle.std.specs.Prelude.{◌≡◌, ◌⊎◌, ◌||◌, ◌&&◌, Bool, List, [], ◌∷◌, codes, true, false, not, Option, Some, None}
+use Rattle.std.specs.Prelude.{◌≡◌, ◌⊎◌, ◌||◌, ◌&&◌, ℕ, Bool, List, [], ◌∷◌, codes, true, false, not, Option, Some, None}
 use Rattle.std.specs.Prelude.{is_none, option_and_then, option_map, if◌then◌else◌}
 use Rattle.std.specs.List.{list_all, list_any}
 use Rattle.std.specs.Str.{bytes_eq}
+use Rattle.std.specs.Str.Parse.{digits_value, without_leading_plus}
 use Rattle.clap.specs.Words.{App, Row, Rule, Text, new_app, new_rule, with_rule, with_subcommand, first_of}
 use Rattle.clap.specs.Words.{subcommand_of, fault_of, kind_of, HasKind}
 use Rattle.clap.specs.declared.error.Error.{Error}
 use Rattle.clap.specs.declared.error.kind.ErrorKind.{ErrorKind}
 use Rattle.clap.specs.declared.error.kind.ErrorKind.TheVariants as kind
 use Rattle.clap.specs.declared.builder.action.ArgAction.TheVariants.{SetTrue}
+use Rattle.clap.specs.declared.builder.value_parser.ValueParser.TheVariants.{Unsigned}
+use Rattle.clap.specs.ValueTests.{is_unsigned_in}
 use Rattle.gated_cli.specs.declared.command.Cmd.{Cmd}
-use Rattle.gated_cli.specs.declared.command.Cmd.TheVariants.{Check, Init, Replay, Deliver}
+use Rattle.gated_cli.specs.declared.command.Cmd.TheVariants.{Check, Init, Replay, Deliver, Serve}
 
 -- the settings file, a word that has to be there
 abbrev pub settings_rule : Rule
@@ -23,6 +26,15 @@ file_rule = record (new_rule (codes "file")) { required = true; value_names = 1 
 -- the flag `--status`
 abbrev pub status_rule : Rule
 status_rule = record (new_rule (codes "status")) { long = Some (codes "status"); action = Some SetTrue }
+
+-- an option whose value is a number in a range, which has to be there
+abbrev pub number_rule : Text → ℕ → ℕ → Rule
+number_rule name least most = record (new_rule name) {
+  long = Some name;
+  parser = Some (Unsigned least most);
+  required = true;
+  value_names = 1;
+}
 
 -- `check SETTINGS`
 abbrev pub check : App
@@ -44,15 +56,28 @@ init = over_file (codes "init")
 abbrev pub deliver : App
 deliver = over_file (codes "deliver")
 
+-- the highest port
+abbrev pub most_port : ℕ
+most_port = 65535
+
+-- the most connections that a command serves
+abbrev pub most_count : ℕ
+most_count = 1000000000
+
+-- `serve SETTINGS FILE --port P --count N`
+abbrev pub serve : App
+serve = with_rule (with_rule (over_file (codes "serve"))
+    (number_rule (codes "port") 0 most_port)) (number_rule (codes "count") 1 most_count)
+
 -- the program's name, before any command
 abbrev pub bare : App
 bare = new_app (codes "gated")
 
 -- the program's command line, where a command has to be given
 abbrev pub gated : App
-gated = with_subcommand (with_subcommand (with_subcommand (with_subcommand
+gated = with_subcommand (with_subcommand (with_subcommand (with_subcommand (with_subcommand
     (record bare { top = record bare.top { subcommand_required = true } })
-    check.top) init.top) replay.top) deliver.top
+    check.top) init.top) replay.top) deliver.top) serve.top
 
 -- what a command line says
 pub data Said : Type 0 where
@@ -60,6 +85,7 @@ pub data Said : Type 0 where
   init_of : Text × Text → Said
   replay_of : Text → Bool → Said
   deliver_of : Text × Text → Said
+  serve_of : Text × Text → ℕ → ℕ → Said
 
 abbrev pub said : Option Cmd → Option Said
 said None = None
@@ -67,6 +93,7 @@ said (Some (Check settings)) = Some (check_of settings.now)
 said (Some (Init settings file)) = Some (init_of (settings.now, file.now))
 said (Some (Replay settings status)) = Some (replay_of settings.now status)
 said (Some (Deliver settings file)) = Some (deliver_of (settings.now, file.now))
+said (Some (Serve settings file port count)) = Some (serve_of (settings.now, file.now) port count)
 
 -- a flag was given
 abbrev pub is_set : Option Text → Bool
@@ -78,6 +105,21 @@ abbrev pub files_of : List Row → Option (Text × Text)
 files_of rows =
     option_and_then (λ s. option_map (λ f. (s, f)) (first_of (codes "file") rows)) (first_of (codes "settings") rows)
 
+-- the number that a text writes in digits, behind a plus or not, if it lies in a range
+abbrev pub number_in : ℕ → ℕ → Text → Option ℕ
+number_in least most text =
+    if is_unsigned_in least most text then Some (digits_value 10 (without_leading_plus text)) else None
+
+-- the port and the number of connections
+abbrev pub numbers_of : List Row → Option (ℕ × ℕ)
+numbers_of rows = option_and_then (λ p. option_map (λ n. (p, n))
+    (option_and_then (number_in 1 most_count) (first_of (codes "count") rows)))
+    (option_and_then (number_in 0 most_port) (first_of (codes "port") rows))
+
+-- what `serve` and its rows say
+abbrev pub served_of : List Row → Option Said
+served_of rows = option_and_then (λ f. option_map (λ n. serve_of f n.0 n.1) (numbers_of rows)) (files_of rows)
+
 -- what a subcommand and its rows say
 abbrev pub said_of : Text × List Row → Option Said
 said_of (name, rows) =
@@ -85,7 +127,8 @@ said_of (name, rows) =
     if bytes_eq name (codes "init") then option_map init_of (files_of rows) else (
     if bytes_eq name (codes "replay") then option_map
     (λ s. replay_of s (is_set (first_of (codes "status") rows))) (first_of (codes "settings") rows) else (
-    if bytes_eq name (codes "deliver") then option_map deliver_of (files_of rows) else None)))
+    if bytes_eq name (codes "deliver") then option_map deliver_of (files_of rows) else (
+    if bytes_eq name (codes "serve") then served_of rows else None))))
 
 abbrev pub says : Option Cmd → Option (Text × List Row) → Type 0
 says cmd rows = said cmd ≡ option_and_then said_of rows

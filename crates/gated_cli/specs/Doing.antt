@@ -1,5 +1,5 @@
 -- What a command has read and written once it is done.
-use Rattle.std.specs.Prelude.{◌≡◌, ◌≤◌, ℕ, Bool, List, [], ◌∷◌, ◌++◌, length, Option, Ok, if◌then◌else◌, codes, decimal}
+use Rattle.std.specs.Prelude.{◌≡◌, ◌≢◌, ◌<◌, ◌≤◌, ℕ, Bool, List, [], ◌∷◌, ◌++◌, length, Option, Ok, if◌then◌else◌, codes, decimal}
 use Rattle.std.specs.List.{sum_by}
 use Rattle.std.specs.Io.KnownBytes.{Appends, Consumes, IsAtEnd}
 use Rattle.gate_types.specs.Settings.{Settings}
@@ -8,7 +8,7 @@ use Rattle.gate_types.specs.Tap.{inside, has_failed}
 use Rattle.gate_types.specs.declared.tap.Tap.{Tap}
 use Rattle.gate_config.specs.Reading.{said_by}
 use Rattle.gated_cli.specs.declared.command.Cmd.{Cmd}
-use Rattle.gated_cli.specs.declared.command.Cmd.TheVariants.{Check, Init, Replay, Deliver}
+use Rattle.gated_cli.specs.declared.command.Cmd.TheVariants.{Check, Init, Replay, Deliver, Serve}
 use Rattle.gate_core.specs.Gated.{Gated, opened}
 use Rattle.gate_core.specs.Lines.{lines_of}
 use Rattle.gate_core.specs.Replies.{Replayed}
@@ -81,9 +81,27 @@ pub record Delivers (before after : Streams) : Type 0 where
   pub replies : List ℕ
   pub written : Appends before.held after.held replies
 
+-- a listener that was asked for a port has this one: the same, or any but 0 where 0 was asked for
+pub record IsPortFor (asked port : ℕ) : Type 0 where
+  pub real : 0 < port
+  pub fits : port ≤ 65535
+  pub same : asked ≢ 0 → port ≡ asked
+
+-- the line that names the port
+abbrev pub listening_line : ℕ → List ℕ
+listening_line port = codes "listening 127.0.0.1:" ++ (decimal port ++ 10 ∷ [])
+
+-- the input is left alone, and the output grows by the line that names the port
+pub record Announces (asked : ℕ) (before after : Streams) : Type 0 where
+  pub port : ℕ
+  pub bound : IsPortFor asked port
+  pub unread : after.left ≡ before.left
+  pub written : Appends before.held after.held (listening_line port)
+
 -- what a command that is done has read and written; what it made of a file no stream tells
 abbrev pub Does : Cmd → Streams → Streams → Type 0
 Does (Check settings) before after = Checks before after
 Does (Init settings file) before after = after ≡ before
 Does (Replay settings status) before after = Replays status before after
 Does (Deliver settings file) before after = Delivers before after
+Does (Serve settings file port count) before after = Announces port before after

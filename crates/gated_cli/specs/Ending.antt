@@ -10,8 +10,9 @@ use Rattle.gate_core.specs.Gated.{Gated, opened}
 use Rattle.gate_core.specs.Lines.{whole_lines, ReadFor}
 use Rattle.gate_core.specs.Replies.{Replayed, Cut}
 use Rattle.gated_cli.specs.Doing.{Streams, Answers, Delivers, HasSettings, settings_limit, status_of, check_text}
+use Rattle.gated_cli.specs.Doing.{Announces, IsPortFor, listening_line}
 use Rattle.gated_cli.specs.declared.command.Cmd.{Cmd}
-use Rattle.gated_cli.specs.declared.command.Cmd.TheVariants.{Check, Init, Replay, Deliver}
+use Rattle.gated_cli.specs.declared.command.Cmd.TheVariants.{Check, Init, Replay, Deliver, Serve}
 use Rattle.gated_cli.specs.declared.run.fault.Fault.{Fault}
 use Rattle.gated_cli.specs.declared.run.fault.Fault.TheVariants as fault
 
@@ -115,6 +116,29 @@ DeliveryEnds fault.Write before after = DeliveryIsCut before after
 DeliveryEnds fault.Store before after = Delivers before after
 DeliveryEnds fault before after = IsEarly fault × (after ≡ before)
 
+-- the output failed within the line that names the port
+pub record AnnouncementIsCut (asked : ℕ) (before after : Streams) : Type 0 where
+  pub port : ℕ
+  pub bound : IsPortFor asked port
+  pub unread : after.left ≡ before.left
+  pub failed : after.output_failed ≡ true
+  pub written : WritesFront before.held after.held (listening_line port)
+
+-- a fault of serving over a gate: of the listener, of the output, or want of memory
+abbrev pub IsOfServing : Fault → Type 0
+IsOfServing fault.Listener = ⊤
+IsOfServing fault.Write = ⊤
+IsOfServing fault.NoMemory = ⊤
+IsOfServing _ = ⊥
+
+-- how serving over a file ends with a fault: nothing is printed where the port can't be had, and the line that names it
+-- where a connection can't be accepted, or all are served and the file can't be closed
+abbrev pub ServingEnds : ℕ → Fault → Streams → Streams → Type 0
+ServingEnds asked fault.Listener before after = (after ≡ before) ⊎ Announces asked before after
+ServingEnds asked fault.Write before after = AnnouncementIsCut asked before after
+ServingEnds asked fault.Store before after = Announces asked before after
+ServingEnds asked fault before after = IsEarly fault × (after ≡ before)
+
 -- a fault of making a file: an early one, or that the file can't be closed
 abbrev pub IsOfMaking : Fault → Type 0
 IsOfMaking fault.Store = ⊤
@@ -126,6 +150,7 @@ EndsBy fault (Check settings) before after = CheckEnds fault before after
 EndsBy fault (Init settings file) before after = IsOfMaking fault × (after ≡ before)
 EndsBy fault (Deliver settings file) before after = DeliveryEnds fault before after
 EndsBy fault (Replay settings status) before after = ReplayEnds status fault before after
+EndsBy fault (Serve settings file port count) before after = ServingEnds port fault before after
 
 -- the whole text is written, or a beginning where the writer has failed
 abbrev pub Tells : {E : Type 0} → (E → Option (List ℕ)) → Tap E → Tap E → List ℕ → Type 0

@@ -43,6 +43,7 @@ text_of fault.Unavailable = codes "E15 unavailable"
 text_of fault.Read = codes "I1 read"
 text_of fault.Write = codes "I2 write"
 text_of fault.NoMemory = codes "I3 no-memory"
+text_of fault.Listener = codes "I4 listen"
 text_of fault.SettingsFile = codes "I5 settings-file"
 text_of fault.Store = codes "I7 store"
 

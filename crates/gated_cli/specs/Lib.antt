@@ -2,6 +2,7 @@ pub mod CommandLine
 pub mod Faults
 pub mod Doing
 pub mod Ending
+pub mod Telling
 pub mod Program
 pub mod InMemory
 pub mod OverFile

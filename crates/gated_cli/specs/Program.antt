@@ -1,20 +1,22 @@
 -- What the program has done at each status.
-use Rattle.std.specs.Prelude.{◌≡◌, ◌⊎◌, true, ℕ, List, codes}
+use Rattle.std.specs.Prelude.{◌≡◌, ◌⊎◌, true, ℕ, List, Option, codes}
 use Rattle.clap.specs.Words.{Text}
 use Rattle.gate_types.specs.Tap.{has_failed}
 use Rattle.gate_types.specs.declared.tap.Tap.{Tap}
 use Rattle.gated_cli.specs.CommandLine.{Names, may_ask_help}
 use Rattle.gated_cli.specs.Doing.{Streams, Does}
-use Rattle.gated_cli.specs.Ending.{EndsBy}
+use Rattle.gated_cli.specs.Ending.{EndsBy, Tells}
+use Rattle.gated_cli.specs.Faults.{line_of}
+use Rattle.gated_cli.specs.Telling.{ToldBy, TellsBy}
 use Rattle.gated_cli.specs.declared.command.Cmd.{Cmd}
 use Rattle.gated_cli.specs.declared.run.fault.Fault.{Fault}
 use Rattle.gated_cli.specs.declared.run.fault.Fault.TheVariants as fault
 
--- the words name a command and it is done, or they ask for help and the input is left alone
-abbrev pub Obeys : List Text → Streams → Streams → Type 0
-Obeys words before after =
-    ((cmd : Cmd) × Names words cmd × Does cmd before after)
-    ⊎ ((may_ask_help words ≡ true) × (after.left ≡ before.left))
+-- the words name a command and it is done, or they ask for help, the input is left alone and nothing is told
+abbrev pub Obeys : {E : Type 0} → (E → Option (List ℕ)) → List Text → Streams → Streams → Tap E → Tap E → Type 0
+Obeys held words before after old new =
+    ((cmd : Cmd) × Names words cmd × Does cmd before after × ToldBy held cmd old new)
+    ⊎ ((may_ask_help words ≡ true) × (after.left ≡ before.left) × (new ≡ old))
 
 -- help couldn't be given: there was no memory for it, or the output failed
 abbrev pub HelpFails : {W : Type 0} → Fault → Tap W → Tap W → Type 0
@@ -26,11 +28,12 @@ abbrev pub HelpEndsBy : Fault → Streams → Streams → Type 0
 HelpEndsBy f before after = (after.left ≡ before.left)
     × (((f ≡ fault.NoMemory) × (after ≡ before)) ⊎ ((f ≡ fault.Write) × (after.output_failed ≡ true)))
 
--- the words name a command and it ends with this fault, or they ask for help and it can't be given
-abbrev pub FailsBy : Fault → List Text → Streams → Streams → Type 0
-FailsBy f words before after =
-    ((cmd : Cmd) × Names words cmd × EndsBy f cmd before after)
-    ⊎ ((may_ask_help words ≡ true) × HelpEndsBy f before after)
+-- the words name a command and it ends with this fault, or they ask for help and it can't be given; it is told
+abbrev pub FailsBy : {E : Type 0} → (E → Option (List ℕ)) → Fault → List Text → Streams → Streams → Tap E → Tap E
+    → Type 0
+FailsBy held f words before after old new =
+    ((cmd : Cmd) × Names words cmd × EndsBy f cmd before after × TellsBy held f cmd old new)
+    ⊎ ((may_ask_help words ≡ true) × HelpEndsBy f before after × Tells held old new (line_of f))
 
 -- what is told where there is no memory to tell more
 abbrev pub out_of_memory : List ℕ

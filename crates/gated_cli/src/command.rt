@@ -1,11 +1,13 @@
 //! The command line.
-ghost use Rattle.std.specs.Prelude.{◌≡◌, codes, IfOk, IfErr, map, is_some, true, false, option_map};
+ghost use Rattle.std.specs.Prelude.{◌≡◌, ◌≤◌, codes, IfOk, IfSome, IfErr, map, is_some, true, false, option_map, option_and_then};
 ghost use Rattle.clap.specs.Words.{app_of, rule_of, subcommand_rows_of, rows_of, found_of, first_of};
 ghost use Rattle.clap.specs.Words.{kind_of, takes};
 ghost use Rattle.clap.specs.declared.builder.command.Command.TheViews.{out-Command as fields_of};
-ghost use Rattle.gated_cli.specs.CommandLine.{gated, check, replay, over_file, settings_rule, is_set, said, says, said_of};
+ghost use Rattle.gated_cli.specs.CommandLine.{gated, check, replay, over_file, serve, settings_rule, file_rule};
+ghost use Rattle.gated_cli.specs.CommandLine.{number_rule, is_set, said, says, said_of, number_in};
 ghost use Rattle.gated_cli.specs.CommandLine.{asked, files_of, Names, IsExplained};
 
+use clap::builder::ValueParser;
 use clap::error::ErrorKind;
 use clap::{Arg, ArgAction, ArgMatches, Command, Error};
 use std::alloc::{AllocError, Global};
@@ -14,18 +16,43 @@ use std::convert::AsStr;
 #[cfg(test)]
 mod tests;
 
+/// The highest port.
+const MOST_PORT: u64 = 65_535;
+
+/// The most connections that a command serves.
+const MOST_COUNT: u64 = 1_000_000_000;
+
 /// What the program is asked to do.
 #[derive(Clone, Copy, Debug, PartialEq, Eq)]
 pub enum Cmd<'a> {
     /// Reads the settings of a file, and prints how many queues, projects and jobs they have.
-    Check { settings: &'a str },
+    Check {
+        settings: &'a str,
+    },
     /// Makes the tables of a gate that has seen no delivery, in a file.
-    Init { settings: &'a str, file: &'a str },
+    Init {
+        settings: &'a str,
+        file: &'a str,
+    },
     /// Answers the deliveries of standard input over the settings of a file, then prints the
     /// status if that is asked for.
-    Replay { settings: &'a str, status: bool },
+    Replay {
+        settings: &'a str,
+        status: bool,
+    },
     /// Answers the deliveries of standard input over the gate that a file keeps.
-    Deliver { settings: &'a str, file: &'a str },
+    Deliver {
+        settings: &'a str,
+        file: &'a str,
+    },
+    /// Serves so many connections over HTTP at this port of loopback, over the gate that a file keeps.
+    /// Port 0 takes a free one.
+    Serve {
+        settings: &'a str,
+        file: &'a str,
+        port: u16,
+        count: u64,
+    },
 }
 
 /// Why a command line asks for nothing to be done: it is refused, or it asks for help. It prints
@@ -70,7 +97,8 @@ fn app<'a>(alloc: Global) -> Result<Command<'a>, AllocError>
             alloc,
             "deliver",
             "Answers each line of standard input, a delivery, over the gate that FILE keeps.",
-        )?)
+        )?)?
+        .subcommand(serve(alloc)?)
 }
 
 /// The settings file, which each command names.
@@ -81,6 +109,37 @@ fn settings<'a>(alloc: Global) -> Arg<'a>
     Arg::new(alloc, "settings")
         .value_name("SETTINGS")
         .help("The settings file, a TOML document")
+        .required(true)
+}
+
+/// The gate's file, the word behind.
+fn file<'a>(alloc: Global) -> Arg<'a>
+    ensures rule { rule_of result ≡ file_rule }
+    ensures local { result.global ≡ false }
+{
+    Arg::new(alloc, "file")
+        .value_name("FILE")
+        .help("The gate's file, a SQLite database that `gated init` made")
+        .required(true)
+}
+
+/// An option whose value is a number in a range, which has to be given.
+fn number_option<'a>(
+    alloc: Global,
+    name: &'static str,
+    value_name: &'static str,
+    help: &'static str,
+    least: u64,
+    most: u64,
+) -> Arg<'a>
+    ensures rule { rule_of result ≡ number_rule name.now least most }
+    ensures local { result.global ≡ false }
+{
+    Arg::new(alloc, name)
+        .long(name)
+        .value_name(value_name)
+        .help(help)
+        .value_parser(ValueParser::unsigned(least, most))
         .required(true)
 }
 
@@ -100,14 +159,10 @@ fn over_file<'a>(
 ) -> Result<Command<'a>, AllocError>
     ensures { IfOk result (λ c. (app_of c ≡ over_file name.now) × ((fields_of c).has_globals ≡ false)) }
 {
-    let file = Arg::new(alloc, "file")
-        .value_name("FILE")
-        .help("The gate's file, a SQLite database that `gated init` made")
-        .required(true);
     Command::new(alloc, name)
         .about(about)
         .arg(settings(alloc))?
-        .arg(file)
+        .arg(file(alloc))
 }
 
 fn replay<'a>(alloc: Global) -> Result<Command<'a>, AllocError>
@@ -121,6 +176,34 @@ fn replay<'a>(alloc: Global) -> Result<Command<'a>, AllocError>
         .about("Answers each line of standard input, a delivery, by a line on standard output.")
         .arg(settings(alloc))?
         .arg(status)
+}
+
+fn serve<'a>(alloc: Global) -> Result<Command<'a>, AllocError>
+    ensures { IfOk result (λ c. (app_of c ≡ serve) × ((fields_of c).has_globals ≡ false)) }
+{
+    let port = number_option(
+        alloc,
+        "port",
+        "P",
+        "The port of 127.0.0.1; 0 takes a free one",
+        0,
+        MOST_PORT,
+    );
+    let count = number_option(
+        alloc,
+        "count",
+        "N",
+        "How many connections are served, one after another",
+        1,
+        MOST_COUNT,
+    );
+    over_file(
+        alloc,
+        "serve",
+        "Answers requests over HTTP, one a connection, over the gate that FILE keeps.",
+    )?
+    .arg(port)?
+    .arg(count)
 }
 
 fn read<'a>(matches: &ArgMatches<'a>) -> Option<Cmd<'a>>
@@ -143,6 +226,8 @@ fn entered<'a>(name: &str, inner: &ArgMatches<'a>) -> Option<Cmd<'a>>
         replaying(inner)
     } else if name == "deliver" {
         delivering(inner)
+    } else if name == "serve" {
+        serving(inner)
     } else {
         None
     }
@@ -183,6 +268,20 @@ fn delivering<'a>(inner: &ArgMatches<'a>) -> Option<Cmd<'a>>
     Some(Cmd::Deliver { settings, file })
 }
 
+fn serving<'a>(inner: &ArgMatches<'a>) -> Option<Cmd<'a>>
+    ensures { said result ≡ said_of (codes "serve", rows_of (found_of inner.now)) }
+{
+    let (settings, file) = files(inner)?;
+    let port = number(inner, "port", 0, MOST_PORT)?;
+    let count = number(inner, "count", 1, MOST_COUNT)?;
+    Some(Cmd::Serve {
+        settings,
+        file,
+        port: port as u16,
+        count,
+    })
+}
+
 /// The settings file, and the gate's file.
 fn files<'a>(inner: &ArgMatches<'a>) -> Option<(&'a str, &'a str)>
     ensures { option_map (λ p. (p.0.now, p.1.now)) result ≡ files_of (rows_of (found_of inner.now)) }
@@ -205,5 +304,27 @@ fn is_set(inner: &ArgMatches<'_>, id: &str) -> bool
     match value(inner, id) {
         Some(text) => text == "true",
         None => false,
+    }
+}
+
+/// The number that an option was given, if it lies in its range.
+fn number(inner: &ArgMatches<'_>, id: &str, least: u64, most: u64) -> Option<u64>
+    ensures value { result ≡ option_and_then (number_in least most) (first_of id.now (rows_of (found_of inner.now))) }
+    ensures range { IfSome result (λ n. n ≤ most) }
+{
+    match value(inner, id) {
+        Some(text) => number_of(text, least, most),
+        None => None,
+    }
+}
+
+/// The number that a text writes, if it lies in a range.
+fn number_of(text: &str, least: u64, most: u64) -> Option<u64>
+    ensures value { result ≡ number_in least most text.now }
+    ensures range { IfSome result (λ n. n ≤ most) }
+{
+    match text.parse::<u64>() {
+        Ok(number) if least <= number && number <= most => Some(number),
+        _ => None,
     }
 }

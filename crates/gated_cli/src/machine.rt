@@ -11,10 +11,11 @@ use std::io::{Read, Write};
 
 /// The gates' files of a machine, by their paths.
 pub trait GateFiles {
-    ghost use Rattle.std.specs.Prelude.{◌≡◌, IfErr, OnOk, false};
+    ghost use Rattle.std.specs.Prelude.{◌≡◌, ℕ, Bool, List, Option, IfErr, OnOk, false};
     ghost use Rattle.gate_types.specs.Tap.{has_failed};
-    ghost use Rattle.gated_cli.specs.Doing.{Delivers, streams};
-    ghost use Rattle.gated_cli.specs.Ending.{DeliveryEnds, IsOfMaking};
+    ghost use Rattle.gated_cli.specs.Doing.{Announces, Delivers, beside, streams};
+    ghost use Rattle.gated_cli.specs.Ending.{DeliveryEnds, IsOfMaking, ServingEnds};
+    ghost use Rattle.gated_cli.specs.Telling.{TellsUpTo};
 
     /// Makes the tables of a new gate in a file, which is made where it isn't there. `File` as for `SqlBook::create`,
     /// and where it can't be opened; `Store` where it can't be closed.
@@ -39,6 +40,27 @@ pub trait GateFiles {
         ensures err { IfErr result (λ fault. DeliveryEnds fault
             (streams R.remaining W.contents input.old output.old)
             (streams R.remaining W.contents input.new output.new)) };
+
+    /// Prints the line that names the port, then serves so many connections there over the gate that a file keeps.
+    /// `File` as for `deliver`; `Listener` where the port can't be bound, and nothing is printed, or where a connection
+    /// can't be accepted; `NoMemory` and `Write` where the line isn't printed whole; `Store` where all are served and
+    /// the file can't be closed. A fault of a connection is told on `errors`, and the next is served.
+    fn serve<W: Write, E: Write>(
+        &self,
+        file: &str,
+        config: Config,
+        port: u16,
+        count: u64,
+        output: &mut Tap<W>,
+        errors: &mut Tap<E>,
+    ) -> Result<(), Fault>
+        requires writer { has_failed output.old ≡ false }
+        requires teller { has_failed errors.old ≡ false }
+        ensures told { TellsUpTo E.contents count errors.old errors.new }
+        ensures ok { OnOk result ((left : Option (List ℕ)) → (failed : Bool) → Announces port
+            (beside W.contents left failed output.old) (beside W.contents left failed output.new)) }
+        ensures err { IfErr result (λ fault. (left : Option (List ℕ)) → (failed : Bool) → ServingEnds port fault
+            (beside W.contents left failed output.old) (beside W.contents left failed output.new)) };
 }
 
 impl GateFiles for HostRuntime {
@@ -57,6 +79,20 @@ impl GateFiles for HostRuntime {
     ) -> Result<(), Fault> {
         let conn = present(self, file)?;
         let (conn, done) = over_file::deliver(self.alloc(), conn, config, input, output);
+        closed(conn, done)
+    }
+
+    fn serve<W: Write, E: Write>(
+        &self,
+        file: &str,
+        config: Config,
+        port: u16,
+        count: u64,
+        output: &mut Tap<W>,
+        errors: &mut Tap<E>,
+    ) -> Result<(), Fault> {
+        let conn = present(self, file)?;
+        let (conn, done) = over_file::serve(self, conn, config, port, count, output, errors);
         closed(conn, done)
     }
 }

@@ -27,7 +27,8 @@ const REFUSED: u8 = 2;
 
 /// Does what the words ask for, of which the first is the program's name, and gives the status
 /// that the program ends with: 0 where it is done, or help is given; 1 after a fault; 2 where the
-/// words are refused, which `errors` is told.
+/// words are refused, which `errors` is told. A fault is told on `errors` too, and so are those of the
+/// connections of a server.
 pub fn program<F: Files + GateFiles + AllocGlobal, S: AsStr, R: Read, W: Write, E: Write>(
     rt: &F,
     words: &[S],
@@ -39,14 +40,12 @@ pub fn program<F: Files + GateFiles + AllocGlobal, S: AsStr, R: Read, W: Write, 
     requires writer { has_failed output.old ≡ false }
     requires teller { has_failed errors.old ≡ false }
     ensures status { result ≤ 2 }
-    ensures done { result ≡ 0 → (errors.new ≡ errors.old) × Obeys (map S.text words.now)
+    ensures done { result ≡ 0 → Obeys E.contents (map S.text words.now)
         (streams R.remaining W.contents input.old output.old)
-        (streams R.remaining W.contents input.new output.new) }
-    ensures fault { result ≡ 1 → (fault : Fault)
-        × Tells E.contents errors.old errors.new (line_of fault)
-        × FailsBy fault (map S.text words.now)
+        (streams R.remaining W.contents input.new output.new) errors.old errors.new }
+    ensures fault { result ≡ 1 → (fault : Fault) × FailsBy E.contents fault (map S.text words.now)
         (streams R.remaining W.contents input.old output.old)
-        (streams R.remaining W.contents input.new output.new) }
+        (streams R.remaining W.contents input.new output.new) errors.old errors.new }
     ensures refused { is_refused (map S.text words.now) ≡ true → result ≡ 2 }
     ensures untouched { result ≡ 2 → (input.new ≡ input.old) × (output.new ≡ output.old) }
     ensures told { result ≡ 2 → may_be_refused (map S.text words.now) ≡ false

@@ -1,19 +1,23 @@
 //! Does what a command line asks for.
 ghost use Rattle.std.specs.Prelude.{◌≡◌, ◌⊎◌, ◌≤◌, ℕ, List, Option, Bool, OnOk, IfOk, IfErr, length, false, true};
 ghost use Rattle.gate_types.specs.Tap.{has_failed, Took, TookFront};
-ghost use Rattle.gated_cli.specs.Doing.{Does, Checks, Delivers, Replays, HasSettings, beside, streams, settings_limit, status_of};
-ghost use Rattle.gated_cli.specs.Ending.{EndsBy, CheckEnds, DeliveryEnds, ReplayEnds, IsEarly, IsOfMaking, Tells};
+ghost use Rattle.gated_cli.specs.Doing.{Does, Announces, Checks, Delivers, Replays, HasSettings, beside, streams, settings_limit, status_of};
+ghost use Rattle.gated_cli.specs.Ending.{EndsBy, CheckEnds, DeliveryEnds, ReplayEnds, ServingEnds, IsEarly, IsOfMaking, Tells};
 ghost use Rattle.gated_cli.specs.Faults.{line_of};
 ghost use Rattle.gated_cli.specs.InMemory.{IsGate};
+ghost use Rattle.gated_cli.specs.Telling.{ToldBy, TellsBy, TellsUpTo};
 ghost use Rattle.gate_core.specs.Gated.{Gated, opened};
 
 mod check;
 mod fault;
 #[cfg(test)]
 mod file_tests;
+pub mod listening;
 #[cfg(test)]
 mod memory_tests;
 pub mod over_file;
+#[cfg(test)]
+mod serve_tests;
 #[cfg(test)]
 mod tests;
 
@@ -41,7 +45,7 @@ const SETTINGS_LIMIT: usize = 1_048_576;
 /// Does a command over this input and output, and gives the status that the program ends with: 0
 /// where it is done, refused deliveries included; 1 after a fault, which is told on `errors` by
 /// one line: `gated: ` and the fault's text. A fault of the settings leaves input and output as
-/// they were.
+/// they were. Of a server the faults of its connections are told before that, a line each.
 pub fn run<F: Files + GateFiles + AllocGlobal, R: Read, W: Write, E: Write>(
     rt: &F,
     cmd: Cmd<'_>,
@@ -53,36 +57,46 @@ pub fn run<F: Files + GateFiles + AllocGlobal, R: Read, W: Write, E: Write>(
     requires writer { has_failed output.old ≡ false }
     requires teller { has_failed errors.old ≡ false }
     ensures status { (result ≡ 0) ⊎ (result ≡ 1) }
-    ensures done { result ≡ 0 → (errors.new ≡ errors.old) × Does cmd.entry
+    ensures done { result ≡ 0 → ToldBy E.contents cmd.entry errors.old errors.new × Does cmd.entry
         (streams R.remaining W.contents input.old output.old)
         (streams R.remaining W.contents input.new output.new) }
     // all of the fault's line, or a beginning where the writer has failed
     ensures fault { result ≡ 1 → (fault : Fault)
-        × Tells E.contents errors.old errors.new (line_of fault)
+        × TellsBy E.contents fault cmd.entry errors.old errors.new
         × EndsBy fault cmd.entry
         (streams R.remaining W.contents input.old output.old)
         (streams R.remaining W.contents input.new output.new) }
 {
-    ended(perform(rt, cmd, input, output), errors)
+    ended(perform(rt, cmd, input, output, errors), errors)
 }
 
-/// Tells the fault, if there is one, and gives the status.
+/// Tells the fault, if there is one and the errors haven't failed, and gives the status.
 pub fn ended<E: Write>(done: Result<(), Fault>, errors: &mut Tap<E>) -> u8
-    requires { has_failed errors.old ≡ false }
     ensures done { OnOk done ((result ≡ 0) × (errors.new ≡ errors.old)) }
     ensures fault { IfErr done (λ fault. (result ≡ 1)
-        × Tells E.contents errors.old errors.new (line_of fault)) }
+        × (has_failed errors.old ≡ false → Tells E.contents errors.old errors.new (line_of fault))) }
+    ensures silent { has_failed errors.old ≡ true → errors.new ≡ errors.old }
 {
     match done {
         Ok(()) => 0,
         Err(fault) => {
-            let _ = tell(fault, errors);
+            tell(fault, errors);
             1
         }
     }
 }
 
-fn tell<E: Write>(fault: Fault, errors: &mut Tap<E>) -> Result<(), Failed>
+/// Tells the fault, unless one before it couldn't be told.
+fn tell<E: Write>(fault: Fault, errors: &mut Tap<E>)
+    ensures told { has_failed errors.old ≡ false → Tells E.contents errors.old errors.new (line_of fault) }
+    ensures silent { has_failed errors.old ≡ true → errors.new ≡ errors.old }
+{
+    if !errors.failed() {
+        let _ = write_fault(fault, errors);
+    }
+}
+
+fn write_fault<E: Write>(fault: Fault, errors: &mut Tap<E>) -> Result<(), Failed>
     requires { has_failed errors.old ≡ false }
     ensures { Tells E.contents errors.old errors.new (line_of fault) }
 {
@@ -91,14 +105,17 @@ fn tell<E: Write>(fault: Fault, errors: &mut Tap<E>) -> Result<(), Failed>
     Ok(())
 }
 
-fn perform<F: Files + GateFiles + AllocGlobal, R: Read, W: Write>(
+fn perform<F: Files + GateFiles + AllocGlobal, R: Read, W: Write, E: Write>(
     rt: &F,
     cmd: Cmd<'_>,
     input: &mut Tap<R>,
     output: &mut Tap<W>,
+    errors: &mut Tap<E>,
 ) -> Result<(), Fault>
     requires reader { has_failed input.old ≡ false }
     requires writer { has_failed output.old ≡ false }
+    requires teller { has_failed errors.old ≡ false }
+    ensures told { ToldBy E.contents cmd.entry errors.old errors.new }
     ensures ok { OnOk result (Does cmd.entry
         (streams R.remaining W.contents input.old output.old)
         (streams R.remaining W.contents input.new output.new)) }
@@ -111,6 +128,12 @@ fn perform<F: Files + GateFiles + AllocGlobal, R: Read, W: Write>(
         Cmd::Init { settings, file } => made(rt, settings, file)?,
         Cmd::Replay { settings, status } => replayed(rt, settings, status, input, output)?,
         Cmd::Deliver { settings, file } => delivered(rt, settings, file, input, output)?,
+        Cmd::Serve {
+            settings,
+            file,
+            port,
+            count,
+        } => served(rt, settings, file, port, count, output, errors)?,
     }
     Ok(())
 }
@@ -216,6 +239,28 @@ fn delivered<F: Files + GateFiles + AllocGlobal, R: Read, W: Write>(
 {
     let config = settings_of(rt, settings)?;
     rt.deliver(file, config, input, output)
+}
+
+/// Serves connections over the gate that a file keeps.
+fn served<F: Files + GateFiles + AllocGlobal, W: Write, E: Write>(
+    rt: &F,
+    settings: &str,
+    file: &str,
+    port: u16,
+    count: u64,
+    output: &mut Tap<W>,
+    errors: &mut Tap<E>,
+) -> Result<(), Fault>
+    requires writer { has_failed output.old ≡ false }
+    requires teller { has_failed errors.old ≡ false }
+    ensures told { TellsUpTo E.contents count errors.old errors.new }
+    ensures ok { OnOk result ((left : Option (List ℕ)) → (failed : Bool) → Announces port
+        (beside W.contents left failed output.old) (beside W.contents left failed output.new)) }
+    ensures err { IfErr result (λ fault. (left : Option (List ℕ)) → (failed : Bool) → ServingEnds port fault
+        (beside W.contents left failed output.old) (beside W.contents left failed output.new)) }
+{
+    let config = settings_of(rt, settings)?;
+    rt.serve(file, config, port, count, output, errors)
 }
 
 fn settings_of<F: Files + GateFiles + AllocGlobal>(rt: &F, path: &str) -> Result<Config, Fault>

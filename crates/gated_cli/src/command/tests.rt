@@ -38,6 +38,79 @@ fn status_may_stand_on_either_side(rt: HostRuntime) -> Result<(), Fail> {
 }
 
 #[test]
+fn serve_names_its_port_and_its_count(rt: HostRuntime) -> Result<(), Fail> {
+    let cases: [(&str, u16, &str, u64); 3] = [
+        ("0", 0, "1", 1),
+        ("8080", 8080, "30", 30),
+        ("65535", 65_535, "1000000000", 1_000_000_000),
+    ];
+    for (port_word, port, count_word, count) in cases {
+        let words = [
+            "gated", "serve", "a", "b", "--port", port_word, "--count", count_word,
+        ];
+        let wanted = Cmd::Serve {
+            settings: "a",
+            file: "b",
+            port,
+            count,
+        };
+        assert_eq!(rt; command(rt.alloc(), words.as_slice())?, wanted);
+    }
+    Ok(())
+}
+
+#[test]
+fn a_number_that_is_missing_or_out_of_range_is_refused(rt: HostRuntime) {
+    let lines: [(&[&str], ErrorKind); 7] = [
+        (
+            &["gated", "serve", "a", "b", "--count", "1"],
+            ErrorKind::MissingRequiredArgument,
+        ),
+        (
+            &["gated", "serve", "a", "b", "--port", "0"],
+            ErrorKind::MissingRequiredArgument,
+        ),
+        (
+            &[
+                "gated", "serve", "a", "b", "--port", "65536", "--count", "1",
+            ],
+            ErrorKind::ValueValidation,
+        ),
+        (
+            &["gated", "serve", "a", "b", "--port", "http", "--count", "1"],
+            ErrorKind::ValueValidation,
+        ),
+        (
+            &["gated", "serve", "a", "b", "--port", "0", "--count", "0"],
+            ErrorKind::ValueValidation,
+        ),
+        (
+            &[
+                "gated",
+                "serve",
+                "a",
+                "b",
+                "--port",
+                "0",
+                "--count",
+                "1000000001",
+            ],
+            ErrorKind::ValueValidation,
+        ),
+        (
+            &["gated", "serve", "a", "b", "--port", "0", "--count", "many"],
+            ErrorKind::ValueValidation,
+        ),
+    ];
+    for (words, kind) in lines {
+        match command(rt.alloc(), words) {
+            Ok(cmd) => assert!(rt; false, "{words:?} gives {cmd:?}"),
+            Err(usage) => assert_eq!(rt; usage.kind(), kind, "{words:?}"),
+        }
+    }
+}
+
+#[test]
 fn a_bad_line_is_refused(rt: HostRuntime) {
     let lines: [(&[&str], ErrorKind); 8] = [
         (&["gated"], ErrorKind::MissingSubcommand),

@@ -75,8 +75,8 @@ fn a_fault_is_told_on_the_errors(rt: HostRuntime) {
 fn a_refused_line_is_told_on_the_errors(rt: HostRuntime) {
     let cases: [(&[&str], &str); 4] = [
         (
-            &["gated", "merge"],
-            "error: unrecognized subcommand 'merge'\n\nUsage: gated <COMMAND>\n\nFor more information, try '--help'.\n",
+            &["gated", "land"],
+            "error: unrecognized subcommand 'land'\n\nUsage: gated <COMMAND>\n\nFor more information, try '--help'.\n",
         ),
         (
             &["gated", "check"],

@@ -4,6 +4,7 @@ ghost use Rattle.gated_cli.specs.Faults.{text_of, file_text, settings_text};
 
 use gate_config::ConfigFault;
 use gate_core::fault::IoFault;
+use gate_http::connections::NotListening;
 use gate_sql::open_fault::OpenFault;
 use gate_types::tap::Failed;
 use std::alloc::AllocError;
@@ -23,6 +24,8 @@ pub enum Fault {
     Write,
     /// Memory was refused before anything was done.
     NoMemory,
+    /// The port can't be listened at, or a connection there can't be accepted.
+    Listener,
     /// The settings file can't be read, or is over the limit.
     SettingsFile,
     /// The store failed.
@@ -41,6 +44,7 @@ impl Fault {
             Fault::Read => "I1 read",
             Fault::Write => "I2 write",
             Fault::NoMemory => "I3 no-memory",
+            Fault::Listener => "I4 listen",
             Fault::SettingsFile => "I5 settings-file",
             Fault::Store => "I7 store",
         }
@@ -118,5 +122,15 @@ impl From<Failed> for Fault {
 
     fn from(_: Failed) -> Fault {
         Fault::Write
+    }
+}
+
+impl From<NotListening> for Fault {
+    ghost use Rattle.gated_cli.specs.declared.run.fault.Fault.TheVariants.{Listener};
+
+    ghost from_gives = { λ _ f. f ≡ Listener };
+
+    fn from(_: NotListening) -> Fault {
+        Fault::Listener
     }
 }

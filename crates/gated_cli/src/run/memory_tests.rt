@@ -132,6 +132,18 @@ impl GateFiles for Starved<'_> {
     ) -> Result<(), Fault> {
         Err(Fault::NoMemory)
     }
+
+    fn serve<W: io::Write, E: io::Write>(
+        &self,
+        _file: &str,
+        _config: Config,
+        _port: u16,
+        _count: u64,
+        _output: &mut Tap<W>,
+        _errors: &mut Tap<E>,
+    ) -> Result<(), Fault> {
+        Err(Fault::NoMemory)
+    }
 }
 
 #[test]
@@ -150,6 +162,12 @@ fn a_settings_file_without_memory_ends_the_command(rt: HostRuntime) {
         Cmd::Deliver {
             settings,
             file: "run_starved.gate",
+        },
+        Cmd::Serve {
+            settings,
+            file: "run_starved.gate",
+            port: 0,
+            count: 1,
         },
     ];
     for cmd in commands {

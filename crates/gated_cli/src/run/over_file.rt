@@ -1,18 +1,24 @@
 //! The gate over a file.
-ghost use Rattle.std.specs.Prelude.{◌≡◌, ◌≢◌, ℕ, List, OnOk, OnErr, IfErr, IsErrOf, true, false, length};
+ghost use Rattle.std.specs.Prelude.{◌≡◌, ◌≢◌, ℕ, Bool, List, Option, None, OnOk, OnErr, IfErr, IsErrOf, true, false, length};
 ghost use Rattle.sqlite.specs.Held.{state};
 ghost use Rattle.sqlite.specs.State.{HasCleanDisk};
 ghost use Rattle.gate_types.specs.Once.{empty};
+ghost use Rattle.gate_types.specs.SettingsText.{settings_text};
 ghost use Rattle.gate_types.specs.Tap.{inside, has_failed, Gave, IsReadOut, Took};
 ghost use Rattle.gate_core.specs.Lines.{whole_lines, lines_of, ReadFor};
 ghost use Rattle.gate_core.specs.Replies.{Replayed, Cut};
 ghost use Rattle.gate_queries.specs.Finds.{Stays};
 ghost use Rattle.gate_schema.specs.Schema.{schema_with};
 ghost use Rattle.gate_sql.specs.Held.{ShowsFor};
-ghost use Rattle.gated_cli.specs.Ending.{IsOfFile};
-ghost use Rattle.gated_cli.specs.OverFile.{GoesOver};
+ghost use Rattle.gate_sql.specs.Opens.{IsJudged, IsMeta, with_meta};
+ghost use Rattle.gate_http.specs.Connections.{IsCalled};
+ghost use Rattle.gated_cli.specs.Doing.{Announces, beside};
+ghost use Rattle.gated_cli.specs.Ending.{IsOfFile, ServingEnds};
+ghost use Rattle.gated_cli.specs.OverFile.{GoesOver, IsOfServingOver, file_fault};
+ghost use Rattle.gated_cli.specs.Telling.{TellsUpTo};
 
 use crate::run::fault::Fault;
+use crate::run::listening;
 use gate_core::gate::Gate;
 use gate_core::replay::replay;
 use gate_sql::book::SqlBook;
@@ -21,6 +27,7 @@ use gate_types::tap::Tap;
 use sqlite::{Alter, Connection};
 use std::alloc::Global;
 use std::io::{Read, Write};
+use std::net::Net;
 
 /// Makes the tables of a gate that has seen no delivery, and hands the connection back.
 pub fn make<S: Alter + Drop>(
@@ -87,4 +94,41 @@ pub fn deliver<S: Alter + Drop, R: Read, W: Write>(
         Ok(_) => (conn, Ok(())),
         Err(fault) => (conn, Err(Fault::from(fault))),
     }
+}
+
+/// Serves so many connections at this port of loopback over the gate that the tables stand for, once the line that names
+/// the port is printed, and hands the connection back. The gate is opened before the port is bound.
+pub fn serve<M: Net + AllocGlobal, S: Alter + Drop, W: Write, E: Write>(
+    rt: &M,
+    conn: Connection<S>,
+    config: Config,
+    port: u16,
+    count: u64,
+    output: &mut Tap<W>,
+    errors: &mut Tap<E>,
+) -> (Connection<S>, Result<(), Fault>)
+    requires writer { has_failed output.old ≡ false }
+    requires teller { has_failed errors.old ≡ false }
+    // each connection is at most one call
+    ensures gate { file_fault result.1 ≡ None →
+        GoesOver (state S.Store conn) (state S.Store result.0) config (IsCalled count) }
+    // whether the file is opened is decided by the file alone, and not by the port
+    ensures judged { (tables : _) (indexes : _) (version kept : _) →
+        (state S.Store conn).now.schema ≡ with_meta tables indexes →
+        IsMeta (state S.Store conn).now.trees version kept → HasCleanDisk (state S.Store result.0) →
+        IsJudged (file_fault result.1) version kept (settings_text config) }
+    ensures told { TellsUpTo E.contents count errors.old errors.new }
+    ensures ok { OnOk result.1 ((left : Option (List ℕ)) → (failed : Bool) → Announces port
+        (beside W.contents left failed output.old) (beside W.contents left failed output.new)) }
+    ensures err { IfErr result.1 (λ fault. IsOfServingOver fault
+        × ((left : Option (List ℕ)) → (failed : Bool) → ServingEnds port fault
+        (beside W.contents left failed output.old) (beside W.contents left failed output.new))) }
+{
+    let book = match SqlBook::open(rt.alloc(), conn, &config) {
+        Ok(book) => book,
+        Err((fault, conn)) => return (conn, Err(Fault::File(fault))),
+    };
+    let mut gate = Gate::new(config, book);
+    let done = listening::serve(rt, &mut gate, port, count, output, errors);
+    (gate.into_book().into_conn(), done)
 }

@@ -251,6 +251,7 @@ fn each_fault_has_its_line(rt: HostRuntime) {
         (Fault::Read, "gated: I1 read\n"),
         (Fault::Write, "gated: I2 write\n"),
         (Fault::NoMemory, "gated: I3 no-memory\n"),
+        (Fault::Listener, "gated: I4 listen\n"),
         (Fault::SettingsFile, "gated: I5 settings-file\n"),
         (Fault::Store, "gated: I7 store\n"),
     ];

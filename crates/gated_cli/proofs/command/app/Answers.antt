@@ -2,7 +2,7 @@ use Rattle.std.proofs.Common.{ap, ap₂, true, ◌≡◌, ◌∙◌}
 use Rattle.std.proofs.lemmas.Result.{IfOk-weaker}
 use Rattle.clap.specs.Simple.{app_of_fields}
 use Rattle.clap.specs.Words.{App, app_of, with_subcommand}
-use Rattle.gated_cli.specs.CommandLine.{bare, check, init, replay}
+use Rattle.gated_cli.specs.CommandLine.{bare, check, deliver, init, replay}
 use Rattle.gated_cli.proofs.command.app.Goals as goal
 
 -- the program that needs a command
@@ -25,4 +25,6 @@ returns c =
     c.in_ok-subcommand-2.ensures.shape c.in_ok-over_file.ensures.1 ∙ ap₂ with_subcommand checking (ap (λ (a : App). a.top) c.in_ok-over_file.ensures.0) in
     let replaying : app_of c.in_ok-subcommand-3.field-0 ≡ with_subcommand (with_subcommand with_check init.top) replay.top =
     c.in_ok-subcommand-3.ensures.shape c.in_ok-replay.ensures.1 ∙ ap₂ with_subcommand making (ap (λ (a : App). a.top) c.in_ok-replay.ensures.0) in
-    IfOk-weaker c.subcommand-4.result _ _ (λ r h. h.shape c.in_ok-over_file-2.ensures.1 ∙ ap₂ with_subcommand replaying (ap (λ (a : App). a.top) c.in_ok-over_file-2.ensures.0)) c.subcommand-4.ensures
+    let delivering : app_of c.in_ok-subcommand-4.field-0 ≡ with_subcommand (with_subcommand (with_subcommand with_check init.top) replay.top) deliver.top =
+    c.in_ok-subcommand-4.ensures.shape c.in_ok-over_file-2.ensures.1 ∙ ap₂ with_subcommand replaying (ap (λ (a : App). a.top) c.in_ok-over_file-2.ensures.0) in
+    IfOk-weaker c.subcommand-5.result _ _ (λ r h. h.shape c.in_ok-serve.ensures.1 ∙ ap₂ with_subcommand delivering (ap (λ (a : App). a.top) c.in_ok-serve.ensures.0)) c.subcommand-5.ensures

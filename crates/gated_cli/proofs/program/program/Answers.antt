@@ -7,7 +7,7 @@ use Rattle.gated_cli.proofs.program.program.Goals as goal
 pub returns-in-Err-clause-done : goal.returns-in-Err-clause-done
 returns-in-Err-clause-done g c ended = elim (help_or_not (kind_of c.in-Err.usage)) [
   | inl help ↦ elim (c.explained.ensures.help help) [
-    | inl given ↦ (given.1, inr (help_is_found (map g.S.AsStr.text c.args.words.now) c.in-Err.usage c.in-Err.ensures.kinds help, refl))
+    | inl given ↦ inr (help_is_found (map g.S.AsStr.text c.args.words.now) c.in-Err.usage c.in-Err.ensures.kinds help, refl, given.1)
     | inr failed ↦ absurd (omega (arith, sym ended ∙ failed.0))
   ]
   | inr other ↦ absurd (omega (arith, sym ended ∙ (c.explained.ensures.refused other).0))
@@ -19,7 +19,6 @@ returns-in-Err-clause-fault g c ended = elim (help_or_not (kind_of c.in-Err.usag
     | inl given ↦ absurd (omega (arith, sym given.0 ∙ ended))
     | inr failed ↦ (
       failed.1,
-      failed.2,
       inr (
         help_is_found (map g.S.AsStr.text c.args.words.now) c.in-Err.usage c.in-Err.ensures.kinds help,
         (
@@ -29,6 +28,7 @@ returns-in-Err-clause-fault g c ended = elim (help_or_not (kind_of c.in-Err.usag
             | inr write ↦ inr write
           ],
         ),
+        failed.2,
       ),
     )
   ]

@@ -2,7 +2,7 @@ use Rattle.std.proofs.Common.{◌++◌, [], ◌∷◌, inr, codes}
 use Rattle.gate_types.proofs.TapLemmas.{writes_later}
 use Rattle.gated_cli.proofs.TellLemmas.{writes_sooner}
 use Rattle.gated_cli.specs.Faults.{text_of}
-use Rattle.gated_cli.proofs.run.tell.Goals as goal
+use Rattle.gated_cli.proofs.run.write_fault.Goals as goal
 
 pub returns-in_err-write_all : goal.returns-in_err-write_all
 returns-in_err-write_all g c = inr (writes_sooner _ _ (codes "gated: ") (text_of c.args.fault ++ 10 ∷ []) c.in_err-write_all.ensures.err, c.in_err-write_all.ensures.failed)

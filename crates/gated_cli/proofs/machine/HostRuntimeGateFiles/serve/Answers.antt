@@ -1,0 +1,15 @@
+use Rattle.std.proofs.Common.{refl}
+use Rattle.gated_cli.specs.Doing.{beside}
+use Rattle.gated_cli.proofs.FileLemmas.{serving_ends}
+use Rattle.gated_cli.proofs.TalkLemmas.{none_so_far}
+use Rattle.gated_cli.proofs.machine.HostRuntimeGateFiles.serve.Goals as goal
+
+pub returns-clause-err : goal.returns-clause-err
+returns-clause-err g c = serving_ends c.args.port c.serve-conn.result.1 c.closed.result
+    (λ left failed. beside g.W.Write.contents left failed c.args.output.now)
+    (λ left failed. beside g.W.Write.contents left failed c.serve-conn.new.output)
+    c.closed.ensures.fault c.closed.ensures.store c.serve-conn.ensures.ok c.serve-conn.ensures.err
+
+pub returns-in_err-conn-clause-told : goal.returns-in_err-conn-clause-told
+returns-in_err-conn-clause-told g c =
+    none_so_far g.E.Write.contents c.args.count c.args.errors.now c.args.errors.now c.requires.teller refl

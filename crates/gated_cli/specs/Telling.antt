@@ -1,0 +1,31 @@
+-- What is told on the errors, beside what a command reads and writes.
+use Rattle.std.specs.Prelude.{◌≡◌, ◌≤◌, ℕ, List, ◌++◌, length, Option}
+use Rattle.gate_types.specs.declared.tap.Tap.{Tap}
+use Rattle.gate_core.specs.declared.fault.IoFault.{IoFault}
+use Rattle.gate_http.specs.Connections.{AreTold, fault_lines}
+use Rattle.gated_cli.specs.Ending.{Tells}
+use Rattle.gated_cli.specs.Faults.{line_of}
+use Rattle.gated_cli.specs.declared.command.Cmd.{Cmd}
+use Rattle.gated_cli.specs.declared.command.Cmd.TheVariants.{Check, Init, Replay, Deliver, Serve}
+use Rattle.gated_cli.specs.declared.run.fault.Fault.{Fault}
+
+-- at most so many faults of connections are told, by a line each; a writer that failed took a beginning
+abbrev pub TellsUpTo : {E : Type 0} → (E → Option (List ℕ)) → ℕ → Tap E → Tap E → Type 0
+TellsUpTo held most old new = (faults : List IoFault) × (length faults ≤ most) × AreTold held old new faults
+
+-- what a command has told that is done: nothing, but of a server the faults of connections
+abbrev pub ToldBy : {E : Type 0} → (E → Option (List ℕ)) → Cmd → Tap E → Tap E → Type 0
+ToldBy held (Check settings) old new = new ≡ old
+ToldBy held (Init settings file) old new = new ≡ old
+ToldBy held (Replay settings status) old new = new ≡ old
+ToldBy held (Deliver settings file) old new = new ≡ old
+ToldBy held (Serve settings file port count) old new = TellsUpTo held count old new
+
+-- what a command has told that ended with a fault: the fault's line, and of a server before it the faults of connections
+abbrev pub TellsBy : {E : Type 0} → (E → Option (List ℕ)) → Fault → Cmd → Tap E → Tap E → Type 0
+TellsBy held fault (Check settings) old new = Tells held old new (line_of fault)
+TellsBy held fault (Init settings file) old new = Tells held old new (line_of fault)
+TellsBy held fault (Replay settings status) old new = Tells held old new (line_of fault)
+TellsBy held fault (Deliver settings file) old new = Tells held old new (line_of fault)
+TellsBy held fault (Serve settings file port count) old new = (faults : List IoFault) × (length faults ≤ count)
+    × Tells held old new (fault_lines faults ++ line_of fault)
