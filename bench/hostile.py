@@ -397,6 +397,7 @@ OF_HTTP = {
     b'{"error":"bad-request"}': 400,
     b'{"error":"no-route"}': 404,
     b'{"error":"no-queue"}': 404,
+    b'{"error":"no-queue"}': 404,
     b'{"error":"method"}': 405,
     b'{"error":"length"}': 411,
     b'{"error":"too-large"}': 413,
@@ -409,8 +410,17 @@ RESPONSE = re.compile(
 )
 
 
+# a history has no length, and is whole with its last line
+HISTORY = re.compile(
+    rb"HTTP/1\.1 200 OK\r\nContent-Type: text/plain\r\nConnection: close\r\n\r\n"
+    rb"history [A-Za-z0-9._-]+\n(?:[ 0-9]+ [a-z]+ +[0-9-]+\n)*end \d+\n\Z"
+)
+
+
 def judged(response, is_head):
     """The status of a response that docs/FORMATS.md has."""
+    if HISTORY.match(response):
+        return 200
     found = RESPONSE.match(response)
     assert found, response[:500]
     status, kind, length, allow, body = found.groups()
@@ -424,7 +434,7 @@ def judged(response, is_head):
     return int(status)
 
 
-TARGETS = ["/status", "/orders", "/builds/1", "/builds/0", "/history/core", "/nowhere", "/status?a=b"]
+TARGETS = ["/status", "/orders", "/builds/1", "/builds/0", "/history/core", "/history/nope", "/nowhere", "/status?a=b"]
 
 FIELDS = [
     b"Content-Length: 5",
