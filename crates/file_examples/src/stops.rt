@@ -10,8 +10,8 @@ use std::io;
 use std::process::Abort;
 use std::test::Fail;
 
-/// Deliveries of all eight kinds, each accepted, and each changing a row besides its own: the first approval of 101 lets
-/// both changes enter.
+/// Deliveries of all eight kinds, each accepted, and each changing a row besides its own: the approval of 101 lets both
+/// changes enter.
 const DAY: &str =
     r#"{"id":"00000000-0000-4000-8000-000000000001","kind":"revision","change":101,"project":"app","revision":1,"message":""}
 {"id":"00000000-0000-4000-8000-000000000002","kind":"revision","change":102,"project":"app","revision":1,"message":"Depends-On: https://forge/c/101"}

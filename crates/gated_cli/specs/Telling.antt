@@ -21,7 +21,7 @@ ToldBy held (Replay settings status) old new = new ≡ old
 ToldBy held (Deliver settings file) old new = new ≡ old
 ToldBy held (Serve settings file port count) old new = TellsUpTo held count old new
 
--- what a command has told that ended with a fault: the fault's line, and of a server before it the faults of connections
+-- what a command that ended with a fault has told: the fault's line, behind the faults of connections for a server
 abbrev pub TellsBy : {E : Type 0} → (E → Option (List ℕ)) → Fault → Cmd → Tap E → Tap E → Type 0
 TellsBy held fault (Check settings) old new = Tells held old new (line_of fault)
 TellsBy held fault (Init settings file) old new = Tells held old new (line_of fault)

@@ -96,8 +96,8 @@ pub fn deliver<S: Alter + Drop, R: Read, W: Write>(
     }
 }
 
-/// Serves so many connections at this port of loopback over the gate that the tables stand for, once the line that names
-/// the port is printed, and hands the connection back. The gate is opened before the port is bound.
+/// Serves so many connections at this port of loopback over the gate that the tables stand for, once the line that
+/// names the port is printed, and hands the connection back. The gate is opened before the port is bound.
 pub fn serve<M: Net + AllocGlobal, S: Alter + Drop, W: Write, E: Write>(
     rt: &M,
     conn: Connection<S>,
