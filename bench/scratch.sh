@@ -9,7 +9,9 @@ trap 'rm -rf "$work"' EXIT
 scratch() {
     mkdir -p "$work/crates/timed/src"
     if [ -d "$1" ]; then
-        cp "$1"/*.rt "$work/crates/timed/src"
+        for file in $(cd "$1" && ls | grep -v '\.'); do
+            cp "$1/$file" "$work/crates/timed/src/$file.rt"
+        done
     else
         cp "$1" "$work/crates/timed/src/main.rt"
     fi
