@@ -22,20 +22,20 @@ module _ {S : Type 0} (responds : Responding S) (recalls : Recalling S) where
       ⊎ Recall recalls from left old served Takes new
 
   -- the response was written
-  pub answers : (from left : Option (List ℕ)) (old new : S) (held holds : Option (List ℕ)) (answered : Served)
+  pub answers : {from left : Option (List ℕ)} {old new : S} (held holds : Option (List ℕ)) (answered : Served)
       (text : List ℕ) (r : Result Served IoFault) → Does from left old new answered text
       → IfOk r (λ served. (served ≡ answered) × Appends held holds text)
       → IfOk r (Comes from left old new (Appends held holds))
-  answers from left old new held holds answered text (Ok served) does h = inl (text, does served h.0, h.1)
-  answers from left old new held holds answered text (Err e) does h = tt
+  answers held holds answered text (Ok served) does h = inl (text, does served h.0, h.1)
+  answers held holds answered text (Err e) does h = tt
 
   -- a beginning of it was
-  pub breaks : (from left : Option (List ℕ)) (old new : S) (held holds : Option (List ℕ)) (answered : Served)
+  pub breaks : {from left : Option (List ℕ)} {old new : S} (held holds : Option (List ℕ)) (answered : Served)
       (text : List ℕ) (r : Result Served IoFault) → Does from left old new answered text
       → OnErr r (WritesFront held holds text) → IsErrOf r io.Write
       → (served : Served) × Comes from left old new (WritesFront held holds) served
-  breaks from left old new held holds answered text (Ok served) does h e = cc
-  breaks from left old new held holds answered text (Err f) does h e = (answered, inl (text, does answered refl, h))
+  breaks held holds answered text (Ok served) does h e = cc
+  breaks held holds answered text (Err f) does h e = (answered, inl (text, does answered refl, h))
 
   -- a request for a history was read
   abbrev pub Asks : Option (List ℕ) → Option (List ℕ) → List ℕ → Type 0

@@ -20,21 +20,21 @@ returns-in-Ok-Nothing-clause-ok g c = inl (
 
 pub returns-in-Ok-Part-clause-ok : goal.returns-in-Ok-Part-clause-ok
 returns-in-Ok-Part-clause-ok g c =
-    answers g.G.Respond.responds g.G.Respond.recalls _ _ _ _ _ _ (Answered (fault_status fault.Cut))
+    answers g.G.Respond.responds g.G.Respond.recalls _ _ (Answered (fault_status fault.Cut))
     (fault_response fault.Cut false) c.refuse.result
     (λ served e. exchange_part g.G.Respond.responds _ _ _ served _ (rw c.in-Ok-Part.field-0-is at c.in-Ok-Part.ensures.ok) e)
     c.refuse.ensures.ok
 
 pub returns-in-Ok-Part-clause-write : goal.returns-in-Ok-Part-clause-write
 returns-in-Ok-Part-clause-write g c =
-    breaks g.G.Respond.responds g.G.Respond.recalls _ _ _ _ _ _ (Answered (fault_status fault.Cut))
+    breaks g.G.Respond.responds g.G.Respond.recalls _ _ (Answered (fault_status fault.Cut))
     (fault_response fault.Cut false) c.refuse.result
     (λ served e. exchange_part g.G.Respond.responds _ _ _ served _ (rw c.in-Ok-Part.field-0-is at c.in-Ok-Part.ensures.ok) e)
     c.refuse.ensures.err
 
 pub returns-in-Ok-TooMuch-clause-ok : goal.returns-in-Ok-TooMuch-clause-ok
 returns-in-Ok-TooMuch-clause-ok g c =
-    answers g.G.Respond.responds g.G.Respond.recalls _ _ _ _ _ _ (Answered (fault_status fault.HeadTooLarge))
+    answers g.G.Respond.responds g.G.Respond.recalls _ _ (Answered (fault_status fault.HeadTooLarge))
     (fault_response fault.HeadTooLarge false) c.refuse-in-Ok-TooMuch.result
     (λ served e. exchange_too_much g.G.Respond.responds _ _ _ served _
     (rw c.in-Ok-TooMuch.field-0-is at c.in-Ok-TooMuch.ensures.ok) e)
@@ -42,7 +42,7 @@ returns-in-Ok-TooMuch-clause-ok g c =
 
 pub returns-in-Ok-TooMuch-clause-write : goal.returns-in-Ok-TooMuch-clause-write
 returns-in-Ok-TooMuch-clause-write g c =
-    breaks g.G.Respond.responds g.G.Respond.recalls _ _ _ _ _ _ (Answered (fault_status fault.HeadTooLarge))
+    breaks g.G.Respond.responds g.G.Respond.recalls _ _ (Answered (fault_status fault.HeadTooLarge))
     (fault_response fault.HeadTooLarge false) c.refuse-in-Ok-TooMuch.result
     (λ served e. exchange_too_much g.G.Respond.responds _ _ _ served _
     (rw c.in-Ok-TooMuch.field-0-is at c.in-Ok-TooMuch.ensures.ok) e)
@@ -56,7 +56,7 @@ read_body-requires-clause-room g c =
 
 pub returns-in-Refuse-clause-ok : goal.returns-in-Refuse-clause-ok
 returns-in-Refuse-clause-ok g c =
-    answers g.G.Respond.responds g.G.Respond.recalls _ _ _ _ _ _ (Answered (fault_status c.in-Refuse.fault))
+    answers g.G.Respond.responds g.G.Respond.recalls _ _ (Answered (fault_status c.in-Refuse.fault))
     (fault_response c.in-Refuse.fault c.in-Refuse.bodiless) c.refuse-in-Refuse.result
     (λ served e. exchange_refused g.G.Respond.responds _ _ _ served _ c.in-Refuse.fault c.in-Refuse.bodiless
     (rw c.in-Ok-Whole.field-0-is at c.in-Ok-Whole.ensures.ok)
@@ -65,7 +65,7 @@ returns-in-Refuse-clause-ok g c =
 
 pub returns-in-Refuse-clause-write : goal.returns-in-Refuse-clause-write
 returns-in-Refuse-clause-write g c =
-    breaks g.G.Respond.responds g.G.Respond.recalls _ _ _ _ _ _ (Answered (fault_status c.in-Refuse.fault))
+    breaks g.G.Respond.responds g.G.Respond.recalls _ _ (Answered (fault_status c.in-Refuse.fault))
     (fault_response c.in-Refuse.fault c.in-Refuse.bodiless) c.refuse-in-Refuse.result
     (λ served e. exchange_refused g.G.Respond.responds _ _ _ served _ c.in-Refuse.fault c.in-Refuse.bodiless
     (rw c.in-Ok-Whole.field-0-is at c.in-Ok-Whole.ensures.ok)
@@ -74,7 +74,7 @@ returns-in-Refuse-clause-write g c =
 
 pub returns-in-Ok-true-clause-ok : goal.returns-in-Ok-true-clause-ok
 returns-in-Ok-true-clause-ok g c =
-    answers g.G.Respond.responds g.G.Respond.recalls _ _ _ _ _ _ (Answered (answer_status c.hear-said.result))
+    answers g.G.Respond.responds g.G.Respond.recalls _ _ (Answered (answer_status c.hear-said.result))
     (answer_response false c.hear-said.result) c.tell.result
     (λ served e. exchange_posted g.G.Respond.responds _ _ _ _ _ served _ _ c.in-Post.door c.in-Post.n c.hear-said.result
     (rw c.in-Ok-Whole.field-0-is at c.in-Ok-Whole.ensures.ok)
@@ -84,7 +84,7 @@ returns-in-Ok-true-clause-ok g c =
 
 pub returns-in-Ok-true-clause-write : goal.returns-in-Ok-true-clause-write
 returns-in-Ok-true-clause-write g c =
-    breaks g.G.Respond.responds g.G.Respond.recalls _ _ _ _ _ _ (Answered (answer_status c.hear-said.result))
+    breaks g.G.Respond.responds g.G.Respond.recalls _ _ (Answered (answer_status c.hear-said.result))
     (answer_response false c.hear-said.result) c.tell.result
     (λ served e. exchange_posted g.G.Respond.responds _ _ _ _ _ served _ _ c.in-Post.door c.in-Post.n c.hear-said.result
     (rw c.in-Ok-Whole.field-0-is at c.in-Ok-Whole.ensures.ok)
@@ -94,7 +94,7 @@ returns-in-Ok-true-clause-write g c =
 
 pub returns-in-Ok-false-clause-ok : goal.returns-in-Ok-false-clause-ok
 returns-in-Ok-false-clause-ok g c =
-    answers g.G.Respond.responds g.G.Respond.recalls _ _ _ _ _ _ (Answered (fault_status fault.Cut))
+    answers g.G.Respond.responds g.G.Respond.recalls _ _ (Answered (fault_status fault.Cut))
     (fault_response fault.Cut false) c.refuse-in-Ok-false.result
     (λ served e. exchange_cut g.G.Respond.responds _ _ _ _ served _ _ c.in-Post.door c.in-Post.n
     (rw c.in-Ok-Whole.field-0-is at c.in-Ok-Whole.ensures.ok)
@@ -103,7 +103,7 @@ returns-in-Ok-false-clause-ok g c =
 
 pub returns-in-Ok-false-clause-write : goal.returns-in-Ok-false-clause-write
 returns-in-Ok-false-clause-write g c =
-    breaks g.G.Respond.responds g.G.Respond.recalls _ _ _ _ _ _ (Answered (fault_status fault.Cut))
+    breaks g.G.Respond.responds g.G.Respond.recalls _ _ (Answered (fault_status fault.Cut))
     (fault_response fault.Cut false) c.refuse-in-Ok-false.result
     (λ served e. exchange_cut g.G.Respond.responds _ _ _ _ served _ _ c.in-Post.door c.in-Post.n
     (rw c.in-Ok-Whole.field-0-is at c.in-Ok-Whole.ensures.ok)
@@ -121,7 +121,7 @@ returns-in-Err-read_body-clause-read g c = λ _. (
 
 pub returns-in-Show-clause-ok : goal.returns-in-Show-clause-ok
 returns-in-Show-clause-ok g c =
-    answers g.G.Respond.responds g.G.Respond.recalls _ _ _ _ _ _ (Answered (answer_status c.show-said.result))
+    answers g.G.Respond.responds g.G.Respond.recalls _ _ (Answered (answer_status c.show-said.result))
     (answer_response (is_status_page (page c.in-Show.wanted)) c.show-said.result) c.tell-in-Show.result
     (λ served e. exchange_shown g.G.Respond.responds _ _ _ _ served _ c.in-Show.wanted c.show-said.result
     (rw c.in-Ok-Whole.field-0-is at c.in-Ok-Whole.ensures.ok)
@@ -130,7 +130,7 @@ returns-in-Show-clause-ok g c =
 
 pub returns-in-Show-clause-write : goal.returns-in-Show-clause-write
 returns-in-Show-clause-write g c =
-    breaks g.G.Respond.responds g.G.Respond.recalls _ _ _ _ _ _ (Answered (answer_status c.show-said.result))
+    breaks g.G.Respond.responds g.G.Respond.recalls _ _ (Answered (answer_status c.show-said.result))
     (answer_response (is_status_page (page c.in-Show.wanted)) c.show-said.result) c.tell-in-Show.result
     (λ served e. exchange_shown g.G.Respond.responds _ _ _ _ served _ c.in-Show.wanted c.show-said.result
     (rw c.in-Ok-Whole.field-0-is at c.in-Ok-Whole.ensures.ok)
@@ -139,7 +139,7 @@ returns-in-Show-clause-write g c =
 
 pub returns-in-ShowBuild-clause-ok : goal.returns-in-ShowBuild-clause-ok
 returns-in-ShowBuild-clause-ok g c =
-    answers g.G.Respond.responds g.G.Respond.recalls _ _ _ _ _ _ (Answered (answer_status c.show_build-said.result))
+    answers g.G.Respond.responds g.G.Respond.recalls _ _ (Answered (answer_status c.show_build-said.result))
     (answer_response false c.show_build-said.result) c.tell-in-ShowBuild.result
     (λ served e. exchange_named g.G.Respond.responds _ _ _ _ served _ c.in-ShowBuild.id.now c.show_build-said.result
     (rw c.in-Ok-Whole.field-0-is at c.in-Ok-Whole.ensures.ok)
@@ -148,7 +148,7 @@ returns-in-ShowBuild-clause-ok g c =
 
 pub returns-in-ShowBuild-clause-write : goal.returns-in-ShowBuild-clause-write
 returns-in-ShowBuild-clause-write g c =
-    breaks g.G.Respond.responds g.G.Respond.recalls _ _ _ _ _ _ (Answered (answer_status c.show_build-said.result))
+    breaks g.G.Respond.responds g.G.Respond.recalls _ _ (Answered (answer_status c.show_build-said.result))
     (answer_response false c.show_build-said.result) c.tell-in-ShowBuild.result
     (λ served e. exchange_named g.G.Respond.responds _ _ _ _ served _ c.in-ShowBuild.id.now c.show_build-said.result
     (rw c.in-Ok-Whole.field-0-is at c.in-Ok-Whole.ensures.ok)
