@@ -15,8 +15,8 @@ cc -O2 -Wall -o "$work/written" "$top/bench/deliver/written.c" -lsqlite3
 for pair; do
     python3 "$top/bench/mix.py" "$program" "$settings" "${pair%:*}" "${pair#*:}" "$work/lines"
     "$noted" "$settings" <"$work/lines" >"$work/edits" 2>"$work/replies"
+    rm -f "$work"/ours* "$work"/theirs*
     "$program" init "$settings" "$work/ours"
     "$program" init "$settings" "$work/theirs"
     python3 "$top/bench/deliver/times.py" "$program" "$settings" "$work"
-    rm -f "$work"/ours* "$work"/theirs*
 done

@@ -1,12 +1,18 @@
 # The scratch repository of a measurement, since each crate of this one is proved by its gate. It is deleted when the
-# script that sources this file ends.
+# script that sources this file ends; where SCRATCH names a folder, it is made there and stays, with its proofs.
 top=$(cd "$(dirname "$0")/.." && pwd)
-work=$(mktemp -d)
-trap 'rm -rf "$work"' EXIT
+if [ -n "${SCRATCH:-}" ]; then
+    mkdir -p "$SCRATCH"
+    work=$(cd "$SCRATCH" && pwd)
+else
+    work=$(mktemp -d)
+    trap 'rm -rf "$work"' EXIT
+fi
 
 # scratch PROGRAM CRATE..: copies of these crates, and over them a crate `timed` with that program, a file or a folder of
 # them. LIBRARIES names libraries of the kit that the program uses besides.
 scratch() {
+    rm -rf "$work/crates.txt" "$work/crates/timed/src"
     mkdir -p "$work/crates/timed/src"
     if [ -d "$1" ]; then
         for file in $(cd "$1" && ls | grep -v '\.'); do
@@ -17,6 +23,11 @@ scratch() {
     fi
     shift
     for crate; do
+        # What was proved there stays, where there is nothing newer.
+        if [ -d "$top/crates/$crate/out" ]; then
+            rm -rf "$work/crates/$crate"
+        fi
+        rm -rf "$work/crates/$crate"/[!o]*
         cp -R "$top/crates/$crate" "$work/crates"
         grep "^$crate:" "$top/crates.txt" >>"$work/crates.txt"
     done
