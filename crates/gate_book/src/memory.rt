@@ -178,6 +178,3 @@ impl Book for MemBook {
         Ok(())
     }
 }
-
-#[cfg(test)]
-mod tests;

@@ -1,0 +1,5 @@
+//! A book in memory: tests alone.
+#![tactic(auto)]
+
+#[cfg(test)]
+mod memory;
