@@ -1,7 +1,7 @@
 //! What leaves a queue with a change that it needs.
 use crate::books::goes;
 use crate::gates::{CORE_AND_WEB, within};
-use crate::talks::Part::{Build, Orders, Status, Talk};
+use crate::talks::Part::{Build, History, Orders, Status, Talk};
 use std::test::Fail;
 
 const NEED_FAILS: &str = r#"
@@ -154,6 +154,13 @@ const THIRD_BUILT: &str = r#"
 const THIRD_SHOWN: &str =
     r#"[{"change":103,"order":3,"project":"lib","queue":"core","revision":1}]"#;
 
+const THREE_LEFT: &str = "history core
+     1      1       101    1 landed          1
+     2      2       102    1 failed          -
+     3      4       104    1 needs           -
+end 3
+";
+
 /// The failed item leaves, and the last one that needs it; the one between them keeps its builds.
 #[test]
 fn a_landing_lets_those_behind_it_leave(rt: HostRuntime) -> Result<(), Fail> {
@@ -169,6 +176,7 @@ fn a_landing_lets_those_behind_it_leave(rt: HostRuntime) -> Result<(), Fail> {
             Status(THIRD_LEFT_ALONE),
             Talk(THIRD_BUILT),
             Orders(THIRD_SHOWN),
+            History("core", THREE_LEFT),
         ],
     )
 }

@@ -2,7 +2,7 @@
 use crate::beginnings::{FIRST_FAILED, THREE_TAKEN, TWO_TAKEN};
 use crate::books::goes;
 use crate::gates::CORE_AND_WEB;
-use crate::talks::Part::{Orders, Status, Talk};
+use crate::talks::Part::{CutHistory, History, NoHistory, Orders, Status, Talk};
 use std::test::Fail;
 
 const SECOND_SUCCEEDS: &str = r#"
@@ -36,7 +36,22 @@ queue web window 2 landed 0
 end
 ";
 
-/// The failing item stays until its last job has ended; then it leaves, and the window is halved.
+/// The first 20 bytes of the history.
+const FRONT: &str = "history core\n     1 ";
+
+const THIRD_TAKEN: &str = r#"
+> {"id":"0c000000-0000-4000-8000-000000000004","kind":"take","worker":"w1"}
+< {"after":1,"ahead":[],"build":5,"change":103,"job":"unit","queue":"core","reply":"build","revision":1}
+"#;
+
+const BOTH_LEFT: &str = "history core
+     1      2       102    1 landed          1
+     2      1       101    1 failed          -
+end 2
+";
+
+/// The failing item stays until its last job has ended; then it leaves, and the window is halved. After a writer failed
+/// within the history the gate goes on.
 #[test]
 fn a_change_lands_past_a_failing_one(rt: HostRuntime) -> Result<(), Fail> {
     goes(
@@ -51,6 +66,11 @@ fn a_change_lands_past_a_failing_one(rt: HostRuntime) -> Result<(), Fail> {
             Status(FIRST_STILL_BUILT),
             Talk(FIRST_ENDS),
             Status(FIRST_LEFT),
+            CutHistory("core", FRONT),
+            Talk(THIRD_TAKEN),
+            History("core", BOTH_LEFT),
+            History("web", "history web\nend 0\n"),
+            NoHistory("nope"),
         ],
     )
 }

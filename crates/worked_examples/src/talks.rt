@@ -1,8 +1,11 @@
 //! Conversations written down line by line, with what the gate shows in between.
 use crate::gates::tells;
+use crate::streams::Narrow;
 use gate_book::book::Book;
+use gate_book::fault::HistoryFault;
 use gate_core::gate::Gate;
 use gate_types::numbers::BuildNo;
+use gate_types::tap::Tap;
 use std::alloc::{AllocError, Global};
 use std::process::Abort;
 use std::test::Fail;
@@ -18,7 +21,16 @@ pub enum Part<'a> {
     Orders(&'a str),
     /// The text of the build of a number.
     Build(u64, &'a str),
+    /// The history text of a queue.
+    History(&'a str, &'a str),
+    /// What a writer takes of a queue's history that then fails.
+    CutHistory(&'a str, &'a str),
+    /// There is no queue of this name: of its history nothing is written.
+    NoHistory(&'a str),
 }
+
+/// More bytes than any history here has.
+const WIDE: usize = 10_000;
 
 /// The lines of a conversation behind this mark.
 fn lines_behind(alloc: Global, mark: &str, talk: &str) -> Result<String, AllocError> {
@@ -79,6 +91,27 @@ fn has_build<B: Book>(
     Ok(())
 }
 
+/// Asked for a queue's history, with a writer that fails after so many bytes, the gate answers so and writes this.
+fn has_history<B: Book>(
+    rt: &(impl Abort + AllocGlobal),
+    gate: &mut Gate<B>,
+    queue: &str,
+    room: usize,
+    answer: Result<(), HistoryFault>,
+    text: &str,
+) -> Result<(), Fail> {
+    let mut w = Tap::new(Narrow {
+        taken: Vec::new(rt.alloc()),
+        left: room,
+        silent: false,
+    });
+    let answered = gate.history(queue, b"", &mut w);
+    let Narrow { taken, .. } = w.into_inner();
+    assert_eq!(rt; answered, answer);
+    assert_eq!(rt; taken.as_slice(), text.as_bytes());
+    Ok(())
+}
+
 /// The gate says all this, part after part.
 pub fn goes_on<B: Book>(
     rt: &(impl Abort + AllocGlobal),
@@ -91,6 +124,14 @@ pub fn goes_on<B: Book>(
             Part::Status(status) => has_status(rt, gate, status)?,
             Part::Orders(orders) => has_orders(rt, gate, orders)?,
             Part::Build(number, build) => has_build(rt, gate, number, build)?,
+            Part::History(queue, text) => has_history(rt, gate, queue, WIDE, Ok(()), text)?,
+            Part::CutHistory(queue, text) => {
+                let answer = Err(HistoryFault::Write);
+                has_history(rt, gate, queue, text.len(), answer, text)?;
+            }
+            Part::NoHistory(queue) => {
+                has_history(rt, gate, queue, WIDE, Err(HistoryFault::NoQueue), "")?;
+            }
         }
     }
     Ok(())
