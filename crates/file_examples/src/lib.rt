@@ -2,7 +2,11 @@
 #![tactic(auto)]
 
 #[cfg(test)]
+mod disks;
+#[cfg(test)]
 mod files;
+#[cfg(test)]
+mod histories;
 #[cfg(test)]
 mod openings;
 #[cfg(test)]

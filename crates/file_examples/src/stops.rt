@@ -1,12 +1,12 @@
 //! A gate's file that is stopped at each call of the disk: in a delivery of each kind, and while it is made.
+use crate::disks::{closed, connected, copied, fused};
 use crate::files::{SETTINGS, gate_in, new_gate, said, tells};
 use gate_config::read;
 use gate_sql::book::SqlBook;
 use gate_sql::open_fault::OpenFault;
-use sqlite::{Alter, Connection, Error, FileStore, Files, Options};
-use sqlite_disk::{Crash, Disk, Fuse, Memory};
+use sqlite::{Alter, Connection, Files, Options};
+use sqlite_disk::{Crash, Fuse, Memory};
 use std::alloc::Global;
-use std::io;
 use std::process::Abort;
 use std::test::Fail;
 
@@ -64,6 +64,9 @@ queue web window 2 landed 0
 end
 ";
 
+/// The log's salts come from this number.
+const SEED: u64 = 7;
+
 /// All rows of the gate's ten tables.
 const TABLES: [&str; 10] = [
     "SELECT * FROM meta",
@@ -103,56 +106,13 @@ fn answered<S: Alter + Drop>(
     }
 }
 
-/// A file of these bytes, on a disk that fails after so many calls.
-fn fused(alloc: Global, bytes: &[u8], calls: u64) -> io::Result<Fuse<Memory>> {
-    let mut memory = Memory::new(alloc);
-    memory.write_at(0, bytes)?;
-    memory.sync()?;
-    Ok(Fuse::new(memory, calls))
-}
-
-/// Copies of a file and its log, on disks that fail after so many calls.
-fn copied(
-    alloc: Global,
-    files: &Files<Fuse<Memory>>,
-    log_calls: u64,
-    db_calls: u64,
-) -> io::Result<Files<Fuse<Memory>>> {
-    Ok(Files {
-        log: fused(alloc, files.log.inner().bytes(), log_calls)?,
-        db: fused(alloc, files.db.inner().bytes(), db_calls)?,
-    })
-}
-
-/// The connection to a file, or what is left of it.
-fn connected(
-    alloc: Global,
-    files: Files<Fuse<Memory>>,
-) -> Result<Connection<FileStore<Fuse<Memory>>>, Files<Fuse<Memory>>> {
-    if !files.may_be_used() {
-        return Err(files);
-    }
-    match Connection::open_files(alloc, files, Options::new(7)) {
-        Ok(conn) => Ok(conn),
-        Err((_, left)) => Err(left.into_files()),
-    }
-}
-
-/// Closes the files, and gives them back: whether nothing stopped that.
-fn closed(conn: Connection<FileStore<Fuse<Memory>>>) -> (bool, Files<Fuse<Memory>>) {
-    match conn.close_files() {
-        Ok(files) => (true, files),
-        Err((_, store)) => (false, store.close()),
-    }
-}
-
 /// The files of a gate that has seen no delivery, closed, and all its rows.
 fn new_files(rt: &(impl Abort + AllocGlobal)) -> Result<(Files<Fuse<Memory>>, String), Fail> {
     let files = Files {
         log: fused(rt.alloc(), &[], u64::MAX)?,
         db: fused(rt.alloc(), &[], u64::MAX)?,
     };
-    let Ok(conn) = connected(rt.alloc(), files) else {
+    let Ok(conn) = connected(rt.alloc(), files, Options::new(SEED)) else {
         return Err(Fail::new("an empty file isn't opened"));
     };
     let mut conn = new_gate(rt.alloc(), conn)?.into_book().into_conn();
@@ -174,7 +134,7 @@ struct Run {
 
 /// Tells a delivery to the gate in the file, and closes the file.
 fn tell(alloc: Global, files: Files<Fuse<Memory>>, delivery: &str) -> Run {
-    let conn = match connected(alloc, files) {
+    let conn = match connected(alloc, files, Options::new(SEED)) {
         Ok(conn) => conn,
         Err(left) => {
             return Run {
@@ -228,7 +188,7 @@ fn found_after_a_crash(
 ) -> Result<Found, Fail> {
     files.log.crash();
     files.db.crash();
-    match connected(alloc, files) {
+    match connected(alloc, files, Options::new(SEED)) {
         Ok(conn) => found_in(alloc, conn, delivery),
         Err(_) => Err(Fail::new("the files aren't opened after a crash")),
     }
@@ -320,7 +280,7 @@ fn told(
     files: Files<Fuse<Memory>>,
     line: &Line<'_>,
 ) -> Result<(Files<Fuse<Memory>>, String), Fail> {
-    let Ok(conn) = connected(rt.alloc(), files) else {
+    let Ok(conn) = connected(rt.alloc(), files, Options::new(SEED)) else {
         return Err(Fail::new("the file isn't opened"));
     };
     let (answer, mut conn) = answered(rt.alloc(), conn, line.said);
@@ -380,7 +340,7 @@ fn made(alloc: Global, stop: Stop) -> Result<(bool, Files<Fuse<Memory>>), Fail> 
         db: fused(alloc, &[], db_calls)?,
     };
     let config = read(alloc, SETTINGS.as_bytes())?;
-    match connected(alloc, files) {
+    match connected(alloc, files, Options::new(SEED)) {
         Ok(conn) => match SqlBook::create(alloc, conn, &config) {
             Ok(book) => Ok(closed(book.into_conn())),
             Err((_, conn)) => Ok((false, closed(conn).1)),
@@ -396,7 +356,7 @@ fn is_empty_or_none(
 ) -> Result<bool, Fail> {
     files.log.crash();
     files.db.crash();
-    let Ok(conn) = connected(rt.alloc(), files) else {
+    let Ok(conn) = connected(rt.alloc(), files, Options::new(SEED)) else {
         return Err(Fail::new("the files aren't opened after a crash"));
     };
     match gate_in(rt.alloc(), conn, SETTINGS) {

@@ -1,0 +1,181 @@
+//! A history of 300 reports, from a file whose disk fails at each call that the history makes.
+use crate::disks::{connected, copied, fused};
+use crate::files::{SETTINGS, gate_in, new_gate, said};
+use gate_book::book::Book;
+use gate_book::fault::HistoryFault;
+use gate_core::gate::Gate;
+use gate_sql::book::SqlBook;
+use gate_types::tap::Tap;
+use sqlite::{FileStore, Files, Options};
+use sqlite_disk::{Fuse, Memory};
+use std::alloc::{AllocError, Global};
+use std::process::Abort;
+use std::test::Fail;
+
+/// How many reports there are.
+const REPORTS: u32 = 300;
+
+/// Few pages are kept in memory, so that a history has to read the disk.
+fn options() -> Options {
+    Options {
+        cache_pages: 16,
+        checkpoint_frames: 50,
+        ..Options::new(7)
+    }
+}
+
+/// A change enters its queue, and leaves it as its next revision comes, again and again.
+fn deliveries(alloc: Global) -> Result<String, AllocError> {
+    let mut lines = String::new(alloc);
+    for n in 1..=REPORTS {
+        let line = format!(in alloc;
+            "{{\"id\":\"0a000000-0000-4000-8000-{n:012}\",\"kind\":\"revision\",\"change\":101,\
+             \"project\":\"app\",\"revision\":{n},\"message\":\"\"}}\n\
+             {{\"id\":\"0b000000-0000-4000-8000-{n:012}\",\"kind\":\"approved\",\"change\":101,\"revision\":{n}}}\n"
+        )?;
+        lines.push_str(line.as_str())?;
+    }
+    lines.push_str(
+        r#"{"id":"0a000000-0000-4000-8000-000000000301","kind":"revision","change":101,"project":"app","revision":301,"message":""}"#,
+    )?;
+    Ok(lines)
+}
+
+/// What the history is then.
+fn history(alloc: Global) -> Result<String, AllocError> {
+    let mut text = String::from_str(alloc, "history core\n")?;
+    for n in 1..=REPORTS {
+        let line = format!(in alloc; "{n:>6} {n:>6}       101 {n:>4} superseded      -\n")?;
+        text.push_str(line.as_str())?;
+    }
+    text.push_str("end 300\n")?;
+    Ok(text)
+}
+
+/// The files of a gate with these reports. Some of their pages stand in the log, the others in the database file.
+fn reported(alloc: Global) -> Result<Files<Fuse<Memory>>, Fail> {
+    let files = Files {
+        log: fused(alloc, &[], u64::MAX)?,
+        db: fused(alloc, &[], u64::MAX)?,
+    };
+    let Ok(conn) = connected(alloc, files, options()) else {
+        return Err(Fail::new("an empty file isn't opened"));
+    };
+    let mut gate = new_gate(alloc, conn)?;
+    let _answers = said(alloc, &mut gate, deliveries(alloc)?.as_str())?;
+    Ok(gate.into_book().into_conn().into_store().close())
+}
+
+/// The gate in copies of the files, if it is opened with so many calls of the log, or of the database file.
+fn opened(
+    alloc: Global,
+    files: &Files<Fuse<Memory>>,
+    is_log: bool,
+    calls: u64,
+) -> Result<Option<Gate<SqlBook<FileStore<Fuse<Memory>>>>>, Fail> {
+    let copies = if is_log {
+        copied(alloc, files, calls, u64::MAX)?
+    } else {
+        copied(alloc, files, u64::MAX, calls)?
+    };
+    let Ok(conn) = connected(alloc, copies, options()) else {
+        return Ok(None);
+    };
+    Ok(gate_in(alloc, conn, SETTINGS).ok())
+}
+
+/// The fewest calls with which the gate is opened, which are less than 65,536.
+fn calls_of_opening(alloc: Global, files: &Files<Fuse<Memory>>, is_log: bool) -> Result<u64, Fail> {
+    let mut fewest = 0u64;
+    let mut step = 32_768u64;
+    for _ in 0..16 {
+        let tried = fewest.saturating_add(step).saturating_sub(1);
+        if opened(alloc, files, is_log, tried)?.is_none() {
+            fewest = fewest.saturating_add(step);
+        }
+        step /= 2;
+    }
+    Ok(fewest)
+}
+
+/// How a history ended.
+#[derive(Clone, Copy)]
+enum End {
+    /// It was refused, and nothing written.
+    Unavailable,
+    /// It broke off behind a beginning, which was told.
+    Broken,
+    /// All of it was written.
+    Whole,
+}
+
+/// Asks a gate for its history: it is this text, a beginning of it, or nothing.
+fn asked<B: Book>(
+    rt: &(impl Abort + AllocGlobal),
+    gate: &mut Gate<B>,
+    text: &[u8],
+) -> Result<End, Fail> {
+    let mut w = Tap::new(Vec::new(rt.alloc()));
+    let answer = gate.history("core", b"", &mut w);
+    let written = w.into_inner();
+    match answer {
+        Ok(()) => {
+            assert!(rt; written.as_slice() == text);
+            Ok(End::Whole)
+        }
+        Err(HistoryFault::Unavailable) => {
+            assert!(rt; written.is_empty());
+            Ok(End::Unavailable)
+        }
+        Err(fault) => {
+            assert_eq!(rt; fault, HistoryFault::Broken);
+            assert!(rt; written.len() < text.len());
+            assert!(rt; text.starts_with(written.as_slice()));
+            Ok(End::Broken)
+        }
+    }
+}
+
+/// How many histories were refused, and how many broke off.
+#[derive(Clone, Copy, Debug)]
+struct Ends {
+    unavailable: u32,
+    broken: u32,
+}
+
+/// One of the files fails at each call of the history in turn, until a history is whole.
+fn each_stop(
+    rt: &(impl Abort + AllocGlobal),
+    files: &Files<Fuse<Memory>>,
+    text: &[u8],
+    is_log: bool,
+) -> Result<Ends, Fail> {
+    let mut ends = Ends {
+        unavailable: 0,
+        broken: 0,
+    };
+    let mut calls = calls_of_opening(rt.alloc(), files, is_log)?;
+    for _ in 0..10_000 {
+        let Some(mut gate) = opened(rt.alloc(), files, is_log, calls)? else {
+            return Err(Fail::new("the gate isn't opened"));
+        };
+        match asked(rt, &mut gate, text)? {
+            End::Unavailable => ends.unavailable = ends.unavailable.saturating_add(1),
+            End::Broken => ends.broken = ends.broken.saturating_add(1),
+            End::Whole => return Ok(ends),
+        }
+        calls = calls.saturating_add(1);
+    }
+    Err(Fail::new("no history is whole"))
+}
+
+/// Whichever call fails, what is written has its last line only where no report is missing.
+#[test]
+fn a_history_is_refused_breaks_off_or_is_whole(rt: HostRuntime) -> Result<(), Fail> {
+    let files = reported(rt.alloc())?;
+    let text = history(rt.alloc())?;
+    let log = each_stop(&rt, &files, text.as_bytes(), true)?;
+    let db = each_stop(&rt, &files, text.as_bytes(), false)?;
+    assert!(rt; db.unavailable > 0 && db.broken > 0, "{log:?}, {db:?}");
+    Ok(())
+}
