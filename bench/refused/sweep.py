@@ -16,7 +16,7 @@ LAST = 30_000
 
 KINDS = ["revision", "approved", "withdrawn", "closed", "landed", "refused", "take", "result"]
 
-CALLS = KINDS + ["result, two items leave", "landed, three items leave", "a conversation", "a request"]
+CALLS = KINDS + ["result, two items leave", "landed, three items leave", "a conversation", "a request", "a history"]
 
 NAMES = {number: f"{call}, in memory" for number, call in enumerate(CALLS)}
 NAMES |= {100 + number: f"{call}, over tables" for number, call in enumerate(CALLS)}
@@ -86,9 +86,11 @@ def judge(known, folder):
         of_case = {int(name[4:]): runs[name].strip() for name in wanted if name.startswith(f"{case:03d}-")}
         assert of_case.pop(count + 1) == "behind 1", f"{NAMES[case]}: the call has no end"
         said = list(of_case.values())
-        refused, nothing = said.count("refused"), said.count("nothing")
-        assert refused + nothing == len(said) and refused > 0, f"{NAMES[case]}: {set(said)}"
-        print(f"{NAMES[case]}: {count} places, {len(said)} tried: {refused} refused, {nothing} answered")
+        counts = [said.count(word) for word in ("refused", "broken off", "nothing")]
+        assert sum(counts) == len(said) and sum(counts[:2]) > 0, f"{NAMES[case]}: {set(said)}"
+        assert (counts[1] > 0) == NAMES[case].startswith("a history"), f"{NAMES[case]}: {counts[1]} broken off"
+        told = "{} refused, {} broken off, {} answered".format(*counts)
+        print(f"{NAMES[case]}: {count} places, {len(said)} tried: {told}")
     print("ok")
 
 
