@@ -1,247 +1,338 @@
 """Refuses `gated` each of its requests for memory in turn, one a run, and sees what it does then.
 
-starved.py PROGRAM SHIM FOLDER MOST: SHIM is `refuse.c`, built. Of a command with over MOST places about so many are tried.
+starved.py PROGRAM SHIM FOLDER MOST JOBS [COMMAND..]: SHIM is `refuse.c`, built. Of a command with over MOST places
+about so many are tried, JOBS at a time. COMMAND names some of the commands, by default each that the program has.
 
-A run either does what it does with ample memory, or tells want of memory where that is documented: the command ends with
-a fault before it has read anything, or a line is answered `unavailable`. What was answered so, or never, has changed
-nothing, and when it is told again it gets its answer, and leaves the rows that it leaves with ample memory.
+A run either does what it does with ample memory, or tells want of memory where that is documented: the command ends
+with a fault before it has read anything, a line or a request is answered `unavailable`, a history breaks off. What was
+answered so, or never, has changed nothing, and when it is told again it gets its answer, and leaves the rows that it
+leaves with ample memory.
 """
-import os
-import shutil
-import subprocess
+import re
 import sys
 
-from talk import SETTINGS, line_of, refusal, rows_in
+from deliveries import DELIVERIES, ENTERED, ENTERING, HISTORY, LEAVING, QUEUED_FIRST, told
+from starving import AMPLE, Case, Files, Program, Sweep, copy
+from talk import SETTINGS, refusal
 
-UNAVAILABLE = refusal("E15") + b"\n"
+UNAVAILABLE = refusal("E15")
 
-EARLY = {(1, b"gated: I3 no-memory\n"), (1, b"gated: C11 no-memory\n"), (1, b"gated: O4 unavailable\n")}
+BEFORE = "before any line"
 
+COMMANDS = ["check", "replay", "init", "deliver", "serve"]
 
-def lines_of(*members):
-    """Lines of deliveries, with ids by their places."""
-    return [line_of({"id": f"0a000000-0000-4000-8000-{at:012}", **said}) for at, said in enumerate(members, 1)]
+MORE = ["status", "history"]
 
+NOT_SHUT = "done, but the file was not closed"
 
-def known(change, project, message=""):
-    return {"kind": "revision", "change": change, "project": project, "revision": 1, "message": message}
-
-
-def approved(change):
-    return {"kind": "approved", "change": change, "revision": 1}
+STORE = b"gated: I7 store\n"
 
 
-def took(count):
-    return [{"kind": "take", "worker": "w1"}] * count
+def head(status, kind, length):
+    fields = [f"HTTP/1.1 {status}", f"Content-Type: {kind}", length, "Connection: close", "", ""]
+    return "\r\n".join(field for field in fields if field is not None).encode()
 
 
-def ended(build, outcome):
-    return {"kind": "result", "build": build, "outcome": outcome}
+LENGTH = f"Content-Length: {len(UNAVAILABLE)}"
+
+SERVED_UNAVAILABLE = head("503 Service Unavailable", "application/json", LENGTH) + UNAVAILABLE
 
 
-def needs(change):
-    return f"Depends-On: https://forge/c/{change}"
+def texts(lines):
+    return b"".join(line + b"\n" for line in lines)
 
 
-WAITING = [known(101, "lib"), known(102, "app", needs(101)), approved(102)]
-QUEUED = [known(101, "lib"), known(102, "app"), known(103, "lib"), *map(approved, (101, 102, 103)), *took(3)]
-SHOWN = [known(101, "lib"), known(102, "app"), *map(approved, (101, 102)), *took(3), ended(1, "success"), ended(2, "success")]
-TWO = [known(101, "lib"), known(102, "app", needs(101)), *map(approved, (101, 102)), *took(3), ended(1, "failure")]
-THREE = [known(101, "lib"), known(102, "app"), known(103, "lib"), known(104, "app", needs(102))]
-THREE += [*map(approved, (101, 102, 103, 104)), *took(6), ended(3, "failure"), *took(2)]
-THREE += [ended(1, "success"), ended(2, "success")]
+class Check(Case):
+    name = "check"
 
-BUILD = b'{"after":0,"ahead":[[101,1],[102,1]],"build":4,"change":103,"job":"unit","queue":"core","reply":"build","revision":1}'
+    def __init__(self, gate):
+        self.gate = gate
+        self.words = ["check", gate.settings]
 
-# a delivery that changes an item or a record, what was told before, and its answer
-DELIVERIES = {
-    "revision": (QUEUED, {**known(101, "lib", needs(103)), "revision": 2}, b'{"reply":"recorded"}'),
-    "approved": (WAITING, approved(101), b'{"order":1,"reply":"queued"}'),
-    "withdrawn": (QUEUED, {"kind": "withdrawn", "change": 101, "revision": 1}, b'{"reply":"removed"}'),
-    "closed": (QUEUED, {"kind": "closed", "change": 101, "revision": 1}, b'{"reply":"removed"}'),
-    "landed": (SHOWN, {"kind": "landed", "order": 1}, b'{"n":1,"reply":"landed"}'),
-    "refused": (SHOWN, {"kind": "refused", "order": 1}, b'{"reply":"removed"}'),
-    "take": (QUEUED, {"kind": "take", "worker": "w2"}, BUILD),
-    "result": (QUEUED, ended(1, "failure"), b'{"reply":"noted"}'),
-    "result, two items leave": (TWO, ended(2, "success"), b'{"reply":"noted"}'),
-    "landed, three items leave": (THREE, {"kind": "landed", "order": 1}, b'{"n":1,"reply":"landed"}'),
-}
+    def run(self, folder, place):
+        return self.gate.program.run(self.words, b"", place)
 
-ENTERING = lines_of(*WAITING, approved(101))
-
-ENTERED = [b'{"reply":"recorded"}', b'{"reply":"recorded"}', b'{"reply":"waiting"}', b'{"order":1,"reply":"queued"}']
-
-
-class Run:
-    """A run of the program: how it ended, what it wrote, and whether the refused request was met."""
-
-    def __init__(self, words, given=b"", shim=None, place=0):
-        if shim is None:
-            done = subprocess.run(words, input=given, capture_output=True)
-            self.is_met = False
-        else:
-            reads, writes = os.pipe()
-            more = {**os.environ, "LD_PRELOAD": shim, "REFUSED": str(place), "MET": str(writes)}
-            done = subprocess.run(words, input=given, capture_output=True, env=more, pass_fds=[writes])
-            os.close(writes)
-            self.is_met = os.read(reads, 1) == b"!"
-            os.close(reads)
-        self.status, self.output, self.errors = done.returncode, done.stdout, done.stderr
-
-    def is_early(self):
-        """Whether it ended for want of memory before it read anything, in a documented way."""
-        is_usage = self.status == 2 and self.errors != b""
-        return self.output == b"" and (is_usage or (self.status, self.errors) in EARLY)
-
-    def is_done(self, output):
-        return self.status == 0 and self.errors == b"" and self.output == output
-
-    def __str__(self):
-        return f"status {self.status}, output {self.output[:300]}, errors {self.errors[:300]}"
-
-
-class Sweep:
-    """The places of a command, each in turn or some of them, up to the first run that meets none."""
-
-    def __init__(self, shim, most):
-        self.shim = shim
-        self.most = most
-
-    def places(self, run):
-        """How many requests a command makes: the first place that no run meets, less one."""
-        low, high = 0, 1
-        while run(high).is_met:
-            low, high = high, high * 2
-        while high - low > 1:
-            middle = (low + high) // 2
-            low, high = (middle, high) if run(middle).is_met else (low, middle)
-        return low
-
-    def over(self, name, run, judge):
-        """Judges a run at each place, by a word that says how it went."""
-        count = self.places(run)
-        words = {}
-        tried = range(1, count + 1, -(-count // self.most))
-        for place in tried:
-            done = run(place)
-            assert done.is_met, f"{name}: place {place} isn't met"
-            word = judge(done)
-            assert word, f"{name}: place {place}: {done}"
-            words[word] = words.get(word, 0) + 1
-        assert set(words) - {"as with ample memory"}, f"{name}: no refusal is told"
-        told = ", ".join(f"{number} {word}" for word, number in sorted(words.items()))
-        print(f"{name}: {count} places, {len(tried)} tried: {told}", flush=True)
-
-
-def copy(old, new):
-    for end in ("", "-wal"):
-        if os.path.exists(new + end):
-            os.remove(new + end)
-        if os.path.exists(old + end):
-            shutil.copyfile(old + end, new + end)
-
-
-def rows_of(file, folder):
-    """The rows of a copy, since a reader may write there."""
-    copy(file, f"{folder}/read")
-    return rows_in(f"{folder}/read")
-
-
-def delivered(program, settings, folder, sweep, name):
-    before, said, wanted = DELIVERIES[name]
-    start, file = f"{folder}/start", f"{folder}/file"
-    copy(f"{folder}/empty", start)
-    filled = Run([program, "deliver", settings, start], b"".join(line + b"\n" for line in lines_of(*before)))
-    assert filled.status == 0 and b"code" not in filled.output, filled
-    line = line_of({"id": "0b000000-0000-4000-8000-000000000001", **said}) + b"\n"
-    words, answer = [program, "deliver", settings, file], wanted + b"\n"
-    rows_before = rows_of(start, folder)
-    copy(start, file)
-    ample = Run(words, line)
-    assert ample.is_done(answer), ample
-    rows_after = rows_of(file, folder)
-
-    def run(place):
-        copy(start, file)
-        return Run(words, line, sweep.shim, place)
-
-    def judge(done):
-        if done.is_done(answer):
-            return "as with ample memory" if rows_of(file, folder) == rows_after else None
-        word = "before any line" if done.is_early() else "unavailable" if done.is_done(UNAVAILABLE) else None
-        if word is None or rows_of(file, folder) != rows_before:
-            return None
-        return word if Run(words, line).is_done(answer) and rows_of(file, folder) == rows_after else None
-
-    sweep.over(f"deliver, {name}", run, judge)
-
-
-def replayed(program, settings, sweep):
-    """Of the lines one may be answered `unavailable`, and the others then as if it weren't there."""
-    words, given = [program, "replay", settings, "--status"], b"".join(line + b"\n" for line in ENTERING)
-    ample = Run(words, given)
-    assert ample.output.startswith(b"".join(answer + b"\n" for answer in ENTERED)), ample
-    marked = set()
-    for place in range(len(ENTERING)):
-        others = Run(words, b"".join(line + b"\n" for line in ENTERING[:place] + ENTERING[place + 1 :])).output.split(b"\n")
-        marked.add(b"\n".join(others[:place] + [UNAVAILABLE[:-1]] + others[place:]))
-    answers = b"".join(answer + b"\n" for answer in ENTERED)
-
-    def judge(done):
-        if done.is_done(ample.output):
-            return "as with ample memory"
-        if done.status == 0 and done.errors == b"" and done.output in marked:
-            return "a line unavailable"
-        if (done.status, done.output, done.errors) == (1, answers, b"gated: E15 unavailable\n"):
-            return "no status"
-        return "before any line" if done.is_early() else None
-
-    sweep.over("replay", lambda place: Run(words, given, sweep.shim, place), judge)
-
-
-def checked(program, settings, sweep):
-    words = [program, "check", settings]
-    wanted = Run(words).output
-
-    def judge(done):
-        if done.is_done(wanted):
-            return "as with ample memory"
+    def judge(self, folder, done):
+        if done.is_done(b"ok: 2 queues, 3 projects, 4 jobs\n"):
+            return AMPLE
         return "told" if done.is_early() else None
 
-    sweep.over("check", lambda place: Run(words, b"", sweep.shim, place), judge)
+
+class Replay(Case):
+    """Of the lines one may be answered `unavailable`, and the others then as if it weren't there."""
+
+    def __init__(self, gate, name, lines, answers):
+        """The answers are those of the last lines."""
+        self.name = f"replay, {name}"
+        self.gate = gate
+        self.words = ["replay", gate.settings, "--status"]
+        self.lines = lines
+        self.ample = self.run(None, None).output
+        said = self.ample.split(b"\n")[: len(lines)]
+        assert said[-len(answers) :] == answers, self.ample
+        self.answers = texts(said)
+        self.marked = {self.without(place) for place in range(len(lines))}
+
+    def run(self, _, place, lines=None):
+        return self.gate.program.run(self.words, texts(self.lines if lines is None else lines), place)
+
+    def without(self, place):
+        others = self.run(None, None, self.lines[:place] + self.lines[place + 1 :]).output.split(b"\n")
+        return b"\n".join(others[:place] + [UNAVAILABLE] + others[place:])
+
+    def judge(self, folder, done):
+        if done.is_done(self.ample):
+            return AMPLE
+        if done.output in self.marked and done.is_done(done.output):
+            return "a line unavailable"
+        if (done.status, done.output, done.errors) == (1, self.answers, b"gated: E15 unavailable\n"):
+            return "no status"
+        return BEFORE if done.is_early() else None
 
 
-def made(program, settings, folder, sweep):
-    file = f"{folder}/file"
-    words = [program, "init", settings, file]
-    wanted = rows_of(f"{folder}/empty", folder)
+class Init(Case):
+    name = "init"
 
-    def run(place):
+    def __init__(self, gate):
+        self.gate = gate
+        self.wanted_rows = gate.files.rows(gate.empty)
+
+    def run(self, folder, place):
+        file = f"{folder}/file"
         copy(f"{folder}/none", file)
-        return Run(words, b"", sweep.shim, place)
+        return self.gate.program.run(["init", self.gate.settings, file], b"", place)
 
-    def judge(done):
+    def judge(self, folder, done):
+        file, files = f"{folder}/file", self.gate.files
         if done.is_done(b""):
-            return "as with ample memory" if rows_of(file, folder) == wanted else None
-        if not done.is_early():
+            return AMPLE if files.rows(file) == self.wanted_rows else None
+        if (done.status, done.output, done.errors) == (1, b"", STORE):
+            return NOT_SHUT if files.rows(file) == self.wanted_rows else None
+        if not done.is_early() or files.tables(file) != []:
             return None
-        return "told" if Run(words).is_done(b"") and rows_of(file, folder) == wanted else None
+        again = self.gate.program.run(["init", self.gate.settings, file])
+        return "told" if again.is_done(b"") and files.rows(file) == self.wanted_rows else None
 
-    sweep.over("init", run, judge)
+
+class OverFile(Case):
+    """A delivery over a file."""
+
+    def __init__(self, gate, folder, name):
+        self.gate = gate
+        self.start = f"{folder}/{name}"
+        before, line, answer = told(name)
+        self.line, self.answer = line + b"\n", answer + b"\n"
+        gate.make(self.start, before)
+        self.rows_before = gate.files.rows(self.start)
+        copy(self.start, f"{folder}/file")
+        assert self.is_answered(f"{folder}/file")
+        self.rows_after = gate.files.rows(f"{folder}/file")
+
+    def is_answered(self, file):
+        """The delivery is told, and gets its answer."""
+        return self.gate.program.run(["deliver", self.gate.settings, file], self.line).is_done(self.answer)
+
+    def is_taken(self, folder):
+        return self.gate.files.rows(f"{folder}/file") == self.rows_after
+
+    def is_as_before(self, folder):
+        """Nothing has changed, and the delivery gets its answer when it is told again."""
+        file = f"{folder}/file"
+        return self.gate.files.rows(file) == self.rows_before and self.is_answered(file) and self.is_taken(folder)
+
+
+class Deliver(OverFile):
+    def __init__(self, gate, folder, name):
+        super().__init__(gate, folder, name)
+        self.name = f"deliver, {name}"
+
+    def run(self, folder, place):
+        copy(self.start, f"{folder}/file")
+        words = ["deliver", self.gate.settings, f"{folder}/file"]
+        return self.gate.program.run(words, self.line, place)
+
+    def judge(self, folder, done):
+        if done.is_done(self.answer):
+            return AMPLE if self.is_taken(folder) else None
+        if (done.status, done.output, done.errors) == (1, self.answer, STORE):
+            return NOT_SHUT if self.is_taken(folder) else None
+        word = BEFORE if done.is_early() else "unavailable" if done.is_done(UNAVAILABLE + b"\n") else None
+        return word if word and self.is_as_before(folder) else None
+
+
+def word_of_connection(done, answer):
+    """What became of a client that gets this with ample memory, where it doesn't change what is kept."""
+    if done.is_told(0, SERVED_UNAVAILABLE, b""):
+        return "unavailable"
+    if done.is_told(0, b"", b"gated: I3 no-memory\n"):
+        return "nothing sent, and told"
+    if done.is_early() or (done.status, done.output, done.errors) == (1, b"", b"gated: I4 listen\n"):
+        return "before it listened"
+    return None
+
+
+class Post(OverFile):
+    """One client posts an approval."""
+
+    def __init__(self, gate, folder):
+        super().__init__(gate, folder, "approved")
+        self.name = "serve, approved"
+        body = self.line[:-1]
+        self.request = f"POST /forge HTTP/1.1\r\nHost: gate\r\nContent-Length: {len(body)}\r\n\r\n".encode() + body
+        self.ample = head("200 OK", "application/json", f"Content-Length: {len(QUEUED_FIRST)}") + QUEUED_FIRST
+
+    def run(self, folder, place):
+        copy(self.start, f"{folder}/file")
+        return self.gate.program.serve(self.gate.settings, f"{folder}/file", self.request, place)
+
+    def judge(self, folder, done):
+        if done.is_told(0, self.ample, b""):
+            return AMPLE if self.is_taken(folder) else None
+        if done.is_told(1, self.ample, STORE):
+            return NOT_SHUT if self.is_taken(folder) else None
+        word = word_of_connection(done, self.ample)
+        return word if word and self.is_as_before(folder) else None
+
+
+class OfHistory(Case):
+    """A question over a file from which many items have left."""
+
+    def __init__(self, gate):
+        self.gate = gate
+        self.rows = gate.files.rows(gate.left)
+
+    def is_kept(self, folder):
+        """Nothing has changed, and the question gets its answer when it is asked again."""
+        if self.gate.files.rows(f"{folder}/file") != self.rows:
+            return False
+        return self.judge_whole(self.ask(folder, None)) == AMPLE
+
+    def run(self, folder, place):
+        copy(self.gate.left, f"{folder}/file")
+        return self.ask(folder, place)
+
+    def judge(self, folder, done):
+        word = self.judge_whole(done) or self.word_of(done)
+        return word if word and self.is_kept(folder) else None
+
+
+class GetHistory(OfHistory):
+    """One client asks for the history: a beginning never has the last line, and its fault is told."""
+
+    name = "serve, a history"
+    wanted = "a beginning, and told"
+    ample = head("200 OK", "text/plain", None) + HISTORY
+
+    def ask(self, folder, place):
+        request = b"GET /history/core HTTP/1.1\r\nHost: gate\r\n\r\n"
+        return self.gate.program.serve(self.gate.settings, f"{folder}/file", request, place)
+
+    def judge_whole(self, done):
+        return AMPLE if done.is_told(0, self.ample, b"") else None
+
+    def word_of(self, done):
+        is_begun = b"" != done.answer != self.ample and self.ample.startswith(done.answer)
+        if is_begun and done.is_told(0, done.answer, STORE):
+            return self.wanted
+        if done.is_told(1, self.ample, STORE):
+            return NOT_SHUT
+        return word_of_connection(done, self.ample)
+
+
+class ShowHistory(OfHistory):
+    name = "history"
+    wanted = "a beginning, and told"
+
+    def ask(self, folder, place):
+        return self.gate.program.run(["history", self.gate.settings, f"{folder}/file", "core"], b"", place)
+
+    def judge_whole(self, done):
+        return AMPLE if done.is_done(HISTORY) else None
+
+    def word_of(self, done):
+        told = done.status, done.errors
+        if told == (1, STORE) and HISTORY.startswith(done.output):
+            return NOT_SHUT if done.output == HISTORY else self.wanted
+        if done.output == b"" and told == (1, b"gated: E15 unavailable\n"):
+            return "unavailable"
+        return "before it was asked" if done.is_early() else None
+
+
+class ShowStatus(OfHistory):
+    name = "status"
+
+    text = b"queue core window 4 landed 0\nqueue web window 2 landed 0\nend\n"
+
+    def ask(self, folder, place):
+        return self.gate.program.run(["status", self.gate.settings, f"{folder}/file"], b"", place)
+
+    def judge_whole(self, done):
+        return AMPLE if done.is_done(self.text) else None
+
+    def word_of(self, done):
+        if (done.status, done.output, done.errors) == (1, self.text, STORE):
+            return NOT_SHUT
+        if (done.status, done.output, done.errors) == (1, b"", b"gated: E15 unavailable\n"):
+            return "unavailable"
+        return "before it was asked" if done.is_early() else None
+
+
+class Gate:
+    """The program, its settings, and its files: an empty one, and one that many items have left."""
+
+    def __init__(self, program, folder):
+        self.program = program
+        self.files = Files()
+        self.settings = f"{folder}/settings.toml"
+        with open(self.settings, "w") as kept:
+            kept.write(SETTINGS)
+        self.empty, self.left = f"{folder}/empty", f"{folder}/left"
+        assert program.run(["init", self.settings, self.empty]).is_done(b"")
+        self.make(self.left, LEAVING)
+
+    def make(self, file, lines):
+        """A file that was told these lines."""
+        copy(self.empty, file)
+        filled = self.program.run(["deliver", self.settings, file], texts(lines))
+        assert filled.status == 0 and b"code" not in filled.output, filled
+
+    def commands(self):
+        """The commands that the program has, of those that are known here."""
+        _, _, listed = self.program.run(["--help"]).output.decode().partition("\nCommands:\n")
+        named = re.findall(r"^  ([a-z]+) ", listed, re.M)
+        assert set(COMMANDS) <= set(named), named
+        return COMMANDS + [name for name in MORE if name in named]
+
+
+def cases(gate, folder, command):
+    if command == "check":
+        yield Check(gate)
+    elif command == "init":
+        yield Init(gate)
+    elif command == "replay":
+        yield Replay(gate, "four lines", ENTERING, ENTERED)
+        for name in DELIVERIES:
+            before, line, answer = told(name)
+            yield Replay(gate, name, [*before, line, line], [answer, answer])
+    elif command == "deliver":
+        for name in DELIVERIES:
+            yield Deliver(gate, folder, name)
+    elif command == "serve":
+        yield Post(gate, folder)
+        yield GetHistory(gate)
+    elif command == "status":
+        yield ShowStatus(gate)
+    elif command == "history":
+        yield ShowHistory(gate)
 
 
 def main():
-    program, shim, folder, most = sys.argv[1:]
-    settings = f"{folder}/settings.toml"
-    with open(settings, "w") as kept:
-        kept.write(SETTINGS)
-    assert Run([program, "init", settings, f"{folder}/empty"]).is_done(b"")
-    sweep = Sweep(shim, int(most))
-    checked(program, settings, sweep)
-    replayed(program, settings, sweep)
-    made(program, settings, folder, sweep)
-    for name in DELIVERIES:
-        delivered(program, settings, folder, sweep, name)
+    path, shim, folder, most, jobs, *chosen = sys.argv[1:]
+    gate = Gate(Program(path, shim), folder)
+    sweep = Sweep(folder, int(most), int(jobs))
+    for command in chosen or gate.commands():
+        for case in cases(gate, folder, command):
+            sweep.over(case)
     print("ok")
 
 
