@@ -1,5 +1,6 @@
 //! Connections over loopback, one after another, with the responses typed from the formats.
 use crate::gates::{KNOWN, new_gate, told};
+use crate::torn::Torn;
 use gate_book::memory::MemBook;
 use gate_core::gate::Gate;
 use gate_http::connections::serve;
@@ -19,11 +20,17 @@ const HALF: &str =
 
 const STATUS: &str = "GET /status HTTP/1.1\r\nHost: gate\r\n\r\n";
 
+const HISTORY: &str = "GET /history/core HTTP/1.1\r\nHost: gate\r\n\r\n";
+
 const QUEUED: &str =
     "HTTP/1.1 200 OK\r\nContent-Type: application/json\r\nContent-Length: 28\r\nConnection: close\r\n\r\n{\"order\":1,\"reply\":\"queued\"}";
 
 const CUT: &str =
     "HTTP/1.1 400 Bad Request\r\nContent-Type: application/json\r\nContent-Length: 15\r\nConnection: close\r\n\r\n{\"error\":\"cut\"}";
+
+/// The head of an answered history, and the first line of its text.
+const TORN: &str =
+    "HTTP/1.1 200 OK\r\nContent-Type: text/plain\r\nConnection: close\r\n\r\nhistory core\n";
 
 const ONE_ITEM: &str =
     "HTTP/1.1 200 OK\r\nContent-Type: text/plain\r\nContent-Length: 124\r\nConnection: close\r\n\r\nqueue core window 2 landed 0\n     1       101    1      - ok      unit=waiting docs=waiting\nqueue web window 2 landed 0\nend\n";
@@ -112,4 +119,31 @@ fn lost_clients<N: Net + Abort>(
 fn lost_clients_are_passed(rt: HostRuntime) -> Result<(), Fail> {
     let mut gate = new_gate(rt.alloc())?;
     lost_clients(&rt, &mut gate, rt.alloc())
+}
+
+/// One client asks for a history, which breaks off, and then one approves a change.
+fn torn_then_served<N: Net + Abort>(
+    net: &N,
+    gate: &mut Gate<Torn>,
+    alloc: Global,
+) -> Result<(), Fail> {
+    let listener = TcpListener::bind(net, "127.0.0.1:0")?;
+    let first = client(net, &listener, HISTORY)?;
+    let second = client(net, &listener, APPROVAL)?;
+    let mut errors = Tap::new(Vec::new(alloc));
+    assert!(net; serve(alloc, &listener, gate, 2, &mut errors).is_ok());
+    assert_eq!(net;
+        errors.into_inner().as_slice(),
+        b"gated: I7 store\n".as_slice()
+    );
+    was_answered(net, alloc, first, TORN)?;
+    was_answered(net, alloc, second, QUEUED)
+}
+
+#[test]
+fn a_history_that_breaks_off_is_told_and_the_next_is_served(rt: HostRuntime) -> Result<(), Fail> {
+    let mut gate = new_gate(rt.alloc())?;
+    told(rt.alloc(), &mut gate, KNOWN)?;
+    let Gate { config, book } = gate;
+    torn_then_served(&rt, &mut Gate::new(config, Torn(book)), rt.alloc())
 }

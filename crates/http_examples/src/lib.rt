@@ -11,3 +11,5 @@ mod gates;
 mod requests;
 #[cfg(test)]
 mod streams;
+#[cfg(test)]
+mod torn;

@@ -40,6 +40,10 @@ const IDLE: &str = "\r\n\r\n{\"code\":\"E12\",\"error\":\"idle\"}";
 
 const BAD_JSON: &str = "\r\n\r\n{\"code\":\"E1\",\"error\":\"bad-json\"}";
 
+/// A delivery, but for a byte of its message that is none of UTF-8.
+const NOT_UTF8: &[u8] =
+    b"POST /forge HTTP/1.1\r\nContent-Length: 119\r\n\r\n{\"id\":\"00000000-0000-4000-8000-000000000001\",\"kind\":\"revision\",\"change\":101,\"project\":\"lib\",\"revision\":1,\"message\":\"\xff\"}";
+
 const BAD_DELIVERY: &str = "\r\n\r\n{\"code\":\"E2\",\"error\":\"bad-delivery\"}";
 
 /// Two changes are queued, their three jobs are given to workers, and the first build fails.
@@ -169,5 +173,7 @@ fn hostile_bodies_are_refused(rt: HostRuntime) -> Result<(), Fail> {
     ] {
         is_answered(&rt, rt.alloc(), &mut gate, row)?;
     }
+    let (_, bytes) = serve_bytes(rt.alloc(), &mut gate, NOT_UTF8)?;
+    assert!(rt; bytes.as_slice().ends_with(BAD_JSON.as_bytes()));
     Ok(())
 }

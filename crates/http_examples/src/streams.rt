@@ -104,19 +104,23 @@ fn a_cut_answer_is_given_again(rt: HostRuntime) -> Result<(), Fail> {
 }
 
 /// A change is approved over a writer that fails, and then again.
-fn approves_twice(alloc: Global, writes: usize) -> Result<(Vec<u8>, Vec<u8>), Fail> {
+fn approves_twice(
+    alloc: Global,
+    writes: usize,
+) -> Result<(Result<Served, IoFault>, Vec<u8>, Vec<u8>), Fail> {
     let mut gate = new_gate(alloc)?;
     told(alloc, &mut gate, KNOWN)?;
     let request = posting(alloc, "forge", APPROVED)?;
-    let (_, first) = written(alloc, &mut gate, request.as_str(), 1000, writes);
+    let (served, first) = written(alloc, &mut gate, request.as_str(), 1000, writes);
     let (_, second) = written(alloc, &mut gate, request.as_str(), 1000, 1000);
-    Ok((first, second))
+    Ok((served, first, second))
 }
 
 #[test]
 fn a_repeat_after_a_cut_answer_gets_the_kept_reply(rt: HostRuntime) -> Result<(), Fail> {
     for writes in 0..QUEUED.len() {
-        let (first, second) = approves_twice(rt.alloc(), writes)?;
+        let (served, first, second) = approves_twice(rt.alloc(), writes)?;
+        assert_eq!(rt; served, Err(IoFault::Write));
         assert_eq!(rt; first.as_slice(), &QUEUED.as_bytes()[..writes]);
         assert_eq!(rt; second.as_slice(), QUEUED.as_bytes());
     }

@@ -1,0 +1,108 @@
+//! A book whose histories break off.
+use gate_book::book::Book;
+use gate_book::fault::{BookFault, HistoryFault};
+use gate_book::memory::MemBook;
+use gate_book::rows::{QueueSizes, QueuedItem};
+use gate_types::edits::Edit;
+use gate_types::names::Name;
+use gate_types::numbers::{BuildNo, ChangeNo, Serial};
+use gate_types::records::{Build, Change, Counters, Id, Item, Kept, Ready};
+use gate_types::sequence::Sequence;
+use gate_types::tap::Tap;
+use std::io::Write;
+
+/// Answers as the book in it, but that a history ends behind its first line.
+#[derive(Drop)]
+pub struct Torn(pub MemBook);
+
+impl Book for Torn {
+    ghost Holds = { λ _ _ _. ⊥ };
+
+    ghost IsTrusted = { λ _. ⊥ };
+
+    ghost LeavesOneOf = { λ _ _ _. Unit {0} };
+
+    ghost MayFault = { λ _. Unit {0} };
+
+    ghost leaves_more = { λ _ _ _ _ h. h };
+
+    fn delivery(&mut self, id: &Id) -> Result<Option<Kept>, BookFault> {
+        self.0.delivery(id)
+    }
+
+    fn change(&mut self, number: ChangeNo) -> Result<Option<Change>, BookFault> {
+        self.0.change(number)
+    }
+
+    fn queue(&mut self, name: &Name) -> Result<Option<QueueSizes>, BookFault> {
+        self.0.queue(name)
+    }
+
+    fn reports(&mut self, queue: &Name) -> Result<u64, BookFault> {
+        self.0.reports(queue)
+    }
+
+    fn landing_before(&mut self, queue: &Name, serial: Serial) -> Result<u64, BookFault> {
+        self.0.landing_before(queue, serial)
+    }
+
+    fn items(&mut self, queue: &Name) -> Result<Sequence<Item>, BookFault> {
+        self.0.items(queue)
+    }
+
+    fn item(&mut self, serial: Serial) -> Result<Option<Item>, BookFault> {
+        self.0.item(serial)
+    }
+
+    fn queued(&mut self, change: ChangeNo) -> Result<Option<QueuedItem>, BookFault> {
+        self.0.queued(change)
+    }
+
+    fn next_item(&mut self, queue: &Name, above: u64) -> Result<Option<Item>, BookFault> {
+        self.0.next_item(queue, above)
+    }
+
+    fn last_item(&mut self, queue: &Name, below: u64) -> Result<Option<Item>, BookFault> {
+        self.0.last_item(queue, below)
+    }
+
+    fn needing(
+        &mut self,
+        queue: &Name,
+        change: ChangeNo,
+        above: u64,
+    ) -> Result<Option<Item>, BookFault> {
+        self.0.needing(queue, change, above)
+    }
+
+    fn live_builds(&mut self, serial: Serial) -> Result<Sequence<Build>, BookFault> {
+        self.0.live_builds(serial)
+    }
+
+    fn build(&mut self, number: BuildNo) -> Result<Option<Build>, BookFault> {
+        self.0.build(number)
+    }
+
+    fn ready(&mut self) -> Result<Sequence<Ready>, BookFault> {
+        self.0.ready()
+    }
+
+    fn counters(&mut self) -> Result<Counters, BookFault> {
+        self.0.counters()
+    }
+
+    fn history<W: Write>(
+        &mut self,
+        _queue: &str,
+        front: &[u8],
+        w: &mut Tap<W>,
+    ) -> Result<(), HistoryFault> {
+        w.write_all(front)?;
+        w.write_line("history core")?;
+        Err(HistoryFault::Broken)
+    }
+
+    fn apply(&mut self, edits: &[Edit]) -> Result<(), BookFault> {
+        self.0.apply(edits)
+    }
+}
