@@ -10,18 +10,43 @@ use std::alloc::Global;
 use std::process::Abort;
 use std::test::Fail;
 
+/// A change is approved and waits for the one that it needs, which is approved then.
 const LINES: &str =
-    r#"{"id":"00000000-0000-4000-8000-000000000001","kind":"revision","change":102,"project":"app","revision":1,"message":""}
-{"id":"00000000-0000-4000-8000-000000000002","kind":"approved","change":102,"revision":1}
+    r#"{"id":"00000000-0000-4000-8000-000000000001","kind":"revision","change":101,"project":"lib","revision":1,"message":""}
+{"id":"00000000-0000-4000-8000-000000000002","kind":"revision","change":102,"project":"app","revision":1,"message":"Depends-On: https://forge/c/101"}
+{"id":"00000000-0000-4000-8000-000000000003","kind":"approved","change":102,"revision":1}
+{"id":"00000000-0000-4000-8000-000000000004","kind":"approved","change":101,"revision":1}
 "#;
 
-const ANSWERS: &str = "{\"reply\":\"recorded\"}\n{\"order\":1,\"reply\":\"queued\"}\n";
+const ANSWERS: &str =
+    "{\"reply\":\"recorded\"}\n{\"reply\":\"recorded\"}\n{\"reply\":\"waiting\"}\n{\"order\":1,\"reply\":\"queued\"}\n";
 
-/// Other deliveries under the ids of the lines.
+/// Another delivery, under the id of each of the lines in turn.
 const OTHERS: &str =
     r#"{"id":"00000000-0000-4000-8000-000000000001","kind":"approved","change":103,"revision":1}
 {"id":"00000000-0000-4000-8000-000000000002","kind":"approved","change":103,"revision":1}
+{"id":"00000000-0000-4000-8000-000000000003","kind":"approved","change":103,"revision":1}
+{"id":"00000000-0000-4000-8000-000000000004","kind":"approved","change":103,"revision":1}
 "#;
+
+const REUSED: &str = "{\"code\":\"E4\",\"error\":\"id-reused\"}\n";
+
+const UNKNOWN: &str = "{\"code\":\"E5\",\"error\":\"unknown-change\"}\n";
+
+/// How many lines end within so many bytes.
+fn lines_within(text: &[u8], length: usize) -> usize {
+    text.iter()
+        .take(length)
+        .filter(|byte| **byte == b'\n')
+        .count()
+}
+
+/// Whether these are the answers to so many lines, each of them whole.
+fn are_answers(written: &[u8], lines: usize) -> bool {
+    ANSWERS.as_bytes().starts_with(written)
+        && lines_within(written, written.len()) == lines
+        && (written.is_empty() || written.ends_with(b"\n"))
+}
 
 /// The count, and what a writer takes that fails after some bytes.
 fn taken_by(
@@ -62,27 +87,23 @@ fn continues(
     gate: &mut Gate<MemBook>,
     spent: usize,
 ) -> Result<(), IoFault> {
-    let answers = match spent {
-        0 =>
-            "{\"code\":\"E5\",\"error\":\"unknown-change\"}\n{\"code\":\"E5\",\"error\":\"unknown-change\"}\n",
-        1 =>
-            "{\"code\":\"E4\",\"error\":\"id-reused\"}\n{\"code\":\"E5\",\"error\":\"unknown-change\"}\n",
-        _ =>
-            "{\"code\":\"E4\",\"error\":\"id-reused\"}\n{\"code\":\"E4\",\"error\":\"id-reused\"}\n",
-    };
-    tells(rt, gate, OTHERS, answers)?;
+    for (place, other) in OTHERS.lines().enumerate() {
+        let answer = if place < spent { REUSED } else { UNKNOWN };
+        tells(rt, gate, other, answer)?;
+    }
     tells(rt, gate, LINES, ANSWERS)
 }
 
+/// The answers have 91 bytes. The delivery whose answer is cut stands.
 #[test]
 fn after_a_write_error_the_delivery_stands(rt: HostRuntime) -> Result<(), Fail> {
-    for left in 0..51 {
+    for left in 0..92 {
         let mut gate = new_gate(rt.alloc())?;
         let (count, taken) = taken_by(rt.alloc(), &mut gate, left);
-        let wanted = if left < 50 {
+        let wanted = if left < 91 {
             Err(IoFault::Write)
         } else {
-            Ok(2)
+            Ok(4)
         };
         assert_eq!(rt; count, wanted, "after {left} bytes");
         assert_eq!(rt; taken.len(), left);
@@ -90,22 +111,22 @@ fn after_a_write_error_the_delivery_stands(rt: HostRuntime) -> Result<(), Fail> 
             ANSWERS.as_bytes().starts_with(taken.as_slice()),
             "after {left} bytes"
         );
-        let spent = if left < 21 { 1 } else { 2 };
-        continues(&rt, &mut gate, spent)?;
+        let answered = lines_within(ANSWERS.as_bytes(), left);
+        continues(&rt, &mut gate, answered.saturating_add(1))?;
     }
     Ok(())
 }
 
+/// The lines have 449 bytes.
 #[test]
 fn a_line_that_a_read_error_cut_is_new_later(rt: HostRuntime) -> Result<(), Fail> {
-    for left in 0..209 {
+    for left in 0..450 {
         let mut gate = new_gate(rt.alloc())?;
         let (count, written) = written_after(rt.alloc(), &mut gate, left);
         assert_eq!(rt; count, Err(IoFault::Read), "after {left} reads");
-        let (spent, length) = if left < 119 { (0, 0) } else { (1, 21) };
-        assert_eq!(rt; written.len(), length, "after {left} reads");
+        let spent = lines_within(LINES.as_bytes(), left);
         assert!(rt;
-            ANSWERS.as_bytes().starts_with(written.as_slice()),
+            are_answers(written.as_slice(), spent),
             "after {left} reads"
         );
         continues(&rt, &mut gate, spent)?;

@@ -62,7 +62,10 @@ fn a_delivery_of_65_536_bytes_is_taken(rt: HostRuntime) -> Result<(), Fail> {
     let mut gate = new_gate(alloc)?;
     let line = padded(revising(alloc, "lib", 1, "")?, 65_536)?;
     tells(&rt, &mut gate, line.as_str(), RECORDED)?;
-    let line = padded(revising(alloc, "lib", 2, "")?, 65_537)?;
-    tells(&rt, &mut gate, line.as_str(), TOO_LARGE)?;
+    let long = padded(revising(alloc, "lib", 2, "")?, 65_537)?;
+    let good = revising(alloc, "lib", 3, "")?;
+    let lines = format!(in alloc; "{long}\n{good}\n")?;
+    let answers = format!(in alloc; "{TOO_LARGE}{RECORDED}")?;
+    tells(&rt, &mut gate, lines.as_str(), answers.as_str())?;
     Ok(())
 }
