@@ -69,6 +69,7 @@ no_file_fault X (Err fault.Read) h = refl
 no_file_fault X (Err fault.Write) h = refl
 no_file_fault X (Err fault.Listener) h = refl
 no_file_fault X (Err fault.SettingsFile) h = refl
+no_file_fault X (Err fault.NoQueue) h = refl
 no_file_fault X (Err fault.Store) h = refl
 
 -- and one of serving over a file
@@ -81,6 +82,7 @@ serving_over (fault.Settings s) of = absurd of
 serving_over fault.Unavailable of = absurd of
 serving_over fault.Read of = absurd of
 serving_over fault.SettingsFile of = absurd of
+serving_over fault.NoQueue of = absurd of
 serving_over fault.Store of = absurd of
 
 pub serving_over_file : (X : Fault → Type 0) (r : Result (Unit {0}) Fault) → IfErr r (λ f. IsOfServing f × X f) → IfErr r (λ f. IsOfServingOver f × X f)
@@ -106,6 +108,7 @@ making_of fault.Read of = absurd of
 making_of fault.Write of = absurd of
 making_of fault.SettingsFile of = absurd of
 making_of fault.Listener of = absurd of
+making_of fault.NoQueue of = absurd of
 making_of fault.Store of = absurd of
 
 -- what was made, or why not, and then closed
@@ -126,6 +129,7 @@ answering_of (fault.Settings s) b a stops cut other = absurd (other (λ e. cc) (
 answering_of fault.Unavailable b a stops cut other = absurd (other (λ e. cc) (λ e. cc)).0
 answering_of fault.SettingsFile b a stops cut other = absurd (other (λ e. cc) (λ e. cc)).0
 answering_of fault.Listener b a stops cut other = absurd (other (λ e. cc) (λ e. cc)).0
+answering_of fault.NoQueue b a stops cut other = absurd (other (λ e. cc) (λ e. cc)).0
 answering_of fault.Store b a stops cut other = absurd (other (λ e. cc) (λ e. cc)).0
 
 -- what was answered, or why not, and then closed

@@ -4,5 +4,6 @@ pub mod TellLemmas
 pub mod EndLemmas
 pub mod CheckLemmas
 mod FileLemmas
+pub mod ShowLemmas
 pub mod TalkLemmas
 pub mod NumberLemmas

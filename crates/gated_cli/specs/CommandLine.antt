@@ -13,7 +13,7 @@ use Rattle.clap.specs.declared.builder.action.ArgAction.TheVariants.{SetTrue}
 use Rattle.clap.specs.declared.builder.value_parser.ValueParser.TheVariants.{Unsigned}
 use Rattle.clap.specs.ValueTests.{is_unsigned_in}
 use Rattle.gated_cli.specs.declared.command.Cmd.{Cmd}
-use Rattle.gated_cli.specs.declared.command.Cmd.TheVariants.{Check, Init, Replay, Deliver, Serve}
+use Rattle.gated_cli.specs.declared.command.Cmd.TheVariants.{Check, Init, Replay, Deliver, Status, History, Serve}
 
 -- the settings file, a word that has to be there
 abbrev pub settings_rule : Rule
@@ -22,6 +22,10 @@ settings_rule = record (new_rule (codes "settings")) { required = true; value_na
 -- the gate's file, the word behind
 abbrev pub file_rule : Rule
 file_rule = record (new_rule (codes "file")) { required = true; value_names = 1 }
+
+-- the queue's name, the word behind
+abbrev pub queue_rule : Rule
+queue_rule = record (new_rule (codes "queue")) { required = true; value_names = 1 }
 
 -- the flag `--status`
 abbrev pub status_rule : Rule
@@ -56,6 +60,14 @@ init = over_file (codes "init")
 abbrev pub deliver : App
 deliver = over_file (codes "deliver")
 
+-- `status SETTINGS FILE`
+abbrev pub status : App
+status = over_file (codes "status")
+
+-- `history SETTINGS FILE QUEUE`
+abbrev pub history : App
+history = with_rule (over_file (codes "history")) queue_rule
+
 -- the highest port
 abbrev pub most_port : ℕ
 most_port = 65535
@@ -75,9 +87,9 @@ bare = new_app (codes "gated")
 
 -- the program's command line, where a command has to be given
 abbrev pub gated : App
-gated = with_subcommand (with_subcommand (with_subcommand (with_subcommand (with_subcommand
-    (record bare { top = record bare.top { subcommand_required = true } })
-    check.top) init.top) replay.top) deliver.top) serve.top
+gated = with_subcommand (with_subcommand (with_subcommand (with_subcommand (with_subcommand (with_subcommand
+    (with_subcommand (record bare { top = record bare.top { subcommand_required = true } })
+    check.top) init.top) replay.top) deliver.top) status.top) history.top) serve.top
 
 -- what a command line says
 pub data Said : Type 0 where
@@ -85,6 +97,8 @@ pub data Said : Type 0 where
   init_of : Text × Text → Said
   replay_of : Text → Bool → Said
   deliver_of : Text × Text → Said
+  showing_of : Text × Text → Said
+  history_of : Text × Text → Text → Said
   serve_of : Text × Text → ℕ → ℕ → Said
 
 abbrev pub said : Option Cmd → Option Said
@@ -93,6 +107,8 @@ said (Some (Check settings)) = Some (check_of settings.now)
 said (Some (Init settings file)) = Some (init_of (settings.now, file.now))
 said (Some (Replay settings status)) = Some (replay_of settings.now status)
 said (Some (Deliver settings file)) = Some (deliver_of (settings.now, file.now))
+said (Some (Status settings file)) = Some (showing_of (settings.now, file.now))
+said (Some (History settings file queue)) = Some (history_of (settings.now, file.now) queue.now)
 said (Some (Serve settings file port count)) = Some (serve_of (settings.now, file.now) port count)
 
 -- a flag was given
@@ -116,6 +132,11 @@ numbers_of rows = option_and_then (λ p. option_map (λ n. (p, n))
     (option_and_then (number_in 1 most_count) (first_of (codes "count") rows)))
     (option_and_then (number_in 0 most_port) (first_of (codes "port") rows))
 
+-- what `history` and its rows say
+abbrev pub told_of : List Row → Option Said
+told_of rows =
+    option_and_then (λ f. option_map (λ q. history_of f q) (first_of (codes "queue") rows)) (files_of rows)
+
 -- what `serve` and its rows say
 abbrev pub served_of : List Row → Option Said
 served_of rows = option_and_then (λ f. option_map (λ n. serve_of f n.0 n.1) (numbers_of rows)) (files_of rows)
@@ -128,7 +149,9 @@ said_of (name, rows) =
     if bytes_eq name (codes "replay") then option_map
     (λ s. replay_of s (is_set (first_of (codes "status") rows))) (first_of (codes "settings") rows) else (
     if bytes_eq name (codes "deliver") then option_map deliver_of (files_of rows) else (
-    if bytes_eq name (codes "serve") then served_of rows else None))))
+    if bytes_eq name (codes "status") then option_map showing_of (files_of rows) else (
+    if bytes_eq name (codes "history") then told_of rows else (
+    if bytes_eq name (codes "serve") then served_of rows else None))))))
 
 abbrev pub says : Option Cmd → Option (Text × List Row) → Type 0
 says cmd rows = said cmd ≡ option_and_then said_of rows

@@ -1,5 +1,5 @@
 -- What a command has read and written once it is done.
-use Rattle.std.specs.Prelude.{◌≡◌, ◌≢◌, ◌<◌, ◌≤◌, ℕ, Bool, List, [], ◌∷◌, ◌++◌, length, Option, Ok, if◌then◌else◌, codes, decimal}
+use Rattle.std.specs.Prelude.{◌≡◌, ◌≢◌, ◌<◌, ◌≤◌, ℕ, Bool, false, List, [], ◌∷◌, ◌++◌, length, Option, Ok, if◌then◌else◌, codes, decimal}
 use Rattle.std.specs.List.{sum_by}
 use Rattle.std.specs.Io.KnownBytes.{Appends, Consumes, IsAtEnd}
 use Rattle.gate_types.specs.Settings.{Settings}
@@ -8,7 +8,7 @@ use Rattle.gate_types.specs.Tap.{inside, has_failed}
 use Rattle.gate_types.specs.declared.tap.Tap.{Tap}
 use Rattle.gate_config.specs.Reading.{said_by}
 use Rattle.gated_cli.specs.declared.command.Cmd.{Cmd}
-use Rattle.gated_cli.specs.declared.command.Cmd.TheVariants.{Check, Init, Replay, Deliver, Serve}
+use Rattle.gated_cli.specs.declared.command.Cmd.TheVariants.{Check, Init, Replay, Deliver, Status, History, Serve}
 use Rattle.gate_core.specs.Gated.{Gated, opened}
 use Rattle.gate_core.specs.Lines.{lines_of}
 use Rattle.gate_core.specs.Replies.{Replayed}
@@ -81,6 +81,17 @@ pub record Delivers (before after : Streams) : Type 0 where
   pub replies : List ℕ
   pub written : Appends before.held after.held replies
 
+-- the input is left alone, and the output hasn't failed; what it took, no stream tells
+pub record Looks (before after : Streams) : Type 0 where
+  pub unread : after.left ≡ before.left
+  pub unfailed : after.output_failed ≡ false
+
+-- the input is left alone, and the output hasn't failed and grows by a text; which it is, no stream tells
+pub record Prints (before after : Streams) : Type 0 where
+  pub looks : Looks before after
+  pub text : List ℕ
+  pub written : Appends before.held after.held text
+
 -- a listener that was asked for a port has this one: the same, or any but 0 where 0 was asked for
 pub record IsPortFor (asked port : ℕ) : Type 0 where
   pub real : 0 < port
@@ -104,4 +115,6 @@ Does (Check settings) before after = Checks before after
 Does (Init settings file) before after = after ≡ before
 Does (Replay settings status) before after = Replays status before after
 Does (Deliver settings file) before after = Delivers before after
+Does (Status settings file) before after = Prints before after
+Does (History settings file queue) before after = Looks before after
 Does (Serve settings file port count) before after = Announces port before after

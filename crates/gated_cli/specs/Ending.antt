@@ -10,9 +10,9 @@ use Rattle.gate_core.specs.Gated.{Gated, opened}
 use Rattle.gate_core.specs.Lines.{whole_lines, ReadFor}
 use Rattle.gate_core.specs.Replies.{Replayed, Cut}
 use Rattle.gated_cli.specs.Doing.{Streams, Answers, Delivers, HasSettings, settings_limit, status_of, check_text}
-use Rattle.gated_cli.specs.Doing.{Announces, IsPortFor, listening_line}
+use Rattle.gated_cli.specs.Doing.{Announces, IsPortFor, Looks, Prints, listening_line}
 use Rattle.gated_cli.specs.declared.command.Cmd.{Cmd}
-use Rattle.gated_cli.specs.declared.command.Cmd.TheVariants.{Check, Init, Replay, Deliver, Serve}
+use Rattle.gated_cli.specs.declared.command.Cmd.TheVariants.{Check, Init, Replay, Deliver, Status, History, Serve}
 use Rattle.gated_cli.specs.declared.run.fault.Fault.{Fault}
 use Rattle.gated_cli.specs.declared.run.fault.Fault.TheVariants as fault
 
@@ -116,6 +116,32 @@ DeliveryEnds fault.Write before after = DeliveryIsCut before after
 DeliveryEnds fault.Store before after = Delivers before after
 DeliveryEnds fault before after = IsEarly fault × (after ≡ before)
 
+-- the output failed, and the input is left alone
+pub record LookIsCut (before after : Streams) : Type 0 where
+  pub unread : after.left ≡ before.left
+  pub failed : after.output_failed ≡ true
+
+-- the output failed within some text, and the input is left alone
+pub record PrintIsCut (before after : Streams) : Type 0 where
+  pub cut : LookIsCut before after
+  pub text : List ℕ
+  pub written : WritesFront before.held after.held text
+
+-- how showing the status of a gate in a file ends with a fault; it is printed where the file can't be closed
+abbrev pub StatusEnds : Fault → Streams → Streams → Type 0
+StatusEnds fault.Write before after = PrintIsCut before after
+StatusEnds fault.Store before after = Prints before after
+StatusEnds fault.Unavailable before after = after ≡ before
+StatusEnds fault before after = IsEarly fault × (after ≡ before)
+
+-- how showing a history ends with a fault; it broke off, or the file can't be closed, where the store failed
+abbrev pub HistoryEnds : Fault → Streams → Streams → Type 0
+HistoryEnds fault.Write before after = LookIsCut before after
+HistoryEnds fault.Store before after = Looks before after
+HistoryEnds fault.Unavailable before after = after ≡ before
+HistoryEnds fault.NoQueue before after = after ≡ before
+HistoryEnds fault before after = IsEarly fault × (after ≡ before)
+
 -- the output failed within the line that names the port
 pub record AnnouncementIsCut (asked : ℕ) (before after : Streams) : Type 0 where
   pub port : ℕ
@@ -150,6 +176,8 @@ EndsBy fault (Check settings) before after = CheckEnds fault before after
 EndsBy fault (Init settings file) before after = IsOfMaking fault × (after ≡ before)
 EndsBy fault (Deliver settings file) before after = DeliveryEnds fault before after
 EndsBy fault (Replay settings status) before after = ReplayEnds status fault before after
+EndsBy fault (Status settings file) before after = StatusEnds fault before after
+EndsBy fault (History settings file queue) before after = HistoryEnds fault before after
 EndsBy fault (Serve settings file port count) before after = ServingEnds port fault before after
 
 -- the whole text is written, or a beginning where the writer has failed

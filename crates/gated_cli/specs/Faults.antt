@@ -3,6 +3,8 @@ use Rattle.std.specs.Prelude.{ℕ, List, [], ◌∷◌, ◌++◌, codes}
 use Rattle.gate_config.specs.Words.{word_of}
 use Rattle.gate_config.specs.declared.fault.ConfigFault.{ConfigFault}
 use Rattle.gate_config.specs.declared.fault.ConfigFault.TheVariants as config
+use Rattle.gate_book.specs.declared.fault.HistoryFault.{HistoryFault}
+use Rattle.gate_book.specs.declared.fault.HistoryFault.TheVariants as history
 use Rattle.gate_core.specs.declared.fault.IoFault.{IoFault}
 use Rattle.gate_core.specs.declared.fault.IoFault.TheVariants as io
 use Rattle.gate_sql.specs.declared.open_fault.OpenFault.{OpenFault}
@@ -45,6 +47,7 @@ text_of fault.Write = codes "I2 write"
 text_of fault.NoMemory = codes "I3 no-memory"
 text_of fault.Listener = codes "I4 listen"
 text_of fault.SettingsFile = codes "I5 settings-file"
+text_of fault.NoQueue = codes "I6 no-queue"
 text_of fault.Store = codes "I7 store"
 
 -- the line that tells a fault
@@ -57,3 +60,10 @@ of_replay io.Read = fault.Read
 of_replay io.Write = fault.Write
 of_replay io.NoMemory = fault.NoMemory
 of_replay io.Store = fault.Store
+
+-- a fault of a history
+abbrev pub of_history : HistoryFault → Fault
+of_history history.NoQueue = fault.NoQueue
+of_history history.Unavailable = fault.Unavailable
+of_history history.Broken = fault.Store
+of_history history.Write = fault.Write

@@ -6,3 +6,4 @@ pub mod Telling
 pub mod Program
 pub mod InMemory
 pub mod OverFile
+pub mod Showing

@@ -6,7 +6,7 @@ use Rattle.gate_http.specs.Connections.{AreTold, fault_lines}
 use Rattle.gated_cli.specs.Ending.{Tells}
 use Rattle.gated_cli.specs.Faults.{line_of}
 use Rattle.gated_cli.specs.declared.command.Cmd.{Cmd}
-use Rattle.gated_cli.specs.declared.command.Cmd.TheVariants.{Check, Init, Replay, Deliver, Serve}
+use Rattle.gated_cli.specs.declared.command.Cmd.TheVariants.{Check, Init, Replay, Deliver, Status, History, Serve}
 use Rattle.gated_cli.specs.declared.run.fault.Fault.{Fault}
 
 -- at most so many faults of connections are told, by a line each; a writer that failed took a beginning
@@ -19,6 +19,8 @@ ToldBy held (Check settings) old new = new ≡ old
 ToldBy held (Init settings file) old new = new ≡ old
 ToldBy held (Replay settings status) old new = new ≡ old
 ToldBy held (Deliver settings file) old new = new ≡ old
+ToldBy held (Status settings file) old new = new ≡ old
+ToldBy held (History settings file queue) old new = new ≡ old
 ToldBy held (Serve settings file port count) old new = TellsUpTo held count old new
 
 -- what a command that ended with a fault has told: the fault's line, behind the faults of connections for a server
@@ -27,5 +29,7 @@ TellsBy held fault (Check settings) old new = Tells held old new (line_of fault)
 TellsBy held fault (Init settings file) old new = Tells held old new (line_of fault)
 TellsBy held fault (Replay settings status) old new = Tells held old new (line_of fault)
 TellsBy held fault (Deliver settings file) old new = Tells held old new (line_of fault)
+TellsBy held fault (Status settings file) old new = Tells held old new (line_of fault)
+TellsBy held fault (History settings file queue) old new = Tells held old new (line_of fault)
 TellsBy held fault (Serve settings file port count) old new = (faults : List IoFault) × (length faults ≤ count)
     × Tells held old new (fault_lines faults ++ line_of fault)

@@ -3,7 +3,7 @@ ghost use Rattle.std.specs.Prelude.{◌≡◌, ◌≤◌, codes, IfOk, IfSome, I
 ghost use Rattle.clap.specs.Words.{app_of, rule_of, subcommand_rows_of, rows_of, found_of, first_of};
 ghost use Rattle.clap.specs.Words.{kind_of, takes};
 ghost use Rattle.clap.specs.declared.builder.command.Command.TheViews.{out-Command as fields_of};
-ghost use Rattle.gated_cli.specs.CommandLine.{gated, check, replay, over_file, serve, settings_rule, file_rule};
+ghost use Rattle.gated_cli.specs.CommandLine.{gated, check, replay, over_file, history, serve, settings_rule, file_rule, queue_rule};
 ghost use Rattle.gated_cli.specs.CommandLine.{number_rule, is_set, said, says, said_of, number_in};
 ghost use Rattle.gated_cli.specs.CommandLine.{asked, files_of, Names, IsExplained};
 
@@ -44,6 +44,17 @@ pub enum Cmd<'a> {
     Deliver {
         settings: &'a str,
         file: &'a str,
+    },
+    /// Prints the status of the gate that a file keeps.
+    Status {
+        settings: &'a str,
+        file: &'a str,
+    },
+    /// Prints the history of a queue of the gate that a file keeps.
+    History {
+        settings: &'a str,
+        file: &'a str,
+        queue: &'a str,
     },
     /// Serves so many connections over HTTP at this port of loopback, over the gate that a file keeps.
     /// Port 0 takes a free one.
@@ -98,6 +109,12 @@ fn app<'a>(alloc: Global) -> Result<Command<'a>, AllocError>
             "deliver",
             "Answers each line of standard input, a delivery, over the gate that FILE keeps.",
         )?)?
+        .subcommand(over_file(
+            alloc,
+            "status",
+            "Prints the queues of the gate that FILE keeps, their items, and the changes that wait. Use it to look, while no other `gated` has FILE.",
+        )?)?
+        .subcommand(history(alloc)?)?
         .subcommand(serve(alloc)?)
 }
 
@@ -120,6 +137,17 @@ fn file<'a>(alloc: Global) -> Arg<'a>
     Arg::new(alloc, "file")
         .value_name("FILE")
         .help("The gate's file, a SQLite database that `gated init` made")
+        .required(true)
+}
+
+/// The queue's name, the word behind.
+fn queue<'a>(alloc: Global) -> Arg<'a>
+    ensures rule { rule_of result ≡ queue_rule }
+    ensures local { result.global ≡ false }
+{
+    Arg::new(alloc, "queue")
+        .value_name("QUEUE")
+        .help("The name of a queue of the settings")
         .required(true)
 }
 
@@ -178,6 +206,17 @@ fn replay<'a>(alloc: Global) -> Result<Command<'a>, AllocError>
         .arg(status)
 }
 
+fn history<'a>(alloc: Global) -> Result<Command<'a>, AllocError>
+    ensures { IfOk result (λ c. (app_of c ≡ history) × ((fields_of c).has_globals ≡ false)) }
+{
+    over_file(
+        alloc,
+        "history",
+        "Prints what left QUEUE of the gate that FILE keeps, in order, and why. Use it to see what became of a change, while no other `gated` has FILE.",
+    )?
+    .arg(queue(alloc))
+}
+
 fn serve<'a>(alloc: Global) -> Result<Command<'a>, AllocError>
     ensures { IfOk result (λ c. (app_of c ≡ serve) × ((fields_of c).has_globals ≡ false)) }
 {
@@ -226,6 +265,10 @@ fn entered<'a>(name: &str, inner: &ArgMatches<'a>) -> Option<Cmd<'a>>
         replaying(inner)
     } else if name == "deliver" {
         delivering(inner)
+    } else if name == "status" {
+        showing(inner)
+    } else if name == "history" {
+        telling(inner)
     } else if name == "serve" {
         serving(inner)
     } else {
@@ -266,6 +309,25 @@ fn delivering<'a>(inner: &ArgMatches<'a>) -> Option<Cmd<'a>>
 {
     let (settings, file) = files(inner)?;
     Some(Cmd::Deliver { settings, file })
+}
+
+fn showing<'a>(inner: &ArgMatches<'a>) -> Option<Cmd<'a>>
+    ensures { said result ≡ said_of (codes "status", rows_of (found_of inner.now)) }
+{
+    let (settings, file) = files(inner)?;
+    Some(Cmd::Status { settings, file })
+}
+
+fn telling<'a>(inner: &ArgMatches<'a>) -> Option<Cmd<'a>>
+    ensures { said result ≡ said_of (codes "history", rows_of (found_of inner.now)) }
+{
+    let (settings, file) = files(inner)?;
+    let queue = value(inner, "queue")?;
+    Some(Cmd::History {
+        settings,
+        file,
+        queue,
+    })
 }
 
 fn serving<'a>(inner: &ArgMatches<'a>) -> Option<Cmd<'a>>

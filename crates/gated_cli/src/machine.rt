@@ -13,8 +13,8 @@ use std::io::{Read, Write};
 pub trait GateFiles {
     ghost use Rattle.std.specs.Prelude.{◌≡◌, ℕ, Bool, List, Option, IfErr, OnOk, false};
     ghost use Rattle.gate_types.specs.Tap.{has_failed};
-    ghost use Rattle.gated_cli.specs.Doing.{Announces, Delivers, beside, streams};
-    ghost use Rattle.gated_cli.specs.Ending.{DeliveryEnds, IsOfMaking, ServingEnds};
+    ghost use Rattle.gated_cli.specs.Doing.{Announces, Delivers, Looks, Prints, beside, streams};
+    ghost use Rattle.gated_cli.specs.Ending.{DeliveryEnds, HistoryEnds, IsOfMaking, ServingEnds, StatusEnds};
     ghost use Rattle.gated_cli.specs.Telling.{TellsUpTo};
 
     /// Makes the tables of a new gate in a file, which is made where it isn't there. `File` as for `SqlBook::create`,
@@ -40,6 +40,31 @@ pub trait GateFiles {
         ensures err { IfErr result (λ fault. DeliveryEnds fault
             (streams R.remaining W.contents input.old output.old)
             (streams R.remaining W.contents input.new output.new)) };
+
+    /// Prints the status text of the gate that a file keeps. `File` as for `deliver`; `Unavailable` and `Write` as for
+    /// `showing::write_status`; `Store` where it is printed and the file can't be closed.
+    fn status<W: Write>(&self, file: &str, config: Config, output: &mut Tap<W>) -> Result<(), Fault>
+        requires { has_failed output.old ≡ false }
+        ensures ok { OnOk result ((left : Option (List ℕ)) → (failed : Bool) → Prints
+            (beside W.contents left failed output.old) (beside W.contents left failed output.new)) }
+        ensures err { IfErr result (λ fault. (left : Option (List ℕ)) → (failed : Bool) → StatusEnds fault
+            (beside W.contents left failed output.old) (beside W.contents left failed output.new)) };
+
+    /// Prints the history text of a queue of the gate that a file keeps. `File` as for `deliver`; `NoQueue`,
+    /// `Unavailable`, `Store` and `Write` as for `showing::write_history`; `Store` also where it is printed and the
+    /// file can't be closed.
+    fn history<W: Write>(
+        &self,
+        file: &str,
+        config: Config,
+        queue: &str,
+        output: &mut Tap<W>,
+    ) -> Result<(), Fault>
+        requires { has_failed output.old ≡ false }
+        ensures ok { OnOk result ((left : Option (List ℕ)) → (failed : Bool) → Looks
+            (beside W.contents left failed output.old) (beside W.contents left failed output.new)) }
+        ensures err { IfErr result (λ fault. (left : Option (List ℕ)) → (failed : Bool) → HistoryEnds fault
+            (beside W.contents left failed output.old) (beside W.contents left failed output.new)) };
 
     /// Prints the line that names the port, then serves so many connections there over the gate that a file keeps.
     /// `File` as for `deliver`; `Listener` where the port can't be bound, and nothing is printed, or where a connection
@@ -79,6 +104,29 @@ impl GateFiles for HostRuntime {
     ) -> Result<(), Fault> {
         let conn = present(self, file)?;
         let (conn, done) = over_file::deliver(self.alloc(), conn, config, input, output);
+        closed(conn, done)
+    }
+
+    fn status<W: Write>(
+        &self,
+        file: &str,
+        config: Config,
+        output: &mut Tap<W>,
+    ) -> Result<(), Fault> {
+        let conn = present(self, file)?;
+        let (conn, done) = over_file::status(self.alloc(), conn, config, output);
+        closed(conn, done)
+    }
+
+    fn history<W: Write>(
+        &self,
+        file: &str,
+        config: Config,
+        queue: &str,
+        output: &mut Tap<W>,
+    ) -> Result<(), Fault> {
+        let conn = present(self, file)?;
+        let (conn, done) = over_file::history(self.alloc(), conn, config, queue, output);
         closed(conn, done)
     }
 

@@ -1,12 +1,12 @@
 //! Does what a command line asks for.
 ghost use Rattle.std.specs.Prelude.{◌≡◌, ◌⊎◌, ◌≤◌, ℕ, List, Option, Bool, OnOk, IfOk, IfErr, length, false, true};
-ghost use Rattle.gate_types.specs.Tap.{has_failed, Took, TookFront};
-ghost use Rattle.gated_cli.specs.Doing.{Does, Announces, Checks, Delivers, Replays, HasSettings, beside, streams, settings_limit, status_of};
-ghost use Rattle.gated_cli.specs.Ending.{EndsBy, CheckEnds, DeliveryEnds, ReplayEnds, ServingEnds, IsEarly, IsOfMaking, Tells};
+ghost use Rattle.gate_types.specs.Tap.{has_failed};
+ghost use Rattle.gated_cli.specs.Doing.{Does, Announces, Checks, Delivers, Looks, Prints, Replays, HasSettings, beside, streams, settings_limit};
+ghost use Rattle.gated_cli.specs.Ending.{EndsBy, CheckEnds, DeliveryEnds, HistoryEnds, ReplayEnds, ServingEnds, StatusEnds, IsEarly, IsOfMaking, Tells};
 ghost use Rattle.gated_cli.specs.Faults.{line_of};
 ghost use Rattle.gated_cli.specs.InMemory.{IsGate};
 ghost use Rattle.gated_cli.specs.Telling.{ToldBy, TellsBy, TellsUpTo};
-ghost use Rattle.gate_core.specs.Gated.{Gated, opened};
+ghost use Rattle.gate_core.specs.Gated.{opened};
 
 mod check;
 mod fault;
@@ -18,12 +18,16 @@ mod memory_tests;
 pub mod over_file;
 #[cfg(test)]
 mod serve_tests;
+pub mod showing;
+#[cfg(test)]
+mod showing_tests;
 #[cfg(test)]
 mod tests;
 
 use crate::command::Cmd;
 use crate::machine::GateFiles;
 use crate::run::check::check_text;
+use crate::run::showing::write_status;
 pub use fault::Fault;
 use gate_book::memory::MemBook;
 use gate_core::gate::Gate;
@@ -128,6 +132,12 @@ fn perform<F: Files + GateFiles + AllocGlobal, R: Read, W: Write, E: Write>(
         Cmd::Init { settings, file } => made(rt, settings, file)?,
         Cmd::Replay { settings, status } => replayed(rt, settings, status, input, output)?,
         Cmd::Deliver { settings, file } => delivered(rt, settings, file, input, output)?,
+        Cmd::Status { settings, file } => shown(rt, settings, file, output)?,
+        Cmd::History {
+            settings,
+            file,
+            queue,
+        } => told(rt, settings, file, queue, output)?,
         Cmd::Serve {
             settings,
             file,
@@ -192,26 +202,6 @@ fn opened(alloc: Global, config: Config) -> Result<Gate<MemBook>, NoMemory>
     Ok(Gate::new(config, book))
 }
 
-fn write_status<W: Write>(
-    alloc: Global,
-    gate: &mut Gate<MemBook>,
-    output: &mut Tap<W>,
-) -> Result<(), Fault>
-    requires { has_failed output.old ≡ false }
-    ensures ok { OnOk result ((g : Gated) → IsGate gate.old.config gate.old.book g →
-        Took W.contents output.old output.new (status_of g)) }
-    ensures err { IfErr result (λ fault. ((fault ≡ Fault.Unavailable) × (output.new ≡ output.old))
-        ⊎ ((fault ≡ Fault.Write) × (has_failed output.new ≡ true)
-        × ((g : Gated) → IsGate gate.old.config gate.old.book g →
-        TookFront W.contents output.old output.new (status_of g)))) }
-{
-    let Ok(text) = gate.status(alloc) else {
-        return Err(Fault::Unavailable);
-    };
-    output.write_all(text.as_bytes())?;
-    Ok(())
-}
-
 /// Makes the tables of a new gate in a file.
 fn made<F: Files + GateFiles + AllocGlobal>(rt: &F, settings: &str, file: &str) -> Result<(), Fault>
     ensures { IfErr result IsOfMaking }
@@ -239,6 +229,41 @@ fn delivered<F: Files + GateFiles + AllocGlobal, R: Read, W: Write>(
 {
     let config = settings_of(rt, settings)?;
     rt.deliver(file, config, input, output)
+}
+
+/// Prints the status of the gate that a file keeps.
+fn shown<F: Files + GateFiles + AllocGlobal, W: Write>(
+    rt: &F,
+    settings: &str,
+    file: &str,
+    output: &mut Tap<W>,
+) -> Result<(), Fault>
+    requires { has_failed output.old ≡ false }
+    ensures ok { OnOk result ((left : Option (List ℕ)) → (failed : Bool) → Prints
+        (beside W.contents left failed output.old) (beside W.contents left failed output.new)) }
+    ensures err { IfErr result (λ fault. (left : Option (List ℕ)) → (failed : Bool) → StatusEnds fault
+        (beside W.contents left failed output.old) (beside W.contents left failed output.new)) }
+{
+    let config = settings_of(rt, settings)?;
+    rt.status(file, config, output)
+}
+
+/// Prints the history of a queue of the gate that a file keeps.
+fn told<F: Files + GateFiles + AllocGlobal, W: Write>(
+    rt: &F,
+    settings: &str,
+    file: &str,
+    queue: &str,
+    output: &mut Tap<W>,
+) -> Result<(), Fault>
+    requires { has_failed output.old ≡ false }
+    ensures ok { OnOk result ((left : Option (List ℕ)) → (failed : Bool) → Looks
+        (beside W.contents left failed output.old) (beside W.contents left failed output.new)) }
+    ensures err { IfErr result (λ fault. (left : Option (List ℕ)) → (failed : Bool) → HistoryEnds fault
+        (beside W.contents left failed output.old) (beside W.contents left failed output.new)) }
+{
+    let config = settings_of(rt, settings)?;
+    rt.history(file, config, queue, output)
 }
 
 /// Serves connections over the gate that a file keeps.

@@ -38,6 +38,24 @@ fn status_may_stand_on_either_side(rt: HostRuntime) -> Result<(), Fail> {
 }
 
 #[test]
+fn status_and_history_name_their_files(rt: HostRuntime) -> Result<(), Fail> {
+    let words = ["gated", "status", "gate.toml", "gate.db"];
+    let wanted = Cmd::Status {
+        settings: "gate.toml",
+        file: "gate.db",
+    };
+    assert_eq!(rt; command(rt.alloc(), words.as_slice())?, wanted);
+    let words = ["gated", "history", "gate.toml", "gate.db", "core"];
+    let wanted = Cmd::History {
+        settings: "gate.toml",
+        file: "gate.db",
+        queue: "core",
+    };
+    assert_eq!(rt; command(rt.alloc(), words.as_slice())?, wanted);
+    Ok(())
+}
+
+#[test]
 fn serve_names_its_port_and_its_count(rt: HostRuntime) -> Result<(), Fail> {
     let cases: [(&str, u16, &str, u64); 3] = [
         ("0", 0, "1", 1),
@@ -112,7 +130,7 @@ fn a_number_that_is_missing_or_out_of_range_is_refused(rt: HostRuntime) {
 
 #[test]
 fn a_bad_line_is_refused(rt: HostRuntime) {
-    let lines: [(&[&str], ErrorKind); 8] = [
+    let lines: [(&[&str], ErrorKind); 11] = [
         (&["gated"], ErrorKind::MissingSubcommand),
         (&["gated", "merge"], ErrorKind::InvalidSubcommand),
         (&["gated", "check"], ErrorKind::MissingRequiredArgument),
@@ -129,6 +147,18 @@ fn a_bad_line_is_refused(rt: HostRuntime) {
         (
             &["gated", "--status", "replay", "a"],
             ErrorKind::UnknownArgument,
+        ),
+        (
+            &["gated", "status", "a"],
+            ErrorKind::MissingRequiredArgument,
+        ),
+        (
+            &["gated", "status", "a", "b", "c"],
+            ErrorKind::UnknownArgument,
+        ),
+        (
+            &["gated", "history", "a", "b"],
+            ErrorKind::MissingRequiredArgument,
         ),
     ];
     for (words, kind) in lines {

@@ -2,6 +2,7 @@
 ghost use Rattle.std.specs.Prelude.{◌≡◌};
 ghost use Rattle.gated_cli.specs.Faults.{text_of, file_text, settings_text};
 
+use gate_book::fault::HistoryFault;
 use gate_config::ConfigFault;
 use gate_core::fault::IoFault;
 use gate_http::connections::NotListening;
@@ -16,7 +17,7 @@ pub enum Fault {
     Settings(ConfigFault),
     /// The gate's file has this fault, or can't be opened.
     File(OpenFault),
-    /// Memory was refused while the status text was made.
+    /// What was asked for couldn't be read from the gate's book, or memory was refused for it; nothing was printed.
     Unavailable,
     /// The input answered an error.
     Read,
@@ -28,6 +29,8 @@ pub enum Fault {
     Listener,
     /// The settings file can't be read, or is over the limit.
     SettingsFile,
+    /// No queue has the name.
+    NoQueue,
     /// The store failed.
     Store,
 }
@@ -46,6 +49,7 @@ impl Fault {
             Fault::NoMemory => "I3 no-memory",
             Fault::Listener => "I4 listen",
             Fault::SettingsFile => "I5 settings-file",
+            Fault::NoQueue => "I6 no-queue",
             Fault::Store => "I7 store",
         }
     }
@@ -101,6 +105,21 @@ impl From<IoFault> for Fault {
             IoFault::Write => Fault::Write,
             IoFault::NoMemory => Fault::NoMemory,
             IoFault::Store => Fault::Store,
+        }
+    }
+}
+
+impl From<HistoryFault> for Fault {
+    ghost use Rattle.gated_cli.specs.Faults.{of_history};
+
+    ghost from_gives = { λ fault f. f ≡ of_history fault };
+
+    fn from(fault: HistoryFault) -> Fault {
+        match fault {
+            HistoryFault::NoQueue => Fault::NoQueue,
+            HistoryFault::Unavailable => Fault::Unavailable,
+            HistoryFault::Broken => Fault::Store,
+            HistoryFault::Write => Fault::Write,
         }
     }
 }

@@ -133,6 +133,25 @@ impl GateFiles for Starved<'_> {
         Err(Fault::NoMemory)
     }
 
+    fn status<W: io::Write>(
+        &self,
+        _file: &str,
+        _config: Config,
+        _output: &mut Tap<W>,
+    ) -> Result<(), Fault> {
+        Err(Fault::NoMemory)
+    }
+
+    fn history<W: io::Write>(
+        &self,
+        _file: &str,
+        _config: Config,
+        _queue: &str,
+        _output: &mut Tap<W>,
+    ) -> Result<(), Fault> {
+        Err(Fault::NoMemory)
+    }
+
     fn serve<W: io::Write, E: io::Write>(
         &self,
         _file: &str,
@@ -162,6 +181,15 @@ fn a_settings_file_without_memory_ends_the_command(rt: HostRuntime) {
         Cmd::Deliver {
             settings,
             file: "run_starved.gate",
+        },
+        Cmd::Status {
+            settings,
+            file: "run_starved.gate",
+        },
+        Cmd::History {
+            settings,
+            file: "run_starved.gate",
+            queue: "core",
         },
         Cmd::Serve {
             settings,

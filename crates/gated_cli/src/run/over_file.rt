@@ -15,10 +15,12 @@ ghost use Rattle.gate_http.specs.Connections.{IsCalled};
 ghost use Rattle.gated_cli.specs.Doing.{Announces, beside};
 ghost use Rattle.gated_cli.specs.Ending.{IsOfFile, ServingEnds};
 ghost use Rattle.gated_cli.specs.OverFile.{GoesOver, IsOfServingOver, file_fault};
+ghost use Rattle.gated_cli.specs.Showing.{WritesStatus, StopsStatus, WritesHistory, StopsHistory};
 ghost use Rattle.gated_cli.specs.Telling.{TellsUpTo};
 
 use crate::run::fault::Fault;
 use crate::run::listening;
+use crate::run::showing::{write_history, write_status};
 use gate_core::gate::Gate;
 use gate_core::replay::replay;
 use gate_sql::book::SqlBook;
@@ -94,6 +96,64 @@ pub fn deliver<S: Alter + Drop, R: Read, W: Write>(
         Ok(_) => (conn, Ok(())),
         Err(fault) => (conn, Err(Fault::from(fault))),
     }
+}
+
+/// Prints the status text of the gate that the tables stand for, and hands the connection back.
+pub fn status<S: Alter + Drop, W: Write>(
+    alloc: Global,
+    conn: Connection<S>,
+    config: Config,
+    output: &mut Tap<W>,
+) -> (Connection<S>, Result<(), Fault>)
+    requires { has_failed output.old ≡ false }
+    ensures gate { file_fault result.1 ≡ None →
+        GoesOver (state S.Store conn) (state S.Store result.0) config
+        (λ g after. (after ≡ g) × WritesStatus g W.contents output.old output.new result.1) }
+    // whether the file is opened is decided by the file alone
+    ensures judged { (tables : _) (indexes : _) (version kept : _) →
+        (state S.Store conn).now.schema ≡ with_meta tables indexes →
+        IsMeta (state S.Store conn).now.trees version kept → HasCleanDisk (state S.Store result.0) →
+        IsJudged (file_fault result.1) version kept (settings_text config) }
+    ensures ok { OnOk result.1 ((has_failed output.new ≡ false)
+        × (text : List ℕ) × Took W.contents output.old output.new text) }
+    ensures err { IfErr result.1 (StopsStatus W.contents output.old output.new) }
+{
+    let book = match SqlBook::open(alloc, conn, &config) {
+        Ok(book) => book,
+        Err((fault, conn)) => return (conn, Err(Fault::File(fault))),
+    };
+    let mut gate = Gate::new(config, book);
+    let done = write_status(alloc, &mut gate, output);
+    (gate.into_book().into_conn(), done)
+}
+
+/// Prints the history text of a queue of the gate that the tables stand for, and hands the connection back.
+pub fn history<S: Alter + Drop, W: Write>(
+    alloc: Global,
+    conn: Connection<S>,
+    config: Config,
+    queue: &str,
+    output: &mut Tap<W>,
+) -> (Connection<S>, Result<(), Fault>)
+    requires { has_failed output.old ≡ false }
+    ensures gate { file_fault result.1 ≡ None →
+        GoesOver (state S.Store conn) (state S.Store result.0) config
+        (λ g after. (after ≡ g) × WritesHistory g queue.now W.contents output.old output.new result.1) }
+    // whether the file is opened is decided by the file alone
+    ensures judged { (tables : _) (indexes : _) (version kept : _) →
+        (state S.Store conn).now.schema ≡ with_meta tables indexes →
+        IsMeta (state S.Store conn).now.trees version kept → HasCleanDisk (state S.Store result.0) →
+        IsJudged (file_fault result.1) version kept (settings_text config) }
+    ensures ok { OnOk result.1 (has_failed output.new ≡ false) }
+    ensures err { IfErr result.1 (StopsHistory output.old output.new) }
+{
+    let book = match SqlBook::open(alloc, conn, &config) {
+        Ok(book) => book,
+        Err((fault, conn)) => return (conn, Err(Fault::File(fault))),
+    };
+    let mut gate = Gate::new(config, book);
+    let done = write_history(&mut gate, queue, output);
+    (gate.into_book().into_conn(), done)
 }
 
 /// Serves so many connections at this port of loopback over the gate that the tables stand for, once the line that

@@ -6,6 +6,7 @@ use Rattle.gated_cli.specs.Doing.{status_of, streams}
 use Rattle.gated_cli.specs.InMemory.{IsGate}
 use Rattle.gated_cli.proofs.TellLemmas.{with_status, without_status}
 use Rattle.gated_cli.proofs.EndLemmas.{replay_ends, made_from, refused_status, cut_status, read_for}
+use Rattle.gated_cli.proofs.ShowLemmas.{status_breaks, status_shown}
 use Rattle.gated_cli.proofs.run.replayed.Goals as goal
 use Rattle.gated_cli.proofs.run.replayed.Goals.{then-status+in_ok-write_status, else-status}
 
@@ -27,7 +28,7 @@ returns-clause-ok g c =
         answered = went.2;
       };
       written = elim c.if-status.branch [
-        | then-status+in_ok-write_status w ↦ rw w.output-is (with_status _ _ c.args.status h.3 shown w.if-status.true (Appends-trans _ _ _ h.3 shown h.4 (w.in_ok-write_status.ensures.ok went.0 over)))
+        | then-status+in_ok-write_status w ↦ rw w.output-is (with_status _ _ c.args.status h.3 shown w.if-status.true (Appends-trans _ _ _ h.3 shown h.4 (status_shown g.W.Write.contents w.write_status.result w.in_ok-write_status.field-0 went.0 c.replay.new.w w.write_status.new.output w.in_ok-write_status.was (w.write_status.ensures.gate.passes tt went.0 over).2.1)))
         | else-status w ↦ rw w.output-is (without_status _ _ c.args.status h.3 shown w.if-status.false h.4)
       ];
     }
@@ -78,7 +79,8 @@ returns-in_err-write_status-clause-err g c =
     let before = streams g.R.Read.remaining g.W.Write.contents c.args.input.now c.args.output.now in
     let after = streams g.R.Read.remaining g.W.Write.contents c.replay.new.r c.write_status.new.output in
     let p = err_from_is_err_and c.from_residual-in_err-write_status.result c.from_residual-in_err-write_status.ensures.1 in
-    rw p.1 (made_from p.0 c.in_err-write_status.field-0.0 c.args.status _ _ p.2 (elim c.in_err-write_status.ensures.err [
+    rw p.1 (made_from p.0 c.in_err-write_status.field-0.0 c.args.status _ _ p.2 (elim (status_breaks g.W.Write.contents c.write_status.result c.in_err-write_status.field-0.0 went.0 c.replay.new.w c.write_status.new.output
+    c.in_err-write_status.was (c.write_status.ensures.gate.passes tt went.0 over).2.1 c.write_status.ensures.opened c.in_err-write_status.ensures.err) [
       | inl refused ↦ refused_status c.in_err-write_status.field-0.0 c.args.status before after refused.0 (record {
         wanted = c.if-status.true;
         answers = record {
@@ -93,7 +95,7 @@ returns-in_err-write_status-clause-err g c =
         };
         written = rw refused.1 h.4;
       })
-      | inr cut ↦ let front = cut.2 went.0 over in cut_status c.in_err-write_status.field-0.0 c.args.status before after cut.0 cut.1 (record {
+      | inr cut ↦ let front = cut.2 in cut_status c.in_err-write_status.field-0.0 c.args.status before after cut.0 cut.1 (record {
         wanted = c.if-status.true;
         answers = record {
           config = c.in_ok-config.config;

@@ -1,0 +1,31 @@
+use Rattle.std.proofs.Common.{◌≡◌, ◌∙◌, ap, subst, sym}
+use Rattle.sqlite.specs.Held.{state}
+use Rattle.sqlite.specs.State.{HasCleanDisk}
+use Rattle.gate_core.specs.Gated.{Gated}
+use Rattle.gate_types.specs.SettingsText.{settings_text}
+use Rattle.gate_sql.specs.Held.{HoldsFor}
+use Rattle.gate_sql.specs.Opens.{IsJudged}
+use Rattle.gated_cli.specs.OverFile.{GoesOver}
+use Rattle.gated_cli.specs.Showing.{WritesHistory}
+use Rattle.gated_cli.proofs.FileLemmas.{goes_over}
+use Rattle.gated_cli.proofs.run.over_file.history.Goals as goal
+
+pub returns-clause-gate : goal.returns-clause-gate
+returns-clause-gate g c unfaulted =
+    let went = c.write_history-done.ensures.gate in
+    let last = c.into_conn.ensures ∙ ap (λ book. book.conn) c.into_book.ensures in
+    let P : Gated → Gated → Type 0 = λ gate after. (after ≡ gate) × WritesHistory gate c.args.queue.now g.W.Write.contents c.args.output.now c.write_history-done.new.output c.write_history-done.result in
+    let over = goes_over (λ book. state g.S.Store book.conn) (λ book. book.queues.items) (state g.S.Store c.args.conn) c.args.config c.new-gate.result.config
+    c.new-gate.result.book c.write_history-done.new.gate.book P c.new-gate.ensures.config
+    (λ clean gate file. subst (λ book. HoldsFor (state g.S.Store book.conn) book.queues.items c.args.config gate.content) (sym c.new-gate.ensures.book)
+    (c.in-Ok.ensures.opens file.up gate.content file.stands (subst (λ book. HasCleanDisk (state g.S.Store book.conn)) c.new-gate.ensures.book clean)))
+    went.trusted_before went.passes in
+    subst (λ conn. GoesOver (state g.S.Store c.args.conn) (state g.S.Store conn) c.args.config P) (sym last) over
+
+pub returns-clause-judged : goal.returns-clause-judged
+returns-clause-judged g c tables indexes version kept schema meta clean =
+    let last = c.into_conn.ensures ∙ ap (λ book. book.conn) c.into_book.ensures in
+    let shown = subst (λ conn. HasCleanDisk (state g.S.Store conn)) last clean in
+    let opened = subst (λ book. HasCleanDisk (state g.S.Store book.conn)) c.new-gate.ensures.book (c.write_history-done.ensures.gate.trusted_before shown) in
+    subst (λ f. IsJudged f version kept (settings_text c.args.config)) (sym c.write_history-done.ensures.opened)
+    (c.in-Ok.ensures.judged tables indexes version kept schema meta opened)
