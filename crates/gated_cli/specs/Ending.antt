@@ -11,8 +11,8 @@ use Rattle.gate_core.specs.Lines.{whole_lines, ReadFor}
 use Rattle.gate_core.specs.Replies.{Replayed, Cut}
 use Rattle.gated_cli.specs.Doing.{Streams, Answers, Delivers, HasSettings, settings_limit, status_of, check_text}
 use Rattle.gated_cli.specs.Doing.{Announces, IsPortFor, Looks, Prints, listening_line}
-use Rattle.gated_cli.specs.declared.command.Cmd.{Cmd}
-use Rattle.gated_cli.specs.declared.command.Cmd.TheVariants.{Check, Init, Replay, Deliver, Status, History, Serve}
+use Rattle.gated_command.specs.declared.command.Cmd.{Cmd}
+use Rattle.gated_command.specs.declared.command.Cmd.TheVariants.{Check, Init, Replay, Deliver, Status, History, Serve}
 use Rattle.gated_cli.specs.declared.run.fault.Fault.{Fault}
 use Rattle.gated_cli.specs.declared.run.fault.Fault.TheVariants as fault
 

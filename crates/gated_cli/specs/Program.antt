@@ -3,12 +3,12 @@ use Rattle.std.specs.Prelude.{◌≡◌, ◌⊎◌, true, ℕ, List, Option, cod
 use Rattle.clap.specs.Words.{Text}
 use Rattle.gate_types.specs.Tap.{has_failed}
 use Rattle.gate_types.specs.declared.tap.Tap.{Tap}
-use Rattle.gated_cli.specs.CommandLine.{Names, may_ask_help}
+use Rattle.gated_command.specs.CommandLine.{Names, may_ask_help}
 use Rattle.gated_cli.specs.Doing.{Streams, Does}
 use Rattle.gated_cli.specs.Ending.{EndsBy, Tells}
 use Rattle.gated_cli.specs.Faults.{line_of}
 use Rattle.gated_cli.specs.Telling.{ToldBy, TellsBy}
-use Rattle.gated_cli.specs.declared.command.Cmd.{Cmd}
+use Rattle.gated_command.specs.declared.command.Cmd.{Cmd}
 use Rattle.gated_cli.specs.declared.run.fault.Fault.{Fault}
 use Rattle.gated_cli.specs.declared.run.fault.Fault.TheVariants as fault
 

@@ -1,12 +1,9 @@
-//! What the program does, from the words of its command line to its status.
+//! What the program does, from the words of its process to its status.
 #![tactic(auto)]
 
-pub mod command;
 pub mod machine;
 pub mod program;
 pub mod run;
-#[cfg(test)]
-mod samples;
 
 use crate::program::{program, unread};
 use gate_types::tap::Tap;

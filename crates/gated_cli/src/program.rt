@@ -2,20 +2,17 @@
 ghost use Rattle.std.specs.Prelude.{◌≡◌, ◌≢◌, ◌⊎◌, ◌≤◌, OnOk, IfErr, codes, map, true, false};
 ghost use Rattle.clap.specs.Words.{kind_of};
 ghost use Rattle.gate_types.specs.Tap.{has_failed};
-ghost use Rattle.gated_cli.specs.CommandLine.{is_refused, may_be_refused, may_ask_help};
+ghost use Rattle.gated_command.specs.CommandLine.{is_refused, may_be_refused, may_ask_help};
 ghost use Rattle.gated_cli.specs.Doing.{Streams, streams};
 ghost use Rattle.gated_cli.specs.Ending.{Tells};
 ghost use Rattle.gated_cli.specs.Faults.{line_of};
 ghost use Rattle.gated_cli.specs.Program.{Obeys, FailsBy, HelpFails, out_of_memory};
 
-#[cfg(test)]
-mod tests;
-
-use crate::command::{Usage, command};
 use crate::machine::GateFiles;
 use crate::run::{Fault, ended, run};
 use clap::error::ErrorKind;
 use gate_types::tap::{Failed, Tap};
+use gated_command::command::{Usage, command};
 use std::alloc::Global;
 use std::convert::AsStr;
 use std::io;

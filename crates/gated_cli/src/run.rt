@@ -10,21 +10,10 @@ ghost use Rattle.gate_core.specs.Gated.{opened};
 
 mod check;
 mod fault;
-#[cfg(test)]
-mod file_tests;
 pub mod listening;
-#[cfg(test)]
-mod memory_tests;
 pub mod over_file;
-#[cfg(test)]
-mod serve_tests;
 pub mod showing;
-#[cfg(test)]
-mod showing_tests;
-#[cfg(test)]
-mod tests;
 
-use crate::command::Cmd;
 use crate::machine::GateFiles;
 use crate::run::check::check_text;
 use crate::run::showing::write_status;
@@ -38,6 +27,7 @@ use gate_laws::typed::settings_are_in_form;
 use gate_types::config::Config;
 use gate_types::names::NoMemory;
 use gate_types::tap::{Failed, Tap};
+use gated_command::command::Cmd;
 use std::alloc::Global;
 use std::fs;
 use std::io::{ErrorKind, Read, Write};

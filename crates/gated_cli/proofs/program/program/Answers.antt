@@ -1,7 +1,7 @@
 use Rattle.std.proofs.Common.{ap, map, sym, inl, inr, refl, arith, ◌∙◌}
 use Rattle.clap.specs.Words.{kind_of}
 use Rattle.gated_cli.specs.Doing.{streams}
-use Rattle.gated_cli.proofs.UsageLemmas.{help_or_not, help_is_found, refused_is_no_help, help_or_memory}
+use Rattle.gated_command.proofs.UsageLemmas.{help_or_not, help_is_found, refused_is_no_help, help_or_memory}
 use Rattle.gated_cli.proofs.program.program.Goals as goal
 
 pub returns-in-Err-clause-done : goal.returns-in-Err-clause-done

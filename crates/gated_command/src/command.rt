@@ -3,9 +3,9 @@ ghost use Rattle.std.specs.Prelude.{◌≡◌, ◌≤◌, codes, IfOk, IfSome, I
 ghost use Rattle.clap.specs.Words.{app_of, rule_of, subcommand_rows_of, rows_of, found_of, first_of};
 ghost use Rattle.clap.specs.Words.{kind_of, takes};
 ghost use Rattle.clap.specs.declared.builder.command.Command.TheViews.{out-Command as fields_of};
-ghost use Rattle.gated_cli.specs.CommandLine.{gated, check, replay, over_file, history, serve, settings_rule, file_rule, queue_rule};
-ghost use Rattle.gated_cli.specs.CommandLine.{number_rule, is_set, said, says, said_of, number_in};
-ghost use Rattle.gated_cli.specs.CommandLine.{asked, files_of, Names, IsExplained};
+ghost use Rattle.gated_command.specs.CommandLine.{gated, check, replay, over_file, history, serve, settings_rule, file_rule, queue_rule};
+ghost use Rattle.gated_command.specs.CommandLine.{number_rule, is_set, said, says, said_of, number_in};
+ghost use Rattle.gated_command.specs.CommandLine.{asked, files_of, Names, IsExplained};
 
 use clap::builder::ValueParser;
 use clap::error::ErrorKind;

@@ -1,9 +1,9 @@
 //! Whole runs: what is printed, and the status.
-use crate::command::Cmd;
-use crate::run::{Fault, ended, run};
 use crate::samples::{Broken, ONE_QUEUE, TWO_QUEUES};
 use gate_config::ConfigFault;
 use gate_types::tap::Tap;
+use gated_cli::run::{Fault, ended, run};
+use gated_command::command::Cmd;
 use std::alloc::Global;
 use std::fs;
 use std::test::Fail;

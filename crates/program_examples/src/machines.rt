@@ -1,9 +1,9 @@
 //! A settings file whose bytes find no memory.
-use crate::command::Cmd;
-use crate::machine::GateFiles;
-use crate::run::{Fault, run};
 use gate_types::config::Config;
 use gate_types::tap::Tap;
+use gated_cli::machine::GateFiles;
+use gated_cli::run::{Fault, run};
+use gated_command::command::Cmd;
 use std::alloc::{AllocError, Allocator, Global};
 use std::fs::{Metadata, OpenFile, OpenOptions};
 use std::io;

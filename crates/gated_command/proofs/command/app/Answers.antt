@@ -2,8 +2,8 @@ use Rattle.std.proofs.Common.{ap, ap₂, true, ◌≡◌, ◌∙◌}
 use Rattle.std.proofs.lemmas.Result.{IfOk-weaker}
 use Rattle.clap.specs.Simple.{app_of_fields}
 use Rattle.clap.specs.Words.{App, app_of, with_subcommand}
-use Rattle.gated_cli.specs.CommandLine.{bare, check, deliver, history, init, replay, status}
-use Rattle.gated_cli.proofs.command.app.Goals as goal
+use Rattle.gated_command.specs.CommandLine.{bare, check, deliver, history, init, replay, status}
+use Rattle.gated_command.proofs.command.app.Goals as goal
 
 -- the program that needs a command
 abbrev requiring : App → App

@@ -1,9 +1,9 @@
 //! Clients over loopback, at the gate of a file.
-use crate::command::Cmd;
-use crate::run::file_tests::{Names, RECORDED, deliver, init, ran};
-use crate::run::over_file;
+use crate::files::{Names, RECORDED, deliver, init, ran};
 use crate::samples::ONE_QUEUE;
 use gate_types::tap::Tap;
+use gated_cli::run::over_file;
+use gated_command::command::Cmd;
 use sqlite::Connection;
 use std::alloc::Global;
 use std::io::{Read, Write};

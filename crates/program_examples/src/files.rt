@@ -1,12 +1,12 @@
 //! The gate over a file: whole runs over real files.
-use crate::command::Cmd;
-use crate::run::run;
 use crate::samples::{ONE_QUEUE, TWO_QUEUES};
 use gate_types::tap::Tap;
+use gated_cli::run::run;
+use gated_command::command::Cmd;
 use std::fs;
 use std::test::Fail;
 
-pub(super) const RECORDED: &str =
+pub const RECORDED: &str =
     "{\"id\":\"0a000000-0000-4000-8000-000000000001\",\"kind\":\"revision\",\"change\":101,\"project\":\"lib\",\"revision\":1,\"message\":\"\"}\n";
 
 const APPROVED: &str =
@@ -14,14 +14,14 @@ const APPROVED: &str =
 
 /// The files of a test: settings, the gate's file, and its log.
 #[derive(Clone, Copy)]
-pub(super) struct Names<'a> {
-    pub(super) settings: &'a str,
-    pub(super) file: &'a str,
-    pub(super) log: &'a str,
+pub struct Names<'a> {
+    pub settings: &'a str,
+    pub file: &'a str,
+    pub log: &'a str,
 }
 
 impl Names<'_> {
-    pub(super) fn clear(&self, rt: &HostRuntime) {
+    pub fn clear(&self, rt: &HostRuntime) {
         let _ = fs::remove_file(rt, self.settings);
         let _ = fs::remove_file(rt, self.file);
         let _ = fs::remove_file(rt, self.log);
@@ -29,7 +29,7 @@ impl Names<'_> {
 }
 
 /// The status of a command over an input, behind what it printed and told.
-pub(super) fn ran(rt: &HostRuntime, cmd: Cmd<'_>, input: &str) -> Result<String, Fail> {
+pub fn ran(rt: &HostRuntime, cmd: Cmd<'_>, input: &str) -> Result<String, Fail> {
     let mut reader = Tap::new(input.as_bytes());
     let mut output = Tap::new(Vec::new(rt.alloc()));
     let mut errors = Tap::new(Vec::new(rt.alloc()));
@@ -39,7 +39,7 @@ pub(super) fn ran(rt: &HostRuntime, cmd: Cmd<'_>, input: &str) -> Result<String,
     Ok(format!(in rt.alloc(); "{output}{errors}{status}")?)
 }
 
-pub(super) fn init(rt: &HostRuntime, names: &Names<'_>) -> Result<String, Fail> {
+pub fn init(rt: &HostRuntime, names: &Names<'_>) -> Result<String, Fail> {
     let cmd = Cmd::Init {
         settings: names.settings,
         file: names.file,
@@ -47,7 +47,7 @@ pub(super) fn init(rt: &HostRuntime, names: &Names<'_>) -> Result<String, Fail> 
     ran(rt, cmd, "")
 }
 
-pub(super) fn deliver(rt: &HostRuntime, names: &Names<'_>, input: &str) -> Result<String, Fail> {
+pub fn deliver(rt: &HostRuntime, names: &Names<'_>, input: &str) -> Result<String, Fail> {
     let cmd = Cmd::Deliver {
         settings: names.settings,
         file: names.file,

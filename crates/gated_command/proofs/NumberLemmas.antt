@@ -6,7 +6,7 @@ use Rattle.clap.specs.Values.{IsUnsignedIn}
 use Rattle.clap.specs.ValueTests.{is_unsigned_in}
 use Rattle.clap.specs.declared.builder.value_parser.ValueParser.TheVariants as vp
 use Rattle.clap.proofs.ValueTestLemmas.{accepts-Accepts, Accepts-accepts}
-use Rattle.gated_cli.specs.CommandLine.{number_in}
+use Rattle.gated_command.specs.CommandLine.{number_in}
 
 -- a text in the range is read
 pub in_range : (least most : ℕ) (text : List ℕ) → IsUnsignedIn least most text →

@@ -3,9 +3,9 @@ use Rattle.std.specs.Prelude.{None, is_some}
 use Rattle.std.proofs.lemmas.Bool.{true≢false}
 use Rattle.std.proofs.lemmas.Result.{err_from_is_err_and}
 use Rattle.clap.specs.Words.{kind_of, takes, fault_of, is_simple_and_free}
-use Rattle.gated_cli.specs.CommandLine.{asked, gated}
-use Rattle.gated_cli.proofs.UsageLemmas.{kind_explains, matched_asks}
-use Rattle.gated_cli.proofs.command.command.Goals as goal
+use Rattle.gated_command.specs.CommandLine.{asked, gated}
+use Rattle.gated_command.proofs.UsageLemmas.{kind_explains, matched_asks}
+use Rattle.gated_command.proofs.command.command.Goals as goal
 
 pub returns-in_err-matches-clause-err : goal.returns-in_err-matches-clause-err
 returns-in_err-matches-clause-err g c =

@@ -1,8 +1,8 @@
 //! What the program writes where, and its status.
-use crate::program::{program, unread};
 use crate::samples::{Broken, ONE_QUEUE};
-use crate::started;
 use gate_types::tap::Tap;
+use gated_cli::program::{program, unread};
+use gated_cli::started;
 use std::process::ExitCode;
 use std::test::Fail;
 use std::{fs, io};

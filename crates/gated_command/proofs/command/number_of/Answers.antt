@@ -1,7 +1,7 @@
 use Rattle.std.proofs.Common.{ap, arith, sym, ◌∙◌}
 use Rattle.std.specs.Prelude.{Some}
-use Rattle.gated_cli.proofs.NumberLemmas.{in_range, out_of_range}
-use Rattle.gated_cli.proofs.command.number_of.Goals as goal
+use Rattle.gated_command.proofs.NumberLemmas.{in_range, out_of_range}
+use Rattle.gated_command.proofs.command.number_of.Goals as goal
 
 pub returns-in-Ok-clause-value : goal.returns-in-Ok-clause-value
 returns-in-Ok-clause-value c =

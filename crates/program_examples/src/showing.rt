@@ -1,9 +1,9 @@
 //! The status and the histories of a gate in a file.
-use crate::command::Cmd;
-use crate::run::file_tests::{Names, deliver, init, ran};
-use crate::run::run;
+use crate::files::{Names, deliver, init, ran};
 use crate::samples::TWO_QUEUES;
 use gate_types::tap::Tap;
+use gated_cli::run::run;
+use gated_command::command::Cmd;
 use std::io::Write;
 use std::test::Fail;
 use std::{fs, io};

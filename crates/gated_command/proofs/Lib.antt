@@ -1,0 +1,3 @@
+pub mod CommandLemmas
+pub mod UsageLemmas
+pub mod NumberLemmas

@@ -1,0 +1,17 @@
+//! Whole runs of the program, over words, streams and files: tests alone.
+#![tactic(auto)]
+
+#[cfg(test)]
+mod commands;
+#[cfg(test)]
+mod files;
+#[cfg(test)]
+mod machines;
+#[cfg(test)]
+mod processes;
+#[cfg(test)]
+mod samples;
+#[cfg(test)]
+mod serving;
+#[cfg(test)]
+mod showing;
