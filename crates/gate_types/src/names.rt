@@ -1,4 +1,4 @@
-//! Names and texts within their limits. Each is made from a `String`, and gives it back.
+//! Names and texts within their limits, each made from a `String`.
 ghost use Rattle.std.specs.Prelude.{◌≡◌, is_some, IfSome, IfOk, IsTrue, true, string_bytes};
 ghost use Rattle.gate_types.specs.Names.{is_name, is_path_name, is_base, is_message, is_letter_or_digit, is_name_byte, is_path_byte, is_base_byte};
 ghost use Rattle.std.specs.List.{list_all};
@@ -47,13 +47,6 @@ impl Name {
         self.text.as_str()
     }
 
-    pub fn into_string(self) -> String
-        ensures { string_bytes result ≡ self }
-    {
-        let Name { text } = self;
-        text
-    }
-
     pub fn copy(&self) -> Result<Self, NoMemory>
         ensures { IfOk result (λ n. n ≡ self.now) }
     {
@@ -81,15 +74,6 @@ impl Model for PathName {
 }
 
 impl PathName {
-    ghost use Rattle.gate_types.specs.Names.{same_name};
-
-    /// Whether the two are the same bytes.
-    pub fn is(&self, other: &PathName) -> bool
-        ensures { result ≡ same_name self.now other.now }
-    {
-        self.text == other.text
-    }
-
     /// None where the text isn't of the form.
     pub fn new(text: String) -> Option<Self>
         ensures form { is_some result ≡ is_path_name (string_bytes text) }
@@ -107,13 +91,6 @@ impl PathName {
         ensures form { is_path_name self.now ≡ true }
     {
         self.text.as_str()
-    }
-
-    pub fn into_string(self) -> String
-        ensures { string_bytes result ≡ self }
-    {
-        let PathName { text } = self;
-        text
     }
 
     pub fn copy(&self) -> Result<Self, NoMemory>
@@ -161,13 +138,6 @@ impl Base {
         self.text.as_str()
     }
 
-    pub fn into_string(self) -> String
-        ensures { string_bytes result ≡ self }
-    {
-        let Base { text } = self;
-        text
-    }
-
     pub fn copy(&self) -> Result<Self, NoMemory>
         ensures { IfOk result (λ n. n ≡ self.now) }
     {
@@ -211,13 +181,6 @@ impl Message {
         ensures form { is_message self.now ≡ true }
     {
         self.text.as_str()
-    }
-
-    pub fn into_string(self) -> String
-        ensures { string_bytes result ≡ self }
-    {
-        let Message { text } = self;
-        text
     }
 
     pub fn copy(&self) -> Result<Self, NoMemory>
