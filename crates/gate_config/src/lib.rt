@@ -12,8 +12,6 @@ mod fault;
 mod kinds;
 mod members;
 mod rules;
-#[cfg(test)]
-mod tests;
 
 pub use fault::ConfigFault;
 use gate_types::config::Config;

@@ -18,5 +18,3 @@ pub mod rows;
 pub mod sequence;
 mod settings_text;
 pub mod tap;
-#[cfg(test)]
-mod tests;

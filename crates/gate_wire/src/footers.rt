@@ -9,9 +9,6 @@ use gate_types::deliveries::Refusal;
 use gate_types::numbers::ChangeNo;
 use std::alloc::Global;
 
-#[cfg(test)]
-mod tests;
-
 /// What a footer begins with, in whatever case.
 const FOOTER: &[u8; 11] = b"depends-on:";
 

@@ -13,9 +13,6 @@ use gate_types::records::Id;
 use serde_json::Value;
 use std::alloc::Global;
 
-#[cfg(test)]
-mod tests;
-
 fn revision_in(alloc: Global, value: &Value) -> Result<Delivery, Refusal>
     ensures { Gives (λ x. x) result (revision_said (view value.now)) }
 {

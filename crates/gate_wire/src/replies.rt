@@ -9,9 +9,6 @@ use gate_types::numbers::Serial;
 use gate_types::records::{Build, Entry};
 use std::alloc::Global;
 
-#[cfg(test)]
-mod tests;
-
 /// Adds a separator, and a change at its revision.
 fn push_entry(
     alloc: Global,

@@ -1,10 +1,10 @@
 //! The texts of replies, byte for byte.
-use crate::replies::write_reply;
 use gate_types::deliveries::Reply;
 use gate_types::names::Name;
 use gate_types::numbers::{BuildNo, ChangeNo, Revision, Serial};
 use gate_types::records::{Build, Entry, Outcome};
 use gate_types::sequence::Sequence;
+use gate_wire::write_reply;
 use std::alloc::Global;
 use std::process::Abort;
 use std::test::Fail;

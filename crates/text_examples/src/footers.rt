@@ -1,6 +1,6 @@
 //! Which changes messages need, with answers worked out by hand.
-use crate::footers::needs;
 use gate_types::deliveries::Refusal;
+use gate_wire::needs;
 use std::alloc::{AllocError, Global};
 use std::process::Abort;
 use std::test::Fail;
