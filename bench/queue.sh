@@ -3,14 +3,14 @@
 set -eu
 . "$(dirname "$0")/scratch.sh"
 scratch "$top/bench/queue/timed" gate_types gate_laws gate_queue
-# That the made items and builds rise is tested and proved as in the crate's own tests.
-from=$top/crates/gate_queue/proofs
+# That the made items and builds rise is tested and proved as in the tests of queues.
+from=$top/crates/queue_examples/proofs
 proofs=$work/crates/timed/proofs
 for list in items builds; do
     mkdir -p "$proofs/${list}_rise"
     for file in Invariants Answers; do
-        sed 's/gate_queue.proofs.fixtures/timed.proofs/; s/gate_queue.proofs.Ordered/timed.proofs.Rising/' \
-            "$from/fixtures/${list}_rise/$file.antt" >"$proofs/${list}_rise/$file.antt"
+        sed 's/queue_examples.proofs.rising/timed.proofs/; s/gate_queue.proofs.Ordered/timed.proofs.Rising/' \
+            "$from/rising/${list}_rise/$file.antt" >"$proofs/${list}_rise/$file.antt"
     done
 done
 echo 'pub mod Rising' >"$proofs/Lib.antt"
@@ -21,6 +21,6 @@ use Rattle.std.proofs.lemmas.List.{get_or-map}
 use Rattle.std.proofs.lemmas.Bool.{cases_lt}
 
 LEMMA
-sed -n '/^-- one more number above the last/,$p' "$from/Ordered.antt" >>"$proofs/Rising.antt"
+sed -n '/^-- one more number above the last/,$p' "$top/crates/gate_queue/proofs/Ordered.antt" >>"$proofs/Rising.antt"
 run_timed
 python3 "$top/bench/queue/times.py" "$work/told"

@@ -105,6 +105,3 @@ pub fn choose(items: &[Item], builds: &[Build], window: u32, jobs: &Jobs) -> Opt
 {
     choose_among(open_items(items, window), builds, jobs.items)
 }
-
-#[cfg(test)]
-mod tests;

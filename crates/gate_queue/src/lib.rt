@@ -7,14 +7,10 @@ pub mod choose;
 mod context;
 pub mod edits;
 pub mod facts;
-#[cfg(test)]
-mod fixtures;
 pub mod judge;
 pub mod laws;
 mod line;
 pub mod outcomes;
-#[cfg(test)]
-mod scenes;
 pub mod settle;
 mod shared;
 pub mod slots;

@@ -153,6 +153,3 @@ pub fn ran_on_line(context: &ItemContext, build: &Build) -> bool
         build,
     )
 }
-
-#[cfg(test)]
-mod tests;

@@ -174,6 +174,3 @@ pub fn settle(
     let edits = edits_for(alloc, items, builds, facts)?;
     Ok(edits.into_vec())
 }
-
-#[cfg(test)]
-mod tests;

@@ -20,6 +20,3 @@ pub fn shrink(window: u32, floor: u32) -> u32
         (window / 2).max(floor)
     }
 }
-
-#[cfg(test)]
-mod tests;

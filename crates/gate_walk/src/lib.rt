@@ -19,11 +19,7 @@
 //! `Walk::gone`, `Walk::edits` and `Walk::into_edits` say what the walk holds, and take no memory.
 #![tactic(auto)]
 
-#[cfg(test)]
-mod board;
 pub mod laws;
 pub mod seen;
-#[cfg(test)]
-mod texts;
 mod told;
 pub mod walk;

@@ -348,8 +348,3 @@ impl Walk {
         }
     }
 }
-
-#[cfg(test)]
-mod lives;
-#[cfg(test)]
-mod tests;

@@ -1,5 +1,5 @@
 //! The window at its ends.
-use crate::window::{grow, shrink};
+use gate_queue::window::{grow, shrink};
 
 #[test]
 fn a_window_grows_by_one_up_to_1000(rt: HostRuntime) {

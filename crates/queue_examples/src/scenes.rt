@@ -1,20 +1,18 @@
 //! Queues to settle, and their edits as text.
-use crate::facts::{Facts, ItemFacts};
 use crate::fixtures::{
-    BuildCase, ItemCase, Unmade, builds_of, builds_rise, docs, item, items_of, items_rise, jobs_of,
-    landings_of, lines, needs_of, queue, unit,
+    APP, BuildCase, ItemCase, LIB, Unmade, builds_of, docs, item, items_of, jobs, landings, needs,
+    queue, unit,
 };
-use crate::settle::settle;
+use crate::rising::{builds_rise, items_rise};
+use crate::texts::lines;
+use gate_queue::facts::{Facts, ItemFacts};
+use gate_queue::settle::settle;
 use gate_types::config::Job;
 use gate_types::edits::Edit;
 use gate_types::names::NoMemory;
-use gate_types::records::{Need, Outcome};
+use gate_types::records::{Build, Item, Need, Outcome};
 use std::alloc::Global;
 use std::process::Abort;
-
-pub const LIB: &[(&str, bool)] = &[("unit", true), ("docs", false)];
-
-pub const APP: &[(&str, bool)] = &[("unit", true)];
 
 /// The needs and the jobs of an item.
 type About = (Vec<Need>, Vec<Job>);
@@ -22,7 +20,7 @@ type About = (Vec<Need>, Vec<Job>);
 fn about(alloc: Global, rows: &[ItemCase]) -> Result<Vec<About>, Unmade> {
     let mut all = Vec::new(alloc);
     for row in rows {
-        all.push((needs_of(alloc, row)?, jobs_of(alloc, row)?))?;
+        all.push((needs(alloc, row.needs)?, jobs(alloc, row.jobs)?))?;
     }
     Ok(all)
 }
@@ -51,6 +49,20 @@ pub const PLAIN: Scene = Scene {
     landed: &[],
 };
 
+/// The edits of a settling of the whole queue.
+pub fn settled(
+    rt: &impl Abort,
+    alloc: Global,
+    items: &[Item],
+    builds: &[Build],
+    facts: &Facts,
+) -> Result<Vec<Edit>, Unmade> {
+    assert!(rt; items_rise(items));
+    assert!(rt; builds_rise(builds));
+    assert_eq!(rt; facts.items.len(), items.len());
+    Ok(settle(alloc, items, builds, facts)?)
+}
+
 fn edits_of(
     rt: &impl Abort,
     alloc: Global,
@@ -59,23 +71,20 @@ fn edits_of(
     runs: &[BuildCase],
 ) -> Result<Vec<Edit>, Unmade> {
     let settings = queue(alloc, scene.window, scene.floor)?;
-    let landings = landings_of(alloc, scene.landed)?;
+    let landed = landings(alloc, scene.landed)?;
     let items = items_of(alloc, rows)?;
     let builds = builds_of(alloc, runs)?;
     let all = about(alloc, rows)?;
     let items_facts = facts_of(alloc, &all)?;
-    assert!(rt; items_rise(&items));
-    assert!(rt; builds_rise(&builds));
-    assert_eq!(rt; items_facts.len(), items.len());
     assert!(rt; scene.reports <= 1_000_000_000_000_000);
     let facts = Facts {
         settings: &settings,
         window: scene.window,
-        landings: &landings,
+        landings: &landed,
         items: &items_facts,
         reports: scene.reports,
     };
-    Ok(settle(alloc, &items, &builds, &facts)?)
+    settled(rt, alloc, &items, &builds, &facts)
 }
 
 pub fn settles(

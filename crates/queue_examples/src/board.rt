@@ -1,50 +1,13 @@
-//! A queue as plain lists, for the tests: all changes stand at revision 1.
-use crate::seen::SeenNeed;
+//! A queue whose rows are changed by deliveries and by edits.
+use crate::fixtures::{BuildCase, Unmade, build_of, change, first, jobs, landing, need, serial};
 use crate::texts::{edit_text, item_text};
-use crate::walk::{Next, QueueFacts, Seen, TakenOut, Touched, Walk};
-use gate_types::config::{Job, Queue};
+use gate_types::config::Job;
 use gate_types::edits::Edit;
-use gate_types::names::Name;
-use gate_types::numbers::{BuildNo, ChangeNo, Revision, Serial};
-use gate_types::records::{Build, Entry, Item, Landing, Need, Outcome};
+use gate_types::numbers::ChangeNo;
+use gate_types::records::{Build, Item, Landing, Need, Outcome};
 use gate_types::sequence::Sequence;
-use std::alloc::{AllocError, AllocFailed, Global};
-use std::process::Abort;
-
-/// A queue could not be made: memory was refused, or a number or a name is out of its range.
-#[derive(Clone, Copy, Debug)]
-pub enum Unmade {
-    NoMemory,
-    Wrong,
-}
-
-impl From<AllocError> for Unmade {
-    fn from(_error: AllocError) -> Self {
-        Unmade::NoMemory
-    }
-}
-
-impl<T: Drop> From<AllocFailed<T>> for Unmade {
-    fn from(_failed: AllocFailed<T>) -> Self {
-        Unmade::NoMemory
-    }
-}
-
-pub fn name(alloc: Global, text: &str) -> Result<Name, Unmade> {
-    Ok(Name::new(text.to_string(alloc)?).ok_or(Unmade::Wrong)?)
-}
-
-pub fn serial(n: u64) -> Result<Serial, Unmade> {
-    Ok(Serial::new(n).ok_or(Unmade::Wrong)?)
-}
-
-pub fn change(n: u64) -> Result<ChangeNo, Unmade> {
-    Ok(ChangeNo::new(n).ok_or(Unmade::Wrong)?)
-}
-
-fn first() -> Result<Revision, Unmade> {
-    Ok(Revision::new(1).ok_or(Unmade::Wrong)?)
-}
+use gate_walk::walk::TakenOut;
+use std::alloc::{AllocError, Global};
 
 /// An item's stored row, with the needs of its change, the jobs of its project and its live builds.
 #[derive(Drop)]
@@ -65,30 +28,6 @@ pub struct Board {
     pub reports: u64,
     /// Those that edits have put, a line each.
     pub told: String,
-}
-
-/// The jobs of a project: each a name and whether it votes.
-pub fn jobs(alloc: Global, texts: &[(&str, bool)]) -> Result<Vec<Job>, Unmade> {
-    let mut jobs = Vec::new(alloc);
-    for (text, voting) in texts {
-        jobs.push(Job {
-            name: name(alloc, text)?,
-            voting: *voting,
-        })?;
-    }
-    Ok(jobs)
-}
-
-/// Changes in order, as a build runs on them.
-pub fn entries(alloc: Global, changes: &[u64]) -> Result<Sequence<Entry>, Unmade> {
-    let mut entries = Vec::new(alloc);
-    for n in changes {
-        entries.push(Entry {
-            change: change(*n)?,
-            revision: first()?,
-        })?;
-    }
-    Ok(Sequence::from_vec(entries))
 }
 
 impl Board {
@@ -115,10 +54,7 @@ impl Board {
     ) -> Result<(), Unmade> {
         let mut needed = Vec::new(alloc);
         for n in needs {
-            needed.push(Need {
-                change: change(*n)?,
-                landed: false,
-            })?;
+            needed.push(need(*n, false)?)?;
         }
         let ahead = match ahead {
             Some(n) => Some(serial(n)?),
@@ -152,18 +88,16 @@ impl Board {
         let after = before as u64;
         for row in self.rows.iter_mut() {
             if row.item.serial.get() == of {
-                row.builds.push(Build {
-                    number: BuildNo::new(number).ok_or(Unmade::Wrong)?,
-                    queue: name(alloc, "core")?,
-                    serial: row.item.serial,
-                    change: row.item.change,
-                    revision: row.item.revision,
-                    job: name(alloc, job)?,
+                let run = BuildCase {
+                    number,
+                    serial: of,
+                    change: row.item.change.get(),
+                    job,
                     after,
-                    ahead: entries(alloc, ahead)?,
+                    ahead,
                     outcome: Outcome::Running,
-                    live: true,
-                })?;
+                };
+                row.builds.push(build_of(alloc, &run)?)?;
             }
         }
         Ok(())
@@ -215,11 +149,7 @@ impl Board {
         let Some(out) = self.take_out(of, true) else {
             return Ok(None);
         };
-        self.landings.push(Landing {
-            serial: serial(of)?,
-            change: out.change,
-            revision: first()?,
-        })?;
+        self.landings.push(landing(of, out.change.get())?)?;
         self.meet(out.change);
         self.window = if self.window == 0 {
             0
@@ -230,87 +160,9 @@ impl Board {
     }
 
     /// Whether the row of a change says that it is failing, where it stands.
-    fn standing(&self, of: ChangeNo) -> Option<bool> {
+    pub fn standing(&self, of: ChangeNo) -> Option<bool> {
         let row = self.rows.iter().find(|row| row.item.change == of)?;
         Some(row.item.failing)
-    }
-
-    fn needs_seen(&self, alloc: Global, row: &Row) -> Result<Vec<SeenNeed>, Unmade> {
-        let mut seen = Vec::new(alloc);
-        for need in row.needs.iter() {
-            seen.push(SeenNeed {
-                change: need.change,
-                landed: need.landed,
-                standing: self.standing(need.change),
-            })?;
-        }
-        Ok(seen)
-    }
-
-    fn visit(&self, alloc: Global, walk: &mut Walk, row: &Row) -> Result<Next, Unmade> {
-        let needs = self.needs_seen(alloc, row)?;
-        let seen = Seen {
-            row: row.item,
-            needs: &needs,
-            jobs: &row.jobs,
-            builds: &row.builds,
-        };
-        Ok(walk.visit(alloc, Some(&seen))?)
-    }
-
-    /// The row that a walk wants.
-    fn wanted(&self, walk: &Walk, next: Next) -> Option<&Row> {
-        match next {
-            Next::Go(n) => self.rows.iter().find(|row| row.item.serial.get() > n.get()),
-            Next::Need(n) => self.rows.iter().find(|row| row.item.serial.get() > n.get()
-                && needs_one(row, walk.gone())),
-            Next::Stop => None,
-        }
-    }
-
-    /// A walk to its stop, from a serial on, and the serials of the rows that it visited.
-    pub fn walk(
-        &self,
-        rt: &impl Abort,
-        alloc: Global,
-        from: u64,
-        ahead: Option<u64>,
-        out: Option<TakenOut>,
-    ) -> Result<(Walk, Vec<u64>), Unmade> {
-        assert!(rt; self.reports <= 1_000_000_000_000_000);
-        let ahead = match ahead {
-            Some(n) => Some(serial(n)?),
-            None => None,
-        };
-        let settings = Queue {
-            name: name(alloc, "core")?,
-            window: self.window,
-            floor: self.floor,
-        };
-        let queue = QueueFacts {
-            settings: &settings,
-            window: self.window,
-            reports: self.reports,
-        };
-        let touched = Touched {
-            serial: serial(from)?,
-            ahead,
-            out,
-        };
-        let mut walk = Walk::start(alloc, queue, touched)?;
-        let mut visited = Vec::new(alloc);
-        let mut wanted = self.rows.iter().find(|row| row.item.serial.get() >= from);
-        for _ in 0..self.rows.len() {
-            let Some(row) = wanted else {
-                break;
-            };
-            visited.push(row.item.serial.get())?;
-            let next = self.visit(alloc, &mut walk, row)?;
-            wanted = self.wanted(&walk, next);
-        }
-        assert!(rt; wanted.is_none());
-        assert_eq!(rt; walk.visit(alloc, None)?, Next::Stop);
-        Ok((walk, visited))
     }
 
     /// An item is failing by its row.
@@ -455,11 +307,4 @@ pub fn waits(row: &Row, job: &str) -> bool {
         }
     }
     lost < 3
-}
-
-/// Whether a row needs one of these changes.
-fn needs_one(row: &Row, gone: &[ChangeNo]) -> bool {
-    row.needs
-        .iter()
-        .any(|need| gone.iter().any(|change| *change == need.change))
 }

@@ -1,19 +1,14 @@
 //! A thousand small queues, each made from a number by arithmetic alone and led through some deliveries:
 //! behind each of them the walk leaves what a settling of the whole queue leaves.
-ghost use Rattle.std.specs.Prelude.{IsTrue, map};
-ghost use Rattle.std.specs.List.Sorted.{IsStrictlyIncreasing};
-
-use crate::board::{Board, Row, Unmade, name, waits};
-use crate::walk::TakenOut;
+use crate::board::{Board, Row, waits};
+use crate::fixtures::{LIB, Unmade, queue};
+use crate::scenes::settled;
 use gate_queue::facts::{Facts, ItemFacts};
-use gate_queue::settle::settle;
-use gate_types::config::Queue;
 use gate_types::edits::Edit;
-use gate_types::records::{Build, Item, Outcome};
+use gate_types::records::{Item, Outcome};
+use gate_walk::walk::TakenOut;
 use std::alloc::Global;
 use std::process::Abort;
-
-const JOBS: &[(&str, bool)] = &[("unit", true), ("docs", false)];
 
 /// Numbers that look thrown: a linear congruence.
 #[derive(Drop)]
@@ -71,7 +66,7 @@ impl Life {
         self.serial = self.serial.saturating_add(1);
         let change = self.serial.saturating_add(100);
         self.board
-            .push(alloc, (self.serial, change), ahead, &needs, JOBS)?;
+            .push(alloc, (self.serial, change), ahead, &needs, LIB)?;
         if blocked {
             self.board.fail(self.serial);
         }
@@ -198,13 +193,9 @@ fn ended(row: &Row, job: &str) -> bool {
     lost >= 3
 }
 
-/// The edits of a settling of the whole queue.
+/// The edits of a settling of a board.
 fn settling(rt: &impl Abort, alloc: Global, board: &Board, last: u64) -> Result<Vec<Edit>, Unmade> {
-    let settings = Queue {
-        name: name(alloc, "core")?,
-        window: board.window,
-        floor: board.floor,
-    };
+    let settings = queue(alloc, board.window, board.floor)?;
     let mut items: Vec<Item> = Vec::new(alloc);
     let mut about = Vec::new(alloc);
     for row in board.rows.iter() {
@@ -215,9 +206,6 @@ fn settling(rt: &impl Abort, alloc: Global, board: &Board, last: u64) -> Result<
         })?;
     }
     let builds = board.builds_up_to(alloc, last)?;
-    assert!(rt; items_rise(&items));
-    assert!(rt; builds_rise(&builds));
-    assert_eq!(rt; about.len(), items.len());
     assert!(rt; board.reports <= 1_000_000_000_000_000);
     let facts = Facts {
         settings: &settings,
@@ -226,31 +214,7 @@ fn settling(rt: &impl Abort, alloc: Global, board: &Board, last: u64) -> Result<
         items: &about,
         reports: board.reports,
     };
-    Ok(settle(alloc, &items, &builds, &facts)?)
-}
-
-/// Whether items rise by serial.
-fn items_rise(items: &[Item]) -> bool
-    ensures { IsTrue result → IsStrictlyIncreasing (map (λ i. i.serial) items.now) }
-{
-    for place in 1..items.len() {
-        if items[place].serial.get() <= items[place - 1].serial.get() {
-            return false;
-        }
-    }
-    true
-}
-
-/// Whether builds rise by number.
-fn builds_rise(builds: &[Build]) -> bool
-    ensures { IsTrue result → IsStrictlyIncreasing (map (λ b. b.number) builds.now) }
-{
-    for place in 1..builds.len() {
-        if builds[place].number.get() <= builds[place - 1].number.get() {
-            return false;
-        }
-    }
-    true
+    settled(rt, alloc, &items, &builds, &facts)
 }
 
 /// Walks and settles, and compares what the two leave. The queue goes on as the walk leaves it.

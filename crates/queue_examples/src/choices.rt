@@ -1,18 +1,14 @@
 //! Small queues, with the build that is due in each worked out by hand from the rules.
-use crate::choose::choose;
-use crate::facts::{ItemJobs, Jobs};
 use crate::fixtures::{
-    BuildCase, ItemCase, Unmade, builds_of, docs, item, items_of, jobs_of, unit,
+    APP, BuildCase, ItemCase, LIB, Unmade, builds_of, docs, item, items_of, jobs, unit,
 };
+use gate_queue::choose::choose;
+use gate_queue::facts::{ItemJobs, Jobs};
 use gate_types::config::Job;
 use gate_types::names::NoMemory;
 use gate_types::records::Outcome::{Failure, Lost, Running, Success};
 use std::alloc::Global;
 use std::process::Abort;
-
-const LIB: &[(&str, bool)] = &[("unit", true), ("docs", false)];
-
-const APP: &[(&str, bool)] = &[("unit", true)];
 
 fn jobs_told<'a>(
     alloc: Global,
@@ -33,7 +29,7 @@ fn jobs_told<'a>(
 fn all_jobs(alloc: Global, cases: &[ItemCase]) -> Result<Vec<Vec<Job>>, Unmade> {
     let mut all = Vec::new(alloc);
     for case in cases {
-        all.push(jobs_of(alloc, case)?)?;
+        all.push(jobs(alloc, case.jobs)?)?;
     }
     Ok(all)
 }

@@ -1,6 +1,6 @@
 //! Small queues, with the edits that settle them worked out by hand from the rules.
-use crate::fixtures::{Unmade, item, unit};
-use crate::scenes::{APP, PLAIN, Scene, settles, settles_two};
+use crate::fixtures::{APP, Unmade, item, unit};
+use crate::scenes::{PLAIN, Scene, settles, settles_two};
 use gate_types::records::Outcome::{Failure, Running, Success};
 use std::alloc::Global;
 use std::process::Abort;

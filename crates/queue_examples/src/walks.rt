@@ -1,14 +1,11 @@
 //! Walks over small queues, with the edits worked out by hand from the rules.
-use crate::board::{Board, Unmade};
+use crate::board::Board;
+use crate::fixtures::{APP, LIB, Unmade};
 use crate::texts::edits_text;
-use crate::walk::TakenOut;
 use gate_types::records::Outcome::{Failure, Success};
+use gate_walk::walk::TakenOut;
 use std::alloc::Global;
 use std::process::Abort;
-
-const LIB: &[(&str, bool)] = &[("unit", true), ("docs", false)];
-
-const APP: &[(&str, bool)] = &[("unit", true)];
 
 /// Walks from a serial on, compares the edits and the serials of the rows that were visited, and does what
 /// the edits say.

@@ -1,6 +1,6 @@
 //! Which builds count, worked out by hand from the rules.
-use crate::fixtures::{Unmade, docs, item, unit};
-use crate::scenes::{APP, LIB, PLAIN, Scene, settles};
+use crate::fixtures::{APP, LIB, Unmade, docs, item, unit};
+use crate::scenes::{PLAIN, Scene, settles};
 use gate_types::records::Outcome::{Failure, Lost, Running, Success};
 
 #[test]
