@@ -58,6 +58,3 @@ pub fn admitting<B: Book>(
     }
     Ok(Some(edits))
 }
-
-#[cfg(test)]
-mod tests;

@@ -7,13 +7,5 @@ pub mod jobs;
 pub mod known;
 pub mod next_build;
 pub mod orders;
-#[cfg(test)]
-mod puts;
-#[cfg(test)]
-mod scene;
 mod shown;
 pub mod standing;
-#[cfg(test)]
-mod tests;
-#[cfg(test)]
-mod texts;

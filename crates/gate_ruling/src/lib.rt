@@ -7,9 +7,3 @@ mod kinds;
 mod leaving;
 mod numbers;
 pub mod raw;
-#[cfg(test)]
-mod scene;
-#[cfg(test)]
-mod tests;
-#[cfg(test)]
-mod told;

@@ -8,11 +8,7 @@
 #![tactic(auto)]
 
 mod begun;
-#[cfg(test)]
-mod made;
 mod rows;
 pub mod settling;
-#[cfg(test)]
-mod texts;
 mod walking;
 mod wanted;

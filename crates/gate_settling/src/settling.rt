@@ -61,6 +61,3 @@ fn edits_of_walk<B: Book>(
         None => Ok(Vec::new(alloc)),
     }
 }
-
-#[cfg(test)]
-mod tests;

@@ -4,8 +4,4 @@
 pub mod build;
 mod lines;
 pub mod orders;
-#[cfg(test)]
-mod scene;
 pub mod status;
-#[cfg(test)]
-mod tests;

@@ -1,62 +1,12 @@
 //! What a delivery comes to, a line each for the reply, the edits and the touched item.
+use crate::words::{counter_word, outcome_word, refusal_word, stage_word, verdict_word};
 use gate_raw::raw::{Moved, Raw, Said};
 use gate_raw::touched::{Event, TouchedItem};
-use gate_types::deliveries::{Refusal, Reply};
-use gate_types::edits::{Counter, Edit};
+use gate_types::deliveries::Reply;
+use gate_types::edits::Edit;
 use gate_types::names::Name;
-use gate_types::records::{Build, Change, Landing, Outcome, Report, Stage, Verdict};
+use gate_types::records::{Build, Change, Landing, Outcome, Report};
 use std::alloc::{AllocError, Global};
-
-fn outcome_word(outcome: Outcome) -> &'static str {
-    match outcome {
-        Outcome::Running => "running",
-        Outcome::Success => "success",
-        Outcome::Failure => "failure",
-        Outcome::Lost => "lost",
-    }
-}
-
-fn verdict_word(verdict: Verdict) -> &'static str {
-    match verdict {
-        Verdict::Landed(_) => "landed",
-        Verdict::Failed => "failed",
-        Verdict::Refused => "refused",
-        Verdict::Needs => "needs",
-        Verdict::Superseded => "superseded",
-        Verdict::Withdrawn => "withdrawn",
-        Verdict::Closed => "closed",
-    }
-}
-
-fn stage_word(stage: Stage) -> &'static str {
-    match stage {
-        Stage::Open => "open",
-        Stage::Landed => "landed",
-        Stage::Closed => "closed",
-    }
-}
-
-fn counter_word(counter: Counter) -> &'static str {
-    match counter {
-        Counter::Approval => "approval",
-        Counter::Build => "build",
-        Counter::Order => "order",
-    }
-}
-
-fn refusal_word(refusal: Refusal) -> &'static str {
-    match refusal {
-        Refusal::UnknownChange => "unknown-change",
-        Refusal::UnknownRevision => "unknown-revision",
-        Refusal::UnknownProject => "unknown-project",
-        Refusal::Submitting => "submitting",
-        Refusal::NoOrder => "no-order",
-        Refusal::UnknownBuild => "unknown-build",
-        Refusal::Idle => "idle",
-        Refusal::Exhausted => "exhausted",
-        _ => "other",
-    }
-}
 
 fn change_line(alloc: Global, change: &Change, approval: u64) -> Result<String, AllocError> {
     let (number, revision) = (change.number.get(), change.revision.get());
@@ -100,7 +50,8 @@ fn outcome_line(alloc: Global, build: u64, outcome: Outcome) -> Result<String, A
     format!(in alloc; "outcome {build} {outcome}\n")
 }
 
-fn line(alloc: Global, edit: &Edit) -> Result<String, AllocError> {
+/// An edit of a ruling.
+pub fn line(alloc: Global, edit: &Edit) -> Result<String, AllocError> {
     match edit {
         Edit::PutChange { change, approval } => change_line(alloc, change, approval.unwrap_or(0)),
         Edit::DropItem(serial) => {

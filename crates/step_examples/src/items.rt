@@ -1,6 +1,9 @@
 //! Items and builds as texts.
+use crate::words::outcome_word;
 use gate_book::rows::QueuedItem;
-use gate_types::records::{Build, Entry, Item, Outcome};
+use gate_types::edits::Edit;
+use gate_types::names::Name;
+use gate_types::records::{Build, Entry, Item};
 use std::alloc::{AllocError, Global};
 
 /// An item: its serial, its change, the serial ahead or 0, whether it fails.
@@ -15,23 +18,31 @@ fn item_text(alloc: Global, item: &Item) -> Result<String, AllocError> {
     format!(in alloc; "{serial} {change},{revision} {ahead} {failing}")
 }
 
+fn queued_text(alloc: Global, queue: &Name, item: &Item) -> Result<String, AllocError> {
+    let item = item_text(alloc, item)?;
+    let (queue, item) = (queue.as_str(), item.as_str());
+    format!(in alloc; "{queue} {item}")
+}
+
 /// The queue and the item whose order is shown, if one is.
 pub fn shown_text(alloc: Global, shown: &Option<QueuedItem>) -> Result<String, AllocError> {
     let Some(found) = shown else {
         return "none".to_string(alloc);
     };
-    let item = item_text(alloc, &found.item)?;
-    let (queue, item) = (found.queue.as_str(), item.as_str());
-    format!(in alloc; "{queue} {item}")
+    queued_text(alloc, &found.queue, &found.item)
 }
 
-fn outcome_word(outcome: Outcome) -> &'static str {
-    match outcome {
-        Outcome::Running => "running",
-        Outcome::Success => "success",
-        Outcome::Failure => "failure",
-        Outcome::Lost => "lost",
+/// The items that edits put, a line each, behind their queue.
+pub fn items_put(alloc: Global, edits: &[Edit]) -> Result<String, AllocError> {
+    let mut text = String::new(alloc);
+    for edit in edits {
+        if let Edit::PutItem { queue, item } = edit {
+            let line = queued_text(alloc, queue, item)?;
+            text.push_str(line.as_str())?;
+            text.push_str("\n")?;
+        }
     }
+    Ok(text)
 }
 
 fn entry_text(alloc: Global, entry: &Entry) -> Result<String, AllocError> {

@@ -1,15 +1,9 @@
-//! Edits that settle, as text, a line each: for the tests.
+//! Edits that settle, a line each.
+use crate::told::line;
+use crate::words::verdict_word;
 use gate_types::edits::Edit;
-use gate_types::records::{Item, Verdict};
+use gate_types::records::Item;
 use std::alloc::{AllocError, Global};
-
-fn word(verdict: Verdict) -> &'static str {
-    match verdict {
-        Verdict::Failed => "failed",
-        Verdict::Needs => "needs",
-        _ => "other",
-    }
-}
 
 /// The row of an item; `-` stands for no item ahead.
 fn item_text(alloc: Global, item: &Item) -> Result<String, AllocError> {
@@ -32,10 +26,6 @@ fn edit_text(alloc: Global, edit: &Edit) -> Result<String, AllocError> {
             let item = item_text(alloc, item)?;
             format!(in alloc; "{queue} {item}")
         }
-        Edit::DropItem(serial) => {
-            let serial = serial.get();
-            format!(in alloc; "drop {serial}\n")
-        }
         Edit::PutReport {
             queue,
             place,
@@ -44,18 +34,14 @@ fn edit_text(alloc: Global, edit: &Edit) -> Result<String, AllocError> {
             let queue = queue.as_str();
             let serial = report.serial.get();
             let change = report.change.get();
-            let verdict = word(report.verdict);
+            let verdict = verdict_word(report.verdict);
             format!(in alloc; "{queue} report {place}: {serial} {change} {verdict}\n")
-        }
-        Edit::StopBuild(number) => {
-            let number = number.get();
-            format!(in alloc; "stop {number}\n")
         }
         Edit::SetWindow { queue, window } => {
             let queue = queue.as_str();
             format!(in alloc; "{queue} window {window}\n")
         }
-        _ => "other\n".to_string(alloc),
+        _ => line(alloc, edit),
     }
 }
 

@@ -1,6 +1,8 @@
 //! What deliveries come to in a book in memory, each worked out by hand from the rules.
-use crate::numbers::LAST_NUMBER;
-use crate::scene::{Scene, build_no, change, path, revision, serial, set_counter, three_items};
+use crate::names::{build_no, change_no, path, revision_no, serial_no};
+use crate::puts::Put;
+use crate::rows::three_items;
+use crate::scene::Scene;
 use gate_types::deliveries::{Delivery, Ending};
 use gate_types::edits::Counter;
 use gate_types::names::Message;
@@ -24,8 +26,8 @@ enum Sent {
 
 fn of_revision(alloc: Global, number: u64, latest: u64, text: &str) -> Result<Delivery, Fail> {
     Ok(Delivery::Revision {
-        change: change(number)?,
-        revision: revision(latest)?,
+        change: change_no(number)?,
+        revision: revision_no(latest)?,
         project: path(alloc, "lib")?,
         message: Message::new(String::from_str(alloc, text)?).ok_or("no message")?,
     })
@@ -33,32 +35,32 @@ fn of_revision(alloc: Global, number: u64, latest: u64, text: &str) -> Result<De
 
 fn approved(number: u64) -> Result<Delivery, Fail> {
     Ok(Delivery::Approved {
-        change: change(number)?,
-        revision: revision(1)?,
+        change: change_no(number)?,
+        revision: revision_no(1)?,
     })
 }
 
 fn withdrawn(number: u64) -> Result<Delivery, Fail> {
     Ok(Delivery::Withdrawn {
-        change: change(number)?,
-        revision: revision(1)?,
+        change: change_no(number)?,
+        revision: revision_no(1)?,
     })
 }
 
 fn closed(number: u64) -> Result<Delivery, Fail> {
     Ok(Delivery::Closed {
-        change: change(number)?,
-        revision: revision(1)?,
+        change: change_no(number)?,
+        revision: revision_no(1)?,
     })
 }
 
 fn landed(order: u64) -> Result<Delivery, Fail> {
-    let order = serial(order)?;
+    let order = serial_no(order)?;
     Ok(Delivery::Landed { order })
 }
 
 fn refused(order: u64) -> Result<Delivery, Fail> {
-    let order = serial(order)?;
+    let order = serial_no(order)?;
     Ok(Delivery::Refused { order })
 }
 
@@ -197,12 +199,17 @@ fn a_result_is_noted_once(rt: HostRuntime) -> Result<(), Fail> {
     check(&rt, alloc, unknown, "refused unknown-build\n")
 }
 
+/// The last number that is ever drawn of any kind.
+const LAST_NUMBER: u64 = 1_000_000_000_000_000;
+
 /// A scene of three items in which the last approval and the last build are drawn.
 fn all_drawn(alloc: Global) -> Result<Scene, Fail> {
+    const DRAWN: [Put; 2] = [
+        Put::Drawn(Counter::Approval, LAST_NUMBER),
+        Put::Drawn(Counter::Build, LAST_NUMBER),
+    ];
     let mut scene = three_items(alloc)?;
-    let approvals = set_counter(Counter::Approval, LAST_NUMBER);
-    let builds = set_counter(Counter::Build, LAST_NUMBER);
-    scene.put(&[approvals, builds])?;
+    scene.put(&DRAWN)?;
     Ok(scene)
 }
 
