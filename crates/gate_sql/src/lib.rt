@@ -5,15 +5,9 @@ mod applying;
 pub mod book;
 mod creating;
 mod filling;
-#[cfg(test)]
-mod history_tests;
 pub mod laws;
 mod making;
 pub mod open_fault;
 mod opening;
 mod reads;
 mod reopening;
-#[cfg(test)]
-mod scene;
-#[cfg(test)]
-mod tests;

@@ -1,32 +1,8 @@
 //! Files in memory made, opened and refused.
-use crate::book::SqlBook;
-use crate::open_fault::OpenFault;
-use crate::scene::{empty, number, run, settings};
-use gate_types::config::Config;
-use sqlite::{Connection, MemStore};
-use std::alloc::Global;
-use std::process::Abort;
+use crate::files::{FORGE, empty, made, number, parts, run, settings};
+use gate_sql::book::SqlBook;
+use gate_sql::open_fault::OpenFault;
 use std::test::Fail;
-
-const FORGE: &str = "https://forge/c/";
-
-type Opened = Result<SqlBook<MemStore>, (OpenFault, Connection<MemStore>)>;
-
-/// The connection, and the fault that came with it.
-fn parts(opened: Opened) -> (Option<OpenFault>, Connection<MemStore>) {
-    match opened {
-        Ok(book) => (None, book.into_conn()),
-        Err((fault, conn)) => (Some(fault), conn),
-    }
-}
-
-/// A file of these settings; it isn't made twice.
-fn made(alloc: Global, config: &Config) -> Result<Connection<MemStore>, Fail> {
-    match parts(SqlBook::create(alloc, empty(alloc)?, config)) {
-        (None, conn) => Ok(conn),
-        (Some(_), _) => Err("not made")?,
-    }
-}
 
 #[test]
 fn a_made_file_opens_again(rt: HostRuntime) -> Result<(), Fail> {

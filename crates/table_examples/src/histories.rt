@@ -1,14 +1,13 @@
 //! Histories of queues, from files in memory.
-use crate::book::SqlBook;
-use crate::scene::{empty, run, settings};
+use crate::files::{FORGE, made, run, settings};
 use gate_book::book::Book;
 use gate_book::fault::HistoryFault;
+use gate_sql::book::SqlBook;
 use gate_types::tap::Tap;
 use sqlite::MemStore;
 use std::alloc::Global;
 use std::io;
 use std::io::Write;
-use std::process::Abort;
 use std::test::Fail;
 
 const REPORTS: &str =
@@ -47,11 +46,8 @@ impl Write for Narrow {
 
 /// A book whose queue `core` has three reports, the last of them put in first.
 fn reported(alloc: Global) -> Result<SqlBook<MemStore>, Fail> {
-    let config = settings(alloc, "https://forge/c/")?;
-    let Ok(made) = SqlBook::create(alloc, empty(alloc)?, &config) else {
-        return Err("not made")?;
-    };
-    let mut conn = made.into_conn();
+    let config = settings(alloc, FORGE)?;
+    let mut conn = made(alloc, &config)?;
     run(&mut conn, REPORTS)?;
     match SqlBook::open(alloc, conn, &config) {
         Ok(book) => Ok(book),
