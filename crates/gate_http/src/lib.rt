@@ -5,14 +5,10 @@ mod body;
 pub mod connections;
 mod digits;
 pub mod engine;
-#[cfg(test)]
-mod fakes;
 pub mod fault;
 mod fields;
 mod gate;
 mod head;
-#[cfg(test)]
-mod histories;
 pub mod laws;
 pub mod memory;
 mod request;
@@ -21,5 +17,3 @@ mod response;
 mod routes;
 pub mod serve;
 pub mod served;
-#[cfg(test)]
-mod tests;

@@ -1,5 +1,6 @@
 //! Connections over loopback, one after another, with the responses typed from the formats.
 use crate::gates::{KNOWN, new_gate, told};
+use crate::texts::{CUT, QUEUED, TORN};
 use crate::torn::Torn;
 use gate_book::memory::MemBook;
 use gate_core::gate::Gate;
@@ -21,16 +22,6 @@ const HALF: &str =
 const STATUS: &str = "GET /status HTTP/1.1\r\nHost: gate\r\n\r\n";
 
 const HISTORY: &str = "GET /history/core HTTP/1.1\r\nHost: gate\r\n\r\n";
-
-const QUEUED: &str =
-    "HTTP/1.1 200 OK\r\nContent-Type: application/json\r\nContent-Length: 28\r\nConnection: close\r\n\r\n{\"order\":1,\"reply\":\"queued\"}";
-
-const CUT: &str =
-    "HTTP/1.1 400 Bad Request\r\nContent-Type: application/json\r\nContent-Length: 15\r\nConnection: close\r\n\r\n{\"error\":\"cut\"}";
-
-/// The head of an answered history, and the first line of its text.
-const TORN: &str =
-    "HTTP/1.1 200 OK\r\nContent-Type: text/plain\r\nConnection: close\r\n\r\nhistory core\n";
 
 const ONE_ITEM: &str =
     "HTTP/1.1 200 OK\r\nContent-Type: text/plain\r\nContent-Length: 124\r\nConnection: close\r\n\r\nqueue core window 2 landed 0\n     1       101    1      - ok      unit=waiting docs=waiting\nqueue web window 2 landed 0\nend\n";

@@ -1,5 +1,6 @@
 //! Requests to a gate in memory, with the responses typed from the formats.
 use crate::gates::{all_get, all_post, new_gate, posts, told};
+use crate::texts::{CALL, CUT, NO_QUEUE, ORDERS, UNKNOWN, UNKNOWN_BUILD};
 use gate_book::memory::MemBook;
 use gate_core::gate::Gate;
 use gate_http::memory::serve_bytes;
@@ -7,26 +8,11 @@ use std::alloc::{AllocError, Global};
 use std::process::Abort;
 use std::test::Fail;
 
-const CALL: &str =
-    "POST /forge HTTP/1.1\r\nHost: gate\r\nContent-Length: 89\r\n\r\n{\"id\":\"00000000-0000-4000-8000-000000000001\",\"kind\":\"approved\",\"change\":101,\"revision\":1}";
-
 const PADDED: &str =
     "POST /forge HTTP/1.1\r\nHost: gate\r\nContent-Length: 00089\r\n\r\n{\"id\":\"00000000-0000-4000-8000-000000000001\",\"kind\":\"approved\",\"change\":101,\"revision\":1}";
 
-const UNKNOWN: &str =
-    "HTTP/1.1 404 Not Found\r\nContent-Type: application/json\r\nContent-Length: 38\r\nConnection: close\r\n\r\n{\"code\":\"E5\",\"error\":\"unknown-change\"}";
-
-const CUT: &str =
-    "HTTP/1.1 400 Bad Request\r\nContent-Type: application/json\r\nContent-Length: 15\r\nConnection: close\r\n\r\n{\"error\":\"cut\"}";
-
-const NO_BUILD: &str =
-    "HTTP/1.1 404 Not Found\r\nContent-Type: application/json\r\nContent-Length: 38\r\nConnection: close\r\n\r\n{\"code\":\"E11\",\"error\":\"unknown-build\"}";
-
 const EMPTY: &str =
     "HTTP/1.1 200 OK\r\nContent-Type: text/plain\r\nContent-Length: 61\r\nConnection: close\r\n\r\nqueue core window 2 landed 0\nqueue web window 2 landed 0\nend\n";
-
-const NO_ORDERS: &str =
-    "HTTP/1.1 200 OK\r\nContent-Type: application/json\r\nContent-Length: 2\r\nConnection: close\r\n\r\n[]";
 
 const STOPPED: &str =
     "HTTP/1.1 200 OK\r\nContent-Type: application/json\r\nContent-Length: 126\r\nConnection: close\r\n\r\n{\"after\":0,\"ahead\":[[101,1]],\"build\":3,\"change\":102,\"job\":\"unit\",\"live\":false,\"outcome\":\"running\",\"queue\":\"core\",\"revision\":1}";
@@ -73,17 +59,14 @@ const HISTORY: &str =
 const NO_HISTORY: &str =
     "HTTP/1.1 200 OK\r\nContent-Type: text/plain\r\nConnection: close\r\n\r\nhistory web\nend 0\n";
 
-const NO_QUEUE: &str =
-    "HTTP/1.1 404 Not Found\r\nContent-Type: application/json\r\nContent-Length: 20\r\nConnection: close\r\n\r\n{\"error\":\"no-queue\"}";
-
 #[test]
 fn an_empty_gate_responds(rt: HostRuntime) -> Result<(), Fail> {
     let mut gate = new_gate(rt.alloc())?;
     let rows = [
         (CALL, UNKNOWN),
         (PADDED, UNKNOWN),
-        ("GET /builds/0 HTTP/1.1\r\n\r\n", NO_BUILD),
-        ("GET /orders?x HTTP/1.1\r\n\r\n", NO_ORDERS),
+        ("GET /builds/0 HTTP/1.1\r\n\r\n", UNKNOWN_BUILD),
+        ("GET /orders?x HTTP/1.1\r\n\r\n", ORDERS),
         ("GET /status HTTP/1.1\r\n\r\n", EMPTY),
     ];
     all_get(&rt, rt.alloc(), &mut gate, &rows)
@@ -102,9 +85,12 @@ fn a_stopped_build_is_shown(rt: HostRuntime) -> Result<(), Fail> {
     told(rt.alloc(), &mut gate, FAILED)?;
     let rows = [
         ("GET /builds/3 HTTP/1.1\r\n\r\n", STOPPED),
-        ("GET /builds/03 HTTP/1.1\r\n\r\n", NO_BUILD),
-        ("GET /builds/5 HTTP/1.1\r\n\r\n", NO_BUILD),
-        ("GET /builds/1000000000000001 HTTP/1.1\r\n\r\n", NO_BUILD),
+        ("GET /builds/03 HTTP/1.1\r\n\r\n", UNKNOWN_BUILD),
+        ("GET /builds/5 HTTP/1.1\r\n\r\n", UNKNOWN_BUILD),
+        (
+            "GET /builds/1000000000000001 HTTP/1.1\r\n\r\n",
+            UNKNOWN_BUILD,
+        ),
     ];
     all_get(&rt, rt.alloc(), &mut gate, &rows)
 }

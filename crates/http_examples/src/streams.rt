@@ -1,5 +1,7 @@
 //! Requests over readers and writers that fail, and what their repeats get.
+use crate::fakes::{Dripping, Narrow};
 use crate::gates::{KNOWN, new_gate, posting, posts, told};
+use crate::texts::QUEUED;
 use gate_book::memory::MemBook;
 use gate_core::fault::IoFault;
 use gate_core::gate::Gate;
@@ -7,16 +9,11 @@ use gate_http::serve::serve_one;
 use gate_http::served::Served;
 use gate_types::tap::Tap;
 use std::alloc::Global;
-use std::io;
-use std::io::{Read, Write};
 use std::process::Abort;
 use std::test::Fail;
 
 const APPROVED: &str =
     r#"{"id":"0b000000-0000-4000-8000-000000000002","kind":"approved","change":101,"revision":1}"#;
-
-const QUEUED: &str =
-    "HTTP/1.1 200 OK\r\nContent-Type: application/json\r\nContent-Length: 28\r\nConnection: close\r\n\r\n{\"order\":1,\"reply\":\"queued\"}";
 
 const TAKE: &str = r#"{"id":"0b000000-0000-4000-8000-000000000003","kind":"take","worker":"w1"}"#;
 
@@ -28,46 +25,6 @@ const FIRST_BUILD: &str =
 
 const SECOND_BUILD: &str =
     "{\"after\":0,\"ahead\":[],\"build\":2,\"change\":101,\"job\":\"docs\",\"queue\":\"core\",\"reply\":\"build\",\"revision\":1}";
-
-/// Gives one byte a read, and fails once `left` reads are done.
-#[derive(Drop)]
-struct Dripping<'a> {
-    bytes: &'a [u8],
-    left: usize,
-}
-
-impl Read for Dripping<'_> {
-    fn read(&mut self, buf: &mut [u8]) -> io::Result<usize> {
-        if self.left == 0 {
-            return Err(io::Error::from(io::ErrorKind::Interrupted));
-        }
-        self.left -= 1;
-        let n = buf.len().min(1);
-        self.bytes.read(&mut buf[..n])
-    }
-}
-
-/// Takes one byte a write, and fails once `left` writes are done.
-#[derive(Drop)]
-struct Narrow {
-    bytes: Vec<u8>,
-    left: usize,
-}
-
-impl Write for Narrow {
-    fn write(&mut self, buf: &[u8]) -> io::Result<usize> {
-        if self.left == 0 {
-            return Err(io::Error::from(io::ErrorKind::Interrupted));
-        }
-        self.left -= 1;
-        let n = buf.len().min(1);
-        self.bytes.write(&buf[..n])
-    }
-
-    fn flush(&mut self) -> io::Result<()> {
-        Ok(())
-    }
-}
 
 /// What is written for a request, by a reader and a writer that fail after so many calls.
 fn written(

@@ -1,9 +1,9 @@
-//! What the tests share: a gate that counts, streams that drip and fail, and the responses, written by hand.
-use crate::engine::answer_request;
-use crate::respond::{Page, Respond};
-use crate::served::Served;
+//! What the tests share: a gate that counts, and streams that drip and fail.
 use gate_book::fault::HistoryFault;
 use gate_core::fault::IoFault;
+use gate_http::engine::answer_request;
+use gate_http::respond::{Page, Respond};
+use gate_http::served::Served;
 use gate_types::deliveries::{Answer, Refusal};
 use gate_types::names::Text;
 use gate_types::tap::Tap;
@@ -13,69 +13,6 @@ use std::io;
 use std::io::{Read, Write};
 use std::process::Abort;
 use std::test::Fail;
-
-pub const UNKNOWN: &[u8] =
-    b"HTTP/1.1 404 Not Found\r\nContent-Type: application/json\r\nContent-Length: 38\r\nConnection: close\r\n\r\n{\"code\":\"E5\",\"error\":\"unknown-change\"}";
-
-pub const CUT: &[u8] =
-    b"HTTP/1.1 400 Bad Request\r\nContent-Type: application/json\r\nContent-Length: 15\r\nConnection: close\r\n\r\n{\"error\":\"cut\"}";
-
-pub const BAD: &[u8] =
-    b"HTTP/1.1 400 Bad Request\r\nContent-Type: application/json\r\nContent-Length: 23\r\nConnection: close\r\n\r\n{\"error\":\"bad-request\"}";
-
-pub const NO_LENGTH: &[u8] =
-    b"HTTP/1.1 411 Length Required\r\nContent-Type: application/json\r\nContent-Length: 18\r\nConnection: close\r\n\r\n{\"error\":\"length\"}";
-
-pub const LARGE: &[u8] =
-    b"HTTP/1.1 413 Payload Too Large\r\nContent-Type: application/json\r\nContent-Length: 21\r\nConnection: close\r\n\r\n{\"error\":\"too-large\"}";
-
-pub const LARGE_HEAD: &[u8] =
-    b"HTTP/1.1 431 Request Header Fields Too Large\r\nContent-Type: application/json\r\nContent-Length: 26\r\nConnection: close\r\n\r\n{\"error\":\"head-too-large\"}";
-
-pub const NO_JSON: &[u8] =
-    b"HTTP/1.1 400 Bad Request\r\nContent-Type: application/json\r\nContent-Length: 32\r\nConnection: close\r\n\r\n{\"code\":\"E1\",\"error\":\"bad-json\"}";
-
-pub const WRONG_DOOR: &[u8] =
-    b"HTTP/1.1 404 Not Found\r\nContent-Type: application/json\r\nContent-Length: 34\r\nConnection: close\r\n\r\n{\"code\":\"E3\",\"error\":\"wrong-door\"}";
-
-pub const UNKNOWN_BUILD: &[u8] =
-    b"HTTP/1.1 404 Not Found\r\nContent-Type: application/json\r\nContent-Length: 38\r\nConnection: close\r\n\r\n{\"code\":\"E11\",\"error\":\"unknown-build\"}";
-
-pub const RECORDED: &[u8] =
-    b"HTTP/1.1 200 OK\r\nContent-Type: application/json\r\nContent-Length: 20\r\nConnection: close\r\n\r\n{\"reply\":\"recorded\"}";
-
-pub const STATUS: &[u8] =
-    b"HTTP/1.1 200 OK\r\nContent-Type: text/plain\r\nContent-Length: 4\r\nConnection: close\r\n\r\nend\n";
-
-pub const ORDERS: &[u8] =
-    b"HTTP/1.1 200 OK\r\nContent-Type: application/json\r\nContent-Length: 2\r\nConnection: close\r\n\r\n[]";
-
-pub const BUILD: &[u8] =
-    b"HTTP/1.1 200 OK\r\nContent-Type: application/json\r\nContent-Length: 2\r\nConnection: close\r\n\r\n{}";
-
-pub const NO_ROUTE: &[u8] =
-    b"HTTP/1.1 404 Not Found\r\nContent-Type: application/json\r\nContent-Length: 20\r\nConnection: close\r\n\r\n{\"error\":\"no-route\"}";
-
-pub const POST_ALONE: &[u8] =
-    b"HTTP/1.1 405 Method Not Allowed\r\nContent-Type: application/json\r\nContent-Length: 18\r\nAllow: POST\r\nConnection: close\r\n\r\n{\"error\":\"method\"}";
-
-pub const GET_ALONE: &[u8] =
-    b"HTTP/1.1 405 Method Not Allowed\r\nContent-Type: application/json\r\nContent-Length: 18\r\nAllow: GET\r\nConnection: close\r\n\r\n{\"error\":\"method\"}";
-
-pub const GET_ALONE_TO_HEAD: &[u8] =
-    b"HTTP/1.1 405 Method Not Allowed\r\nContent-Type: application/json\r\nContent-Length: 18\r\nAllow: GET\r\nConnection: close\r\n\r\n";
-
-pub const HISTORY: &[u8] =
-    b"HTTP/1.1 200 OK\r\nContent-Type: text/plain\r\nConnection: close\r\n\r\nhistory core\nend 0\n";
-
-pub const TORN: &[u8] =
-    b"HTTP/1.1 200 OK\r\nContent-Type: text/plain\r\nConnection: close\r\n\r\nhistory core\n";
-
-pub const NO_QUEUE: &[u8] =
-    b"HTTP/1.1 404 Not Found\r\nContent-Type: application/json\r\nContent-Length: 20\r\nConnection: close\r\n\r\n{\"error\":\"no-queue\"}";
-
-pub const UNAVAILABLE: &[u8] =
-    b"HTTP/1.1 503 Service Unavailable\r\nContent-Type: application/json\r\nContent-Length: 36\r\nConnection: close\r\n\r\n{\"code\":\"E15\",\"error\":\"unavailable\"}";
 
 /// Counts what it took. A delivery has to begin with a brace. The history of `torn` breaks off behind its first line.
 #[derive(Drop)]
@@ -207,19 +144,40 @@ pub fn answered(alloc: Global, input: &[u8], out: &mut Vec<u8>) -> Came {
     }
 }
 
+/// An input, the status and the response that it gets, and how many bytes it leaves.
+pub type Exchange<'a> = (&'a [u8], u16, &'a str, usize);
+
 /// The input gets this status and this response, and so many bytes are left.
-pub fn gets(
-    rt: &impl Abort,
-    alloc: Global,
-    input: &[u8],
-    status: u16,
-    response: &[u8],
-    left: usize,
-) -> Result<(), Fail> {
+pub fn gets(rt: &impl Abort, alloc: Global, exchange: Exchange<'_>) -> Result<(), Fail> {
+    let (input, status, response, left) = exchange;
     let mut out = Vec::new(alloc);
     let came = answered(alloc, input, &mut out);
     assert_eq!(rt; came.served, Ok(Served::Answered(status)));
     assert_eq!(rt; came.left, left);
-    assert_eq!(rt; out.as_slice(), response);
+    assert_eq!(rt; out.as_slice(), response.as_bytes());
     Ok(())
+}
+
+/// Each input gets what it is to get.
+pub fn each_gets(rt: &impl Abort, alloc: Global, exchanges: &[Exchange<'_>]) -> Result<(), Fail> {
+    for exchange in exchanges {
+        gets(rt, alloc, *exchange)?;
+    }
+    Ok(())
+}
+
+/// What came of an input over a writer that fails: the fault, and what was written.
+pub fn written_until(
+    alloc: Global,
+    bytes: &[u8],
+    left: usize,
+) -> (Result<Served, IoFault>, Vec<u8>) {
+    let mut gate = Counting { taken: 0 };
+    let mut reader = Tap::new(Dripping { bytes, left: 1000 });
+    let mut writer = Tap::new(Narrow {
+        bytes: Vec::new(alloc),
+        left,
+    });
+    let served = answer_request(alloc, &mut gate, &mut reader, &mut writer);
+    (served, writer.into_inner().bytes)
 }
