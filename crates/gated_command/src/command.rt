@@ -13,9 +13,6 @@ use clap::{Arg, ArgAction, ArgMatches, Command, Error};
 use std::alloc::{AllocError, Global};
 use std::convert::AsStr;
 
-#[cfg(test)]
-mod tests;
-
 /// The highest port.
 const MOST_PORT: u64 = 65_535;
 

@@ -15,3 +15,5 @@ mod samples;
 mod serving;
 #[cfg(test)]
 mod showing;
+#[cfg(test)]
+mod words;

@@ -1,6 +1,7 @@
 //! Command lines, and what they ask for.
-use crate::command::{Cmd, command};
 use clap::error::ErrorKind;
+use gated_command::command::{Cmd, command};
+use std::process::Abort;
 use std::test::Fail;
 
 #[test]
@@ -77,99 +78,105 @@ fn serve_names_its_port_and_its_count(rt: HostRuntime) -> Result<(), Fail> {
     Ok(())
 }
 
-#[test]
-fn a_number_that_is_missing_or_out_of_range_is_refused(rt: HostRuntime) {
-    let lines: [(&[&str], ErrorKind); 7] = [
-        (
-            &["gated", "serve", "a", "b", "--count", "1"],
-            ErrorKind::MissingRequiredArgument,
-        ),
-        (
-            &["gated", "serve", "a", "b", "--port", "0"],
-            ErrorKind::MissingRequiredArgument,
-        ),
-        (
-            &[
-                "gated", "serve", "a", "b", "--port", "65536", "--count", "1",
-            ],
-            ErrorKind::ValueValidation,
-        ),
-        (
-            &["gated", "serve", "a", "b", "--port", "http", "--count", "1"],
-            ErrorKind::ValueValidation,
-        ),
-        (
-            &["gated", "serve", "a", "b", "--port", "0", "--count", "0"],
-            ErrorKind::ValueValidation,
-        ),
-        (
-            &[
-                "gated",
-                "serve",
-                "a",
-                "b",
-                "--port",
-                "0",
-                "--count",
-                "1000000001",
-            ],
-            ErrorKind::ValueValidation,
-        ),
-        (
-            &["gated", "serve", "a", "b", "--port", "0", "--count", "many"],
-            ErrorKind::ValueValidation,
-        ),
-    ];
-    for (words, kind) in lines {
-        match command(rt.alloc(), words) {
-            Ok(cmd) => assert!(rt; false, "{words:?} gives {cmd:?}"),
-            Err(usage) => assert_eq!(rt; usage.kind(), kind, "{words:?}"),
-        }
-    }
-}
+/// The words of a line that is refused, and why.
+type Refused = (&'static [&'static str], ErrorKind);
 
-#[test]
-fn a_bad_line_is_refused(rt: HostRuntime) {
-    let lines: [(&[&str], ErrorKind); 11] = [
-        (&["gated"], ErrorKind::MissingSubcommand),
-        (&["gated", "merge"], ErrorKind::InvalidSubcommand),
-        (&["gated", "check"], ErrorKind::MissingRequiredArgument),
-        (
-            &["gated", "check", "a", "--status"],
-            ErrorKind::UnknownArgument,
-        ),
-        (&["gated", "replay"], ErrorKind::MissingRequiredArgument),
-        (&["gated", "replay", "a", "b"], ErrorKind::UnknownArgument),
-        (
-            &["gated", "replay", "a", "--state"],
-            ErrorKind::UnknownArgument,
-        ),
-        (
-            &["gated", "--status", "replay", "a"],
-            ErrorKind::UnknownArgument,
-        ),
-        (
-            &["gated", "status", "a"],
-            ErrorKind::MissingRequiredArgument,
-        ),
-        (
-            &["gated", "status", "a", "b", "c"],
-            ErrorKind::UnknownArgument,
-        ),
-        (
-            &["gated", "history", "a", "b"],
-            ErrorKind::MissingRequiredArgument,
-        ),
-    ];
+/// Each line is refused for its reason.
+fn are_refused(rt: &(impl Abort + AllocGlobal), lines: &[Refused]) {
     for (words, kind) in lines {
         match command(rt.alloc(), words) {
             Ok(cmd) => assert!(rt; false, "{words:?} gives {cmd:?}"),
             Err(usage) => {
-                assert_eq!(rt; usage.kind(), kind, "{words:?}");
+                assert_eq!(rt; usage.kind(), *kind, "{words:?}");
                 assert_eq!(rt; usage.exit_code(), 2, "{words:?}");
             }
         }
     }
+}
+
+/// Lines whose port or count is missing or out of its range.
+const UNNUMBERED: [Refused; 7] = [
+    (
+        &["gated", "serve", "a", "b", "--count", "1"],
+        ErrorKind::MissingRequiredArgument,
+    ),
+    (
+        &["gated", "serve", "a", "b", "--port", "0"],
+        ErrorKind::MissingRequiredArgument,
+    ),
+    (
+        &[
+            "gated", "serve", "a", "b", "--port", "65536", "--count", "1",
+        ],
+        ErrorKind::ValueValidation,
+    ),
+    (
+        &["gated", "serve", "a", "b", "--port", "http", "--count", "1"],
+        ErrorKind::ValueValidation,
+    ),
+    (
+        &["gated", "serve", "a", "b", "--port", "0", "--count", "0"],
+        ErrorKind::ValueValidation,
+    ),
+    (
+        &[
+            "gated",
+            "serve",
+            "a",
+            "b",
+            "--port",
+            "0",
+            "--count",
+            "1000000001",
+        ],
+        ErrorKind::ValueValidation,
+    ),
+    (
+        &["gated", "serve", "a", "b", "--port", "0", "--count", "many"],
+        ErrorKind::ValueValidation,
+    ),
+];
+
+#[test]
+fn a_number_that_is_missing_or_out_of_range_is_refused(rt: HostRuntime) {
+    are_refused(&rt, &UNNUMBERED);
+}
+
+const BAD_LINES: [Refused; 11] = [
+    (&["gated"], ErrorKind::MissingSubcommand),
+    (&["gated", "merge"], ErrorKind::InvalidSubcommand),
+    (&["gated", "check"], ErrorKind::MissingRequiredArgument),
+    (
+        &["gated", "check", "a", "--status"],
+        ErrorKind::UnknownArgument,
+    ),
+    (&["gated", "replay"], ErrorKind::MissingRequiredArgument),
+    (&["gated", "replay", "a", "b"], ErrorKind::UnknownArgument),
+    (
+        &["gated", "replay", "a", "--state"],
+        ErrorKind::UnknownArgument,
+    ),
+    (
+        &["gated", "--status", "replay", "a"],
+        ErrorKind::UnknownArgument,
+    ),
+    (
+        &["gated", "status", "a"],
+        ErrorKind::MissingRequiredArgument,
+    ),
+    (
+        &["gated", "status", "a", "b", "c"],
+        ErrorKind::UnknownArgument,
+    ),
+    (
+        &["gated", "history", "a", "b"],
+        ErrorKind::MissingRequiredArgument,
+    ),
+];
+
+#[test]
+fn a_bad_line_is_refused(rt: HostRuntime) {
+    are_refused(&rt, &BAD_LINES);
 }
 
 #[test]
