@@ -20,13 +20,14 @@ use Rattle.gate_types.specs.History.{report_row}
 use Rattle.gate_types.specs.Tap.{Took, TookFront, WritesFront}
 use Rattle.gate_types.specs.declared.records.Report.{Report}
 use Rattle.gate_types.specs.declared.tap.Tap.{Tap}
+use Rattle.gate_book.specs.Text.{BreaksOff, first_line, last_line}
 use Rattle.gate_book.specs.Writes.{StopsBy}
 use Rattle.gate_book.specs.declared.fault.HistoryFault.{HistoryFault}
 use Rattle.gate_book.specs.declared.fault.HistoryFault.TheVariants as fault
 use Rattle.gate_schema.specs.Rows.{Stands, Stored}
 use Rattle.gate_schema.specs.Schema.{gate_schema}
 use Rattle.gate_queries.specs.Finds.{Finds}
-use Rattle.gate_queries.specs.History.{CutsHead, GaveRows, HoldsReports, LeavesReports, OfReports, ReadsOn, StopsLate, WritesHead, WritesReports, WritesText, end_of, head_of, history_sql, lines_from, report_shown, reports_text}
+use Rattle.gate_queries.specs.History.{CutsHead, GaveRows, HoldsReports, LeavesReports, OfReports, ReadsOn, WritesHead, WritesPart, WritesReports, history_sql, lines_from, report_shown, reports_text}
 use Rattle.gate_queries.specs.Reads.{IsShown}
 use Rattle.gate_queries.proofs.ReportReads.{history_asks, history_names, history_query, reports_found}
 use Rattle.gate_queries.proofs.StayLemmas.{shown_finds}
@@ -104,27 +105,27 @@ joined a b c d e = simp append_assoc refl
 
 -- what is written before a report
 abbrev pub text_to : List ℕ → List ℕ → List Report → List ℕ
-text_to front name done = front ++ (head_of name ++ lines_from 1 done)
+text_to front name done = front ++ (first_line name ++ lines_from 1 done)
 
 -- and from it on, where so many reports stand before it
 abbrev text_from : ℕ → List Report → ℕ → List ℕ
-text_from before rest count = lines_from (1 + before) rest ++ end_of count
+text_from before rest count = lines_from (1 + before) rest ++ last_line count
 
 -- the whole is both
 text_cut : (front name : List ℕ) (done rest : List Report) →
     front ++ reports_text name (done ++ rest) ≡ text_to front name done ++ text_from (length done) rest (length (done ++ rest))
 text_cut front name done rest =
-    ap (λ l. front ++ (head_of name ++ (l ++ end_of (length (done ++ rest))))) (lines_more 1 done rest)
-    ∙ joined front (head_of name) (lines_from 1 done) (lines_from (1 + length done) rest) (end_of (length (done ++ rest)))
+    ap (λ l. front ++ (first_line name ++ (l ++ last_line (length (done ++ rest))))) (lines_more 1 done rest)
+    ∙ joined front (first_line name) (lines_from 1 done) (lines_from (1 + length done) rest) (last_line (length (done ++ rest)))
 
 -- with the line of a report more
 text_more : (front name : List ℕ) (done : List Report) (r : Report) (count : ℕ) → length done ≡ count →
     text_to front name done ++ report_row (count + 1, r) ≡ text_to front name (done ++ r ∷ [])
 text_more front name done r count counted =
     let at : count + 1 ≡ 1 + length done = omega arith in
-    ap (λ n. text_to front name done ++ report_row (n, r)) at ∙ append_assoc front (head_of name ++ lines_from 1 done) (report_row (1 + length done, r))
-    ∙ ap (λ l. front ++ l) (append_assoc (head_of name) (lines_from 1 done) (report_row (1 + length done, r)))
-    ∙ ap (λ l. front ++ (head_of name ++ l)) (ap (λ l. lines_from 1 done ++ l) (sym (append-nil (report_row (1 + length done, r)))) ∙ sym (lines_more 1 done (r ∷ [])))
+    ap (λ n. text_to front name done ++ report_row (n, r)) at ∙ append_assoc front (first_line name ++ lines_from 1 done) (report_row (1 + length done, r))
+    ∙ ap (λ l. front ++ l) (append_assoc (first_line name) (lines_from 1 done) (report_row (1 + length done, r)))
+    ∙ ap (λ l. front ++ (first_line name ++ l)) (ap (λ l. lines_from 1 done ++ l) (sym (append-nil (report_row (1 + length done, r)))) ∙ sym (lines_more 1 done (r ∷ [])))
 
 -- ---- what a writer took
 
@@ -150,18 +151,18 @@ pub record IsWriting {S W : Type 0} (g : Ghosts S) (name front : List ℕ) (held
 
 -- something of the text is left
 some_left : (before : ℕ) (rest : List Report) (count : ℕ) → 0 < length (text_from before rest count)
-some_left before rest count = omega (arith, length-append (lines_from (1 + before) rest) (end_of count), length-append (codes "end" ++ 32 ∷ decimal count) (10 ∷ []))
+some_left before rest count = omega (arith, length-append (lines_from (1 + before) rest) (last_line count), length-append (codes "end" ++ 32 ∷ decimal count) (10 ∷ []))
 
 module _ {S W : Type 0} (g : Ghosts S) (name front : List ℕ) (held : W → Option (List ℕ)) (old : Tap W) where
   -- the first report is read, and the head is written
   pub begins_writing : (new : Tap W) (was now : Held S) (b : Stored) (rs : List Report) (next : Option Report) → IsShown (state g was) b → HoldsReports b name rs
-      → IsUnchanged (state g was) (state g now) → ReadsOn g name was now [] next → Took held old new (front ++ head_of name) → IsWriting g name front held old new now 0 next rs
+      → IsUnchanged (state g was) (state g now) → ReadsOn g name was now [] next → Took held old new (front ++ first_line name) → IsWriting g name front held old new now 0 next rs
   begins_writing new was now b rs next shown holds same reads took = record {
     done = [];
     rest = rs;
     split = refl;
     counted = refl;
-    taken = subst (Took held old new) (ap (λ l. front ++ l) (sym (append-nil (head_of name)))) took;
+    taken = subst (Took held old new) (ap (λ l. front ++ l) (sym (append-nil (first_line name)))) took;
     stands = reads_next g name (state g was) was now b [] rs next shown holds refl same reads;
   }
 
@@ -183,10 +184,10 @@ module _ {S W : Type 0} (g : Ghosts S) (name front : List ℕ) (held : W → Opt
       }
 
   -- a writer that fails in the head has written a beginning
-  pub cut_in_head : (new : Tap W) (rs : List Report) → TookFront held old new (front ++ head_of name) → TookFront held old new (front ++ reports_text name rs)
+  pub cut_in_head : (new : Tap W) (rs : List Report) → TookFront held old new (front ++ first_line name) → TookFront held old new (front ++ reports_text name rs)
   cut_in_head new rs cut =
-      subst (TookFront held old new) (append_assoc front (head_of name) (lines_from 1 rs ++ end_of (length rs)))
-      (sooner _ _ (front ++ head_of name) (lines_from 1 rs ++ end_of (length rs)) cut)
+      subst (TookFront held old new) (append_assoc front (first_line name) (lines_from 1 rs ++ last_line (length rs)))
+      (sooner _ _ (front ++ first_line name) (lines_from 1 rs ++ last_line (length rs)) cut)
 
   -- and so it is where it stops before the end
   pub stops_short : (new : Tap W) (now : Held S) (count : ℕ) (next : Option Report) (rs : List Report) → IsWriting g name front held old new now count next rs → TookFront held old new (front ++ reports_text name rs)
@@ -216,18 +217,18 @@ module _ {S W : Type 0} (g : Ghosts S) (name front : List ℕ) (held : W → Opt
       (short _ _ _ _ (some_left (length (it.done ++ r ∷ [])) it.stands.0 _) (Appends-trans _ _ _ _ _ it.taken took))
 
   -- the whole text, where no report is to come
-  text_end : (done : List Report) (count : ℕ) (rs : List Report) → length done ≡ count → rs ≡ done → text_to front name done ++ end_of count ≡ front ++ reports_text name rs
+  text_end : (done : List Report) (count : ℕ) (rs : List Report) → length done ≡ count → rs ≡ done → text_to front name done ++ last_line count ≡ front ++ reports_text name rs
   text_end done count rs counted is =
-      append_assoc front (head_of name ++ lines_from 1 done) (end_of count) ∙ ap (λ l. front ++ l) (append_assoc (head_of name) (lines_from 1 done) (end_of count))
-      ∙ ap (λ n. front ++ (head_of name ++ (lines_from 1 done ++ end_of n))) (sym counted) ∙ ap (λ l. front ++ reports_text name l) (sym is)
+      append_assoc front (first_line name ++ lines_from 1 done) (last_line count) ∙ ap (λ l. front ++ l) (append_assoc (first_line name) (lines_from 1 done) (last_line count))
+      ∙ ap (λ n. front ++ (first_line name ++ (lines_from 1 done ++ last_line n))) (sym counted) ∙ ap (λ l. front ++ reports_text name l) (sym is)
 
   -- the last line is written
-  pub ends_whole : (mid new : Tap W) (now : Held S) (count : ℕ) (rs : List Report) → IsWriting g name front held old mid now count None rs → Took held mid new (end_of count) → Took held old new (front ++ reports_text name rs)
+  pub ends_whole : (mid new : Tap W) (now : Held S) (count : ℕ) (rs : List Report) → IsWriting g name front held old mid now count None rs → Took held mid new (last_line count) → Took held old new (front ++ reports_text name rs)
   ends_whole mid new now count rs it took =
       subst (Took held old new) (text_end it.done count rs it.counted (it.split ∙ ap (λ l. it.done ++ l) it.stands ∙ append-nil it.done)) (Appends-trans _ _ _ _ _ it.taken took)
 
   -- or a beginning of it
-  pub cut_in_end : (mid new : Tap W) (now : Held S) (count : ℕ) (rs : List Report) → IsWriting g name front held old mid now count None rs → TookFront held mid new (end_of count) → TookFront held old new (front ++ reports_text name rs)
+  pub cut_in_end : (mid new : Tap W) (now : Held S) (count : ℕ) (rs : List Report) → IsWriting g name front held old mid now count None rs → TookFront held mid new (last_line count) → TookFront held old new (front ++ reports_text name rs)
   cut_in_end mid new now count rs it cut =
       subst (TookFront held old new) (text_end it.done count rs it.counted (it.split ∙ ap (λ l. it.done ++ l) it.stands ∙ append-nil it.done)) (writes_later _ _ _ _ _ it.taken cut)
 
@@ -239,14 +240,14 @@ unfolding HasGiven
 gave_open g name h given it = it.0.is_open
 
 -- a late fault leaves the writer as any does
-pub stops_late : {W : Type 0} (old new : Tap W) (f : HistoryFault) → StopsLate new f → StopsBy old new f
+pub stops_late : {W : Type 0} (old new : Tap W) (f : HistoryFault) → BreaksOff new f → StopsBy old new f
 stops_late old new fault.NoQueue h = absurd h
 stops_late old new fault.Unavailable h = absurd h
 stops_late old new fault.Broken h = h
 stops_late old new fault.Write h = h
 
 -- and a beginning of the text
-pub leaves_late : {W : Type 0} (s : State) (name front : List ℕ) (held : W → Option (List ℕ)) (old new : Tap W) (f : HistoryFault) → StopsLate new f
+pub leaves_late : {W : Type 0} (s : State) (name front : List ℕ) (held : W → Option (List ℕ)) (old new : Tap W) (f : HistoryFault) → BreaksOff new f
     → OfReports s name front (TookFront held old new) → LeavesReports s name front held old new f
 leaves_late s name front held old new fault.NoQueue h cut = absurd h
 leaves_late s name front held old new fault.Unavailable h cut = absurd h
@@ -254,34 +255,34 @@ leaves_late s name front held old new fault.Broken h cut = cut
 leaves_late s name front held old new fault.Write h cut = cut
 
 -- a fault in the head leaves nothing or a beginning
-pub leaves_head : {W : Type 0} (s : State) (name front : List ℕ) (held : W → Option (List ℕ)) (old new : Tap W) (f : HistoryFault) → CutsHead held old new (front ++ head_of name) f
-    → (TookFront held old new (front ++ head_of name) → OfReports s name front (TookFront held old new)) → LeavesReports s name front held old new f
+pub leaves_head : {W : Type 0} (s : State) (name front : List ℕ) (held : W → Option (List ℕ)) (old new : Tap W) (f : HistoryFault) → CutsHead held old new (front ++ first_line name) f
+    → (TookFront held old new (front ++ first_line name) → OfReports s name front (TookFront held old new)) → LeavesReports s name front held old new f
 leaves_head s name front held old new fault.NoQueue h cut = absurd h
 leaves_head s name front held old new fault.Unavailable h cut = tt
 leaves_head s name front held old new fault.Broken h cut = cut h
 leaves_head s name front held old new fault.Write h cut = cut h
 
 -- the last text of all is written, or a beginning of it
-pub written_last : {W : Type 0} (s : State) (name front : List ℕ) (held : W → Option (List ℕ)) (old mid new : Tap W) (text : List ℕ) (result : Result (Unit {0}) HistoryFault) → WritesText held mid new text result
+pub written_last : {W : Type 0} (s : State) (name front : List ℕ) (held : W → Option (List ℕ)) (old mid new : Tap W) (text : List ℕ) (result : Result (Unit {0}) HistoryFault) → WritesPart held mid new text result
     → (Took held mid new text → OfReports s name front (Took held old new)) → (TookFront held mid new text → OfReports s name front (TookFront held old new)) → WritesReports s name front held old new result
 written_last s name front held old mid new text (Ok x) it whole cut = whole it.taken
 written_last s name front held old mid new text (Err f) it whole cut = leaves_late s name front held old new f it.stops (cut it.taken)
 
 -- a late fault cuts the head
-cuts_late : {W : Type 0} (held : W → Option (List ℕ)) (old new : Tap W) (text : List ℕ) (f : HistoryFault) → StopsLate new f → TookFront held old new text → CutsHead held old new text f
+cuts_late : {W : Type 0} (held : W → Option (List ℕ)) (old new : Tap W) (text : List ℕ) (f : HistoryFault) → BreaksOff new f → TookFront held old new text → CutsHead held old new text f
 cuts_late held old new text fault.NoQueue h cut = absurd h
 cuts_late held old new text fault.Unavailable h cut = absurd h
 cuts_late held old new text fault.Broken h cut = cut
 cuts_late held old new text fault.Write h cut = cut
 
 -- the front is written, and the first line behind it
-pub written_head : {W : Type 0} (held : W → Option (List ℕ)) (old mid new : Tap W) (front line : List ℕ) (result : Result (Unit {0}) HistoryFault) → Took held old mid front → WritesText held mid new line result
+pub written_head : {W : Type 0} (held : W → Option (List ℕ)) (old mid new : Tap W) (front line : List ℕ) (result : Result (Unit {0}) HistoryFault) → Took held old mid front → WritesPart held mid new line result
     → WritesHead held old new (front ++ line) result
 written_head held old mid new front line (Ok x) took it = Appends-trans _ _ _ _ _ took it.taken
 written_head held old mid new front line (Err f) took it = cuts_late held old new (front ++ line) f it.stops (writes_later _ _ _ front line took it.taken)
 
 -- or the front isn't
-pub written_front : {W : Type 0} (held : W → Option (List ℕ)) (old new : Tap W) (front line : List ℕ) (f : HistoryFault) → StopsLate new f → TookFront held old new front → CutsHead held old new (front ++ line) f
+pub written_front : {W : Type 0} (held : W → Option (List ℕ)) (old new : Tap W) (front line : List ℕ) (f : HistoryFault) → BreaksOff new f → TookFront held old new front → CutsHead held old new (front ++ line) f
 written_front held old new front line f stops cut = cuts_late held old new (front ++ line) f stops (sooner _ _ front line cut)
 
 -- ---- the query, begun on the connection

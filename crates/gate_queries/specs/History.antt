@@ -1,5 +1,5 @@
 -- What is read of the reports of a queue one row at a time, and what is written of it.
-use Rattle.std.specs.Prelude.{◌≡◌, ◌++◌, ⊤, false, true, ℕ, pos, IsTrue, List, [], ◌∷◌, codes, decimal, flat_map, length, IsPermutation, Option, Some, None, Result, MatchResult}
+use Rattle.std.specs.Prelude.{◌≡◌, ◌++◌, ⊤, ℕ, pos, IsTrue, List, [], ◌∷◌, codes, flat_map, length, IsPermutation, Option, Some, None, Result, MatchResult}
 use Rattle.std.specs.List.{enumerate_from}
 use Rattle.sqlite.specs.Given.{HasGiven}
 use Rattle.sqlite.specs.Held.{Held, state}
@@ -7,12 +7,12 @@ use Rattle.sqlite.specs.Order.{Row}
 use Rattle.sqlite.specs.State.{Shown, State}
 use Rattle.sqlite.specs.declared.types.Value.TheVariants.{Int, Text as Words}
 use Rattle.sqlite_trees.specs.declared.store.Store.{Ghosts}
-use Rattle.gate_types.specs.Columns.{row}
 use Rattle.gate_types.specs.History.{report_row}
 use Rattle.gate_types.specs.Rows.{numbered}
-use Rattle.gate_types.specs.Tap.{Took, TookFront, has_failed}
+use Rattle.gate_types.specs.Tap.{Took, TookFront}
 use Rattle.gate_types.specs.declared.records.Report.{Report}
 use Rattle.gate_types.specs.declared.tap.Tap.{Tap}
+use Rattle.gate_book.specs.Text.{IsWritten, LeavesTap, first_line, last_line}
 use Rattle.gate_book.specs.declared.fault.HistoryFault.{HistoryFault}
 use Rattle.gate_book.specs.declared.fault.HistoryFault.TheVariants as fault
 use Rattle.gate_rows.specs.Tells.{reports_of}
@@ -52,17 +52,9 @@ IsSettled s = IsTrue s.is_open → s.now ≡ s.committed
 abbrev pub lines_from : ℕ → List Report → List ℕ
 lines_from place rs = flat_map report_row (enumerate_from place rs)
 
--- the first line
-abbrev pub head_of : List ℕ → List ℕ
-head_of name = row (codes "history" ∷ name ∷ [])
-
--- the last line, with so many reports
-abbrev pub end_of : ℕ → List ℕ
-end_of count = row (codes "end" ∷ decimal count ∷ [])
-
 -- the history text of a queue of this name with these reports
 abbrev pub reports_text : List ℕ → List Report → List ℕ
-reports_text name rs = head_of name ++ (lines_from 1 rs ++ end_of (length rs))
+reports_text name rs = first_line name ++ (lines_from 1 rs ++ last_line (length rs))
 
 -- ---- what is written
 
@@ -89,17 +81,11 @@ abbrev pub WritesReports : {W : Type 0} → State → List ℕ → List ℕ → 
 WritesReports s name front held old new result =
     MatchResult result (λ _. OfReports s name front (Took held old new)) (LeavesReports s name front held old new)
 
--- a fault behind the first byte: the writer failed at `Write` alone
-abbrev pub StopsLate : {W : Type 0} → Tap W → HistoryFault → Type 0
-StopsLate new fault.Broken = has_failed new ≡ false
-StopsLate new fault.Write = has_failed new ≡ true
-StopsLate new _ = ⊥
-
--- a text is written, or a beginning of it
-pub record WritesText {W : Type 0} (held : W → Option (List ℕ)) (old new : Tap W) (text : List ℕ)
+-- a part behind the first byte is written, or a beginning of it, and a fault leaves the writer so
+pub record WritesPart {W : Type 0} (held : W → Option (List ℕ)) (old new : Tap W) (text : List ℕ)
     (result : Result (Unit {0}) HistoryFault) : Type 0 where
-  pub taken : MatchResult result (λ _. Took held old new text) (λ _. TookFront held old new text)
-  pub stops : MatchResult result (λ _. has_failed new ≡ false) (StopsLate new)
+  pub taken : IsWritten held old new text result
+  pub stops : LeavesTap new result
 
 -- why a first text was not written whole
 abbrev pub CutsHead : {W : Type 0} → (W → Option (List ℕ)) → Tap W → Tap W → List ℕ → HistoryFault → Type 0

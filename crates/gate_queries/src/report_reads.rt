@@ -6,9 +6,10 @@ ghost use Rattle.sqlite.specs.Order.{Row};
 ghost use Rattle.sqlite.specs.State.{HasCleanDisk, IsUnchanged, Survives};
 ghost use Rattle.gate_types.specs.History.{report_row};
 ghost use Rattle.gate_types.specs.Tap.{has_failed};
+ghost use Rattle.gate_book.specs.Text.{first_line, last_line};
 ghost use Rattle.gate_book.specs.Writes.{Stops};
 ghost use Rattle.gate_queries.specs.Finds.{OnlyReads, Stays};
-ghost use Rattle.gate_queries.specs.History.{GaveRows, IsSettled, ReadsOn, WritesHead, WritesReports, WritesText, end_of, head_of, history_sql, report_shown};
+ghost use Rattle.gate_queries.specs.History.{GaveRows, IsSettled, ReadsOn, WritesHead, WritesPart, WritesReports, history_sql, report_shown};
 ghost use Rattle.gate_queries.specs.Reads.{IsOnlyRead};
 
 use crate::columns::{change_in, revision_in, serial_in};
@@ -64,7 +65,7 @@ fn next_report<S: Alter>(rows: &mut Rows<'_, S>) -> Result<Option<Report>, BookF
 /// Writes a text; `Write` where the writer fails.
 fn write_text<W: Write>(text: &[u8], w: &mut Tap<W>) -> Result<(), HistoryFault>
     requires { has_failed w.old ≡ false }
-    ensures { WritesText W.contents w.old w.new text.now result }
+    ensures { WritesPart W.contents w.old w.new text.now result }
 {
     match w.write_all(text) {
         Ok(()) => Ok(()),
@@ -80,7 +81,7 @@ fn write_head<W: Write>(
     w: &mut Tap<W>,
 ) -> Result<(), HistoryFault>
     requires { has_failed w.old ≡ false }
-    ensures taken { WritesHead W.contents w.old w.new (front.now ++ head_of queue.now) result }
+    ensures taken { WritesHead W.contents w.old w.new (front.now ++ first_line queue.now) result }
     ensures stops { Stops w.old w.new result }
 {
     let head = match history_head(alloc, queue) {
@@ -99,7 +100,7 @@ fn write_report<W: Write>(
     w: &mut Tap<W>,
 ) -> Result<(), HistoryFault>
     requires { has_failed w.old ≡ false }
-    ensures { WritesText W.contents w.old w.new (report_row (place, report.now)) result }
+    ensures { WritesPart W.contents w.old w.new (report_row (place, report.now)) result }
 {
     match report_line(alloc, place, report) {
         Ok(line) => write_text(line.as_bytes(), w),
@@ -110,7 +111,7 @@ fn write_report<W: Write>(
 /// Writes the last line, with so many reports; `Broken` where memory is refused for it.
 fn write_end<W: Write>(alloc: Global, count: u64, w: &mut Tap<W>) -> Result<(), HistoryFault>
     requires { has_failed w.old ≡ false }
-    ensures { WritesText W.contents w.old w.new (end_of count) result }
+    ensures { WritesPart W.contents w.old w.new (last_line count) result }
 {
     match history_end(alloc, count) {
         Ok(line) => write_text(line.as_bytes(), w),
