@@ -1,5 +1,11 @@
-//! A book in memory: tests alone.
+//! A book in memory, and one that keeps answers over it: tests alone.
 #![tactic(auto)]
 
 #[cfg(test)]
+mod cached;
+#[cfg(test)]
+mod counting;
+#[cfg(test)]
 mod memory;
+#[cfg(test)]
+mod scene;

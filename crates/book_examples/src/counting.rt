@@ -1,0 +1,125 @@
+//! A book that counts what it is asked for.
+use gate_book::book::Book;
+use gate_book::fault::{BookFault, HistoryFault};
+use gate_book::memory::MemBook;
+use gate_book::rows::{QueueSizes, QueuedItem};
+use gate_types::edits::Edit;
+use gate_types::names::Name;
+use gate_types::numbers::{BuildNo, ChangeNo, Serial};
+use gate_types::records::{Build, Change, Counters, Id, Item, Kept, Ready};
+use gate_types::sequence::Sequence;
+use gate_types::tap::Tap;
+use std::io::Write;
+
+/// Answers as the book in it.
+#[derive(Drop)]
+pub struct Counting {
+    pub book: MemBook,
+    pub reads: u32,
+}
+
+impl Book for Counting {
+    ghost Holds = { λ _ _ _. ⊥ };
+
+    ghost IsTrusted = { λ _. ⊥ };
+
+    ghost LeavesOneOf = { λ _ _ _. Unit {0} };
+
+    ghost MayFault = { λ _. Unit {0} };
+
+    ghost leaves_more = { λ _ _ _ _ h. h };
+
+    fn delivery(&mut self, id: &Id) -> Result<Option<Kept>, BookFault> {
+        self.reads = self.reads.saturating_add(1);
+        self.book.delivery(id)
+    }
+
+    fn change(&mut self, number: ChangeNo) -> Result<Option<Change>, BookFault> {
+        self.reads = self.reads.saturating_add(1);
+        self.book.change(number)
+    }
+
+    fn queue(&mut self, name: &Name) -> Result<Option<QueueSizes>, BookFault> {
+        self.reads = self.reads.saturating_add(1);
+        self.book.queue(name)
+    }
+
+    fn reports(&mut self, queue: &Name) -> Result<u64, BookFault> {
+        self.reads = self.reads.saturating_add(1);
+        self.book.reports(queue)
+    }
+
+    fn landing_before(&mut self, queue: &Name, serial: Serial) -> Result<u64, BookFault> {
+        self.reads = self.reads.saturating_add(1);
+        self.book.landing_before(queue, serial)
+    }
+
+    fn items(&mut self, queue: &Name) -> Result<Sequence<Item>, BookFault> {
+        self.reads = self.reads.saturating_add(1);
+        self.book.items(queue)
+    }
+
+    fn item(&mut self, serial: Serial) -> Result<Option<Item>, BookFault> {
+        self.reads = self.reads.saturating_add(1);
+        self.book.item(serial)
+    }
+
+    fn queued(&mut self, change: ChangeNo) -> Result<Option<QueuedItem>, BookFault> {
+        self.reads = self.reads.saturating_add(1);
+        self.book.queued(change)
+    }
+
+    fn next_item(&mut self, queue: &Name, above: u64) -> Result<Option<Item>, BookFault> {
+        self.reads = self.reads.saturating_add(1);
+        self.book.next_item(queue, above)
+    }
+
+    fn last_item(&mut self, queue: &Name, below: u64) -> Result<Option<Item>, BookFault> {
+        self.reads = self.reads.saturating_add(1);
+        self.book.last_item(queue, below)
+    }
+
+    fn needing(
+        &mut self,
+        queue: &Name,
+        change: ChangeNo,
+        above: u64,
+    ) -> Result<Option<Item>, BookFault> {
+        self.reads = self.reads.saturating_add(1);
+        self.book.needing(queue, change, above)
+    }
+
+    fn live_builds(&mut self, serial: Serial) -> Result<Sequence<Build>, BookFault> {
+        self.reads = self.reads.saturating_add(1);
+        self.book.live_builds(serial)
+    }
+
+    fn build(&mut self, number: BuildNo) -> Result<Option<Build>, BookFault> {
+        self.reads = self.reads.saturating_add(1);
+        self.book.build(number)
+    }
+
+    fn ready(&mut self) -> Result<Sequence<Ready>, BookFault> {
+        self.reads = self.reads.saturating_add(1);
+        self.book.ready()
+    }
+
+    fn counters(&mut self) -> Result<Counters, BookFault> {
+        self.reads = self.reads.saturating_add(1);
+        self.book.counters()
+    }
+
+    fn history<W: Write>(
+        &mut self,
+        queue: &str,
+        front: &[u8],
+        w: &mut Tap<W>,
+    ) -> Result<(), HistoryFault> {
+        self.reads = self.reads.saturating_add(1);
+        self.book.history(queue, front, w)
+    }
+
+    fn apply(&mut self, edits: &[Edit]) -> Result<(), BookFault> {
+        self.book.apply(edits)
+    }
+}

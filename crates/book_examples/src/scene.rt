@@ -1,0 +1,255 @@
+//! What the tests share: a book with a little of each kind in it.
+ghost use Rattle.std.specs.Prelude.{◌≡◌, [], ◌∷◌, true};
+
+use gate_book::book::Book;
+use gate_book::memory::MemBook;
+use gate_types::config::{Config, Job, Project, Queue};
+use gate_types::edits::{Counter, Edit};
+use gate_types::names::{Base, Name, PathName, Text};
+use gate_types::numbers::{BuildNo, ChangeNo, Revision, Serial};
+use gate_types::records::{
+    Build, Change, Id, Item, Kept, Landing, Outcome, Report, Stage, Verdict,
+};
+use gate_types::sequence::Sequence;
+use std::process::Abort;
+
+pub fn name(rt: &(impl Abort + AllocGlobal), text: &str) -> Name {
+    let text = String::from_str(rt.alloc(), text).expect(rt, "memory");
+    Name::new(text).expect(rt, "a name")
+}
+
+pub fn path_name(rt: &(impl Abort + AllocGlobal), text: &str) -> PathName {
+    let text = String::from_str(rt.alloc(), text).expect(rt, "memory");
+    PathName::new(text).expect(rt, "a path name")
+}
+
+pub fn text(rt: &(impl Abort + AllocGlobal), text: &str) -> Text {
+    Text::new(String::from_str(rt.alloc(), text).expect(rt, "memory"))
+}
+
+pub fn change_no(rt: &impl Abort, number: u64) -> ChangeNo {
+    ChangeNo::new(number).expect(rt, "a change number")
+}
+
+pub fn serial_no(rt: &impl Abort, number: u64) -> Serial {
+    Serial::new(number).expect(rt, "a serial")
+}
+
+pub fn build_no(rt: &impl Abort, number: u64) -> BuildNo {
+    BuildNo::new(number).expect(rt, "a build number")
+}
+
+pub fn first_revision(rt: &impl Abort) -> Revision {
+    Revision::new(1).expect(rt, "a revision")
+}
+
+pub fn queues(rt: &(impl Abort + AllocGlobal), core: Name) -> Sequence<Queue>
+    ensures { result ≡ record { name = core; window = 10; floor = 1 } ∷ [] }
+{
+    let mut queues = Sequence::new(rt.alloc());
+    let queue = Queue {
+        name: core,
+        window: 10,
+        floor: 1,
+    };
+    queues.push(queue).expect(rt, "memory");
+    queues
+}
+
+pub fn jobs(rt: &(impl Abort + AllocGlobal), unit: Name) -> Sequence<Job>
+    ensures { result ≡ record { name = unit; voting = true } ∷ [] }
+{
+    let mut jobs = Sequence::new(rt.alloc());
+    let job = Job {
+        name: unit,
+        voting: true,
+    };
+    jobs.push(job).expect(rt, "memory");
+    jobs
+}
+
+pub fn projects(
+    rt: &(impl Abort + AllocGlobal),
+    name: PathName,
+    queue: Name,
+    unit: Name,
+) -> Sequence<Project>
+    ensures { result
+        ≡ record { name = name; queue = queue; jobs = record { name = unit; voting = true } ∷ [] } ∷ [] }
+{
+    let mut projects = Sequence::new(rt.alloc());
+    let jobs = jobs(rt, unit);
+    let project = Project { name, queue, jobs };
+    projects.push(project).expect(rt, "memory");
+    projects
+}
+
+/// A queue `core` for the project `lib`.
+pub fn settings(rt: &(impl Abort + AllocGlobal)) -> Config {
+    let base = String::from_str(rt.alloc(), "https://forge/c/").expect(rt, "memory");
+    let base = Base::new(base).expect(rt, "a base");
+    let core = name(rt, "core");
+    let queue = core.copy().expect(rt, "memory");
+    let queues = queues(rt, core);
+    let projects = projects(rt, path_name(rt, "lib"), queue, name(rt, "unit"));
+    Config {
+        base,
+        queues,
+        projects,
+    }
+}
+
+/// An open change of `lib` at revision 1.
+pub fn change(rt: &(impl Abort + AllocGlobal), number: u64, need: Option<u64>) -> Change {
+    let mut needs = Sequence::new(rt.alloc());
+    if let Some(need) = need {
+        needs.push(change_no(rt, need)).expect(rt, "memory");
+    }
+    Change {
+        number: change_no(rt, number),
+        project: path_name(rt, "lib"),
+        revision: first_revision(rt),
+        stage: Stage::Open,
+        needs,
+    }
+}
+
+pub fn item(rt: &impl Abort, serial: u64, number: u64) -> Item {
+    Item {
+        serial: serial_no(rt, serial),
+        change: change_no(rt, number),
+        revision: first_revision(rt),
+        ahead: None,
+        failing: false,
+    }
+}
+
+pub fn build(rt: &(impl Abort + AllocGlobal), number: u64, serial: u64, change: u64) -> Build {
+    Build {
+        number: build_no(rt, number),
+        queue: name(rt, "core"),
+        serial: serial_no(rt, serial),
+        change: change_no(rt, change),
+        revision: first_revision(rt),
+        job: name(rt, "unit"),
+        after: 1,
+        ahead: Sequence::new(rt.alloc()),
+        outcome: Outcome::Running,
+        live: true,
+    }
+}
+
+pub fn kept(rt: &(impl Abort + AllocGlobal), number: u64, reply: &str) -> Kept {
+    Kept {
+        id: id(number),
+        said: text(rt, "said"),
+        reply: text(rt, reply),
+    }
+}
+
+pub fn id(number: u64) -> Id {
+    Id((number as u128).to_be_bytes())
+}
+
+pub fn put_change(
+    rt: &(impl Abort + AllocGlobal),
+    number: u64,
+    need: Option<u64>,
+    approval: Option<u64>,
+) -> Edit {
+    Edit::PutChange {
+        change: change(rt, number, need),
+        approval,
+    }
+}
+
+pub fn put_item(rt: &(impl Abort + AllocGlobal), serial: u64, number: u64) -> Edit {
+    Edit::PutItem {
+        queue: name(rt, "core"),
+        item: item(rt, serial, number),
+    }
+}
+
+pub fn put_landing(rt: &(impl Abort + AllocGlobal)) -> Edit {
+    Edit::PutLanding {
+        queue: name(rt, "core"),
+        place: 1,
+        landing: Landing {
+            serial: serial_no(rt, 1),
+            change: change_no(rt, 100),
+            revision: first_revision(rt),
+        },
+    }
+}
+
+pub fn put_report(
+    rt: &(impl Abort + AllocGlobal),
+    place: u64,
+    serial: u64,
+    change: u64,
+    verdict: Verdict,
+) -> Edit {
+    Edit::PutReport {
+        queue: name(rt, "core"),
+        place,
+        report: Report {
+            serial: serial_no(rt, serial),
+            change: change_no(rt, change),
+            revision: first_revision(rt),
+            verdict,
+        },
+    }
+}
+
+pub fn set_window(rt: &(impl Abort + AllocGlobal), window: u32) -> Edit {
+    Edit::SetWindow {
+        queue: name(rt, "core"),
+        window,
+    }
+}
+
+/// Changes 101, 102 (which needs 101) and 103 (approved); items 2 and 4; a landing, a report and
+/// two builds of item 2.
+pub fn first_edits(rt: &(impl Abort + AllocGlobal)) -> Vec<Edit> {
+    vec![in rt.alloc();
+        put_change(rt, 103, None, Some(7)),
+        put_change(rt, 101, None, None),
+        put_change(rt, 102, Some(101), None),
+        put_item(rt, 4, 102),
+        put_item(rt, 2, 101),
+        put_landing(rt),
+        put_report(rt, 1, 1, 100, Verdict::Landed(1)),
+        Edit::PutBuild(build(rt, 1, 2, 101)),
+        Edit::PutBuild(build(rt, 2, 2, 101)),
+        set_window(rt, 5),
+        Edit::SetCounter {
+            counter: Counter::Order,
+            drawn: 4
+        },
+        Edit::Keep(kept(rt, 9, "first")),
+    ]
+    .expect(rt, "memory")
+}
+
+/// Item 2 leaves, one of its builds stops, the other fails, change 103 is no longer ready.
+pub fn later_edits(rt: &(impl Abort + AllocGlobal)) -> Vec<Edit> {
+    vec![in rt.alloc();
+        Edit::DropItem(serial_no(rt, 2)),
+        Edit::StopBuild(build_no(rt, 1)),
+        Edit::SetOutcome {
+            build: build_no(rt, 2),
+            outcome: Outcome::Failure
+        },
+        put_change(rt, 103, None, None),
+        Edit::Keep(kept(rt, 10, "later")),
+    ]
+    .expect(rt, "memory")
+}
+
+/// A book that holds what these edits make of an empty one.
+pub fn book_of(rt: &(impl Abort + AllocGlobal), edits: &[Edit]) -> MemBook {
+    let config = settings(rt);
+    let mut book = MemBook::new(rt.alloc(), &config).expect(rt, "memory");
+    book.apply(edits).expect(rt, "memory");
+    book
+}

@@ -1,0 +1,5 @@
+//! A book over another one that keeps its last answers for one delivery.
+#![tactic(auto)]
+
+mod cache;
+pub mod cached;
