@@ -1,5 +1,6 @@
 //! What all tests share: settings, gates over a file's tables, and what they are told.
 use gate_book::book::Book;
+use gate_cache::cached::CachedBook;
 use gate_config::read;
 use gate_core::fault::IoFault;
 use gate_core::gate::Gate;
@@ -49,16 +50,16 @@ queue = "web"
 name = "unit"
 "#;
 
+/// A gate over a file, as the program makes it.
+pub type FileGate<S> = Gate<CachedBook<SqlBook<S>>>;
+
 /// A gate over the tables of a new file.
-pub fn new_gate<S: Alter + Drop>(
-    alloc: Global,
-    conn: Connection<S>,
-) -> Result<Gate<SqlBook<S>>, Fail> {
+pub fn new_gate<S: Alter + Drop>(alloc: Global, conn: Connection<S>) -> Result<FileGate<S>, Fail> {
     let config = read(alloc, SETTINGS.as_bytes())?;
     let Ok(book) = SqlBook::create(alloc, conn, &config) else {
         return Err(Fail::new("no file is made"));
     };
-    Ok(Gate::new(config, book))
+    Ok(Gate::new(config, CachedBook::new(alloc, book)))
 }
 
 /// The gate in a file under these settings, or why there is none, with the connection.
@@ -66,12 +67,17 @@ pub fn gate_in<S: Alter + Drop>(
     alloc: Global,
     conn: Connection<S>,
     settings: &str,
-) -> Result<Gate<SqlBook<S>>, (OpenFault, Connection<S>)> {
+) -> Result<FileGate<S>, (OpenFault, Connection<S>)> {
     let Ok(config) = read(alloc, settings.as_bytes()) else {
         return Err((OpenFault::Unavailable, conn));
     };
     let book = SqlBook::open(alloc, conn, &config)?;
-    Ok(Gate::new(config, book))
+    Ok(Gate::new(config, CachedBook::new(alloc, book)))
+}
+
+/// The connection that a gate was made over.
+pub fn conn_of<S: Alter + Drop>(gate: FileGate<S>) -> Connection<S> {
+    gate.into_book().into_book().into_conn()
 }
 
 /// What a gate writes for lines.

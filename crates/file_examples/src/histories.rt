@@ -1,10 +1,9 @@
 //! A history of 300 reports, from a file whose disk fails at each call that the history makes.
 use crate::disks::{connected, copied, fused};
-use crate::files::{SETTINGS, gate_in, new_gate, said};
+use crate::files::{FileGate, SETTINGS, conn_of, gate_in, new_gate, said};
 use gate_book::book::Book;
 use gate_book::fault::HistoryFault;
 use gate_core::gate::Gate;
-use gate_sql::book::SqlBook;
 use gate_types::tap::Tap;
 use sqlite::{FileStore, Files, Options};
 use sqlite_disk::{Fuse, Memory};
@@ -63,7 +62,7 @@ fn reported(alloc: Global) -> Result<Files<Fuse<Memory>>, Fail> {
     };
     let mut gate = new_gate(alloc, conn)?;
     let _answers = said(alloc, &mut gate, deliveries(alloc)?.as_str())?;
-    Ok(gate.into_book().into_conn().into_store().close())
+    Ok(conn_of(gate).into_store().close())
 }
 
 /// The gate in copies of the files, if it is opened with so many calls of the log, or of the database file.
@@ -72,7 +71,7 @@ fn opened(
     files: &Files<Fuse<Memory>>,
     is_log: bool,
     calls: u64,
-) -> Result<Option<Gate<SqlBook<FileStore<Fuse<Memory>>>>>, Fail> {
+) -> Result<Option<FileGate<FileStore<Fuse<Memory>>>>, Fail> {
     let copies = if is_log {
         copied(alloc, files, calls, u64::MAX)?
     } else {

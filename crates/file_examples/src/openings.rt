@@ -1,5 +1,5 @@
 //! A file that is opened again, and what isn't opened.
-use crate::files::{SETTINGS, gate_in, new_gate, tells};
+use crate::files::{SETTINGS, conn_of, gate_in, new_gate, tells};
 use gate_config::read;
 use gate_sql::book::SqlBook;
 use gate_sql::open_fault::OpenFault;
@@ -47,7 +47,7 @@ end
 fn one_waits(rt: &(impl Abort + AllocGlobal)) -> Result<Connection<MemStore>, Fail> {
     let mut gate = new_gate(rt.alloc(), Connection::open_in_memory(rt.alloc())?)?;
     tells(rt, &mut gate, NEED_IS_MISSING, MISSING, ONE_WAITS)?;
-    Ok(gate.into_book().into_conn())
+    Ok(conn_of(gate))
 }
 
 /// The gate in the file has a waiting change.

@@ -1,6 +1,6 @@
 //! A gate's file that is stopped at each call of the disk: in a delivery of each kind, and while it is made.
 use crate::disks::{closed, connected, copied, fused};
-use crate::files::{SETTINGS, gate_in, new_gate, said, tells};
+use crate::files::{SETTINGS, conn_of, gate_in, new_gate, said, tells};
 use gate_config::read;
 use gate_sql::book::SqlBook;
 use gate_sql::open_fault::OpenFault;
@@ -100,7 +100,7 @@ fn answered<S: Alter + Drop>(
     match gate_in(alloc, conn, SETTINGS) {
         Ok(mut gate) => {
             let answer = said(alloc, &mut gate, delivery).ok();
-            (answer, gate.into_book().into_conn())
+            (answer, conn_of(gate))
         }
         Err((_, conn)) => (None, conn),
     }
@@ -115,7 +115,7 @@ fn new_files(rt: &(impl Abort + AllocGlobal)) -> Result<(Files<Fuse<Memory>>, St
     let Ok(conn) = connected(rt.alloc(), files, Options::new(SEED)) else {
         return Err(Fail::new("an empty file isn't opened"));
     };
-    let mut conn = new_gate(rt.alloc(), conn)?.into_book().into_conn();
+    let mut conn = conn_of(new_gate(rt.alloc(), conn)?);
     let rows = rows_in(rt.alloc(), &mut conn)?;
     match closed(conn) {
         (true, files) => Ok((files, rows)),
@@ -171,7 +171,7 @@ fn found_in<S: Alter + Drop>(
         return Err(Fail::new("no gate is in the file"));
     };
     let answer = said(alloc, &mut gate, delivery)?;
-    let mut conn = gate.into_book().into_conn();
+    let mut conn = conn_of(gate);
     let rows_then = rows_in(alloc, &mut conn)?;
     Ok(Found {
         rows,

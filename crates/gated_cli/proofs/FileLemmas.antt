@@ -3,12 +3,15 @@ use Rattle.std.proofs.Common.{refl, ◌≡◌, ◌≢◌, ◌∙◌, sym, subst,
 use Rattle.std.specs.Prelude.{Err, IfErr, IsErrOf, None, Ok, OnErr, OnOk, Result}
 use Rattle.sqlite.specs.State.{HasCleanDisk, State}
 use Rattle.gate_types.specs.Forms.{IsLawfulContent}
+use Rattle.gate_types.specs.Once.{Content}
 use Rattle.gate_types.specs.Settings.{Settings}
 use Rattle.gate_core.specs.Gated.{Gated}
 use Rattle.gate_core.specs.Held.{IsOver, Passes}
 use Rattle.gate_core.specs.declared.fault.IoFault.{IoFault}
 use Rattle.gate_core.specs.declared.fault.IoFault.TheVariants as io
-use Rattle.gate_sql.specs.Held.{HoldsFor}
+use Rattle.gate_cache.specs.Cached.{HoldsBelow, Agrees}
+use Rattle.gate_cache.specs.declared.cached.CachedBook.{CachedBook}
+use Rattle.gate_sql.specs.Held.{ShowsFor}
 use Rattle.gated_cli.specs.Doing.{Announces, Delivers, Streams}
 use Rattle.gated_cli.specs.Ending.{AnnouncementIsCut, DeliveryEnds, DeliveryIsCut, DeliveryStops, IsOfFile, IsOfMaking, IsOfServing, ServingEnds}
 use Rattle.gated_cli.specs.Faults.{of_replay}
@@ -41,20 +44,42 @@ of_memory io.Store g is none unread unwritten = absurd (none refl)
 
 -- ---- the gate over the file
 
--- what a gate over the book passes to, its file passes to
-pub goes_over : {B : Type 0} (at : B → State) (names : B → List (List ℕ)) (before : State) (c d : Settings) (old new : B) (P : Gated → Gated → Type 0) →
-    d ≡ c → (HasCleanDisk (at old) → (g : Gated) → IsFileOf before c g → HoldsFor (at old) (names old) c g.content) → (HasCleanDisk (at new) → HasCleanDisk (at old)) →
-    Passes (λ b. HasCleanDisk (at b)) (λ b k x. HoldsFor (at b) (names b) k x) d old new P → GoesOver before (at new) c P
-goes_over at names before c d old new P is opens clean passes up g file =
-    let held = opens (clean up) g file in
-    let over : IsOver (λ b k x. HoldsFor (at b) (names b) k x) d old g = record {
+-- what a gate over the book passes to, its file passes to, where a book that holds a content shows it
+pub goes_over : {B : Type 0} (at : B → State) (holds : B → Settings → Content → Type 0) →
+    ((b : B) (k : Settings) (x : Content) → holds b k x → ShowsFor (at b) k x) → (before : State) (c d : Settings) (old new : B)
+    (P : Gated → Gated → Type 0) → d ≡ c → (HasCleanDisk (at old) → (g : Gated) → IsFileOf before c g → holds old c g.content) →
+    (HasCleanDisk (at new) → HasCleanDisk (at old)) → Passes (λ b. HasCleanDisk (at b)) holds d old new P → GoesOver before (at new) c P
+goes_over at holds shows before c d old new P is opens clean passes up g file =
+    let over : IsOver holds d old g = record {
       settings = file.settings ∙ sym is;
-      held = subst (λ k. HoldsFor (at old) (names old) k g.content) (sym is) held;
+      held = subst (λ k. holds old k g.content) (sym is) (opens (clean up) g file);
       lawful = subst (λ k. IsLawfulContent k g.content) (sym is) file.lawful;
     } in
-    let went = passes up g over in
-    let shown = subst (λ k. HoldsFor (at new) (names new) k went.0.content) is went.1.held in
-    (went.0, record { settings = went.1.settings ∙ is; shows = shown.shows; lawful = subst (λ k. IsLawfulContent k went.0.content) is went.1.lawful }, went.2)
+    let went = passes up g over in (
+      went.0,
+      record {
+        settings = went.1.settings ∙ is;
+        shows = shows new c went.0.content (subst (λ k. holds new k went.0.content) is went.1.held);
+        lawful = subst (λ k. IsLawfulContent k went.0.content) is went.1.lawful;
+      },
+      went.2,
+    )
+
+-- and so where the gate is over a book that keeps answers of that one, none of them yet
+pub goes_over_cached : {B : Type 0} (at : B → State) (holds : B → Settings → Content → Type 0) →
+    ((b : B) (k : Settings) (x : Content) → holds b k x → ShowsFor (at b) k x) → (before : State) (c d : Settings) (book : B)
+    (made old new : CachedBook B) (P : Gated → Gated → Type 0) → d ≡ c → made.book ≡ book →
+    ((k : Settings) (x : Content) → Agrees made.cache k x) → old ≡ made →
+    (HasCleanDisk (at book) → (g : Gated) → IsFileOf before c g → holds book c g.content) →
+    (HasCleanDisk (at new.book) → HasCleanDisk (at old.book)) →
+    Passes (λ r. HasCleanDisk (at r.book)) (λ r k x. HoldsBelow holds r k x) d old new P → GoesOver before (at new.book) c P
+goes_over_cached at holds shows before c d book made old new P is over agrees same opens clean passes =
+    goes_over (λ r. at r.book) (λ r k x. HoldsBelow holds r k x) (λ r k x held. shows r.book k x held.below) before c d old new P is
+    (λ was g file. subst (λ r. HoldsBelow holds r c g.content) (sym same) record {
+      below = subst (λ b. holds b c g.content) (sym over)
+          (opens (subst (λ b. HasCleanDisk (at b)) over (subst (λ r. HasCleanDisk (at r.book)) same was)) g file);
+      agrees = λ lawful. agrees c g.content;
+    }) clean passes
 
 -- ---- serving
 

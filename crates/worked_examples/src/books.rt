@@ -2,6 +2,7 @@
 use crate::gates::{Queues, gate_after, gate_under, settings_of, tells};
 use crate::talks::{Part, goes_on, has_status};
 use gate_book::book::Book;
+use gate_cache::cached::CachedBook;
 use gate_config::read;
 use gate_core::gate::Gate;
 use gate_sql::book::SqlBook;
@@ -12,13 +13,16 @@ use std::process::Abort;
 use std::test::Fail;
 
 /// A gate under these settings, over the tables of a new file, which is kept in memory.
-fn gate_over_tables(alloc: Global, settings: &str) -> Result<Gate<SqlBook<MemStore>>, Fail> {
+fn gate_over_tables(
+    alloc: Global,
+    settings: &str,
+) -> Result<Gate<CachedBook<SqlBook<MemStore>>>, Fail> {
     let config = read(alloc, settings.as_bytes())?;
     let conn = Connection::open_in_memory(alloc)?;
     let Ok(book) = SqlBook::create(alloc, conn, &config) else {
         return Err(Fail::new("no file"));
     };
-    Ok(Gate::new(config, book))
+    Ok(Gate::new(config, CachedBook::new(alloc, book)))
 }
 
 /// Two gates with these queues say all this.

@@ -21,6 +21,7 @@ ghost use Rattle.gated_cli.specs.Telling.{TellsUpTo};
 use crate::run::fault::Fault;
 use crate::run::listening;
 use crate::run::showing::{write_history, write_status};
+use gate_cache::cached::CachedBook;
 use gate_core::gate::Gate;
 use gate_core::replay::replay;
 use gate_sql::book::SqlBook;
@@ -89,9 +90,9 @@ pub fn deliver<S: Alter + Drop, R: Read, W: Write>(
         Ok(book) => book,
         Err((fault, conn)) => return (conn, Err(Fault::File(fault))),
     };
-    let mut gate = Gate::new(config, book);
+    let mut gate = Gate::new(config, CachedBook::new(alloc, book));
     let done = replay(alloc, &mut gate, input, output);
-    let conn = gate.into_book().into_conn();
+    let conn = gate.into_book().into_book().into_conn();
     match done {
         Ok(_) => (conn, Ok(())),
         Err(fault) => (conn, Err(Fault::from(fault))),
@@ -188,7 +189,7 @@ pub fn serve<M: Net + AllocGlobal, S: Alter + Drop, W: Write, E: Write>(
         Ok(book) => book,
         Err((fault, conn)) => return (conn, Err(Fault::File(fault))),
     };
-    let mut gate = Gate::new(config, book);
+    let mut gate = Gate::new(config, CachedBook::new(rt.alloc(), book));
     let done = listening::serve(rt, &mut gate, port, count, output, errors);
-    (gate.into_book().into_conn(), done)
+    (gate.into_book().into_book().into_conn(), done)
 }

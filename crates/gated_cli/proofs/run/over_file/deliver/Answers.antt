@@ -7,42 +7,39 @@ use Rattle.gate_core.specs.Lines.{lines_of, whole_lines}
 use Rattle.gate_core.specs.Replies.{Cut, Replayed}
 use Rattle.gate_sql.specs.Held.{HoldsFor}
 use Rattle.gated_cli.specs.OverFile.{GoesOver}
-use Rattle.gated_cli.proofs.FileLemmas.{goes_over, of_memory, of_read, of_write}
+use Rattle.gated_cli.proofs.FileLemmas.{goes_over_cached, of_memory, of_read, of_write}
 use Rattle.gated_cli.proofs.run.over_file.deliver.Goals as goal
 
 pub returns-in-Ok-done-clause-ok : goal.returns-in-Ok-done-clause-ok
 returns-in-Ok-done-clause-ok g c =
     let h = c.in-Ok-done.ensures.ok in
-    let last = c.into_conn-conn.ensures ∙ ap (λ book. book.conn) c.into_book.ensures in
+    let last = c.into_conn-conn.ensures ∙ ap (λ book. book.conn) (c.into_book-2.ensures ∙ ap (λ cached. cached.book) c.into_book.ensures) in
     let P : Gated → Gated → Type 0 = λ gate after. Replayed gate (lines_of h.0) h.3 after in
-    let over = goes_over (λ book. state g.S.Store book.conn) (λ book. book.queues.items) (state g.S.Store c.args.conn) c.args.config c.new-gate.result.config
-    c.new-gate.result.book c.replay-done.new.gate.book P c.new-gate.ensures.config
-    (λ clean gate file. subst (λ book. HoldsFor (state g.S.Store book.conn) book.queues.items c.args.config gate.content) (sym c.new-gate.ensures.book)
-    (c.in-Ok.ensures.opens file.up gate.content file.stands (subst (λ book. HasCleanDisk (state g.S.Store book.conn)) c.new-gate.ensures.book clean)))
+    let over = goes_over_cached (λ book. state g.S.Store book.conn) (λ book k x. HoldsFor (state g.S.Store book.conn) book.queues.items k x) (λ book k x held. held.shows)
+    (state g.S.Store c.args.conn) c.args.config c.new-gate.result.config c.in-Ok.book c.new.result c.new-gate.result.book c.replay-done.new.gate.book P
+    c.new-gate.ensures.config c.new.ensures.book c.new.ensures.agrees c.new-gate.ensures.book (λ clean gate file. c.in-Ok.ensures.opens file.up gate.content file.stands clean)
     h.5.trusted_before h.5.passes in
     (h.0, h.1, h.2, h.3, h.4, subst (λ conn. GoesOver (state g.S.Store c.args.conn) (state g.S.Store conn) c.args.config P) (sym last) over)
 
 pub returns-in-Err-done-clause-read : goal.returns-in-Err-done-clause-read
 returns-in-Err-done-clause-read g c e =
     let h = c.in-Err-done.ensures.read (of_read c.in-Err-done.fault c.from.result c.from.ensures e) in
-    let last = c.into_conn-conn.ensures ∙ ap (λ book. book.conn) c.into_book.ensures in
+    let last = c.into_conn-conn.ensures ∙ ap (λ book. book.conn) (c.into_book-2.ensures ∙ ap (λ cached. cached.book) c.into_book.ensures) in
     let P : Gated → Gated → Type 0 = λ gate after. Replayed gate (whole_lines h.0) h.2 after in
-    let over = goes_over (λ book. state g.S.Store book.conn) (λ book. book.queues.items) (state g.S.Store c.args.conn) c.args.config c.new-gate.result.config
-    c.new-gate.result.book c.replay-done.new.gate.book P c.new-gate.ensures.config
-    (λ clean gate file. subst (λ book. HoldsFor (state g.S.Store book.conn) book.queues.items c.args.config gate.content) (sym c.new-gate.ensures.book)
-    (c.in-Ok.ensures.opens file.up gate.content file.stands (subst (λ book. HasCleanDisk (state g.S.Store book.conn)) c.new-gate.ensures.book clean)))
+    let over = goes_over_cached (λ book. state g.S.Store book.conn) (λ book k x. HoldsFor (state g.S.Store book.conn) book.queues.items k x) (λ book k x held. held.shows)
+    (state g.S.Store c.args.conn) c.args.config c.new-gate.result.config c.in-Ok.book c.new.result c.new-gate.result.book c.replay-done.new.gate.book P
+    c.new-gate.ensures.config c.new.ensures.book c.new.ensures.agrees c.new-gate.ensures.book (λ clean gate file. c.in-Ok.ensures.opens file.up gate.content file.stands clean)
     h.4.trusted_before h.4.passes in
     (h.0, h.1, h.2, h.3, subst (λ conn. GoesOver (state g.S.Store c.args.conn) (state g.S.Store conn) c.args.config P) (sym last) over)
 
 pub returns-in-Err-done-clause-write : goal.returns-in-Err-done-clause-write
 returns-in-Err-done-clause-write g c e =
     let h = c.in-Err-done.ensures.write (of_write c.in-Err-done.fault c.from.result c.from.ensures e) in
-    let last = c.into_conn-conn.ensures ∙ ap (λ book. book.conn) c.into_book.ensures in
+    let last = c.into_conn-conn.ensures ∙ ap (λ book. book.conn) (c.into_book-2.ensures ∙ ap (λ cached. cached.book) c.into_book.ensures) in
     let P : Gated → Gated → Type 0 = λ gate after. (cut : Cut gate h.0 h.1 after) × (length cut.done ≡ h.3) in
-    let over = goes_over (λ book. state g.S.Store book.conn) (λ book. book.queues.items) (state g.S.Store c.args.conn) c.args.config c.new-gate.result.config
-    c.new-gate.result.book c.replay-done.new.gate.book P c.new-gate.ensures.config
-    (λ clean gate file. subst (λ book. HoldsFor (state g.S.Store book.conn) book.queues.items c.args.config gate.content) (sym c.new-gate.ensures.book)
-    (c.in-Ok.ensures.opens file.up gate.content file.stands (subst (λ book. HasCleanDisk (state g.S.Store book.conn)) c.new-gate.ensures.book clean)))
+    let over = goes_over_cached (λ book. state g.S.Store book.conn) (λ book k x. HoldsFor (state g.S.Store book.conn) book.queues.items k x) (λ book k x held. held.shows)
+    (state g.S.Store c.args.conn) c.args.config c.new-gate.result.config c.in-Ok.book c.new.result c.new-gate.result.book c.replay-done.new.gate.book P
+    c.new-gate.ensures.config c.new.ensures.book c.new.ensures.agrees c.new-gate.ensures.book (λ clean gate file. c.in-Ok.ensures.opens file.up gate.content file.stands clean)
     h.5.trusted_before h.5.passes in
     (h.0, h.1, h.2, h.3, h.4, subst (λ conn. GoesOver (state g.S.Store c.args.conn) (state g.S.Store conn) c.args.config P) (sym last) over)
 
@@ -51,3 +48,11 @@ returns-in-Err-done-clause-fault g c unread unwritten =
     let is = of_memory c.in-Err-done.fault c.from.result c.from.ensures c.in-Err-done.ensures.store unread unwritten in
     let same = c.in-Err-done.ensures.memory is.0 in
     (is.1, same.1, same.2)
+
+pub returns-in-Err-done-clause-reader_failed : goal.returns-in-Err-done-clause-reader_failed
+returns-in-Err-done-clause-reader_failed g c e =
+    c.in-Err-done.ensures.reader_failed (of_read c.in-Err-done.fault c.from.result c.from.ensures e)
+
+pub returns-in-Err-done-clause-writer_failed : goal.returns-in-Err-done-clause-writer_failed
+returns-in-Err-done-clause-writer_failed g c e =
+    c.in-Err-done.ensures.writer_failed (of_write c.in-Err-done.fault c.from.result c.from.ensures e)

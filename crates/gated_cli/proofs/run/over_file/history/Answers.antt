@@ -15,7 +15,8 @@ returns-clause-gate g c unfaulted =
     let went = c.write_history-done.ensures.gate in
     let last = c.into_conn.ensures ∙ ap (λ book. book.conn) c.into_book.ensures in
     let P : Gated → Gated → Type 0 = λ gate after. (after ≡ gate) × WritesHistory gate c.args.queue.now g.W.Write.contents c.args.output.now c.write_history-done.new.output c.write_history-done.result in
-    let over = goes_over (λ book. state g.S.Store book.conn) (λ book. book.queues.items) (state g.S.Store c.args.conn) c.args.config c.new-gate.result.config
+    let over = goes_over (λ book. state g.S.Store book.conn) (λ book k x. HoldsFor (state g.S.Store book.conn) book.queues.items k x) (λ book k x held. held.shows)
+    (state g.S.Store c.args.conn) c.args.config c.new-gate.result.config
     c.new-gate.result.book c.write_history-done.new.gate.book P c.new-gate.ensures.config
     (λ clean gate file. subst (λ book. HoldsFor (state g.S.Store book.conn) book.queues.items c.args.config gate.content) (sym c.new-gate.ensures.book)
     (c.in-Ok.ensures.opens file.up gate.content file.stands (subst (λ book. HasCleanDisk (state g.S.Store book.conn)) c.new-gate.ensures.book clean)))

@@ -6,26 +6,26 @@ use Rattle.gate_types.specs.SettingsText.{settings_text}
 use Rattle.gate_sql.specs.Held.{HoldsFor}
 use Rattle.gate_sql.specs.Opens.{IsJudged}
 use Rattle.gated_cli.specs.OverFile.{GoesOver}
-use Rattle.gated_cli.proofs.FileLemmas.{goes_over, no_file_fault, serving_over_file}
+use Rattle.gated_cli.proofs.FileLemmas.{goes_over_cached, no_file_fault, serving_over_file}
 use Rattle.gated_cli.proofs.TalkLemmas.{none_so_far}
 use Rattle.gated_cli.proofs.run.over_file.serve.Goals as goal
 
 pub returns-clause-gate : goal.returns-clause-gate
 returns-clause-gate g c unfaulted =
     let went = c.serve-done.ensures.gate in
-    let last = c.into_conn.ensures ∙ ap (λ book. book.conn) c.into_book.ensures in
-    let over = goes_over (λ book. state g.S.Store book.conn) (λ book. book.queues.items) (state g.S.Store c.args.conn) c.args.config c.new-gate.result.config
-    c.new-gate.result.book c.serve-done.new.gate.book (IsCalled c.args.count) c.new-gate.ensures.config
-    (λ clean gate file. subst (λ book. HoldsFor (state g.S.Store book.conn) book.queues.items c.args.config gate.content) (sym c.new-gate.ensures.book)
-    (c.in-Ok.ensures.opens file.up gate.content file.stands (subst (λ book. HasCleanDisk (state g.S.Store book.conn)) c.new-gate.ensures.book clean)))
+    let last = c.into_conn.ensures ∙ ap (λ book. book.conn) (c.into_book-2.ensures ∙ ap (λ cached. cached.book) c.into_book.ensures) in
+    let over = goes_over_cached (λ book. state g.S.Store book.conn) (λ book k x. HoldsFor (state g.S.Store book.conn) book.queues.items k x) (λ book k x held. held.shows)
+    (state g.S.Store c.args.conn) c.args.config c.new-gate.result.config c.in-Ok.book c.new.result c.new-gate.result.book c.serve-done.new.gate.book (IsCalled c.args.count)
+    c.new-gate.ensures.config c.new.ensures.book c.new.ensures.agrees c.new-gate.ensures.book (λ clean gate file. c.in-Ok.ensures.opens file.up gate.content file.stands clean)
     went.trusted_before went.passes in
     subst (λ conn. GoesOver (state g.S.Store c.args.conn) (state g.S.Store conn) c.args.config (IsCalled c.args.count)) (sym last) over
 
 pub returns-clause-judged : goal.returns-clause-judged
 returns-clause-judged g c tables indexes version kept schema meta clean =
-    let last = c.into_conn.ensures ∙ ap (λ book. book.conn) c.into_book.ensures in
+    let last = c.into_conn.ensures ∙ ap (λ book. book.conn) (c.into_book-2.ensures ∙ ap (λ cached. cached.book) c.into_book.ensures) in
     let served = subst (λ conn. HasCleanDisk (state g.S.Store conn)) last clean in
-    let opened = subst (λ book. HasCleanDisk (state g.S.Store book.conn)) c.new-gate.ensures.book (c.serve-done.ensures.gate.trusted_before served) in
+    let opened = subst (λ book. HasCleanDisk (state g.S.Store book.conn)) c.new.ensures.book
+    (subst (λ cached. HasCleanDisk (state g.S.Store cached.book.conn)) c.new-gate.ensures.book (c.serve-done.ensures.gate.trusted_before served)) in
     subst (λ f. IsJudged f version kept (settings_text c.args.config)) (sym (no_file_fault _ c.serve-done.result c.serve-done.ensures.err))
     (c.in-Ok.ensures.judged tables indexes version kept schema meta opened)
 
