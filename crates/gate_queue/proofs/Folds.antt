@@ -48,7 +48,7 @@ along name bs n ahead staying (p ∷ ps) =
     ap (λ l. edits_at name bs n staying q ++ l) (along name bs (next_reports n (verdict_of bs staying q)) (next_ahead bs q) (next_staying staying (judge bs staying q)) ps)
 
 -- stops leave a part alone
-stops_leave : {Y : Type 0} (f : Y → Edit → Y) → ((y : Y) (n : ℕ) → f y (edit.StopBuild n) ≡ y) → (y : Y) (bs : List Build) → fold f y (map (λ b. edit.StopBuild b.number) bs) ≡ y
+pub stops_leave : {Y : Type 0} (f : Y → Edit → Y) → ((y : Y) (n : ℕ) → f y (edit.StopBuild n) ≡ y) → (y : Y) (bs : List Build) → fold f y (map (λ b. edit.StopBuild b.number) bs) ≡ y
 stops_leave f h y [] = refl
 stops_leave f h y (b ∷ bs) = ap (λ z. fold f z (map (λ (x : Build). edit.StopBuild x.number) bs)) (h y b.number) ∙ stops_leave f h y bs
 

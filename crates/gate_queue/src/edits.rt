@@ -1,4 +1,4 @@
-//! The edits of one item.
+//! The edits of one item, and of the window.
 ghost use Rattle.std.specs.Prelude.{◌≡◌, ◌<◌, ◌+◌, ◌-◌, ◌^◌, ◌++◌, option_map, slice_get, length, OnOk, IfOk};
 ghost use Rattle.gate_types.specs.Slot as rules;
 ghost use Rattle.gate_types.specs.Standing.{is_failing};
@@ -76,6 +76,22 @@ pub fn push_item(
         },
     })?;
     edits.push(Edit::DropItem(row.serial))?;
+    Ok(())
+}
+
+/// Sets the window of a queue, where it changes.
+pub fn push_window(
+    edits: &mut Sequence<Edit>,
+    name: &Name,
+    old: u32,
+    new: u32,
+) -> Result<(), NoMemory>
+    ensures { OnOk result (edits.new ≡ edits.old ++ edits_of.window_edits name.now old new) }
+{
+    if old != new {
+        let queue = name.copy()?;
+        edits.push(Edit::SetWindow { queue, window: new })?;
+    }
     Ok(())
 }
 

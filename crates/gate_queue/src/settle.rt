@@ -8,7 +8,7 @@ ghost use Rattle.gate_queue.specs.Visits.{Visits};
 ghost use Rattle.gate_queue.specs.Settles.{Settles};
 
 use crate::context::{BareItem, ItemContext};
-use crate::edits::push_edits;
+use crate::edits::{push_edits, push_window};
 use crate::facts::{Facts, ItemFacts};
 use crate::shared::shared_with;
 use crate::window::shrink;
@@ -46,18 +46,6 @@ fn push_unless<T: Drop>(items: &mut Vec<T>, item: T, skip: bool) -> Result<(), N
 {
     if !skip {
         items.push(item)?;
-    }
-    Ok(())
-}
-
-/// Sets the window, where it isn't that of the facts.
-fn push_window(edits: &mut Sequence<Edit>, facts: &Facts, window: u32) -> Result<(), NoMemory>
-    ensures { let known = facts.now in
-        OnOk result (edits.new ≡ edits.old ++ edits_of.window_edits known.settings.now.name known.window window) }
-{
-    if facts.window != window {
-        let queue = facts.settings.name.copy()?;
-        edits.push(Edit::SetWindow { queue, window })?;
     }
     Ok(())
 }
@@ -151,7 +139,7 @@ fn edits_for(
         shared: _,
         below: _,
     } = pass;
-    push_window(&mut edits, facts, window)?;
+    push_window(&mut edits, &facts.settings.name, facts.window, window)?;
     Ok(edits)
 }
 

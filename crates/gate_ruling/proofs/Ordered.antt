@@ -34,6 +34,7 @@ use Rattle.gate_raw.specs.Moves.{Columns, in_state, Moves}
 use Rattle.gate_raw.specs.Touches.{Touches}
 use Rattle.gate_raw.specs.declared.touched.Event.TheVariants as event
 use Rattle.gate_reads.specs.Orders.{IsRowOf, TellsShown}
+use Rattle.gate_queue.specs.Edits.{window_edits}
 use Rattle.gate_ruling.specs.Landing.{landing_of, landing_edits}
 use Rattle.gate_ruling.proofs.Folded.{shown, shown_after, by_parts}
 use Rattle.gate_ruling.proofs.Stored.{Stored}
@@ -130,32 +131,68 @@ refused_raw c s number k h =
     ∙ (λ i. accepted reply.Removed (change_queue (sym h.row.queue i) (shrunk_queue c)
     (leave verdict.Refused (sym h.row.item i).change s)))
 
-pub shrinks : (c : Settings) (x : Content) (k : QueuedItem) → are_sound c ≡ true → IsSound c x.state →
+-- its window is set
+shrinks_to : (c : Settings) (x : Content) (k : QueuedItem) → are_sound c ≡ true → IsSound c x.state →
     (h : Stored c x.state k.queue k.item) → (w : ℕ) →
-    w ≡ shrink h.queue.window (option_map_or (λ r. r.floor) (find (λ r. same_name r.name k.queue) c.queues) 1) →
+    w ≡ shrink h.queue.window (floor_of c (left_queue verdict.Refused k.item.change h.queue)) →
     Moves (in_state x (leave verdict.Refused k.item.change x.state)) (edit.SetWindow k.queue w ∷ [])
     (change_queue k.queue (shrunk_queue c) (leave verdict.Refused k.item.change x.state))
-shrinks c x k settings sound h w is =
+shrinks_to c x k settings sound h w is =
     let t = leave verdict.Refused k.item.change x.state in
     let edits : List Edit = edit.SetWindow k.queue w ∷ [] in
     let left = left_queue verdict.Refused k.item.change h.queue in
     let there = turned h.queue.name k.queue true h.named in
-    let name = same_name_is h.queue.name k.queue h.named in
-    let window : w ≡ shrink h.queue.window (floor_of c left) =
-    is ∙ ap (λ m. shrink h.queue.window (option_map_or (λ r. r.floor) (find (λ r. same_name r.name m) c.queues) 1))
-    (sym name) in
     by_parts (in_state x t) edits (change_queue k.queue (shrunk_queue c) t) (record {
       changes = refl;
       queues = λ columns. queues_changed columns edits k.queue (shrunk_queue c) t.queues
           (λ q m e. subst (λ o. shown_after columns edits o ≡ shown columns (shrunk_queue c o))
           (left_alone c x.state k verdict.Refused k.item.change settings sound h q m e)
           (ap (λ b. record (shown columns left) { window = cond b w left.window }) there
-          ∙ ap (λ u. record (shown columns left) { window = u }) window))
+          ∙ ap (λ u. record (shown columns left) { window = u }) is))
           (λ q apart. ap (λ b. record (shown columns q) { window = cond b w q.window }) apart);
       builds = refl;
       counters = refl;
       kept = refl;
     })
+
+-- or it is so small already
+stays_shrunk : (c : Settings) (x : Content) (k : QueuedItem) → are_sound c ≡ true → IsSound c x.state →
+    (h : Stored c x.state k.queue k.item) →
+    h.queue.window ≡ shrink h.queue.window (floor_of c (left_queue verdict.Refused k.item.change h.queue)) →
+    Moves (in_state x (leave verdict.Refused k.item.change x.state)) []
+    (change_queue k.queue (shrunk_queue c) (leave verdict.Refused k.item.change x.state))
+stays_shrunk c x k settings sound h is =
+    let t = leave verdict.Refused k.item.change x.state in
+    let left = left_queue verdict.Refused k.item.change h.queue in
+    by_parts (in_state x t) [] (change_queue k.queue (shrunk_queue c) t) (record {
+      changes = refl;
+      queues = λ columns. queues_changed columns [] k.queue (shrunk_queue c) t.queues
+          (λ q m e. subst (λ o. shown columns o ≡ shown columns (shrunk_queue c o))
+          (left_alone c x.state k verdict.Refused k.item.change settings sound h q m e)
+          (ap (λ u. record (shown columns left) { window = u }) is))
+          (λ q apart. refl);
+      builds = refl;
+      counters = refl;
+      kept = refl;
+    })
+
+pub shrinks : (c : Settings) (x : Content) (k : QueuedItem) → are_sound c ≡ true → IsSound c x.state →
+    (h : Stored c x.state k.queue k.item) → (w : ℕ) →
+    w ≡ shrink h.queue.window (option_map_or (λ r. r.floor) (find (λ r. same_name r.name k.queue) c.queues) 1) →
+    Moves (in_state x (leave verdict.Refused k.item.change x.state)) (window_edits k.queue h.queue.window w)
+    (change_queue k.queue (shrunk_queue c) (leave verdict.Refused k.item.change x.state))
+shrinks c x k settings sound h w is = by_test (h.queue.window == w) refl
+  where
+    window : w ≡ shrink h.queue.window (floor_of c (left_queue verdict.Refused k.item.change h.queue))
+    window =
+        is ∙ ap (λ m. shrink h.queue.window (option_map_or (λ r. r.floor) (find (λ r. same_name r.name m) c.queues) 1))
+        (sym (same_name_is h.queue.name k.queue h.named))
+
+    by_test : (b : Bool) → (h.queue.window == w) ≡ b →
+        Moves (in_state x (leave verdict.Refused k.item.change x.state)) (cond b [] (edit.SetWindow k.queue w ∷ []))
+        (change_queue k.queue (shrunk_queue c) (leave verdict.Refused k.item.change x.state))
+    by_test true e = stays_shrunk c x k settings sound h (eqb-true h.queue.window w e ∙ window)
+    by_test false e = shrinks_to c x k settings sound h w window
 
 -- ---- `landed`
 
@@ -174,43 +211,98 @@ put_last k (x ∷ ls) l n e =
     (le-ltb (n + 1) (suc k) (omega arith))
     ∙ ap (λ r. first ∷ r) (put_last (suc k) ls l n (omega arith))
 
-pub lands : (c : Settings) (x : Content) (k : QueuedItem) → are_sound c ≡ true → IsSound c x.state →
+-- its landing stands last
+last_row : (q : Queue) (l : Landing) (place : ℕ) → place ≡ length q.landings + 1 →
+    put_by (λ (y : LandingRow). y.place) (record { place = place; landing = l }) (numbered_landings 0 q.landings)
+    ≡ numbered_landings 0 (q.landings ++ l ∷ [])
+last_row q l place at =
+    ap (λ n. put_by (λ (y : LandingRow). y.place) (record { place = n; landing = l }) (numbered_landings 0 q.landings)) at
+    ∙ put_last 0 q.landings l (length q.landings) (omega arith)
+
+-- and its window is set
+lands_to : (c : Settings) (x : Content) (k : QueuedItem) → are_sound c ≡ true → IsSound c x.state →
     (h : Stored c x.state k.queue k.item) → (place w : ℕ) → place ≡ length h.queue.landings + 1 →
     w ≡ grow h.queue.window →
-    Moves (in_state x (leave (verdict.Landed place) k.item.change x.state)) (landing_edits k place w)
+    Moves (in_state x (leave (verdict.Landed place) k.item.change x.state))
+    (edit.PutLanding k.queue place (landing_of k.item) ∷ edit.SetWindow k.queue w ∷ [])
     (change_queue k.queue (landed_queue (item_of k.item)) (leave (verdict.Landed place) k.item.change x.state))
-lands c x k settings sound h place w at is =
+lands_to c x k settings sound h place w at is =
     let v = verdict.Landed place in
     let t = leave v k.item.change x.state in
     let f = landed_queue (item_of k.item) in
-    let edits = landing_edits k place w in
+    let edits : List Edit = edit.PutLanding k.queue place (landing_of k.item) ∷ edit.SetWindow k.queue w ∷ [] in
     let left = left_queue v k.item.change h.queue in
     let there = turned h.queue.name k.queue true h.named in
-    let new : ℕ → List LandingRow =
-    λ n. put_by (λ (y : LandingRow). y.place) (record { place = n; landing = landing_of k.item })
-    (numbered_landings 0 h.queue.landings) in
-    let rows = ap new at
-    ∙ put_last 0 h.queue.landings (landing_of k.item) (length h.queue.landings) (omega arith) in
+    let new : List LandingRow → List LandingRow =
+    λ ls. put_by (λ (y : LandingRow). y.place) (record { place = place; landing = landing_of k.item }) ls in
+    let rows = last_row h.queue (landing_of k.item) place at in
     by_parts (in_state x t) edits (change_queue k.queue f t) (record {
       changes = refl;
       queues = λ columns. queues_changed columns edits k.queue f t.queues
           (λ q m e. subst (λ o. shown_after columns edits o ≡ shown columns (f o))
           (left_alone c x.state k v k.item.change settings sound h q m e)
           (ap (λ b. record (shown columns left) {
-            landings = cond b (new place) (numbered_landings 0 h.queue.landings);
+            landings = cond b (new (numbered_landings 0 h.queue.landings)) (numbered_landings 0 h.queue.landings);
             window = cond b w h.queue.window;
           }) there
           ∙ (λ i. record (shown columns left) { landings = rows i; window = is i })))
           (λ q apart. ap (λ b. record (shown columns q) {
-            landings = cond b (put_by (λ (y : LandingRow). y.place)
-                (record { place = place; landing = landing_of k.item }) (numbered_landings 0 q.landings))
-                (numbered_landings 0 q.landings);
+            landings = cond b (new (numbered_landings 0 q.landings)) (numbered_landings 0 q.landings);
             window = cond b w q.window;
           }) apart);
       builds = refl;
       counters = refl;
       kept = refl;
     })
+
+-- or it grows no more
+lands_within : (c : Settings) (x : Content) (k : QueuedItem) → are_sound c ≡ true → IsSound c x.state →
+    (h : Stored c x.state k.queue k.item) → (place : ℕ) → place ≡ length h.queue.landings + 1 →
+    h.queue.window ≡ grow h.queue.window →
+    Moves (in_state x (leave (verdict.Landed place) k.item.change x.state))
+    (edit.PutLanding k.queue place (landing_of k.item) ∷ [])
+    (change_queue k.queue (landed_queue (item_of k.item)) (leave (verdict.Landed place) k.item.change x.state))
+lands_within c x k settings sound h place at is =
+    let v = verdict.Landed place in
+    let t = leave v k.item.change x.state in
+    let f = landed_queue (item_of k.item) in
+    let edits : List Edit = edit.PutLanding k.queue place (landing_of k.item) ∷ [] in
+    let left = left_queue v k.item.change h.queue in
+    let there = turned h.queue.name k.queue true h.named in
+    let new : List LandingRow → List LandingRow =
+    λ ls. put_by (λ (y : LandingRow). y.place) (record { place = place; landing = landing_of k.item }) ls in
+    let rows = last_row h.queue (landing_of k.item) place at in
+    by_parts (in_state x t) edits (change_queue k.queue f t) (record {
+      changes = refl;
+      queues = λ columns. queues_changed columns edits k.queue f t.queues
+          (λ q m e. subst (λ o. shown_after columns edits o ≡ shown columns (f o))
+          (left_alone c x.state k v k.item.change settings sound h q m e)
+          (ap (λ b. record (shown columns left) {
+            landings = cond b (new (numbered_landings 0 h.queue.landings)) (numbered_landings 0 h.queue.landings);
+          }) there
+          ∙ (λ i. record (shown columns left) { landings = rows i; window = is i })))
+          (λ q apart. ap (λ b. record (shown columns q) {
+            landings = cond b (new (numbered_landings 0 q.landings)) (numbered_landings 0 q.landings);
+          }) apart);
+      builds = refl;
+      counters = refl;
+      kept = refl;
+    })
+
+pub lands : (c : Settings) (x : Content) (k : QueuedItem) → are_sound c ≡ true → IsSound c x.state →
+    (h : Stored c x.state k.queue k.item) → (place w : ℕ) → place ≡ length h.queue.landings + 1 →
+    w ≡ grow h.queue.window →
+    Moves (in_state x (leave (verdict.Landed place) k.item.change x.state))
+    (landing_edits k place h.queue.window w)
+    (change_queue k.queue (landed_queue (item_of k.item)) (leave (verdict.Landed place) k.item.change x.state))
+lands c x k settings sound h place w at is = by_test (h.queue.window == w) refl
+  where
+    by_test : (b : Bool) → (h.queue.window == w) ≡ b →
+        Moves (in_state x (leave (verdict.Landed place) k.item.change x.state))
+        (edit.PutLanding k.queue place (landing_of k.item) ∷ cond b [] (edit.SetWindow k.queue w ∷ []))
+        (change_queue k.queue (landed_queue (item_of k.item)) (leave (verdict.Landed place) k.item.change x.state))
+    by_test true e = lands_within c x k settings sound h place at (eqb-true h.queue.window w e ∙ is)
+    by_test false e = lands_to c x k settings sound h place w at is
 
 -- the state that `landed` leaves
 abbrev pub landed_state : QueuedItem → ℕ → Change → State → State

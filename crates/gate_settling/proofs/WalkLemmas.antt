@@ -1,5 +1,5 @@
 -- The edits of a walk that has made its visits settle one queue and touch nothing else.
-use Rattle.std.proofs.Common.{◌≡◌, ℕ, Bool, true, false, not, ◌||◌, Option, Some, None, List, [], ◌∷◌, ◌++◌, map, fold, refl, sym, ap, ◌∙◌, subst}
+use Rattle.std.proofs.Common.{◌≡◌, ℕ, Bool, true, false, not, ◌||◌, cond, Option, Some, None, List, [], ◌∷◌, ◌++◌, map, fold, refl, sym, ap, ◌∙◌, subst}
 use Rattle.std.specs.Prelude.{◌==◌}
 use Rattle.std.specs.Option.{option_map_or}
 use Rattle.std.specs.List.{AllPass}
@@ -19,8 +19,8 @@ use Rattle.gate_types.specs.Rows.{Rows, edited_builds, fold_edits}
 use Rattle.gate_types.specs.Once.{Content}
 use Rattle.gate_laws.specs.Touch.{has_serial, touched_by, settle_touched}
 use Rattle.gate_queue.specs.Whole.{swept_of, rows_in}
-use Rattle.gate_queue.specs.Edits.{item_edits}
-use Rattle.gate_walk.specs.Walk.{Seen, Carry, Walk, row_by as row_of_visit, verdict_by, stopped_by, window_edits_by, visit_edits}
+use Rattle.gate_queue.specs.Edits.{window_behind}
+use Rattle.gate_walk.specs.Walk.{Seen, Carry, Walk, is_same_row, row_by as row_of_visit, row_edits, verdict_by, stopped_by, window_edits_by, visit_edits}
 use Rattle.gate_walk.specs.Rescan.{rows_with}
 use Rattle.gate_walk.specs.UnderWay.{Delivered, queue_after, stale_rows, rows_seen, walk_by, next_by, AreWanted}
 use Rattle.gate_raw.specs.Moves.{columns_of, row_by, swept}
@@ -49,28 +49,36 @@ own_stops qs name (b ∷ bs) =
     All-cons (Own qs name) (edit.StopBuild b.number) (map (λ (x : Build). edit.StopBuild x.number) bs) refl
     (own_stops qs name bs)
 
-own_item : (qs : List Queue) (name : List ℕ) (reports : ℕ) (row : ItemRow) (v : Option Verdict) →
-    is_of qs name row.serial ≡ true → AllPass (is_own qs name) (item_edits name reports row v)
-own_item qs name reports row None h =
-    All-cons (Own qs name) (edit.PutItem name row) [] (name_itself name) (All-nil (Own qs name))
-own_item qs name reports row (Some v) h =
+own_row : (qs : List Queue) (name : List ℕ) (reports : ℕ) (stored row : ItemRow) (v : Option Verdict) →
+    is_of qs name row.serial ≡ true → AllPass (is_own qs name) (row_edits name reports stored row v)
+own_row qs name reports stored row None h = by_test (is_same_row stored row)
+  where
+    by_test : (t : Bool) → AllPass (is_own qs name) (cond t [] (edit.PutItem name row ∷ []))
+    by_test true = All-nil (Own qs name)
+    by_test false = All-cons (Own qs name) (edit.PutItem name row) [] (name_itself name) (All-nil (Own qs name))
+own_row qs name reports stored row (Some v) h =
     All-cons (Own qs name) _ (edit.DropItem row.serial ∷ []) (name_itself name)
     (All-cons (Own qs name) (edit.DropItem row.serial) [] h (All-nil (Own qs name)))
 
 own_window : (qs : List Queue) (name : List ℕ) (floor window : ℕ) (v : Option Verdict) →
     AllPass (is_own qs name) (window_edits_by name floor window v)
-own_window qs name floor window (Some verdict.Failed) =
-    All-cons (Own qs name) _ [] (name_itself name) (All-nil (Own qs name))
-own_window qs name floor window _ = All-nil (Own qs name)
+own_window qs name floor window v = by_test (window == window_behind floor window v)
+  where
+    new : Edit
+    new = edit.SetWindow name (window_behind floor window v)
+
+    by_test : (t : Bool) → AllPass (is_own qs name) (cond t [] (new ∷ []))
+    by_test true = All-nil (Own qs name)
+    by_test false = All-cons (Own qs name) new [] (name_itself name) (All-nil (Own qs name))
 
 own_visit : (qs : List Queue) (name : List ℕ) (floor : ℕ) (k : Carry) (v : Seen) → is_of qs name v.row.serial ≡ true →
     AllPass (is_own qs name) (visit_edits name floor k v)
 own_visit qs name floor k v h =
     let stops = map (λ (b : Build). edit.StopBuild b.number) (stopped_by k v) in
-    let puts = item_edits name k.reports (row_of_visit k v) (verdict_by k v) in
+    let puts = row_edits name k.reports v.row (row_of_visit k v) (verdict_by k v) in
     All-append (Own qs name) (stops ++ puts) (window_edits_by name floor k.window (verdict_by k v))
     (All-append (Own qs name) stops puts (own_stops qs name (stopped_by k v))
-    (own_item qs name k.reports (row_of_visit k v) (verdict_by k v) h))
+    (own_row qs name k.reports v.row (row_of_visit k v) (verdict_by k v) h))
     (own_window qs name floor k.window (verdict_by k v))
 
 name_kept : (d : Delivered) (vs : List Seen) → (walk_by d vs).name ≡ (queue_after d).name

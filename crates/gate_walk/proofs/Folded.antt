@@ -1,6 +1,10 @@
 -- The edits of the rows that a walk asked for, folded over the stored rows, settle the queue.
-use Rattle.std.proofs.Common.{◌≡◌, ℕ, suc, ◌≤◌, Bool, true, false, cond, Option, Some, None, is_some, List, [], ◌∷◌, ◌++◌, map, fold, length, refl, sym, ap, ◌∙◌, arith, append-nil, append_assoc}
-use Rattle.std.specs.Prelude.{filter}
+use Rattle.std.proofs.Common.{◌≡◌, ℕ, suc, ◌≤◌, Bool, true, false, cond, Option, Some, None, is_some, List, [], ◌∷◌, ◌++◌, map, fold, length, refl, sym, ap, ◌∙◌, true≢false, arith, append-nil, append_assoc}
+use Rattle.std.specs.Prelude.{filter, nat_eq, ◌==◌, ◌&&◌}
+use Rattle.std.specs.Bool.{beq}
+use Rattle.std.specs.Cmp.{booleans_Decides}
+use Rattle.std.specs.Option.{option_eq}
+use Rattle.std.proofs.lemmas.Bool.{and_parts, eqb-true}
 use Rattle.std.proofs.lemmas.List.Sums.{fold-append}
 use Rattle.gate_types.specs.declared.records.Item.{Item as ItemRow}
 use Rattle.gate_types.specs.declared.records.Landing.{Landing}
@@ -18,12 +22,13 @@ use Rattle.gate_types.specs.Window.{shrink}
 use Rattle.gate_types.specs.Rows.{numbered, row_of, fold_edits, edited_items, edited_builds, edited_reports, edited_window}
 use Rattle.gate_queue.specs.Edits.{stops, stop_edits, item_edits, edits_at, next_reports, window_behind}
 use Rattle.gate_queue.specs.Settles.{verdicts, settled_rows}
-use Rattle.gate_walk.specs.Walk.{Seen, Carry, asks_for, carried, visit_edits, walk_edits, window_edits_by}
+use Rattle.gate_walk.specs.Walk.{Seen, Carry, asks_for, carried, is_same_row, row_edits, visit_edits, walk_edits, window_edits_by}
 use Rattle.gate_queue.proofs.Ordered.{RiseFrom, AllBelow, GoWith, Tells, row_serial, build_number, places_rise, ahead_rise, ahead_with}
-use Rattle.gate_queue.proofs.Folds.{fold_parts, same_self, edits_along, at_step, window_own, reports_fold, items_own, below_kept, below_more, kept, kept_cons}
+use Rattle.gate_queue.proofs.Folds.{fold_parts, same_self, edits_along, stops_leave, window_own, reports_fold, items_own, below_kept, below_more, kept, kept_cons}
 use Rattle.gate_laws.proofs.Stays.{stayers}
 use Rattle.gate_queue.proofs.Builds.{builds_fold}
 use Rattle.gate_queue.proofs.Settled.{goes_tells, edits_make, settles}
+use Rattle.gate_walk.proofs.Steps.{edits_for}
 use Rattle.gate_walk.proofs.Resets.{Right, asked}
 
 -- the edits of the rows that are asked for, one after another
@@ -45,24 +50,11 @@ asked_told name floor k (v ∷ vs) =
 -- ---- a window edit is the window's alone
 
 pub window_aside : {Y : Type 0} (f : Y → Edit → Y) (name : List ℕ) (floor w : ℕ) (v : Option Verdict) (y : Y) → ((m : ℕ) → f y (edit.SetWindow name m) ≡ y) → fold f y (window_edits_by name floor w v) ≡ y
-window_aside f name floor w None y h = refl
-window_aside f name floor w (Some verdict.Failed) y h = h (shrink w floor)
-window_aside f name floor w (Some verdict.Needs) y h = refl
-window_aside f name floor w (Some verdict.Refused) y h = refl
-window_aside f name floor w (Some verdict.Superseded) y h = refl
-window_aside f name floor w (Some verdict.Withdrawn) y h = refl
-window_aside f name floor w (Some verdict.Closed) y h = refl
-window_aside f name floor w (Some (verdict.Landed n)) y h = refl
-
-window_set : (name : List ℕ) (floor w : ℕ) (i : Item) (v : Option Verdict) → fold (edited_window name) w (window_edits_by name floor w v) ≡ next_window floor w (record { item = i; verdict = v })
-window_set name floor w i None = refl
-window_set name floor w i (Some verdict.Failed) = ap (λ t. cond t (shrink w floor) w) (same_self name)
-window_set name floor w i (Some verdict.Needs) = refl
-window_set name floor w i (Some verdict.Refused) = refl
-window_set name floor w i (Some verdict.Superseded) = refl
-window_set name floor w i (Some verdict.Withdrawn) = refl
-window_set name floor w i (Some verdict.Closed) = refl
-window_set name floor w i (Some (verdict.Landed n)) = refl
+window_aside f name floor w v y h = by_test (w == window_behind floor w v)
+  where
+    by_test : (t : Bool) → fold f y (cond t [] (edit.SetWindow name (window_behind floor w v) ∷ [])) ≡ y
+    by_test true = refl
+    by_test false = h (window_behind floor w v)
 
 window_same : (floor w : ℕ) (i : Item) (v : Option Verdict) → window_behind floor w v ≡ next_window floor w (record { item = i; verdict = v })
 window_same floor w i None = refl
@@ -74,18 +66,73 @@ window_same floor w i (Some verdict.Withdrawn) = refl
 window_same floor w i (Some verdict.Closed) = refl
 window_same floor w i (Some (verdict.Landed n)) = refl
 
+window_set : (name : List ℕ) (floor w : ℕ) (i : Item) (v : Option Verdict) → fold (edited_window name) w (window_edits_by name floor w v) ≡ next_window floor w (record { item = i; verdict = v })
+window_set name floor w i v = by_test (w == window_behind floor w v) refl ∙ window_same floor w i v
+  where
+    by_test : (t : Bool) → (w == window_behind floor w v) ≡ t → fold (edited_window name) w (cond t [] (edit.SetWindow name (window_behind floor w v) ∷ [])) ≡ window_behind floor w v
+    by_test true e = eqb-true w (window_behind floor w v) e
+    by_test false e = ap (λ t. cond t (window_behind floor w v) w) (same_self name)
+
+-- ---- a row that stays as it is stored
+
+same_ahead : (a b : Option ℕ) → option_eq nat_eq a b ≡ true → a ≡ b
+same_ahead None None e = refl
+same_ahead None (Some b) e = absurd (true≢false (sym e))
+same_ahead (Some a) None e = absurd (true≢false (sym e))
+same_ahead (Some a) (Some b) e = ap Some (eqb-true a b e)
+
+same_row : (a b : ItemRow) → is_same_row a b ≡ true → a ≡ b
+same_row a b e =
+    let serial = a.serial == b.serial in
+    let change = a.change == b.change in
+    let revision = a.revision == b.revision in
+    let ahead = option_eq nat_eq a.ahead b.ahead in
+    let marks = and_parts (serial && change && revision && ahead) (beq a.failing b.failing) e in
+    let columns = and_parts (serial && change && revision) ahead marks.0 in
+    let revisions = and_parts (serial && change) revision columns.0 in
+    let entries = and_parts serial change revisions.0 in
+    λ i. record {
+      serial = eqb-true a.serial b.serial entries.0 i;
+      change = eqb-true a.change b.change entries.1 i;
+      revision = eqb-true a.revision b.revision revisions.1 i;
+      ahead = same_ahead a.ahead b.ahead columns.1 i;
+      failing = (booleans_Decides a.failing b.failing).0 marks.1 i;
+    }
+
+-- where a part isn't the items', its edits are those of a row that is put anyway
+row_aside : {Y : Type 0} (f : Y → Edit → Y) (name : List ℕ) (n : ℕ) (i x : ItemRow) (v : Option Verdict) (y : Y) → ((z : Y) (j : ItemRow) → f z (edit.PutItem name j) ≡ z) →
+    fold f y (row_edits name n i x v) ≡ fold f y (item_edits name n x v)
+row_aside f name n i x None y h = by_test (is_same_row i x)
+  where
+    by_test : (t : Bool) → fold f y (cond t [] (edit.PutItem name x ∷ [])) ≡ f y (edit.PutItem name x)
+    by_test true = sym (h y x)
+    by_test false = refl
+row_aside f name n i x (Some v) y h = refl
+
+-- and the items are the same
+pub items_row : (name : List ℕ) (n : ℕ) (done : List ItemRow) (i x : ItemRow) (v : Option Verdict) (rest : List ItemRow) → x.serial ≡ i.serial → AllBelow row_serial i.serial done → RiseFrom row_serial (suc i.serial) rest →
+    fold (edited_items name) (done ++ i ∷ rest) (row_edits name n i x v) ≡ (done ++ kept v x) ++ rest
+items_row name n done i x None rest e h r = by_test (is_same_row i x) refl
+  where
+    by_test : (t : Bool) → is_same_row i x ≡ t → fold (edited_items name) (done ++ i ∷ rest) (cond t [] (edit.PutItem name x ∷ [])) ≡ (done ++ kept None x) ++ rest
+    by_test true s = sym (append_assoc done (i ∷ []) rest) ∙ ap (λ (y : ItemRow). (done ++ y ∷ []) ++ rest) (same_row i x s)
+    by_test false s = items_own name n done i x None rest e h r
+items_row name n done i x (Some v) rest e h r = items_own name n done i x (Some v) rest e h r
+
 -- ---- one row, at one part of the rows
 
 -- asked for: the edits of a look at the whole queue, and then the window's
-pub asked_step : {Y : Type 0} (f : Y → Edit → Y) (h : (y : Y) (m : ℕ) → f y (edit.StopBuild m) ≡ y) (name : List ℕ) (floor : ℕ) (bs : List Build) (n w : ℕ) (staying : List Item) (p : Place) (edits rest : List Edit) (y : Y) →
-    edits ≡ edits_at name bs n staying p ++ window_edits_by name floor w (verdict_of bs staying p) →
-    fold f y (edits ++ rest) ≡ fold f (fold f (fold f y (item_edits name n (row_of bs p) (verdict_of bs staying p))) (window_edits_by name floor w (verdict_of bs staying p))) rest
-asked_step f h name floor bs n w staying p edits rest y e =
-    let win = window_edits_by name floor w (verdict_of bs staying p) in
+pub asked_step : {Y : Type 0} (f : Y → Edit → Y) (h : (y : Y) (m : ℕ) → f y (edit.StopBuild m) ≡ y) (name : List ℕ) (floor : ℕ) (bs : List Build) (n w : ℕ) (staying : List Item) (p : Place) (i : ItemRow) (edits rest : List Edit) (y : Y) →
+    edits ≡ edits_for name bs n staying p i ++ window_edits_by name floor w (verdict_of bs staying p) →
+    fold f y (edits ++ rest) ≡ fold f (fold f (fold f y (row_edits name n i (row_of bs p) (verdict_of bs staying p))) (window_edits_by name floor w (verdict_of bs staying p))) rest
+asked_step f h name floor bs n w staying p i edits rest y e =
+    let v = verdict_of bs staying p in
+    let stop = stop_edits bs p (is_some v) in
+    let own = row_edits name n i (row_of bs p) v in
+    let win = window_edits_by name floor w v in
     ap (λ l. fold f y (l ++ rest)) e
-    ∙ ap (fold f y) (append_assoc (edits_at name bs n staying p) win rest)
-    ∙ at_step f h name bs n staying p y (win ++ rest)
-    ∙ fold-append f (fold f y (item_edits name n (row_of bs p) (verdict_of bs staying p))) win rest
+    ∙ fold-append f y ((stop ++ own) ++ win) rest
+    ∙ ap (λ z. fold f z rest) (fold-append f y (stop ++ own) win ∙ ap (λ z. fold f z win) (fold-append f y stop own ∙ ap (λ z. fold f z own) (stops_leave f h y (filter (stops p (is_some v)) bs))))
 
 -- not asked for: a look at the whole queue would put the row as it is
 not_asked : (name : List ℕ) (bs : List Build) (n : ℕ) (staying : List Item) (p : Place) → verdict_of bs staying p ≡ None → filter (stops p false) bs ≡ [] → edits_at name bs n staying p ≡ edit.PutItem name (row_of bs p) ∷ []
@@ -105,8 +152,8 @@ window_told name floor bs n w staying (p ∷ ps) (i ∷ is) [] r = absurd r
 window_told name floor bs n w staying (p ∷ ps) (i ∷ is) (Some edits ∷ es) r =
     let v = verdict_of bs staying p in
     let next = next_staying staying (judge bs staying p) in
-    asked_step (edited_window name) (λ y m. refl) name floor bs n w staying p edits (told es) w r.0
-    ∙ ap (λ m. fold (edited_window name) (fold (edited_window name) m (window_edits_by name floor w v)) (told es)) (window_own name w n (row_of bs p) v)
+    asked_step (edited_window name) (λ y m. refl) name floor bs n w staying p i edits (told es) w r.0
+    ∙ ap (λ m. fold (edited_window name) (fold (edited_window name) m (window_edits_by name floor w v)) (told es)) (row_aside (edited_window name) name n i (row_of bs p) v w (λ z j. refl) ∙ window_own name w n (row_of bs p) v)
     ∙ ap (λ m. fold (edited_window name) m (told es)) (window_set name floor w p.item v ∙ sym (window_same floor w p.item v))
     ∙ window_told name floor bs (next_reports n v) (window_behind floor w v) next ps is es r.1
     ∙ ap (λ m. fold (next_window floor) m (judged_after bs next ps)) (window_same floor w p.item v)
@@ -131,11 +178,16 @@ part_told f name floor bs n w staying (p ∷ ps) (i ∷ is) [] y hw hp r = absur
 part_told f name floor bs n w staying (p ∷ ps) (i ∷ is) (Some edits ∷ es) y hw hp r =
     let v = verdict_of bs staying p in
     let next = next_staying staying (judge bs staying p) in
+    let stop = stop_edits bs p (is_some v) in
+    let put = item_edits name n (row_of bs p) v in
+    let row = row_edits name n i (row_of bs p) v in
     let own = edits_at name bs n staying p in
     let win = window_edits_by name floor w v in
+    let same : fold f y (stop ++ row) ≡ fold f y own =
+    fold-append f y stop row ∙ row_aside f name n i (row_of bs p) v (fold f y stop) hp ∙ sym (fold-append f y stop put) in
     ap (λ l. fold f y (l ++ told es)) r.0
-    ∙ fold-append f y (own ++ win) (told es)
-    ∙ ap (λ z. fold f z (told es)) (fold-append f y own win ∙ window_aside f name floor w v (fold f y own) (hw (fold f y own)))
+    ∙ fold-append f y ((stop ++ row) ++ win) (told es)
+    ∙ ap (λ z. fold f z (told es)) (fold-append f y (stop ++ row) win ∙ window_aside f name floor w v (fold f y (stop ++ row)) (hw (fold f y (stop ++ row))) ∙ same)
     ∙ part_told f name floor bs (next_reports n v) (window_behind floor w v) next ps is es (fold f y own) hw hp r.1
     ∙ sym (fold-append f y own (edits_along name bs (next_reports n v) next ps))
 part_told f name floor bs n w staying (p ∷ ps) (i ∷ is) (None ∷ es) y hw hp r =
@@ -163,8 +215,8 @@ items_told name floor bs n m w staying leaves done (i ∷ is) (p ∷ ps) (Some e
     let from : m ≤ i.serial = r.0 in
     let here = below_more m i.serial done from h in
     let there = (done ++ kept v (row_of bs p)) ++ is in
-    asked_step (edited_items name) (λ y k. refl) name floor bs n w staying p edits (told es) (done ++ i ∷ is) a.0
-    ∙ ap (λ z. fold (edited_items name) (fold (edited_items name) z (window_edits_by name floor w v)) (told es)) (items_own name n done i (row_of bs p) v is (sym same) here r.1)
+    asked_step (edited_items name) (λ y k. refl) name floor bs n w staying p i edits (told es) (done ++ i ∷ is) a.0
+    ∙ ap (λ z. fold (edited_items name) (fold (edited_items name) z (window_edits_by name floor w v)) (told es)) (items_row name n done i (row_of bs p) v is (sym same) here r.1)
     ∙ ap (λ z. fold (edited_items name) z (told es)) (window_aside (edited_items name) name floor w v there (λ k. refl))
     ∙ items_told name floor bs (next_reports n v) (suc i.serial) (window_behind floor w v) next leaves (done ++ kept v (row_of bs p)) is ps es (below_kept (suc i.serial) done (row_of bs p) v (omega arith) (below_more i.serial (suc i.serial) done (omega arith) here)) r.1 g.1 t.1 a.1
     ∙ kept_cons done [] bs p v leaves ps t.0

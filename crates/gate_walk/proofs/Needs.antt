@@ -15,10 +15,10 @@ use Rattle.gate_types.specs.Slot.{are_met_by, is_running, slot_of, is_failed_slo
 use Rattle.gate_types.specs.Standing.{is_failing, with_ahead, next_ahead, places_after}
 use Rattle.gate_types.specs.Sweep.{verdict_of, has_failed, judge, next_staying}
 use Rattle.gate_types.specs.Rows.{row_of}
-use Rattle.gate_queue.specs.Edits.{item_edits, edits_at, next_reports, window_behind}
-use Rattle.gate_walk.specs.Walk.{is_blocked_by, Seen, Mark, Carry, is_gone, needs_gone, slot_among, still_counting, fails, verdict_by, row_by, window_edits_by, visit_edits, carried}
+use Rattle.gate_queue.specs.Edits.{next_reports, window_behind}
+use Rattle.gate_walk.specs.Walk.{is_blocked_by, Seen, Mark, Carry, is_gone, needs_gone, slot_among, still_counting, fails, verdict_by, row_by, row_edits, window_edits_by, visit_edits, carried}
 use Rattle.gate_walk.proofs.Slots.{live_of}
-use Rattle.gate_walk.proofs.Steps.{is_done, seen_need, seen, Known, known_visited, known_skipped, blocked_seen, met_seen, other_one, other_in}
+use Rattle.gate_walk.proofs.Steps.{is_done, edits_for, seen_need, seen, Known, known_visited, known_skipped, blocked_seen, met_seen, other_one, other_in}
 use Rattle.gate_walk.proofs.Resets.{Right, asked, rows_seen, none_parts, none_from, stop_running, QuietAt, Quiet, visits, same}
 
 -- failing, not blocked, first and finished
@@ -140,14 +140,14 @@ goes stand bs before staying k p kn f q g =
 
 -- its edits, whatever is carried as the last non-failing item
 goes_edits : (name : List ℕ) (floor : ℕ) (stand : ℕ → Option Bool) (bs : List Build) (before staying : List Item) (k : Carry) (p : Place) → k.resets ≡ false → QuietAt stand bs before p → Goes bs staying k (seen stand bs p p) p →
-    visit_edits name floor k (seen stand bs p p) ≡ edits_at name bs k.reports staying p ++ window_edits_by name floor k.window (verdict_of bs staying p)
+    visit_edits name floor k (seen stand bs p p) ≡ edits_for name bs k.reports staying p (seen stand bs p p).row ++ window_edits_by name floor k.window (verdict_of bs staying p)
 goes_edits name floor stand bs before staying k p r q g =
     let v = seen stand bs p p in
     let same_verdict : verdict_by k v ≡ verdict_of bs staying p = g.by_walk ∙ sym g.by_look in
     let going = is_some (verdict_of bs staying p) in
-    let item : item_edits name k.reports (row_by k v) (verdict_of bs staying p) ≡ item_edits name k.reports (row_of bs p) (verdict_of bs staying p) =
-    ap (item_edits name k.reports (row_by k v)) g.by_look ∙ sym (ap (item_edits name k.reports (row_of bs p)) g.by_look) in
-    (λ i. (map (λ b. edit.StopBuild b.number) (filter (λ b. r i || is_some (same_verdict i) && is_running b.outcome) (live_of bs p)) ++ item_edits name k.reports (row_by k v) (same_verdict i)) ++ window_edits_by name floor k.window (same_verdict i))
+    let item : row_edits name k.reports v.row (row_by k v) (verdict_of bs staying p) ≡ row_edits name k.reports v.row (row_of bs p) (verdict_of bs staying p) =
+    ap (row_edits name k.reports v.row (row_by k v)) g.by_look ∙ sym (ap (row_edits name k.reports v.row (row_of bs p)) g.by_look) in
+    (λ i. (map (λ b. edit.StopBuild b.number) (filter (λ b. r i || is_some (same_verdict i) && is_running b.outcome) (live_of bs p)) ++ row_edits name k.reports v.row (row_by k v) (same_verdict i)) ++ window_edits_by name floor k.window (same_verdict i))
     ∙ (λ i. (map (λ b. edit.StopBuild b.number) (stop_running bs p going q.counting i) ++ item i) ++ window_edits_by name floor k.window (verdict_of bs staying p))
 
 -- a walk that follows needs

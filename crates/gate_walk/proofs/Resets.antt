@@ -17,16 +17,17 @@ use Rattle.gate_types.specs.Slot.{are_met_by, counts, is_running}
 use Rattle.gate_types.specs.Standing.{is_failing, with_ahead, next_ahead, places_after}
 use Rattle.gate_types.specs.Sweep.{verdict_of, has_failed, judge, next_staying}
 use Rattle.gate_types.specs.Rows.{row_of}
-use Rattle.gate_queue.specs.Edits.{stops, edits_at, next_reports, window_behind}
+use Rattle.gate_queue.specs.Edits.{stops, next_reports, window_behind}
 use Rattle.gate_walk.specs.Walk.{Seen, Mark, Carry, fails, verdict_by, window_edits_by, visit_edits, carried, asks_for}
 use Rattle.gate_walk.proofs.Slots.{is_live_of, live_of, all_count, Lost, counts_no_more, none_counts}
-use Rattle.gate_walk.proofs.Steps.{seen, Known, Sees, known_visited, blocked_seen, met_seen, fails_seen, verdict_seen, edits_seen}
+use Rattle.gate_walk.proofs.Steps.{seen, Known, Sees, known_visited, blocked_seen, met_seen, fails_seen, verdict_seen, edits_for, edits_seen}
 
 -- ---- what a walk has to give, row by row
 
--- the edits of a row that is asked for are those of a look at the whole queue; a row that isn't stays as it is
+-- the edits of a row that is asked for are those of a look at the whole queue, but for a row that stays as it is
+-- stored; a row that isn't asked for does
 abbrev pub RightAt : List ℕ → ℕ → List Build → ℕ → ℕ → List Item → Place → ItemRow → Option (List Edit) → Type 0
-RightAt name floor bs n w staying p i (Some edits) = edits ≡ edits_at name bs n staying p ++ window_edits_by name floor w (verdict_of bs staying p)
+RightAt name floor bs n w staying p i (Some edits) = edits ≡ edits_for name bs n staying p i ++ window_edits_by name floor w (verdict_of bs staying p)
 RightAt name floor bs n w staying p i None = (i ≡ row_of bs p) × (verdict_of bs staying p ≡ None) × (filter (stops p false) bs ≡ [])
 
 -- so it is with each row, behind that many reports, under that window

@@ -14,12 +14,12 @@ use Rattle.gate_queue.specs.Edits.{next_reports, window_behind}
 use Rattle.gate_walk.specs.Rescan.{settled_to}
 use Rattle.gate_walk.specs.Walk.{Seen, Carry, asks_for, carried, visit_edits, window_edits_by}
 use Rattle.gate_queue.proofs.Ordered.{RiseFrom, AllBelow, GoWith, Tells, row_serial, place_serial, build_number}
-use Rattle.gate_queue.proofs.Folds.{fold_parts, items_own, below_kept, below_more, kept, kept_cons, reports_fold}
+use Rattle.gate_queue.proofs.Folds.{fold_parts, below_kept, below_more, kept, kept_cons, reports_fold}
 use Rattle.gate_laws.proofs.Stays.{stayers}
 use Rattle.gate_queue.proofs.Builds.{builds_fold}
 use Rattle.gate_queue.proofs.Settled.{goes_tells}
 use Rattle.gate_walk.proofs.Resets.{Right, asked}
-use Rattle.gate_walk.proofs.Folded.{told, asked_step, window_aside, window_told, part_told}
+use Rattle.gate_walk.proofs.Folded.{told, asked_step, items_row, window_aside, window_told, part_told}
 
 -- ---- the first part of a walk
 
@@ -71,8 +71,8 @@ items_so_far name floor bs n m w staying leaves done (i ∷ is) tail (p ∷ ps) 
     let from : m ≤ i.serial = r.0 in
     let here = below_more m i.serial done from h in
     let there = (done ++ kept v (row_of bs p)) ++ (is ++ tail) in
-    asked_step (edited_items name) (λ y k. refl) name floor bs n w staying p edits (told es) (done ++ i ∷ (is ++ tail)) a.0
-    ∙ ap (λ z. fold (edited_items name) (fold (edited_items name) z (window_edits_by name floor w v)) (told es)) (items_own name n done i (row_of bs p) v (is ++ tail) (sym same) here r.1)
+    asked_step (edited_items name) (λ y k. refl) name floor bs n w staying p i edits (told es) (done ++ i ∷ (is ++ tail)) a.0
+    ∙ ap (λ z. fold (edited_items name) (fold (edited_items name) z (window_edits_by name floor w v)) (told es)) (items_row name n done i (row_of bs p) v (is ++ tail) (sym same) here r.1)
     ∙ ap (λ z. fold (edited_items name) z (told es)) (window_aside (edited_items name) name floor w v there (λ k. refl))
     ∙ items_so_far name floor bs (next_reports n v) (suc i.serial) (window_behind floor w v) next leaves (done ++ kept v (row_of bs p)) is tail ps es (below_kept (suc i.serial) done (row_of bs p) v (omega arith) (below_more i.serial (suc i.serial) done (omega arith) here)) r.1 g.1 t.1 a.1
     ∙ kept_cons done tail bs p v leaves ps t.0

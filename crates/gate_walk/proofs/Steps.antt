@@ -8,6 +8,8 @@ use Rattle.gate_types.specs.declared.config.Job.{Job}
 use Rattle.gate_types.specs.declared.records.Build.{Build}
 use Rattle.gate_types.specs.declared.records.Need.{Need}
 use Rattle.gate_types.specs.declared.records.Verdict.TheVariants as verdict
+use Rattle.gate_types.specs.declared.records.Item.{Item as ItemRow}
+use Rattle.gate_types.specs.declared.edits.Edit.{Edit}
 use Rattle.gate_types.specs.declared.edits.Edit.TheVariants as edit
 use Rattle.gate_types.specs.State.{Item, has_change}
 use Rattle.gate_types.specs.Line.{Place}
@@ -15,8 +17,8 @@ use Rattle.gate_types.specs.Slot.{is_blocked, are_met_by, outcomes_of, slot_of_o
 use Rattle.gate_types.specs.Standing.{is_failing, are_finished, ahead_of}
 use Rattle.gate_types.specs.Sweep.{verdict_of}
 use Rattle.gate_types.specs.Rows.{row_of}
-use Rattle.gate_queue.specs.Edits.{stops, item_edits, edits_at}
-use Rattle.gate_walk.specs.Walk.{slot_among, SeenNeed, Seen, Mark, Carry, mark_of, is_fine, is_gone, is_blocked_by, are_met_without, still_counting, outcomes_among, fails, verdict_by, row_by, stopped_by}
+use Rattle.gate_queue.specs.Edits.{stops, stop_edits}
+use Rattle.gate_walk.specs.Walk.{slot_among, SeenNeed, Seen, Mark, Carry, mark_of, is_fine, is_gone, is_blocked_by, are_met_without, still_counting, outcomes_among, fails, verdict_by, row_by, row_edits, stopped_by}
 use Rattle.gate_walk.proofs.Slots.{live_of}
 
 -- whether each of its slots is finished
@@ -230,10 +232,15 @@ verdict_seen bs staying k v p s =
 pub row_seen : (bs : List Build) (staying : List Item) (k : Carry) (v : Seen) (p : Place) → Sees bs staying k v p → row_by k v ≡ row_of bs p
 row_seen bs staying k v p s = λ i. record { serial = s.same_item.0 i; change = s.same_item.1 i; revision = s.same_item.2 i; ahead = s.ahead i; failing = fails_seen bs staying k v p s i }
 
--- its edits are those of a look at the whole queue
+-- what a look at the whole queue makes of an item whose row is stored so
+abbrev pub edits_for : List ℕ → List Build → ℕ → List Item → Place → ItemRow → List Edit
+edits_for name bs n staying p i =
+    stop_edits bs p (is_some (verdict_of bs staying p)) ++ row_edits name n i (row_of bs p) (verdict_of bs staying p)
+
+-- its edits are these
 pub edits_seen : (name : List ℕ) (bs : List Build) (staying : List Item) (k : Carry) (v : Seen) (p : Place) → Sees bs staying k v p →
-    map (λ b. edit.StopBuild b.number) (stopped_by k v) ++ item_edits name k.reports (row_by k v) (verdict_by k v) ≡ edits_at name bs k.reports staying p
+    map (λ b. edit.StopBuild b.number) (stopped_by k v) ++ row_edits name k.reports v.row (row_by k v) (verdict_by k v) ≡ edits_for name bs k.reports staying p v.row
 edits_seen name bs staying k v p s =
     let same = verdict_seen bs staying k v p s in
-    (λ i. map (λ b. edit.StopBuild b.number) (filter (λ b. k.resets || is_some (same i) && is_running b.outcome) v.builds) ++ item_edits name k.reports (row_seen bs staying k v p s i) (same i))
-    ∙ (λ i. map (λ b. edit.StopBuild b.number) (s.stopping (is_some (verdict_of bs staying p)) i) ++ item_edits name k.reports (row_of bs p) (verdict_of bs staying p))
+    (λ i. map (λ b. edit.StopBuild b.number) (filter (λ b. k.resets || is_some (same i) && is_running b.outcome) v.builds) ++ row_edits name k.reports v.row (row_seen bs staying k v p s i) (same i))
+    ∙ (λ i. map (λ b. edit.StopBuild b.number) (s.stopping (is_some (verdict_of bs staying p)) i) ++ row_edits name k.reports v.row (row_of bs p) (verdict_of bs staying p))

@@ -1,5 +1,7 @@
 -- A walk over the rows behind a touched item: what it carries, what it makes of a row, which rows it asks for.
-use Rattle.std.specs.Prelude.{ℕ, Bool, false, ◌&&◌, ◌||◌, not, ◌==◌, if◌then◌else◌, List, [], ◌∷◌, ◌++◌, map, filter, Option, Some, None, is_some}
+use Rattle.std.specs.Prelude.{ℕ, Bool, false, ◌&&◌, ◌||◌, not, ◌==◌, nat_eq, if◌then◌else◌, List, [], ◌∷◌, ◌++◌, map, filter, Option, Some, None, is_some}
+use Rattle.std.specs.Bool.{beq}
+use Rattle.std.specs.Option.{option_eq}
 use Rattle.std.specs.List.{list_any, list_all}
 use Rattle.gate_types.specs.declared.config.Job.{Job}
 use Rattle.gate_types.specs.declared.records.Item.{Item as ItemRow}
@@ -12,8 +14,7 @@ use Rattle.gate_types.specs.declared.edits.Edit.{Edit}
 use Rattle.gate_types.specs.declared.edits.Edit.TheVariants as edit
 use Rattle.gate_types.specs.Names.{same_name}
 use Rattle.gate_types.specs.Slot.{is_running, is_failed_slot, is_finished, slot_of_outcomes}
-use Rattle.gate_types.specs.Window.{shrink}
-use Rattle.gate_queue.specs.Edits.{item_edits, next_reports, window_behind}
+use Rattle.gate_queue.specs.Edits.{item_edits, next_reports, window_behind, window_edits}
 
 -- a need of an item; where an item of this change stands in the queue, whether its row says that it is failing
 pub record SeenNeed : Type 0 where
@@ -122,15 +123,26 @@ abbrev pub stops_of : Bool → Bool → List Build → List Edit
 stops_of resets going builds =
     map (λ b. edit.StopBuild b.number) (filter (λ b. resets || going && is_running b.outcome) builds)
 
--- the window, where it shrinks
+-- a row is what it was
+abbrev pub is_same_row : ItemRow → ItemRow → Bool
+is_same_row a b =
+    a.serial == b.serial && a.change == b.change && a.revision == b.revision &&
+    option_eq nat_eq a.ahead b.ahead && beq a.failing b.failing
+
+-- what takes an item out, or puts its row where it isn't what is stored
+abbrev pub row_edits : List ℕ → ℕ → ItemRow → ItemRow → Option Verdict → List Edit
+row_edits name reports stored row None = if is_same_row stored row then [] else edit.PutItem name row ∷ []
+row_edits name reports stored row (Some v) = item_edits name reports row (Some v)
+
+-- the window, where it changes
 abbrev pub window_edits_by : List ℕ → ℕ → ℕ → Option Verdict → List Edit
-window_edits_by name floor window (Some verdict.Failed) = edit.SetWindow name (shrink window floor) ∷ []
-window_edits_by name floor window _ = []
+window_edits_by name floor window verdict = window_edits name window (window_behind floor window verdict)
 
 -- the edits of a visit
 abbrev pub visit_edits : List ℕ → ℕ → Carry → Seen → List Edit
 visit_edits name floor k v =
-    (map (λ b. edit.StopBuild b.number) (stopped_by k v) ++ item_edits name k.reports (row_by k v) (verdict_by k v)) ++
+    (map (λ b. edit.StopBuild b.number) (stopped_by k v) ++
+    row_edits name k.reports v.row (row_by k v) (verdict_by k v)) ++
     window_edits_by name floor k.window (verdict_by k v)
 
 -- what is carried on behind a visit

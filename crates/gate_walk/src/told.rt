@@ -1,11 +1,10 @@
 //! The edits of one visit.
 ghost use Rattle.std.specs.Prelude.{◌≡◌, ◌<◌, ◌+◌, ◌^◌, ◌++◌, ◌||◌, ◌&&◌, is_some, OnOk, IfOk};
 ghost use Rattle.gate_types.specs.Slot as rules;
-ghost use Rattle.gate_queue.specs.Edits as edits_of;
 ghost use Rattle.gate_walk.specs.Walk as walk;
 
-use gate_queue::edits::push_item;
-use gate_queue::window::shrink;
+use gate_queue::edits::{push_item, push_window};
+use gate_queue::settle::window_behind;
 use gate_types::edits::Edit;
 use gate_types::names::{Name, NoMemory};
 use gate_types::records::{Build, Item, Outcome, Verdict};
@@ -35,32 +34,39 @@ fn push_stops(
     Ok(())
 }
 
-/// Sets the window, where it shrinks.
-fn push_window(
-    edits: &mut Sequence<Edit>,
-    name: &Name,
-    floor: u32,
-    window: u32,
-    verdict: Option<Verdict>,
-) -> Result<(), NoMemory>
-    ensures { OnOk result (edits.new ≡ edits.old ++ walk.window_edits_by name.now floor window verdict) }
+/// Whether a row is what it was.
+fn is_same_row(a: &Item, b: &Item) -> bool
+    ensures { result ≡ walk.is_same_row a.now b.now }
 {
-    match verdict {
-        Some(Verdict::Failed) => {
-            let queue = name.copy()?;
-            edits.push(Edit::SetWindow {
-                queue,
-                window: shrink(window, floor),
-            })?;
-            Ok(())
-        }
-        _ => Ok(()),
-    }
+    a.serial == b.serial
+        && a.change == b.change
+        && a.revision == b.revision
+        && a.ahead == b.ahead
+        && a.failing == b.failing
 }
 
-/// What stands beside an item's row for its edits.
+/// Takes an item out, or puts its row where it isn't what is stored.
+fn push_row(
+    edits: &mut Sequence<Edit>,
+    name: &Name,
+    reports: u64,
+    stored: Item,
+    row: Item,
+    verdict: Option<Verdict>,
+) -> Result<(), NoMemory>
+    requires { reports + 1 < 2 ^ 64 }
+    ensures { OnOk result (edits.new ≡ edits.old ++ walk.row_edits name.now reports stored row verdict) }
+{
+    if verdict.is_none() && is_same_row(&stored, &row) {
+        return Ok(());
+    }
+    push_item(edits, name, reports, row, verdict)
+}
+
+/// What stands beside an item's row for its edits: the row as it is stored, and the walk's queue.
 #[derive(Clone, Copy, Debug)]
 pub struct Beside {
+    pub stored: Item,
     pub floor: u32,
     pub window: u32,
     pub reports: u64,
@@ -79,12 +85,20 @@ pub(crate) fn edits_of_visit(
 ) -> Result<Sequence<Edit>, NoMemory>
     ensures { IfOk result (λ edits. edits ≡
         (walk.stops_of beside.resets (is_some verdict) builds.now
-        ++ edits_of.item_edits name.now beside.reports row verdict)
+        ++ walk.row_edits name.now beside.reports beside.stored row verdict)
         ++ walk.window_edits_by name.now beside.floor beside.window verdict) }
 {
     let mut edits = Sequence::new(alloc);
     push_stops(&mut edits, beside.resets, verdict.is_some(), builds)?;
-    push_item(&mut edits, name, beside.reports, row, verdict)?;
-    push_window(&mut edits, name, beside.floor, beside.window, verdict)?;
+    push_row(
+        &mut edits,
+        name,
+        beside.reports,
+        beside.stored,
+        row,
+        verdict,
+    )?;
+    let window = window_behind(beside.window, beside.floor, verdict);
+    push_window(&mut edits, name, beside.window, window)?;
     Ok(edits)
 }

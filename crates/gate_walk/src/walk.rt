@@ -216,6 +216,7 @@ impl Walk {
             failing: judged.failing,
         };
         let beside = Beside {
+            stored: seen.row,
             floor: self.floor,
             window: self.window,
             reports: self.reports,

@@ -41,7 +41,7 @@ fn four_items(alloc: Global, needs: &[u64]) -> Result<Board, Unmade> {
     Ok(board)
 }
 
-/// The failure of item 2 resets items 3 and 4, though the item ahead of 4 stays 3.
+/// The failure of item 2 resets items 3 and 4, though the item ahead of 4 stays 3, and with it its row.
 #[test]
 fn a_failure_resets_each_item_behind_it(rt: HostRuntime) -> Result<(), Unmade> {
     let mut board = four_items(rt.alloc(), &[])?;
@@ -52,8 +52,7 @@ fn a_failure_resets_each_item_behind_it(rt: HostRuntime) -> Result<(), Unmade> {
         &mut board,
         (2, Some(1), None),
         "core item 2 102,1 ahead 1 failing\n\
-         stop 4\nstop 5\ncore item 3 103,1 ahead 1 ok\n\
-         stop 6\ncore item 4 104,1 ahead 3 ok\n",
+         stop 4\nstop 5\ncore item 3 103,1 ahead 1 ok\nstop 6\n",
         &[2, 3, 4],
     )
 }
@@ -79,8 +78,7 @@ fn a_landing_lets_a_failed_item_go_with_what_needs_it(rt: HostRuntime) -> Result
     board.take(alloc, 8, 3, "docs", &[101])?;
     for number in [1, 2] {
         board.end(number, Success);
-        let own = "core item 1 101,1 ahead - ok\n";
-        walks(&rt, alloc, &mut board, (1, None, None), own, &[1])?;
+        walks(&rt, alloc, &mut board, (1, None, None), "", &[1])?;
     }
     let out = board.land(1)?;
     walks(
@@ -138,7 +136,7 @@ fn a_withdrawal_resets_each_item_behind_it(rt: HostRuntime) -> Result<(), Unmade
         alloc,
         &mut board,
         (2, Some(1), out),
-        "stop 4\nstop 5\ncore item 3 103,1 ahead 1 ok\nstop 6\ncore item 4 104,1 ahead 3 ok\n",
+        "stop 4\nstop 5\ncore item 3 103,1 ahead 1 ok\nstop 6\n",
         &[3, 4],
     )?;
     let out = board.leave(4);
@@ -155,4 +153,16 @@ fn a_landing_asks_for_one_row(rt: HostRuntime) -> Result<(), Unmade> {
     let out = board.land(1)?;
     let own = "core item 2 102,1 ahead - ok\n";
     walks(&rt, alloc, &mut board, (1, None, out), own, &[2])
+}
+
+/// A window at its floor isn't set anew.
+#[test]
+fn a_failure_at_the_floor_leaves_the_window(rt: HostRuntime) -> Result<(), Unmade> {
+    let alloc = rt.alloc();
+    let mut board = Board::new(alloc, 1, 1);
+    board.push(alloc, (1, 101), None, &[], APP)?;
+    board.take(alloc, 1, 1, "unit", &[])?;
+    board.end(1, Failure);
+    let gone = "core report 1: 1 101,1 failed\ndrop 1\n";
+    walks(&rt, alloc, &mut board, (1, None, None), gone, &[1])
 }

@@ -174,6 +174,22 @@ fn a_refused_order_shrinks_the_window(rt: HostRuntime) -> Result<(), Fail> {
     check(&rt, rt.alloc(), Sent::Refused(2), wanted)
 }
 
+/// It grows to 1,000 at most, and shrinks to the floor, 1.
+#[test]
+fn a_window_at_its_end_is_left_alone(rt: HostRuntime) -> Result<(), Fail> {
+    const WIDEST: [Put; 1] = [Put::Window("core", 1000)];
+    const NARROWEST: [Put; 1] = [Put::Window("core", 1)];
+    let alloc = rt.alloc();
+    let landed =
+        "landed 2\nreport core 2 2 101,1 landed\ndrop 2\nlanding core 2 2 101,1\nchange 101,1 landed 0 0\ntouched core 2 landed\n";
+    let refused = "removed\nreport core 2 2 101,1 refused\ndrop 2\ntouched core 2 refused\n";
+    let mut scene = three_items(alloc)?;
+    scene.put(&WIDEST)?;
+    check_in(&rt, alloc, &mut scene, Sent::Landed(2), landed)?;
+    scene.put(&NARROWEST)?;
+    check_in(&rt, alloc, &mut scene, Sent::Refused(2), refused)
+}
+
 #[test]
 fn an_order_that_is_not_shown_is_refused(rt: HostRuntime) -> Result<(), Fail> {
     let alloc = rt.alloc();

@@ -114,7 +114,7 @@ fn fails(number: u64) -> Result<Event, Fail> {
     })
 }
 
-/// The failure of item 2 resets items 3 and 4, though the item ahead of 4 stays 3.
+/// The failure of item 2 resets items 3 and 4, though the item ahead of 4 stays 3, and with it its row.
 #[test]
 fn a_failure_resets_each_item_behind_it(rt: HostRuntime) -> Result<(), Fail> {
     let alloc = rt.alloc();
@@ -127,8 +127,7 @@ fn a_failure_resets_each_item_behind_it(rt: HostRuntime) -> Result<(), Fail> {
         (2, 102, Some(1)),
         failure,
         "core item 2 102 ahead 1 failing\n\
-         stop 4\nstop 5\ncore item 3 103 ahead 1 ok\n\
-         stop 6\ncore item 4 104 ahead 3 ok\n",
+         stop 4\nstop 5\ncore item 3 103 ahead 1 ok\nstop 6\n",
     )
 }
 
@@ -179,7 +178,7 @@ fn a_withdrawal_resets_each_item_behind_it(rt: HostRuntime) -> Result<(), Fail> 
         &mut scene,
         (2, 102, Some(1)),
         Event::Left(Verdict::Withdrawn),
-        "stop 4\nstop 5\ncore item 3 103 ahead 1 ok\nstop 6\ncore item 4 104 ahead 3 ok\n",
+        "stop 4\nstop 5\ncore item 3 103 ahead 1 ok\nstop 6\n",
     )
 }
 

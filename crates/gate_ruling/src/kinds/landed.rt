@@ -9,6 +9,7 @@ ghost use Rattle.gate_ruling.specs.Landing.{landing_edits};
 ghost use Rattle.gate_ruling.specs.Faults.{MayRule};
 
 use crate::changing::put_anew;
+use crate::edits::{with_edit, with_window};
 use crate::leaving::{leaving, touched};
 use gate_book::book::Book;
 use gate_book::fault::BookFault;
@@ -25,14 +26,15 @@ use gate_types::numbers::Serial;
 use gate_types::records::{Change, Landing, Stage, Verdict};
 use std::alloc::Global;
 
-/// The item's landing at a place of its queue, and the window that follows.
+/// The item's landing at a place of its queue, and the window that follows the old one.
 fn with_landing(
     edits: Vec<Edit>,
     queued: &QueuedItem,
     place: u64,
+    old: u32,
     window: u32,
 ) -> Result<Vec<Edit>, NoMemory>
-    ensures { IfOk result (λ all. all.items ≡ edits.items ++ landing_edits queued.now place window) }
+    ensures { IfOk result (λ all. all.items ≡ edits.items ++ landing_edits queued.now place old window) }
 {
     let item = queued.item;
     let queue = queued.queue.copy()?;
@@ -41,15 +43,12 @@ fn with_landing(
         change: item.change,
         revision: item.revision,
     };
-    let mut edits = edits;
-    edits.push(Edit::PutLanding {
+    let landed = Edit::PutLanding {
         queue,
         place,
         landing,
-    })?;
-    let queue = queued.queue.copy()?;
-    edits.push(Edit::SetWindow { queue, window })?;
-    Ok(edits)
+    };
+    with_window(with_edit(edits, landed)?, &queued.queue, old, window)
 }
 
 /// The change of an item.
@@ -88,7 +87,7 @@ pub(crate) fn landed<B: Book>(
     };
     let place = sizes.landings.saturating_add(1);
     let edits = leaving(alloc, book, config, &queued, Verdict::Landed(place))?;
-    let edits = with_landing(edits, &queued, place, grow(sizes.window))?;
+    let edits = with_landing(edits, &queued, place, sizes.window, grow(sizes.window))?;
     let edits = put_anew(
         edits,
         Change {

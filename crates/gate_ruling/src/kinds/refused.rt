@@ -8,7 +8,7 @@ ghost use Rattle.gate_book.specs.Kept.{OfHeldUnder, IsKept};
 ghost use Rattle.gate_raw.specs.Raw.{IsRaw};
 ghost use Rattle.gate_ruling.specs.Faults.{MayRule};
 
-use crate::edits::with_edit;
+use crate::edits::with_window;
 use crate::leaving::{leaving, touched};
 use gate_book::book::Book;
 use gate_book::fault::BookFault;
@@ -18,7 +18,6 @@ use gate_raw::touched::Event;
 use gate_reads::orders::shown_order;
 use gate_types::config::{Config, Queue};
 use gate_types::deliveries::{Refusal, Reply};
-use gate_types::edits::Edit;
 use gate_types::numbers::Serial;
 use gate_types::records::Verdict;
 use std::alloc::Global;
@@ -65,13 +64,10 @@ pub(crate) fn refused<B: Book>(
         return Err(BookFault::Damaged);
     };
     let edits = leaving(alloc, book, config, &queued, Verdict::Refused)?;
-    let window = Edit::SetWindow {
-        queue: queued.queue.copy()?,
-        window: shrink(sizes.window, floor_of(config, queued.queue.as_str())),
-    };
+    let window = shrink(sizes.window, floor_of(config, queued.queue.as_str()));
     Ok(Raw::Moved(Moved {
         said: Said::Now(Reply::Removed),
-        edits: with_edit(edits, window)?,
+        edits: with_window(edits, &queued.queue, sizes.window, window)?,
         touched: Some(touched(queued, Event::Left(Verdict::Refused))),
     }))
 }

@@ -1,4 +1,4 @@
-use Rattle.std.proofs.Common.{◌≡◌, ◌∙◌, ◌+◌, length, Some, true, refl, sym, ap, subst, arith, rules}
+use Rattle.std.proofs.Common.{◌≡◌, ◌∙◌, ◌+◌, ◌++◌, length, Some, true, refl, sym, ap, subst, arith, rules}
 use Rattle.std.specs.Prelude.{option_map}
 use Rattle.std.specs.Option.{option_map_or}
 use Rattle.gate_types.specs.declared.deliveries.Delivery.TheVariants as delivery
@@ -54,8 +54,10 @@ returns-clause-raw g c trusted x holds lawful =
     let window = c.grow.ensures ∙ ap (λ (z : QueueSizes). grow z.window) sizes in
     let t = leave (verdict.Landed place) k.item.change x.state in
     let u = change_queue k.queue (landed_queue (item_of k.item)) t in
-    let moves = subst (λ es. Moves x es u) (sym c.in_ok-edits-2.ensures)
-    (moves_on x t u c.in_ok-edits.edits.items (landing_edits k place c.grow.result)
+    let edits = c.in_ok-edits-2.ensures
+    ∙ ap (λ (z : QueueSizes). c.in_ok-edits.edits.items ++ landing_edits k place z.window c.grow.result) sizes in
+    let moves = subst (λ es. Moves x es u) (sym edits)
+    (moves_on x t u c.in_ok-edits.edits.items (landing_edits k place h.queue.window c.grow.result)
     (c.in_ok-edits.ensures.moves trusted x at_three lawful o.row.stored)
     (lands s x k settings sound h place c.grow.result at window)) in
     record {

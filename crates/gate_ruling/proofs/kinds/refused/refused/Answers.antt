@@ -1,9 +1,7 @@
-use Rattle.std.proofs.Common.{◌≡◌, ◌∙◌, List, [], ◌∷◌, ◌++◌, Some, true, refl, sym, ap, subst, rules}
+use Rattle.std.proofs.Common.{◌≡◌, ◌∙◌, ◌++◌, Some, true, refl, sym, ap, subst, rules}
 use Rattle.std.specs.Prelude.{find, option_map}
 use Rattle.std.specs.Option.{option_map_or}
 use Rattle.gate_types.specs.declared.deliveries.Delivery.TheVariants as delivery
-use Rattle.gate_types.specs.declared.edits.Edit.{Edit}
-use Rattle.gate_types.specs.declared.edits.Edit.TheVariants as edit
 use Rattle.gate_types.specs.declared.records.Verdict.TheVariants as verdict
 use Rattle.gate_types.specs.Names.{same_name}
 use Rattle.gate_types.specs.Settings.{are_sound}
@@ -13,6 +11,7 @@ use Rattle.gate_types.specs.Window.{shrink}
 use Rattle.gate_types.specs.Step.{leave, shrunk_queue}
 use Rattle.gate_book.specs.Reads.{sizes_of}
 use Rattle.gate_book.specs.declared.rows.QueueSizes.{QueueSizes}
+use Rattle.gate_queue.specs.Edits.{window_edits}
 use Rattle.gate_raw.specs.Moves.{Moves}
 use Rattle.gate_raw.specs.Touches.{Touches}
 use Rattle.gate_reads.specs.Orders.{TellsShown}
@@ -43,12 +42,11 @@ returns-clause-raw g c trusted x holds lawful =
     (sym c.in-Some-2.is ∙ c.in_ok-sizes.ensures.found two s x at_one lawful ∙ ap (option_map sizes_of) h.first) in
     let floor = c.floor_of.ensures
     ∙ ap (λ n. option_map_or (λ r. r.floor) (find (λ r. same_name r.name n) s.queues) 1) c.as_str.ensures.value in
-    let window = c.shrink.ensures ∙ (λ i. shrink (sizes i).window (floor i)) in
+    let window = c.shrink-window.ensures ∙ (λ i. shrink (sizes i).window (floor i)) in
     let t = leave verdict.Refused k.item.change x.state in
     let u = change_queue k.queue (shrunk_queue s) t in
-    let last : List Edit = edit.SetWindow k.queue c.shrink.result ∷ [] in
-    let edits = c.in_ok-with_edit.ensures
-    ∙ (λ i. c.in_ok-edits.edits.items ++ edit.SetWindow (c.in_ok-copy.ensures i) c.shrink.result ∷ []) in
+    let edits = c.in_ok-with_window.ensures
+    ∙ ap (λ (z : QueueSizes). c.in_ok-edits.edits.items ++ window_edits k.queue z.window c.shrink-window.result) sizes in
     record {
       after = u;
       accepted = refused_raw s x.state number k o;
@@ -56,9 +54,9 @@ returns-clause-raw g c trusted x holds lawful =
       touches = subst (λ y. Touches s x.state d (Some y)) (sym c.touched.ensures)
           (refused_touches s x.state number k o);
       moves = subst (λ es. Moves x es u) (sym edits)
-          (moves_on x t u c.in_ok-edits.edits.items last
+          (moves_on x t u c.in_ok-edits.edits.items (window_edits k.queue h.queue.window c.shrink-window.result)
           (c.in_ok-edits.ensures.moves trusted x at_two lawful o.row.stored)
-          (shrinks s x k settings sound h c.shrink.result window));
+          (shrinks s x k settings sound h c.shrink-window.result window));
       unplaced = tt;
     }
 
