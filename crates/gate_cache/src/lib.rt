@@ -3,3 +3,4 @@
 
 mod cache;
 pub mod cached;
+mod next_item;
