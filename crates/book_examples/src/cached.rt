@@ -43,8 +43,7 @@ fn lists_are_told(rt: &(impl Abort + AllocGlobal), book: &mut CachedBook<Countin
     assert_eq!(rt; book.counters(), Ok(DRAWN));
 }
 
-/// Asks for a change and the one that it needs, its item, also as the one that follows another, and that one's live
-/// builds.
+/// Asks for a change and the one that it needs, its item, and the live builds of another one.
 fn changes_are_told(rt: &(impl Abort + AllocGlobal), book: &mut CachedBook<Counting>) {
     let changing = book.change(change_no(rt, 102)).expect(rt, "a change");
     let needs = changing.expect(rt, "a change").needs;
@@ -53,8 +52,6 @@ fn changes_are_told(rt: &(impl Abort + AllocGlobal), book: &mut CachedBook<Count
     assert_eq!(rt; needed.expect(rt, "a change").needs.as_slice().len(), 0);
     let queued = book.queued(change_no(rt, 102)).expect(rt, "an item");
     assert_eq!(rt; queued.expect(rt, "an item").item, item(rt, 4, 102));
-    let next = book.next_item(&name(rt, "core"), 2).expect(rt, "an item");
-    assert_eq!(rt; next, Some(item(rt, 4, 102)));
     let live = book.live_builds(serial_no(rt, 2)).expect(rt, "builds");
     assert_eq!(rt; live.as_slice().len(), 2);
 }
@@ -66,7 +63,7 @@ fn what_is_asked_for_again_is_read_once(rt: HostRuntime) {
     changes_are_told(&rt, &mut book);
     lists_are_told(&rt, &mut book);
     changes_are_told(&rt, &mut book);
-    assert_eq!(rt; reads_of(book), 9);
+    assert_eq!(rt; reads_of(book), 8);
 }
 
 #[test]
@@ -79,11 +76,9 @@ fn another_one_is_read(rt: HostRuntime) {
     assert_eq!(rt; book.reports(&web), Ok(0));
     assert!(rt; matches!(&book.change(change_no(&rt, 104)), Ok(None)));
     assert!(rt; matches!(&book.queued(change_no(&rt, 103)), Ok(None)));
-    assert!(rt; matches!(&book.next_item(&name(&rt, "core"), 4), Ok(None)));
-    assert!(rt; matches!(&book.next_item(&web, 4), Ok(None)));
     let live = book.live_builds(serial_no(&rt, 4)).expect(&rt, "builds");
     assert_eq!(rt; live.as_slice().len(), 0);
-    assert_eq!(rt; reads_of(book), 16);
+    assert_eq!(rt; reads_of(book), 13);
 }
 
 #[test]
@@ -95,7 +90,7 @@ fn the_next_delivery_reads_anew(rt: HostRuntime) {
     assert_eq!(rt; first.expect(&rt, "a delivery").reply.as_str(), "first");
     lists_are_told(&rt, &mut book);
     changes_are_told(&rt, &mut book);
-    assert_eq!(rt; reads_of(book), 19);
+    assert_eq!(rt; reads_of(book), 17);
 }
 
 #[test]
@@ -103,14 +98,11 @@ fn edits_are_seen_at_once(rt: HostRuntime) {
     let mut book = cached(&rt);
     lists_are_told(&rt, &mut book);
     changes_are_told(&rt, &mut book);
-    let core = name(&rt, "core");
-    assert_eq!(rt; book.next_item(&core, 1), Ok(Some(item(&rt, 2, 101))));
     book.apply(later_edits(&rt).as_slice()).expect(&rt, "edits");
-    assert_eq!(rt; book.next_item(&core, 1), Ok(Some(item(&rt, 4, 102))));
     let ready = book.ready().expect(&rt, "the ready list");
     assert_eq!(rt; ready.as_slice().len(), 0);
     let sizes = QueueSizes { items: 1, ..SIZES };
-    assert_eq!(rt; book.queue(&core), Ok(Some(sizes)));
+    assert_eq!(rt; book.queue(&name(&rt, "core")), Ok(Some(sizes)));
     assert!(rt; matches!(&book.queued(change_no(&rt, 101)), Ok(None)));
     let live = book.live_builds(serial_no(&rt, 2)).expect(&rt, "builds");
     assert_eq!(rt; live.as_slice().len(), 1);

@@ -1,16 +1,15 @@
 //! What a book has answered, kept to be answered again.
-ghost use Rattle.std.specs.Prelude.{◌≡◌, ◌<◌, IfOk, IfSome, Some, option_map};
+ghost use Rattle.std.specs.Prelude.{◌≡◌, IfOk, IfSome, Some, option_map};
 ghost use Rattle.gate_types.specs.Once.{Content};
 ghost use Rattle.gate_types.specs.Settings.{Settings};
 ghost use Rattle.gate_types.specs.State.{known_change};
 ghost use Rattle.gate_book.specs.Reads as read;
 ghost use Rattle.gate_cache.specs.Cached.{Agrees};
 
-use crate::next_item::NextItem;
 use gate_book::rows::{QueueSizes, QueuedItem};
 use gate_types::names::{Name, NoMemory};
 use gate_types::numbers::{ChangeNo, Serial};
-use gate_types::records::{Build, Change, Counters, Item, Ready};
+use gate_types::records::{Build, Change, Counters, Ready};
 use gate_types::sequence::Sequence;
 use std::alloc::Global;
 
@@ -23,7 +22,6 @@ pub struct Cache {
     pub(crate) queue: Option<(Name, Option<QueueSizes>)>,
     pub(crate) reports: Option<(Name, u64)>,
     pub(crate) queued: Option<(ChangeNo, Option<QueuedItem>)>,
-    pub(crate) next_item: Option<NextItem>,
     pub(crate) live_builds: Option<(Serial, Sequence<Build>)>,
     pub(crate) ready: Option<Sequence<Ready>>,
     pub(crate) counters: Option<Counters>,
@@ -81,7 +79,6 @@ impl Cache {
             queue: None,
             reports: None,
             queued: None,
-            next_item: None,
             live_builds: None,
             ready: None,
             counters: None,
@@ -179,36 +176,6 @@ impl Cache {
     {
         if let Ok(copy) = copy_of_queued(found) {
             self.queued = Some((change, copy));
-        }
-    }
-
-    /// The first item of this queue with a higher serial, where that is kept.
-    pub(crate) fn next_item(&self, queue: &Name, above: u64) -> Option<Option<Item>>
-        ensures found { IfSome result (λ found. (c : Settings) (x : Content) → Agrees self.now c x →
-            found ≡ read.first_above above (read.items_in c x.state queue.now)) }
-        ensures rises { IfSome result (λ found. IfSome found (λ i. above < i.serial)) }
-    {
-        match &self.next_item {
-            Some(told) if told.above == above && told.queue.as_str() == queue.as_str() => {
-                Some(told.found)
-            }
-            _ => None,
-        }
-    }
-
-    /// Keeps the first item of a queue with a higher serial, where memory allows.
-    pub(crate) fn keep_next_item(&mut self, queue: &Name, above: u64, found: &Option<Item>)
-        requires { IfSome found.now (λ i. above < i.serial) }
-        ensures { (c : Settings) (x : Content) →
-            found.now ≡ read.first_above above (read.items_in c x.state queue.now) → Agrees self.old c x →
-            Agrees self.new c x }
-    {
-        if let Ok(asked) = queue.copy() {
-            self.next_item = Some(NextItem {
-                queue: asked,
-                above,
-                found: *found,
-            });
         }
     }
 

@@ -119,12 +119,7 @@ impl<B: Book> Book for CachedBook<B> {
     }
 
     fn next_item(&mut self, queue: &Name, above: u64) -> Result<Option<Item>, BookFault> {
-        if let Some(found) = self.cache.next_item(queue, above) {
-            return Ok(found);
-        }
-        let found = self.book.next_item(queue, above)?;
-        self.cache.keep_next_item(queue, above, &found);
-        Ok(found)
+        self.book.next_item(queue, above)
     }
 
     fn last_item(&mut self, queue: &Name, below: u64) -> Result<Option<Item>, BookFault> {

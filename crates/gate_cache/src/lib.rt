@@ -3,4 +3,3 @@
 
 mod cache;
 pub mod cached;
-mod next_item;
