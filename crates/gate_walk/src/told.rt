@@ -34,17 +34,6 @@ fn push_stops(
     Ok(())
 }
 
-/// Whether a row is what it was.
-fn is_same_row(a: &Item, b: &Item) -> bool
-    ensures { result ≡ walk.is_same_row a.now b.now }
-{
-    a.serial == b.serial
-        && a.change == b.change
-        && a.revision == b.revision
-        && a.ahead == b.ahead
-        && a.failing == b.failing
-}
-
 /// Takes an item out, or puts its row where it isn't what is stored.
 fn push_row(
     edits: &mut Sequence<Edit>,
@@ -57,7 +46,7 @@ fn push_row(
     requires { reports + 1 < 2 ^ 64 }
     ensures { OnOk result (edits.new ≡ edits.old ++ walk.row_edits name.now reports stored row verdict) }
 {
-    if verdict.is_none() && is_same_row(&stored, &row) {
+    if verdict.is_none() && stored == row {
         return Ok(());
     }
     push_item(edits, name, reports, row, verdict)
