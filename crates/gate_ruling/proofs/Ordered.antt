@@ -120,6 +120,20 @@ queues_changed columns edits name f qs own other =
     by_name q m true e = own q m e
     by_name q m false e = other q (turned q.name name false e)
 
+-- the queues that an item left, where edits change the row's alone
+one_changed : (c : Settings) (s : State) (k : QueuedItem) (v : Verdict) → are_sound c ≡ true → IsSound c s →
+    (h : Stored c s k.queue k.item) → (columns : ℕ → Columns) (edits : List Edit) (f : Queue → Queue) →
+    (let left = left_queue v k.item.change h.queue in shown_after columns edits left ≡ shown columns (f left)) →
+    ((q : Queue) → same_name k.queue q.name ≡ false → shown_after columns edits q ≡ shown columns q) →
+    (let left = map (left_queue v k.item.change) s.queues in
+    map (shown_after columns edits) left
+    ≡ map (shown columns) (map (λ q. cond (same_name q.name k.queue) (f q) q) left))
+one_changed c s k v settings sound h columns edits f own other =
+    queues_changed columns edits k.queue f (map (left_queue v k.item.change) s.queues)
+    (λ q m e. subst (λ o. shown_after columns edits o ≡ shown columns (f o))
+    (left_alone c s k v k.item.change settings sound h q m e) own)
+    other
+
 -- ---- `refused`
 
 pub refused_raw : (c : Settings) (s : State) (number : ℕ) (k : QueuedItem) → (h : HasOrder c s number k) →
@@ -131,51 +145,7 @@ refused_raw c s number k h =
     ∙ (λ i. accepted reply.Removed (change_queue (sym h.row.queue i) (shrunk_queue c)
     (leave verdict.Refused (sym h.row.item i).change s)))
 
--- its window is set
-shrinks_to : (c : Settings) (x : Content) (k : QueuedItem) → are_sound c ≡ true → IsSound c x.state →
-    (h : Stored c x.state k.queue k.item) → (w : ℕ) →
-    w ≡ shrink h.queue.window (floor_of c (left_queue verdict.Refused k.item.change h.queue)) →
-    Moves (in_state x (leave verdict.Refused k.item.change x.state)) (edit.SetWindow k.queue w ∷ [])
-    (change_queue k.queue (shrunk_queue c) (leave verdict.Refused k.item.change x.state))
-shrinks_to c x k settings sound h w is =
-    let t = leave verdict.Refused k.item.change x.state in
-    let edits : List Edit = edit.SetWindow k.queue w ∷ [] in
-    let left = left_queue verdict.Refused k.item.change h.queue in
-    let there = turned h.queue.name k.queue true h.named in
-    by_parts (in_state x t) edits (change_queue k.queue (shrunk_queue c) t) (record {
-      changes = refl;
-      queues = λ columns. queues_changed columns edits k.queue (shrunk_queue c) t.queues
-          (λ q m e. subst (λ o. shown_after columns edits o ≡ shown columns (shrunk_queue c o))
-          (left_alone c x.state k verdict.Refused k.item.change settings sound h q m e)
-          (ap (λ b. record (shown columns left) { window = cond b w left.window }) there
-          ∙ ap (λ u. record (shown columns left) { window = u }) is))
-          (λ q apart. ap (λ b. record (shown columns q) { window = cond b w q.window }) apart);
-      builds = refl;
-      counters = refl;
-      kept = refl;
-    })
-
--- or it is so small already
-stays_shrunk : (c : Settings) (x : Content) (k : QueuedItem) → are_sound c ≡ true → IsSound c x.state →
-    (h : Stored c x.state k.queue k.item) →
-    h.queue.window ≡ shrink h.queue.window (floor_of c (left_queue verdict.Refused k.item.change h.queue)) →
-    Moves (in_state x (leave verdict.Refused k.item.change x.state)) []
-    (change_queue k.queue (shrunk_queue c) (leave verdict.Refused k.item.change x.state))
-stays_shrunk c x k settings sound h is =
-    let t = leave verdict.Refused k.item.change x.state in
-    let left = left_queue verdict.Refused k.item.change h.queue in
-    by_parts (in_state x t) [] (change_queue k.queue (shrunk_queue c) t) (record {
-      changes = refl;
-      queues = λ columns. queues_changed columns [] k.queue (shrunk_queue c) t.queues
-          (λ q m e. subst (λ o. shown columns o ≡ shown columns (shrunk_queue c o))
-          (left_alone c x.state k verdict.Refused k.item.change settings sound h q m e)
-          (ap (λ u. record (shown columns left) { window = u }) is))
-          (λ q apart. refl);
-      builds = refl;
-      counters = refl;
-      kept = refl;
-    })
-
+-- its window is set, where it isn't so small already
 pub shrinks : (c : Settings) (x : Content) (k : QueuedItem) → are_sound c ≡ true → IsSound c x.state →
     (h : Stored c x.state k.queue k.item) → (w : ℕ) →
     w ≡ shrink h.queue.window (option_map_or (λ r. r.floor) (find (λ r. same_name r.name k.queue) c.queues) 1) →
@@ -183,16 +153,41 @@ pub shrinks : (c : Settings) (x : Content) (k : QueuedItem) → are_sound c ≡ 
     (change_queue k.queue (shrunk_queue c) (leave verdict.Refused k.item.change x.state))
 shrinks c x k settings sound h w is = by_test (h.queue.window == w) refl
   where
-    window : w ≡ shrink h.queue.window (floor_of c (left_queue verdict.Refused k.item.change h.queue))
+    t : State
+    t = leave verdict.Refused k.item.change x.state
+
+    left : Queue
+    left = left_queue verdict.Refused k.item.change h.queue
+
+    window : w ≡ shrink h.queue.window (floor_of c left)
     window =
         is ∙ ap (λ m. shrink h.queue.window (option_map_or (λ r. r.floor) (find (λ r. same_name r.name m) c.queues) 1))
         (sym (same_name_is h.queue.name k.queue h.named))
 
     by_test : (b : Bool) → (h.queue.window == w) ≡ b →
-        Moves (in_state x (leave verdict.Refused k.item.change x.state)) (cond b [] (edit.SetWindow k.queue w ∷ []))
-        (change_queue k.queue (shrunk_queue c) (leave verdict.Refused k.item.change x.state))
-    by_test true e = stays_shrunk c x k settings sound h (eqb-true h.queue.window w e ∙ window)
-    by_test false e = shrinks_to c x k settings sound h w window
+        Moves (in_state x t) (cond b [] (edit.SetWindow k.queue w ∷ [])) (change_queue k.queue (shrunk_queue c) t)
+    by_test true e = by_parts (in_state x t) [] (change_queue k.queue (shrunk_queue c) t) (record {
+      changes = refl;
+      queues = λ columns. one_changed c x.state k verdict.Refused settings sound h columns [] (shrunk_queue c)
+          (ap (λ u. record (shown columns left) { window = u }) (eqb-true h.queue.window w e ∙ window))
+          (λ q apart. refl);
+      builds = refl;
+      counters = refl;
+      kept = refl;
+    })
+    by_test false e =
+        let edits : List Edit = edit.SetWindow k.queue w ∷ [] in
+        by_parts (in_state x t) edits (change_queue k.queue (shrunk_queue c) t) (record {
+          changes = refl;
+          queues = λ columns. one_changed c x.state k verdict.Refused settings sound h columns edits (shrunk_queue c)
+              (ap (λ b. record (shown columns left) { window = cond b w left.window })
+              (turned h.queue.name k.queue true h.named)
+              ∙ ap (λ u. record (shown columns left) { window = u }) window)
+              (λ q apart. ap (λ b. record (shown columns q) { window = cond b w q.window }) apart);
+          builds = refl;
+          counters = refl;
+          kept = refl;
+        })
 
 -- ---- `landed`
 
@@ -219,76 +214,7 @@ last_row q l place at =
     ap (λ n. put_by (λ (y : LandingRow). y.place) (record { place = n; landing = l }) (numbered_landings 0 q.landings)) at
     ∙ put_last 0 q.landings l (length q.landings) (omega arith)
 
--- and its window is set
-lands_to : (c : Settings) (x : Content) (k : QueuedItem) → are_sound c ≡ true → IsSound c x.state →
-    (h : Stored c x.state k.queue k.item) → (place w : ℕ) → place ≡ length h.queue.landings + 1 →
-    w ≡ grow h.queue.window →
-    Moves (in_state x (leave (verdict.Landed place) k.item.change x.state))
-    (edit.PutLanding k.queue place (landing_of k.item) ∷ edit.SetWindow k.queue w ∷ [])
-    (change_queue k.queue (landed_queue (item_of k.item)) (leave (verdict.Landed place) k.item.change x.state))
-lands_to c x k settings sound h place w at is =
-    let v = verdict.Landed place in
-    let t = leave v k.item.change x.state in
-    let f = landed_queue (item_of k.item) in
-    let edits : List Edit = edit.PutLanding k.queue place (landing_of k.item) ∷ edit.SetWindow k.queue w ∷ [] in
-    let left = left_queue v k.item.change h.queue in
-    let there = turned h.queue.name k.queue true h.named in
-    let new : List LandingRow → List LandingRow =
-    λ ls. put_by (λ (y : LandingRow). y.place) (record { place = place; landing = landing_of k.item }) ls in
-    let rows = last_row h.queue (landing_of k.item) place at in
-    by_parts (in_state x t) edits (change_queue k.queue f t) (record {
-      changes = refl;
-      queues = λ columns. queues_changed columns edits k.queue f t.queues
-          (λ q m e. subst (λ o. shown_after columns edits o ≡ shown columns (f o))
-          (left_alone c x.state k v k.item.change settings sound h q m e)
-          (ap (λ b. record (shown columns left) {
-            landings = cond b (new (numbered_landings 0 h.queue.landings)) (numbered_landings 0 h.queue.landings);
-            window = cond b w h.queue.window;
-          }) there
-          ∙ (λ i. record (shown columns left) { landings = rows i; window = is i })))
-          (λ q apart. ap (λ b. record (shown columns q) {
-            landings = cond b (new (numbered_landings 0 q.landings)) (numbered_landings 0 q.landings);
-            window = cond b w q.window;
-          }) apart);
-      builds = refl;
-      counters = refl;
-      kept = refl;
-    })
-
--- or it grows no more
-lands_within : (c : Settings) (x : Content) (k : QueuedItem) → are_sound c ≡ true → IsSound c x.state →
-    (h : Stored c x.state k.queue k.item) → (place : ℕ) → place ≡ length h.queue.landings + 1 →
-    h.queue.window ≡ grow h.queue.window →
-    Moves (in_state x (leave (verdict.Landed place) k.item.change x.state))
-    (edit.PutLanding k.queue place (landing_of k.item) ∷ [])
-    (change_queue k.queue (landed_queue (item_of k.item)) (leave (verdict.Landed place) k.item.change x.state))
-lands_within c x k settings sound h place at is =
-    let v = verdict.Landed place in
-    let t = leave v k.item.change x.state in
-    let f = landed_queue (item_of k.item) in
-    let edits : List Edit = edit.PutLanding k.queue place (landing_of k.item) ∷ [] in
-    let left = left_queue v k.item.change h.queue in
-    let there = turned h.queue.name k.queue true h.named in
-    let new : List LandingRow → List LandingRow =
-    λ ls. put_by (λ (y : LandingRow). y.place) (record { place = place; landing = landing_of k.item }) ls in
-    let rows = last_row h.queue (landing_of k.item) place at in
-    by_parts (in_state x t) edits (change_queue k.queue f t) (record {
-      changes = refl;
-      queues = λ columns. queues_changed columns edits k.queue f t.queues
-          (λ q m e. subst (λ o. shown_after columns edits o ≡ shown columns (f o))
-          (left_alone c x.state k v k.item.change settings sound h q m e)
-          (ap (λ b. record (shown columns left) {
-            landings = cond b (new (numbered_landings 0 h.queue.landings)) (numbered_landings 0 h.queue.landings);
-          }) there
-          ∙ (λ i. record (shown columns left) { landings = rows i; window = is i })))
-          (λ q apart. ap (λ b. record (shown columns q) {
-            landings = cond b (new (numbered_landings 0 q.landings)) (numbered_landings 0 q.landings);
-          }) apart);
-      builds = refl;
-      counters = refl;
-      kept = refl;
-    })
-
+-- and its window is set, where it grows
 pub lands : (c : Settings) (x : Content) (k : QueuedItem) → are_sound c ≡ true → IsSound c x.state →
     (h : Stored c x.state k.queue k.item) → (place w : ℕ) → place ≡ length h.queue.landings + 1 →
     w ≡ grow h.queue.window →
@@ -297,12 +223,64 @@ pub lands : (c : Settings) (x : Content) (k : QueuedItem) → are_sound c ≡ tr
     (change_queue k.queue (landed_queue (item_of k.item)) (leave (verdict.Landed place) k.item.change x.state))
 lands c x k settings sound h place w at is = by_test (h.queue.window == w) refl
   where
+    t : State
+    t = leave (verdict.Landed place) k.item.change x.state
+
+    left : Queue
+    left = left_queue (verdict.Landed place) k.item.change h.queue
+
+    f : Queue → Queue
+    f = landed_queue (item_of k.item)
+
+    put : Edit
+    put = edit.PutLanding k.queue place (landing_of k.item)
+
+    new : List LandingRow → List LandingRow
+    new ls = put_by (λ (y : LandingRow). y.place) (record { place = place; landing = landing_of k.item }) ls
+
+    rows : new (numbered_landings 0 h.queue.landings) ≡ numbered_landings 0 (h.queue.landings ++ landing_of k.item ∷ [])
+    rows = last_row h.queue (landing_of k.item) place at
+
+    there : same_name k.queue h.queue.name ≡ true
+    there = turned h.queue.name k.queue true h.named
+
     by_test : (b : Bool) → (h.queue.window == w) ≡ b →
-        Moves (in_state x (leave (verdict.Landed place) k.item.change x.state))
-        (edit.PutLanding k.queue place (landing_of k.item) ∷ cond b [] (edit.SetWindow k.queue w ∷ []))
-        (change_queue k.queue (landed_queue (item_of k.item)) (leave (verdict.Landed place) k.item.change x.state))
-    by_test true e = lands_within c x k settings sound h place at (eqb-true h.queue.window w e ∙ is)
-    by_test false e = lands_to c x k settings sound h place w at is
+        Moves (in_state x t) (put ∷ cond b [] (edit.SetWindow k.queue w ∷ [])) (change_queue k.queue f t)
+    by_test true e = by_parts (in_state x t) (put ∷ []) (change_queue k.queue f t) (record {
+      changes = refl;
+      queues = λ columns. one_changed c x.state k (verdict.Landed place) settings sound h columns (put ∷ []) f
+          (ap (λ b. record (shown columns left) {
+            landings = cond b (new (numbered_landings 0 h.queue.landings)) (numbered_landings 0 h.queue.landings);
+          }) there
+          ∙ (λ i. record (shown columns left) {
+            landings = rows i;
+            window = (eqb-true h.queue.window w e ∙ is) i;
+          }))
+          (λ q apart. ap (λ b. record (shown columns q) {
+            landings = cond b (new (numbered_landings 0 q.landings)) (numbered_landings 0 q.landings);
+          }) apart);
+      builds = refl;
+      counters = refl;
+      kept = refl;
+    })
+    by_test false e =
+        let edits : List Edit = put ∷ edit.SetWindow k.queue w ∷ [] in
+        by_parts (in_state x t) edits (change_queue k.queue f t) (record {
+          changes = refl;
+          queues = λ columns. one_changed c x.state k (verdict.Landed place) settings sound h columns edits f
+              (ap (λ b. record (shown columns left) {
+                landings = cond b (new (numbered_landings 0 h.queue.landings)) (numbered_landings 0 h.queue.landings);
+                window = cond b w h.queue.window;
+              }) there
+              ∙ (λ i. record (shown columns left) { landings = rows i; window = is i }))
+              (λ q apart. ap (λ b. record (shown columns q) {
+                landings = cond b (new (numbered_landings 0 q.landings)) (numbered_landings 0 q.landings);
+                window = cond b w q.window;
+              }) apart);
+          builds = refl;
+          counters = refl;
+          kept = refl;
+        })
 
 -- the state that `landed` leaves
 abbrev pub landed_state : QueuedItem → ℕ → Change → State → State
