@@ -4,8 +4,10 @@ use Rattle.std.specs.Prelude.{is_none, option_and_then, option_map, if◌then◌
 use Rattle.std.specs.List.{list_all, list_any}
 use Rattle.std.specs.Str.{bytes_eq}
 use Rattle.std.specs.Str.Parse.{digits_value, without_leading_plus}
-use Rattle.clap.specs.Words.{App, Row, Rule, Text, new_app, new_rule, with_rule, with_subcommand, first_of}
+use Rattle.clap.specs.Words.{App, Row, Rule, Text, app_of, new_app, new_rule, with_rule, with_subcommand, first_of}
 use Rattle.clap.specs.Words.{subcommand_of, fault_of, kind_of, HasKind}
+use Rattle.clap.specs.declared.builder.command.Command.{Command}
+use Rattle.clap.specs.declared.builder.command.Command.TheViews.{out-Command as fields_of}
 use Rattle.clap.specs.declared.error.Error.{Error}
 use Rattle.clap.specs.declared.error.kind.ErrorKind.{ErrorKind}
 use Rattle.clap.specs.declared.error.kind.ErrorKind.TheVariants as kind
@@ -14,6 +16,10 @@ use Rattle.clap.specs.declared.builder.value_parser.ValueParser.TheVariants.{Uns
 use Rattle.clap.specs.ValueTests.{is_unsigned_in}
 use Rattle.gated_command.specs.declared.command.Cmd.{Cmd}
 use Rattle.gated_command.specs.declared.command.Cmd.TheVariants.{Check, Init, Replay, Deliver, Status, History, Serve}
+
+-- the command, none of whose options goes for its subcommands too
+abbrev pub IsCommand : App → Command → Type 0
+IsCommand app command = (app_of command ≡ app) × ((fields_of command).has_globals ≡ false)
 
 -- the settings file, a word that has to be there
 abbrev pub settings_rule : Rule

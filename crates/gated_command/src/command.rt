@@ -1,11 +1,10 @@
 //! The command line.
 ghost use Rattle.std.specs.Prelude.{◌≡◌, ◌≤◌, codes, IfOk, IfSome, IfErr, map, is_some, true, false, option_map, option_and_then};
-ghost use Rattle.clap.specs.Words.{app_of, rule_of, subcommand_rows_of, rows_of, found_of, first_of};
+ghost use Rattle.clap.specs.Words.{App, app_of, rule_of, with_subcommand, subcommand_rows_of, rows_of, found_of, first_of};
 ghost use Rattle.clap.specs.Words.{kind_of, takes};
-ghost use Rattle.clap.specs.declared.builder.command.Command.TheViews.{out-Command as fields_of};
 ghost use Rattle.gated_command.specs.CommandLine.{gated, check, replay, over_file, history, serve, settings_rule, file_rule, queue_rule};
 ghost use Rattle.gated_command.specs.CommandLine.{number_rule, is_set, said, says, said_of, number_in};
-ghost use Rattle.gated_command.specs.CommandLine.{asked, files_of, Names, IsExplained};
+ghost use Rattle.gated_command.specs.CommandLine.{asked, files_of, Names, IsCommand, IsExplained};
 
 use clap::builder::ValueParser;
 use clap::error::ErrorKind;
@@ -89,30 +88,44 @@ pub fn command<'a, S: AsStr>(alloc: Global, words: &'a [S]) -> Result<Cmd<'a>, U
 fn app<'a>(alloc: Global) -> Result<Command<'a>, AllocError>
     ensures { IfOk result (λ c. app_of c ≡ gated) }
 {
-    Command::new(alloc, "gated")
+    let bare = Command::new(alloc, "gated")
         .about(
             "The gate of a code forge: decides which approved changes may land, and in which order.",
         )
-        .subcommand_required(true)
-        .subcommand(check(alloc)?)?
-        .subcommand(over_file(
-            alloc,
-            "init",
-            "Makes the tables of a new gate in FILE. Run it once, before the first delivery.",
-        )?)?
-        .subcommand(replay(alloc)?)?
-        .subcommand(over_file(
-            alloc,
-            "deliver",
-            "Answers each line of standard input, a delivery, over the gate that FILE keeps.",
-        )?)?
-        .subcommand(over_file(
-            alloc,
-            "status",
-            "Prints the queues of the gate that FILE keeps, their items, and the changes that wait. Use it to look, while no other `gated` has FILE.",
-        )?)?
-        .subcommand(history(alloc)?)?
-        .subcommand(serve(alloc)?)
+        .subcommand_required(true);
+    let init = over_file(
+        alloc,
+        "init",
+        "Makes the tables of a new gate in FILE. Run it once, before the first delivery.",
+    );
+    let deliver = over_file(
+        alloc,
+        "deliver",
+        "Answers each line of standard input, a delivery, over the gate that FILE keeps.",
+    );
+    let status = over_file(
+        alloc,
+        "status",
+        "Prints the queues of the gate that FILE keeps, their items, and the changes that wait. Use it to look, while no other `gated` has FILE.",
+    );
+    let whole = with(Ok(bare), check(alloc));
+    let whole = with(whole, init);
+    let whole = with(whole, replay(alloc));
+    let whole = with(whole, deliver);
+    let whole = with(whole, status);
+    let whole = with(whole, history(alloc));
+    with(whole, serve(alloc))
+}
+
+/// The commands of `whole` and then this one, if memory was there for all.
+fn with<'a>(
+    whole: Result<Command<'a>, AllocError>,
+    one: Result<Command<'a>, AllocError>,
+) -> Result<Command<'a>, AllocError>
+    ensures { (apps app : App) → IfOk whole.entry (λ c. app_of c ≡ apps) → IfOk one.entry (IsCommand app)
+        → IfOk result (λ c. app_of c ≡ with_subcommand apps app.top) }
+{
+    whole?.subcommand(one?)
 }
 
 /// The settings file, which each command names.
@@ -169,7 +182,7 @@ fn number_option<'a>(
 }
 
 fn check<'a>(alloc: Global) -> Result<Command<'a>, AllocError>
-    ensures { IfOk result (λ c. (app_of c ≡ check) × ((fields_of c).has_globals ≡ false)) }
+    ensures { IfOk result (IsCommand check) }
 {
     Command::new(alloc, "check")
         .about("Reads the settings file, and prints how many queues, projects and jobs it has.")
@@ -182,7 +195,7 @@ fn over_file<'a>(
     name: &'static str,
     about: &'static str,
 ) -> Result<Command<'a>, AllocError>
-    ensures { IfOk result (λ c. (app_of c ≡ over_file name.now) × ((fields_of c).has_globals ≡ false)) }
+    ensures { IfOk result (IsCommand (over_file name.now)) }
 {
     Command::new(alloc, name)
         .about(about)
@@ -191,7 +204,7 @@ fn over_file<'a>(
 }
 
 fn replay<'a>(alloc: Global) -> Result<Command<'a>, AllocError>
-    ensures { IfOk result (λ c. (app_of c ≡ replay) × ((fields_of c).has_globals ≡ false)) }
+    ensures { IfOk result (IsCommand replay) }
 {
     let status = Arg::new(alloc, "status")
         .long("status")
@@ -204,7 +217,7 @@ fn replay<'a>(alloc: Global) -> Result<Command<'a>, AllocError>
 }
 
 fn history<'a>(alloc: Global) -> Result<Command<'a>, AllocError>
-    ensures { IfOk result (λ c. (app_of c ≡ history) × ((fields_of c).has_globals ≡ false)) }
+    ensures { IfOk result (IsCommand history) }
 {
     over_file(
         alloc,
@@ -215,7 +228,7 @@ fn history<'a>(alloc: Global) -> Result<Command<'a>, AllocError>
 }
 
 fn serve<'a>(alloc: Global) -> Result<Command<'a>, AllocError>
-    ensures { IfOk result (λ c. (app_of c ≡ serve) × ((fields_of c).has_globals ≡ false)) }
+    ensures { IfOk result (IsCommand serve) }
 {
     let port = number_option(
         alloc,
