@@ -1,11 +1,11 @@
 //! A history of 300 reports, from a file whose disk fails at each call that the history makes.
 use crate::disks::{connected, copied, fused};
-use crate::files::{FileGate, SETTINGS, conn_of, gate_in, new_gate, said};
+use crate::files::{SETTINGS, conn_of, gate_in, new_gate, said};
 use gate_book::book::Book;
 use gate_book::fault::HistoryFault;
 use gate_core::gate::Gate;
 use gate_types::tap::Tap;
-use sqlite::{FileStore, Files, Options};
+use sqlite::{Alter, Connection, FileStore, Files, Options};
 use sqlite_disk::{Fuse, Memory};
 use std::alloc::{AllocError, Global};
 use std::process::Abort;
@@ -51,6 +51,13 @@ fn history(alloc: Global) -> Result<String, AllocError> {
     Ok(text)
 }
 
+/// Makes a gate with these reports over the tables of a new file.
+fn filled<S: Alter + Drop>(alloc: Global, conn: Connection<S>) -> Result<Connection<S>, Fail> {
+    let mut gate = new_gate(alloc, conn)?;
+    let _answers = said(alloc, &mut gate, deliveries(alloc)?.as_str())?;
+    Ok(conn_of(gate))
+}
+
 /// The files of a gate with these reports. Some of their pages stand in the log, the others in the database file.
 fn reported(alloc: Global) -> Result<Files<Fuse<Memory>>, Fail> {
     let files = Files {
@@ -60,27 +67,28 @@ fn reported(alloc: Global) -> Result<Files<Fuse<Memory>>, Fail> {
     let Ok(conn) = connected(alloc, files, options()) else {
         return Err(Fail::new("an empty file isn't opened"));
     };
-    let mut gate = new_gate(alloc, conn)?;
-    let _answers = said(alloc, &mut gate, deliveries(alloc)?.as_str())?;
-    Ok(conn_of(gate).into_store().close())
+    Ok(filled(alloc, conn)?.into_store().close())
 }
 
-/// The gate in copies of the files, if it is opened with so many calls of the log, or of the database file.
-fn opened(
+/// The connection to copies of the files, if they are opened with so many calls of the log, or of the database file.
+fn limited(
     alloc: Global,
     files: &Files<Fuse<Memory>>,
     is_log: bool,
     calls: u64,
-) -> Result<Option<FileGate<FileStore<Fuse<Memory>>>>, Fail> {
-    let copies = if is_log {
-        copied(alloc, files, calls, u64::MAX)?
+) -> Result<Option<Connection<FileStore<Fuse<Memory>>>>, Fail> {
+    let (log_calls, db_calls) = if is_log {
+        (calls, u64::MAX)
     } else {
-        copied(alloc, files, u64::MAX, calls)?
+        (u64::MAX, calls)
     };
-    let Ok(conn) = connected(alloc, copies, options()) else {
-        return Ok(None);
-    };
-    Ok(gate_in(alloc, conn, SETTINGS).ok())
+    let copies = copied(alloc, files, log_calls, db_calls)?;
+    Ok(connected(alloc, copies, options()).ok())
+}
+
+/// Whether the gate in a file is opened.
+fn is_opened<S: Alter + Drop>(alloc: Global, conn: Connection<S>) -> bool {
+    gate_in(alloc, conn, SETTINGS).is_ok()
 }
 
 /// The fewest calls with which the gate is opened, which are less than 65,536.
@@ -89,7 +97,11 @@ fn calls_of_opening(alloc: Global, files: &Files<Fuse<Memory>>, is_log: bool) ->
     let mut step = 32_768u64;
     for _ in 0..16 {
         let tried = fewest.saturating_add(step).saturating_sub(1);
-        if opened(alloc, files, is_log, tried)?.is_none() {
+        let is_enough = match limited(alloc, files, is_log, tried)? {
+            Some(conn) => is_opened(alloc, conn),
+            None => false,
+        };
+        if !is_enough {
             fewest = fewest.saturating_add(step);
         }
         step /= 2;
@@ -135,6 +147,18 @@ fn asked<B: Book>(
     }
 }
 
+/// Asks the gate in a file for its history.
+fn asked_in<S: Alter + Drop>(
+    rt: &(impl Abort + AllocGlobal),
+    conn: Connection<S>,
+    text: &[u8],
+) -> Result<End, Fail> {
+    let Ok(mut gate) = gate_in(rt.alloc(), conn, SETTINGS) else {
+        return Err(Fail::new("the gate isn't opened"));
+    };
+    asked(rt, &mut gate, text)
+}
+
 /// How many histories were refused, and how many broke off.
 #[derive(Clone, Copy, Debug)]
 struct Ends {
@@ -155,10 +179,10 @@ fn each_stop(
     };
     let mut calls = calls_of_opening(rt.alloc(), files, is_log)?;
     for _ in 0..10_000 {
-        let Some(mut gate) = opened(rt.alloc(), files, is_log, calls)? else {
-            return Err(Fail::new("the gate isn't opened"));
+        let Some(conn) = limited(rt.alloc(), files, is_log, calls)? else {
+            return Err(Fail::new("the files aren't opened"));
         };
-        match asked(rt, &mut gate, text)? {
+        match asked_in(rt, conn, text)? {
             End::Unavailable => ends.unavailable = ends.unavailable.saturating_add(1),
             End::Broken => ends.broken = ends.broken.saturating_add(1),
             End::Whole => return Ok(ends),

@@ -106,6 +106,16 @@ fn answered<S: Alter + Drop>(
     }
 }
 
+/// Makes a gate over the tables of a new file, and gives all its rows.
+fn begun<S: Alter + Drop>(
+    alloc: Global,
+    conn: Connection<S>,
+) -> Result<(Connection<S>, String), Fail> {
+    let mut conn = conn_of(new_gate(alloc, conn)?);
+    let rows = rows_in(alloc, &mut conn)?;
+    Ok((conn, rows))
+}
+
 /// The files of a gate that has seen no delivery, closed, and all its rows.
 fn new_files(rt: &(impl Abort + AllocGlobal)) -> Result<(Files<Fuse<Memory>>, String), Fail> {
     let files = Files {
@@ -115,8 +125,7 @@ fn new_files(rt: &(impl Abort + AllocGlobal)) -> Result<(Files<Fuse<Memory>>, St
     let Ok(conn) = connected(rt.alloc(), files, Options::new(SEED)) else {
         return Err(Fail::new("an empty file isn't opened"));
     };
-    let mut conn = conn_of(new_gate(rt.alloc(), conn)?);
-    let rows = rows_in(rt.alloc(), &mut conn)?;
+    let (conn, rows) = begun(rt.alloc(), conn)?;
     match closed(conn) {
         (true, files) => Ok((files, rows)),
         (false, _) => Err(Fail::new("the file isn't closed")),
@@ -274,6 +283,19 @@ fn each_stop(
     Err(Fail::new("each run is stopped"))
 }
 
+/// The gate in the file answers a delivery. Gives all its rows then.
+fn told_in<S: Alter + Drop>(
+    rt: &(impl Abort + AllocGlobal),
+    conn: Connection<S>,
+    line: &Line<'_>,
+) -> Result<(Connection<S>, String), Fail> {
+    let (answer, mut conn) = answered(rt.alloc(), conn, line.said);
+    let answer = answer.ok_or("the delivery isn't answered")?;
+    assert!(rt; line.has_answer(answer.as_slice()));
+    let rows = rows_in(rt.alloc(), &mut conn)?;
+    Ok((conn, rows))
+}
+
 /// The files after a delivery that nothing stops, and all their rows.
 fn told(
     rt: &(impl Abort + AllocGlobal),
@@ -283,12 +305,7 @@ fn told(
     let Ok(conn) = connected(rt.alloc(), files, Options::new(SEED)) else {
         return Err(Fail::new("the file isn't opened"));
     };
-    let (answer, mut conn) = answered(rt.alloc(), conn, line.said);
-    let Some(answer) = answer else {
-        return Err(Fail::new("the delivery isn't answered"));
-    };
-    assert!(rt; line.has_answer(answer.as_slice()));
-    let rows = rows_in(rt.alloc(), &mut conn)?;
+    let (conn, rows) = told_in(rt, conn, line)?;
     match closed(conn) {
         (true, files) => Ok((files, rows)),
         (false, _) => Err(Fail::new("the file isn't closed")),
@@ -329,6 +346,18 @@ fn a_stop_leaves_the_file_before_or_after_a_delivery(rt: HostRuntime) -> Result<
     Ok(())
 }
 
+/// Makes a gate in a new file: whether it was made, and the connection.
+fn created<S: Alter + Drop>(
+    alloc: Global,
+    conn: Connection<S>,
+) -> Result<(bool, Connection<S>), Fail> {
+    let config = read(alloc, SETTINGS.as_bytes())?;
+    match SqlBook::create(alloc, conn, &config) {
+        Ok(book) => Ok((true, book.into_conn())),
+        Err((_, conn)) => Ok((false, conn)),
+    }
+}
+
 /// Makes a gate in new files, one of which stops after so many calls; and closes them. Whether nothing stopped that.
 fn made(alloc: Global, stop: Stop) -> Result<(bool, Files<Fuse<Memory>>), Fail> {
     let (log_calls, db_calls) = match stop {
@@ -339,26 +368,20 @@ fn made(alloc: Global, stop: Stop) -> Result<(bool, Files<Fuse<Memory>>), Fail> 
         log: fused(alloc, &[], log_calls)?,
         db: fused(alloc, &[], db_calls)?,
     };
-    let config = read(alloc, SETTINGS.as_bytes())?;
-    match connected(alloc, files, Options::new(SEED)) {
-        Ok(conn) => match SqlBook::create(alloc, conn, &config) {
-            Ok(book) => Ok(closed(book.into_conn())),
-            Err((_, conn)) => Ok((false, closed(conn).1)),
-        },
-        Err(left) => Ok((false, left)),
-    }
+    let conn = match connected(alloc, files, Options::new(SEED)) {
+        Ok(conn) => conn,
+        Err(left) => return Ok((false, left)),
+    };
+    let (is_made, conn) = created(alloc, conn)?;
+    let (is_closed, files) = closed(conn);
+    Ok((is_made && is_closed, files))
 }
 
-/// After a crash there is a gate that has seen no delivery, or no table.
-fn is_empty_or_none(
+/// In the file is a gate that has seen no delivery, or no table. Gives whether it is a gate.
+fn has_gate_or_nothing<S: Alter + Drop>(
     rt: &(impl Abort + AllocGlobal),
-    mut files: Files<Fuse<Memory>>,
+    conn: Connection<S>,
 ) -> Result<bool, Fail> {
-    files.log.crash();
-    files.db.crash();
-    let Ok(conn) = connected(rt.alloc(), files, Options::new(SEED)) else {
-        return Err(Fail::new("the files aren't opened after a crash"));
-    };
     match gate_in(rt.alloc(), conn, SETTINGS) {
         Ok(mut gate) => {
             tells(rt, &mut gate, "", "", NO_DELIVERY)?;
@@ -370,6 +393,19 @@ fn is_empty_or_none(
             assert_eq!(rt; tables.len(), 0);
             Ok(false)
         }
+    }
+}
+
+/// What `has_gate_or_nothing` says of files after a crash.
+fn is_made_after_a_crash(
+    rt: &(impl Abort + AllocGlobal),
+    mut files: Files<Fuse<Memory>>,
+) -> Result<bool, Fail> {
+    files.log.crash();
+    files.db.crash();
+    match connected(rt.alloc(), files, Options::new(SEED)) {
+        Ok(conn) => has_gate_or_nothing(rt, conn),
+        Err(_) => Err(Fail::new("the files aren't opened after a crash")),
     }
 }
 
@@ -385,7 +421,7 @@ fn each_stop_of_making(rt: &(impl Abort + AllocGlobal), is_log: bool) -> Result<
             Stop::Database(calls)
         };
         let (is_whole, left) = made(rt.alloc(), stop)?;
-        let is_made = is_empty_or_none(rt, left)?;
+        let is_made = is_made_after_a_crash(rt, left)?;
         if is_whole {
             assert!(rt; is_made);
             return Ok((none, some));
