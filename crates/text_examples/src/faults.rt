@@ -1,8 +1,9 @@
 //! The fault that is answered of a settings file.
+use crate::same::{numbered, same};
 use crate::settings::SETTINGS;
 use gate_config::{ConfigFault, read};
-use std::alloc::{AllocError, Global};
-use std::test::Fail;
+use std::alloc::Global;
+use std::process::Abort;
 
 /// The number of the fault, or 0.
 fn fault_number(alloc: Global, bytes: &[u8]) -> u8 {
@@ -12,13 +13,24 @@ fn fault_number(alloc: Global, bytes: &[u8]) -> u8 {
     }
 }
 
-const FORGE: &str = "{base = 'b'}";
+/// The number of the fault of a file, or 0, is this.
+fn has_fault(rt: &(impl Abort + AllocGlobal), file: &str, number: &str) {
+    let found = fault_number(rt.alloc(), file.as_bytes());
+    let found = format!(in rt.alloc(); "{found}").expect(rt, "memory");
+    same(rt, found.as_str(), number, file);
+}
 
-const QUEUE: &str = "[{name = 'q'}]";
+/// The same of each line's number, and what it has behind that between two pieces of a file.
+fn have_faults(rt: &(impl Abort + AllocGlobal), front: &str, table: &str, back: &str) {
+    for line in table.lines() {
+        let (number, value) = line.split_once(' ').expect(rt, "a line");
+        let pieces = [front, value, back];
+        let file = pieces.concat(rt.alloc()).expect(rt, "memory");
+        has_fault(rt, file.as_str(), number);
+    }
+}
 
-const PROJECT: &str = "[{name = 'p', queue = 'q', job = [{name = 'j'}]}]";
-
-// Each line has the number of the least fault, or 0, and what stands in place of the value above.
+// Each line has the number of the least fault, or 0, and what stands in place of a sound value.
 const FORGES: &str = r#"0 {base = 'b'}
 2 {}
 3 1
@@ -95,160 +107,159 @@ const PROJECTS: &str = r#"2 [{queue = 'q', job = [{name = 'j'}]}]
 0 [{name = 'p', queue = 'q', job = [{name = 'j', voting = false}, {name = 'k', voting = true}]}]
 10 []"#;
 
-fn document(alloc: Global, forge: &str, queue: &str, project: &str) -> Result<String, AllocError> {
-    format!(in alloc; "forge = {forge}\nqueue = {queue}\nproject = {project}\n")
+#[test]
+fn each_fault_alone(rt: HostRuntime) {
+    have_faults(
+        &rt,
+        "forge = ",
+        FORGES,
+        "\nqueue = [{name = 'q'}]\nproject = [{name = 'p', queue = 'q', job = [{name = 'j'}]}]\n",
+    );
+    have_faults(
+        &rt,
+        "forge = {base = 'b'}\nqueue = ",
+        QUEUES,
+        "\nproject = [{name = 'p', queue = 'q', job = [{name = 'j'}]}]\n",
+    );
+    have_faults(
+        &rt,
+        "forge = {base = 'b'}\nqueue = [{name = 'q'}]\nproject = ",
+        PROJECTS,
+        "\n",
+    );
 }
 
-/// Whether a line's number is that of the fault.
-fn is_number(alloc: Global, text: &str, number: &str) -> Result<bool, AllocError> {
-    let found = format!(in alloc; "{}", fault_number(alloc, text.as_bytes()))?;
-    Ok(found.as_str() == number)
+// The number of the least fault, and what stands in place of the values, with ` | ` between these.
+const SEVERAL: &str = r#"10 {base = 'b'} | [] | []
+2 {} | 'q' | 'p'
+2 {base = 1} | [{}] | [{name = 'p', queue = 'q', job = [{name = 'j'}]}]
+2 {base = ''} | [{name = 'q', x = 1}] | [{name = 'p'}]
+3 {base = 1} | [{name = 'q', x = 1}] | [{name = 'p', queue = 'q', job = [{name = 'j'}]}]
+3 {base = ''} | [{name = 'q', window = '2'}] | [{name = 'p', queue = 'x', job = [{name = 'j', x = 1}]}]
+4 {base = ''} | [{name = 'q', x = 1}] | [{name = 'p', queue = 'q', job = [{name = 'j'}]}]
+4 {base = 'b'} | [{name = 'q', window = -1}] | [{name = 'p', queue = 'q', job = [], x = 1}]
+5 {base = ''} | [{name = 'q'}, {name = 'q'}] | [{name = 'p', queue = 'q', job = [{name = 'j'}]}]
+5 {base = 'b'} | [{name = '.'}, {name = '.'}] | [{name = 'p', queue = 'q', job = [{name = 'j'}]}]
+6 {base = 'b'} | [{name = 'r'}, {name = 'r'}] | [{name = 'p', queue = 'q', job = [{name = 'j'}]}]
+6 {base = 'b'} | [{name = 'q'}] | [{name = 'p', queue = 'x'}, {name = 'p', queue = 'y'}]
+7 {base = 'b'} | [{name = 'q', window = -1}] | [{name = 'p', queue = 'r', job = [{name = 'j'}]}]
+7 {base = 'b'} | [] | [{name = 'p', queue = 'q', job = [{name = 'j'}]}]
+8 {base = 'b'} | [{name = 'q', window = -1}] | [{name = 'p', queue = 'q'}]
+8 {base = 'b'} | [{name = 'q'}, {name = 'r', floor = 21}] | []
+9 {base = 'b'} | [{name = 'q'}, {name = 'r'}] | [{name = 'p', queue = 'q'}]"#;
+
+fn has_least_fault(rt: &(impl Abort + AllocGlobal), values: &str, number: &str) {
+    let (forge, values) = values.split_once(" | ").expect(rt, "a line");
+    let (queue, project) = values.split_once(" | ").expect(rt, "a line");
+    let pieces = [
+        "forge = ",
+        forge,
+        "\nqueue = ",
+        queue,
+        "\nproject = ",
+        project,
+        "\n",
+    ];
+    let file = pieces.concat(rt.alloc()).expect(rt, "memory");
+    has_fault(rt, file.as_str(), number);
 }
 
 #[test]
-fn each_fault_alone(rt: HostRuntime) -> Result<(), Fail> {
-    let alloc = rt.alloc();
-    for line in FORGES.lines() {
-        let (number, forge) = line.split_once(' ').ok_or("a line")?;
-        let text = document(alloc, forge, QUEUE, PROJECT)?;
-        assert!(rt; is_number(alloc, text.as_str(), number)?, "at {line}");
-    }
-    for line in QUEUES.lines() {
-        let (number, queue) = line.split_once(' ').ok_or("a line")?;
-        let text = document(alloc, FORGE, queue, PROJECT)?;
-        assert!(rt; is_number(alloc, text.as_str(), number)?, "at {line}");
-    }
-    for line in PROJECTS.lines() {
-        let (number, project) = line.split_once(' ').ok_or("a line")?;
-        let text = document(alloc, FORGE, QUEUE, project)?;
-        assert!(rt; is_number(alloc, text.as_str(), number)?, "at {line}");
-    }
-    Ok(())
-}
-
-// The number of the least fault, and what stands in place of the values, with ` | ` between.
-const SEVERAL: &str = r#"10 | {base = 'b'} | [] | []
-2 | {} | 'q' | 'p'
-2 | {base = 1} | [{}] | [{name = 'p', queue = 'q', job = [{name = 'j'}]}]
-2 | {base = ''} | [{name = 'q', x = 1}] | [{name = 'p'}]
-3 | {base = 1} | [{name = 'q', x = 1}] | [{name = 'p', queue = 'q', job = [{name = 'j'}]}]
-3 | {base = ''} | [{name = 'q', window = '2'}] | [{name = 'p', queue = 'x', job = [{name = 'j', x = 1}]}]
-4 | {base = ''} | [{name = 'q', x = 1}] | [{name = 'p', queue = 'q', job = [{name = 'j'}]}]
-4 | {base = 'b'} | [{name = 'q', window = -1}] | [{name = 'p', queue = 'q', job = [], x = 1}]
-5 | {base = ''} | [{name = 'q'}, {name = 'q'}] | [{name = 'p', queue = 'q', job = [{name = 'j'}]}]
-5 | {base = 'b'} | [{name = '.'}, {name = '.'}] | [{name = 'p', queue = 'q', job = [{name = 'j'}]}]
-6 | {base = 'b'} | [{name = 'r'}, {name = 'r'}] | [{name = 'p', queue = 'q', job = [{name = 'j'}]}]
-6 | {base = 'b'} | [{name = 'q'}] | [{name = 'p', queue = 'x'}, {name = 'p', queue = 'y'}]
-7 | {base = 'b'} | [{name = 'q', window = -1}] | [{name = 'p', queue = 'r', job = [{name = 'j'}]}]
-7 | {base = 'b'} | [] | [{name = 'p', queue = 'q', job = [{name = 'j'}]}]
-8 | {base = 'b'} | [{name = 'q', window = -1}] | [{name = 'p', queue = 'q'}]
-8 | {base = 'b'} | [{name = 'q'}, {name = 'r', floor = 21}] | []
-9 | {base = 'b'} | [{name = 'q'}, {name = 'r'}] | [{name = 'p', queue = 'q'}]"#;
-
-#[test]
-fn of_several_faults_the_least_is_answered(rt: HostRuntime) -> Result<(), Fail> {
-    let alloc = rt.alloc();
+fn of_several_faults_the_least_is_answered(rt: HostRuntime) {
     for line in SEVERAL.lines() {
-        let (number, values) = line.split_once(" | ").ok_or("a line")?;
-        let (forge, values) = values.split_once(" | ").ok_or("a line")?;
-        let (queue, project) = values.split_once(" | ").ok_or("a line")?;
-        let text = document(alloc, forge, queue, project)?;
-        assert!(rt; is_number(alloc, text.as_str(), number)?, "at {line}");
+        let (number, values) = line.split_once(' ').expect(&rt, "a line");
+        has_least_fault(&rt, values, number);
     }
-    Ok(())
 }
 
 #[test]
 fn whole_files_with_faults(rt: HostRuntime) {
-    let alloc = rt.alloc();
-    let files = [
-        ("", 2),
-        ("[forge", 1),
-        ("forge = 1\nforge = 1\n", 1),
-        ("queue = []\nproject = []\n", 2),
-        ("forge = {base = 'b'}\nproject = []\n", 2),
-        ("forge = {base = 'b'}\nqueue = []\n", 2),
-        (
-            "[forge]\nbase = 'b'\n[queue]\n[[project]]\nname = 'p'\nqueue = 'q'\n",
-            3,
-        ),
-        (
-            "[forge]\nbase = 'b'\n[[queue]]\nname = 'q'\n[[project]]\nname = 'p'\nqueue = 'q'\n[project.job]\n",
-            3,
-        ),
-        ("x = 1\nforge = {base = 'b'}\nqueue = []\nproject = []\n", 4),
-    ];
-    for (text, number) in files {
-        assert_eq!(rt; fault_number(alloc, text.as_bytes()), number, "at {text}");
-    }
-    assert_eq!(rt; fault_number(alloc, b"forge = {base = '\xff'}"), 1);
+    has_fault(&rt, "", "2");
+    has_fault(&rt, "[forge", "1");
+    has_fault(&rt, "forge = 1\nforge = 1\n", "1");
+    has_fault(&rt, "queue = []\nproject = []\n", "2");
+    has_fault(&rt, "forge = {base = 'b'}\nproject = []\n", "2");
+    has_fault(&rt, "forge = {base = 'b'}\nqueue = []\n", "2");
+    has_fault(
+        &rt,
+        "[forge]\nbase = 'b'\n[queue]\n[[project]]\nname = 'p'\nqueue = 'q'\n",
+        "3",
+    );
+    has_fault(
+        &rt,
+        "[forge]\nbase = 'b'\n[[queue]]\nname = 'q'\n[[project]]\nname = 'p'\nqueue = 'q'\n[project.job]\n",
+        "3",
+    );
+    has_fault(
+        &rt,
+        "x = 1\nforge = {base = 'b'}\nqueue = []\nproject = []\n",
+        "4",
+    );
+    assert!(rt; fault_number(rt.alloc(), b"forge = {base = '\xff'}") == 1);
 }
 
-/// A document with so many queues and projects, the first project with so many jobs.
-fn of_size(alloc: Global, queues: u32, projects: u32, jobs: u32) -> Result<String, AllocError> {
-    let mut text = String::from_str(alloc, "forge = {base = 'b'}\n")?;
-    for queue in 0..queues {
-        text.push_str(format!(in alloc; "[[queue]]\nname = 'q{queue}'\n")?.as_str())?;
-    }
-    text.push_str("[[project]]\nname = 'p'\nqueue = 'q0'\n")?;
-    for job in 0..jobs {
-        text.push_str(format!(in alloc; "[[project.job]]\nname = 'j{job}'\n")?.as_str())?;
-    }
-    for project in 1..projects {
-        text.push_str(format!(in alloc;
-            "[[project]]\nname = 'p{project}'\nqueue = 'q0'\n[[project.job]]\nname = 'j'\n"
-        )?.as_str())?;
-    }
-    Ok(text)
+/// A document with so many queues and projects, the first project with so many jobs, has this fault.
+fn size_has_fault(
+    rt: &(impl Abort + AllocGlobal),
+    queues: u32,
+    projects: u32,
+    jobs: u32,
+    number: &str,
+) {
+    let queues = numbered(rt, 0..queues, "[[queue]]\nname = 'q", "'\n");
+    let jobs = numbered(rt, 0..jobs, "[[project.job]]\nname = 'j", "'\n");
+    let projects = numbered(
+        rt,
+        1..projects,
+        "[[project]]\nname = 'p",
+        "'\nqueue = 'q0'\n[[project.job]]\nname = 'j'\n",
+    );
+    let pieces = [
+        "forge = {base = 'b'}\n",
+        queues.as_str(),
+        "[[project]]\nname = 'p'\nqueue = 'q0'\n",
+        jobs.as_str(),
+        projects.as_str(),
+    ];
+    let file = pieces.concat(rt.alloc()).expect(rt, "memory");
+    has_fault(rt, file.as_str(), number);
 }
 
 #[test]
-fn queues_projects_and_jobs_have_limits(rt: HostRuntime) -> Result<(), Fail> {
-    let alloc = rt.alloc();
-    for (queues, projects, jobs, number) in [
-        (32, 1, 1, 0),
-        (33, 1, 1, 10),
-        (1, 256, 1, 0),
-        (1, 257, 1, 10),
-        (1, 1, 32, 0),
-        (1, 1, 33, 10),
-        (33, 1, 0, 9),
-    ] {
-        let text = of_size(alloc, queues, projects, jobs)?;
-        assert_eq!(rt;
-            fault_number(alloc, text.as_bytes()),
-            number,
-            "at {queues} {projects} {jobs}"
-        );
-    }
-    Ok(())
+fn queues_projects_and_jobs_have_limits(rt: HostRuntime) {
+    size_has_fault(&rt, 32, 1, 1, "0");
+    size_has_fault(&rt, 33, 1, 1, "10");
+    size_has_fault(&rt, 1, 256, 1, "0");
+    size_has_fault(&rt, 1, 257, 1, "10");
+    size_has_fault(&rt, 1, 1, 32, "0");
+    size_has_fault(&rt, 1, 1, 33, "10");
+    size_has_fault(&rt, 33, 1, 0, "9");
+}
+
+/// Whether a file's fault is want of memory; else it is this.
+fn lacks_memory(rt: &(impl Abort + AllocGlobal), file: &[u8], number: u8) -> bool {
+    let found = fault_number(rt.alloc(), file);
+    assert!(rt; found == number || found == 11);
+    found == 11
 }
 
 /// Passes whichever one allocation is refused: the file's fault is want of memory then.
 #[test]
 fn a_refused_allocation_is_told(rt: HostRuntime) {
-    let alloc = rt.alloc();
-    let numbers = [
-        fault_number(alloc, SETTINGS.as_bytes()),
-        fault_number(alloc, b"[forge"),
-        fault_number(alloc, b""),
-    ];
-    let refused = numbers.iter().filter(|number| **number == 11).count();
-    assert!(rt; refused < 2);
-    for (number, wanted) in numbers.into_iter().zip([0, 1, 2]) {
-        assert!(rt; number == wanted || number == 11);
-    }
+    let whole = lacks_memory(&rt, SETTINGS.as_bytes(), 0);
+    let open = lacks_memory(&rt, b"[forge", 1);
+    let empty = lacks_memory(&rt, b"", 2);
+    assert!(rt; !(whole && open || whole && empty || open && empty));
+}
+
+fn is_told(rt: &impl Abort, fault: ConfigFault, number: u8, word: &str) {
+    assert!(rt; fault.number() == number, "{word}");
+    same(rt, fault.word(), word, "a fault");
 }
 
 #[test]
 fn a_fault_has_a_number_and_a_word(rt: HostRuntime) {
-    let faults = [
-        (ConfigFault::NotToml, 1, "not-toml"),
-        (ConfigFault::Limit, 10, "limit"),
-        (ConfigFault::NoMemory, 11, "no-memory"),
-    ];
-    for (fault, number, word) in faults {
-        assert_eq!(rt; fault.number(), number);
-        assert_eq!(rt; fault.word(), word);
-    }
+    is_told(&rt, ConfigFault::NotToml, 1, "not-toml");
+    is_told(&rt, ConfigFault::Limit, 10, "limit");
+    is_told(&rt, ConfigFault::NoMemory, 11, "no-memory");
 }

@@ -1,8 +1,9 @@
 //! The example of each format, as it is read.
 use crate::said::said;
+use crate::same::same;
 use gate_types::deliveries::Refusal;
 use gate_wire::{Door, read_delivery};
-use std::test::Fail;
+use std::process::Abort;
 
 /// The examples of docs/FORMATS.md, which no test can read from there.
 const EXAMPLES: &str =
@@ -29,30 +30,33 @@ const CANONICAL: &str =
 "#;
 
 #[test]
-fn each_example_of_the_formats_is_read(rt: HostRuntime) -> Result<(), Fail> {
+fn each_example_of_the_formats_is_read(rt: HostRuntime) {
     let mut read = String::new(rt.alloc());
     for line in EXAMPLES.lines() {
-        let text = said(rt.alloc(), line.as_bytes(), Door::Any)?;
-        read.push_str(text.as_str())?;
-        read.push_str("\n")?;
+        let text = said(rt.alloc(), line.as_bytes(), Door::Any).expect(&rt, "memory");
+        read.push_str(text.as_str()).expect(&rt, "memory");
+        read.push_str("\n").expect(&rt, "memory");
     }
-    assert_eq!(rt; read.as_str(), CANONICAL);
-    Ok(())
+    same(&rt, read.as_str(), CANONICAL, "the examples");
+}
+
+/// Whether the answer to a delivery is `unavailable`; else it is read.
+fn is_unavailable(rt: &(impl Abort + AllocGlobal), line: &str) -> bool {
+    let Err(refusal) = read_delivery(rt.alloc(), line.as_bytes(), Door::Any) else {
+        return false;
+    };
+    assert!(rt; refusal == Refusal::Unavailable, "{line}");
+    true
 }
 
 /// Passes whichever one allocation is refused: the answer is `unavailable` then, or the same.
 #[test]
-fn a_refused_allocation_is_answered_unavailable(rt: HostRuntime) -> Result<(), Fail> {
+fn a_refused_allocation_is_answered_unavailable(rt: HostRuntime) {
     let mut refused = 0u32;
     for line in EXAMPLES.lines() {
-        match read_delivery(rt.alloc(), line.as_bytes(), Door::Any) {
-            Ok(_) => {}
-            Err(refusal) => {
-                assert_eq!(rt; refusal, Refusal::Unavailable, "{line}");
-                refused = refused.saturating_add(1);
-            }
+        if is_unavailable(&rt, line) {
+            refused = refused.saturating_add(1);
         }
     }
     assert!(rt; refused < 2);
-    Ok(())
 }

@@ -24,6 +24,8 @@ mod replies;
 #[cfg(test)]
 mod said;
 #[cfg(test)]
+mod same;
+#[cfg(test)]
 mod settings;
 #[cfg(test)]
 mod taps;

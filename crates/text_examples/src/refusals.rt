@@ -1,6 +1,8 @@
 //! What is said of each refusal.
+use crate::same::same;
 use gate_types::deliveries::Refusal;
 use gate_types::names::NoMemory;
+use std::process::Abort;
 
 /// Each refusal, with its status, word and text.
 const ROWS: &[(Refusal, u16, &str, &str)] = &[
@@ -96,12 +98,16 @@ const ROWS: &[(Refusal, u16, &str, &str)] = &[
     ),
 ];
 
+fn has_row(rt: &impl Abort, refusal: Refusal, status: u16, word: &str, text: &str) {
+    assert!(rt; refusal.status() == status, "{word}");
+    same(rt, refusal.word(), word, text);
+    same(rt, refusal.text(), text, word);
+}
+
 #[test]
 fn refusals_have_their_rows(rt: HostRuntime) {
     for (refusal, status, word, text) in ROWS {
-        assert_eq!(rt; refusal.status(), *status, "{word}");
-        assert_eq!(rt; refusal.word(), *word);
-        assert_eq!(rt; refusal.text(), *text);
+        has_row(&rt, *refusal, *status, word, text);
     }
-    assert_eq!(rt; Refusal::from(NoMemory {}), Refusal::Unavailable);
+    assert!(rt; Refusal::from(NoMemory {}) == Refusal::Unavailable);
 }

@@ -1,4 +1,5 @@
 //! What a delivery's bytes say at a door.
+use crate::same::same;
 use gate_types::canonical::canonical;
 use gate_types::deliveries::Refusal;
 use gate_wire::{Door, read_delivery};
@@ -23,33 +24,43 @@ pub fn said(alloc: Global, bytes: &[u8], door: Door) -> Result<String, AllocErro
     }
 }
 
-/// Whole texts, and what they say.
-pub fn say(
-    rt: &impl Abort,
-    alloc: Global,
+/// Bytes say this at a door; with a failure `of` is told.
+pub fn bytes_say(
+    rt: &(impl Abort + AllocGlobal),
     door: Door,
-    rows: &[(&str, &str)],
-) -> Result<(), AllocError> {
-    for (text, wanted) in rows {
-        let said = said(alloc, text.as_bytes(), door)?;
-        assert_eq!(rt; said.as_str(), *wanted, "{text}");
-    }
-    Ok(())
+    bytes: &[u8],
+    wanted: &str,
+    of: &str,
+) {
+    let said = said(rt.alloc(), bytes, door).expect(rt, "memory");
+    same(rt, said.as_str(), wanted, of);
 }
 
-/// Members beside a good id, and what the delivery says.
-pub fn say_by(
-    rt: &impl Abort,
-    alloc: Global,
-    door: Door,
-    rows: &[(&str, &str)],
-) -> Result<(), AllocError> {
-    for (members, wanted) in rows {
-        let text = format!(in alloc;
-            "{{\"id\":\"6ba7b810-9dad-11d1-80b4-00c04fd430c8\",{members}}}"
-        )?;
-        let said = said(alloc, text.as_str().as_bytes(), door)?;
-        assert_eq!(rt; said.as_str(), *wanted, "{members}");
+/// A whole text says this at a door.
+pub fn says(rt: &(impl Abort + AllocGlobal), door: Door, text: &str, wanted: &str) {
+    bytes_say(rt, door, text.as_bytes(), wanted, text);
+}
+
+/// Members beside a good id say this at a door.
+pub fn members_say(rt: &(impl Abort + AllocGlobal), door: Door, members: &str, wanted: &str) {
+    let text = format!(in rt.alloc();
+        "{{\"id\":\"6ba7b810-9dad-11d1-80b4-00c04fd430c8\",{members}}}"
+    ).expect(rt, "memory");
+    says(rt, door, text.as_str(), wanted);
+}
+
+/// Each line has a whole text, ` -> ` and what it says at a door.
+pub fn say(rt: &(impl Abort + AllocGlobal), door: Door, table: &str) {
+    for line in table.lines() {
+        let (text, wanted) = line.split_once(" -> ").expect(rt, "a line");
+        says(rt, door, text, wanted);
     }
-    Ok(())
+}
+
+/// Each line has members beside a good id, ` -> ` and what they say at a door.
+pub fn say_by(rt: &(impl Abort + AllocGlobal), door: Door, table: &str) {
+    for line in table.lines() {
+        let (members, wanted) = line.split_once(" -> ").expect(rt, "a line");
+        members_say(rt, door, members, wanted);
+    }
 }

@@ -1,9 +1,9 @@
 //! Settings files, with what they say.
+use crate::same::same;
 use gate_config::read;
 use gate_types::config::Config;
-use std::alloc::{AllocError, Global};
+use std::alloc::Global;
 use std::process::Abort;
-use std::test::Fail;
 
 /// A file with two queues and three projects.
 pub const SETTINGS: &str = r#"
@@ -42,115 +42,74 @@ queue = "web"
 name = "unit"
 "#;
 
-/// The settings, a line a thing.
-fn outline(alloc: Global, config: &Config) -> Result<String, AllocError> {
-    let mut text = format!(in alloc; "base {}\n", config.base.as_str())?;
-    for queue in config.queues.as_slice() {
-        let line = format!(in alloc;
-            "queue {} {} {}\n",
-            queue.name.as_str(),
-            queue.window,
-            queue.floor
-        )?;
-        text.push_str(line.as_str())?;
-    }
-    for project in config.projects.as_slice() {
-        let line = format!(in alloc;
-            "project {} {}\n",
-            project.name.as_str(),
-            project.queue.as_str()
-        )?;
-        text.push_str(line.as_str())?;
-        for job in project.jobs.as_slice() {
-            let line = format!(in alloc; "job {} {}\n", job.name.as_str(), job.voting)?;
-            text.push_str(line.as_str())?;
-        }
-    }
-    Ok(text)
+/// What a settings file says has this text.
+fn has_text(rt: &(impl Abort + AllocGlobal), file: &str, wanted: &str) {
+    let config = read(rt.alloc(), file.as_bytes()).expect(rt, "settings");
+    let text = config.text(rt.alloc()).expect(rt, "memory");
+    same(rt, text.as_str(), wanted, file);
 }
 
 #[test]
-fn reads_what_a_file_says(rt: HostRuntime) -> Result<(), Fail> {
-    let alloc = rt.alloc();
-    let Ok(config) = read(alloc, SETTINGS.as_bytes()) else {
-        return Err(Fail::from("refused"));
-    };
-    let expected = "base https://forge/c/\nqueue core 2 1\nqueue web 2 1\n\
-         project lib core\njob unit true\njob docs false\n\
-         project app core\njob unit true\nproject site web\njob unit true\n";
-    assert_eq!(rt; outline(alloc, &config)?.as_str(), expected);
-    Ok(())
-}
-
-#[test]
-fn a_queue_has_defaults(rt: HostRuntime) -> Result<(), Fail> {
-    let alloc = rt.alloc();
-    let text =
-        "forge = {base = '!'}\nqueue = [{name = 'q'}]\nproject = [{name = 'p/1', queue = 'q', job = [{name = 'j'}]}]";
-    let Ok(config) = read(alloc, text.as_bytes()) else {
-        return Err(Fail::from("refused"));
-    };
-    assert_eq!(rt;
-        outline(alloc, &config)?.as_str(),
-        "base !\nqueue q 20 3\nproject p/1 q\njob j true\n"
-    );
-    Ok(())
-}
-
-/// The settings of a file have this text.
-fn has_text(rt: &impl Abort, alloc: Global, file: &str, text: &str) -> Result<(), Fail> {
-    let Ok(config) = read(alloc, file.as_bytes()) else {
-        return Err(Fail::from("refused"));
-    };
-    assert_eq!(rt; config.text(alloc)?.as_str(), text);
-    Ok(())
-}
-
-#[test]
-fn settings_have_one_text(rt: HostRuntime) -> Result<(), Fail> {
+fn reads_what_a_file_says(rt: HostRuntime) {
     has_text(
         &rt,
-        rt.alloc(),
+        SETTINGS,
+        r#"{"base":"https://forge/c/","projects":[{"jobs":[{"name":"unit","voting":true},{"name":"docs","voting":false}],"name":"lib","queue":"core"},{"jobs":[{"name":"unit","voting":true}],"name":"app","queue":"core"},{"jobs":[{"name":"unit","voting":true}],"name":"site","queue":"web"}],"queues":[{"floor":1,"name":"core","window":2},{"floor":1,"name":"web","window":2}]}"#,
+    );
+}
+
+#[test]
+fn a_queue_has_defaults(rt: HostRuntime) {
+    has_text(
+        &rt,
+        "forge = {base = '!'}\nqueue = [{name = 'q'}]\nproject = [{name = 'p/1', queue = 'q', job = [{name = 'j'}]}]",
+        r#"{"base":"!","projects":[{"jobs":[{"name":"j","voting":true}],"name":"p/1","queue":"q"}],"queues":[{"floor":3,"name":"q","window":20}]}"#,
+    );
+}
+
+#[test]
+fn settings_have_one_text(rt: HostRuntime) {
+    has_text(
+        &rt,
         r#"forge = {base = "https://forge/c/"}
 queue = [{floor = 1, window = 2, name = "core"}]
 project = [{queue = "core", name = "app", job = [{name = "unit"}]}]"#,
         r#"{"base":"https://forge/c/","projects":[{"jobs":[{"name":"unit","voting":true}],"name":"app","queue":"core"}],"queues":[{"floor":1,"name":"core","window":2}]}"#,
-    )
+    );
 }
 
 #[test]
-fn the_text_keeps_the_order_of_the_file(rt: HostRuntime) -> Result<(), Fail> {
+fn the_text_keeps_the_order_of_the_file(rt: HostRuntime) {
     has_text(
         &rt,
-        rt.alloc(),
         r#"forge = {base = '"\'}
 queue = [{name = "z"}, {name = "a", window = 0}]
 project = [{queue = "a", name = "b/c", job = [{name = "y", voting = false}, {name = "x"}]}, {queue = "z", name = "a", job = [{name = "x"}]}]"#,
         r#"{"base":"\"\\","projects":[{"jobs":[{"name":"y","voting":false},{"name":"x","voting":true}],"name":"b/c","queue":"a"},{"jobs":[{"name":"x","voting":true}],"name":"a","queue":"z"}],"queues":[{"floor":3,"name":"z","window":20},{"floor":3,"name":"a","window":0}]}"#,
-    )
+    );
+}
+
+const SMALL: &[u8] =
+    b"forge = {base = 'b'}\nqueue = [{name = 'q'}]\nproject = [{name = 'p', queue = 'q', job = [{name = 'j'}]}]";
+
+/// Whether there is no memory for the text of the settings above, which is this otherwise.
+fn is_refused(rt: &impl Abort, alloc: Global, config: &Config) -> bool {
+    let Ok(text) = config.text(alloc) else {
+        return true;
+    };
+    let wanted =
+        r#"{"base":"b","projects":[{"jobs":[{"name":"j","voting":true}],"name":"p","queue":"q"}],"queues":[{"floor":3,"name":"q","window":20}]}"#;
+    same(rt, text.as_str(), wanted, "the settings");
+    false
 }
 
 /// Passes whichever one allocation is refused: the settings have no text then, or the same.
 #[test]
 fn a_refused_allocation_is_told_by_the_text(rt: HostRuntime) {
-    let alloc = rt.alloc();
-    let Ok(config) = read(
-        alloc,
-        b"forge = {base = 'b'}\nqueue = [{name = 'q'}]\nproject = [{name = 'p', queue = 'q', job = [{name = 'j'}]}]",
-    ) else {
+    let Ok(config) = read(rt.alloc(), SMALL) else {
         return;
     };
-    let mut refused = 0u8;
-    for text in [config.text(alloc), config.text(alloc)] {
-        match text {
-            Ok(text) => assert_eq!(rt;
-                text.as_str(),
-                "{\"base\":\"b\",\
-                 \"projects\":[{\"jobs\":[{\"name\":\"j\",\"voting\":true}],\"name\":\"p\",\"queue\":\"q\"}],\
-                 \"queues\":[{\"floor\":3,\"name\":\"q\",\"window\":20}]}"
-            ),
-            Err(_) => refused = refused.saturating_add(1),
-        }
-    }
-    assert!(rt; refused < 2);
+    let first = is_refused(&rt, rt.alloc(), &config);
+    let second = is_refused(&rt, rt.alloc(), &config);
+    assert!(rt; !first || !second);
 }
