@@ -1,95 +1,82 @@
 //! The build that is due next, worked out by hand from the rules.
-use crate::puts::Put;
-use crate::rows::two_queues;
-use crate::scene::Scene;
-use crate::settings::core_beside_web;
-use gate_types::records::{Outcome, Stage};
-use std::alloc::Global;
-use std::process::Abort;
+use crate::books::{TWO_QUEUES, answers};
+use std::alloc::{AllocError, Global};
 use std::test::Fail;
 
 /// All jobs of the items in the window of `core` have builds, and so has the first item of `web`.
+const FIRST_WAITING: &str = "? next 6
+build 6 web 6 202,1 unit 0 running live : 201,1
+";
+
 #[test]
 fn the_next_build_is_of_the_first_waiting_job(rt: HostRuntime) -> Result<(), Fail> {
-    let build = two_queues(rt.alloc())?.next_text(6)?;
-    assert_eq!(rt; build.as_str(), "6 web 6 202,1 unit 0 running true : 201,1");
-    Ok(())
-}
-
-/// With these rows the next build is of the item with this serial; 0 stands for none.
-fn check_next(rt: &impl Abort, scene: &mut Scene, puts: &[Put], wanted: u64) -> Result<(), Fail> {
-    scene.put(puts)?;
-    assert_eq!(rt; scene.next_serial()?, wanted);
-    Ok(())
+    answers(&rt, rt.alloc(), TWO_QUEUES, FIRST_WAITING)
 }
 
 /// 103 is the third item of `core`. The first of the two in the window is failing, and takes up a place all the same.
+const IN_WINDOW: &str = "? put build 6 web 6 202 1 unit 0 running
+? next 9
+none
+? put window core 3
+? next 9
+build 9 core 5 103,1 unit 1 running live : 102,1
+";
+
 #[test]
 fn a_failing_item_takes_up_a_place_in_the_window(rt: HostRuntime) -> Result<(), Fail> {
-    const RUNNING: [Put; 1] = [Put::Build(6, ("web", 6, 202), "unit", (0, &[]), Outcome::Running)];
-    const WIDER: [Put; 1] = [Put::Window("core", 3)];
-    let mut scene = two_queues(rt.alloc())?;
-    check_next(&rt, &mut scene, &RUNNING, 0)?;
-    check_next(&rt, &mut scene, &WIDER, 5)
+    answers(&rt, rt.alloc(), TWO_QUEUES, IN_WINDOW)
 }
 
 /// What is ahead of 103 is 102 alone, on the one landing of `core`.
+const UNBOUNDED: &str = "? put window core 0
+? next 6
+build 6 core 5 103,1 unit 1 running live : 102,1
+";
+
 #[test]
 fn a_failing_item_stands_in_no_line(rt: HostRuntime) -> Result<(), Fail> {
-    const UNBOUNDED: [Put; 1] = [Put::Window("core", 0)];
-    let mut scene = two_queues(rt.alloc())?;
-    scene.put(&UNBOUNDED)?;
-    let build = scene.next_text(6)?;
-    assert_eq!(rt;
-        build.as_str(),
-        "6 core 5 103,1 unit 1 running true : 102,1"
-    );
-    Ok(())
+    answers(&rt, rt.alloc(), TWO_QUEUES, UNBOUNDED)
 }
 
 /// A job that was lost twice waits again, and one that was lost three times has failed.
+const LOST: &str = "? put build 6 web 6 202 1 unit 0 lost
+? put build 7 web 6 202 1 unit 0 lost
+? next 9
+build 9 web 6 202,1 unit 0 running live : 201,1
+? put build 8 web 6 202 1 unit 0 lost
+? next 9
+none
+";
+
 #[test]
 fn a_lost_job_waits_twice(rt: HostRuntime) -> Result<(), Fail> {
-    const TWICE: [Put; 2] = [
-        Put::Build(6, ("web", 6, 202), "unit", (0, &[]), Outcome::Lost),
-        Put::Build(7, ("web", 6, 202), "unit", (0, &[]), Outcome::Lost),
-    ];
-    const AGAIN: [Put; 1] = [Put::Build(8, ("web", 6, 202), "unit", (0, &[]), Outcome::Lost)];
-    let mut scene = two_queues(rt.alloc())?;
-    check_next(&rt, &mut scene, &TWICE, 6)?;
-    check_next(&rt, &mut scene, &AGAIN, 0)
+    answers(&rt, rt.alloc(), TWO_QUEUES, LOST)
+}
+
+fn tested(alloc: Global, number: u64) -> Result<String, AllocError> {
+    format!(in alloc;
+        "change {number} 1 site open 0\nitem web {number} {number} 1 0 ok\n\
+         build {number} web {number} {number} 1 unit 0 success\n"
+    )
 }
 
 /// A thousand items in `web`, all but the last with a build that has passed.
-fn many(alloc: Global) -> Result<Scene, Fail> {
-    const LAST: [Put; 2] = [
-        Put::Change(1_001, "site", Stage::Open, None),
-        Put::Item("web", 1_001, 1_001, None, false),
-    ];
-    let config = core_beside_web(alloc)?;
-    let mut scene = Scene::empty(alloc, config)?;
+fn many(alloc: Global) -> Result<String, AllocError> {
+    let mut rows = String::new(alloc);
     for number in 2..1_001 {
-        scene.put(&[
-            Put::Change(number, "site", Stage::Open, None),
-            Put::Item("web", number, number, None, false),
-            Put::Build(
-                number,
-                ("web", number, number),
-                "unit",
-                (0, &[]),
-                Outcome::Success,
-            ),
-        ])?;
+        rows.push_str(tested(alloc, number)?.as_str())?;
     }
-    scene.put(&LAST)?;
-    Ok(scene)
+    rows.push_str("change 1001 1 site open 0\nitem web 1001 1001 1 0 ok\n")?;
+    Ok(rows)
 }
 
 /// In `web`, which sets no bound, the build of the last item alone is due.
+const FAR_BEHIND: &str = "? next-size 9
+1001 behind 999
+";
+
 #[test]
 fn a_build_far_behind_is_found(rt: HostRuntime) -> Result<(), Fail> {
-    let mut scene = many(rt.alloc())?;
-    assert_eq!(rt; scene.next_serial()?, 1_001);
-    assert_eq!(rt; scene.next_ahead()?, 999);
-    Ok(())
+    let rows = many(rt.alloc())?;
+    answers(&rt, rt.alloc(), rows.as_str(), FAR_BEHIND)
 }

@@ -4,15 +4,19 @@
 #[cfg(test)]
 mod admissions;
 #[cfg(test)]
+mod asked;
+#[cfg(test)]
+mod books;
+#[cfg(test)]
 mod choices;
 #[cfg(test)]
-mod items;
+mod deliveries;
 #[cfg(test)]
-mod names;
+mod edits;
 #[cfg(test)]
-mod puts;
+mod events;
 #[cfg(test)]
-mod rows;
+mod reading;
 #[cfg(test)]
 mod rulings;
 #[cfg(test)]
@@ -20,13 +24,13 @@ mod scene;
 #[cfg(test)]
 mod settings;
 #[cfg(test)]
-mod settled;
-#[cfg(test)]
 mod settlings;
 #[cfg(test)]
 mod shown;
 #[cfg(test)]
 mod standing;
+#[cfg(test)]
+mod talks;
 #[cfg(test)]
 mod told;
 #[cfg(test)]

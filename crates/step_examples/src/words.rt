@@ -1,5 +1,5 @@
-//! A word for each outcome, verdict, stage, counter and refusal.
-use gate_types::deliveries::Refusal;
+//! A word for each outcome, stage, counter, verdict and refusal, and the first three by their words.
+use gate_types::deliveries::{Ending, Refusal};
 use gate_types::edits::Counter;
 use gate_types::records::{Outcome, Stage, Verdict};
 
@@ -12,15 +12,22 @@ pub fn outcome_word(outcome: Outcome) -> &'static str {
     }
 }
 
-pub fn verdict_word(verdict: Verdict) -> &'static str {
-    match verdict {
-        Verdict::Landed(_) => "landed",
-        Verdict::Failed => "failed",
-        Verdict::Refused => "refused",
-        Verdict::Needs => "needs",
-        Verdict::Superseded => "superseded",
-        Verdict::Withdrawn => "withdrawn",
-        Verdict::Closed => "closed",
+pub fn outcome(word: &str) -> Option<Outcome> {
+    match word {
+        "running" => Some(Outcome::Running),
+        "success" => Some(Outcome::Success),
+        "failure" => Some(Outcome::Failure),
+        "lost" => Some(Outcome::Lost),
+        _ => None,
+    }
+}
+
+pub fn ending(word: &str) -> Option<Ending> {
+    match word {
+        "success" => Some(Ending::Success),
+        "failure" => Some(Ending::Failure),
+        "lost" => Some(Ending::Lost),
+        _ => None,
     }
 }
 
@@ -32,11 +39,41 @@ pub fn stage_word(stage: Stage) -> &'static str {
     }
 }
 
+pub fn stage(word: &str) -> Option<Stage> {
+    match word {
+        "open" => Some(Stage::Open),
+        "landed" => Some(Stage::Landed),
+        "closed" => Some(Stage::Closed),
+        _ => None,
+    }
+}
+
 pub fn counter_word(counter: Counter) -> &'static str {
     match counter {
         Counter::Approval => "approval",
         Counter::Build => "build",
         Counter::Order => "order",
+    }
+}
+
+pub fn counter(word: &str) -> Option<Counter> {
+    match word {
+        "approval" => Some(Counter::Approval),
+        "build" => Some(Counter::Build),
+        "order" => Some(Counter::Order),
+        _ => None,
+    }
+}
+
+pub fn verdict_word(verdict: Verdict) -> &'static str {
+    match verdict {
+        Verdict::Landed(_) => "landed",
+        Verdict::Failed => "failed",
+        Verdict::Refused => "refused",
+        Verdict::Needs => "needs",
+        Verdict::Superseded => "superseded",
+        Verdict::Withdrawn => "withdrawn",
+        Verdict::Closed => "closed",
     }
 }
 
