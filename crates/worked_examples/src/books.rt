@@ -1,72 +1,70 @@
 //! Each conversation is held with two gates: one over a book in memory, and one over the tables of a file.
-use crate::gates::{Queues, gate_after, gate_under, settings_of, tells};
-use crate::talks::{Part, goes_on, has_status};
-use gate_book::book::Book;
+//! Each function holds one gate: what a gate is asked stands in functions over any book.
+use crate::gates::{Queues, gate_after, gate_of, settings_of};
+use crate::talks::goes_on;
 use gate_cache::cached::CachedBook;
 use gate_config::read;
 use gate_core::gate::Gate;
 use gate_sql::book::SqlBook;
+use gate_types::config::Config;
 use gate_types::records::Counters;
-use sqlite::{Connection, MemStore};
-use std::alloc::Global;
+use sqlite::{Alter, Connection};
 use std::process::Abort;
 use std::test::Fail;
 
-/// A gate under these settings, over the tables of a new file, which is kept in memory.
-fn gate_over_tables(
-    alloc: Global,
-    settings: &str,
-) -> Result<Gate<CachedBook<SqlBook<MemStore>>>, Fail> {
-    let config = read(alloc, settings.as_bytes())?;
-    let conn = Connection::open_in_memory(alloc)?;
-    let Ok(book) = SqlBook::create(alloc, conn, &config) else {
-        return Err(Fail::new("no file"));
-    };
-    Ok(Gate::new(config, CachedBook::new(alloc, book)))
+/// The settings of these queues.
+fn config_of(rt: &(impl Abort + AllocGlobal), queues: Queues) -> Config {
+    let settings = settings_of(rt.alloc(), queues).expect(rt, "memory");
+    read(rt.alloc(), settings.as_bytes()).expect(rt, "settings")
+}
+
+/// A gate with these queues, over a book in memory, says all this.
+pub fn goes_in_memory(
+    rt: &(impl Abort + AllocGlobal),
+    queues: Queues,
+    talk: &str,
+) -> Result<(), Fail> {
+    let mut gate = gate_of(rt.alloc(), queues)?;
+    goes_on(rt, &mut gate, talk)
+}
+
+/// A gate with these queues, over the tables of a new file, says all this.
+fn goes_in<S: Alter + Drop>(
+    rt: &(impl Abort + AllocGlobal),
+    conn: Connection<S>,
+    queues: Queues,
+    talk: &str,
+) -> Result<(), Fail> {
+    let config = config_of(rt, queues);
+    let book = SqlBook::create(rt.alloc(), conn, &config)
+        .ok()
+        .expect(rt, "a file");
+    let mut gate = Gate::new(config, CachedBook::new(rt.alloc(), book));
+    goes_on(rt, &mut gate, talk)
+}
+
+/// A gate with these queues, over the tables of a file that is kept in memory, says all this.
+fn goes_over_tables(
+    rt: &(impl Abort + AllocGlobal),
+    queues: Queues,
+    talk: &str,
+) -> Result<(), Fail> {
+    let conn = Connection::open_in_memory(rt.alloc())?;
+    goes_in(rt, conn, queues, talk)
 }
 
 /// Two gates with these queues say all this.
-pub fn goes(rt: &(impl Abort + AllocGlobal), queues: Queues, parts: &[Part]) -> Result<(), Fail> {
-    let settings = settings_of(rt.alloc(), queues)?;
-    let mut gate = gate_under(rt.alloc(), settings.as_str())?;
-    goes_on(rt, &mut gate, parts)?;
-    let mut gate = gate_over_tables(rt.alloc(), settings.as_str())?;
-    goes_on(rt, &mut gate, parts)
+pub fn goes(rt: &(impl Abort + AllocGlobal), queues: Queues, talk: &str) -> Result<(), Fail> {
+    goes_in_memory(rt, queues, talk)?;
+    goes_over_tables(rt, queues, talk)
 }
 
 /// A gate with the queues `core` and `web`, over a book in memory that has drawn these numbers before, says all this.
 pub fn goes_after(
     rt: &(impl Abort + AllocGlobal),
     counters: Counters,
-    parts: &[Part],
+    talk: &str,
 ) -> Result<(), Fail> {
     let mut gate = gate_after(rt.alloc(), counters)?;
-    goes_on(rt, &mut gate, parts)
-}
-
-/// The lines get the answers, and leave the status.
-fn shows_in<B: Book>(
-    rt: &(impl Abort + AllocGlobal),
-    gate: &mut Gate<B>,
-    lines: &str,
-    answers: &str,
-    status: &str,
-) -> Result<(), Fail> {
-    tells(rt, gate, lines, answers)?;
-    has_status(rt, gate, status)
-}
-
-/// The lines get the answers from two gates with these queues, and leave the status.
-pub fn shows(
-    rt: &(impl Abort + AllocGlobal),
-    queues: Queues,
-    lines: &str,
-    answers: &str,
-    status: &str,
-) -> Result<(), Fail> {
-    let settings = settings_of(rt.alloc(), queues)?;
-    let mut gate = gate_under(rt.alloc(), settings.as_str())?;
-    shows_in(rt, &mut gate, lines, answers, status)?;
-    let mut gate = gate_over_tables(rt.alloc(), settings.as_str())?;
-    shows_in(rt, &mut gate, lines, answers, status)
+    goes_on(rt, &mut gate, talk)
 }

@@ -1,186 +1,210 @@
 //! Conversations with a gate, with the answers typed from its rules.
-use crate::books::shows;
-use crate::gates::{CORE, WAITING, approves, fills, new_gate, shows_ends, tells};
+use crate::books::{goes, goes_in_memory};
+use crate::gates::CORE;
 use std::test::Fail;
+
+const EMPTY: &str = r#"
+status
+queue core window 2 landed 0
+end
+"#;
 
 #[test]
 fn the_empty_gate_has_a_queue(rt: HostRuntime) -> Result<(), Fail> {
-    shows(&rt, CORE, "", "", "queue core window 2 landed 0\nend\n")
+    goes(&rt, CORE, EMPTY)
 }
+
+const NO_DELIVERY: &str = r#"
+> nul
+< {"code":"E1","error":"bad-json"}
+>
+< {"code":"E1","error":"bad-json"}
+> {}
+< {"code":"E2","error":"bad-delivery"}
+>> []
+< {"code":"E2","error":"bad-delivery"}
+
+status
+queue core window 2 landed 0
+end
+"#;
 
 #[test]
 fn what_is_no_delivery_is_refused(rt: HostRuntime) -> Result<(), Fail> {
-    shows(
-        &rt,
-        CORE,
-        "nul\n\n{}\n[]",
-        r#"{"code":"E1","error":"bad-json"}
-{"code":"E1","error":"bad-json"}
-{"code":"E2","error":"bad-delivery"}
-{"code":"E2","error":"bad-delivery"}
-"#,
-        "queue core window 2 landed 0\nend\n",
-    )
+    goes(&rt, CORE, NO_DELIVERY)
 }
+
+const REFUSED_AT_FIRST: &str = r#"
+> {"id":"00000000-0000-4000-8000-000000000001","kind":"approved","change":101,"revision":1}
+< {"code":"E5","error":"unknown-change"}
+> {"id":"00000000-0000-4000-8000-000000000002","kind":"revision","change":101,"project":"lib","revision":1,"message":""}
+< {"reply":"recorded"}
+> {"id":"00000000-0000-4000-8000-000000000001","kind":"approved","change":101,"revision":1}
+< {"order":1,"reply":"queued"}
+
+status
+queue core window 2 landed 0
+     1       101    1      - ok      unit=waiting docs=waiting
+end
+"#;
 
 #[test]
 fn a_refused_delivery_does_not_spend_its_id(rt: HostRuntime) -> Result<(), Fail> {
-    shows(
-        &rt,
-        CORE,
-        r#"{"id":"00000000-0000-4000-8000-000000000001","kind":"approved","change":101,"revision":1}
-{"id":"00000000-0000-4000-8000-000000000002","kind":"revision","change":101,"project":"lib","revision":1,"message":""}
-{"id":"00000000-0000-4000-8000-000000000001","kind":"approved","change":101,"revision":1}
-"#,
-        r#"{"code":"E5","error":"unknown-change"}
-{"reply":"recorded"}
-{"order":1,"reply":"queued"}
-"#,
-        "queue core window 2 landed 0\n     1       101    1      - ok      unit=waiting docs=waiting\nend\n",
-    )
+    goes(&rt, CORE, REFUSED_AT_FIRST)
 }
+
+const SENT_TWICE: &str = r#"
+> {"id":"00000000-0000-4000-8000-000000000001","kind":"revision","change":101,"project":"lib","revision":1,"message":""}
+< {"reply":"recorded"}
+> {"id":"00000000-0000-4000-8000-000000000002","kind":"revision","change":102,"project":"app","revision":1,"message":""}
+< {"reply":"recorded"}
+> {"id":"0a000000-0000-4000-8000-000000000002","kind":"approved","change":101,"revision":1}
+< {"order":1,"reply":"queued"}
+> {"id":"0A000000-0000-4000-8000-000000000002","kind":"approved","change":101,"revision":1}
+< {"order":1,"reply":"queued"}
+> {"id":"00000000-0000-4000-8000-000000000003","kind":"approved","change":102,"revision":1}
+< {"order":2,"reply":"queued"}
+
+status
+queue core window 2 landed 0
+     1       101    1      - ok      unit=waiting docs=waiting
+     2       102    1      1 ok      unit=waiting
+end
+"#;
 
 #[test]
 fn a_repeat_gets_the_kept_reply(rt: HostRuntime) -> Result<(), Fail> {
-    shows(
-        &rt,
-        CORE,
-        r#"{"id":"00000000-0000-4000-8000-000000000001","kind":"revision","change":101,"project":"lib","revision":1,"message":""}
-{"id":"00000000-0000-4000-8000-000000000002","kind":"revision","change":102,"project":"app","revision":1,"message":""}
-{"id":"0a000000-0000-4000-8000-000000000002","kind":"approved","change":101,"revision":1}
-{"id":"0A000000-0000-4000-8000-000000000002","kind":"approved","change":101,"revision":1}
-{"id":"00000000-0000-4000-8000-000000000003","kind":"approved","change":102,"revision":1}
-"#,
-        r#"{"reply":"recorded"}
-{"reply":"recorded"}
-{"order":1,"reply":"queued"}
-{"order":1,"reply":"queued"}
-{"order":2,"reply":"queued"}
-"#,
-        "queue core window 2 landed 0\n     1       101    1      - ok      unit=waiting docs=waiting\n     2       102    1      1 ok      unit=waiting\nend\n",
-    )
+    goes(&rt, CORE, SENT_TWICE)
 }
+
+const REUSED_ID: &str = r#"
+> {"id":"00000000-0000-4000-8000-000000000001","kind":"revision","change":101,"project":"lib","revision":1,"message":""}
+< {"reply":"recorded"}
+> {"id":"0a000000-0000-4000-8000-000000000002","kind":"approved","change":101,"revision":1}
+< {"order":1,"reply":"queued"}
+> {"id":"0a000000-0000-4000-8000-000000000002","kind":"approved","change":101,"revision":2}
+< {"code":"E4","error":"id-reused"}
+> {"revision":1,"id":"0A000000000040008000000000000002","x":1,"change":101,"kind":"approved"}
+< {"order":1,"reply":"queued"}
+> {"id":"00000000-0000-4000-8000-000000000001","kind":"approved","change":101,"revision":1}
+< {"code":"E4","error":"id-reused"}
+
+status
+queue core window 2 landed 0
+     1       101    1      - ok      unit=waiting docs=waiting
+end
+"#;
 
 #[test]
 fn an_id_serves_one_delivery(rt: HostRuntime) -> Result<(), Fail> {
-    shows(
-        &rt,
-        CORE,
-        r#"{"id":"00000000-0000-4000-8000-000000000001","kind":"revision","change":101,"project":"lib","revision":1,"message":""}
-{"id":"0a000000-0000-4000-8000-000000000002","kind":"approved","change":101,"revision":1}
-{"id":"0a000000-0000-4000-8000-000000000002","kind":"approved","change":101,"revision":2}
-{"revision":1,"id":"0A000000000040008000000000000002","x":1,"change":101,"kind":"approved"}
-{"id":"00000000-0000-4000-8000-000000000001","kind":"approved","change":101,"revision":1}
-"#,
-        r#"{"reply":"recorded"}
-{"order":1,"reply":"queued"}
-{"code":"E4","error":"id-reused"}
-{"order":1,"reply":"queued"}
-{"code":"E4","error":"id-reused"}
-"#,
-        "queue core window 2 landed 0\n     1       101    1      - ok      unit=waiting docs=waiting\nend\n",
-    )
+    goes(&rt, CORE, REUSED_ID)
 }
 
-const SUPERSEDED: &str =
-    r#"{"id":"00000000-0000-4000-8000-000000000001","kind":"revision","change":101,"project":"lib","revision":1,"message":""}
-{"id":"00000000-0000-4000-8000-000000000002","kind":"revision","change":102,"project":"app","revision":1,"message":""}
-{"id":"00000000-0000-4000-8000-000000000003","kind":"approved","change":101,"revision":1}
-{"id":"00000000-0000-4000-8000-000000000004","kind":"approved","change":102,"revision":1}
-{"id":"00000000-0000-4000-8000-000000000005","kind":"revision","change":101,"project":"lib","revision":2,"message":""}
-{"id":"00000000-0000-4000-8000-000000000006","kind":"approved","change":101,"revision":1}
+const SUPERSEDED: &str = r#"
+> {"id":"00000000-0000-4000-8000-000000000001","kind":"revision","change":101,"project":"lib","revision":1,"message":""}
+< {"reply":"recorded"}
+> {"id":"00000000-0000-4000-8000-000000000002","kind":"revision","change":102,"project":"app","revision":1,"message":""}
+< {"reply":"recorded"}
+> {"id":"00000000-0000-4000-8000-000000000003","kind":"approved","change":101,"revision":1}
+< {"order":1,"reply":"queued"}
+> {"id":"00000000-0000-4000-8000-000000000004","kind":"approved","change":102,"revision":1}
+< {"order":2,"reply":"queued"}
+> {"id":"00000000-0000-4000-8000-000000000005","kind":"revision","change":101,"project":"lib","revision":2,"message":""}
+< {"reply":"recorded"}
+> {"id":"00000000-0000-4000-8000-000000000006","kind":"approved","change":101,"revision":1}
+< {"reply":"stale"}
+
+status
+queue core window 2 landed 0
+     2       102    1      - ok      unit=waiting
+end
+
+>> {"id":"00000000-0000-4000-8000-000000000007","kind":"approved","change":101,"revision":2}
+< {"order":3,"reply":"queued"}
 "#;
 
 #[test]
 fn a_new_revision_supersedes_the_item(rt: HostRuntime) -> Result<(), Fail> {
-    let mut gate = new_gate(rt.alloc())?;
-    tells(
-        &rt,
-        &mut gate,
-        SUPERSEDED,
-        r#"{"reply":"recorded"}
-{"reply":"recorded"}
-{"order":1,"reply":"queued"}
-{"order":2,"reply":"queued"}
-{"reply":"recorded"}
-{"reply":"stale"}
-"#,
-    )?;
-    let status = gate.status(rt.alloc())?;
-    assert_eq!(rt;
-        status.as_str(),
-        "queue core window 2 landed 0\n     2       102    1      - ok      unit=waiting\nend\n"
-    );
-    tells(
-        &rt,
-        &mut gate,
-        r#"{"id":"00000000-0000-4000-8000-000000000007","kind":"approved","change":101,"revision":2}"#,
-        "{\"order\":3,\"reply\":\"queued\"}\n",
-    )?;
-    Ok(())
+    goes(&rt, CORE, SUPERSEDED)
 }
+
+const REFUSED: &str = r#"
+> {"id":"00000000-0000-4000-8000-000000000001","kind":"revision","change":101,"project":"site","revision":2,"message":""}
+< {"code":"E7","error":"unknown-project"}
+> {"id":"00000000-0000-4000-8000-000000000002","kind":"revision","change":101,"project":"lib","revision":2,"message":""}
+< {"reply":"recorded"}
+> {"id":"00000000-0000-4000-8000-000000000003","kind":"revision","change":101,"project":"app","revision":3,"message":""}
+< {"code":"E8","error":"project-changed"}
+> {"id":"00000000-0000-4000-8000-000000000004","kind":"revision","change":101,"project":"lib","revision":1,"message":""}
+< {"reply":"stale"}
+> {"id":"00000000-0000-4000-8000-000000000005","kind":"revision","change":101,"project":"lib","revision":2,"message":""}
+< {"reply":"stale"}
+> {"id":"00000000-0000-4000-8000-000000000006","kind":"approved","change":101,"revision":3}
+< {"code":"E6","error":"unknown-revision"}
+> {"id":"00000000-0000-4000-8000-000000000007","kind":"approved","change":101,"revision":1}
+< {"reply":"stale"}
+> {"id":"00000000-0000-4000-8000-000000000008","kind":"approved","change":103,"revision":1}
+< {"code":"E5","error":"unknown-change"}
+> {"id":"00000000-0000-4000-8000-000000000009","kind":"withdrawn","change":101,"revision":2}
+< {"reply":"stale"}
+> {"id":"00000000-0000-4000-8000-00000000000a","kind":"approved","change":101,"revision":2}
+< {"order":1,"reply":"queued"}
+> {"id":"00000000-0000-4000-8000-00000000000b","kind":"approved","change":101,"revision":2}
+< {"reply":"already"}
+> {"id":"00000000-0000-4000-8000-00000000000c","kind":"revision","change":102,"project":"app","revision":1,"message":"a\n\nDepends-On: https://forge/c/103"}
+< {"reply":"recorded"}
+> {"id":"00000000-0000-4000-8000-00000000000d","kind":"approved","change":102,"revision":1}
+< {"reply":"waiting"}
+
+status
+queue core window 2 landed 0
+     1       101    2      - ok      unit=waiting docs=waiting
+waiting 102 1
+end
+"#;
 
 #[test]
 fn each_refusal_of_a_revision_and_an_approval(rt: HostRuntime) -> Result<(), Fail> {
-    shows(
-        &rt,
-        CORE,
-        r#"{"id":"00000000-0000-4000-8000-000000000001","kind":"revision","change":101,"project":"site","revision":2,"message":""}
-{"id":"00000000-0000-4000-8000-000000000002","kind":"revision","change":101,"project":"lib","revision":2,"message":""}
-{"id":"00000000-0000-4000-8000-000000000003","kind":"revision","change":101,"project":"app","revision":3,"message":""}
-{"id":"00000000-0000-4000-8000-000000000004","kind":"revision","change":101,"project":"lib","revision":1,"message":""}
-{"id":"00000000-0000-4000-8000-000000000005","kind":"revision","change":101,"project":"lib","revision":2,"message":""}
-{"id":"00000000-0000-4000-8000-000000000006","kind":"approved","change":101,"revision":3}
-{"id":"00000000-0000-4000-8000-000000000007","kind":"approved","change":101,"revision":1}
-{"id":"00000000-0000-4000-8000-000000000008","kind":"approved","change":103,"revision":1}
-{"id":"00000000-0000-4000-8000-000000000009","kind":"withdrawn","change":101,"revision":2}
-{"id":"00000000-0000-4000-8000-00000000000a","kind":"approved","change":101,"revision":2}
-{"id":"00000000-0000-4000-8000-00000000000b","kind":"approved","change":101,"revision":2}
-{"id":"00000000-0000-4000-8000-00000000000c","kind":"revision","change":102,"project":"app","revision":1,"message":"a\n\nDepends-On: https://forge/c/103"}
-{"id":"00000000-0000-4000-8000-00000000000d","kind":"approved","change":102,"revision":1}
-"#,
-        r#"{"code":"E7","error":"unknown-project"}
-{"reply":"recorded"}
-{"code":"E8","error":"project-changed"}
-{"reply":"stale"}
-{"reply":"stale"}
-{"code":"E6","error":"unknown-revision"}
-{"reply":"stale"}
-{"code":"E5","error":"unknown-change"}
-{"reply":"stale"}
-{"order":1,"reply":"queued"}
-{"reply":"already"}
-{"reply":"recorded"}
-{"reply":"waiting"}
-"#,
-        "queue core window 2 landed 0\n     1       101    2      - ok      unit=waiting docs=waiting\nwaiting 102 1\nend\n",
-    )
+    goes(&rt, CORE, REFUSED)
 }
+
+const FULL: &str = r#"
+fills lib 1 to 1000
+
+> {"id":"0a000000-0000-4000-8000-000000001001","kind":"revision","change":1001,"project":"lib","revision":1,"message":""}
+< {"reply":"recorded"}
+> {"id":"0b000000-0000-4000-8000-000000001001","kind":"approved","change":1001,"revision":1}
+< {"reply":"waiting"}
+
+status begins
+queue core window 2 landed 0
+     1         1    1      - ok      unit=waiting docs=waiting
+     2         2    1      1 ok      unit=waiting docs=waiting
+
+status ends
+  1000      1000    1    999 ok      unit=waiting docs=waiting
+waiting 1001 1
+end
+
+> {"id":"0c000000-0000-4000-8000-000000000001","kind":"approved","change":1001,"revision":1}
+< {"reply":"already"}
+> {"id":"0c000000-0000-4000-8000-000000000002","kind":"revision","change":1,"project":"lib","revision":2,"message":""}
+< {"reply":"recorded"}
+> {"id":"0c000000-0000-4000-8000-000000000003","kind":"approved","change":1,"revision":2}
+< {"reply":"waiting"}
+
+status begins
+queue core window 2 landed 0
+     2         2    1      - ok      unit=waiting docs=waiting
+     3         3    1      2 ok      unit=waiting docs=waiting
+
+status ends
+  1001      1001    1   1000 ok      unit=waiting docs=waiting
+waiting 1 2
+end
+"#;
 
 #[test]
 fn a_full_queue_lets_the_next_change_wait(rt: HostRuntime) -> Result<(), Fail> {
-    let mut gate = new_gate(rt.alloc())?;
-    fills(&rt, &mut gate, "lib", 1..1001)?;
-    approves(&rt, &mut gate, "lib", 1001, WAITING)?;
-    shows_ends(
-        &rt,
-        &mut gate,
-        "queue core window 2 landed 0\n     1         1    1      - ok      unit=waiting docs=waiting\n     2         2    1      1 ok ",
-        "\n  1000      1000    1    999 ok      unit=waiting docs=waiting\nwaiting 1001 1\nend\n",
-    )?;
-    tells(
-        &rt,
-        &mut gate,
-        r#"{"id":"0c000000-0000-4000-8000-000000000001","kind":"approved","change":1001,"revision":1}
-{"id":"0c000000-0000-4000-8000-000000000002","kind":"revision","change":1,"project":"lib","revision":2,"message":""}
-{"id":"0c000000-0000-4000-8000-000000000003","kind":"approved","change":1,"revision":2}
-"#,
-        "{\"reply\":\"already\"}\n{\"reply\":\"recorded\"}\n{\"reply\":\"waiting\"}\n",
-    )?;
-    shows_ends(
-        &rt,
-        &mut gate,
-        "queue core window 2 landed 0\n     2         2    1      - ok      unit=waiting docs=waiting\n     3         3    1      2 ok ",
-        "\n  1001      1001    1   1000 ok      unit=waiting docs=waiting\nwaiting 1 2\nend\n",
-    )
+    goes_in_memory(&rt, CORE, FULL)
 }

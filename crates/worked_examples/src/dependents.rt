@@ -1,7 +1,6 @@
 //! What leaves a queue with a change that it needs.
 use crate::books::goes;
 use crate::gates::{CORE_AND_WEB, within};
-use crate::talks::Part::{Build, History, Orders, Status, Talk};
 use std::test::Fail;
 
 const NEED_FAILS: &str = r#"
@@ -21,61 +20,45 @@ const NEED_FAILS: &str = r#"
 < {"after":0,"ahead":[[101,1]],"build":3,"change":102,"job":"unit","queue":"core","reply":"build","revision":1}
 > {"id":"00000000-0000-4000-8000-000000000008","kind":"result","build":1,"outcome":"failure"}
 < {"reply":"noted"}
-"#;
 
-const BLOCKED: &str = "queue core window 4 landed 0
+status
+queue core window 4 landed 0
      1       101    1      - failing unit=failure docs=running
      2       102    1      - blocked unit=waiting
 queue web window 2 landed 0
 end
-";
 
-const BUILD_OF_THE_BLOCKED: &str =
-    r#"{"after":0,"ahead":[[101,1]],"build":3,"change":102,"job":"unit","live":false,"outcome":"running","queue":"core","revision":1}"#;
+build 3
+{"after":0,"ahead":[[101,1]],"build":3,"change":102,"job":"unit","live":false,"outcome":"running","queue":"core","revision":1}
 
-const NEED_LEAVES: &str = r#"
 > {"id":"00000000-0000-4000-8000-000000000009","kind":"take","worker":"w1"}
 < {"code":"E12","error":"idle"}
 > {"id":"00000000-0000-4000-8000-000000000010","kind":"result","build":2,"outcome":"success"}
 < {"reply":"noted"}
-"#;
 
-const BOTH_LEFT: &str = "queue core window 2 landed 0
+status
+queue core window 2 landed 0
 queue web window 2 landed 0
 end
-";
 
-const APPROVED_AGAIN: &str = r#"
 > {"id":"00000000-0000-4000-8000-000000000011","kind":"approved","change":102,"revision":1}
 < {"reply":"waiting"}
-"#;
 
-const WAITS_AGAIN: &str = "queue core window 2 landed 0
+status
+queue core window 2 landed 0
 queue web window 2 landed 0
 waiting 102 1
 end
-";
+"#;
 
 /// It gets no more builds before, and the window is halved once, for the failed one.
 #[test]
 fn what_needs_a_failed_change_leaves_with_it(rt: HostRuntime) -> Result<(), Fail> {
-    goes(
-        &rt,
-        within(4, 1),
-        &[
-            Talk(NEED_FAILS),
-            Status(BLOCKED),
-            Build(3, BUILD_OF_THE_BLOCKED),
-            Talk(NEED_LEAVES),
-            Status(BOTH_LEFT),
-            Talk(APPROVED_AGAIN),
-            Status(WAITS_AGAIN),
-        ],
-    )
+    goes(&rt, within(4, 1), NEED_FAILS)
 }
 
 /// Four changes are queued in a window of 4, each of their jobs is given to a worker, and the last needs the second.
-const FOUR_TAKEN: &str = r#"
+const LANDING_BEFORE_A_FAILED_NEED: &str = r#"
 > {"id":"0a000000-0000-4000-8000-000000000001","kind":"revision","change":101,"project":"lib","revision":1,"message":""}
 < {"reply":"recorded"}
 > {"id":"0a000000-0000-4000-8000-000000000002","kind":"revision","change":102,"project":"app","revision":1,"message":""}
@@ -104,23 +87,19 @@ const FOUR_TAKEN: &str = r#"
 < {"after":0,"ahead":[[101,1],[102,1]],"build":5,"change":103,"job":"docs","queue":"core","reply":"build","revision":1}
 > {"id":"0a000000-0000-4000-8000-000000000014","kind":"take","worker":"w1"}
 < {"after":0,"ahead":[[101,1],[102,1],[103,1]],"build":6,"change":104,"job":"unit","queue":"core","reply":"build","revision":1}
-"#;
 
-const SECOND_FAILS: &str = r#"
 > {"id":"0b000000-0000-4000-8000-000000000001","kind":"result","build":3,"outcome":"failure"}
 < {"reply":"noted"}
-"#;
 
-const LAST_BLOCKED: &str = "queue core window 4 landed 0
+status
+queue core window 4 landed 0
      1       101    1      - ok      unit=running docs=running
      2       102    1      1 failing unit=failure
      3       103    1      1 ok      unit=waiting docs=waiting
      4       104    1      3 blocked unit=waiting
 queue web window 2 landed 0
 end
-";
 
-const FIRST_BUILT: &str = r#"
 > {"id":"0b000000-0000-4000-8000-000000000002","kind":"take","worker":"w1"}
 < {"after":0,"ahead":[[101,1]],"build":7,"change":103,"job":"unit","queue":"core","reply":"build","revision":1}
 > {"id":"0b000000-0000-4000-8000-000000000003","kind":"take","worker":"w1"}
@@ -131,54 +110,36 @@ const FIRST_BUILT: &str = r#"
 < {"reply":"noted"}
 > {"id":"0b000000-0000-4000-8000-000000000006","kind":"result","build":2,"outcome":"success"}
 < {"reply":"noted"}
-"#;
 
-const FIRST_LANDS: &str = r#"
 > {"id":"0b000000-0000-4000-8000-000000000007","kind":"landed","order":1}
 < {"n":1,"reply":"landed"}
-"#;
 
-const THIRD_LEFT_ALONE: &str = "queue core window 2 landed 1
+status
+queue core window 2 landed 1
      3       103    1      - ok      unit=running docs=running
 queue web window 2 landed 0
 end
-";
 
-const THIRD_BUILT: &str = r#"
 > {"id":"0b000000-0000-4000-8000-000000000008","kind":"result","build":7,"outcome":"success"}
 < {"reply":"noted"}
 > {"id":"0b000000-0000-4000-8000-000000000009","kind":"result","build":8,"outcome":"success"}
 < {"reply":"noted"}
-"#;
 
-const THIRD_SHOWN: &str =
-    r#"[{"change":103,"order":3,"project":"lib","queue":"core","revision":1}]"#;
+orders
+[{"change":103,"order":3,"project":"lib","queue":"core","revision":1}]
 
-const THREE_LEFT: &str = "history core
+history core
+history core
      1      1       101    1 landed          1
      2      2       102    1 failed          -
      3      4       104    1 needs           -
 end 3
-";
+"#;
 
 /// The failed item leaves, and the last one that needs it; the one between them keeps its builds.
 #[test]
 fn a_landing_lets_those_behind_it_leave(rt: HostRuntime) -> Result<(), Fail> {
-    goes(
-        &rt,
-        within(4, 1),
-        &[
-            Talk(FOUR_TAKEN),
-            Talk(SECOND_FAILS),
-            Status(LAST_BLOCKED),
-            Talk(FIRST_BUILT),
-            Talk(FIRST_LANDS),
-            Status(THIRD_LEFT_ALONE),
-            Talk(THIRD_BUILT),
-            Orders(THIRD_SHOWN),
-            History("core", THREE_LEFT),
-        ],
-    )
+    goes(&rt, within(4, 1), LANDING_BEFORE_A_FAILED_NEED)
 }
 
 const NEED_WITHDRAWN: &str = r#"
@@ -198,20 +159,16 @@ const NEED_WITHDRAWN: &str = r#"
 < {"reply":"removed"}
 > {"id":"00000000-0000-4000-8000-000000000008","kind":"approved","change":101,"revision":1}
 < {"order":4,"reply":"queued"}
-"#;
 
-const NEED_BACK: &str = "queue core window 2 landed 0
+status
+queue core window 2 landed 0
      4       101    1      - ok      unit=waiting docs=waiting
 queue web window 2 landed 0
 end
-";
+"#;
 
 /// And what needs that in turn. They have to be approved again, and the window stays.
 #[test]
 fn what_needs_a_withdrawn_change_leaves_with_it(rt: HostRuntime) -> Result<(), Fail> {
-    goes(
-        &rt,
-        CORE_AND_WEB,
-        &[Talk(NEED_WITHDRAWN), Status(NEED_BACK)],
-    )
+    goes(&rt, CORE_AND_WEB, NEED_WITHDRAWN)
 }

@@ -1,56 +1,53 @@
 //! Failed builds, and items that leave: what is tested again, and without what.
-use crate::beginnings::{FIRST_FAILED, THREE_TAKEN, TWO_TAKEN};
 use crate::books::goes;
 use crate::gates::{CORE_AND_WEB, within};
-use crate::talks::Part::{Build, Status, Talk};
 use std::test::Fail;
 
-const BEYOND_THE_WINDOW: &str = "queue core window 2 landed 0
+const BEYOND_THE_WINDOW: &str = r#"
+tells three taken
+
+status
+queue core window 2 landed 0
      1       101    1      - ok      unit=running docs=running
      2       102    1      1 ok      unit=running
      3       103    1      2 ok      unit=waiting docs=waiting
 queue web window 2 landed 0
 end
-";
+"#;
 
 /// An item beyond the window gets no build, and each build is told what is ahead of it.
 #[test]
 fn jobs_are_given_out_within_the_window(rt: HostRuntime) -> Result<(), Fail> {
-    goes(
-        &rt,
-        CORE_AND_WEB,
-        &[Talk(THREE_TAKEN), Status(BEYOND_THE_WINDOW)],
-    )
+    goes(&rt, CORE_AND_WEB, BEYOND_THE_WINDOW)
 }
 
-const WITHOUT_THE_FIRST: &str = "queue core window 2 landed 0
+/// The build that is shown stopped being live while it ran.
+const WITHOUT_THE_FIRST: &str = r#"
+tells three taken
+
+tells first failed
+
+build 3
+{"after":0,"ahead":[[101,1]],"build":3,"change":102,"job":"unit","live":false,"outcome":"running","queue":"core","revision":1}
+
+status
+queue core window 2 landed 0
      1       101    1      - failing unit=failure docs=running
      2       102    1      - ok      unit=running
      3       103    1      2 ok      unit=waiting docs=waiting
 queue web window 2 landed 0
 end
-";
-
-/// A build that stopped being live while it ran.
-const LATE_BUILD: &str =
-    r#"{"after":0,"ahead":[[101,1]],"build":3,"change":102,"job":"unit","live":false,"outcome":"running","queue":"core","revision":1}"#;
+"#;
 
 /// The item behind the failed one is tested without it, and a result of its old build is stale.
 #[test]
 fn a_failure_resets_the_items_behind_it(rt: HostRuntime) -> Result<(), Fail> {
-    goes(
-        &rt,
-        CORE_AND_WEB,
-        &[
-            Talk(THREE_TAKEN),
-            Talk(FIRST_FAILED),
-            Build(3, LATE_BUILD),
-            Status(WITHOUT_THE_FIRST),
-        ],
-    )
+    goes(&rt, CORE_AND_WEB, WITHOUT_THE_FIRST)
 }
 
 const COMES_BACK: &str = r#"
+tells two taken
+
 > {"id":"0b000000-0000-4000-8000-000000000001","kind":"result","build":1,"outcome":"failure"}
 < {"reply":"noted"}
 > {"id":"0b000000-0000-4000-8000-000000000002","kind":"result","build":3,"outcome":"success"}
@@ -63,93 +60,77 @@ const COMES_BACK: &str = r#"
 < {"reply":"noted"}
 > {"id":"0b000000-0000-4000-8000-000000000006","kind":"approved","change":101,"revision":1}
 < {"order":3,"reply":"queued"}
-"#;
 
-const BEHIND_THE_SECOND: &str = "queue core window 1 landed 0
+status
+queue core window 1 landed 0
      2       102    1      - ok      unit=running
      3       101    1      2 ok      unit=waiting docs=waiting
 queue web window 2 landed 0
 end
-";
+"#;
 
 /// A failed item leaves once all its jobs have ended, and the window is halved.
 #[test]
 fn a_failed_change_comes_back_when_it_is_approved_again(rt: HostRuntime) -> Result<(), Fail> {
-    goes(
-        &rt,
-        CORE_AND_WEB,
-        &[Talk(TWO_TAKEN), Talk(COMES_BACK), Status(BEHIND_THE_SECOND)],
-    )
+    goes(&rt, CORE_AND_WEB, COMES_BACK)
 }
 
-const SECOND_FAILS: &str = r#"
+const FIRST_WITHDRAWN: &str = r#"
+tells two taken
+
 > {"id":"0b000000-0000-4000-8000-000000000001","kind":"result","build":3,"outcome":"failure"}
 < {"reply":"noted"}
-"#;
 
-const SECOND_FAILING: &str = "queue core window 2 landed 0
+status
+queue core window 2 landed 0
      1       101    1      - ok      unit=running docs=running
      2       102    1      1 failing unit=failure
 queue web window 2 landed 0
 end
-";
 
-const FIRST_WITHDRAWN: &str = r#"
 > {"id":"0b000000-0000-4000-8000-000000000002","kind":"withdrawn","change":101,"revision":1}
 < {"reply":"removed"}
 > {"id":"0b000000-0000-4000-8000-000000000003","kind":"take","worker":"w1"}
 < {"after":0,"ahead":[],"build":4,"change":102,"job":"unit","queue":"core","reply":"build","revision":1}
 > {"id":"0b000000-0000-4000-8000-000000000004","kind":"result","build":1,"outcome":"success"}
 < {"reply":"stale"}
-"#;
 
-const SECOND_ALONE: &str = "queue core window 2 landed 0
+status
+queue core window 2 landed 0
      2       102    1      - ok      unit=running
 queue web window 2 landed 0
 end
-";
+"#;
 
 /// A failing item waits for those before it, and is tested anew when one of these is withdrawn, which leaves the
 /// window as it was.
 #[test]
 fn a_withdrawal_resets_the_items_behind_it(rt: HostRuntime) -> Result<(), Fail> {
-    goes(
-        &rt,
-        CORE_AND_WEB,
-        &[
-            Talk(TWO_TAKEN),
-            Talk(SECOND_FAILS),
-            Status(SECOND_FAILING),
-            Talk(FIRST_WITHDRAWN),
-            Status(SECOND_ALONE),
-        ],
-    )
+    goes(&rt, CORE_AND_WEB, FIRST_WITHDRAWN)
 }
 
 const DOCS_FAIL: &str = r#"
+tells two taken
+
 > {"id":"0b000000-0000-4000-8000-000000000001","kind":"result","build":2,"outcome":"failure"}
 < {"reply":"noted"}
-"#;
 
-const DOCS_FAILED: &str = "queue core window 2 landed 0
+status
+queue core window 2 landed 0
      1       101    1      - ok      unit=running docs=failure
      2       102    1      1 ok      unit=running
 queue web window 2 landed 0
 end
-";
+"#;
 
 /// The item behind keeps its build.
 #[test]
 fn a_job_that_does_not_vote_fails_no_item(rt: HostRuntime) -> Result<(), Fail> {
-    goes(
-        &rt,
-        CORE_AND_WEB,
-        &[Talk(TWO_TAKEN), Talk(DOCS_FAIL), Status(DOCS_FAILED)],
-    )
+    goes(&rt, CORE_AND_WEB, DOCS_FAIL)
 }
 
 /// Four changes are queued in a window of 4, and each of their jobs is given to a worker.
-const FOUR_TAKEN: &str = r#"
+const MIDDLE_FAILS: &str = r#"
 > {"id":"0a000000-0000-4000-8000-000000000001","kind":"revision","change":101,"project":"lib","revision":1,"message":""}
 < {"reply":"recorded"}
 > {"id":"0a000000-0000-4000-8000-000000000002","kind":"revision","change":102,"project":"app","revision":1,"message":""}
@@ -178,26 +159,22 @@ const FOUR_TAKEN: &str = r#"
 < {"after":0,"ahead":[[101,1],[102,1]],"build":5,"change":103,"job":"docs","queue":"core","reply":"build","revision":1}
 > {"id":"0a000000-0000-4000-8000-000000000014","kind":"take","worker":"w1"}
 < {"after":0,"ahead":[[101,1],[102,1],[103,1]],"build":6,"change":104,"job":"unit","queue":"core","reply":"build","revision":1}
-"#;
 
-const MIDDLE_FAILS: &str = r#"
 > {"id":"0b000000-0000-4000-8000-000000000001","kind":"result","build":3,"outcome":"failure"}
 < {"reply":"noted"}
-"#;
 
-const BEHIND_THE_MIDDLE: &str = "queue core window 4 landed 0
+status
+queue core window 4 landed 0
      1       101    1      - ok      unit=running docs=running
      2       102    1      1 failing unit=failure
      3       103    1      1 ok      unit=waiting docs=waiting
      4       104    1      3 ok      unit=waiting
 queue web window 2 landed 0
 end
-";
 
-const LAST_BUILD: &str =
-    r#"{"after":0,"ahead":[[101,1],[102,1],[103,1]],"build":6,"change":104,"job":"unit","live":false,"outcome":"running","queue":"core","revision":1}"#;
+build 6
+{"after":0,"ahead":[[101,1],[102,1],[103,1]],"build":6,"change":104,"job":"unit","live":false,"outcome":"running","queue":"core","revision":1}
 
-const BEHIND_BUILT_ANEW: &str = r#"
 > {"id":"0b000000-0000-4000-8000-000000000002","kind":"take","worker":"w1"}
 < {"after":0,"ahead":[[101,1]],"build":7,"change":103,"job":"unit","queue":"core","reply":"build","revision":1}
 > {"id":"0b000000-0000-4000-8000-000000000003","kind":"take","worker":"w1"}
@@ -211,43 +188,26 @@ const BEHIND_BUILT_ANEW: &str = r#"
 /// The last item is tested again too, though the one right ahead of it is the same as before.
 #[test]
 fn a_failure_in_the_middle_resets_all_behind_it(rt: HostRuntime) -> Result<(), Fail> {
-    goes(
-        &rt,
-        within(4, 1),
-        &[
-            Talk(FOUR_TAKEN),
-            Talk(MIDDLE_FAILS),
-            Status(BEHIND_THE_MIDDLE),
-            Build(6, LAST_BUILD),
-            Talk(BEHIND_BUILT_ANEW),
-        ],
-    )
+    goes(&rt, within(4, 1), MIDDLE_FAILS)
 }
 
 const WITHDRAWN_HALF_BUILT: &str = r#"
+tells two taken
+
 > {"id":"0b000000-0000-4000-8000-000000000001","kind":"result","build":1,"outcome":"success"}
 < {"reply":"noted"}
 > {"id":"0b000000-0000-4000-8000-000000000002","kind":"withdrawn","change":101,"revision":1}
 < {"reply":"removed"}
+
+build 1
+{"after":0,"ahead":[],"build":1,"change":101,"job":"unit","live":true,"outcome":"success","queue":"core","revision":1}
+
+build 2
+{"after":0,"ahead":[],"build":2,"change":101,"job":"docs","live":false,"outcome":"running","queue":"core","revision":1}
 "#;
-
-const ENDED_BUILD: &str =
-    r#"{"after":0,"ahead":[],"build":1,"change":101,"job":"unit","live":true,"outcome":"success","queue":"core","revision":1}"#;
-
-const STOPPED_BUILD: &str =
-    r#"{"after":0,"ahead":[],"build":2,"change":101,"job":"docs","live":false,"outcome":"running","queue":"core","revision":1}"#;
 
 /// A build that has ended stays as it is.
 #[test]
 fn what_runs_stops_when_its_item_leaves(rt: HostRuntime) -> Result<(), Fail> {
-    goes(
-        &rt,
-        CORE_AND_WEB,
-        &[
-            Talk(TWO_TAKEN),
-            Talk(WITHDRAWN_HALF_BUILT),
-            Build(1, ENDED_BUILD),
-            Build(2, STOPPED_BUILD),
-        ],
-    )
+    goes(&rt, CORE_AND_WEB, WITHDRAWN_HALF_BUILT)
 }

@@ -1,7 +1,7 @@
 //! Conversations in which a reader, a writer or memory fails.
 use crate::gates::{UNAVAILABLE, new_gate, said, tells};
 use crate::streams::{Failing, Narrow};
-use gate_book::memory::MemBook;
+use gate_book::book::Book;
 use gate_core::fault::IoFault;
 use gate_core::gate::Gate;
 use gate_core::replay::replay;
@@ -35,10 +35,13 @@ const UNKNOWN: &str = "{\"code\":\"E5\",\"error\":\"unknown-change\"}\n";
 
 /// How many lines end within so many bytes.
 fn lines_within(text: &[u8], length: usize) -> usize {
-    text.iter()
-        .take(length)
-        .filter(|byte| **byte == b'\n')
-        .count()
+    let mut lines = 0usize;
+    for byte in text.get(..length).unwrap_or(text) {
+        if *byte == b'\n' {
+            lines = lines.saturating_add(1);
+        }
+    }
+    lines
 }
 
 /// Whether these are the answers to so many lines, each of them whole.
@@ -49,9 +52,9 @@ fn are_answers(written: &[u8], lines: usize) -> bool {
 }
 
 /// The count, and what a writer takes that fails after some bytes.
-fn taken_by(
+fn taken_by<B: Book>(
     alloc: Global,
-    gate: &mut Gate<MemBook>,
+    gate: &mut Gate<B>,
     left: usize,
 ) -> (Result<u64, IoFault>, Vec<u8>) {
     let mut r = Tap::new(LINES.as_bytes());
@@ -66,9 +69,9 @@ fn taken_by(
 }
 
 /// The count, and what is written where a reader fails after some reads of a byte.
-fn written_after(
+fn written_after<B: Book>(
     alloc: Global,
-    gate: &mut Gate<MemBook>,
+    gate: &mut Gate<B>,
     left: usize,
 ) -> (Result<u64, IoFault>, Vec<u8>) {
     let mut r = Tap::new(Failing {
@@ -82,9 +85,9 @@ fn written_after(
 }
 
 /// So many of the lines' ids are spent, and the lines get their answers, new or kept.
-fn continues(
+fn continues<B: Book>(
     rt: &(impl Abort + AllocGlobal),
-    gate: &mut Gate<MemBook>,
+    gate: &mut Gate<B>,
     spent: usize,
 ) -> Result<(), IoFault> {
     for (place, other) in OTHERS.lines().enumerate() {
@@ -94,26 +97,53 @@ fn continues(
     tells(rt, gate, LINES, ANSWERS)
 }
 
+/// The answer after so many bytes is cut, and its delivery stands.
+fn stands_after<B: Book>(
+    rt: &(impl Abort + AllocGlobal),
+    gate: &mut Gate<B>,
+    left: usize,
+) -> Result<(), Fail> {
+    let (count, taken) = taken_by(rt.alloc(), gate, left);
+    let wanted = if left < 91 {
+        Err(IoFault::Write)
+    } else {
+        Ok(4)
+    };
+    assert_eq!(rt; count, wanted, "after {left} bytes");
+    assert_eq!(rt; taken.len(), left);
+    assert!(rt;
+        ANSWERS.as_bytes().starts_with(taken.as_slice()),
+        "after {left} bytes"
+    );
+    let answered = lines_within(ANSWERS.as_bytes(), left);
+    continues(rt, gate, answered.saturating_add(1))?;
+    Ok(())
+}
+
 /// The answers have 91 bytes. The delivery whose answer is cut stands.
 #[test]
 fn after_a_write_error_the_delivery_stands(rt: HostRuntime) -> Result<(), Fail> {
     for left in 0..92 {
         let mut gate = new_gate(rt.alloc())?;
-        let (count, taken) = taken_by(rt.alloc(), &mut gate, left);
-        let wanted = if left < 91 {
-            Err(IoFault::Write)
-        } else {
-            Ok(4)
-        };
-        assert_eq!(rt; count, wanted, "after {left} bytes");
-        assert_eq!(rt; taken.len(), left);
-        assert!(rt;
-            ANSWERS.as_bytes().starts_with(taken.as_slice()),
-            "after {left} bytes"
-        );
-        let answered = lines_within(ANSWERS.as_bytes(), left);
-        continues(&rt, &mut gate, answered.saturating_add(1))?;
+        stands_after(&rt, &mut gate, left)?;
     }
+    Ok(())
+}
+
+/// The line that so many reads cut is new later.
+fn is_new_after<B: Book>(
+    rt: &(impl Abort + AllocGlobal),
+    gate: &mut Gate<B>,
+    left: usize,
+) -> Result<(), Fail> {
+    let (count, written) = written_after(rt.alloc(), gate, left);
+    assert_eq!(rt; count, Err(IoFault::Read), "after {left} reads");
+    let spent = lines_within(LINES.as_bytes(), left);
+    assert!(rt;
+        are_answers(written.as_slice(), spent),
+        "after {left} reads"
+    );
+    continues(rt, gate, spent)?;
     Ok(())
 }
 
@@ -122,41 +152,48 @@ fn after_a_write_error_the_delivery_stands(rt: HostRuntime) -> Result<(), Fail> 
 fn a_line_that_a_read_error_cut_is_new_later(rt: HostRuntime) -> Result<(), Fail> {
     for left in 0..450 {
         let mut gate = new_gate(rt.alloc())?;
-        let (count, written) = written_after(rt.alloc(), &mut gate, left);
-        assert_eq!(rt; count, Err(IoFault::Read), "after {left} reads");
-        let spent = lines_within(LINES.as_bytes(), left);
-        assert!(rt;
-            are_answers(written.as_slice(), spent),
-            "after {left} reads"
-        );
-        continues(&rt, &mut gate, spent)?;
+        is_new_after(&rt, &mut gate, left)?;
     }
     Ok(())
+}
+
+/// Whether memory was refused: the line is answered so, or not at all. Any other answer is the right one.
+fn is_refused<B: Book>(
+    rt: &(impl Abort + AllocGlobal),
+    gate: &mut Gate<B>,
+    line: &str,
+    answer: &str,
+) -> bool {
+    let Ok(written) = said(rt.alloc(), gate, line) else {
+        return true;
+    };
+    if written.as_slice() == UNAVAILABLE.as_bytes() {
+        return true;
+    }
+    assert_eq!(rt; written.as_slice().trim_ascii_end(), answer.as_bytes());
+    false
+}
+
+/// How often memory is refused where each line is told twice.
+fn refusals<B: Book>(rt: &(impl Abort + AllocGlobal), gate: &mut Gate<B>) -> u32 {
+    let mut refused = 0u32;
+    for (line, answer) in LINES.lines().zip(ANSWERS.lines()) {
+        let first = is_refused(rt, gate, line, answer);
+        let again = is_refused(rt, gate, line, answer);
+        refused = refused
+            .saturating_add(u32::from(first))
+            .saturating_add(u32::from(again));
+    }
+    refused
 }
 
 /// Passes whichever one allocation is refused: the line's answer is `unavailable` then, or there
 /// is none, and the line sent again gets the answer.
 #[test]
 fn a_refused_allocation_changes_nothing(rt: HostRuntime) -> Result<(), Fail> {
-    let alloc = rt.alloc();
-    let Ok(mut gate) = new_gate(alloc) else {
+    let Ok(mut gate) = new_gate(rt.alloc()) else {
         return Ok(());
     };
-    let mut refused = 0u32;
-    for (line, answer) in LINES.lines().zip(ANSWERS.lines()) {
-        for _ in 0..2 {
-            match said(alloc, &mut gate, line) {
-                Ok(written) => {
-                    if written.as_slice() == UNAVAILABLE.as_bytes() {
-                        refused = refused.saturating_add(1);
-                    } else {
-                        assert_eq!(rt; written.as_slice().trim_ascii_end(), answer.as_bytes());
-                    }
-                }
-                Err(_) => refused = refused.saturating_add(1),
-            }
-        }
-    }
-    assert!(rt; refused < 2);
+    assert!(rt; refusals(&rt, &mut gate) < 2);
     Ok(())
 }

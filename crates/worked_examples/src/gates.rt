@@ -22,8 +22,6 @@ pub const TOO_LARGE: &str = "{\"error\":\"too-large\"}\n";
 
 pub const RECORDED: &str = "{\"reply\":\"recorded\"}\n";
 
-pub const WAITING: &str = "{\"reply\":\"waiting\"}\n";
-
 /// The projects of the queue `core`.
 const LIB_AND_APP: &str = r#"
 [[project]]
@@ -176,23 +174,10 @@ pub fn tells<B: Book>(
     Ok(())
 }
 
-/// The status begins and ends so.
-pub fn shows_ends(
-    rt: &(impl Abort + AllocGlobal),
-    gate: &mut Gate<MemBook>,
-    front: &str,
-    back: &str,
-) -> Result<(), Fail> {
-    let status = gate.status(rt.alloc())?;
-    assert!(rt; status.as_str().starts_with(front));
-    assert!(rt; status.as_str().ends_with(back));
-    Ok(())
-}
-
 /// A change becomes known and approved, and its approval gets this answer.
-pub fn approves(
+fn approves<B: Book>(
     rt: &(impl Abort + AllocGlobal),
-    gate: &mut Gate<MemBook>,
+    gate: &mut Gate<B>,
     project: &str,
     change: u32,
     answer: &str,
@@ -208,9 +193,9 @@ pub fn approves(
 }
 
 /// These changes are queued, each under its number as its order.
-pub fn fills(
+pub fn fills<B: Book>(
     rt: &(impl Abort + AllocGlobal),
-    gate: &mut Gate<MemBook>,
+    gate: &mut Gate<B>,
     project: &str,
     changes: Range<u32>,
 ) -> Result<(), Fail> {

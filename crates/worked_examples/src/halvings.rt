@@ -1,7 +1,6 @@
 //! What halves a window, and what does not.
 use crate::books::goes;
 use crate::gates::within;
-use crate::talks::Part::{Status, Talk};
 use std::test::Fail;
 
 const ONE_REFUSED: &str = r#"
@@ -27,43 +26,32 @@ const ONE_REFUSED: &str = r#"
 < {"reply":"noted"}
 > {"id":"00000000-0000-4000-8000-000000000011","kind":"refused","order":1}
 < {"reply":"removed"}
-"#;
 
-const HALVED: &str = "queue core window 2 landed 0
+status
+queue core window 2 landed 0
      2       104    1      - ok      unit=waiting
      3       105    1      2 ok      unit=waiting
      4       106    1      3 ok      unit=waiting
 queue web window 2 landed 0
 end
-";
 
-const TAKEN_BACK: &str = r#"
 > {"id":"00000000-0000-4000-8000-000000000012","kind":"withdrawn","change":104,"revision":1}
 < {"reply":"removed"}
 > {"id":"00000000-0000-4000-8000-000000000013","kind":"closed","change":105,"revision":1}
 < {"reply":"removed"}
 > {"id":"00000000-0000-4000-8000-000000000014","kind":"revision","change":106,"project":"app","revision":2,"message":""}
 < {"reply":"recorded"}
-"#;
 
-const NOT_HALVED: &str = "queue core window 2 landed 0
+status
+queue core window 2 landed 0
 queue web window 2 landed 0
 end
-";
+"#;
 
 /// A refused order halves it; a withdrawal, a closing or a new revision does not.
 #[test]
 fn what_is_taken_back_leaves_the_window_as_it_is(rt: HostRuntime) -> Result<(), Fail> {
-    goes(
-        &rt,
-        within(4, 1),
-        &[
-            Talk(ONE_REFUSED),
-            Status(HALVED),
-            Talk(TAKEN_BACK),
-            Status(NOT_HALVED),
-        ],
-    )
+    goes(&rt, within(4, 1), ONE_REFUSED)
 }
 
 const TWO_FAIL: &str = r#"
@@ -101,9 +89,9 @@ const TWO_FAIL: &str = r#"
 < {"after":0,"ahead":[[102,1]],"build":4,"change":106,"job":"unit","queue":"core","reply":"build","revision":1}
 > {"id":"00000000-0000-4000-8000-000000000017","kind":"take","worker":"w1"}
 < {"after":0,"ahead":[[102,1],[106,1]],"build":5,"change":107,"job":"unit","queue":"core","reply":"build","revision":1}
-"#;
 
-const TWO_FAILING: &str = "queue core window 5 landed 0
+status
+queue core window 5 landed 0
      1       102    1      - ok      unit=running
      2       104    1      1 failing unit=failure
      3       105    1      1 failing unit=failure
@@ -111,34 +99,23 @@ const TWO_FAILING: &str = "queue core window 5 landed 0
      5       107    1      4 ok      unit=running
 queue web window 2 landed 0
 end
-";
 
-const FIRST_OF_FIVE_LANDS: &str = r#"
 > {"id":"00000000-0000-4000-8000-000000000018","kind":"result","build":1,"outcome":"success"}
 < {"reply":"noted"}
 > {"id":"00000000-0000-4000-8000-000000000019","kind":"landed","order":1}
 < {"n":1,"reply":"landed"}
-"#;
 
-const GROWN_AND_HALVED_TWICE: &str = "queue core window 1 landed 1
+status
+queue core window 1 landed 1
      4       106    1      - ok      unit=running
      5       107    1      4 ok      unit=running
 queue web window 2 landed 0
 end
-";
+"#;
 
 /// The window grows from 5 to 6 first, and is then halved for each failed item that leaves. The last item is beyond it
 /// then, and keeps its build.
 #[test]
 fn a_landing_may_halve_the_window_twice(rt: HostRuntime) -> Result<(), Fail> {
-    goes(
-        &rt,
-        within(5, 1),
-        &[
-            Talk(TWO_FAIL),
-            Status(TWO_FAILING),
-            Talk(FIRST_OF_FIVE_LANDS),
-            Status(GROWN_AND_HALVED_TWICE),
-        ],
-    )
+    goes(&rt, within(5, 1), TWO_FAIL)
 }

@@ -34,6 +34,8 @@ mod needs;
 #[cfg(test)]
 mod orders;
 #[cfg(test)]
+mod parts;
+#[cfg(test)]
 mod queues;
 #[cfg(test)]
 mod refusals;

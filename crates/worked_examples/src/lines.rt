@@ -1,7 +1,8 @@
 //! How the input is cut into lines.
 use crate::gates::{BAD_JSON, TOO_LARGE, new_gate};
 use crate::streams::Failing;
-use gate_core::fault::IoFault;
+use gate_book::book::Book;
+use gate_core::gate::Gate;
 use gate_core::replay::replay;
 use gate_types::tap::Tap;
 use std::alloc::Global;
@@ -18,12 +19,50 @@ const OUTPUT: &str = r#"{"code":"E2","error":"bad-delivery"}
 "#;
 
 /// The number of lines, and what is written.
-fn answered<R: Read + Drop>(alloc: Global, input: R) -> Result<(u64, Vec<u8>), Fail> {
-    let mut gate = new_gate(alloc)?;
+fn answered<B: Book, R: Read + Drop>(
+    alloc: Global,
+    gate: &mut Gate<B>,
+    input: R,
+) -> Result<(u64, Vec<u8>), Fail> {
     let mut r = Tap::new(input);
     let mut w = Tap::new(Vec::new(alloc));
-    let count = replay(alloc, &mut gate, &mut r, &mut w)?;
+    let count = replay(alloc, gate, &mut r, &mut w)?;
     Ok((count, w.into_inner()))
+}
+
+/// The gate reads so many lines, and gives these answers.
+fn reads<B: Book>(
+    rt: &(impl Abort + AllocGlobal),
+    gate: &mut Gate<B>,
+    input: &[u8],
+    lines: u64,
+    answers: &str,
+) -> Result<(), Fail> {
+    let (count, written) = answered(rt.alloc(), gate, input)?;
+    assert_eq!(rt; count, lines);
+    assert_eq!(rt; written.as_slice(), answers.as_bytes());
+    Ok(())
+}
+
+/// The gate reads the lines, and gives their answers, where a read gives so many bytes.
+fn reads_by<B: Book>(
+    rt: &(impl Abort + AllocGlobal),
+    gate: &mut Gate<B>,
+    step: usize,
+) -> Result<(), Fail> {
+    let reader = Failing {
+        bytes: INPUT.as_slice(),
+        step,
+        left: 20,
+    };
+    let (count, written) = answered(rt.alloc(), gate, reader)?;
+    assert_eq!(rt; count, 4, "{step} bytes a read");
+    assert_eq!(rt;
+        written.as_slice(),
+        OUTPUT.as_bytes(),
+        "{step} bytes a read"
+    );
+    Ok(())
 }
 
 /// The input has so many lines, with these answers.
@@ -33,10 +72,8 @@ fn has_lines(
     lines: u64,
     answers: &str,
 ) -> Result<(), Fail> {
-    let (count, written) = answered(rt.alloc(), input)?;
-    assert_eq!(rt; count, lines);
-    assert_eq!(rt; written.as_slice(), answers.as_bytes());
-    Ok(())
+    let mut gate = new_gate(rt.alloc())?;
+    reads(rt, &mut gate, input, lines, answers)
 }
 
 #[test]
@@ -57,18 +94,8 @@ fn an_empty_line_is_no_json(rt: HostRuntime) -> Result<(), Fail> {
 #[test]
 fn few_bytes_a_read_change_nothing(rt: HostRuntime) -> Result<(), Fail> {
     for step in 1..6 {
-        let reader = Failing {
-            bytes: INPUT.as_slice(),
-            step,
-            left: 20,
-        };
-        let (count, written) = answered(rt.alloc(), reader)?;
-        assert_eq!(rt; count, 4, "{step} bytes a read");
-        assert_eq!(rt;
-            written.as_slice(),
-            OUTPUT.as_bytes(),
-            "{step} bytes a read"
-        );
+        let mut gate = new_gate(rt.alloc())?;
+        reads_by(&rt, &mut gate, step)?;
     }
     Ok(())
 }

@@ -1,11 +1,10 @@
 //! Lost builds: a job is tried three times.
-use crate::beginnings::TWO_TAKEN;
 use crate::books::goes;
 use crate::gates::CORE_AND_WEB;
-use crate::talks::Part::{Build, Status, Talk};
 use std::test::Fail;
 
-const LOST_TWICE: &str = r#"
+/// Only what runs stops being live when its item leaves: the last build stays so.
+const LOST_THREE_TIMES: &str = r#"
 > {"id":"00000000-0000-4000-8000-000000000001","kind":"revision","change":102,"project":"app","revision":1,"message":""}
 < {"reply":"recorded"}
 > {"id":"00000000-0000-4000-8000-000000000002","kind":"approved","change":102,"revision":1}
@@ -20,47 +19,36 @@ const LOST_TWICE: &str = r#"
 < {"reply":"noted"}
 > {"id":"00000000-0000-4000-8000-000000000007","kind":"take","worker":"w1"}
 < {"after":0,"ahead":[],"build":3,"change":102,"job":"unit","queue":"core","reply":"build","revision":1}
-"#;
 
-const THIRD_TRY: &str = "queue core window 2 landed 0
+status
+queue core window 2 landed 0
      1       102    1      - ok      unit=running
 queue web window 2 landed 0
 end
-";
 
-const LOST_AGAIN: &str = r#"
 > {"id":"00000000-0000-4000-8000-000000000008","kind":"result","build":3,"outcome":"lost"}
 < {"reply":"noted"}
 > {"id":"00000000-0000-4000-8000-000000000009","kind":"take","worker":"w1"}
 < {"code":"E12","error":"idle"}
-"#;
 
-const NO_ITEM_AND_WINDOW_1: &str = "queue core window 1 landed 0
+status
+queue core window 1 landed 0
 queue web window 2 landed 0
 end
-";
 
-/// Only what runs stops being live when its item leaves.
-const LOST_BUILD: &str =
-    r#"{"after":0,"ahead":[],"build":3,"change":102,"job":"unit","live":true,"outcome":"lost","queue":"core","revision":1}"#;
+build 3
+{"after":0,"ahead":[],"build":3,"change":102,"job":"unit","live":true,"outcome":"lost","queue":"core","revision":1}
+"#;
 
 /// A job whose build is lost waits again; the third loss fails it.
 #[test]
 fn a_lost_build_is_tried_three_times(rt: HostRuntime) -> Result<(), Fail> {
-    goes(
-        &rt,
-        CORE_AND_WEB,
-        &[
-            Talk(LOST_TWICE),
-            Status(THIRD_TRY),
-            Talk(LOST_AGAIN),
-            Status(NO_ITEM_AND_WINDOW_1),
-            Build(3, LOST_BUILD),
-        ],
-    )
+    goes(&rt, CORE_AND_WEB, LOST_THREE_TIMES)
 }
 
 const LOST_ON_TWO_LINES: &str = r#"
+tells two taken
+
 > {"id":"0b000000-0000-4000-8000-000000000001","kind":"result","build":3,"outcome":"lost"}
 < {"reply":"noted"}
 > {"id":"0b000000-0000-4000-8000-000000000002","kind":"take","worker":"w1"}
@@ -75,25 +63,17 @@ const LOST_ON_TWO_LINES: &str = r#"
 < {"reply":"noted"}
 > {"id":"0b000000-0000-4000-8000-000000000007","kind":"take","worker":"w1"}
 < {"after":0,"ahead":[],"build":6,"change":102,"job":"unit","queue":"core","reply":"build","revision":1}
-"#;
 
-const STILL_TRIED: &str = "queue core window 2 landed 0
+status
+queue core window 2 landed 0
      1       101    1      - failing unit=failure docs=running
      2       102    1      - ok      unit=running
 queue web window 2 landed 0
 end
-";
+"#;
 
 /// Two builds are lost behind a change, and one without it: the job is tried again.
 #[test]
 fn losses_with_other_changes_ahead_do_not_count(rt: HostRuntime) -> Result<(), Fail> {
-    goes(
-        &rt,
-        CORE_AND_WEB,
-        &[
-            Talk(TWO_TAKEN),
-            Talk(LOST_ON_TWO_LINES),
-            Status(STILL_TRIED),
-        ],
-    )
+    goes(&rt, CORE_AND_WEB, LOST_ON_TWO_LINES)
 }

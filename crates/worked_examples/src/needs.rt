@@ -1,7 +1,6 @@
 //! Changes that need others, and when they enter their queue.
 use crate::books::goes;
 use crate::gates::CORE_AND_WEB;
-use crate::talks::Part::{Status, Talk};
 use std::test::Fail;
 
 const NEEDS_THE_FIRST: &str = r#"
@@ -17,23 +16,19 @@ const NEEDS_THE_FIRST: &str = r#"
 < {"reply":"waiting"}
 > {"id":"00000000-0000-4000-8000-000000000005","kind":"approved","change":102,"revision":1}
 < {"reply":"already"}
-"#;
 
-const NEED_AHEAD: &str = "queue core window 2 landed 0
+status
+queue core window 2 landed 0
      1       101    1      - ok      unit=waiting docs=waiting
      2       102    1      1 ok      unit=waiting
 queue web window 2 landed 0
 end
-";
+"#;
 
 /// It follows what it needs into the queue. Its first reply is kept: it waited then.
 #[test]
 fn a_change_waits_for_what_it_needs(rt: HostRuntime) -> Result<(), Fail> {
-    goes(
-        &rt,
-        CORE_AND_WEB,
-        &[Talk(NEEDS_THE_FIRST), Status(NEED_AHEAD)],
-    )
+    goes(&rt, CORE_AND_WEB, NEEDS_THE_FIRST)
 }
 
 const NEEDED_BY_ALL: &str = r#"
@@ -53,25 +48,21 @@ const NEEDED_BY_ALL: &str = r#"
 < {"reply":"waiting"}
 > {"id":"00000000-0000-4000-8000-000000000008","kind":"approved","change":101,"revision":1}
 < {"order":1,"reply":"queued"}
-"#;
 
-const ALL_ENTERED: &str = "queue core window 2 landed 0
+status
+queue core window 2 landed 0
      1       101    1      - ok      unit=waiting docs=waiting
      2       103    1      1 ok      unit=waiting docs=waiting
      3       102    1      2 ok      unit=waiting
      4       104    1      3 ok      unit=waiting
 queue web window 2 landed 0
 end
-";
+"#;
 
 /// Again and again the first change that may enters, in order of approval.
 #[test]
 fn one_approval_may_let_many_in(rt: HostRuntime) -> Result<(), Fail> {
-    goes(
-        &rt,
-        CORE_AND_WEB,
-        &[Talk(NEEDED_BY_ALL), Status(ALL_ENTERED)],
-    )
+    goes(&rt, CORE_AND_WEB, NEEDED_BY_ALL)
 }
 
 const IN_CIRCLES: &str = r#"
@@ -101,24 +92,20 @@ const IN_CIRCLES: &str = r#"
 < {"reply":"already"}
 > {"id":"00000000-0000-4000-8000-000000000013","kind":"approved","change":203,"revision":1}
 < {"reply":"already"}
-"#;
 
-const WAITING_FOR_GOOD: &str = "queue core window 3 landed 1
+status
+queue core window 3 landed 1
 queue web window 2 landed 0
 waiting 201 1
 waiting 202 1
 waiting 203 1
 end
-";
+"#;
 
 /// So does one that needs itself; others land meanwhile.
 #[test]
 fn changes_that_need_each_other_wait_for_good(rt: HostRuntime) -> Result<(), Fail> {
-    goes(
-        &rt,
-        CORE_AND_WEB,
-        &[Talk(IN_CIRCLES), Status(WAITING_FOR_GOOD)],
-    )
+    goes(&rt, CORE_AND_WEB, IN_CIRCLES)
 }
 
 const NEEDED_IN_ANOTHER_QUEUE: &str = r#"
@@ -138,37 +125,26 @@ const NEEDED_IN_ANOTHER_QUEUE: &str = r#"
 < {"reply":"noted"}
 > {"id":"00000000-0000-4000-8000-000000000008","kind":"result","build":2,"outcome":"success"}
 < {"reply":"noted"}
-"#;
 
-const STANDS_IN_ANOTHER_QUEUE: &str = "queue core window 2 landed 0
+status
+queue core window 2 landed 0
      1       101    1      - ok      unit=success docs=success
 queue web window 2 landed 0
 waiting 301 1
 end
-";
 
-const NEED_LANDS: &str = r#"
 > {"id":"00000000-0000-4000-8000-000000000009","kind":"landed","order":1}
 < {"n":1,"reply":"landed"}
-"#;
 
-const ENTERED_AFTER_THE_LANDING: &str = "queue core window 3 landed 1
+status
+queue core window 3 landed 1
 queue web window 2 landed 0
      2       301    1      - ok      unit=waiting
 end
-";
+"#;
 
 /// That it stands in its own queue is not enough.
 #[test]
 fn a_need_in_another_queue_lands_first(rt: HostRuntime) -> Result<(), Fail> {
-    goes(
-        &rt,
-        CORE_AND_WEB,
-        &[
-            Talk(NEEDED_IN_ANOTHER_QUEUE),
-            Status(STANDS_IN_ANOTHER_QUEUE),
-            Talk(NEED_LANDS),
-            Status(ENTERED_AFTER_THE_LANDING),
-        ],
-    )
+    goes(&rt, CORE_AND_WEB, NEEDED_IN_ANOTHER_QUEUE)
 }

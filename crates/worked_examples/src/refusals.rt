@@ -1,7 +1,6 @@
 //! Each refusal of a delivery, and what is stale.
 use crate::books::goes;
 use crate::gates::CORE_AND_WEB;
-use crate::talks::Part::{Orders, Status, Talk};
 use std::test::Fail;
 
 const QUEUED_AND_BACK: &str = r#"
@@ -41,22 +40,18 @@ const QUEUED_AND_BACK: &str = r#"
 < {"reply":"recorded"}
 > {"id":"00000000-0000-4000-8000-000000000018","kind":"approved","change":101,"revision":3}
 < {"order":3,"reply":"queued"}
-"#;
 
-const THIRD_TIME: &str = "queue core window 2 landed 0
+status
+queue core window 2 landed 0
      3       101    3      - ok      unit=waiting docs=waiting
 queue web window 2 landed 0
 end
-";
+"#;
 
 /// A closed change is opened by its next revision alone.
 #[test]
 fn withdrawing_and_closing_a_queued_change(rt: HostRuntime) -> Result<(), Fail> {
-    goes(
-        &rt,
-        CORE_AND_WEB,
-        &[Talk(QUEUED_AND_BACK), Status(THIRD_TIME)],
-    )
+    goes(&rt, CORE_AND_WEB, QUEUED_AND_BACK)
 }
 
 const WAITED_AND_BACK: &str = r#"
@@ -86,67 +81,40 @@ const WAITED_AND_BACK: &str = r#"
 < {"reply":"waiting"}
 > {"id":"00000000-0000-4000-8000-000000000013","kind":"revision","change":104,"project":"app","revision":2,"message":""}
 < {"reply":"recorded"}
-"#;
 
-const NOTHING_WAITS: &str = "queue core window 2 landed 0
+status
+queue core window 2 landed 0
 queue web window 2 landed 0
 end
-";
+"#;
 
 /// A change that stands nowhere can be closed, and not withdrawn; a new revision waits nowhere.
 #[test]
 fn withdrawing_and_closing_a_waiting_change(rt: HostRuntime) -> Result<(), Fail> {
-    goes(
-        &rt,
-        CORE_AND_WEB,
-        &[Talk(WAITED_AND_BACK), Status(NOTHING_WAITS)],
-    )
+    goes(&rt, CORE_AND_WEB, WAITED_AND_BACK)
 }
 
 const BUILT_AND_LANDED: &str = r#"
-> {"id":"00000000-0000-4000-8000-000000000001","kind":"take","worker":"w1"}
-< {"code":"E12","error":"idle"}
-> {"id":"00000000-0000-4000-8000-000000000002","kind":"result","build":1,"outcome":"success"}
-< {"code":"E11","error":"unknown-build"}
-> {"id":"00000000-0000-4000-8000-000000000003","kind":"landed","order":1}
-< {"code":"E10","error":"no-order"}
-> {"id":"00000000-0000-4000-8000-000000000004","kind":"refused","order":1}
-< {"code":"E10","error":"no-order"}
-> {"id":"00000000-0000-4000-8000-000000000005","kind":"revision","change":102,"project":"app","revision":1,"message":""}
-< {"reply":"recorded"}
-> {"id":"00000000-0000-4000-8000-000000000006","kind":"approved","change":102,"revision":1}
-< {"order":1,"reply":"queued"}
-> {"id":"00000000-0000-4000-8000-000000000007","kind":"landed","order":1}
-< {"code":"E10","error":"no-order"}
-> {"id":"00000000-0000-4000-8000-000000000008","kind":"take","worker":"w1"}
-< {"after":0,"ahead":[],"build":1,"change":102,"job":"unit","queue":"core","reply":"build","revision":1}
-> {"id":"00000000-0000-4000-8000-000000000009","kind":"take","worker":"w1"}
-< {"code":"E12","error":"idle"}
-> {"id":"00000000-0000-4000-8000-000000000010","kind":"landed","order":1}
-< {"code":"E10","error":"no-order"}
-> {"id":"00000000-0000-4000-8000-000000000011","kind":"result","build":2,"outcome":"success"}
-< {"code":"E11","error":"unknown-build"}
-> {"id":"00000000-0000-4000-8000-000000000012","kind":"result","build":1,"outcome":"success"}
-< {"reply":"noted"}
-> {"id":"00000000-0000-4000-8000-000000000013","kind":"result","build":1,"outcome":"failure"}
-< {"reply":"stale"}
-> {"id":"00000000-0000-4000-8000-000000000014","kind":"landed","order":2}
-< {"code":"E10","error":"no-order"}
-> {"id":"00000000-0000-4000-8000-000000000015","kind":"refused","order":2}
-< {"code":"E10","error":"no-order"}
-> {"id":"00000000-0000-4000-8000-000000000016","kind":"landed","order":1}
-< {"n":1,"reply":"landed"}
-> {"id":"00000000-0000-4000-8000-000000000017","kind":"result","build":1,"outcome":"success"}
-< {"reply":"stale"}
-> {"id":"00000000-0000-4000-8000-000000000018","kind":"landed","order":1}
-< {"code":"E10","error":"no-order"}
-> {"id":"00000000-0000-4000-8000-000000000019","kind":"refused","order":1}
-< {"code":"E10","error":"no-order"}
-> {"id":"00000000-0000-4000-8000-000000000020","kind":"take","worker":"w1"}
-< {"code":"E12","error":"idle"}
+tells one landed
+
+orders
+[]
+
+status
+queue core window 3 landed 1
+queue web window 2 landed 0
+end
 "#;
 
+/// Each build has one result, and each order one answer.
+#[test]
+fn building_and_landing_a_change(rt: HostRuntime) -> Result<(), Fail> {
+    goes(&rt, CORE_AND_WEB, BUILT_AND_LANDED)
+}
+
 const LANDED_FOR_GOOD: &str = r#"
+tells one landed
+
 > {"id":"00000000-0000-4000-8000-000000000021","kind":"revision","change":102,"project":"app","revision":2,"message":""}
 < {"reply":"stale"}
 > {"id":"00000000-0000-4000-8000-000000000022","kind":"approved","change":102,"revision":1}
@@ -165,33 +133,15 @@ const LANDED_FOR_GOOD: &str = r#"
 < {"code":"E6","error":"unknown-revision"}
 > {"id":"00000000-0000-4000-8000-000000000029","kind":"closed","change":102,"revision":2}
 < {"code":"E6","error":"unknown-revision"}
-"#;
 
-const ONE_LANDED: &str = "queue core window 3 landed 1
+status
+queue core window 3 landed 1
 queue web window 2 landed 0
 end
-";
-
-/// Each build has one result, and each order one answer.
-#[test]
-fn building_and_landing_a_change(rt: HostRuntime) -> Result<(), Fail> {
-    goes(
-        &rt,
-        CORE_AND_WEB,
-        &[Talk(BUILT_AND_LANDED), Orders("[]"), Status(ONE_LANDED)],
-    )
-}
+"#;
 
 /// Whatever is said of it is stale or refused.
 #[test]
 fn a_landed_change_has_landed_for_good(rt: HostRuntime) -> Result<(), Fail> {
-    goes(
-        &rt,
-        CORE_AND_WEB,
-        &[
-            Talk(BUILT_AND_LANDED),
-            Talk(LANDED_FOR_GOOD),
-            Status(ONE_LANDED),
-        ],
-    )
+    goes(&rt, CORE_AND_WEB, LANDED_FOR_GOOD)
 }

@@ -1,6 +1,6 @@
 //! Memory is refused once, wherever it may be.
 use crate::gates::{UNAVAILABLE, new_gate, said};
-use gate_book::memory::MemBook;
+use gate_book::book::Book;
 use gate_core::gate::Gate;
 use std::alloc::Global;
 use std::process::Abort;
@@ -53,7 +53,7 @@ end
 ";
 
 /// The status, asked for again where memory is refused.
-fn shown(alloc: Global, gate: &mut Gate<MemBook>) -> Option<String> {
+fn shown<B: Book>(alloc: Global, gate: &mut Gate<B>) -> Option<String> {
     match gate.status(alloc) {
         Ok(status) => Some(status),
         Err(_) => gate.status(alloc).ok(),
@@ -61,9 +61,9 @@ fn shown(alloc: Global, gate: &mut Gate<MemBook>) -> Option<String> {
 }
 
 /// Whether the line is answered: where it isn't, memory was refused.
-fn is_answered(
+fn is_answered<B: Book>(
     rt: &(impl Abort + AllocGlobal),
-    gate: &mut Gate<MemBook>,
+    gate: &mut Gate<B>,
     line: &str,
     answer: &str,
 ) -> bool {
@@ -78,9 +78,9 @@ fn is_answered(
 }
 
 /// The line is answered, at once or after a refusal that left the status as it was. Gives the number of refusals.
-fn is_answered_in_the_end(
+fn is_answered_in_the_end<B: Book>(
     rt: &(impl Abort + AllocGlobal),
-    gate: &mut Gate<MemBook>,
+    gate: &mut Gate<B>,
     line: &str,
     answer: &str,
     status: &Option<String>,
@@ -94,7 +94,7 @@ fn is_answered_in_the_end(
 }
 
 /// All lines are answered, and their repeats. Gives the number of refusals.
-pub fn refusals(rt: &(impl Abort + AllocGlobal), gate: &mut Gate<MemBook>) -> u32 {
+fn refusals<B: Book>(rt: &(impl Abort + AllocGlobal), gate: &mut Gate<B>) -> u32 {
     let mut refused = 0u32;
     let mut status = shown(rt.alloc(), gate);
     for (line, reply) in DELIVERIES.lines().zip(REPLIES.lines()) {
@@ -103,7 +103,8 @@ pub fn refusals(rt: &(impl Abort + AllocGlobal), gate: &mut Gate<MemBook>) -> u3
         let again = is_answered_in_the_end(rt, gate, line, reply, &status);
         refused = refused.saturating_add(first).saturating_add(again);
     }
-    assert!(rt; status.is_some_and(|status| status.as_str() == STATUS));
+    let status = status.expect(rt, "a status");
+    assert!(rt; status.as_str() == STATUS);
     refused
 }
 

@@ -1,7 +1,6 @@
 //! Repeated deliveries, over two queues.
 use crate::books::goes;
 use crate::gates::CORE_AND_WEB;
-use crate::talks::Part::{Status, Talk};
 use std::test::Fail;
 
 const REFUSED_AT_FIRST: &str = r#"
@@ -11,22 +10,18 @@ const REFUSED_AT_FIRST: &str = r#"
 < {"reply":"recorded"}
 > {"id":"00000000-0000-4000-8000-000000000001","kind":"approved","change":101,"revision":1}
 < {"order":1,"reply":"queued"}
-"#;
 
-const ONE_ITEM: &str = "queue core window 2 landed 0
+status
+queue core window 2 landed 0
      1       101    1      - ok      unit=waiting docs=waiting
 queue web window 2 landed 0
 end
-";
+"#;
 
 /// Its id is not spent: sent again, it is looked at anew.
 #[test]
 fn a_refused_delivery_may_be_sent_again(rt: HostRuntime) -> Result<(), Fail> {
-    goes(
-        &rt,
-        CORE_AND_WEB,
-        &[Talk(REFUSED_AT_FIRST), Status(ONE_ITEM)],
-    )
+    goes(&rt, CORE_AND_WEB, REFUSED_AT_FIRST)
 }
 
 const SENT_TWICE: &str = r#"
@@ -40,16 +35,14 @@ const SENT_TWICE: &str = r#"
 < {"order":1,"reply":"queued"}
 > {"id":"00000000-0000-4000-8000-000000000003","kind":"approved","change":102,"revision":1}
 < {"order":2,"reply":"queued"}
-"#;
 
-const TWO_ITEMS: &str = "queue core window 2 landed 0
+status
+queue core window 2 landed 0
      1       101    1      - ok      unit=waiting docs=waiting
      2       102    1      1 ok      unit=waiting
 queue web window 2 landed 0
 end
-";
 
-const AND_AGAIN: &str = r#"
 > {"id":"0a000000-0000-4000-8000-000000000002","kind":"approved","change":101,"revision":2}
 < {"code":"E4","error":"id-reused"}
 > {"id":"0a000000-0000-4000-8000-000000000002","kind":"approved","change":101,"revision":1,"x":1}
@@ -58,21 +51,19 @@ const AND_AGAIN: &str = r#"
 < {"order":1,"reply":"queued"}
 > {"id":"0a000000-0000-4000-8000-000000000002","kind":"approved","change":103,"revision":1}
 < {"code":"E4","error":"id-reused"}
+
+status
+queue core window 2 landed 0
+     1       101    1      - ok      unit=waiting docs=waiting
+     2       102    1      1 ok      unit=waiting
+queue web window 2 landed 0
+end
 "#;
 
 /// Ids are compared by value, and deliveries by what they say.
 #[test]
 fn a_repeat_gets_the_kept_reply(rt: HostRuntime) -> Result<(), Fail> {
-    goes(
-        &rt,
-        CORE_AND_WEB,
-        &[
-            Talk(SENT_TWICE),
-            Status(TWO_ITEMS),
-            Talk(AND_AGAIN),
-            Status(TWO_ITEMS),
-        ],
-    )
+    goes(&rt, CORE_AND_WEB, SENT_TWICE)
 }
 
 const STALE_THEN: &str = r#"
@@ -84,12 +75,18 @@ const STALE_THEN: &str = r#"
 < {"order":1,"reply":"queued"}
 > {"id":"00000000-0000-4000-8000-000000000002","kind":"withdrawn","change":101,"revision":1}
 < {"reply":"stale"}
+
+status
+queue core window 2 landed 0
+     1       101    1      - ok      unit=waiting docs=waiting
+queue web window 2 landed 0
+end
 "#;
 
 /// Its reply is kept too: the repeat takes nothing out, though a new delivery of the same would.
 #[test]
 fn a_stale_delivery_stays_stale(rt: HostRuntime) -> Result<(), Fail> {
-    goes(&rt, CORE_AND_WEB, &[Talk(STALE_THEN), Status(ONE_ITEM)])
+    goes(&rt, CORE_AND_WEB, STALE_THEN)
 }
 
 const TAKEN_TWICE: &str = r#"
@@ -111,16 +108,16 @@ const TAKEN_TWICE: &str = r#"
 < {"reply":"noted"}
 > {"id":"00000000-0000-4000-8000-000000000003","kind":"take","worker":"w1"}
 < {"after":0,"ahead":[],"build":1,"change":101,"job":"unit","queue":"core","reply":"build","revision":1}
-"#;
 
-const TWO_BUILDS: &str = "queue core window 2 landed 0
+status
+queue core window 2 landed 0
      1       101    1      - ok      unit=success docs=running
 queue web window 2 landed 0
 end
-";
+"#;
 
 /// Under the same id and worker; another worker cannot use the id.
 #[test]
 fn a_repeated_take_gives_the_same_build(rt: HostRuntime) -> Result<(), Fail> {
-    goes(&rt, CORE_AND_WEB, &[Talk(TAKEN_TWICE), Status(TWO_BUILDS)])
+    goes(&rt, CORE_AND_WEB, TAKEN_TWICE)
 }

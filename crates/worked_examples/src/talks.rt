@@ -1,48 +1,17 @@
-//! Conversations written down line by line, with what the gate shows in between.
-use crate::gates::tells;
+//! Conversations held with a gate.
+use crate::gates::{fills, tells};
+use crate::parts::{Part, answered, is_talk, push_line, read, told};
 use crate::streams::Narrow;
 use gate_book::book::Book;
 use gate_book::fault::HistoryFault;
 use gate_core::gate::Gate;
 use gate_types::numbers::BuildNo;
 use gate_types::tap::Tap;
-use std::alloc::{AllocError, Global};
 use std::process::Abort;
 use std::test::Fail;
 
-/// A part of a conversation, with what the gate says byte for byte.
-#[derive(Clone, Copy)]
-pub enum Part<'a> {
-    /// What stands behind `> ` is told, a line each, and what stands behind `< ` are the answers.
-    Talk(&'a str),
-    /// The status text.
-    Status(&'a str),
-    /// The orders that are shown.
-    Orders(&'a str),
-    /// The text of the build of a number.
-    Build(u64, &'a str),
-    /// The history text of a queue.
-    History(&'a str, &'a str),
-    /// What a writer takes of a queue's history that then fails.
-    CutHistory(&'a str, &'a str),
-    /// There is no queue of this name: of its history nothing is written.
-    NoHistory(&'a str),
-}
-
 /// More bytes than any history here has.
 const WIDE: usize = 10_000;
-
-/// The lines of a conversation behind this mark.
-fn lines_behind(alloc: Global, mark: &str, talk: &str) -> Result<String, AllocError> {
-    let mut lines = String::new(alloc);
-    for line in talk.lines() {
-        if let Some(line) = line.strip_prefix(mark) {
-            lines.push_str(line)?;
-            lines.push('\n')?;
-        }
-    }
-    Ok(lines)
-}
 
 /// The gate answers so.
 fn answers<B: Book>(
@@ -50,20 +19,45 @@ fn answers<B: Book>(
     gate: &mut Gate<B>,
     talk: &str,
 ) -> Result<(), Fail> {
-    let told = lines_behind(rt.alloc(), "> ", talk)?;
-    let answered = lines_behind(rt.alloc(), "< ", talk)?;
+    assert!(rt; is_talk(talk), "told or answered: {talk}");
+    let told = told(rt.alloc(), talk)?;
+    let answered = answered(rt.alloc(), talk)?;
     tells(rt, gate, told.as_str(), answered.as_str())?;
     Ok(())
 }
 
 /// The status of the gate is this.
-pub fn has_status<B: Book>(
+fn has_status<B: Book>(
     rt: &(impl Abort + AllocGlobal),
     gate: &mut Gate<B>,
     status: &str,
 ) -> Result<(), Fail> {
     let text = gate.status(rt.alloc())?;
     assert_eq!(rt; text.as_str(), status);
+    Ok(())
+}
+
+/// Whether the status text begins, ends or does without, as the part says.
+fn fits(status: &str, part: &Part) -> bool {
+    match *part {
+        Part::StatusBegins(front) => status.starts_with(front),
+        Part::StatusEnds(back) => match status.strip_suffix(back) {
+            Some(front) => front.ends_with('\n'),
+            None => false,
+        },
+        Part::StatusWithout(words) => !status.contains(words),
+        _ => false,
+    }
+}
+
+/// The status of the gate fits.
+fn status_fits<B: Book>(
+    rt: &(impl Abort + AllocGlobal),
+    gate: &mut Gate<B>,
+    part: &Part,
+) -> Result<(), Fail> {
+    let text = gate.status(rt.alloc())?;
+    assert!(rt; fits(text.as_str(), part));
     Ok(())
 }
 
@@ -98,7 +92,7 @@ fn has_history<B: Book>(
     queue: &str,
     room: usize,
     answer: Result<(), HistoryFault>,
-    text: &str,
+    text: &[u8],
 ) -> Result<(), Fail> {
     let mut w = Tap::new(Narrow {
         taken: Vec::new(rt.alloc()),
@@ -108,31 +102,71 @@ fn has_history<B: Book>(
     let answered = gate.history(queue, b"", &mut w);
     let Narrow { taken, .. } = w.into_inner();
     assert_eq!(rt; answered, answer);
-    assert_eq!(rt; taken.as_slice(), text.as_bytes());
+    assert_eq!(rt; taken.as_slice(), text);
     Ok(())
+}
+
+/// The gate says this part, which is about a history.
+fn says_history<B: Book>(
+    rt: &(impl Abort + AllocGlobal),
+    gate: &mut Gate<B>,
+    part: &Part,
+) -> Result<(), Fail> {
+    match *part {
+        Part::History(queue, text) => {
+            has_history(rt, gate, queue, WIDE, Ok(()), text.as_bytes())
+        }
+        Part::CutHistory(queue, room, text) => {
+            let front = text.as_bytes().get(..room).ok_or("the text is shorter")?;
+            has_history(rt, gate, queue, room, Err(HistoryFault::Write), front)
+        }
+        Part::NoHistory(queue) => {
+            has_history(rt, gate, queue, WIDE, Err(HistoryFault::NoQueue), b"")
+        }
+        _ => Err(Fail::new("no history")),
+    }
+}
+
+/// The gate says this part.
+fn says<B: Book>(
+    rt: &(impl Abort + AllocGlobal),
+    gate: &mut Gate<B>,
+    text: &str,
+) -> Result<(), Fail> {
+    let Some(part) = read(text) else {
+        return Err(Fail::new(format_args!("no part of a conversation: {text}")));
+    };
+    match part {
+        Part::Talk(talk) => answers(rt, gate, talk),
+        Part::Fill(project, first, last) => {
+            fills(rt, gate, project, first..last.saturating_add(1))
+        }
+        Part::Status(status) => has_status(rt, gate, status),
+        Part::StatusBegins(_) | Part::StatusEnds(_) | Part::StatusWithout(_) => {
+            status_fits(rt, gate, &part)
+        }
+        Part::Orders(orders) => has_orders(rt, gate, orders),
+        Part::Build(number, build) => has_build(rt, gate, number, build),
+        Part::History(_, _) | Part::CutHistory(_, _, _) | Part::NoHistory(_) => {
+            says_history(rt, gate, &part)
+        }
+    }
 }
 
 /// The gate says all this, part after part.
 pub fn goes_on<B: Book>(
     rt: &(impl Abort + AllocGlobal),
     gate: &mut Gate<B>,
-    parts: &[Part],
+    talk: &str,
 ) -> Result<(), Fail> {
-    for part in parts {
-        match *part {
-            Part::Talk(talk) => answers(rt, gate, talk)?,
-            Part::Status(status) => has_status(rt, gate, status)?,
-            Part::Orders(orders) => has_orders(rt, gate, orders)?,
-            Part::Build(number, build) => has_build(rt, gate, number, build)?,
-            Part::History(queue, text) => has_history(rt, gate, queue, WIDE, Ok(()), text)?,
-            Part::CutHistory(queue, text) => {
-                let answer = Err(HistoryFault::Write);
-                has_history(rt, gate, queue, text.len(), answer, text)?;
-            }
-            Part::NoHistory(queue) => {
-                has_history(rt, gate, queue, WIDE, Err(HistoryFault::NoQueue), "")?;
-            }
+    let mut part = String::new(rt.alloc());
+    for line in talk.lines() {
+        if !line.is_empty() {
+            push_line(&mut part, line)?;
+        } else if !part.is_empty() {
+            says(rt, gate, part.as_str())?;
+            part.clear();
         }
     }
-    Ok(())
+    says(rt, gate, part.as_str())
 }

@@ -1,10 +1,13 @@
 //! Who speaks when: over pipes the other side waits for an answer before it sends its next line.
 use crate::gates::new_gate;
+use gate_book::book::Book;
+use gate_core::gate::Gate;
 use gate_core::replay::replay;
 use gate_types::tap::Tap;
 use std::cell::Cell;
 use std::io;
 use std::io::{Read, Write};
+use std::process::Abort;
 use std::test::Fail;
 
 /// How many lines were given and answered, and whether a read came while an answer was owed.
@@ -57,6 +60,21 @@ impl Write for Answering<'_> {
     }
 }
 
+/// The gate answers five lines in turn.
+fn takes_turns<B: Book>(
+    rt: &(impl Abort + AllocGlobal),
+    gate: &mut Gate<B>,
+    talk: &Talk,
+) -> Result<(), Fail> {
+    let mut r = Tap::new(Asking { talk, lines: 5 });
+    let mut w = Tap::new(Answering { talk });
+    let count = replay(rt.alloc(), gate, &mut r, &mut w)?;
+    assert_eq!(rt; count, 5);
+    assert_eq!(rt; talk.answered.get(), 5);
+    assert!(rt; !talk.owed.get());
+    Ok(())
+}
+
 /// An engine that holds an answer back until it has read again would wait for ever over pipes.
 #[test]
 fn no_answer_is_held_back_over_a_read(rt: HostRuntime) -> Result<(), Fail> {
@@ -66,14 +84,5 @@ fn no_answer_is_held_back_over_a_read(rt: HostRuntime) -> Result<(), Fail> {
         owed: Cell::new(false),
     };
     let mut gate = new_gate(rt.alloc())?;
-    let mut r = Tap::new(Asking {
-        talk: &talk,
-        lines: 5,
-    });
-    let mut w = Tap::new(Answering { talk: &talk });
-    let count = replay(rt.alloc(), &mut gate, &mut r, &mut w)?;
-    assert_eq!(rt; count, 5);
-    assert_eq!(rt; talk.answered.get(), 5);
-    assert!(rt; !talk.owed.get());
-    Ok(())
+    takes_turns(&rt, &mut gate, &talk)
 }

@@ -1,11 +1,13 @@
 //! Windows: how many items of a queue are tested at once.
-use crate::beginnings::{FIRST_FAILED, THREE_TAKEN};
 use crate::books::goes;
 use crate::gates::{CORE_AND_WEB, within};
-use crate::talks::Part::{Status, Talk};
 use std::test::Fail;
 
 const NONE_DUE: &str = r#"
+tells three taken
+
+tells first failed
+
 > {"id":"0c000000-0000-4000-8000-000000000001","kind":"take","worker":"w1"}
 < {"code":"E12","error":"idle"}
 "#;
@@ -13,14 +15,10 @@ const NONE_DUE: &str = r#"
 /// The third item is beyond a window of 2, though the first one fails.
 #[test]
 fn a_failing_item_holds_its_place_in_the_window(rt: HostRuntime) -> Result<(), Fail> {
-    goes(
-        &rt,
-        CORE_AND_WEB,
-        &[Talk(THREE_TAKEN), Talk(FIRST_FAILED), Talk(NONE_DUE)],
-    )
+    goes(&rt, CORE_AND_WEB, NONE_DUE)
 }
 
-const ALL_TAKEN: &str = r#"
+const WITHOUT_END: &str = r#"
 > {"id":"00000000-0000-4000-8000-000000000001","kind":"revision","change":102,"project":"app","revision":1,"message":""}
 < {"reply":"recorded"}
 > {"id":"00000000-0000-4000-8000-000000000002","kind":"revision","change":104,"project":"app","revision":1,"message":""}
@@ -43,16 +41,14 @@ const ALL_TAKEN: &str = r#"
 < {"code":"E12","error":"idle"}
 > {"id":"00000000-0000-4000-8000-000000000011","kind":"result","build":1,"outcome":"failure"}
 < {"reply":"noted"}
-"#;
 
-const STILL_WITHOUT_END: &str = "queue core window 0 landed 0
+status
+queue core window 0 landed 0
      2       104    1      - ok      unit=waiting
      3       105    1      2 ok      unit=waiting
 queue web window 2 landed 0
 end
-";
 
-const NEXT_LANDS: &str = r#"
 > {"id":"00000000-0000-4000-8000-000000000012","kind":"take","worker":"w1"}
 < {"after":0,"ahead":[],"build":4,"change":104,"job":"unit","queue":"core","reply":"build","revision":1}
 > {"id":"00000000-0000-4000-8000-000000000013","kind":"take","worker":"w1"}
@@ -61,30 +57,21 @@ const NEXT_LANDS: &str = r#"
 < {"reply":"noted"}
 > {"id":"00000000-0000-4000-8000-000000000015","kind":"landed","order":2}
 < {"n":1,"reply":"landed"}
-"#;
 
-const WITHOUT_END_BEHIND_A_LANDING: &str = "queue core window 0 landed 1
+status
+queue core window 0 landed 1
      3       105    1      - ok      unit=running
 queue web window 2 landed 0
 end
-";
+"#;
 
 /// It stays 0, after failures and landings.
 #[test]
 fn a_window_of_0_has_no_end(rt: HostRuntime) -> Result<(), Fail> {
-    goes(
-        &rt,
-        within(0, 1),
-        &[
-            Talk(ALL_TAKEN),
-            Status(STILL_WITHOUT_END),
-            Talk(NEXT_LANDS),
-            Status(WITHOUT_END_BEHIND_A_LANDING),
-        ],
-    )
+    goes(&rt, within(0, 1), WITHOUT_END)
 }
 
-const FAILS_ONCE: &str = r#"
+const FAILS_TWICE: &str = r#"
 > {"id":"00000000-0000-4000-8000-000000000001","kind":"revision","change":102,"project":"app","revision":1,"message":""}
 < {"reply":"recorded"}
 > {"id":"00000000-0000-4000-8000-000000000002","kind":"revision","change":104,"project":"app","revision":1,"message":""}
@@ -97,42 +84,31 @@ const FAILS_ONCE: &str = r#"
 < {"after":0,"ahead":[],"build":1,"change":102,"job":"unit","queue":"core","reply":"build","revision":1}
 > {"id":"00000000-0000-4000-8000-000000000006","kind":"result","build":1,"outcome":"failure"}
 < {"reply":"noted"}
-"#;
 
-const AT_THE_FLOOR: &str = "queue core window 3 landed 0
+status
+queue core window 3 landed 0
      2       104    1      - ok      unit=waiting
 queue web window 2 landed 0
 end
-";
 
-const FAILS_TWICE: &str = r#"
 > {"id":"00000000-0000-4000-8000-000000000007","kind":"take","worker":"w1"}
 < {"after":0,"ahead":[],"build":2,"change":104,"job":"unit","queue":"core","reply":"build","revision":1}
 > {"id":"00000000-0000-4000-8000-000000000008","kind":"result","build":2,"outcome":"failure"}
 < {"reply":"noted"}
-"#;
 
-const STILL_AT_THE_FLOOR: &str = "queue core window 3 landed 0
+status
+queue core window 3 landed 0
 queue web window 2 landed 0
 end
-";
+"#;
 
 /// 5 is halved to 3 where the floor is 3, and stays there.
 #[test]
 fn a_window_is_halved_down_to_its_floor(rt: HostRuntime) -> Result<(), Fail> {
-    goes(
-        &rt,
-        within(5, 3),
-        &[
-            Talk(FAILS_ONCE),
-            Status(AT_THE_FLOOR),
-            Talk(FAILS_TWICE),
-            Status(STILL_AT_THE_FLOOR),
-        ],
-    )
+    goes(&rt, within(5, 3), FAILS_TWICE)
 }
 
-const FIRST_LANDS: &str = r#"
+const UP_TO_1000: &str = r#"
 > {"id":"00000000-0000-4000-8000-000000000001","kind":"revision","change":102,"project":"app","revision":1,"message":""}
 < {"reply":"recorded"}
 > {"id":"00000000-0000-4000-8000-000000000002","kind":"revision","change":104,"project":"app","revision":1,"message":""}
@@ -149,37 +125,26 @@ const FIRST_LANDS: &str = r#"
 < {"reply":"noted"}
 > {"id":"00000000-0000-4000-8000-000000000008","kind":"landed","order":1}
 < {"n":1,"reply":"landed"}
-"#;
 
-const AT_THE_END: &str = "queue core window 1000 landed 1
+status
+queue core window 1000 landed 1
      2       104    1      - ok      unit=running
 queue web window 2 landed 0
 end
-";
 
-const BOTH_LAND: &str = r#"
 > {"id":"00000000-0000-4000-8000-000000000009","kind":"result","build":2,"outcome":"success"}
 < {"reply":"noted"}
 > {"id":"00000000-0000-4000-8000-000000000010","kind":"landed","order":2}
 < {"n":2,"reply":"landed"}
-"#;
 
-const STILL_AT_THE_END: &str = "queue core window 1000 landed 2
+status
+queue core window 1000 landed 2
 queue web window 2 landed 0
 end
-";
+"#;
 
 /// By one for each landing.
 #[test]
 fn a_window_grows_up_to_1000(rt: HostRuntime) -> Result<(), Fail> {
-    goes(
-        &rt,
-        within(999, 1),
-        &[
-            Talk(FIRST_LANDS),
-            Status(AT_THE_END),
-            Talk(BOTH_LAND),
-            Status(STILL_AT_THE_END),
-        ],
-    )
+    goes(&rt, within(999, 1), UP_TO_1000)
 }

@@ -1,12 +1,12 @@
 //! For some gates that are wrong in one thing, a conversation that ends otherwise with them. Each test has the name of
 //! the wrong gate on which it fails.
-use crate::beginnings::TWO_TAKEN;
 use crate::books::goes;
-use crate::gates::{CORE_AND_WEB, within};
-use crate::talks::Part::{Orders, Status, Talk};
+use crate::gates::CORE_AND_WEB;
 use std::test::Fail;
 
 const SUCCESS_BEFORE_A_FAILURE: &str = r#"
+tells two taken
+
 > {"id":"0b000000-0000-4000-8000-000000000001","kind":"result","build":3,"outcome":"success"}
 < {"reply":"noted"}
 > {"id":"0b000000-0000-4000-8000-000000000002","kind":"result","build":1,"outcome":"failure"}
@@ -17,30 +17,26 @@ const SUCCESS_BEFORE_A_FAILURE: &str = r#"
 < {"code":"E10","error":"no-order"}
 > {"id":"0b000000-0000-4000-8000-000000000005","kind":"take","worker":"w1"}
 < {"after":0,"ahead":[],"build":4,"change":102,"job":"unit","queue":"core","reply":"build","revision":1}
-"#;
 
-const BUILT_ANEW: &str = "queue core window 1 landed 0
+orders
+[]
+
+status
+queue core window 1 landed 0
      2       102    1      - ok      unit=running
 queue web window 2 landed 0
 end
-";
+"#;
 
 /// The second change succeeded behind the first one, which failed then: it has to succeed without it.
 #[test]
 fn lands_on_a_success_from_before_a_failure(rt: HostRuntime) -> Result<(), Fail> {
-    goes(
-        &rt,
-        CORE_AND_WEB,
-        &[
-            Talk(TWO_TAKEN),
-            Talk(SUCCESS_BEFORE_A_FAILURE),
-            Orders("[]"),
-            Status(BUILT_ANEW),
-        ],
-    )
+    goes(&rt, CORE_AND_WEB, SUCCESS_BEFORE_A_FAILURE)
 }
 
 const SUCCESS_BEHIND_A_LANDING: &str = r#"
+tells two taken
+
 > {"id":"0b000000-0000-4000-8000-000000000001","kind":"result","build":1,"outcome":"success"}
 < {"reply":"noted"}
 > {"id":"0b000000-0000-4000-8000-000000000002","kind":"result","build":2,"outcome":"success"}
@@ -49,29 +45,25 @@ const SUCCESS_BEHIND_A_LANDING: &str = r#"
 < {"n":1,"reply":"landed"}
 > {"id":"0b000000-0000-4000-8000-000000000004","kind":"result","build":3,"outcome":"success"}
 < {"reply":"noted"}
-"#;
 
-const SECOND_SHOWN: &str =
-    r#"[{"change":102,"order":2,"project":"app","queue":"core","revision":1}]"#;
+orders
+[{"change":102,"order":2,"project":"app","queue":"core","revision":1}]
+"#;
 
 /// The build of the second change is wanted as before.
 #[test]
 fn resets_builds_behind_landing(rt: HostRuntime) -> Result<(), Fail> {
-    goes(
-        &rt,
-        CORE_AND_WEB,
-        &[
-            Talk(TWO_TAKEN),
-            Talk(SUCCESS_BEHIND_A_LANDING),
-            Orders(SECOND_SHOWN),
-        ],
-    )
+    goes(&rt, CORE_AND_WEB, SUCCESS_BEHIND_A_LANDING)
 }
+
+const ALL_GIVEN: &str = r#"
+tells two taken
+"#;
 
 /// Each job within the window is given to a worker.
 #[test]
 fn always_idle(rt: HostRuntime) -> Result<(), Fail> {
-    goes(&rt, CORE_AND_WEB, &[Talk(TWO_TAKEN)])
+    goes(&rt, CORE_AND_WEB, ALL_GIVEN)
 }
 
 const ONE_LANDS: &str = r#"
@@ -85,17 +77,17 @@ const ONE_LANDS: &str = r#"
 < {"reply":"noted"}
 > {"id":"00000000-0000-4000-8000-000000000005","kind":"landed","order":1}
 < {"n":1,"reply":"landed"}
-"#;
 
-const ONE_LANDED: &str = "queue core window 3 landed 1
+status
+queue core window 3 landed 1
 queue web window 2 landed 0
 end
-";
+"#;
 
 /// A change that has passed its jobs lands.
 #[test]
 fn never_lands(rt: HostRuntime) -> Result<(), Fail> {
-    goes(&rt, CORE_AND_WEB, &[Talk(ONE_LANDS), Status(ONE_LANDED)])
+    goes(&rt, CORE_AND_WEB, ONE_LANDS)
 }
 
 const EACH_KIND: &str = r#"
@@ -125,19 +117,18 @@ const EACH_KIND: &str = r#"
 < {"reply":"removed"}
 > {"id":"00000000-0000-4000-8000-000000000013","kind":"closed","change":104,"revision":1}
 < {"reply":"recorded"}
-"#;
 
-const ONE_OF_TWO_LANDED: &str = "queue core window 1 landed 1
+orders
+[]
+
+status
+queue core window 1 landed 1
 queue web window 2 landed 0
 end
-";
+"#;
 
 /// Deliveries of all eight kinds are accepted.
 #[test]
 fn always_unavailable(rt: HostRuntime) -> Result<(), Fail> {
-    goes(
-        &rt,
-        CORE_AND_WEB,
-        &[Talk(EACH_KIND), Orders("[]"), Status(ONE_OF_TWO_LANDED)],
-    )
+    goes(&rt, CORE_AND_WEB, EACH_KIND)
 }
