@@ -1,17 +1,17 @@
 //! Histories of queues, from files in memory.
-use crate::files::{FORGE, made, run, settings};
+use crate::files::{FORGE, after, empty, settings};
 use gate_book::book::Book;
 use gate_book::fault::HistoryFault;
 use gate_sql::book::SqlBook;
 use gate_types::tap::Tap;
-use sqlite::MemStore;
-use std::alloc::Global;
+use sqlite::{Alter, Connection};
 use std::io;
 use std::io::Write;
-use std::test::Fail;
+use std::process::Abort;
 
-const REPORTS: &str =
-    "INSERT INTO report (queue, place, serial, change, revision, verdict, n) VALUES ('core', 3, 7, 103, 12, 'superseded', NULL), ('core', 1, 3, 101, 1, 'landed', 1), ('core', 2, 4, 102, 1, 'failed', NULL)";
+/// The queue `core` has three reports, the last of them put in first.
+const REPORTS: &str = "create: done
+run INSERT INTO report (queue, place, serial, change, revision, verdict, n) VALUES ('core', 3, 7, 103, 12, 'superseded', NULL), ('core', 1, 3, 101, 1, 'landed', 1), ('core', 2, 4, 102, 1, 'failed', NULL)";
 
 const CORE: &[u8] =
     b"front\nhistory core\n     1      3       101    1 landed          1\n     2      4       102    1 failed          -\n     3      7       103   12 superseded      -\nend 3\n";
@@ -44,56 +44,80 @@ impl Write for Narrow {
     }
 }
 
-/// A book whose queue `core` has three reports, the last of them put in first.
-fn reported(alloc: Global) -> Result<SqlBook<MemStore>, Fail> {
-    let config = settings(alloc, FORGE)?;
-    let mut conn = made(alloc, &config)?;
-    run(&mut conn, REPORTS)?;
-    match SqlBook::open(alloc, conn, &config) {
-        Ok(book) => Ok(book),
-        Err(_) => Err("not opened")?,
+/// The history of a queue, behind its front.
+fn text_of(queue: &str) -> &'static [u8] {
+    match queue {
+        "core" => CORE,
+        "web" => WEB,
+        _ => b"",
     }
 }
 
-/// The answer, and what a writer takes that fails after so many bytes.
-fn written(
-    alloc: Global,
-    book: &mut SqlBook<MemStore>,
+/// How a history ends, as a line says it.
+fn ending(told: Result<(), HistoryFault>) -> &'static str {
+    match told {
+        Ok(()) => "done",
+        Err(HistoryFault::Write) => "Write",
+        Err(HistoryFault::NoQueue) => "NoQueue",
+        Err(_) => "another fault",
+    }
+}
+
+/// A writer that fails after so many bytes takes these of the queue's text, and the book answers so.
+fn is_written<B: Book>(
+    rt: &(impl Abort + AllocGlobal),
+    book: &mut B,
     queue: &str,
     left: usize,
-) -> (Result<(), HistoryFault>, Vec<u8>) {
+    wanted: &str,
+) {
     let mut w = Tap::new(Narrow {
-        taken: Vec::new(alloc),
+        taken: Vec::new(rt.alloc()),
         left,
     });
     let told = book.history(queue, b"front\n", &mut w);
     let Narrow { taken, left: _ } = w.into_inner();
-    (told, taken)
+    assert_eq!(rt; ending(told), wanted, "{queue}, {left} bytes");
+    let text = text_of(queue);
+    let front = text.get(..left).unwrap_or(text);
+    assert!(rt; taken.as_slice() == front, "{queue}, {left} bytes");
+}
+
+/// Each line, as `core 20 Write`, says a queue, how many bytes a writer takes, and how its history ends.
+fn are_written<B: Book>(rt: &(impl Abort + AllocGlobal), book: &mut B, lines: &str) {
+    for line in lines.lines() {
+        let (queue, rest) = line.split_once(' ').expect(rt, "a line");
+        let (left, wanted) = rest.split_once(' ').expect(rt, "a line");
+        let left = left.parse().ok().expect(rt, "a number");
+        is_written(rt, book, queue, left, wanted);
+    }
+}
+
+/// Each line is so of a book over the file.
+fn has_histories<S: Alter + Drop>(
+    rt: &(impl Abort + AllocGlobal),
+    conn: Connection<S>,
+    lines: &str,
+) {
+    let config = settings(rt, FORGE);
+    let mut book = SqlBook::open(rt.alloc(), conn, &config)
+        .ok()
+        .expect(rt, "a book");
+    are_written(rt, &mut book, lines);
 }
 
 #[test]
-fn a_history_is_written_by_place(rt: HostRuntime) -> Result<(), Fail> {
-    let mut book = reported(rt.alloc())?;
-    let (told, taken) = written(rt.alloc(), &mut book, "core", 1000);
-    assert_eq!(rt; told, Ok(()));
-    assert!(rt; taken.as_slice() == CORE);
-    let (told, taken) = written(rt.alloc(), &mut book, "web", 1000);
-    assert_eq!(rt; told, Ok(()));
-    assert!(rt; taken.as_slice() == WEB);
-    let (told, taken) = written(rt.alloc(), &mut book, "nope", 1000);
-    assert_eq!(rt; told, Err(HistoryFault::NoQueue));
-    assert!(rt; taken.is_empty());
-    Ok(())
+fn a_history_is_written_by_place(rt: HostRuntime) {
+    let reported = after(&rt, empty(&rt), REPORTS);
+    has_histories(
+        &rt,
+        reported,
+        "core 1000 done\nweb 1000 done\nnope 1000 NoQueue",
+    );
 }
 
 #[test]
-fn a_history_stops_with_its_writer(rt: HostRuntime) -> Result<(), Fail> {
-    let mut book = reported(rt.alloc())?;
-    let (told, taken) = written(rt.alloc(), &mut book, "core", 20);
-    assert_eq!(rt; told, Err(HistoryFault::Write));
-    assert!(rt; taken.as_slice() == &CORE[..20]);
-    let (told, taken) = written(rt.alloc(), &mut book, "core", 1000);
-    assert_eq!(rt; told, Ok(()));
-    assert!(rt; taken.as_slice() == CORE);
-    Ok(())
+fn a_history_stops_with_its_writer(rt: HostRuntime) {
+    let reported = after(&rt, empty(&rt), REPORTS);
+    has_histories(&rt, reported, "core 20 Write\ncore 1000 done");
 }
