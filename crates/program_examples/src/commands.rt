@@ -1,263 +1,249 @@
 //! Whole runs: what is printed, and the status.
-use crate::samples::{Broken, ONE_QUEUE, TWO_QUEUES};
+use crate::sessions::{Ran, goes, run_over, shown};
+use crate::streams::Broken;
+use crate::texts::{APPROVAL, ONE_QUEUE, TWO_QUEUES};
 use gate_config::ConfigFault;
 use gate_types::tap::Tap;
-use gated_cli::run::{Fault, ended, run};
-use gated_command::command::Cmd;
-use std::alloc::Global;
+use gated_cli::machine::GateFiles;
+use gated_cli::run::{Fault, ended};
 use std::fs;
+use std::io::{Read, Write};
+use std::rt::Files;
 use std::test::Fail;
 
-const APPROVAL: &str =
-    "{\"id\":\"0a000000-0000-4000-8000-000000000001\",\"kind\":\"approved\",\"change\":101,\"revision\":1}\n";
-
 /// The same settings, with a floor above the window of the first queue.
-fn with_a_high_floor(alloc: Global) -> Result<String, Fail> {
-    let (front, rest) = TWO_QUEUES.split_once("floor = 1").ok_or("no floor")?;
-    Ok(format!(in alloc; "{front}floor = 3{rest}")?)
+fn write_a_high_floor<F: Files + AllocGlobal>(rt: &F, file: &str) -> Result<(), Fail> {
+    let high = TWO_QUEUES.replacen(rt.alloc(), "floor = 1", "floor = 3", 1)?;
+    fs::write(rt, file, high.as_bytes())?;
+    Ok(())
 }
 
-/// What a run printed, and its status.
-#[derive(Drop)]
-struct Ran {
-    status: u8,
-    output: Vec<u8>,
-    errors: Vec<u8>,
+/// A settings file of one comment, of so many bytes.
+fn write_a_comment<F: Files + AllocGlobal>(rt: &F, file: &str, size: usize) -> Result<(), Fail> {
+    let comment = vec![in rt.alloc(); b'#'; size]?;
+    fs::write(rt, file, comment)?;
+    Ok(())
 }
 
-/// What a command does over an input.
-fn done_by(rt: &HostRuntime, cmd: Cmd<'_>, input: &str) -> Ran {
-    let mut reader = Tap::new(input.as_bytes());
-    let mut output = Tap::new(Vec::new(rt.alloc()));
-    let mut errors = Tap::new(Vec::new(rt.alloc()));
-    let status = run(rt, cmd, &mut reader, &mut output, &mut errors);
-    Ran {
-        status,
-        output: output.into_inner(),
-        errors: errors.into_inner(),
-    }
-}
-
-fn replayed(rt: &HostRuntime, settings: &str, status: bool, input: &str) -> Ran {
-    done_by(rt, Cmd::Replay { settings, status }, input)
-}
-
-/// What a check of a settings file with this text prints, and its status.
-fn checked(rt: &HostRuntime, path: &str, text: &str) -> Result<Ran, Fail> {
-    fs::write(rt, path, text)?;
-    let ran = done_by(rt, Cmd::Check { settings: path }, "");
-    fs::remove_file(rt, path)?;
-    Ok(ran)
-}
+const COUNTED: &str = "\
+$ write check_counts.toml < two queues
+$ gated check check_counts.toml
+ok: 2 queues, 3 projects, 4 jobs
+|= 0
+$ clear check_counts.toml
+";
 
 #[test]
 fn a_check_counts_what_the_settings_have(rt: HostRuntime) -> Result<(), Fail> {
-    let ran = checked(&rt, "check_counts.toml", TWO_QUEUES)?;
-    assert_eq!(rt; ran.status, 0);
-    assert_eq!(rt;
-        ran.output.as_slice(),
-        b"ok: 2 queues, 3 projects, 4 jobs\n".as_slice()
-    );
-    assert_eq!(rt; ran.errors.as_slice(), b"".as_slice());
-    Ok(())
+    goes(&rt, COUNTED)
 }
+
+const CHECKED_FAULTS: &str = "\
+$ gated check check_high.toml
+|gated: C8 bad-window
+= 1
+$ clear check_high.toml
+$ write check_faults.toml < nothing
+$ gated check check_faults.toml
+|gated: C2 missing-member
+= 1
+$ write check_faults.toml < no settings
+$ gated check check_faults.toml
+|gated: C1 not-toml
+= 1
+$ clear check_faults.toml
+";
 
 #[test]
 fn a_check_tells_the_fault(rt: HostRuntime) -> Result<(), Fail> {
-    let high = with_a_high_floor(rt.alloc())?;
-    let cases = [
-        ("", "gated: C2 missing-member\n"),
-        ("[forge", "gated: C1 not-toml\n"),
-        (high.as_str(), "gated: C8 bad-window\n"),
-    ];
-    for (text, told) in cases {
-        let ran = checked(&rt, "check_faults.toml", text)?;
-        assert_eq!(rt; ran.status, 1, "{told}");
-        assert_eq!(rt; ran.output.as_slice(), b"".as_slice(), "{told}");
-        assert_eq!(rt; ran.errors.as_slice(), told.as_bytes(), "{told}");
-    }
-    Ok(())
+    write_a_high_floor(&rt, "check_high.toml")?;
+    goes(&rt, CHECKED_FAULTS)
 }
+
+const EMPTY: &str = "\
+$ write run_empty.toml < two queues
+$ gated replay run_empty.toml
+|= 0
+$ gated replay run_empty.toml --status
+queue core window 2 landed 0
+queue web window 2 landed 0
+end
+|= 0
+$ clear run_empty.toml
+";
 
 #[test]
 fn an_empty_replay_shows_each_queue(rt: HostRuntime) -> Result<(), Fail> {
-    let path = "run_empty.toml";
-    fs::write(&rt, path, TWO_QUEUES)?;
-    let silent = replayed(&rt, path, false, "");
-    let shown = replayed(&rt, path, true, "");
-    fs::remove_file(&rt, path)?;
-    assert_eq!(rt; silent.status, 0);
-    assert_eq!(rt; silent.output.as_slice(), b"".as_slice());
-    assert_eq!(rt; shown.status, 0);
-    assert_eq!(rt;
-        shown.output.as_slice(),
-        b"queue core window 2 landed 0\nqueue web window 2 landed 0\nend\n".as_slice()
-    );
-    Ok(())
+    goes(&rt, EMPTY)
 }
+
+const ANSWERED: &str = r#"$ write run_answered.toml < one queue
+$ gated replay run_answered.toml < approval
+{"code":"E5","error":"unknown-change"}
+|= 0
+$ clear run_answered.toml
+"#;
 
 #[test]
 fn a_delivery_is_answered_and_a_refusal_is_no_fault(rt: HostRuntime) -> Result<(), Fail> {
-    let path = "run_answered.toml";
-    fs::write(&rt, path, ONE_QUEUE)?;
-    let ran = replayed(&rt, path, false, APPROVAL);
-    fs::remove_file(&rt, path)?;
-    assert_eq!(rt; ran.status, 0);
-    assert_eq!(rt;
-        ran.output.as_slice(),
-        b"{\"code\":\"E5\",\"error\":\"unknown-change\"}\n".as_slice()
-    );
-    assert_eq!(rt; ran.errors.as_slice(), b"".as_slice());
-    Ok(())
+    goes(&rt, ANSWERED)
 }
+
+const FAULTS: &str = "\
+$ gated replay run_high.toml --status < approval
+|gated: C8 bad-window
+= 1
+unread
+$ clear run_high.toml
+$ write run_faulty.toml < no settings
+$ gated replay run_faulty.toml --status < approval
+|gated: C1 not-toml
+= 1
+unread
+$ write run_faulty.toml < nothing
+$ gated replay run_faulty.toml --status < approval
+|gated: C2 missing-member
+= 1
+unread
+$ clear run_faulty.toml
+";
 
 #[test]
 fn a_settings_file_with_a_fault_ends_the_command(rt: HostRuntime) -> Result<(), Fail> {
-    let path = "run_faulty.toml";
-    let high = with_a_high_floor(rt.alloc())?;
-    let cases = [
-        ("[forge", "gated: C1 not-toml\n"),
-        ("", "gated: C2 missing-member\n"),
-        (high.as_str(), "gated: C8 bad-window\n"),
-    ];
-    for (text, told) in cases {
-        fs::write(&rt, path, text)?;
-        let ran = replayed(&rt, path, true, APPROVAL);
-        fs::remove_file(&rt, path)?;
-        assert_eq!(rt; ran.status, 1, "{told}");
-        assert_eq!(rt; ran.output.as_slice(), b"".as_slice(), "{told}");
-        assert_eq!(rt; ran.errors.as_slice(), told.as_bytes(), "{told}");
-    }
-    Ok(())
+    write_a_high_floor(&rt, "run_high.toml")?;
+    goes(&rt, FAULTS)
 }
+
+const UNREADABLE: &str = "\
+$ gated replay run_missing.toml --status < approval
+|gated: I5 settings-file
+= 1
+unread
+$ gated replay . --status < approval
+|gated: I5 settings-file
+= 1
+unread
+$ gated replay run_long.toml --status < approval
+|gated: I5 settings-file
+= 1
+unread
+$ clear run_long.toml
+";
 
 #[test]
 fn a_settings_file_that_cannot_be_read_ends_the_command(rt: HostRuntime) -> Result<(), Fail> {
-    let long = "run_long.toml";
-    let comment = vec![in rt.alloc(); b'#'; 1_048_577]?;
-    fs::write(&rt, long, comment)?;
-    for path in ["run_missing.toml", ".", long] {
-        let ran = replayed(&rt, path, true, APPROVAL);
-        assert_eq!(rt; ran.status, 1, "{path}");
-        assert_eq!(rt; ran.output.as_slice(), b"".as_slice(), "{path}");
-        assert_eq!(rt;
-            ran.errors.as_slice(),
-            b"gated: I5 settings-file\n".as_slice(),
-            "{path}"
-        );
-    }
-    fs::remove_file(&rt, long)?;
-    Ok(())
+    write_a_comment(&rt, "run_long.toml", 1_048_577)?;
+    goes(&rt, UNREADABLE)
 }
+
+const AT_THE_LIMIT: &str = "\
+$ gated replay run_at_the_limit.toml
+|gated: C2 missing-member
+= 1
+$ clear run_at_the_limit.toml
+";
 
 #[test]
 fn a_settings_file_at_the_limit_is_read(rt: HostRuntime) -> Result<(), Fail> {
-    let path = "run_at_the_limit.toml";
-    let comment = vec![in rt.alloc(); b'#'; 1_048_576]?;
-    fs::write(&rt, path, comment)?;
-    let ran = replayed(&rt, path, false, "");
-    fs::remove_file(&rt, path)?;
-    assert_eq!(rt; ran.status, 1);
-    assert_eq!(rt;
-        ran.errors.as_slice(),
-        b"gated: C2 missing-member\n".as_slice()
-    );
-    Ok(())
+    write_a_comment(&rt, "run_at_the_limit.toml", 1_048_576)?;
+    goes(&rt, AT_THE_LIMIT)
+}
+
+/// A replay, with its status, over streams of which some are broken.
+fn replayed<F: Files + GateFiles + AllocGlobal, R: Read, W: Write, E: Write>(
+    rt: &F,
+    input: R,
+    output: W,
+    errors: E,
+) -> Ran<R, W, E> {
+    let words = ["gated", "replay", "run_broken.toml", "--status"];
+    run_over(rt, &words, input, output, errors)
+}
+
+fn over_a_broken_input<F: Files + GateFiles + AllocGlobal>(rt: &F) -> Result<String, Fail> {
+    let alloc = rt.alloc();
+    let Ran {
+        output,
+        errors,
+        status,
+        ..
+    } = replayed(rt, Broken, Vec::new(alloc), Vec::new(alloc));
+    shown(alloc, output, errors, status)
+}
+
+fn over_a_broken_output<F: Files + GateFiles + AllocGlobal>(rt: &F) -> Result<String, Fail> {
+    let alloc = rt.alloc();
+    let Ran { errors, status, .. } = replayed(rt, APPROVAL.as_bytes(), Broken, Vec::new(alloc));
+    shown(alloc, Vec::new(alloc), errors, status)
 }
 
 #[test]
 fn a_failing_stream_ends_the_command(rt: HostRuntime) -> Result<(), Fail> {
-    let path = "run_broken.toml";
-    fs::write(&rt, path, ONE_QUEUE)?;
-    let cmd = Cmd::Replay {
-        settings: path,
-        status: true,
-    };
-    let mut errors = Tap::new(Vec::new(rt.alloc()));
-    let mut output = Tap::new(Vec::new(rt.alloc()));
-    let status = run(&rt, cmd, &mut Tap::new(Broken), &mut output, &mut errors);
-    assert_eq!(rt; status, 1);
-    assert_eq!(rt; output.into_inner().as_slice(), b"".as_slice());
-    assert_eq!(rt;
-        errors.into_inner().as_slice(),
-        b"gated: I1 read\n".as_slice()
-    );
-    let mut errors = Tap::new(Vec::new(rt.alloc()));
-    let mut input = Tap::new(APPROVAL.as_bytes());
-    let status = run(&rt, cmd, &mut input, &mut Tap::new(Broken), &mut errors);
-    assert_eq!(rt; status, 1);
-    assert_eq!(rt;
-        errors.into_inner().as_slice(),
-        b"gated: I2 write\n".as_slice()
-    );
-    let mut input = Tap::new(APPROVAL.as_bytes());
-    let status = run(
-        &rt,
-        cmd,
-        &mut input,
-        &mut Tap::new(Broken),
-        &mut Tap::new(Broken),
-    );
-    assert_eq!(rt; status, 1);
-    fs::remove_file(&rt, path)?;
+    fs::write(&rt, "run_broken.toml", ONE_QUEUE)?;
+    let input = over_a_broken_input(&rt)?;
+    assert_eq!(rt; input.as_str(), "|gated: I1 read\n= 1\n");
+    let output = over_a_broken_output(&rt)?;
+    assert_eq!(rt; output.as_str(), "|gated: I2 write\n= 1\n");
+    let both = replayed(&rt, APPROVAL.as_bytes(), Broken, Broken);
+    assert_eq!(rt; both.status, 1);
+    fs::remove_file(&rt, "run_broken.toml")?;
     Ok(())
+}
+
+const EACH_FAULT: [Fault; 18] = [
+    Fault::Settings(ConfigFault::NotToml),
+    Fault::Settings(ConfigFault::MissingMember),
+    Fault::Settings(ConfigFault::WrongKind),
+    Fault::Settings(ConfigFault::UnknownMember),
+    Fault::Settings(ConfigFault::BadName),
+    Fault::Settings(ConfigFault::DoubleName),
+    Fault::Settings(ConfigFault::UnknownQueue),
+    Fault::Settings(ConfigFault::BadWindow),
+    Fault::Settings(ConfigFault::NoVotingJob),
+    Fault::Settings(ConfigFault::Limit),
+    Fault::Settings(ConfigFault::NoMemory),
+    Fault::Unavailable,
+    Fault::Read,
+    Fault::Write,
+    Fault::NoMemory,
+    Fault::Listener,
+    Fault::SettingsFile,
+    Fault::Store,
+];
+
+/// The line of each of these faults.
+const LINES: &str = "\
+gated: C1 not-toml
+gated: C2 missing-member
+gated: C3 wrong-kind
+gated: C4 unknown-member
+gated: C5 bad-name
+gated: C6 double-name
+gated: C7 unknown-queue
+gated: C8 bad-window
+gated: C9 no-voting-job
+gated: C10 limit
+gated: C11 no-memory
+gated: E15 unavailable
+gated: I1 read
+gated: I2 write
+gated: I3 no-memory
+gated: I4 listen
+gated: I5 settings-file
+gated: I7 store
+";
+
+/// Ends a command by a fault, and gives its status.
+fn ended_by(fault: Fault, errors: &mut Tap<Vec<u8>>) -> u8 {
+    ended(Err(fault), errors)
 }
 
 #[test]
 fn each_fault_has_its_line(rt: HostRuntime) {
-    let lines = [
-        (
-            Fault::Settings(ConfigFault::NotToml),
-            "gated: C1 not-toml\n",
-        ),
-        (
-            Fault::Settings(ConfigFault::MissingMember),
-            "gated: C2 missing-member\n",
-        ),
-        (
-            Fault::Settings(ConfigFault::WrongKind),
-            "gated: C3 wrong-kind\n",
-        ),
-        (
-            Fault::Settings(ConfigFault::UnknownMember),
-            "gated: C4 unknown-member\n",
-        ),
-        (
-            Fault::Settings(ConfigFault::BadName),
-            "gated: C5 bad-name\n",
-        ),
-        (
-            Fault::Settings(ConfigFault::DoubleName),
-            "gated: C6 double-name\n",
-        ),
-        (
-            Fault::Settings(ConfigFault::UnknownQueue),
-            "gated: C7 unknown-queue\n",
-        ),
-        (
-            Fault::Settings(ConfigFault::BadWindow),
-            "gated: C8 bad-window\n",
-        ),
-        (
-            Fault::Settings(ConfigFault::NoVotingJob),
-            "gated: C9 no-voting-job\n",
-        ),
-        (Fault::Settings(ConfigFault::Limit), "gated: C10 limit\n"),
-        (
-            Fault::Settings(ConfigFault::NoMemory),
-            "gated: C11 no-memory\n",
-        ),
-        (Fault::Unavailable, "gated: E15 unavailable\n"),
-        (Fault::Read, "gated: I1 read\n"),
-        (Fault::Write, "gated: I2 write\n"),
-        (Fault::NoMemory, "gated: I3 no-memory\n"),
-        (Fault::Listener, "gated: I4 listen\n"),
-        (Fault::SettingsFile, "gated: I5 settings-file\n"),
-        (Fault::Store, "gated: I7 store\n"),
-    ];
-    for (fault, line) in lines {
-        let mut errors = Tap::new(Vec::new(rt.alloc()));
-        assert_eq!(rt; ended(Err(fault), &mut errors), 1, "{line}");
-        assert_eq!(rt; errors.into_inner().as_slice(), line.as_bytes(), "{line}");
+    let mut errors = Tap::new(Vec::new(rt.alloc()));
+    for fault in &EACH_FAULT {
+        let status = ended_by(*fault, &mut errors);
+        assert_eq!(rt; status, 1, "{fault:?}");
     }
+    assert_eq!(rt; errors.into_inner().as_slice(), LINES.as_bytes());
 }

@@ -10,10 +10,14 @@ mod machines;
 #[cfg(test)]
 mod processes;
 #[cfg(test)]
-mod samples;
-#[cfg(test)]
 mod serving;
 #[cfg(test)]
+mod sessions;
+#[cfg(test)]
 mod showing;
+#[cfg(test)]
+mod streams;
+#[cfg(test)]
+mod texts;
 #[cfg(test)]
 mod words;

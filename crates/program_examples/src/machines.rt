@@ -1,15 +1,15 @@
 //! A settings file whose bytes find no memory.
+use crate::sessions::answer;
 use gate_types::config::Config;
 use gate_types::tap::Tap;
 use gated_cli::machine::GateFiles;
-use gated_cli::run::{Fault, run};
-use gated_command::command::Cmd;
+use gated_cli::run::Fault;
 use std::alloc::{AllocError, Allocator, Global};
 use std::fs::{Metadata, OpenFile, OpenOptions};
 use std::io;
+use std::process::Abort;
 use std::rt::Files;
-
-const INPUT: &str = "no delivery\n";
+use std::test::Fail;
 
 /// A runtime whose files are opened, and find no memory when they are read.
 #[derive(Drop)]
@@ -165,57 +165,31 @@ impl GateFiles for Starved<'_> {
     }
 }
 
+const COMMANDS: &str = "\
+gated check run_starved.toml < no delivery
+gated replay run_starved.toml --status < no delivery
+gated init run_starved.toml run_starved.gate < no delivery
+gated deliver run_starved.toml run_starved.gate < no delivery
+gated status run_starved.toml run_starved.gate < no delivery
+gated history run_starved.toml run_starved.gate core < no delivery
+gated serve run_starved.toml run_starved.gate --port 0 --count 1 < no delivery
+";
+
+/// Any command ends by want of memory on this machine, and leaves its input.
+fn starves(rt: &impl Abort, machine: &Starved<'_>, line: &str) -> Result<(), Fail> {
+    let answer = answer(machine, line)?;
+    assert_eq!(rt;
+        answer.as_str(),
+        "|gated: I3 no-memory\n= 1\nunread\n",
+        "{line}"
+    );
+    Ok(())
+}
+
 #[test]
-fn a_settings_file_without_memory_ends_the_command(rt: HostRuntime) {
-    let settings = "run_starved.toml";
-    let commands = [
-        Cmd::Check { settings },
-        Cmd::Replay {
-            settings,
-            status: true,
-        },
-        Cmd::Init {
-            settings,
-            file: "run_starved.gate",
-        },
-        Cmd::Deliver {
-            settings,
-            file: "run_starved.gate",
-        },
-        Cmd::Status {
-            settings,
-            file: "run_starved.gate",
-        },
-        Cmd::History {
-            settings,
-            file: "run_starved.gate",
-            queue: "core",
-        },
-        Cmd::Serve {
-            settings,
-            file: "run_starved.gate",
-            port: 0,
-            count: 1,
-        },
-    ];
-    for cmd in commands {
-        let mut input = Tap::new(INPUT.as_bytes());
-        let mut output = Tap::new(Vec::new(rt.alloc()));
-        let mut errors = Tap::new(Vec::new(rt.alloc()));
-        let status = run(
-            &Starved { rt: &rt },
-            cmd,
-            &mut input,
-            &mut output,
-            &mut errors,
-        );
-        assert_eq!(rt; status, 1, "{cmd:?}");
-        assert_eq!(rt; input.into_inner(), INPUT.as_bytes(), "{cmd:?}");
-        assert_eq!(rt; output.into_inner().as_slice(), b"".as_slice(), "{cmd:?}");
-        assert_eq!(rt;
-            errors.into_inner().as_slice(),
-            b"gated: I3 no-memory\n".as_slice(),
-            "{cmd:?}"
-        );
+fn a_settings_file_without_memory_ends_the_command(rt: HostRuntime) -> Result<(), Fail> {
+    for line in COMMANDS.lines() {
+        starves(&rt, &Starved { rt: &rt }, line)?;
     }
+    Ok(())
 }

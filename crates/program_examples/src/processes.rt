@@ -1,150 +1,135 @@
 //! What the program writes where, and its status.
-use crate::samples::{Broken, ONE_QUEUE};
+use crate::sessions::{answer, goes, run_over, shown};
+use crate::streams::Broken;
 use gate_types::tap::Tap;
-use gated_cli::program::{program, unread};
+use gated_cli::machine::GateFiles;
+use gated_cli::program::unread;
 use gated_cli::started;
-use std::process::ExitCode;
+use std::io;
+use std::process::{Abort, ExitCode};
+use std::rt::Files;
 use std::test::Fail;
-use std::{fs, io};
 
-const INPUT: &str = "no delivery\n";
-
-/// What the program wrote, what it left of the input, and its status.
-#[derive(Drop)]
-struct Ran<'a> {
-    status: u8,
-    left: &'a [u8],
-    output: Vec<u8>,
-    errors: Vec<u8>,
-}
-
-fn ran_by(rt: &HostRuntime, words: &[&str]) -> Ran<'static> {
-    let mut input = Tap::new(INPUT.as_bytes());
-    let mut output = Tap::new(Vec::new(rt.alloc()));
-    let mut errors = Tap::new(Vec::new(rt.alloc()));
-    let status = program(rt, words, &mut input, &mut output, &mut errors);
-    Ran {
-        status,
-        left: input.into_inner(),
-        output: output.into_inner(),
-        errors: errors.into_inner(),
-    }
-}
+const DONE: &str = r#"$ write program_done.toml < one queue
+$ gated check program_done.toml < no delivery
+ok: 1 queues, 1 projects, 1 jobs
+|= 0
+unread
+$ gated replay program_done.toml --status < no delivery
+{"code":"E1","error":"bad-json"}
+queue core window 2 landed 0
+end
+|= 0
+$ clear program_done.toml
+"#;
 
 #[test]
 fn a_command_is_done(rt: HostRuntime) -> Result<(), Fail> {
-    let path = "program_done.toml";
-    fs::write(&rt, path, ONE_QUEUE)?;
-    let checked = ran_by(&rt, &["gated", "check", path]);
-    let replayed = ran_by(&rt, &["gated", "replay", path, "--status"]);
-    fs::remove_file(&rt, path)?;
-    assert_eq!(rt; checked.status, 0);
-    assert_eq!(rt;
-        checked.output.as_slice(),
-        b"ok: 1 queues, 1 projects, 1 jobs\n".as_slice()
-    );
-    assert_eq!(rt; checked.errors.as_slice(), b"".as_slice());
-    assert_eq!(rt; checked.left, INPUT.as_bytes());
-    assert_eq!(rt; replayed.status, 0);
-    assert_eq!(rt;
-        replayed.output.as_slice(),
-        b"{\"code\":\"E1\",\"error\":\"bad-json\"}\nqueue core window 2 landed 0\nend\n".as_slice()
-    );
-    assert_eq!(rt; replayed.errors.as_slice(), b"".as_slice());
+    goes(&rt, DONE)
+}
+
+const MISSING: &str = "\
+$ gated check program_missing.toml < no delivery
+|gated: I5 settings-file
+= 1
+unread
+$ gated replay program_missing.toml < no delivery
+|gated: I5 settings-file
+= 1
+unread
+";
+
+#[test]
+fn a_fault_is_told_on_the_errors(rt: HostRuntime) -> Result<(), Fail> {
+    goes(&rt, MISSING)
+}
+
+const REFUSED: &str = "\
+$ gated land < no delivery
+|error: unrecognized subcommand 'land'
+
+Usage: gated <COMMAND>
+
+For more information, try '--help'.
+= 2
+unread
+$ gated check < no delivery
+|error: the following required arguments were not provided:
+  <SETTINGS>
+
+Usage: gated check <SETTINGS>
+
+For more information, try '--help'.
+= 2
+unread
+$ gated check a --status < no delivery
+|error: unexpected argument '--status' found
+
+  tip: to pass '--status' as a value, use '-- --status'
+
+Usage: gated check <SETTINGS>
+
+For more information, try '--help'.
+= 2
+unread
+$ gated replay a b < no delivery
+|error: unexpected argument 'b' found
+
+Usage: gated replay [OPTIONS] <SETTINGS>
+
+For more information, try '--help'.
+= 2
+unread
+";
+
+#[test]
+fn a_refused_line_is_told_on_the_errors(rt: HostRuntime) -> Result<(), Fail> {
+    goes(&rt, REFUSED)
+}
+
+fn gives_help<F: Abort + Files + GateFiles + AllocGlobal>(
+    rt: &F,
+    line: &str,
+    usage: &str,
+) -> Result<(), Fail> {
+    let text = answer(rt, line)?;
+    assert!(rt; text.contains(usage), "{line} gives {text}");
+    assert!(rt; text.ends_with("\n|= 0\nunread\n"), "{line} gives {text}");
     Ok(())
-}
-
-#[test]
-fn a_fault_is_told_on_the_errors(rt: HostRuntime) {
-    for words in [
-        ["gated", "check", "program_missing.toml"],
-        ["gated", "replay", "program_missing.toml"],
-    ] {
-        let ran = ran_by(&rt, &words);
-        assert_eq!(rt; ran.status, 1);
-        assert_eq!(rt; ran.output.as_slice(), b"".as_slice());
-        assert_eq!(rt;
-            ran.errors.as_slice(),
-            b"gated: I5 settings-file\n".as_slice()
-        );
-        assert_eq!(rt; ran.left, INPUT.as_bytes());
-    }
-}
-
-#[test]
-fn a_refused_line_is_told_on_the_errors(rt: HostRuntime) {
-    let cases: [(&[&str], &str); 4] = [
-        (
-            &["gated", "land"],
-            "error: unrecognized subcommand 'land'\n\nUsage: gated <COMMAND>\n\nFor more information, try '--help'.\n",
-        ),
-        (
-            &["gated", "check"],
-            "error: the following required arguments were not provided:\n  <SETTINGS>\n\n\
-             Usage: gated check <SETTINGS>\n\nFor more information, try '--help'.\n",
-        ),
-        (
-            &["gated", "check", "a", "--status"],
-            "error: unexpected argument '--status' found\n\n  \
-             tip: to pass '--status' as a value, use '-- --status'\n\n\
-             Usage: gated check <SETTINGS>\n\nFor more information, try '--help'.\n",
-        ),
-        (
-            &["gated", "replay", "a", "b"],
-            "error: unexpected argument 'b' found\n\n\
-             Usage: gated replay [OPTIONS] <SETTINGS>\n\nFor more information, try '--help'.\n",
-        ),
-    ];
-    for (words, told) in cases {
-        let ran = ran_by(&rt, words);
-        assert_eq!(rt; ran.status, 2, "{words:?}");
-        assert_eq!(rt; ran.output.as_slice(), b"".as_slice(), "{words:?}");
-        assert_eq!(rt; ran.errors.as_slice(), told.as_bytes(), "{words:?}");
-        assert_eq!(rt; ran.left, INPUT.as_bytes(), "{words:?}");
-    }
 }
 
 #[test]
 fn help_is_given_on_the_output(rt: HostRuntime) -> Result<(), Fail> {
-    let cases: [(&[&str], &str); 3] = [
-        (&["gated", "--help"], "Usage: gated <COMMAND>\n"),
-        (
-            &["gated", "check", "--help"],
-            "Usage: gated check <SETTINGS>\n",
-        ),
-        (
-            &["gated", "help", "replay"],
-            "Usage: gated replay [OPTIONS] <SETTINGS>\n",
-        ),
-    ];
-    for (words, usage) in cases {
-        let ran = ran_by(&rt, words);
-        let text = String::from_utf8(ran.output)?;
-        assert_eq!(rt; ran.status, 0, "{words:?}");
-        assert!(rt; text.contains(usage), "{words:?} gives {text}");
-        assert_eq!(rt; ran.errors.as_slice(), b"".as_slice(), "{words:?}");
-        assert_eq!(rt; ran.left, INPUT.as_bytes(), "{words:?}");
-    }
-    Ok(())
+    gives_help(
+        &rt,
+        "gated --help < no delivery",
+        "Usage: gated <COMMAND>\n",
+    )?;
+    gives_help(
+        &rt,
+        "gated check --help < no delivery",
+        "Usage: gated check <SETTINGS>\n",
+    )?;
+    gives_help(
+        &rt,
+        "gated help replay < no delivery",
+        "Usage: gated replay [OPTIONS] <SETTINGS>\n",
+    )
+}
+
+/// What is told where the help that is asked for can't be written.
+fn unwritten_help(rt: &HostRuntime) -> Result<String, Fail> {
+    let alloc = rt.alloc();
+    let input = b"no delivery\n".as_slice();
+    let ran = run_over(rt, &["gated", "--help"], input, Broken, Vec::new(alloc));
+    shown(alloc, Vec::new(alloc), ran.errors, ran.status)
 }
 
 #[test]
-fn help_that_cannot_be_written_is_a_fault(rt: HostRuntime) {
-    let words = ["gated", "--help"];
-    let mut input = Tap::new(INPUT.as_bytes());
-    let mut errors = Tap::new(Vec::new(rt.alloc()));
-    let status = program(
-        &rt,
-        words.as_slice(),
-        &mut input,
-        &mut Tap::new(Broken),
-        &mut errors,
-    );
-    assert_eq!(rt; status, 1);
-    assert_eq!(rt;
-        errors.into_inner().as_slice(),
-        b"gated: I2 write\n".as_slice()
-    );
+fn help_that_cannot_be_written_is_a_fault(rt: HostRuntime) -> Result<(), Fail> {
+    let shown = unwritten_help(&rt)?;
+    assert_eq!(rt; shown.as_str(), "|gated: I2 write\n= 1\n");
+    Ok(())
 }
 
 #[test]

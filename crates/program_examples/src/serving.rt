@@ -1,23 +1,26 @@
 //! Clients over loopback, at the gate of a file.
-use crate::files::{Names, RECORDED, deliver, init, ran};
-use crate::samples::ONE_QUEUE;
+use crate::sessions::{Ran, goes, shown};
+use crate::texts::ONE_QUEUE;
+use gate_types::config::Config;
 use gate_types::tap::Tap;
 use gated_cli::run::over_file;
-use gated_command::command::Cmd;
-use sqlite::Connection;
+use sqlite::{Alter, Connection, File, FileStore};
 use std::alloc::Global;
+use std::io;
 use std::io::{Read, Write};
 use std::net::{Net, SocketAddr, TcpListener, TcpStream};
 use std::test::Fail;
-use std::{fs, io};
 
 const POST: &str =
     "POST /forge HTTP/1.1\r\nHost: gate\r\nContent-Length: 118\r\n\r\n{\"id\":\"0a000000-0000-4000-8000-000000000001\",\"kind\":\"revision\",\"change\":101,\"project\":\"lib\",\"revision\":1,\"message\":\"\"}";
 
 const STATUS: &str = "GET /status HTTP/1.1\r\nHost: gate\r\n\r\n";
 
-const ANSWERS: &str =
-    "HTTP/1.1 200 OK\r\nContent-Type: application/json\r\nContent-Length: 20\r\nConnection: close\r\n\r\n{\"reply\":\"recorded\"}HTTP/1.1 200 OK\r\nContent-Type: text/plain\r\nContent-Length: 33\r\nConnection: close\r\n\r\nqueue core window 2 landed 0\nend\n";
+const RECORDED: &str =
+    "HTTP/1.1 200 OK\r\nContent-Type: application/json\r\nContent-Length: 20\r\nConnection: close\r\n\r\n{\"reply\":\"recorded\"}";
+
+const SHOWN: &str =
+    "HTTP/1.1 200 OK\r\nContent-Type: text/plain\r\nContent-Length: 33\r\nConnection: close\r\n\r\nqueue core window 2 landed 0\nend\n";
 
 /// A machine whose port was bound before, so that clients have written by the time it serves.
 #[derive(Drop)]
@@ -54,66 +57,110 @@ fn client(rt: &HostRuntime, listener: &TcpListener, sends: &str) -> Result<TcpSt
     Ok(stream)
 }
 
-/// What is printed while two connections are served, behind it what is told, and whether all went well.
-fn served(rt: &HostRuntime, listener: &TcpListener, file: &str) -> Result<String, Fail> {
-    let config = gate_config::read(rt.alloc(), ONE_QUEUE.as_bytes())?;
-    let conn = Connection::open(rt, file)?;
+/// Serves two connections over the gate of a database, which is handed back beside what was written. The status is 0
+/// where all went well.
+fn serve_two<S: Alter + Drop>(
+    rt: &HostRuntime,
+    listener: &TcpListener,
+    config: Config,
+    conn: Connection<S>,
+) -> (Connection<S>, Ran<(), Vec<u8>, Vec<u8>>) {
+    let machine = Bound { rt, listener };
     let mut output = Tap::new(Vec::new(rt.alloc()));
     let mut errors = Tap::new(Vec::new(rt.alloc()));
-    let machine = Bound { rt, listener };
     let (conn, done) = over_file::serve(&machine, conn, config, 0, 2, &mut output, &mut errors);
-    let well = done.is_ok() && conn.close().is_ok();
-    let output = String::from_utf8(output.into_inner())?;
-    let errors = String::from_utf8(errors.into_inner())?;
-    Ok(format!(in rt.alloc(); "{output}{errors}{well}")?)
+    let ran = Ran {
+        input: (),
+        output: output.into_inner(),
+        errors: errors.into_inner(),
+        status: u8::from(done.is_err()),
+    };
+    (conn, ran)
 }
+
+/// The same over a file's database, which is closed then.
+fn serve_and_close(
+    rt: &HostRuntime,
+    listener: &TcpListener,
+    config: Config,
+    conn: Connection<FileStore<File>>,
+) -> Result<String, Fail> {
+    let (conn, ran) = serve_two(rt, listener, config, conn);
+    conn.close()?;
+    shown(rt.alloc(), ran.output, ran.errors, ran.status)
+}
+
+fn served_over(
+    rt: &HostRuntime,
+    listener: &TcpListener,
+    config: Config,
+    file: &str,
+) -> Result<String, Fail> {
+    match Connection::open(rt, file) {
+        Ok(conn) => serve_and_close(rt, listener, config, conn),
+        Err(error) => Err(Fail::from(error)),
+    }
+}
+
+/// What is shown while two connections are served over the gate of a file.
+fn served(rt: &HostRuntime, listener: &TcpListener, file: &str) -> Result<String, Fail> {
+    let config = gate_config::read(rt.alloc(), ONE_QUEUE.as_bytes())?;
+    served_over(rt, listener, config, file)
+}
+
+/// What the client is sent till the end.
+fn received(alloc: Global, mut stream: TcpStream) -> Result<String, Fail> {
+    let mut bytes = Vec::new(alloc);
+    stream.read_to_end(&mut bytes)?;
+    Ok(String::from_utf8(bytes)?)
+}
+
+const MADE: &str = "\
+$ clear serve_two.toml serve_two.gate serve_two.gate-wal
+$ write serve_two.toml < one queue
+$ gated init serve_two.toml serve_two.gate
+|= 0
+";
 
 #[test]
 fn clients_that_wrote_before_are_answered(rt: HostRuntime) -> Result<(), Fail> {
-    let names = Names {
-        settings: "serve_two.toml",
-        file: "serve_two.gate",
-        log: "serve_two.gate-wal",
-    };
-    names.clear(&rt);
-    fs::write(&rt, names.settings, ONE_QUEUE)?;
-    assert_eq!(rt; init(&rt, &names)?.as_str(), "0");
+    goes(&rt, MADE)?;
     let listener = TcpListener::bind(&rt, "127.0.0.1:0")?;
-    let mut first = client(&rt, &listener, POST)?;
-    let mut second = client(&rt, &listener, STATUS)?;
+    let first = client(&rt, &listener, POST)?;
+    let second = client(&rt, &listener, STATUS)?;
     let port = listener.local_addr()?.port();
-    let line = format!(in rt.alloc(); "listening 127.0.0.1:{port}\ntrue")?;
-    assert_eq!(rt; served(&rt, &listener, names.file)?, line);
-    let mut bytes = Vec::new(rt.alloc());
-    first.read_to_end(&mut bytes)?;
-    second.read_to_end(&mut bytes)?;
-    assert_eq!(rt; bytes.as_slice(), ANSWERS.as_bytes());
-    names.clear(&rt);
-    Ok(())
+    let line = format!(in rt.alloc(); "listening 127.0.0.1:{port}\n|= 0\n")?;
+    assert_eq!(rt; served(&rt, &listener, "serve_two.gate")?, line);
+    assert_eq!(rt; received(rt.alloc(), first)?.as_str(), RECORDED);
+    assert_eq!(rt; received(rt.alloc(), second)?.as_str(), SHOWN);
+    goes(
+        &rt,
+        "$ clear serve_two.toml serve_two.gate serve_two.gate-wal\n",
+    )
 }
+
+const BEFORE: &str = "\
+$ clear serve_taken.toml serve_taken.gate serve_taken.gate-wal
+$ write serve_taken.toml < one queue
+$ gated init serve_taken.toml serve_taken.gate
+|= 0
+";
+
+const AFTER: &str = r#"|gated: I4 listen
+= 1
+$ gated deliver serve_taken.toml serve_taken.gate < revision
+{"reply":"recorded"}
+|= 0
+$ clear serve_taken.toml serve_taken.gate serve_taken.gate-wal
+"#;
 
 #[test]
 fn a_taken_port_is_told_and_leaves_the_gate(rt: HostRuntime) -> Result<(), Fail> {
-    let names = Names {
-        settings: "serve_taken.toml",
-        file: "serve_taken.gate",
-        log: "serve_taken.gate-wal",
-    };
-    names.clear(&rt);
-    fs::write(&rt, names.settings, ONE_QUEUE)?;
-    assert_eq!(rt; init(&rt, &names)?.as_str(), "0");
     let listener = TcpListener::bind(&rt, "127.0.0.1:0")?;
-    let serve = Cmd::Serve {
-        settings: names.settings,
-        file: names.file,
-        port: listener.local_addr()?.port(),
-        count: 1,
-    };
-    assert_eq!(rt; ran(&rt, serve, "")?.as_str(), "gated: I4 listen\n1");
-    assert_eq!(rt;
-        deliver(&rt, &names, RECORDED)?.as_str(),
-        "{\"reply\":\"recorded\"}\n0"
-    );
-    names.clear(&rt);
-    Ok(())
+    let port = listener.local_addr()?.port();
+    let serve = format!(in rt.alloc();
+        "$ gated serve serve_taken.toml serve_taken.gate --port {port} --count 1"
+    )?;
+    let session = format!(in rt.alloc(); "{BEFORE}{serve}\n{AFTER}")?;
+    goes(&rt, session.as_str())
 }
