@@ -1,20 +1,28 @@
 //! A book that keeps answers: what is asked for again is not read again, until the next delivery or edits.
+use crate::asked::{
+    counters_are, live_builds, needs_are, not_known, not_queued, queue_is, queued_is, ready_are,
+    reply_is, reports_are,
+};
 use crate::counting::Counting;
-use crate::scene::{book_of, change_no, first_edits, id, item, later_edits, name, serial_no};
+use crate::scene::{apply, change_no, first_book, item, later_edits};
 use gate_book::book::Book;
+use gate_book::memory::MemBook;
 use gate_book::rows::QueueSizes;
 use gate_cache::cached::CachedBook;
 use gate_types::records::{Counters, Ready};
 use std::process::Abort;
 
+type Cached = CachedBook<Counting<MemBook>>;
+
 /// Over the book of the first edits.
-fn cached(rt: &(impl Abort + AllocGlobal)) -> CachedBook<Counting> {
-    let book = book_of(rt, first_edits(rt).as_slice());
+fn cached(rt: &(impl Abort + AllocGlobal)) -> Cached {
+    let book = first_book(rt);
     CachedBook::new(rt.alloc(), Counting { book, reads: 0 })
 }
 
-fn reads_of(book: CachedBook<Counting>) -> u32 {
-    book.into_book().reads
+fn reads_are(rt: &impl Abort, book: Cached, wanted: u32) {
+    let reads = book.into_book().reads;
+    assert_eq!(rt; reads, wanted);
 }
 
 const SIZES: QueueSizes = QueueSizes {
@@ -29,81 +37,69 @@ const DRAWN: Counters = Counters {
     order: 4,
 };
 
-/// Asks for the queue, its reports, the ready list and the counters.
-fn lists_are_told(rt: &(impl Abort + AllocGlobal), book: &mut CachedBook<Counting>) {
-    let core = name(rt, "core");
-    let ready = book.ready().expect(rt, "the ready list");
+/// Asks for the queue, its reports, the ready list and the counters; for a change and the one that it
+/// needs, its item, and the live builds of another one.
+fn all_is_told<B: Book>(rt: &(impl Abort + AllocGlobal), book: &mut B) {
     let first = Ready {
         approval: 7,
         change: change_no(rt, 103),
     };
-    assert_eq!(rt; ready.as_slice(), [first].as_slice());
-    assert_eq!(rt; book.queue(&core), Ok(Some(SIZES)));
-    assert_eq!(rt; book.reports(&core), Ok(1));
-    assert_eq!(rt; book.counters(), Ok(DRAWN));
-}
-
-/// Asks for a change and the one that it needs, its item, and the live builds of another one.
-fn changes_are_told(rt: &(impl Abort + AllocGlobal), book: &mut CachedBook<Counting>) {
-    let changing = book.change(change_no(rt, 102)).expect(rt, "a change");
-    let needs = changing.expect(rt, "a change").needs;
-    assert_eq!(rt; needs.as_slice(), [change_no(rt, 101)].as_slice());
-    let needed = book.change(change_no(rt, 101)).expect(rt, "a change");
-    assert_eq!(rt; needed.expect(rt, "a change").needs.as_slice().len(), 0);
-    let queued = book.queued(change_no(rt, 102)).expect(rt, "an item");
-    assert_eq!(rt; queued.expect(rt, "an item").item, item(rt, 4, 102));
-    let live = book.live_builds(serial_no(rt, 2)).expect(rt, "builds");
-    assert_eq!(rt; live.as_slice().len(), 2);
+    ready_are(rt, book, [first].as_slice());
+    queue_is(rt, book, "core", Some(SIZES));
+    reports_are(rt, book, "core", 1);
+    counters_are(rt, book, DRAWN);
+    needs_are(rt, book, 102, [change_no(rt, 101)].as_slice());
+    needs_are(rt, book, 101, &[]);
+    queued_is(rt, book, 102, item(rt, 4, 102));
+    live_builds(rt, book, 2, 2);
 }
 
 #[test]
 fn what_is_asked_for_again_is_read_once(rt: HostRuntime) {
     let mut book = cached(&rt);
-    lists_are_told(&rt, &mut book);
-    changes_are_told(&rt, &mut book);
-    lists_are_told(&rt, &mut book);
-    changes_are_told(&rt, &mut book);
-    assert_eq!(rt; reads_of(book), 8);
+    all_is_told(&rt, &mut book);
+    all_is_told(&rt, &mut book);
+    reads_are(&rt, book, 8);
+}
+
+fn others_are_told<B: Book>(rt: &(impl Abort + AllocGlobal), book: &mut B) {
+    queue_is(rt, book, "web", None);
+    reports_are(rt, book, "web", 0);
+    not_known(rt, book, 104);
+    not_queued(rt, book, 103);
+    live_builds(rt, book, 4, 0);
 }
 
 #[test]
 fn another_one_is_read(rt: HostRuntime) {
     let mut book = cached(&rt);
-    lists_are_told(&rt, &mut book);
-    changes_are_told(&rt, &mut book);
-    let web = name(&rt, "web");
-    assert_eq!(rt; book.queue(&web), Ok(None));
-    assert_eq!(rt; book.reports(&web), Ok(0));
-    assert!(rt; matches!(&book.change(change_no(&rt, 104)), Ok(None)));
-    assert!(rt; matches!(&book.queued(change_no(&rt, 103)), Ok(None)));
-    let live = book.live_builds(serial_no(&rt, 4)).expect(&rt, "builds");
-    assert_eq!(rt; live.as_slice().len(), 0);
-    assert_eq!(rt; reads_of(book), 13);
+    all_is_told(&rt, &mut book);
+    others_are_told(&rt, &mut book);
+    reads_are(&rt, book, 13);
 }
 
 #[test]
 fn the_next_delivery_reads_anew(rt: HostRuntime) {
     let mut book = cached(&rt);
-    lists_are_told(&rt, &mut book);
-    changes_are_told(&rt, &mut book);
-    let first = book.delivery(&id(9)).expect(&rt, "a delivery");
-    assert_eq!(rt; first.expect(&rt, "a delivery").reply.as_str(), "first");
-    lists_are_told(&rt, &mut book);
-    changes_are_told(&rt, &mut book);
-    assert_eq!(rt; reads_of(book), 17);
+    all_is_told(&rt, &mut book);
+    reply_is(&rt, &mut book, 9, "first");
+    all_is_told(&rt, &mut book);
+    reads_are(&rt, book, 17);
+}
+
+fn later_is_told<B: Book>(rt: &(impl Abort + AllocGlobal), book: &mut B) {
+    let edits = later_edits(rt);
+    apply(rt, book, edits.as_slice());
+    ready_are(rt, book, &[]);
+    let sizes = QueueSizes { items: 1, ..SIZES };
+    queue_is(rt, book, "core", Some(sizes));
+    not_queued(rt, book, 101);
+    live_builds(rt, book, 2, 1);
 }
 
 #[test]
 fn edits_are_seen_at_once(rt: HostRuntime) {
     let mut book = cached(&rt);
-    lists_are_told(&rt, &mut book);
-    changes_are_told(&rt, &mut book);
-    book.apply(later_edits(&rt).as_slice()).expect(&rt, "edits");
-    let ready = book.ready().expect(&rt, "the ready list");
-    assert_eq!(rt; ready.as_slice().len(), 0);
-    let sizes = QueueSizes { items: 1, ..SIZES };
-    assert_eq!(rt; book.queue(&name(&rt, "core")), Ok(Some(sizes)));
-    assert!(rt; matches!(&book.queued(change_no(&rt, 101)), Ok(None)));
-    let live = book.live_builds(serial_no(&rt, 2)).expect(&rt, "builds");
-    assert_eq!(rt; live.as_slice().len(), 1);
+    all_is_told(&rt, &mut book);
+    later_is_told(&rt, &mut book);
 }

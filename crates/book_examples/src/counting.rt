@@ -1,7 +1,6 @@
 //! A book that counts what it is asked for.
 use gate_book::book::Book;
 use gate_book::fault::{BookFault, HistoryFault};
-use gate_book::memory::MemBook;
 use gate_book::rows::{QueueSizes, QueuedItem};
 use gate_types::edits::Edit;
 use gate_types::names::Name;
@@ -13,12 +12,12 @@ use std::io::Write;
 
 /// Answers as the book in it.
 #[derive(Drop)]
-pub struct Counting {
-    pub book: MemBook,
+pub struct Counting<B> {
+    pub book: B,
     pub reads: u32,
 }
 
-impl Book for Counting {
+impl<B: Book> Book for Counting<B> {
     ghost Holds = { λ _ _ _. ⊥ };
 
     ghost IsTrusted = { λ _. ⊥ };

@@ -99,18 +99,22 @@ pub fn settings(rt: &(impl Abort + AllocGlobal)) -> Config {
     }
 }
 
-/// An open change of `lib` at revision 1.
-pub fn change(rt: &(impl Abort + AllocGlobal), number: u64, need: Option<u64>) -> Change {
+fn needs(rt: &(impl Abort + AllocGlobal), need: Option<u64>) -> Sequence<ChangeNo> {
     let mut needs = Sequence::new(rt.alloc());
     if let Some(need) = need {
         needs.push(change_no(rt, need)).expect(rt, "memory");
     }
+    needs
+}
+
+/// An open change of `lib` at revision 1.
+fn change(rt: &(impl Abort + AllocGlobal), number: u64, need: Option<u64>) -> Change {
     Change {
         number: change_no(rt, number),
         project: path_name(rt, "lib"),
         revision: first_revision(rt),
         stage: Stage::Open,
-        needs,
+        needs: needs(rt, need),
     }
 }
 
@@ -136,14 +140,6 @@ pub fn build(rt: &(impl Abort + AllocGlobal), number: u64, serial: u64, change: 
         ahead: Sequence::new(rt.alloc()),
         outcome: Outcome::Running,
         live: true,
-    }
-}
-
-pub fn kept(rt: &(impl Abort + AllocGlobal), number: u64, reply: &str) -> Kept {
-    Kept {
-        id: id(number),
-        said: text(rt, "said"),
-        reply: text(rt, reply),
     }
 }
 
@@ -201,6 +197,33 @@ pub fn put_report(
     }
 }
 
+pub fn put_build(rt: &(impl Abort + AllocGlobal), number: u64, serial: u64, change: u64) -> Edit {
+    Edit::PutBuild(build(rt, number, serial, change))
+}
+
+pub fn set_outcome(rt: &impl Abort, number: u64, outcome: Outcome) -> Edit {
+    Edit::SetOutcome {
+        build: build_no(rt, number),
+        outcome,
+    }
+}
+
+pub fn set_order_counter(drawn: u64) -> Edit {
+    Edit::SetCounter {
+        counter: Counter::Order,
+        drawn,
+    }
+}
+
+/// Keeps a reply under an id.
+pub fn keep(rt: &(impl Abort + AllocGlobal), number: u64, reply: &str) -> Edit {
+    Edit::Keep(Kept {
+        id: id(number),
+        said: text(rt, "said"),
+        reply: text(rt, reply),
+    })
+}
+
 pub fn set_window(rt: &(impl Abort + AllocGlobal), window: u32) -> Edit {
     Edit::SetWindow {
         queue: name(rt, "core"),
@@ -208,48 +231,59 @@ pub fn set_window(rt: &(impl Abort + AllocGlobal), window: u32) -> Edit {
     }
 }
 
+fn push(rt: &impl Abort, edits: &mut Vec<Edit>, edit: Edit) {
+    edits.push(edit).expect(rt, "memory");
+}
+
 /// Changes 101, 102 (which needs 101) and 103 (approved); items 2 and 4; a landing, a report and
 /// two builds of item 2.
 pub fn first_edits(rt: &(impl Abort + AllocGlobal)) -> Vec<Edit> {
-    vec![in rt.alloc();
-        put_change(rt, 103, None, Some(7)),
-        put_change(rt, 101, None, None),
-        put_change(rt, 102, Some(101), None),
-        put_item(rt, 4, 102),
-        put_item(rt, 2, 101),
-        put_landing(rt),
+    let mut edits = Vec::new(rt.alloc());
+    push(rt, &mut edits, put_change(rt, 103, None, Some(7)));
+    push(rt, &mut edits, put_change(rt, 101, None, None));
+    push(rt, &mut edits, put_change(rt, 102, Some(101), None));
+    push(rt, &mut edits, put_item(rt, 4, 102));
+    push(rt, &mut edits, put_item(rt, 2, 101));
+    push(rt, &mut edits, put_landing(rt));
+    push(
+        rt,
+        &mut edits,
         put_report(rt, 1, 1, 100, Verdict::Landed(1)),
-        Edit::PutBuild(build(rt, 1, 2, 101)),
-        Edit::PutBuild(build(rt, 2, 2, 101)),
-        set_window(rt, 5),
-        Edit::SetCounter {
-            counter: Counter::Order,
-            drawn: 4
-        },
-        Edit::Keep(kept(rt, 9, "first")),
-    ]
-    .expect(rt, "memory")
+    );
+    push(rt, &mut edits, put_build(rt, 1, 2, 101));
+    push(rt, &mut edits, put_build(rt, 2, 2, 101));
+    push(rt, &mut edits, set_window(rt, 5));
+    push(rt, &mut edits, set_order_counter(4));
+    push(rt, &mut edits, keep(rt, 9, "first"));
+    edits
 }
 
 /// Item 2 leaves, one of its builds stops, the other fails, change 103 is no longer ready.
 pub fn later_edits(rt: &(impl Abort + AllocGlobal)) -> Vec<Edit> {
-    vec![in rt.alloc();
-        Edit::DropItem(serial_no(rt, 2)),
-        Edit::StopBuild(build_no(rt, 1)),
-        Edit::SetOutcome {
-            build: build_no(rt, 2),
-            outcome: Outcome::Failure
-        },
-        put_change(rt, 103, None, None),
-        Edit::Keep(kept(rt, 10, "later")),
-    ]
-    .expect(rt, "memory")
+    let mut edits = Vec::new(rt.alloc());
+    push(rt, &mut edits, Edit::DropItem(serial_no(rt, 2)));
+    push(rt, &mut edits, Edit::StopBuild(build_no(rt, 1)));
+    push(rt, &mut edits, set_outcome(rt, 2, Outcome::Failure));
+    push(rt, &mut edits, put_change(rt, 103, None, None));
+    push(rt, &mut edits, keep(rt, 10, "later"));
+    edits
+}
+
+/// Does what edits say.
+pub fn apply<B: Book>(rt: &impl Abort, book: &mut B, edits: &[Edit]) {
+    book.apply(edits).expect(rt, "memory");
 }
 
 /// A book that holds what these edits make of an empty one.
 pub fn book_of(rt: &(impl Abort + AllocGlobal), edits: &[Edit]) -> MemBook {
     let config = settings(rt);
     let mut book = MemBook::new(rt.alloc(), &config).expect(rt, "memory");
-    book.apply(edits).expect(rt, "memory");
+    apply(rt, &mut book, edits);
     book
+}
+
+/// A book that holds what the first edits make of an empty one.
+pub fn first_book(rt: &(impl Abort + AllocGlobal)) -> MemBook {
+    let edits = first_edits(rt);
+    book_of(rt, edits.as_slice())
 }
