@@ -1,14 +1,15 @@
 //! Connections over a listener and over streams that fail.
 use crate::connections::APPROVAL;
 use crate::gates::{KNOWN, new_gate, told};
-use gate_book::memory::MemBook;
+use gate_book::book::Book;
 use gate_core::gate::Gate;
-use gate_http::connections::{NotListening, serve};
+use gate_http::connections::serve;
 use gate_types::tap::Tap;
 use std::alloc::Global;
 use std::io;
 use std::io::{ErrorKind, Read, Write};
 use std::net::{Ipv4Addr, OpenListener, OpenStream, SocketAddr};
+use std::process::Abort;
 use std::test::Fail;
 
 /// What fails.
@@ -81,38 +82,59 @@ impl Write for Wire {
     }
 }
 
-/// Serves two connections, and gives what is told of them.
-fn told_of(
-    alloc: Global,
-    gate: &mut Gate<MemBook>,
-    broken: Part,
-) -> (Result<(), NotListening>, Vec<u8>) {
+/// Serves two connections: whether it listened, and what is told of them.
+fn told_of<B: Book>(alloc: Global, gate: &mut Gate<B>, broken: Part) -> (bool, Vec<u8>) {
     let mut errors = Tap::new(Vec::new(alloc));
     let served = serve(alloc, &Broken(broken), gate, 2, &mut errors);
-    (served, errors.into_inner())
+    (served.is_ok(), errors.into_inner())
+}
+
+fn tells<B: Book>(
+    rt: &impl Abort,
+    alloc: Global,
+    gate: &mut Gate<B>,
+    broken: Part,
+    lines: &str,
+) -> Result<(), Fail> {
+    let (listened, errors) = told_of(alloc, gate, broken);
+    assert!(rt; listened == (broken != Part::Accept));
+    assert!(rt; errors.as_slice() == lines.as_bytes(), "{lines}");
+    Ok(())
 }
 
 #[test]
 fn a_listener_that_fails_ends_it(rt: HostRuntime) -> Result<(), Fail> {
     let mut gate = new_gate(rt.alloc())?;
-    let (served, errors) = told_of(rt.alloc(), &mut gate, Part::Accept);
-    assert_eq!(rt; served, Err(NotListening));
-    assert_eq!(rt; errors.len(), 0);
-    Ok(())
+    tells(&rt, rt.alloc(), &mut gate, Part::Accept, "")
+}
+
+fn each_is_told<B: Book>(rt: &impl Abort, alloc: Global, gate: &mut Gate<B>) -> Result<(), Fail> {
+    told(alloc, gate, KNOWN)?;
+    tells(
+        rt,
+        alloc,
+        gate,
+        Part::Clone,
+        "gated: I1 read\ngated: I1 read\n",
+    )?;
+    tells(
+        rt,
+        alloc,
+        gate,
+        Part::Read,
+        "gated: I1 read\ngated: I1 read\n",
+    )?;
+    tells(
+        rt,
+        alloc,
+        gate,
+        Part::Write,
+        "gated: I2 write\ngated: I2 write\n",
+    )
 }
 
 #[test]
 fn a_fault_is_told_and_the_next_is_served(rt: HostRuntime) -> Result<(), Fail> {
     let mut gate = new_gate(rt.alloc())?;
-    told(rt.alloc(), &mut gate, KNOWN)?;
-    for (broken, lines) in [
-        (Part::Clone, "gated: I1 read\ngated: I1 read\n"),
-        (Part::Read, "gated: I1 read\ngated: I1 read\n"),
-        (Part::Write, "gated: I2 write\ngated: I2 write\n"),
-    ] {
-        let (served, errors) = told_of(rt.alloc(), &mut gate, broken);
-        assert_eq!(rt; served, Ok(()));
-        assert_eq!(rt; errors.as_slice(), lines.as_bytes());
-    }
-    Ok(())
+    each_is_told(&rt, rt.alloc(), &mut gate)
 }

@@ -1,8 +1,8 @@
 //! Connections over loopback, one after another, with the responses typed from the formats.
 use crate::gates::{KNOWN, new_gate, told};
-use crate::texts::{CUT, QUEUED, TORN};
+use crate::texts::response;
 use crate::torn::Torn;
-use gate_book::memory::MemBook;
+use gate_book::book::Book;
 use gate_core::gate::Gate;
 use gate_http::connections::serve;
 use gate_types::tap::Tap;
@@ -23,9 +23,6 @@ const STATUS: &str = "GET /status HTTP/1.1\r\nHost: gate\r\n\r\n";
 
 const HISTORY: &str = "GET /history/core HTTP/1.1\r\nHost: gate\r\n\r\n";
 
-const ONE_ITEM: &str =
-    "HTTP/1.1 200 OK\r\nContent-Type: text/plain\r\nContent-Length: 124\r\nConnection: close\r\n\r\nqueue core window 2 landed 0\n     1       101    1      - ok      unit=waiting docs=waiting\nqueue web window 2 landed 0\nend\n";
-
 /// A client that connects and sends this.
 fn client<N: Net>(net: &N, listener: &N::Listener, sends: &str) -> io::Result<N::Stream> {
     let mut stream = TcpStream::connect(net, listener.local_addr()?)?;
@@ -40,7 +37,7 @@ fn leaving_client<N: Net>(net: &N, listener: &N::Listener, sends: &str) -> io::R
     Ok(stream)
 }
 
-/// A client that was answered by this, up to the end.
+/// A client was answered by this, up to the end.
 fn was_answered<S: Read + Drop>(
     rt: &impl Abort,
     alloc: Global,
@@ -49,39 +46,52 @@ fn was_answered<S: Read + Drop>(
 ) -> Result<(), Fail> {
     let mut bytes = Vec::new(alloc);
     stream.read_to_end(&mut bytes)?;
-    assert_eq!(rt; bytes.as_slice(), answer.as_bytes());
+    assert!(rt; bytes.as_slice() == answer.as_bytes(), "{answer}");
     Ok(())
 }
 
-/// Serves so many connections, and nothing is told of them.
-fn serves<L: OpenListener>(
+/// A client was answered by the response of this name.
+fn has_response<S: Read + Drop>(
+    rt: &impl Abort,
+    alloc: Global,
+    stream: S,
+    name: &str,
+) -> Result<(), Fail> {
+    let answer = response(alloc, name)?;
+    was_answered(rt, alloc, stream, answer.as_str())
+}
+
+/// Serves so many connections, and tells this of them.
+fn serves<L: OpenListener, B: Book>(
     rt: &impl Abort,
     alloc: Global,
     listener: &L,
-    gate: &mut Gate<MemBook>,
+    gate: &mut Gate<B>,
     count: u64,
+    told: &str,
 ) -> Result<(), Fail>
 where
     L::Stream: Read + Write + OpenStream,
 {
     let mut errors = Tap::new(Vec::new(alloc));
-    assert!(rt; serve(alloc, listener, gate, count, &mut errors).is_ok());
-    assert_eq!(rt; errors.into_inner().len(), 0);
+    let served = serve(alloc, listener, gate, count, &mut errors);
+    assert!(rt; served.is_ok());
+    assert!(rt; errors.into_inner().as_slice() == told.as_bytes());
     Ok(())
 }
 
 /// One client approves a change and one asks for the status; neither closes before it is answered.
-fn two_clients<N: Net + Abort>(
+fn two_clients<N: Net + Abort, B: Book>(
     net: &N,
-    gate: &mut Gate<MemBook>,
+    gate: &mut Gate<B>,
     alloc: Global,
 ) -> Result<(), Fail> {
     let listener = TcpListener::bind(net, "127.0.0.1:0")?;
     let first = client(net, &listener, APPROVAL)?;
     let second = client(net, &listener, STATUS)?;
-    serves(net, alloc, &listener, gate, 2)?;
-    was_answered(net, alloc, first, QUEUED)?;
-    was_answered(net, alloc, second, ONE_ITEM)
+    serves(net, alloc, &listener, gate, 2, "")?;
+    has_response(net, alloc, first, "queued")?;
+    has_response(net, alloc, second, "item-status")
 }
 
 #[test]
@@ -92,18 +102,18 @@ fn clients_are_answered_in_turn(rt: HostRuntime) -> Result<(), Fail> {
 }
 
 /// One client is gone, one sends nothing, and one a half of its request.
-fn lost_clients<N: Net + Abort>(
+fn lost_clients<N: Net + Abort, B: Book>(
     net: &N,
-    gate: &mut Gate<MemBook>,
+    gate: &mut Gate<B>,
     alloc: Global,
 ) -> Result<(), Fail> {
     let listener = TcpListener::bind(net, "127.0.0.1:0")?;
     drop(client(net, &listener, "")?);
     let silent = leaving_client(net, &listener, "")?;
     let cut = leaving_client(net, &listener, HALF)?;
-    serves(net, alloc, &listener, gate, 3)?;
+    serves(net, alloc, &listener, gate, 3, "")?;
     was_answered(net, alloc, silent, "")?;
-    was_answered(net, alloc, cut, CUT)
+    has_response(net, alloc, cut, "cut")
 }
 
 #[test]
@@ -113,22 +123,17 @@ fn lost_clients_are_passed(rt: HostRuntime) -> Result<(), Fail> {
 }
 
 /// One client asks for a history, which breaks off, and then one approves a change.
-fn torn_then_served<N: Net + Abort>(
+fn torn_then_served<N: Net + Abort, B: Book>(
     net: &N,
-    gate: &mut Gate<Torn>,
+    gate: &mut Gate<B>,
     alloc: Global,
 ) -> Result<(), Fail> {
     let listener = TcpListener::bind(net, "127.0.0.1:0")?;
     let first = client(net, &listener, HISTORY)?;
     let second = client(net, &listener, APPROVAL)?;
-    let mut errors = Tap::new(Vec::new(alloc));
-    assert!(net; serve(alloc, &listener, gate, 2, &mut errors).is_ok());
-    assert_eq!(net;
-        errors.into_inner().as_slice(),
-        b"gated: I7 store\n".as_slice()
-    );
-    was_answered(net, alloc, first, TORN)?;
-    was_answered(net, alloc, second, QUEUED)
+    serves(net, alloc, &listener, gate, 2, "gated: I7 store\n")?;
+    has_response(net, alloc, first, "torn")?;
+    has_response(net, alloc, second, "queued")
 }
 
 #[test]

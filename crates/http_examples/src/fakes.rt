@@ -1,4 +1,4 @@
-//! What the tests share: a gate that counts, and streams that drip and fail.
+//! A gate that counts, and streams that drip and fail.
 use gate_book::fault::HistoryFault;
 use gate_core::fault::IoFault;
 use gate_http::engine::answer_request;
@@ -11,8 +11,6 @@ use gate_wire::Door;
 use std::alloc::Global;
 use std::io;
 use std::io::{Read, Write};
-use std::process::Abort;
-use std::test::Fail;
 
 /// Counts what it took. A delivery has to begin with a brace. The history of `torn` breaks off behind its first line.
 #[derive(Drop)]
@@ -123,61 +121,42 @@ impl Write for Narrow {
     }
 }
 
-/// What came of an input: what was done, how many deliveries were taken, and what is left unread.
+/// What came of an input: what was done, how many deliveries were taken, what is left unread, and what was written.
 #[derive(Drop)]
 pub struct Came {
     pub served: Result<Served, IoFault>,
     pub taken: u64,
     pub left: usize,
+    pub written: Vec<u8>,
 }
 
-/// Answers an input, and puts what is written into a vector.
-pub fn answered(alloc: Global, input: &[u8], out: &mut Vec<u8>) -> Came {
+/// Answers an input that lies in memory.
+pub fn answered(alloc: Global, input: &[u8]) -> Came {
     let mut gate = Counting { taken: 0 };
     let mut reader = Tap::new(input);
-    let mut writer = Tap::new(out);
+    let mut writer = Tap::new(Vec::new(alloc));
     let served = answer_request(alloc, &mut gate, &mut reader, &mut writer);
     Came {
         served,
         taken: gate.taken,
         left: reader.into_inner().len(),
+        written: writer.into_inner(),
     }
 }
 
-/// An input, the status and the response that it gets, and how many bytes it leaves.
-pub type Exchange<'a> = (&'a [u8], u16, &'a str, usize);
-
-/// The input gets this status and this response, and so many bytes are left.
-pub fn gets(rt: &impl Abort, alloc: Global, exchange: Exchange<'_>) -> Result<(), Fail> {
-    let (input, status, response, left) = exchange;
-    let mut out = Vec::new(alloc);
-    let came = answered(alloc, input, &mut out);
-    assert_eq!(rt; came.served, Ok(Served::Answered(status)));
-    assert_eq!(rt; came.left, left);
-    assert_eq!(rt; out.as_slice(), response.as_bytes());
-    Ok(())
-}
-
-/// Each input gets what it is to get.
-pub fn each_gets(rt: &impl Abort, alloc: Global, exchanges: &[Exchange<'_>]) -> Result<(), Fail> {
-    for exchange in exchanges {
-        gets(rt, alloc, *exchange)?;
-    }
-    Ok(())
-}
-
-/// What came of an input over a writer that fails: the fault, and what was written.
-pub fn written_until(
-    alloc: Global,
-    bytes: &[u8],
-    left: usize,
-) -> (Result<Served, IoFault>, Vec<u8>) {
+/// Answers an input over a reader and a writer that fail after so many calls.
+pub fn answered_until(alloc: Global, bytes: &[u8], reads: usize, writes: usize) -> Came {
     let mut gate = Counting { taken: 0 };
-    let mut reader = Tap::new(Dripping { bytes, left: 1000 });
+    let mut reader = Tap::new(Dripping { bytes, left: reads });
     let mut writer = Tap::new(Narrow {
         bytes: Vec::new(alloc),
-        left,
+        left: writes,
     });
     let served = answer_request(alloc, &mut gate, &mut reader, &mut writer);
-    (served, writer.into_inner().bytes)
+    Came {
+        served,
+        taken: gate.taken,
+        left: reader.into_inner().bytes.len(),
+        written: writer.into_inner().bytes,
+    }
 }

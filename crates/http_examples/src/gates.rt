@@ -1,4 +1,6 @@
 //! What all tests share: a gate over settings, what it is sent, and what it responds.
+use crate::texts::{ending, meant, response};
+use gate_book::book::Book;
 use gate_book::memory::MemBook;
 use gate_config::{ConfigFault, read};
 use gate_core::fault::IoFault;
@@ -49,8 +51,7 @@ name = "unit"
 
 /// Change 101 of `lib` is known.
 pub const KNOWN: &str =
-    r#"{"id":"0b000000-0000-4000-8000-000000000001","kind":"revision","change":101,"project":"lib","revision":1,"message":""}
-"#;
+    r#"{"id":"0b000000-0000-4000-8000-000000000001","kind":"revision","change":101,"project":"lib","revision":1,"message":""}"#;
 
 /// An empty gate.
 pub fn new_gate(alloc: Global) -> Result<Gate<MemBook>, ConfigFault> {
@@ -62,10 +63,20 @@ pub fn new_gate(alloc: Global) -> Result<Gate<MemBook>, ConfigFault> {
 }
 
 /// Hands the gate these lines.
-pub fn told(alloc: Global, gate: &mut Gate<MemBook>, lines: &str) -> Result<u64, IoFault> {
+pub fn told<B: Book>(alloc: Global, gate: &mut Gate<B>, lines: &str) -> Result<u64, IoFault> {
     let mut r = Tap::new(lines.as_bytes());
     let mut w = Tap::new(Vec::new(alloc));
     replay(alloc, gate, &mut r, &mut w)
+}
+
+/// What the gate writes for a request.
+pub fn written_for<B: Book>(
+    alloc: Global,
+    gate: &mut Gate<B>,
+    request: &[u8],
+) -> Result<Vec<u8>, IoFault> {
+    let (_, bytes) = serve_bytes(alloc, gate, request)?;
+    Ok(bytes)
 }
 
 /// A delivery to a door.
@@ -74,44 +85,74 @@ pub fn posting(alloc: Global, door: &str, body: &str) -> Result<String, AllocErr
     format!(in alloc; "POST /{door} HTTP/1.1\r\nHost: gate\r\nContent-Length: {len}\r\n\r\n{body}")
 }
 
-/// Each request gets its response, one after another.
-pub fn all_get(
+/// The request gets the response of this name.
+fn gets<B: Book>(
     rt: &impl Abort,
     alloc: Global,
-    gate: &mut Gate<MemBook>,
-    rows: &[(&str, &str)],
+    gate: &mut Gate<B>,
+    rest: &str,
 ) -> Result<(), Fail> {
-    for (request, response) in rows {
-        let (_, bytes) = serve_bytes(alloc, gate, request.as_bytes())?;
-        assert_eq!(rt; bytes.as_slice(), response.as_bytes());
-    }
+    let (name, request) = rest.split_once(' ').ok_or("no request")?;
+    let request = meant(alloc, request)?;
+    let response = response(alloc, name)?;
+    let bytes = written_for(alloc, gate, request.as_str().as_bytes())?;
+    assert!(rt; bytes.as_slice() == response.as_str().as_bytes(), "{rest}");
     Ok(())
 }
 
-/// The delivery gets a response that ends in this body.
-pub fn posts(
+/// The delivery gets a response that ends in the text of this name.
+fn posts<B: Book>(
     rt: &impl Abort,
     alloc: Global,
-    gate: &mut Gate<MemBook>,
+    gate: &mut Gate<B>,
     door: &str,
-    delivery: &str,
-    body: &str,
+    rest: &str,
 ) -> Result<(), Fail> {
-    let request = posting(alloc, door, delivery)?;
-    let (_, bytes) = serve_bytes(alloc, gate, request.as_bytes())?;
-    assert!(rt; bytes.as_slice().ends_with(body.as_bytes()));
+    let (name, body) = rest.split_once(' ').ok_or("no body")?;
+    let request = posting(alloc, door, meant(alloc, body)?.as_str())?;
+    let ending = ending(alloc, name)?;
+    let bytes = written_for(alloc, gate, request.as_str().as_bytes())?;
+    assert!(rt;
+        bytes.as_slice().ends_with(ending.as_str().as_bytes()),
+        "{rest}"
+    );
     Ok(())
 }
 
-/// Each delivery to its door gets a response that ends in its body, one after another.
-pub fn all_post(
+fn takes<B: Book>(
     rt: &impl Abort,
     alloc: Global,
-    gate: &mut Gate<MemBook>,
-    rows: &[(&str, &str, &str)],
+    gate: &mut Gate<B>,
+    line: &str,
 ) -> Result<(), Fail> {
-    for (door, delivery, body) in rows {
-        posts(rt, alloc, gate, door, delivery, body)?;
+    let (word, rest) = line.split_once(' ').ok_or("a line")?;
+    match word {
+        "tell" => {
+            told(alloc, gate, rest)?;
+            Ok(())
+        }
+        "get" => gets(rt, alloc, gate, rest),
+        "forge" | "worker" => posts(rt, alloc, gate, word, rest),
+        _ => Err(Fail::new("no such line")),
+    }
+}
+
+/// A gate takes these lines, one after another. `tell` hands it a delivery; `get` sends a request, and it gets the
+/// response of a name; `forge` and `worker` send a body to that door, and what it gets ends in the text of a name.
+pub fn goes_on<B: Book>(
+    rt: &impl Abort,
+    alloc: Global,
+    gate: &mut Gate<B>,
+    lines: &str,
+) -> Result<(), Fail> {
+    for line in lines.lines() {
+        takes(rt, alloc, gate, line)?;
     }
     Ok(())
+}
+
+/// An empty gate takes these lines.
+pub fn goes(rt: &impl Abort, alloc: Global, lines: &str) -> Result<(), Fail> {
+    let mut gate = new_gate(alloc)?;
+    goes_on(rt, alloc, &mut gate, lines)
 }

@@ -6,6 +6,8 @@ mod broken;
 #[cfg(test)]
 mod connections;
 #[cfg(test)]
+mod counted;
+#[cfg(test)]
 mod exchanges;
 #[cfg(test)]
 mod fakes;

@@ -1,8 +1,8 @@
 //! Requests over readers and writers that fail, and what their repeats get.
 use crate::fakes::{Dripping, Narrow};
-use crate::gates::{KNOWN, new_gate, posting, posts, told};
-use crate::texts::QUEUED;
-use gate_book::memory::MemBook;
+use crate::gates::{KNOWN, goes_on, new_gate, posting, told};
+use crate::texts::response;
+use gate_book::book::Book;
 use gate_core::fault::IoFault;
 use gate_core::gate::Gate;
 use gate_http::serve::serve_one;
@@ -17,23 +17,21 @@ const APPROVED: &str =
 
 const TAKE: &str = r#"{"id":"0b000000-0000-4000-8000-000000000003","kind":"take","worker":"w1"}"#;
 
-const OTHER_TAKE: &str =
-    r#"{"id":"0b000000-0000-4000-8000-000000000004","kind":"take","worker":"w1"}"#;
+/// What was done for a request, and what was written.
+#[derive(Drop)]
+struct Done {
+    served: Result<Served, IoFault>,
+    written: Vec<u8>,
+}
 
-const FIRST_BUILD: &str =
-    "Content-Length: 102\r\nConnection: close\r\n\r\n{\"after\":0,\"ahead\":[],\"build\":1,\"change\":101,\"job\":\"unit\",\"queue\":\"core\",\"reply\":\"build\",\"revision\":1}";
-
-const SECOND_BUILD: &str =
-    "{\"after\":0,\"ahead\":[],\"build\":2,\"change\":101,\"job\":\"docs\",\"queue\":\"core\",\"reply\":\"build\",\"revision\":1}";
-
-/// What is written for a request, by a reader and a writer that fail after so many calls.
-fn written(
+/// Serves a request, by a reader and a writer that fail after so many calls.
+fn served_over<B: Book>(
     alloc: Global,
-    gate: &mut Gate<MemBook>,
+    gate: &mut Gate<B>,
     request: &str,
     reads: usize,
     writes: usize,
-) -> (Result<Served, IoFault>, Vec<u8>) {
+) -> Done {
     let mut reader = Tap::new(Dripping {
         bytes: request.as_bytes(),
         left: reads,
@@ -43,71 +41,102 @@ fn written(
         left: writes,
     });
     let served = serve_one(alloc, gate, &mut reader, &mut writer);
-    (served, writer.into_inner().bytes)
+    Done {
+        served,
+        written: writer.into_inner().bytes,
+    }
+}
+
+/// The writer failed once it had taken this.
+fn is_cut_behind(done: &Done, written: &[u8]) -> bool {
+    done.served == Err(IoFault::Write) && done.written.as_slice() == written
+}
+
+/// The take that was cut off comes again, and then another one.
+const TAKES: &str =
+    r#"worker first-build {"id":"0b000000-0000-4000-8000-000000000003","kind":"take","worker":"w1"}
+worker second-build {"id":"0b000000-0000-4000-8000-000000000004","kind":"take","worker":"w1"}
+"#;
+
+fn takes_again<B: Book>(rt: &impl Abort, alloc: Global, gate: &mut Gate<B>) -> Result<(), Fail> {
+    told(alloc, gate, KNOWN)?;
+    told(alloc, gate, APPROVED)?;
+    let take = posting(alloc, "worker", TAKE)?;
+    let cut = served_over(alloc, gate, take.as_str(), 1000, 5);
+    assert!(rt; is_cut_behind(&cut, b"HTTP/"));
+    goes_on(rt, alloc, gate, TAKES)
 }
 
 #[test]
 fn a_cut_answer_is_given_again(rt: HostRuntime) -> Result<(), Fail> {
-    let alloc = rt.alloc();
-    let mut gate = new_gate(alloc)?;
-    told(alloc, &mut gate, KNOWN)?;
-    told(alloc, &mut gate, APPROVED)?;
-    let take = posting(alloc, "worker", TAKE)?;
-    let (served, bytes) = written(alloc, &mut gate, take.as_str(), 1000, 5);
-    assert_eq!(rt; served, Err(IoFault::Write));
-    assert_eq!(rt; bytes.as_slice(), b"HTTP/".as_slice());
-    posts(&rt, alloc, &mut gate, "worker", TAKE, FIRST_BUILD)?;
-    posts(&rt, alloc, &mut gate, "worker", OTHER_TAKE, SECOND_BUILD)
+    let mut gate = new_gate(rt.alloc())?;
+    takes_again(&rt, rt.alloc(), &mut gate)
 }
 
-/// A change is approved over a writer that fails, and then again.
-fn approves_twice(
+/// A change is approved over a writer that fails after so many bytes, and then again.
+fn approves_twice<B: Book>(
+    rt: &impl Abort,
     alloc: Global,
+    gate: &mut Gate<B>,
     writes: usize,
-) -> Result<(Result<Served, IoFault>, Vec<u8>, Vec<u8>), Fail> {
-    let mut gate = new_gate(alloc)?;
-    told(alloc, &mut gate, KNOWN)?;
+) -> Result<(), Fail> {
+    told(alloc, gate, KNOWN)?;
     let request = posting(alloc, "forge", APPROVED)?;
-    let (served, first) = written(alloc, &mut gate, request.as_str(), 1000, writes);
-    let (_, second) = written(alloc, &mut gate, request.as_str(), 1000, 1000);
-    Ok((served, first, second))
+    let queued = response(alloc, "queued")?;
+    let (beginning, _) = queued
+        .as_str()
+        .split_at_checked(writes)
+        .ok_or("no beginning")?;
+    let first = served_over(alloc, gate, request.as_str(), 1000, writes);
+    assert!(rt;
+        is_cut_behind(&first, beginning.as_bytes()),
+        "after {writes} bytes"
+    );
+    let second = served_over(alloc, gate, request.as_str(), 1000, 1000);
+    assert!(rt;
+        second.written.as_slice() == queued.as_str().as_bytes(),
+        "after {writes} bytes"
+    );
+    Ok(())
 }
 
 #[test]
 fn a_repeat_after_a_cut_answer_gets_the_kept_reply(rt: HostRuntime) -> Result<(), Fail> {
-    for writes in 0..QUEUED.len() {
-        let (served, first, second) = approves_twice(rt.alloc(), writes)?;
-        assert_eq!(rt; served, Err(IoFault::Write));
-        assert_eq!(rt; first.as_slice(), &QUEUED.as_bytes()[..writes]);
-        assert_eq!(rt; second.as_slice(), QUEUED.as_bytes());
+    let queued = response(rt.alloc(), "queued")?;
+    for writes in 0..queued.len() {
+        let mut gate = new_gate(rt.alloc())?;
+        approves_twice(&rt, rt.alloc(), &mut gate, writes)?;
     }
     Ok(())
 }
 
-/// A request that breaks off after so many bytes is not answered.
-fn breaks_off(
-    rt: &impl Abort,
-    alloc: Global,
-    gate: &mut Gate<MemBook>,
-    request: &str,
-    reads: usize,
-) -> Result<(), Fail> {
-    let (served, bytes) = written(alloc, gate, request, reads, 1000);
-    assert_eq!(rt; served, Err(IoFault::Read));
-    assert_eq!(rt; bytes.len(), 0);
+fn is_unread(done: &Done) -> bool {
+    done.served == Err(IoFault::Read) && done.written.is_empty()
+}
+
+/// The approval is not answered, wherever it breaks off.
+fn breaks_off<B: Book>(rt: &impl Abort, alloc: Global, gate: &mut Gate<B>) -> Result<(), Fail> {
+    let request = posting(alloc, "forge", APPROVED)?;
+    for reads in 0..request.len() {
+        let broken = served_over(alloc, gate, request.as_str(), reads, 1000);
+        assert!(rt; is_unread(&broken), "after {reads} bytes");
+    }
     Ok(())
+}
+
+const QUEUED: &str =
+    r#"forge queued {"id":"0b000000-0000-4000-8000-000000000002","kind":"approved","change":101,"revision":1}"#;
+
+fn acts_at_last<B: Book>(rt: &impl Abort, alloc: Global, gate: &mut Gate<B>) -> Result<(), Fail> {
+    told(alloc, gate, KNOWN)?;
+    breaks_off(rt, alloc, gate)?;
+    let orders = served_over(alloc, gate, "GET /orders HTTP/1.1\r\n\r\n", 1000, 1000);
+    assert!(rt; orders.written.as_slice().ends_with(b"[]"));
+    goes_on(rt, alloc, gate, QUEUED)
 }
 
 #[test]
 fn a_request_that_breaks_off_is_not_acted_on(rt: HostRuntime) -> Result<(), Fail> {
-    let alloc = rt.alloc();
-    let mut gate = new_gate(alloc)?;
-    told(alloc, &mut gate, KNOWN)?;
-    let request = posting(alloc, "forge", APPROVED)?;
-    for reads in 0..request.len() {
-        breaks_off(&rt, alloc, &mut gate, request.as_str(), reads)?;
-    }
-    let (_, bytes) = written(alloc, &mut gate, "GET /orders HTTP/1.1\r\n\r\n", 1000, 1000);
-    assert!(rt; bytes.as_slice().ends_with(b"[]"));
-    posts(&rt, alloc, &mut gate, "forge", APPROVED, QUEUED)
+    let mut gate = new_gate(rt.alloc())?;
+    acts_at_last(&rt, rt.alloc(), &mut gate)
 }

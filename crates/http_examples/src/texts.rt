@@ -1,72 +1,103 @@
-//! Requests and responses that several files share, typed from the formats.
+//! Responses that several files share, typed from the formats. In a line `\r`, `\n` and `\t` stand for the
+//! bytes that they name, and `<TEXT*TIMES>` for a text so many times.
+use std::alloc::{AllocError, Global};
+use std::test::Fail;
 
-/// A change is approved that nobody knows.
-pub const CALL: &str =
-    "POST /forge HTTP/1.1\r\nHost: gate\r\nContent-Length: 89\r\n\r\n{\"id\":\"00000000-0000-4000-8000-000000000001\",\"kind\":\"approved\",\"change\":101,\"revision\":1}";
+/// Whole responses, each behind its name.
+const RESPONSES: &str =
+    r#"queued HTTP/1.1 200 OK\r\nContent-Type: application/json\r\nContent-Length: 28\r\nConnection: close\r\n\r\n{"order":1,"reply":"queued"}
+unknown HTTP/1.1 404 Not Found\r\nContent-Type: application/json\r\nContent-Length: 38\r\nConnection: close\r\n\r\n{"code":"E5","error":"unknown-change"}
+cut HTTP/1.1 400 Bad Request\r\nContent-Type: application/json\r\nContent-Length: 15\r\nConnection: close\r\n\r\n{"error":"cut"}
+bad HTTP/1.1 400 Bad Request\r\nContent-Type: application/json\r\nContent-Length: 23\r\nConnection: close\r\n\r\n{"error":"bad-request"}
+no-length HTTP/1.1 411 Length Required\r\nContent-Type: application/json\r\nContent-Length: 18\r\nConnection: close\r\n\r\n{"error":"length"}
+large HTTP/1.1 413 Payload Too Large\r\nContent-Type: application/json\r\nContent-Length: 21\r\nConnection: close\r\n\r\n{"error":"too-large"}
+large-head HTTP/1.1 431 Request Header Fields Too Large\r\nContent-Type: application/json\r\nContent-Length: 26\r\nConnection: close\r\n\r\n{"error":"head-too-large"}
+no-json HTTP/1.1 400 Bad Request\r\nContent-Type: application/json\r\nContent-Length: 32\r\nConnection: close\r\n\r\n{"code":"E1","error":"bad-json"}
+wrong-door HTTP/1.1 404 Not Found\r\nContent-Type: application/json\r\nContent-Length: 34\r\nConnection: close\r\n\r\n{"code":"E3","error":"wrong-door"}
+unknown-build HTTP/1.1 404 Not Found\r\nContent-Type: application/json\r\nContent-Length: 38\r\nConnection: close\r\n\r\n{"code":"E11","error":"unknown-build"}
+recorded HTTP/1.1 200 OK\r\nContent-Type: application/json\r\nContent-Length: 20\r\nConnection: close\r\n\r\n{"reply":"recorded"}
+status HTTP/1.1 200 OK\r\nContent-Type: text/plain\r\nContent-Length: 4\r\nConnection: close\r\n\r\nend\n
+orders HTTP/1.1 200 OK\r\nContent-Type: application/json\r\nContent-Length: 2\r\nConnection: close\r\n\r\n[]
+build HTTP/1.1 200 OK\r\nContent-Type: application/json\r\nContent-Length: 2\r\nConnection: close\r\n\r\n{}
+no-route HTTP/1.1 404 Not Found\r\nContent-Type: application/json\r\nContent-Length: 20\r\nConnection: close\r\n\r\n{"error":"no-route"}
+post-alone HTTP/1.1 405 Method Not Allowed\r\nContent-Type: application/json\r\nContent-Length: 18\r\nAllow: POST\r\nConnection: close\r\n\r\n{"error":"method"}
+get-alone HTTP/1.1 405 Method Not Allowed\r\nContent-Type: application/json\r\nContent-Length: 18\r\nAllow: GET\r\nConnection: close\r\n\r\n{"error":"method"}
+get-alone-to-head HTTP/1.1 405 Method Not Allowed\r\nContent-Type: application/json\r\nContent-Length: 18\r\nAllow: GET\r\nConnection: close\r\n\r\n
+history HTTP/1.1 200 OK\r\nContent-Type: text/plain\r\nConnection: close\r\n\r\nhistory core\nend 0\n
+torn HTTP/1.1 200 OK\r\nContent-Type: text/plain\r\nConnection: close\r\n\r\nhistory core\n
+no-queue HTTP/1.1 404 Not Found\r\nContent-Type: application/json\r\nContent-Length: 20\r\nConnection: close\r\n\r\n{"error":"no-queue"}
+unavailable HTTP/1.1 503 Service Unavailable\r\nContent-Type: application/json\r\nContent-Length: 36\r\nConnection: close\r\n\r\n{"code":"E15","error":"unavailable"}
+empty-status HTTP/1.1 200 OK\r\nContent-Type: text/plain\r\nContent-Length: 61\r\nConnection: close\r\n\r\nqueue core window 2 landed 0\nqueue web window 2 landed 0\nend\n
+stopped-build HTTP/1.1 200 OK\r\nContent-Type: application/json\r\nContent-Length: 126\r\nConnection: close\r\n\r\n{"after":0,"ahead":[[101,1]],"build":3,"change":102,"job":"unit","live":false,"outcome":"running","queue":"core","revision":1}
+core-history HTTP/1.1 200 OK\r\nContent-Type: text/plain\r\nConnection: close\r\n\r\nhistory core\n     1      2       102    1 landed          1\n     2      1       101    1 failed          -\nend 2\n
+web-history HTTP/1.1 200 OK\r\nContent-Type: text/plain\r\nConnection: close\r\n\r\nhistory web\nend 0\n
+item-status HTTP/1.1 200 OK\r\nContent-Type: text/plain\r\nContent-Length: 124\r\nConnection: close\r\n\r\nqueue core window 2 landed 0\n     1       101    1      - ok      unit=waiting docs=waiting\nqueue web window 2 landed 0\nend\n
+"#;
 
-pub const QUEUED: &str =
-    "HTTP/1.1 200 OK\r\nContent-Type: application/json\r\nContent-Length: 28\r\nConnection: close\r\n\r\n{\"order\":1,\"reply\":\"queued\"}";
+/// What some responses end in.
+const ENDINGS: &str =
+    r#"wrong-door Content-Length: 34\r\nConnection: close\r\n\r\n{"code":"E3","error":"wrong-door"}
+no-json \r\n\r\n{"code":"E1","error":"bad-json"}
+queued HTTP/1.1 200 OK\r\nContent-Type: application/json\r\nContent-Length: 28\r\nConnection: close\r\n\r\n{"order":1,"reply":"queued"}
+idle \r\n\r\n{"code":"E12","error":"idle"}
+bad-delivery \r\n\r\n{"code":"E2","error":"bad-delivery"}
+first-build Content-Length: 102\r\nConnection: close\r\n\r\n{"after":0,"ahead":[],"build":1,"change":101,"job":"unit","queue":"core","reply":"build","revision":1}
+second-build {"after":0,"ahead":[],"build":2,"change":101,"job":"docs","queue":"core","reply":"build","revision":1}
+"#;
 
-pub const UNKNOWN: &str =
-    "HTTP/1.1 404 Not Found\r\nContent-Type: application/json\r\nContent-Length: 38\r\nConnection: close\r\n\r\n{\"code\":\"E5\",\"error\":\"unknown-change\"}";
+fn unescaped(alloc: Global, text: &str) -> Result<String, AllocError> {
+    let text = text.replace(alloc, "\\r", "\r")?;
+    let text = text.as_str().replace(alloc, "\\n", "\n")?;
+    text.as_str().replace(alloc, "\\t", "\t")
+}
 
-pub const CUT: &str =
-    "HTTP/1.1 400 Bad Request\r\nContent-Type: application/json\r\nContent-Length: 15\r\nConnection: close\r\n\r\n{\"error\":\"cut\"}";
+/// What stands behind this name, if the line begins with it.
+fn named<'a>(line: &'a str, name: &str) -> Option<&'a str> {
+    let (word, text) = line.split_once(' ')?;
+    if word == name { Some(text) } else { None }
+}
 
-pub const BAD: &str =
-    "HTTP/1.1 400 Bad Request\r\nContent-Type: application/json\r\nContent-Length: 23\r\nConnection: close\r\n\r\n{\"error\":\"bad-request\"}";
+fn found(alloc: Global, lines: &str, name: &str) -> Result<String, Fail> {
+    for line in lines.lines() {
+        if let Some(text) = named(line, name) {
+            return Ok(unescaped(alloc, text)?);
+        }
+    }
+    Err(Fail::new("no text of this name"))
+}
 
-pub const NO_LENGTH: &str =
-    "HTTP/1.1 411 Length Required\r\nContent-Type: application/json\r\nContent-Length: 18\r\nConnection: close\r\n\r\n{\"error\":\"length\"}";
+pub fn response(alloc: Global, name: &str) -> Result<String, Fail> {
+    found(alloc, RESPONSES, name)
+}
 
-pub const LARGE: &str =
-    "HTTP/1.1 413 Payload Too Large\r\nContent-Type: application/json\r\nContent-Length: 21\r\nConnection: close\r\n\r\n{\"error\":\"too-large\"}";
+pub fn ending(alloc: Global, name: &str) -> Result<String, Fail> {
+    found(alloc, ENDINGS, name)
+}
 
-pub const LARGE_HEAD: &str =
-    "HTTP/1.1 431 Request Header Fields Too Large\r\nContent-Type: application/json\r\nContent-Length: 26\r\nConnection: close\r\n\r\n{\"error\":\"head-too-large\"}";
+/// A part of a line behind a `<`: the repeated text and what stands behind the `>`.
+fn repeated(alloc: Global, part: &str) -> Option<String> {
+    let (repeated, rest) = part.split_once('>')?;
+    let (text, times) = repeated.split_once('*')?;
+    let times = times.parse::<usize>().ok()?;
+    let mut text = text.repeat(alloc, times).ok()?;
+    text.push_str(rest).ok()?;
+    Some(text)
+}
 
-pub const NO_JSON: &str =
-    "HTTP/1.1 400 Bad Request\r\nContent-Type: application/json\r\nContent-Length: 32\r\nConnection: close\r\n\r\n{\"code\":\"E1\",\"error\":\"bad-json\"}";
+fn expanded(alloc: Global, text: &str) -> Option<String> {
+    let (front, rest) = text.split_once('<')?;
+    let mut text = String::from_str(alloc, front).ok()?;
+    for part in rest.split('<') {
+        text.push_str(repeated(alloc, part)?.as_str()).ok()?;
+    }
+    Some(text)
+}
 
-pub const WRONG_DOOR: &str =
-    "HTTP/1.1 404 Not Found\r\nContent-Type: application/json\r\nContent-Length: 34\r\nConnection: close\r\n\r\n{\"code\":\"E3\",\"error\":\"wrong-door\"}";
-
-pub const UNKNOWN_BUILD: &str =
-    "HTTP/1.1 404 Not Found\r\nContent-Type: application/json\r\nContent-Length: 38\r\nConnection: close\r\n\r\n{\"code\":\"E11\",\"error\":\"unknown-build\"}";
-
-pub const RECORDED: &str =
-    "HTTP/1.1 200 OK\r\nContent-Type: application/json\r\nContent-Length: 20\r\nConnection: close\r\n\r\n{\"reply\":\"recorded\"}";
-
-pub const STATUS: &str =
-    "HTTP/1.1 200 OK\r\nContent-Type: text/plain\r\nContent-Length: 4\r\nConnection: close\r\n\r\nend\n";
-
-pub const ORDERS: &str =
-    "HTTP/1.1 200 OK\r\nContent-Type: application/json\r\nContent-Length: 2\r\nConnection: close\r\n\r\n[]";
-
-pub const BUILD: &str =
-    "HTTP/1.1 200 OK\r\nContent-Type: application/json\r\nContent-Length: 2\r\nConnection: close\r\n\r\n{}";
-
-pub const NO_ROUTE: &str =
-    "HTTP/1.1 404 Not Found\r\nContent-Type: application/json\r\nContent-Length: 20\r\nConnection: close\r\n\r\n{\"error\":\"no-route\"}";
-
-pub const POST_ALONE: &str =
-    "HTTP/1.1 405 Method Not Allowed\r\nContent-Type: application/json\r\nContent-Length: 18\r\nAllow: POST\r\nConnection: close\r\n\r\n{\"error\":\"method\"}";
-
-pub const GET_ALONE: &str =
-    "HTTP/1.1 405 Method Not Allowed\r\nContent-Type: application/json\r\nContent-Length: 18\r\nAllow: GET\r\nConnection: close\r\n\r\n{\"error\":\"method\"}";
-
-pub const GET_ALONE_TO_HEAD: &str =
-    "HTTP/1.1 405 Method Not Allowed\r\nContent-Type: application/json\r\nContent-Length: 18\r\nAllow: GET\r\nConnection: close\r\n\r\n";
-
-pub const HISTORY: &str =
-    "HTTP/1.1 200 OK\r\nContent-Type: text/plain\r\nConnection: close\r\n\r\nhistory core\nend 0\n";
-
-/// The head of an answered history, and the first line of its text.
-pub const TORN: &str =
-    "HTTP/1.1 200 OK\r\nContent-Type: text/plain\r\nConnection: close\r\n\r\nhistory core\n";
-
-pub const NO_QUEUE: &str =
-    "HTTP/1.1 404 Not Found\r\nContent-Type: application/json\r\nContent-Length: 20\r\nConnection: close\r\n\r\n{\"error\":\"no-queue\"}";
-
-pub const UNAVAILABLE: &str =
-    "HTTP/1.1 503 Service Unavailable\r\nContent-Type: application/json\r\nContent-Length: 36\r\nConnection: close\r\n\r\n{\"code\":\"E15\",\"error\":\"unavailable\"}";
+/// What a line of a request or a body stands for.
+pub fn meant(alloc: Global, line: &str) -> Result<String, Fail> {
+    let text = unescaped(alloc, line)?;
+    if text.as_str().contains('<') {
+        return Ok(expanded(alloc, text.as_str()).ok_or("no repeated text")?);
+    }
+    Ok(text)
+}

@@ -1,7 +1,6 @@
 //! A book whose histories break off.
 use gate_book::book::Book;
 use gate_book::fault::{BookFault, HistoryFault};
-use gate_book::memory::MemBook;
 use gate_book::rows::{QueueSizes, QueuedItem};
 use gate_types::edits::Edit;
 use gate_types::names::Name;
@@ -13,9 +12,9 @@ use std::io::Write;
 
 /// Answers as the book in it, but that a history ends behind its first line.
 #[derive(Drop)]
-pub struct Torn(pub MemBook);
+pub struct Torn<B>(pub B);
 
-impl Book for Torn {
+impl<B: Book> Book for Torn<B> {
     ghost Holds = { λ _ _ _. ⊥ };
 
     ghost IsTrusted = { λ _. ⊥ };
