@@ -33,7 +33,7 @@ pub struct Gate<B> {
     pub book: B,
 }
 
-impl<B: Book> Gate<B> {
+impl<B> Gate<B> {
     /// A gate under these settings, over a book that was made under them.
     pub fn new(config: Config, book: B) -> Gate<B>
         ensures config { result.config ≡ config }
@@ -49,7 +49,9 @@ impl<B: Book> Gate<B> {
         let Gate { config: _, book } = self;
         book
     }
+}
 
+impl<B: Book> Gate<B> {
     /// The answer to a delivery. A first accepted delivery spends its id and its reply is kept; a spent id gets the
     /// kept reply again if the delivery is the same, and `id-reused` if it is another one. After a refusal nothing has
     /// changed; `unavailable` comes only where the book gave a fault or memory was refused.
