@@ -227,19 +227,15 @@ pub fn answer_request<G: Respond, R: Read, W: Write>(
     ensures reader_failed { IsErrOf result IoFault.Read → has_failed reader.new ≡ true }
     ensures writer_failed { IsErrOf result IoFault.Write → has_failed writer.new ≡ true }
 {
-    let Ok(router) = router(alloc) else {
-        return Err(IoFault::NoMemory);
-    };
-    let Ok(mut head) = Vec::with_capacity(alloc, HEAD_LIMIT) else {
-        return Err(IoFault::NoMemory);
-    };
-    let Ok(mut body) = Vec::with_capacity(alloc, BODY_LIMIT) else {
-        return Err(IoFault::NoMemory);
-    };
-    let Ok(mut room) = Vec::with_capacity(alloc, HEAD_ROOM) else {
-        return Err(IoFault::NoMemory);
-    };
-    answer(
-        alloc, gate, reader, writer, &router, &mut head, &mut body, &mut room,
-    )
+    match (
+        router(alloc),
+        Vec::with_capacity(alloc, HEAD_LIMIT),
+        Vec::with_capacity(alloc, BODY_LIMIT),
+        Vec::with_capacity(alloc, HEAD_ROOM),
+    ) {
+        (Ok(router), Ok(mut head), Ok(mut body), Ok(mut room)) => answer(
+            alloc, gate, reader, writer, &router, &mut head, &mut body, &mut room,
+        ),
+        _ => Err(IoFault::NoMemory),
+    }
 }

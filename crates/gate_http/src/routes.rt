@@ -1,6 +1,6 @@
 //! The routes.
 ghost use Rattle.std.specs.Prelude.{◌≡◌, IfOk};
-ghost use Rattle.gate_http.specs.Routes.{routes, route_of, path_of, behind_slash, parameter_of};
+ghost use Rattle.gate_http.specs.Routes.{routes, with_route, route_of, path_of, behind_slash, parameter_of};
 
 use matchit::{InsertError, Router};
 use std::alloc::Global;
@@ -20,13 +20,23 @@ pub(crate) enum Route {
 pub(crate) fn router(alloc: Global) -> Result<Router<Route>, InsertError>
     ensures { IfOk result (λ r. r ≡ routes) }
 {
-    let mut router = Router::new(alloc);
-    router.insert("/forge", Route::Forge)?;
-    router.insert("/worker", Route::Worker)?;
-    router.insert("/status", Route::Status)?;
-    router.insert("/orders", Route::Orders)?;
-    router.insert("/builds/{id}", Route::Builds)?;
-    router.insert("/history/{queue}", Route::History)?;
+    let router = with_route(Router::new(alloc), "/forge", Route::Forge)?;
+    let router = with_route(router, "/worker", Route::Worker)?;
+    let router = with_route(router, "/status", Route::Status)?;
+    let router = with_route(router, "/orders", Route::Orders)?;
+    let router = with_route(router, "/builds/{id}", Route::Builds)?;
+    with_route(router, "/history/{queue}", Route::History)
+}
+
+/// The router with one more route.
+fn with_route(
+    mut router: Router<Route>,
+    path: &str,
+    route: Route,
+) -> Result<Router<Route>, InsertError>
+    ensures { IfOk result (λ r. r ≡ with_route path.now route router) }
+{
+    router.insert(path, route)?;
     Ok(router)
 }
 
