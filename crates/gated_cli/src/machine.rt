@@ -5,9 +5,10 @@ use crate::run::{Fault, over_file};
 use gate_sql::open_fault::OpenFault;
 use gate_types::config::Config;
 use gate_types::tap::Tap;
-use sqlite::{Connection, File, FileStore};
+use sqlite::{Alter, Connection, File, FileStore};
 use std::fs;
 use std::io::{Read, Write};
+use std::net::Net;
 
 /// The gates' files of a machine, by their paths.
 pub trait GateFiles {
@@ -88,11 +89,11 @@ pub trait GateFiles {
             (beside W.contents left failed output.old) (beside W.contents left failed output.new)) };
 }
 
-impl GateFiles for HostRuntime {
+impl<S: Alter + Drop, M: Databases<Database = Connection<S>> + Net + AllocGlobal> GateFiles for M {
     fn make(&self, file: &str, config: &Config) -> Result<(), Fault> {
-        let conn = database(self, file)?;
+        let conn = self.database(file)?;
         let (conn, done) = over_file::make(self.alloc(), conn, config);
-        closed(conn, done)
+        closed(self.close(conn), done)
     }
 
     fn deliver<R: Read, W: Write>(
@@ -102,9 +103,9 @@ impl GateFiles for HostRuntime {
         input: &mut Tap<R>,
         output: &mut Tap<W>,
     ) -> Result<(), Fault> {
-        let conn = present(self, file)?;
+        let conn = self.present(file)?;
         let (conn, done) = over_file::deliver(self.alloc(), conn, config, input, output);
-        closed(conn, done)
+        closed(self.close(conn), done)
     }
 
     fn status<W: Write>(
@@ -113,9 +114,9 @@ impl GateFiles for HostRuntime {
         config: Config,
         output: &mut Tap<W>,
     ) -> Result<(), Fault> {
-        let conn = present(self, file)?;
+        let conn = self.present(file)?;
         let (conn, done) = over_file::status(self.alloc(), conn, config, output);
-        closed(conn, done)
+        closed(self.close(conn), done)
     }
 
     fn history<W: Write>(
@@ -125,9 +126,9 @@ impl GateFiles for HostRuntime {
         queue: &str,
         output: &mut Tap<W>,
     ) -> Result<(), Fault> {
-        let conn = present(self, file)?;
+        let conn = self.present(file)?;
         let (conn, done) = over_file::history(self.alloc(), conn, config, queue, output);
-        closed(conn, done)
+        closed(self.close(conn), done)
     }
 
     fn serve<W: Write, E: Write>(
@@ -139,39 +140,67 @@ impl GateFiles for HostRuntime {
         output: &mut Tap<W>,
         errors: &mut Tap<E>,
     ) -> Result<(), Fault> {
-        let conn = present(self, file)?;
+        let conn = self.present(file)?;
         let (conn, done) = over_file::serve(self, conn, config, port, count, output, errors);
-        closed(conn, done)
+        closed(self.close(conn), done)
     }
 }
 
-/// The database of a file that is there.
-fn present(rt: &HostRuntime, file: &str) -> Result<Connection<FileStore<File>>, Fault>
-    ensures { IfErr result (λ f. f ≡ Fault.File OpenFault.Unavailable) }
-{
-    match fs::open(rt, file) {
-        Ok(_) => database(rt, file),
-        Err(_) => Err(Fault::File(OpenFault::Unavailable)),
+/// The databases of a machine, by the paths of their files.
+pub trait Databases {
+    ghost use Rattle.std.specs.Prelude.{◌≡◌, IfErr};
+    ghost use Rattle.gate_sql.specs.declared.open_fault.OpenFault.{OpenFault};
+
+    /// An open database.
+    type Database;
+
+    /// The database of a file, which is made where it isn't there. `File` where it can't be opened.
+    fn database(&self, file: &str) -> Result<Self::Database, Fault>
+        ensures { IfErr result (λ f. f ≡ Fault.File OpenFault.Unavailable) };
+
+    /// The database of a file that is there. `File` where it isn't, or can't be opened.
+    fn present(&self, file: &str) -> Result<Self::Database, Fault>
+        ensures { IfErr result (λ f. f ≡ Fault.File OpenFault.Unavailable) };
+
+    /// Closes a database. `Store` where it can't be.
+    fn close(&self, conn: Self::Database) -> Result<(), Fault>
+        ensures { IfErr result (λ f. f ≡ Fault.Store) };
+}
+
+impl Databases for HostRuntime {
+    type Database = Connection<FileStore<File>>;
+
+    fn database(&self, file: &str) -> Result<Connection<FileStore<File>>, Fault> {
+        match Connection::open(self, file) {
+            Ok(conn) => Ok(conn),
+            Err(_) => Err(Fault::File(OpenFault::Unavailable)),
+        }
+    }
+
+    fn present(&self, file: &str) -> Result<Connection<FileStore<File>>, Fault> {
+        match fs::open(self, file) {
+            Ok(_) => self.database(file),
+            Err(_) => Err(Fault::File(OpenFault::Unavailable)),
+        }
+    }
+
+    fn close(&self, conn: Connection<FileStore<File>>) -> Result<(), Fault> {
+        match conn.close() {
+            Ok(()) => Ok(()),
+            Err(_) => Err(Fault::Store),
+        }
     }
 }
 
-/// The database of a file, which is made where it isn't there.
-fn database(rt: &HostRuntime, file: &str) -> Result<Connection<FileStore<File>>, Fault>
-    ensures { IfErr result (λ f. f ≡ Fault.File OpenFault.Unavailable) }
-{
-    match Connection::open(rt, file) {
-        Ok(conn) => Ok(conn),
-        Err(_) => Err(Fault::File(OpenFault::Unavailable)),
-    }
-}
-
-/// Closes the database, and gives what became of the command: its fault before one of closing.
-fn closed(conn: Connection<FileStore<File>>, done: Result<(), Fault>) -> Result<(), Fault>
+/// What became of a command: its fault before one of closing.
+fn closed(closing: Result<(), Fault>, done: Result<(), Fault>) -> Result<(), Fault>
+    requires { IfErr closing (λ f. f ≡ Fault.Store) }
     ensures fault { OnErr done (result ≡ done) }
+    ensures closing { OnOk done (result ≡ closing) }
     ensures store { OnOk done (IfErr result (λ f. f ≡ Fault.Store)) }
 {
-    match (conn.close(), done) {
-        (Err(_), Ok(())) => Err(Fault::Store),
-        (_, done) => done,
+    match done {
+        Ok(()) => closing,
+        Err(fault) => Err(fault),
     }
 }

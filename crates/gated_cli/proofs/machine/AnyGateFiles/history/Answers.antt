@@ -1,5 +1,5 @@
 use Rattle.gated_cli.proofs.ShowLemmas.{closed_well, history_closes, looks}
-use Rattle.gated_cli.proofs.machine.HostRuntimeGateFiles.history.Goals as goal
+use Rattle.gated_cli.proofs.machine.AnyGateFiles.history.Goals as goal
 
 pub returns-clause-ok : goal.returns-clause-ok
 returns-clause-ok g c = closed_well c.history-conn.result.1 c.closed.result c.closed.ensures.fault c.history-conn.ensures.ok

@@ -1,5 +1,5 @@
 use Rattle.gated_cli.proofs.ShowLemmas.{closed_well, prints, status_closes}
-use Rattle.gated_cli.proofs.machine.HostRuntimeGateFiles.status.Goals as goal
+use Rattle.gated_cli.proofs.machine.AnyGateFiles.status.Goals as goal
 
 pub returns-clause-ok : goal.returns-clause-ok
 returns-clause-ok g c = closed_well c.status-conn.result.1 c.closed.result c.closed.ensures.fault c.status-conn.ensures.ok

@@ -2,7 +2,7 @@ use Rattle.std.proofs.Common.{refl}
 use Rattle.gated_cli.specs.Doing.{beside}
 use Rattle.gated_cli.proofs.FileLemmas.{serving_ends}
 use Rattle.gated_cli.proofs.TalkLemmas.{none_so_far}
-use Rattle.gated_cli.proofs.machine.HostRuntimeGateFiles.serve.Goals as goal
+use Rattle.gated_cli.proofs.machine.AnyGateFiles.serve.Goals as goal
 
 pub returns-clause-err : goal.returns-clause-err
 returns-clause-err g c = serving_ends c.args.port c.serve-conn.result.1 c.closed.result

@@ -2,7 +2,7 @@ use Rattle.std.proofs.Common.{ap₂}
 use Rattle.std.proofs.lemmas.Result.{on_ok_weaker, IfErr-weaker}
 use Rattle.gated_cli.specs.Doing.{streams}
 use Rattle.gated_cli.proofs.FileLemmas.{delivery_ends}
-use Rattle.gated_cli.proofs.machine.HostRuntimeGateFiles.deliver.Goals as goal
+use Rattle.gated_cli.proofs.machine.AnyGateFiles.deliver.Goals as goal
 
 pub returns-clause-err : goal.returns-clause-err
 returns-clause-err g c =
