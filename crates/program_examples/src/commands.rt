@@ -35,7 +35,7 @@ $ clear check_counts.toml
 
 #[test]
 fn a_check_counts_what_the_settings_have(rt: HostRuntime) -> Result<(), Fail> {
-    goes(&rt, COUNTED)
+    goes(&rt, &rt, COUNTED)
 }
 
 const CHECKED_FAULTS: &str = "\
@@ -57,7 +57,7 @@ $ clear check_faults.toml
 #[test]
 fn a_check_tells_the_fault(rt: HostRuntime) -> Result<(), Fail> {
     write_a_high_floor(&rt, "check_high.toml")?;
-    goes(&rt, CHECKED_FAULTS)
+    goes(&rt, &rt, CHECKED_FAULTS)
 }
 
 const EMPTY: &str = "\
@@ -74,7 +74,7 @@ $ clear run_empty.toml
 
 #[test]
 fn an_empty_replay_shows_each_queue(rt: HostRuntime) -> Result<(), Fail> {
-    goes(&rt, EMPTY)
+    goes(&rt, &rt, EMPTY)
 }
 
 const ANSWERED: &str = r#"$ write run_answered.toml < one queue
@@ -86,7 +86,7 @@ $ clear run_answered.toml
 
 #[test]
 fn a_delivery_is_answered_and_a_refusal_is_no_fault(rt: HostRuntime) -> Result<(), Fail> {
-    goes(&rt, ANSWERED)
+    goes(&rt, &rt, ANSWERED)
 }
 
 const FAULTS: &str = "\
@@ -111,7 +111,7 @@ $ clear run_faulty.toml
 #[test]
 fn a_settings_file_with_a_fault_ends_the_command(rt: HostRuntime) -> Result<(), Fail> {
     write_a_high_floor(&rt, "run_high.toml")?;
-    goes(&rt, FAULTS)
+    goes(&rt, &rt, FAULTS)
 }
 
 const UNREADABLE: &str = "\
@@ -133,7 +133,7 @@ $ clear run_long.toml
 #[test]
 fn a_settings_file_that_cannot_be_read_ends_the_command(rt: HostRuntime) -> Result<(), Fail> {
     write_a_comment(&rt, "run_long.toml", 1_048_577)?;
-    goes(&rt, UNREADABLE)
+    goes(&rt, &rt, UNREADABLE)
 }
 
 const AT_THE_LIMIT: &str = "\
@@ -146,7 +146,7 @@ $ clear run_at_the_limit.toml
 #[test]
 fn a_settings_file_at_the_limit_is_read(rt: HostRuntime) -> Result<(), Fail> {
     write_a_comment(&rt, "run_at_the_limit.toml", 1_048_576)?;
-    goes(&rt, AT_THE_LIMIT)
+    goes(&rt, &rt, AT_THE_LIMIT)
 }
 
 /// A replay, with its status, over streams of which some are broken.

@@ -24,7 +24,7 @@ $ clear init_twice.toml init_twice.gate init_twice.gate-wal
 
 #[test]
 fn a_second_init_is_refused_and_leaves_the_gate(rt: HostRuntime) -> Result<(), Fail> {
-    goes(&rt, TWICE)
+    goes(&rt, &rt, TWICE)
 }
 
 /// Where no file is there, none is left behind.
@@ -53,7 +53,7 @@ $ clear no_gate.toml no_gate.gate no_gate.gate-wal
 
 #[test]
 fn a_file_that_is_no_gates_is_refused(rt: HostRuntime) -> Result<(), Fail> {
-    goes(&rt, NO_GATE)
+    goes(&rt, &rt, NO_GATE)
 }
 
 const NO_FOLDER: &str = "\
@@ -70,7 +70,7 @@ $ clear no_folder.toml no_folder/gate no_folder/gate-wal
 
 #[test]
 fn a_folder_that_is_not_there_is_told(rt: HostRuntime) -> Result<(), Fail> {
-    goes(&rt, NO_FOLDER)
+    goes(&rt, &rt, NO_FOLDER)
 }
 
 const OTHERS: &str = r#"$ clear others.toml others.gate others.gate-wal
@@ -91,5 +91,5 @@ $ clear others.toml others.gate others.gate-wal
 
 #[test]
 fn other_settings_are_refused(rt: HostRuntime) -> Result<(), Fail> {
-    goes(&rt, OTHERS)
+    goes(&rt, &rt, OTHERS)
 }

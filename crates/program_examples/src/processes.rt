@@ -1,13 +1,11 @@
 //! What the program writes where, and its status.
-use crate::sessions::{answer, goes, run_over, shown};
+use crate::sessions::{goes, outcome, run_over, shown};
 use crate::streams::Broken;
 use gate_types::tap::Tap;
-use gated_cli::machine::GateFiles;
 use gated_cli::program::unread;
 use gated_cli::started;
 use std::io;
 use std::process::{Abort, ExitCode};
-use std::rt::Files;
 use std::test::Fail;
 
 const DONE: &str = r#"$ write program_done.toml < one queue
@@ -25,7 +23,7 @@ $ clear program_done.toml
 
 #[test]
 fn a_command_is_done(rt: HostRuntime) -> Result<(), Fail> {
-    goes(&rt, DONE)
+    goes(&rt, &rt, DONE)
 }
 
 const MISSING: &str = "\
@@ -41,7 +39,7 @@ unread
 
 #[test]
 fn a_fault_is_told_on_the_errors(rt: HostRuntime) -> Result<(), Fail> {
-    goes(&rt, MISSING)
+    goes(&rt, &rt, MISSING)
 }
 
 const REFUSED: &str = "\
@@ -84,15 +82,11 @@ unread
 
 #[test]
 fn a_refused_line_is_told_on_the_errors(rt: HostRuntime) -> Result<(), Fail> {
-    goes(&rt, REFUSED)
+    goes(&rt, &rt, REFUSED)
 }
 
-fn gives_help<F: Abort + Files + GateFiles + AllocGlobal>(
-    rt: &F,
-    line: &str,
-    usage: &str,
-) -> Result<(), Fail> {
-    let text = answer(rt, line)?;
+fn gives_help(rt: &impl Abort, host: &HostRuntime, line: &str, usage: &str) -> Result<(), Fail> {
+    let text = outcome(host, line)?;
     assert!(rt; text.contains(usage), "{line} gives {text}");
     assert!(rt; text.ends_with("\n|= 0\nunread\n"), "{line} gives {text}");
     Ok(())
@@ -102,15 +96,18 @@ fn gives_help<F: Abort + Files + GateFiles + AllocGlobal>(
 fn help_is_given_on_the_output(rt: HostRuntime) -> Result<(), Fail> {
     gives_help(
         &rt,
+        &rt,
         "gated --help < no delivery",
         "Usage: gated <COMMAND>\n",
     )?;
     gives_help(
         &rt,
+        &rt,
         "gated check --help < no delivery",
         "Usage: gated check <SETTINGS>\n",
     )?;
     gives_help(
+        &rt,
         &rt,
         "gated help replay < no delivery",
         "Usage: gated replay [OPTIONS] <SETTINGS>\n",

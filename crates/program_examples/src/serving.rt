@@ -124,7 +124,7 @@ $ gated init serve_two.toml serve_two.gate
 
 #[test]
 fn clients_that_wrote_before_are_answered(rt: HostRuntime) -> Result<(), Fail> {
-    goes(&rt, MADE)?;
+    goes(&rt, &rt, MADE)?;
     let listener = TcpListener::bind(&rt, "127.0.0.1:0")?;
     let first = client(&rt, &listener, POST)?;
     let second = client(&rt, &listener, STATUS)?;
@@ -134,6 +134,7 @@ fn clients_that_wrote_before_are_answered(rt: HostRuntime) -> Result<(), Fail> {
     assert_eq!(rt; received(rt.alloc(), first)?.as_str(), RECORDED);
     assert_eq!(rt; received(rt.alloc(), second)?.as_str(), SHOWN);
     goes(
+        &rt,
         &rt,
         "$ clear serve_two.toml serve_two.gate serve_two.gate-wal\n",
     )
@@ -162,5 +163,5 @@ fn a_taken_port_is_told_and_leaves_the_gate(rt: HostRuntime) -> Result<(), Fail>
         "$ gated serve serve_taken.toml serve_taken.gate --port {port} --count 1"
     )?;
     let session = format!(in rt.alloc(); "{BEFORE}{serve}\n{AFTER}")?;
-    goes(&rt, session.as_str())
+    goes(&rt, &rt, session.as_str())
 }

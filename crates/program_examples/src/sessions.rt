@@ -111,31 +111,31 @@ fn presence<F: Files>(rt: &F, file: &str) -> &'static str {
 }
 
 /// What comes of a line.
-fn outcome<F: Files + GateFiles + AllocGlobal>(rt: &F, line: &str) -> Result<String, Fail> {
+pub fn outcome(host: &HostRuntime, line: &str) -> Result<String, Fail> {
     let (verb, rest) = line.split_once(' ').ok_or("no command")?;
     match verb {
-        "gated" => return answer(rt, line),
-        "write" => write(rt, rest)?,
-        "clear" => clear(rt, rest),
-        "look" => return Ok(presence(rt, rest).to_string(rt.alloc())?),
+        "gated" => return answer(host, line),
+        "write" => write(host, rest)?,
+        "clear" => clear(host, rest),
+        "look" => return Ok(presence(host, rest).to_string(host.alloc())?),
         _ => return Err(Fail::new("an unknown command")),
     }
-    Ok(String::new(rt.alloc()))
+    Ok(String::new(host.alloc()))
 }
 
 /// Does the first line of a part of a session, and finds what stands below it.
-fn goes_on<F: Abort + Files + GateFiles + AllocGlobal>(rt: &F, part: &str) -> Result<(), Fail> {
+fn goes_on(rt: &impl Abort, host: &HostRuntime, part: &str) -> Result<(), Fail> {
     let (line, wanted) = part.split_once('\n').ok_or("no line's end")?;
-    let came = outcome(rt, line)?;
+    let came = outcome(host, line)?;
     assert_eq!(rt; came.as_str(), wanted, "{line}");
     Ok(())
 }
 
 /// Does the lines behind `$ `, and finds below each what comes of it.
-pub fn goes<F: Abort + Files + GateFiles + AllocGlobal>(rt: &F, session: &str) -> Result<(), Fail> {
+pub fn goes(rt: &impl Abort, host: &HostRuntime, session: &str) -> Result<(), Fail> {
     let session = session.strip_prefix("$ ").ok_or("no line to do")?;
     for part in session.split("$ ") {
-        goes_on(rt, part)?;
+        goes_on(rt, host, part)?;
     }
     Ok(())
 }

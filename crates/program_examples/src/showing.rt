@@ -1,5 +1,5 @@
 //! The status and the histories of a gate in a file.
-use crate::sessions::{Ran, answer, answer_over, goes, run_over, shown};
+use crate::sessions::{Ran, answer_over, goes, outcome, run_over, shown};
 use gated_cli::machine::GateFiles;
 use std::io;
 use std::io::Write;
@@ -40,13 +40,13 @@ $ clear showing.toml showing.gate showing.gate-wal
 
 #[test]
 fn the_texts_are_those_of_the_gate_in_the_file(rt: HostRuntime) -> Result<(), Fail> {
-    goes(&rt, MORNING)?;
-    let day = answer(&rt, "gated deliver showing.toml showing.gate < day")?;
+    goes(&rt, &rt, MORNING)?;
+    let day = outcome(&rt, "gated deliver showing.toml showing.gate < day")?;
     assert!(rt;
         day.ends_with("{\"n\":1,\"reply\":\"landed\"}\n|= 0\n"),
         "{day}"
     );
-    goes(&rt, AFTERNOON)
+    goes(&rt, &rt, AFTERNOON)
 }
 
 const NO_FILE: &str = "\
@@ -82,12 +82,13 @@ fn has_no_queue<F: Abort + Files + GateFiles + AllocGlobal>(
 
 #[test]
 fn a_queue_or_a_file_that_is_not_there_is_told(rt: HostRuntime) -> Result<(), Fail> {
-    goes(&rt, NO_FILE)?;
+    goes(&rt, &rt, NO_FILE)?;
     // The last two can be no queue's name.
     for queue in ["cor", "", "core web"] {
         has_no_queue(&rt, queue)?;
     }
     goes(
+        &rt,
         &rt,
         "$ clear showing_none.toml showing_none.gate showing_none.gate-wal\n",
     )
@@ -137,8 +138,8 @@ $ gated init showing_full.toml showing_full.gate
 
 #[test]
 fn a_full_output_takes_a_beginning(rt: HostRuntime) -> Result<(), Fail> {
-    goes(&rt, FULL)?;
-    let _ = answer(
+    goes(&rt, &rt, FULL)?;
+    let _ = outcome(
         &rt,
         "gated deliver showing_full.toml showing_full.gate < day",
     )?;
@@ -159,6 +160,7 @@ fn a_full_output_takes_a_beginning(rt: HostRuntime) -> Result<(), Fail> {
         "history core\n     1 |gated: I2 write\n= 1\n"
     );
     goes(
+        &rt,
         &rt,
         "$ clear showing_full.toml showing_full.gate showing_full.gate-wal\n",
     )
