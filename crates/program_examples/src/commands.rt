@@ -1,28 +1,22 @@
 //! Whole runs: what is printed, and the status.
-use crate::sessions::{Ran, goes, run_over, shown};
-use crate::streams::Broken;
+use crate::sessions::{clear, goes, shown, write};
+use crate::streams::{Input, Output, Streams};
 use crate::texts::{APPROVAL, ONE_QUEUE, TWO_QUEUES};
 use gate_config::ConfigFault;
 use gate_types::tap::Tap;
-use gated_cli::machine::GateFiles;
 use gated_cli::run::{Fault, ended};
-use std::fs;
-use std::io::{Read, Write};
-use std::rt::Files;
 use std::test::Fail;
 
 /// The same settings, with a floor above the window of the first queue.
-fn write_a_high_floor<F: Files + AllocGlobal>(rt: &F, file: &str) -> Result<(), Fail> {
-    let high = TWO_QUEUES.replacen(rt.alloc(), "floor = 1", "floor = 3", 1)?;
-    fs::write(rt, file, high.as_bytes())?;
-    Ok(())
+fn write_a_high_floor(host: &HostRuntime, file: &str) -> Result<(), Fail> {
+    let high = TWO_QUEUES.replacen(host.alloc(), "floor = 1", "floor = 3", 1)?;
+    write(host, file, high.as_str())
 }
 
 /// A settings file of one comment, of so many bytes.
-fn write_a_comment<F: Files + AllocGlobal>(rt: &F, file: &str, size: usize) -> Result<(), Fail> {
-    let comment = vec![in rt.alloc(); b'#'; size]?;
-    fs::write(rt, file, comment)?;
-    Ok(())
+fn write_a_comment(host: &HostRuntime, file: &str, size: usize) -> Result<(), Fail> {
+    let comment = String::from_utf8(vec![in host.alloc(); b'#'; size]?)?;
+    write(host, file, comment.as_str())
 }
 
 const COUNTED: &str = "\
@@ -149,44 +143,26 @@ fn a_settings_file_at_the_limit_is_read(rt: HostRuntime) -> Result<(), Fail> {
     goes(&rt, &rt, AT_THE_LIMIT)
 }
 
-/// A replay, with its status, over streams of which some are broken.
-fn replayed<F: Files + GateFiles + AllocGlobal, R: Read, W: Write, E: Write>(
-    rt: &F,
-    input: R,
-    output: W,
-    errors: E,
-) -> Ran<R, W, E> {
+/// What a replay shows, with its status, over streams of which some are broken.
+fn replayed(host: &HostRuntime, streams: Streams<'_>) -> Result<String, Fail> {
     let words = ["gated", "replay", "run_broken.toml", "--status"];
-    run_over(rt, &words, input, output, errors)
-}
-
-fn over_a_broken_input<F: Files + GateFiles + AllocGlobal>(rt: &F) -> Result<String, Fail> {
-    let alloc = rt.alloc();
-    let Ran {
-        output,
-        errors,
-        status,
-        ..
-    } = replayed(rt, Broken, Vec::new(alloc), Vec::new(alloc));
-    shown(alloc, output, errors, status)
-}
-
-fn over_a_broken_output<F: Files + GateFiles + AllocGlobal>(rt: &F) -> Result<String, Fail> {
-    let alloc = rt.alloc();
-    let Ran { errors, status, .. } = replayed(rt, APPROVAL.as_bytes(), Broken, Vec::new(alloc));
-    shown(alloc, Vec::new(alloc), errors, status)
+    shown(host, &words, streams)
 }
 
 #[test]
 fn a_failing_stream_ends_the_command(rt: HostRuntime) -> Result<(), Fail> {
-    fs::write(&rt, "run_broken.toml", ONE_QUEUE)?;
-    let input = over_a_broken_input(&rt)?;
-    assert_eq!(rt; input.as_str(), "|gated: I1 read\n= 1\n");
-    let output = over_a_broken_output(&rt)?;
-    assert_eq!(rt; output.as_str(), "|gated: I2 write\n= 1\n");
-    let both = replayed(&rt, APPROVAL.as_bytes(), Broken, Broken);
-    assert_eq!(rt; both.status, 1);
-    fs::remove_file(&rt, "run_broken.toml")?;
+    write(&rt, "run_broken.toml", ONE_QUEUE)?;
+    let mut streams = Streams::over(rt.alloc(), APPROVAL);
+    streams.input = Input::broken();
+    assert_eq!(rt; replayed(&rt, streams)?.as_str(), "|gated: I1 read\n= 1\n");
+    let mut streams = Streams::over(rt.alloc(), APPROVAL);
+    streams.output = Output::broken(rt.alloc());
+    assert_eq!(rt; replayed(&rt, streams)?.as_str(), "|gated: I2 write\n= 1\n");
+    let mut streams = Streams::over(rt.alloc(), APPROVAL);
+    streams.output = Output::broken(rt.alloc());
+    streams.errors = Output::broken(rt.alloc());
+    assert_eq!(rt; replayed(&rt, streams)?.as_str(), "|= 1\n");
+    clear(&rt, "run_broken.toml");
     Ok(())
 }
 

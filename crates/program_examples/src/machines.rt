@@ -1,5 +1,6 @@
 //! A settings file whose bytes find no memory.
-use crate::sessions::answer;
+use crate::sessions::{shown_on, typed};
+use crate::streams::Streams;
 use gate_types::config::Config;
 use gate_types::tap::Tap;
 use gated_cli::machine::GateFiles;
@@ -177,7 +178,9 @@ gated serve run_starved.toml run_starved.gate --port 0 --count 1 < no delivery
 
 /// Any command ends by want of memory on this machine, and leaves its input.
 fn starves(rt: &impl Abort, machine: &Starved<'_>, line: &str) -> Result<(), Fail> {
-    let answer = answer(machine, line)?;
+    let (words, text) = typed(machine.alloc(), line)?;
+    let streams = Streams::over(machine.alloc(), text);
+    let answer = shown_on(machine, words.as_slice(), streams)?;
     assert_eq!(rt;
         answer.as_str(),
         "|gated: I3 no-memory\n= 1\nunread\n",

@@ -1,6 +1,6 @@
 //! What the program writes where, and its status.
-use crate::sessions::{goes, outcome, run_over, shown};
-use crate::streams::Broken;
+use crate::sessions::{goes, outcome, shown};
+use crate::streams::{Output, Streams};
 use gate_types::tap::Tap;
 use gated_cli::program::unread;
 use gated_cli::started;
@@ -114,18 +114,12 @@ fn help_is_given_on_the_output(rt: HostRuntime) -> Result<(), Fail> {
     )
 }
 
-/// What is told where the help that is asked for can't be written.
-fn unwritten_help(rt: &HostRuntime) -> Result<String, Fail> {
-    let alloc = rt.alloc();
-    let input = b"no delivery\n".as_slice();
-    let ran = run_over(rt, &["gated", "--help"], input, Broken, Vec::new(alloc));
-    shown(alloc, Vec::new(alloc), ran.errors, ran.status)
-}
-
 #[test]
 fn help_that_cannot_be_written_is_a_fault(rt: HostRuntime) -> Result<(), Fail> {
-    let shown = unwritten_help(&rt)?;
-    assert_eq!(rt; shown.as_str(), "|gated: I2 write\n= 1\n");
+    let mut streams = Streams::over(rt.alloc(), "no delivery\n");
+    streams.output = Output::broken(rt.alloc());
+    let shown = shown(&rt, &["gated", "--help"], streams)?;
+    assert_eq!(rt; shown.as_str(), "|gated: I2 write\n= 1\nunread\n");
     Ok(())
 }
 

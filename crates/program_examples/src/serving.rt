@@ -1,5 +1,6 @@
 //! Clients over loopback, at the gate of a file.
-use crate::sessions::{Ran, goes, shown};
+use crate::sessions::goes;
+use crate::streams::Streams;
 use crate::texts::ONE_QUEUE;
 use gate_types::config::Config;
 use gate_types::tap::Tap;
@@ -64,18 +65,18 @@ fn serve_two<S: Alter + Drop>(
     listener: &TcpListener,
     config: Config,
     conn: Connection<S>,
-) -> (Connection<S>, Ran<(), Vec<u8>, Vec<u8>>) {
+) -> (Connection<S>, Streams<'static>, u8) {
     let machine = Bound { rt, listener };
-    let mut output = Tap::new(Vec::new(rt.alloc()));
-    let mut errors = Tap::new(Vec::new(rt.alloc()));
+    let streams = Streams::over(rt.alloc(), "");
+    let mut output = Tap::new(streams.output);
+    let mut errors = Tap::new(streams.errors);
     let (conn, done) = over_file::serve(&machine, conn, config, 0, 2, &mut output, &mut errors);
-    let ran = Ran {
-        input: (),
+    let left = Streams {
+        input: streams.input,
         output: output.into_inner(),
         errors: errors.into_inner(),
-        status: u8::from(done.is_err()),
     };
-    (conn, ran)
+    (conn, left, u8::from(done.is_err()))
 }
 
 /// The same over a file's database, which is closed then.
@@ -85,9 +86,9 @@ fn serve_and_close(
     config: Config,
     conn: Connection<FileStore<File>>,
 ) -> Result<String, Fail> {
-    let (conn, ran) = serve_two(rt, listener, config, conn);
+    let (conn, left, status) = serve_two(rt, listener, config, conn);
     conn.close()?;
-    shown(rt.alloc(), ran.output, ran.errors, ran.status)
+    left.shown(rt.alloc(), status)
 }
 
 fn served_over(

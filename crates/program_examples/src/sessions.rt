@@ -1,79 +1,36 @@
 //! Sessions at a shell: what is typed, and what comes of it.
+use crate::streams::Streams;
 use crate::texts::text_of;
 use gate_types::tap::Tap;
 use gated_cli::machine::GateFiles;
 use gated_cli::program::program;
 use std::alloc::{AllocError, Global};
-use std::convert::AsStr;
 use std::fs;
-use std::io::{Read, Write};
 use std::process::Abort;
 use std::rt::Files;
 use std::test::Fail;
 
-/// What a run left of its input, what it wrote, and its status.
-#[derive(Drop)]
-pub struct Ran<R, W, E> {
-    pub input: R,
-    pub output: W,
-    pub errors: E,
-    pub status: u8,
-}
-
-/// Runs the program over these streams.
-pub fn run_over<F: Files + GateFiles + AllocGlobal, S: AsStr, R: Read, W: Write, E: Write>(
-    rt: &F,
-    words: &[S],
-    input: R,
-    output: W,
-    errors: E,
-) -> Ran<R, W, E> {
-    let mut input = Tap::new(input);
-    let mut output = Tap::new(output);
-    let mut errors = Tap::new(errors);
-    let status = program(rt, words, &mut input, &mut output, &mut errors);
-    Ran {
+/// What the program shows on some machine.
+pub fn shown_on<F: Files + GateFiles + AllocGlobal>(
+    machine: &F,
+    words: &[&str],
+    streams: Streams<'_>,
+) -> Result<String, Fail> {
+    let mut input = Tap::new(streams.input);
+    let mut output = Tap::new(streams.output);
+    let mut errors = Tap::new(streams.errors);
+    let status = program(machine, words, &mut input, &mut output, &mut errors);
+    let left = Streams {
         input: input.into_inner(),
         output: output.into_inner(),
         errors: errors.into_inner(),
-        status,
-    }
+    };
+    left.shown(machine.alloc(), status)
 }
 
-/// The output, a bar and the errors, and behind them the status.
-pub fn shown(alloc: Global, output: Vec<u8>, errors: Vec<u8>, status: u8) -> Result<String, Fail> {
-    let output = String::from_utf8(output)?;
-    let errors = String::from_utf8(errors)?;
-    Ok(format!(in alloc; "{output}|{errors}= {status}\n")?)
-}
-
-/// What the program shows over this input, and whether that was read.
-pub fn answer_over<F: Files + GateFiles + AllocGlobal>(
-    rt: &F,
-    words: &[&str],
-    text: &str,
-) -> Result<String, Fail> {
-    let alloc = rt.alloc();
-    let Ran {
-        input,
-        output,
-        errors,
-        status,
-    } = run_over(rt, words, text.as_bytes(), Vec::new(alloc), Vec::new(alloc));
-    let mut shown = shown(alloc, output, errors, status)?;
-    shown.push_str(read_of(text, input))?;
-    Ok(shown)
-}
-
-/// How much of the input was read, if not all.
-fn read_of(text: &str, left: &[u8]) -> &'static str {
-    if left.is_empty() {
-        ""
-    } else if left == text.as_bytes() {
-        "unread\n"
-    } else {
-        "partly read\n"
-    }
+/// What it shows on the process's own machine. All come here, since the proof of each such call takes long.
+pub fn shown(host: &HostRuntime, words: &[&str], streams: Streams<'_>) -> Result<String, Fail> {
+    shown_on(host, words, streams)
 }
 
 /// The words of a line.
@@ -81,30 +38,41 @@ pub fn words_of(alloc: Global, line: &str) -> Result<Vec<&str>, AllocError> {
     line.split_whitespace().collect(alloc)
 }
 
-/// What the program shows that a line starts.
-pub fn answer<F: Files + GateFiles + AllocGlobal>(rt: &F, line: &str) -> Result<String, Fail> {
+/// The words of a line, and the text that it names.
+pub fn typed(alloc: Global, line: &str) -> Result<(Vec<&str>, &'static str), Fail> {
     let (line, input) = line.split_once(" < ").unwrap_or((line, "nothing"));
-    let words = words_of(rt.alloc(), line)?;
-    answer_over(rt, words.as_slice(), text_of(input)?)
+    let text = text_of(input)?;
+    Ok((words_of(alloc, line)?, text))
+}
+
+/// What the program shows that a line starts.
+fn answer(host: &HostRuntime, line: &str) -> Result<String, Fail> {
+    let (words, text) = typed(host.alloc(), line)?;
+    shown(host, words.as_slice(), Streams::over(host.alloc(), text))
 }
 
 /// Writes a text into a file.
-fn write<F: Files>(rt: &F, line: &str) -> Result<(), Fail> {
-    let (file, text) = line.split_once(" < ").ok_or("no text to write")?;
-    fs::write(rt, file, text_of(text)?)?;
+pub fn write(host: &HostRuntime, file: &str, text: &str) -> Result<(), Fail> {
+    fs::write(host, file, text.as_bytes())?;
     Ok(())
 }
 
+/// Writes a text into a file, by their names.
+fn write_named(host: &HostRuntime, line: &str) -> Result<(), Fail> {
+    let (file, text) = line.split_once(" < ").ok_or("no text to write")?;
+    write(host, file, text_of(text)?)
+}
+
 /// Removes files, of which any may be missing.
-fn clear<F: Files>(rt: &F, files: &str) {
+pub fn clear(host: &HostRuntime, files: &str) {
     for file in files.split_whitespace() {
-        let _ = fs::remove_file(rt, file);
+        let _ = fs::remove_file(host, file);
     }
 }
 
 /// Whether there is a file.
-fn presence<F: Files>(rt: &F, file: &str) -> &'static str {
-    match fs::open(rt, file) {
+fn presence(host: &HostRuntime, file: &str) -> &'static str {
+    match fs::open(host, file) {
         Ok(_) => "present\n",
         Err(_) => "missing\n",
     }
@@ -115,7 +83,7 @@ pub fn outcome(host: &HostRuntime, line: &str) -> Result<String, Fail> {
     let (verb, rest) = line.split_once(' ').ok_or("no command")?;
     match verb {
         "gated" => return answer(host, line),
-        "write" => write(host, rest)?,
+        "write" => write_named(host, rest)?,
         "clear" => clear(host, rest),
         "look" => return Ok(presence(host, rest).to_string(host.alloc())?),
         _ => return Err(Fail::new("an unknown command")),
@@ -131,7 +99,8 @@ fn goes_on(rt: &impl Abort, host: &HostRuntime, part: &str) -> Result<(), Fail> 
     Ok(())
 }
 
-/// Does the lines behind `$ `, and finds below each what comes of it.
+/// Does the lines behind `$ `, and finds below each what comes of it. A test gives its machine twice, since that may end
+/// a process only as `rt`.
 pub fn goes(rt: &impl Abort, host: &HostRuntime, session: &str) -> Result<(), Fail> {
     let session = session.strip_prefix("$ ").ok_or("no line to do")?;
     for part in session.split("$ ") {

@@ -1,10 +1,7 @@
 //! The status and the histories of a gate in a file.
-use crate::sessions::{Ran, answer_over, goes, outcome, run_over, shown};
-use gated_cli::machine::GateFiles;
-use std::io;
-use std::io::Write;
+use crate::sessions::{goes, outcome, shown};
+use crate::streams::{Output, Streams};
 use std::process::Abort;
-use std::rt::Files;
 use std::test::Fail;
 
 const MORNING: &str = "\
@@ -64,10 +61,7 @@ $ gated init showing_none.toml showing_none.gate
 |= 0
 ";
 
-fn has_no_queue<F: Abort + Files + GateFiles + AllocGlobal>(
-    rt: &F,
-    queue: &str,
-) -> Result<(), Fail> {
+fn has_no_queue(rt: &impl Abort, host: &HostRuntime, queue: &str) -> Result<(), Fail> {
     let words = [
         "gated",
         "history",
@@ -75,7 +69,7 @@ fn has_no_queue<F: Abort + Files + GateFiles + AllocGlobal>(
         "showing_none.gate",
         queue,
     ];
-    let answer = answer_over(rt, &words, "")?;
+    let answer = shown(host, &words, Streams::over(host.alloc(), ""))?;
     assert_eq!(rt; answer.as_str(), "|gated: I6 no-queue\n= 1\n", "{queue}");
     Ok(())
 }
@@ -85,7 +79,7 @@ fn a_queue_or_a_file_that_is_not_there_is_told(rt: HostRuntime) -> Result<(), Fa
     goes(&rt, &rt, NO_FILE)?;
     // The last two can be no queue's name.
     for queue in ["cor", "", "core web"] {
-        has_no_queue(&rt, queue)?;
+        has_no_queue(&rt, &rt, queue)?;
     }
     goes(
         &rt,
@@ -94,39 +88,11 @@ fn a_queue_or_a_file_that_is_not_there_is_told(rt: HostRuntime) -> Result<(), Fa
     )
 }
 
-/// Takes 20 bytes, and fails then.
-#[derive(Drop)]
-struct Short {
-    bytes: Vec<u8>,
-}
-
-impl Write for Short {
-    fn write(&mut self, buf: &[u8]) -> io::Result<usize> {
-        let room = 20usize.saturating_sub(self.bytes.len());
-        if room == 0 {
-            return Err(io::Error::from(io::ErrorKind::StorageFull));
-        }
-        self.bytes.write(&buf[..room.min(buf.len())])
-    }
-
-    fn flush(&mut self) -> io::Result<()> {
-        Ok(())
-    }
-}
-
 /// What the program shows where the output is full after 20 bytes.
-fn short_answer(rt: &HostRuntime, words: &[&str]) -> Result<String, Fail> {
-    let alloc = rt.alloc();
-    let full = Short {
-        bytes: Vec::new(alloc),
-    };
-    let Ran {
-        output: Short { bytes },
-        errors,
-        status,
-        ..
-    } = run_over(rt, words, b"".as_slice(), full, Vec::new(alloc));
-    shown(alloc, bytes, errors, status)
+fn short_answer(host: &HostRuntime, words: &[&str]) -> Result<String, Fail> {
+    let mut streams = Streams::over(host.alloc(), "");
+    streams.output = Output::full_after(host.alloc(), 20);
+    shown(host, words, streams)
 }
 
 const FULL: &str = "\
