@@ -25,25 +25,56 @@ pub fn copied(
     })
 }
 
-/// The connection to a file, or what is left of it.
-pub fn connected(
-    alloc: Global,
-    files: Files<Fuse<Memory>>,
-    options: Options,
-) -> Result<Connection<FileStore<Fuse<Memory>>>, Files<Fuse<Memory>>> {
-    if !files.may_be_used() {
-        return Err(files);
-    }
-    match Connection::open_files(alloc, files, options) {
-        Ok(conn) => Ok(conn),
-        Err((_, left)) => Err(left.into_files()),
-    }
+/// The databases of files on such disks. Functions take any `Disks`, since the proof of each call over the connections of
+/// `InMemory` takes long: a test makes one.
+pub trait Disks {
+    /// An open database.
+    type Database;
+
+    /// The database of these files, or what is left of them.
+    fn connected(
+        &self,
+        files: Files<Fuse<Memory>>,
+        options: Options,
+    ) -> Result<Self::Database, Files<Fuse<Memory>>>;
+
+    /// Closes the files, and gives them back: whether nothing stopped that.
+    fn closed(&self, conn: Self::Database) -> (bool, Files<Fuse<Memory>>);
+
+    /// The files as they are, with the log beside the database.
+    fn left(&self, conn: Self::Database) -> Files<Fuse<Memory>>;
 }
 
-/// Closes the files, and gives them back: whether nothing stopped that.
-pub fn closed(conn: Connection<FileStore<Fuse<Memory>>>) -> (bool, Files<Fuse<Memory>>) {
-    match conn.close_files() {
-        Ok(files) => (true, files),
-        Err((_, store)) => (false, store.close()),
+#[derive(Clone, Copy)]
+pub struct InMemory {
+    pub alloc: Global,
+}
+
+impl Disks for InMemory {
+    type Database = Connection<FileStore<Fuse<Memory>>>;
+
+    fn connected(
+        &self,
+        files: Files<Fuse<Memory>>,
+        options: Options,
+    ) -> Result<Connection<FileStore<Fuse<Memory>>>, Files<Fuse<Memory>>> {
+        if !files.may_be_used() {
+            return Err(files);
+        }
+        match Connection::open_files(self.alloc, files, options) {
+            Ok(conn) => Ok(conn),
+            Err((_, left)) => Err(left.into_files()),
+        }
+    }
+
+    fn closed(&self, conn: Connection<FileStore<Fuse<Memory>>>) -> (bool, Files<Fuse<Memory>>) {
+        match conn.close_files() {
+            Ok(files) => (true, files),
+            Err((_, store)) => (false, store.close()),
+        }
+    }
+
+    fn left(&self, conn: Connection<FileStore<Fuse<Memory>>>) -> Files<Fuse<Memory>> {
+        conn.into_store().close()
     }
 }

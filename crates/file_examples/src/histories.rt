@@ -1,11 +1,11 @@
 //! A history of 300 reports, from a file whose disk fails at each call that the history makes.
-use crate::disks::{connected, copied, fused};
+use crate::disks::{Disks, InMemory, copied, fused};
 use crate::files::{SETTINGS, conn_of, gate_in, new_gate, said};
 use gate_book::book::Book;
 use gate_book::fault::HistoryFault;
 use gate_core::gate::Gate;
 use gate_types::tap::Tap;
-use sqlite::{Alter, Connection, FileStore, Files, Options};
+use sqlite::{Alter, Connection, Files, Options};
 use sqlite_disk::{Fuse, Memory};
 use std::alloc::{AllocError, Global};
 use std::process::Abort;
@@ -59,31 +59,35 @@ fn filled<S: Alter + Drop>(alloc: Global, conn: Connection<S>) -> Result<Connect
 }
 
 /// The files of a gate with these reports. Some of their pages stand in the log, the others in the database file.
-fn reported(alloc: Global) -> Result<Files<Fuse<Memory>>, Fail> {
+fn reported<S: Alter + Drop, D: Disks<Database = Connection<S>>>(
+    alloc: Global,
+    disks: &D,
+) -> Result<Files<Fuse<Memory>>, Fail> {
     let files = Files {
         log: fused(alloc, &[], u64::MAX)?,
         db: fused(alloc, &[], u64::MAX)?,
     };
-    let Ok(conn) = connected(alloc, files, options()) else {
+    let Ok(conn) = disks.connected(files, options()) else {
         return Err(Fail::new("an empty file isn't opened"));
     };
-    Ok(filled(alloc, conn)?.into_store().close())
+    Ok(disks.left(filled(alloc, conn)?))
 }
 
 /// The connection to copies of the files, if they are opened with so many calls of the log, or of the database file.
-fn limited(
+fn limited<S: Alter + Drop, D: Disks<Database = Connection<S>>>(
     alloc: Global,
+    disks: &D,
     files: &Files<Fuse<Memory>>,
     is_log: bool,
     calls: u64,
-) -> Result<Option<Connection<FileStore<Fuse<Memory>>>>, Fail> {
+) -> Result<Option<Connection<S>>, Fail> {
     let (log_calls, db_calls) = if is_log {
         (calls, u64::MAX)
     } else {
         (u64::MAX, calls)
     };
     let copies = copied(alloc, files, log_calls, db_calls)?;
-    Ok(connected(alloc, copies, options()).ok())
+    Ok(disks.connected(copies, options()).ok())
 }
 
 /// Whether the gate in a file is opened.
@@ -92,12 +96,17 @@ fn is_opened<S: Alter + Drop>(alloc: Global, conn: Connection<S>) -> bool {
 }
 
 /// The fewest calls with which the gate is opened, which are less than 65,536.
-fn calls_of_opening(alloc: Global, files: &Files<Fuse<Memory>>, is_log: bool) -> Result<u64, Fail> {
+fn calls_of_opening<S: Alter + Drop, D: Disks<Database = Connection<S>>>(
+    alloc: Global,
+    disks: &D,
+    files: &Files<Fuse<Memory>>,
+    is_log: bool,
+) -> Result<u64, Fail> {
     let mut fewest = 0u64;
     let mut step = 32_768u64;
     for _ in 0..16 {
         let tried = fewest.saturating_add(step).saturating_sub(1);
-        let is_enough = match limited(alloc, files, is_log, tried)? {
+        let is_enough = match limited(alloc, disks, files, is_log, tried)? {
             Some(conn) => is_opened(alloc, conn),
             None => false,
         };
@@ -167,8 +176,9 @@ struct Ends {
 }
 
 /// One of the files fails at each call of the history in turn, until a history is whole.
-fn each_stop(
+fn each_stop<S: Alter + Drop, D: Disks<Database = Connection<S>>>(
     rt: &(impl Abort + AllocGlobal),
+    disks: &D,
     files: &Files<Fuse<Memory>>,
     text: &[u8],
     is_log: bool,
@@ -177,9 +187,9 @@ fn each_stop(
         unavailable: 0,
         broken: 0,
     };
-    let mut calls = calls_of_opening(rt.alloc(), files, is_log)?;
+    let mut calls = calls_of_opening(rt.alloc(), disks, files, is_log)?;
     for _ in 0..10_000 {
-        let Some(conn) = limited(rt.alloc(), files, is_log, calls)? else {
+        let Some(conn) = limited(rt.alloc(), disks, files, is_log, calls)? else {
             return Err(Fail::new("the files aren't opened"));
         };
         match asked_in(rt, conn, text)? {
@@ -192,13 +202,21 @@ fn each_stop(
     Err(Fail::new("no history is whole"))
 }
 
+/// Each of the files fails, and any of these ends comes.
+fn all_stops<S: Alter + Drop, D: Disks<Database = Connection<S>>>(
+    rt: &(impl Abort + AllocGlobal),
+    disks: &D,
+) -> Result<(), Fail> {
+    let files = reported(rt.alloc(), disks)?;
+    let text = history(rt.alloc())?;
+    let log = each_stop(rt, disks, &files, text.as_bytes(), true)?;
+    let db = each_stop(rt, disks, &files, text.as_bytes(), false)?;
+    assert!(rt; db.unavailable > 0 && db.broken > 0, "{log:?}, {db:?}");
+    Ok(())
+}
+
 /// Whichever call fails, what is written has its last line only where no report is missing.
 #[test]
 fn a_history_is_refused_breaks_off_or_is_whole(rt: HostRuntime) -> Result<(), Fail> {
-    let files = reported(rt.alloc())?;
-    let text = history(rt.alloc())?;
-    let log = each_stop(&rt, &files, text.as_bytes(), true)?;
-    let db = each_stop(&rt, &files, text.as_bytes(), false)?;
-    assert!(rt; db.unavailable > 0 && db.broken > 0, "{log:?}, {db:?}");
-    Ok(())
+    all_stops(&rt, &InMemory { alloc: rt.alloc() })
 }

@@ -1,5 +1,5 @@
 //! A gate's file that is stopped at each call of the disk: in a delivery of each kind, and while it is made.
-use crate::disks::{closed, connected, copied, fused};
+use crate::disks::{Disks, InMemory, copied, fused};
 use crate::files::{SETTINGS, conn_of, gate_in, new_gate, said, tells};
 use gate_config::read;
 use gate_sql::book::SqlBook;
@@ -117,16 +117,19 @@ fn begun<S: Alter + Drop>(
 }
 
 /// The files of a gate that has seen no delivery, closed, and all its rows.
-fn new_files(rt: &(impl Abort + AllocGlobal)) -> Result<(Files<Fuse<Memory>>, String), Fail> {
+fn new_files<S: Alter + Drop, D: Disks<Database = Connection<S>>>(
+    rt: &(impl Abort + AllocGlobal),
+    disks: &D,
+) -> Result<(Files<Fuse<Memory>>, String), Fail> {
     let files = Files {
         log: fused(rt.alloc(), &[], u64::MAX)?,
         db: fused(rt.alloc(), &[], u64::MAX)?,
     };
-    let Ok(conn) = connected(rt.alloc(), files, Options::new(SEED)) else {
+    let Ok(conn) = disks.connected(files, Options::new(SEED)) else {
         return Err(Fail::new("an empty file isn't opened"));
     };
     let (conn, rows) = begun(rt.alloc(), conn)?;
-    match closed(conn) {
+    match disks.closed(conn) {
         (true, files) => Ok((files, rows)),
         (false, _) => Err(Fail::new("the file isn't closed")),
     }
@@ -142,8 +145,13 @@ struct Run {
 }
 
 /// Tells a delivery to the gate in the file, and closes the file.
-fn tell(alloc: Global, files: Files<Fuse<Memory>>, delivery: &str) -> Run {
-    let conn = match connected(alloc, files, Options::new(SEED)) {
+fn tell<S: Alter + Drop, D: Disks<Database = Connection<S>>>(
+    alloc: Global,
+    disks: &D,
+    files: Files<Fuse<Memory>>,
+    delivery: &str,
+) -> Run {
+    let conn = match disks.connected(files, Options::new(SEED)) {
         Ok(conn) => conn,
         Err(left) => {
             return Run {
@@ -154,7 +162,7 @@ fn tell(alloc: Global, files: Files<Fuse<Memory>>, delivery: &str) -> Run {
         }
     };
     let (answer, conn) = answered(alloc, conn, delivery);
-    let (is_whole, left) = closed(conn);
+    let (is_whole, left) = disks.closed(conn);
     Run {
         answer,
         is_whole,
@@ -190,14 +198,15 @@ fn found_in<S: Alter + Drop>(
 }
 
 /// What is found in the files after a crash, which loses all that wasn't synced.
-fn found_after_a_crash(
+fn found_after_a_crash<S: Alter + Drop, D: Disks<Database = Connection<S>>>(
     alloc: Global,
+    disks: &D,
     mut files: Files<Fuse<Memory>>,
     delivery: &str,
 ) -> Result<Found, Fail> {
     files.log.crash();
     files.db.crash();
-    match connected(alloc, files, Options::new(SEED)) {
+    match disks.connected(files, Options::new(SEED)) {
         Ok(conn) => found_in(alloc, conn, delivery),
         Err(_) => Err(Fail::new("the files aren't opened after a crash")),
     }
@@ -227,8 +236,9 @@ struct End {
 
 /// After a stop and a crash the rows are those before the delivery or those after it, and those after it if it was
 /// answered. Sent again, the delivery gets its answer, and the rows are those after it.
-fn stopped(
+fn stopped<S: Alter + Drop, D: Disks<Database = Connection<S>>>(
     rt: &(impl Abort + AllocGlobal),
+    disks: &D,
     step: &Step,
     line: &Line<'_>,
     stop: Stop,
@@ -238,11 +248,11 @@ fn stopped(
         Stop::Database(calls) => (u64::MAX, calls),
     };
     let files = copied(rt.alloc(), &step.files, log_calls, db_calls)?;
-    let run = tell(rt.alloc(), files, line.said);
+    let run = tell(rt.alloc(), disks, files, line.said);
     let is_answered = run
         .answer
         .is_some_and(|answer| line.has_answer(answer.as_slice()));
-    let found = found_after_a_crash(rt.alloc(), run.left, line.said)?;
+    let found = found_after_a_crash(rt.alloc(), disks, run.left, line.said)?;
     let is_done = found.rows.as_str() == step.after.as_str();
     assert!(rt; is_done || !is_answered);
     assert!(rt; is_done || found.rows.as_str() == step.before.as_str());
@@ -256,8 +266,9 @@ fn stopped(
 
 /// One of the files stops at each call in turn, until a run ends without a stop. Gives how many runs left the file as
 /// before the delivery, and how many as after it.
-fn each_stop(
+fn each_stop<S: Alter + Drop, D: Disks<Database = Connection<S>>>(
     rt: &(impl Abort + AllocGlobal),
+    disks: &D,
     step: &Step,
     line: &Line<'_>,
     is_log: bool,
@@ -270,7 +281,7 @@ fn each_stop(
         } else {
             Stop::Database(calls)
         };
-        let end = stopped(rt, step, line, stop)?;
+        let end = stopped(rt, disks, step, line, stop)?;
         if end.is_whole {
             return Ok((before, after));
         }
@@ -297,37 +308,39 @@ fn told_in<S: Alter + Drop>(
 }
 
 /// The files after a delivery that nothing stops, and all their rows.
-fn told(
+fn told<S: Alter + Drop, D: Disks<Database = Connection<S>>>(
     rt: &(impl Abort + AllocGlobal),
+    disks: &D,
     files: Files<Fuse<Memory>>,
     line: &Line<'_>,
 ) -> Result<(Files<Fuse<Memory>>, String), Fail> {
-    let Ok(conn) = connected(rt.alloc(), files, Options::new(SEED)) else {
+    let Ok(conn) = disks.connected(files, Options::new(SEED)) else {
         return Err(Fail::new("the file isn't opened"));
     };
     let (conn, rows) = told_in(rt, conn, line)?;
-    match closed(conn) {
+    match disks.closed(conn) {
         (true, files) => Ok((files, rows)),
         (false, _) => Err(Fail::new("the file isn't closed")),
     }
 }
 
 /// Stops a delivery at each call of the log, then at each call of the database file; and goes on to the files after it.
-fn each_stop_of(
+fn each_stop_of<S: Alter + Drop, D: Disks<Database = Connection<S>>>(
     rt: &(impl Abort + AllocGlobal),
+    disks: &D,
     files: Files<Fuse<Memory>>,
     before: String,
     line: &Line<'_>,
 ) -> Result<(Files<Fuse<Memory>>, String), Fail> {
     let copies = copied(rt.alloc(), &files, u64::MAX, u64::MAX)?;
-    let (next, after) = told(rt, copies, line)?;
+    let (next, after) = told(rt, disks, copies, line)?;
     let step = Step {
         files,
         before,
         after,
     };
     for is_log in [true, false] {
-        let (before, after) = each_stop(rt, &step, line, is_log)?;
+        let (before, after) = each_stop(rt, disks, &step, line, is_log)?;
         assert!(rt;
             before > 0 && after > 0,
             "{before} before, {after} after: {:?}",
@@ -337,13 +350,21 @@ fn each_stop_of(
     Ok((next, step.after))
 }
 
-#[test]
-fn a_stop_leaves_the_file_before_or_after_a_delivery(rt: HostRuntime) -> Result<(), Fail> {
-    let (mut files, mut rows) = new_files(&rt)?;
+/// Stops each delivery of the day.
+fn each_stop_of_the_day<S: Alter + Drop, D: Disks<Database = Connection<S>>>(
+    rt: &(impl Abort + AllocGlobal),
+    disks: &D,
+) -> Result<(), Fail> {
+    let (mut files, mut rows) = new_files(rt, disks)?;
     for (said, answer) in DAY.lines().zip(ANSWERS.lines()) {
-        (files, rows) = each_stop_of(&rt, files, rows, &Line { said, answer })?;
+        (files, rows) = each_stop_of(rt, disks, files, rows, &Line { said, answer })?;
     }
     Ok(())
+}
+
+#[test]
+fn a_stop_leaves_the_file_before_or_after_a_delivery(rt: HostRuntime) -> Result<(), Fail> {
+    each_stop_of_the_day(&rt, &InMemory { alloc: rt.alloc() })
 }
 
 /// Makes a gate in a new file: whether it was made, and the connection.
@@ -359,7 +380,11 @@ fn created<S: Alter + Drop>(
 }
 
 /// Makes a gate in new files, one of which stops after so many calls; and closes them. Whether nothing stopped that.
-fn made(alloc: Global, stop: Stop) -> Result<(bool, Files<Fuse<Memory>>), Fail> {
+fn made<S: Alter + Drop, D: Disks<Database = Connection<S>>>(
+    alloc: Global,
+    disks: &D,
+    stop: Stop,
+) -> Result<(bool, Files<Fuse<Memory>>), Fail> {
     let (log_calls, db_calls) = match stop {
         Stop::Log(calls) => (calls, u64::MAX),
         Stop::Database(calls) => (u64::MAX, calls),
@@ -368,12 +393,12 @@ fn made(alloc: Global, stop: Stop) -> Result<(bool, Files<Fuse<Memory>>), Fail> 
         log: fused(alloc, &[], log_calls)?,
         db: fused(alloc, &[], db_calls)?,
     };
-    let conn = match connected(alloc, files, Options::new(SEED)) {
+    let conn = match disks.connected(files, Options::new(SEED)) {
         Ok(conn) => conn,
         Err(left) => return Ok((false, left)),
     };
     let (is_made, conn) = created(alloc, conn)?;
-    let (is_closed, files) = closed(conn);
+    let (is_closed, files) = disks.closed(conn);
     Ok((is_made && is_closed, files))
 }
 
@@ -397,13 +422,14 @@ fn has_gate_or_nothing<S: Alter + Drop>(
 }
 
 /// What `has_gate_or_nothing` says of files after a crash.
-fn is_made_after_a_crash(
+fn is_made_after_a_crash<S: Alter + Drop, D: Disks<Database = Connection<S>>>(
     rt: &(impl Abort + AllocGlobal),
+    disks: &D,
     mut files: Files<Fuse<Memory>>,
 ) -> Result<bool, Fail> {
     files.log.crash();
     files.db.crash();
-    match connected(rt.alloc(), files, Options::new(SEED)) {
+    match disks.connected(files, Options::new(SEED)) {
         Ok(conn) => has_gate_or_nothing(rt, conn),
         Err(_) => Err(Fail::new("the files aren't opened after a crash")),
     }
@@ -411,7 +437,11 @@ fn is_made_after_a_crash(
 
 /// Stops the making of a gate at each call of one of the files, until a run ends without a stop. Gives how many runs
 /// left no table, and how many a gate.
-fn each_stop_of_making(rt: &(impl Abort + AllocGlobal), is_log: bool) -> Result<(u32, u32), Fail> {
+fn each_stop_of_making<S: Alter + Drop, D: Disks<Database = Connection<S>>>(
+    rt: &(impl Abort + AllocGlobal),
+    disks: &D,
+    is_log: bool,
+) -> Result<(u32, u32), Fail> {
     let mut none = 0u32;
     let mut some = 0u32;
     for calls in 0..10_000 {
@@ -420,8 +450,8 @@ fn each_stop_of_making(rt: &(impl Abort + AllocGlobal), is_log: bool) -> Result<
         } else {
             Stop::Database(calls)
         };
-        let (is_whole, left) = made(rt.alloc(), stop)?;
-        let is_made = is_made_after_a_crash(rt, left)?;
+        let (is_whole, left) = made(rt.alloc(), disks, stop)?;
+        let is_made = is_made_after_a_crash(rt, disks, left)?;
         if is_whole {
             assert!(rt; is_made);
             return Ok((none, some));
@@ -435,14 +465,22 @@ fn each_stop_of_making(rt: &(impl Abort + AllocGlobal), is_log: bool) -> Result<
     Err(Fail::new("each run is stopped"))
 }
 
-#[test]
-fn a_stop_leaves_no_table_or_an_empty_gate(rt: HostRuntime) -> Result<(), Fail> {
+/// Stops the making at each call of the log, then at each call of the database file.
+fn all_stops_of_making<S: Alter + Drop, D: Disks<Database = Connection<S>>>(
+    rt: &(impl Abort + AllocGlobal),
+    disks: &D,
+) -> Result<(), Fail> {
     for is_log in [true, false] {
-        let (none, some) = each_stop_of_making(&rt, is_log)?;
+        let (none, some) = each_stop_of_making(rt, disks, is_log)?;
         assert!(rt;
             none > 0 && some > 0,
             "{none} without a table, {some} with a gate"
         );
     }
     Ok(())
+}
+
+#[test]
+fn a_stop_leaves_no_table_or_an_empty_gate(rt: HostRuntime) -> Result<(), Fail> {
+    all_stops_of_making(&rt, &InMemory { alloc: rt.alloc() })
 }
