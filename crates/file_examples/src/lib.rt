@@ -1,4 +1,4 @@
-//! A gate's file, closed and opened again, and stopped at each write: tests that cross crates.
+//! A gate's file: its tables made and read, closed and opened again, and stopped at each write: tests alone.
 #![tactic(auto)]
 
 #[cfg(test)]
@@ -11,3 +11,5 @@ mod histories;
 mod openings;
 #[cfg(test)]
 mod stops;
+#[cfg(test)]
+mod tables;

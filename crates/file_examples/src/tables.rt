@@ -1,8 +1,11 @@
-//! What all tests share: settings, and what becomes of a file in memory, line by line.
+//! A book over the tables of a file in memory: settings, and what becomes of the file, line by line.
 //!
 //! `create: done` makes a file's tables and `open: done` opens them; a fault stands by its name, as in
 //! `open other: OtherSettings`, which opens them under other settings. `run DELETE FROM meta` runs a statement, and
 //! `2 is SELECT count(*) FROM queue` is a query with the number that it gives.
+mod histories;
+mod openings;
+
 use gate_config::read;
 use gate_sql::book::SqlBook;
 use gate_sql::open_fault::OpenFault;

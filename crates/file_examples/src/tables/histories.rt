@@ -1,5 +1,5 @@
 //! Histories of queues, from files in memory.
-use crate::files::{FORGE, after, empty, settings};
+use crate::tables::{FORGE, after, empty, settings};
 use gate_book::book::Book;
 use gate_book::fault::HistoryFault;
 use gate_sql::book::SqlBook;

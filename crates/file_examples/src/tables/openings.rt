@@ -1,5 +1,5 @@
 //! Files in memory made, opened and refused.
-use crate::files::{FORGE, after, empty, settings};
+use crate::tables::{FORGE, after, empty, settings};
 use gate_sql::book::SqlBook;
 use sqlite::{Connection, MemStore};
 use std::process::Abort;
