@@ -1,5 +1,7 @@
 //! A queue whose rows are changed by deliveries and by edits.
-use crate::fixtures::{BuildCase, Unmade, build_of, change, first, jobs, landing, need, serial};
+use crate::fixtures::{
+    BuildCase, build_of, change, first, jobs, landing, need, serial, serial_ahead,
+};
 use crate::texts::{edit_text, item_text};
 use gate_types::config::Job;
 use gate_types::edits::Edit;
@@ -8,6 +10,7 @@ use gate_types::records::{Build, Item, Landing, Need, Outcome};
 use gate_types::sequence::Sequence;
 use gate_walk::walk::TakenOut;
 use std::alloc::{AllocError, Global};
+use std::process::Abort;
 
 /// An item's stored row, with the needs of its change, the jobs of its project and its live builds.
 #[derive(Drop)]
@@ -32,58 +35,54 @@ pub struct Board {
 
 impl Board {
     /// A queue without items.
-    pub fn new(alloc: Global, window: u32, floor: u32) -> Self {
+    pub fn new(rt: &(impl Abort + AllocGlobal), window: u32, floor: u32) -> Self {
         Board {
             floor,
             window,
-            landings: Vec::new(alloc),
-            rows: Vec::new(alloc),
+            landings: Vec::new(rt.alloc()),
+            rows: Vec::new(rt.alloc()),
             reports: 0,
-            told: String::new(alloc),
+            told: String::new(rt.alloc()),
         }
     }
 
     /// Adds an item behind the others, non-failing, with the serial of the last one as `ahead`.
     pub fn push(
         &mut self,
-        alloc: Global,
+        rt: &(impl Abort + AllocGlobal),
         item: (u64, u64),
         ahead: Option<u64>,
         needs: &[u64],
         texts: &[(&str, bool)],
-    ) -> Result<(), Unmade> {
-        let mut needed = Vec::new(alloc);
+    ) {
+        let mut needed = Vec::new(rt.alloc());
         for n in needs {
-            needed.push(need(*n, false)?)?;
+            needed.push(need(rt, *n, false)).expect(rt, "memory");
         }
-        let ahead = match ahead {
-            Some(n) => Some(serial(n)?),
-            None => None,
-        };
-        self.rows.push(Row {
+        let row = Row {
             item: Item {
-                serial: serial(item.0)?,
-                change: change(item.1)?,
-                revision: first()?,
-                ahead,
+                serial: serial(rt, item.0),
+                change: change(rt, item.1),
+                revision: first(rt),
+                ahead: serial_ahead(rt, ahead),
                 failing: false,
             },
             needs: needed,
-            jobs: jobs(alloc, texts)?,
-            builds: Vec::new(alloc),
-        })?;
-        Ok(())
+            jobs: jobs(rt, texts),
+            builds: Vec::new(rt.alloc()),
+        };
+        self.rows.push(row).expect(rt, "memory");
     }
 
     /// Starts a build of a job of an item, behind all landings and these changes.
     pub fn take(
         &mut self,
-        alloc: Global,
+        rt: &(impl Abort + AllocGlobal),
         number: u64,
         of: u64,
         job: &str,
         ahead: &[u64],
-    ) -> Result<(), Unmade> {
+    ) {
         let before = self.landings.iter().filter(|l| l.serial.get() < of).count();
         let after = before as u64;
         for row in self.rows.iter_mut() {
@@ -97,10 +96,9 @@ impl Board {
                     ahead,
                     outcome: Outcome::Running,
                 };
-                row.builds.push(build_of(alloc, &run)?)?;
+                row.builds.push(build_of(rt, &run)).expect(rt, "memory");
             }
         }
-        Ok(())
     }
 
     /// A build has ended.
@@ -145,18 +143,17 @@ impl Board {
     }
 
     /// The first non-failing item lands: the window grows by one.
-    pub fn land(&mut self, of: u64) -> Result<Option<TakenOut>, Unmade> {
-        let Some(out) = self.take_out(of, true) else {
-            return Ok(None);
-        };
-        self.landings.push(landing(of, out.change.get())?)?;
+    pub fn land(&mut self, rt: &impl Abort, of: u64) -> Option<TakenOut> {
+        let out = self.take_out(of, true)?;
+        let landing = landing(rt, of, out.change.get());
+        self.landings.push(landing).expect(rt, "memory");
         self.meet(out.change);
         self.window = if self.window == 0 {
             0
         } else {
             self.window.min(999) + 1
         };
-        Ok(Some(out))
+        Some(out)
     }
 
     /// Whether the row of a change says that it is failing, where it stands.
@@ -180,38 +177,40 @@ impl Board {
     }
 
     /// The builds of all items, in order.
-    pub fn builds_up_to(&self, alloc: Global, last: u64) -> Result<Vec<Build>, Unmade> {
-        let mut builds = Vec::new(alloc);
+    pub fn builds_up_to(&self, rt: &(impl Abort + AllocGlobal), last: u64) -> Vec<Build> {
+        let mut builds = Vec::new(rt.alloc());
         for number in 0..last.saturating_add(1) {
             for row in self.rows.iter() {
                 for build in row.builds.iter() {
                     if build.number.get() == number {
-                        builds.push(build_copy(alloc, build)?)?;
+                        builds.push(build_copy(rt, build)).expect(rt, "memory");
                     }
                 }
             }
         }
-        Ok(builds)
+        builds
     }
 
     /// The same queue once more.
-    pub fn copy(&self, alloc: Global) -> Result<Self, Unmade> {
-        let mut rows = Vec::new(alloc);
+    pub fn copy(&self, rt: &(impl Abort + AllocGlobal)) -> Self {
+        let mut rows = Vec::new(rt.alloc());
         for row in self.rows.iter() {
-            rows.push(row_copy(alloc, row)?)?;
+            rows.push(row_copy(rt, row)).expect(rt, "memory");
         }
-        Ok(Board {
+        let landings = self.landings.as_slice().to_vec(rt.alloc());
+        let told = self.told.as_str().to_string(rt.alloc());
+        Board {
             floor: self.floor,
             window: self.window,
-            landings: self.landings.as_slice().to_vec(alloc)?,
+            landings: landings.expect(rt, "memory"),
             rows,
             reports: self.reports,
-            told: self.told.as_str().to_string(alloc)?,
-        })
+            told: told.expect(rt, "memory"),
+        }
     }
 
     /// Does what an edit says to the stored rows.
-    fn apply(&mut self, alloc: Global, edit: &Edit) -> Result<(), Unmade> {
+    fn apply(&mut self, rt: &(impl Abort + AllocGlobal), edit: &Edit) {
         match edit {
             Edit::PutItem { queue: _, item } => {
                 for row in self.rows.iter_mut() {
@@ -229,19 +228,18 @@ impl Board {
             Edit::SetWindow { queue: _, window } => self.window = *window,
             Edit::PutReport { .. } => {
                 self.reports = self.reports.saturating_add(1);
-                self.told.push_str(edit_text(alloc, edit)?.as_str())?;
+                let text = edit_text(rt.alloc(), edit).expect(rt, "memory");
+                self.told.push_str(text.as_str()).expect(rt, "memory");
             }
-            _ => return Err(Unmade::Wrong),
+            _ => panic!(rt; "no edit of a queue"),
         }
-        Ok(())
     }
 
     /// Does what the edits say, one after another.
-    pub fn apply_all(&mut self, alloc: Global, edits: &[Edit]) -> Result<(), Unmade> {
+    pub fn apply_all(&mut self, rt: &(impl Abort + AllocGlobal), edits: &[Edit]) {
         for edit in edits {
-            self.apply(alloc, edit)?;
+            self.apply(rt, edit);
         }
-        Ok(())
     }
 
     /// The window, the rows with their live builds, and the reports that edits have put.
@@ -260,39 +258,42 @@ impl Board {
     }
 }
 
-fn build_copy(alloc: Global, build: &Build) -> Result<Build, Unmade> {
-    Ok(Build {
+fn build_copy(rt: &(impl Abort + AllocGlobal), build: &Build) -> Build {
+    let ahead = build.ahead.as_slice().to_vec(rt.alloc());
+    Build {
         number: build.number,
-        queue: build.queue.copy()?,
+        queue: build.queue.copy().expect(rt, "memory"),
         serial: build.serial,
         change: build.change,
         revision: build.revision,
-        job: build.job.copy()?,
+        job: build.job.copy().expect(rt, "memory"),
         after: build.after,
-        ahead: Sequence::from_vec(build.ahead.as_slice().to_vec(alloc)?),
+        ahead: Sequence::from_vec(ahead.expect(rt, "memory")),
         outcome: build.outcome,
         live: build.live,
-    })
+    }
 }
 
-fn row_copy(alloc: Global, row: &Row) -> Result<Row, Unmade> {
-    let mut jobs = Vec::new(alloc);
+fn row_copy(rt: &(impl Abort + AllocGlobal), row: &Row) -> Row {
+    let mut jobs = Vec::new(rt.alloc());
     for job in row.jobs.iter() {
-        jobs.push(Job {
-            name: job.name.copy()?,
+        let job = Job {
+            name: job.name.copy().expect(rt, "memory"),
             voting: job.voting,
-        })?;
+        };
+        jobs.push(job).expect(rt, "memory");
     }
-    let mut builds = Vec::new(alloc);
+    let mut builds = Vec::new(rt.alloc());
     for build in row.builds.iter() {
-        builds.push(build_copy(alloc, build)?)?;
+        builds.push(build_copy(rt, build)).expect(rt, "memory");
     }
-    Ok(Row {
+    let needs = row.needs.as_slice().to_vec(rt.alloc());
+    Row {
         item: row.item,
-        needs: row.needs.as_slice().to_vec(alloc)?,
+        needs: needs.expect(rt, "memory"),
         jobs,
         builds,
-    })
+    }
 }
 
 /// Whether a job of an item that isn't blocked waits for a build.

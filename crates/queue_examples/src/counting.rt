@@ -1,10 +1,10 @@
 //! Which builds count, worked out by hand from the rules.
-use crate::fixtures::{APP, LIB, Unmade, docs, item, unit};
+use crate::fixtures::{APP, LIB, docs, item, unit};
 use crate::scenes::{PLAIN, Scene, settles};
 use gate_types::records::Outcome::{Failure, Lost, Running, Success};
 
 #[test]
-fn a_success_behind_a_landed_item_still_counts(rt: HostRuntime) -> Result<(), Unmade> {
+fn a_success_behind_a_landed_item_still_counts(rt: HostRuntime) {
     let landed = Scene {
         landed: &[(1, 101)],
         ..PLAIN
@@ -16,18 +16,15 @@ fn a_success_behind_a_landed_item_still_counts(rt: HostRuntime) -> Result<(), Un
     ];
     settles(
         &rt,
-        rt.alloc(),
         landed,
         &rows,
         &runs,
-        "put core 2 102,1 0 ok\nput core 3 103,1 2 ok\n",
+        "core item 2 102,1 ahead - ok\ncore item 3 103,1 ahead 2 ok\n",
     )
 }
 
 #[test]
-fn a_build_counts_where_the_lists_are_the_same_however_they_are_cut(
-    rt: HostRuntime,
-) -> Result<(), Unmade> {
+fn a_build_counts_where_the_lists_are_the_same_however_they_are_cut(rt: HostRuntime) {
     let landed = Scene {
         landed: &[(1, 101), (2, 102), (3, 103)],
         ..PLAIN
@@ -42,16 +39,15 @@ fn a_build_counts_where_the_lists_are_the_same_however_they_are_cut(
     ];
     settles(
         &rt,
-        rt.alloc(),
         landed,
         &[item(4, 104, &[], APP)],
         &runs,
-        "stop 3\nstop 4\nstop 5\nput core 4 104,1 0 ok\n",
+        "stop 3\nstop 4\nstop 5\ncore item 4 104,1 ahead - ok\n",
     )
 }
 
 #[test]
-fn a_landing_that_overtook_an_item_is_not_on_its_line(rt: HostRuntime) -> Result<(), Unmade> {
+fn a_landing_that_overtook_an_item_is_not_on_its_line(rt: HostRuntime) {
     let landed = Scene {
         landed: &[(2, 102)],
         ..PLAIN
@@ -63,16 +59,15 @@ fn a_landing_that_overtook_an_item_is_not_on_its_line(rt: HostRuntime) -> Result
     ];
     settles(
         &rt,
-        rt.alloc(),
         landed,
         &[item(1, 101, &[], LIB)],
         &runs,
-        "stop 2\nput core 1 101,1 0 failing\n",
+        "stop 2\ncore item 1 101,1 ahead - failing\n",
     )
 }
 
 #[test]
-fn three_losses_fail_and_two_do_not(rt: HostRuntime) -> Result<(), Unmade> {
+fn three_losses_fail_and_two_do_not(rt: HostRuntime) {
     let alone = [item(1, 101, &[], APP)];
     let runs = [
         unit(1, 1, 101, 0, &[], Lost),
@@ -81,24 +76,22 @@ fn three_losses_fail_and_two_do_not(rt: HostRuntime) -> Result<(), Unmade> {
     ];
     settles(
         &rt,
-        rt.alloc(),
         PLAIN,
         &alone,
         &runs,
-        "report core 1 1 101,1 failed\ndrop 1\nwindow core 1\n",
-    )?;
+        "core report 1: 1 101,1 failed\ndrop 1\ncore window 1\n",
+    );
     settles(
         &rt,
-        rt.alloc(),
         PLAIN,
         &alone,
         &runs[..2],
-        "put core 1 101,1 0 ok\n",
+        "core item 1 101,1 ahead - ok\n",
     )
 }
 
 #[test]
-fn losses_on_two_lines_arent_added(rt: HostRuntime) -> Result<(), Unmade> {
+fn losses_on_two_lines_arent_added(rt: HostRuntime) {
     let rows = [item(1, 101, &[], LIB), item(2, 102, &[], APP)];
     let runs = [
         unit(1, 1, 101, 0, &[], Failure),
@@ -109,26 +102,24 @@ fn losses_on_two_lines_arent_added(rt: HostRuntime) -> Result<(), Unmade> {
     ];
     settles(
         &rt,
-        rt.alloc(),
         PLAIN,
         &rows,
         &runs,
-        "put core 1 101,1 0 failing\nstop 3\nstop 4\nput core 2 102,1 0 ok\n",
+        "core item 1 101,1 ahead - failing\nstop 3\nstop 4\ncore item 2 102,1 ahead - ok\n",
     )
 }
 
 #[test]
-fn one_success_outweighs_failures(rt: HostRuntime) -> Result<(), Unmade> {
+fn one_success_outweighs_failures(rt: HostRuntime) {
     let runs = [
         unit(1, 1, 101, 0, &[], Failure),
         unit(2, 1, 101, 0, &[], Success),
     ];
     settles(
         &rt,
-        rt.alloc(),
         PLAIN,
         &[item(1, 101, &[], APP)],
         &runs,
-        "put core 1 101,1 0 ok\n",
+        "core item 1 101,1 ahead - ok\n",
     )
 }

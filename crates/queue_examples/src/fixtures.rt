@@ -4,31 +4,12 @@ use gate_types::names::Name;
 use gate_types::numbers::{BuildNo, ChangeNo, Revision, Serial};
 use gate_types::records::{Build, Entry, Item, Landing, Need, Outcome};
 use gate_types::sequence::Sequence;
-use std::alloc::{AllocError, AllocFailed, Global};
+use std::process::Abort;
 
 /// The jobs of a project, each with whether it votes.
 pub const LIB: &[(&str, bool)] = &[("unit", true), ("docs", false)];
 
 pub const APP: &[(&str, bool)] = &[("unit", true)];
-
-/// A queue could not be made: memory was refused, or a number or a name is out of its range.
-#[derive(Clone, Copy, Debug)]
-pub enum Unmade {
-    NoMemory,
-    Wrong,
-}
-
-impl From<AllocError> for Unmade {
-    fn from(_error: AllocError) -> Self {
-        Unmade::NoMemory
-    }
-}
-
-impl<T: Drop> From<AllocFailed<T>> for Unmade {
-    fn from(_failed: AllocFailed<T>) -> Self {
-        Unmade::NoMemory
-    }
-}
 
 /// An item with its change's needs, each with whether it has landed, and its project's jobs.
 #[derive(Clone, Copy)]
@@ -100,122 +81,135 @@ pub fn docs<'a>(
     }
 }
 
-pub fn name(alloc: Global, text: &str) -> Result<Name, Unmade> {
-    Ok(Name::new(text.to_string(alloc)?).ok_or(Unmade::Wrong)?)
+pub fn name(rt: &(impl Abort + AllocGlobal), text: &str) -> Name {
+    let text = text.to_string(rt.alloc()).expect(rt, "memory");
+    Name::new(text).expect(rt, "a name")
 }
 
 /// The settings of the queue `core`.
-pub fn queue(alloc: Global, window: u32, floor: u32) -> Result<Queue, Unmade> {
-    Ok(Queue {
-        name: name(alloc, "core")?,
+pub fn queue(rt: &(impl Abort + AllocGlobal), window: u32, floor: u32) -> Queue {
+    Queue {
+        name: name(rt, "core"),
         window,
         floor,
-    })
+    }
 }
 
-pub fn serial(n: u64) -> Result<Serial, Unmade> {
-    Ok(Serial::new(n).ok_or(Unmade::Wrong)?)
+pub fn serial(rt: &impl Abort, n: u64) -> Serial {
+    Serial::new(n).expect(rt, "a serial")
 }
 
-pub fn change(n: u64) -> Result<ChangeNo, Unmade> {
-    Ok(ChangeNo::new(n).ok_or(Unmade::Wrong)?)
+pub fn serial_ahead(rt: &impl Abort, ahead: Option<u64>) -> Option<Serial> {
+    match ahead {
+        Some(n) => Some(serial(rt, n)),
+        None => None,
+    }
+}
+
+pub fn change(rt: &impl Abort, n: u64) -> ChangeNo {
+    ChangeNo::new(n).expect(rt, "a change")
 }
 
 /// The revision that all changes stand at.
-pub fn first() -> Result<Revision, Unmade> {
-    Ok(Revision::new(1).ok_or(Unmade::Wrong)?)
+pub fn first(rt: &impl Abort) -> Revision {
+    Revision::new(1).expect(rt, "a revision")
 }
 
 /// The rows of items, with wrong columns.
-pub fn items_of(alloc: Global, rows: &[ItemCase]) -> Result<Vec<Item>, Unmade> {
-    let mut items = Vec::new(alloc);
+pub fn items_of(rt: &(impl Abort + AllocGlobal), rows: &[ItemCase]) -> Vec<Item> {
+    let mut items = Vec::new(rt.alloc());
     for row in rows {
-        items.push(Item {
-            serial: serial(row.serial)?,
-            change: change(row.change)?,
-            revision: first()?,
+        let item = Item {
+            serial: serial(rt, row.serial),
+            change: change(rt, row.change),
+            revision: first(rt),
             ahead: None,
             failing: row.serial % 2 == 0,
-        })?;
+        };
+        items.push(item).expect(rt, "memory");
     }
-    Ok(items)
+    items
 }
 
 /// A change that is needed, and whether it has landed.
-pub fn need(number: u64, landed: bool) -> Result<Need, Unmade> {
-    Ok(Need {
-        change: change(number)?,
+pub fn need(rt: &impl Abort, number: u64, landed: bool) -> Need {
+    Need {
+        change: change(rt, number),
         landed,
-    })
+    }
 }
 
-pub fn needs(alloc: Global, cases: &[(u64, bool)]) -> Result<Vec<Need>, Unmade> {
-    let mut needs = Vec::new(alloc);
+pub fn needs(rt: &(impl Abort + AllocGlobal), cases: &[(u64, bool)]) -> Vec<Need> {
+    let mut needs = Vec::new(rt.alloc());
     for (number, landed) in cases {
-        needs.push(need(*number, *landed)?)?;
+        needs.push(need(rt, *number, *landed)).expect(rt, "memory");
     }
-    Ok(needs)
+    needs
 }
 
-pub fn jobs(alloc: Global, cases: &[(&str, bool)]) -> Result<Vec<Job>, Unmade> {
-    let mut jobs = Vec::new(alloc);
+pub fn jobs(rt: &(impl Abort + AllocGlobal), cases: &[(&str, bool)]) -> Vec<Job> {
+    let mut jobs = Vec::new(rt.alloc());
     for (text, voting) in cases {
-        jobs.push(Job {
-            name: name(alloc, text)?,
+        let job = Job {
+            name: name(rt, text),
             voting: *voting,
-        })?;
+        };
+        jobs.push(job).expect(rt, "memory");
     }
-    Ok(jobs)
+    jobs
 }
 
 /// The landing of a change's item.
-pub fn landing(order: u64, number: u64) -> Result<Landing, Unmade> {
-    Ok(Landing {
-        serial: serial(order)?,
-        change: change(number)?,
-        revision: first()?,
-    })
+pub fn landing(rt: &impl Abort, order: u64, number: u64) -> Landing {
+    Landing {
+        serial: serial(rt, order),
+        change: change(rt, number),
+        revision: first(rt),
+    }
 }
 
-pub fn landings(alloc: Global, cases: &[(u64, u64)]) -> Result<Vec<Landing>, Unmade> {
-    let mut landings = Vec::new(alloc);
+pub fn landings(rt: &(impl Abort + AllocGlobal), cases: &[(u64, u64)]) -> Vec<Landing> {
+    let mut landings = Vec::new(rt.alloc());
     for (order, number) in cases {
-        landings.push(landing(*order, *number)?)?;
+        landings
+            .push(landing(rt, *order, *number))
+            .expect(rt, "memory");
     }
-    Ok(landings)
+    landings
 }
 
 /// Changes in order, as a build runs on them.
-fn entries(alloc: Global, changes: &[u64]) -> Result<Sequence<Entry>, Unmade> {
-    let mut entries = Vec::new(alloc);
+fn entries(rt: &(impl Abort + AllocGlobal), changes: &[u64]) -> Sequence<Entry> {
+    let mut entries = Vec::new(rt.alloc());
     for number in changes {
-        entries.push(Entry {
-            change: change(*number)?,
-            revision: first()?,
-        })?;
+        let entry = Entry {
+            change: change(rt, *number),
+            revision: first(rt),
+        };
+        entries.push(entry).expect(rt, "memory");
     }
-    Ok(Sequence::from_vec(entries))
+    Sequence::from_vec(entries)
 }
 
-pub fn build_of(alloc: Global, run: &BuildCase) -> Result<Build, Unmade> {
-    Ok(Build {
-        number: BuildNo::new(run.number).ok_or(Unmade::Wrong)?,
-        queue: name(alloc, "core")?,
-        serial: serial(run.serial)?,
-        change: change(run.change)?,
-        revision: first()?,
-        job: name(alloc, run.job)?,
+pub fn build_of(rt: &(impl Abort + AllocGlobal), run: &BuildCase) -> Build {
+    Build {
+        number: BuildNo::new(run.number).expect(rt, "a number"),
+        queue: name(rt, "core"),
+        serial: serial(rt, run.serial),
+        change: change(rt, run.change),
+        revision: first(rt),
+        job: name(rt, run.job),
         after: run.after,
-        ahead: entries(alloc, run.ahead)?,
+        ahead: entries(rt, run.ahead),
         outcome: run.outcome,
         live: true,
-    })
+    }
 }
 
-pub fn builds_of(alloc: Global, runs: &[BuildCase]) -> Result<Vec<Build>, Unmade> {
-    let mut builds = Vec::new(alloc);
+pub fn builds_of(rt: &(impl Abort + AllocGlobal), runs: &[BuildCase]) -> Vec<Build> {
+    let mut builds = Vec::new(rt.alloc());
     for run in runs {
-        builds.push(build_of(alloc, run)?)?;
+        builds.push(build_of(rt, run)).expect(rt, "memory");
     }
-    Ok(builds)
+    builds
 }

@@ -1,13 +1,12 @@
 //! A thousand small queues, each made from a number by arithmetic alone and led through some deliveries:
 //! behind each of them the walk leaves what a settling of the whole queue leaves.
 use crate::board::{Board, Row, waits};
-use crate::fixtures::{LIB, Unmade, queue};
+use crate::fixtures::{LIB, queue};
 use crate::scenes::settled;
 use gate_queue::facts::{Facts, ItemFacts};
 use gate_types::edits::Edit;
 use gate_types::records::{Item, Outcome};
 use gate_walk::walk::TakenOut;
-use std::alloc::Global;
 use std::process::Abort;
 
 /// Numbers that look thrown: a linear congruence.
@@ -38,25 +37,25 @@ struct Life {
 }
 
 impl Life {
-    fn new(alloc: Global, number: u64) -> Self {
+    fn new(rt: &(impl Abort + AllocGlobal), number: u64) -> Self {
         let mut dice = Dice(number);
         let window = if dice.roll(4) == 0 { 0 } else { 20 };
         Life {
             dice,
-            board: Board::new(alloc, window, 3),
+            board: Board::new(rt, window, 3),
             serial: 0,
             build: 0,
         }
     }
 
     /// Admits an item whose change needs some of those that stand.
-    fn admit(&mut self, alloc: Global) -> Result<(), Unmade> {
-        let mut needs = Vec::new(alloc);
+    fn admit(&mut self, rt: &(impl Abort + AllocGlobal)) {
+        let mut needs = Vec::new(rt.alloc());
         let mut ahead = None;
         let mut blocked = false;
         for row in self.board.rows.iter() {
             if self.dice.roll(4) == 0 {
-                needs.push(row.item.change.get())?;
+                needs.push(row.item.change.get()).expect(rt, "memory");
                 blocked = blocked || row.item.failing;
             }
             if !row.item.failing {
@@ -66,11 +65,10 @@ impl Life {
         self.serial = self.serial.saturating_add(1);
         let change = self.serial.saturating_add(100);
         self.board
-            .push(alloc, (self.serial, change), ahead, &needs, LIB)?;
+            .push(rt, (self.serial, change), ahead, &needs, LIB);
         if blocked {
             self.board.fail(self.serial);
         }
-        Ok(())
     }
 
     /// The serial of some item.
@@ -82,30 +80,29 @@ impl Life {
     }
 
     /// Starts a build of some item's job, where it waits for one.
-    fn take(&mut self, alloc: Global) -> Result<(), Unmade> {
+    fn take(&mut self, rt: &(impl Abort + AllocGlobal)) {
         let Some(of) = self.some_serial() else {
-            return Ok(());
+            return;
         };
         let job = if self.dice.roll(2) == 0 {
             "unit"
         } else {
             "docs"
         };
-        let mut ahead = Vec::new(alloc);
+        let mut ahead = Vec::new(rt.alloc());
         let mut due = false;
         let board = &self.board;
         for row in board.rows.iter() {
             if row.item.serial.get() == of {
                 due = !board.is_blocked(row) && waits(row, job);
             } else if row.item.serial.get() < of && !row.item.failing {
-                ahead.push(row.item.change.get())?;
+                ahead.push(row.item.change.get()).expect(rt, "memory");
             }
         }
         if due {
             self.build = self.build.saturating_add(1);
-            self.board.take(alloc, self.build, of, job, &ahead)?;
+            self.board.take(rt, self.build, of, job, &ahead);
         }
-        Ok(())
     }
 
     /// Some running build ends.
@@ -137,34 +134,32 @@ impl Life {
     }
 
     /// The first non-failing item lands, if each of its jobs has ended.
-    fn land(&mut self) -> Result<Option<Touched>, Unmade> {
-        let Some(row) = self.board.rows.iter().find(|row| !row.item.failing) else {
-            return Ok(None);
-        };
+    fn land(&mut self, rt: &impl Abort) -> Option<Touched> {
+        let row = self.board.rows.iter().find(|row| !row.item.failing)?;
         let of = row.item.serial.get();
         if !ended(row, "unit") || !ended(row, "docs") {
-            return Ok(None);
+            return None;
         }
-        let out = self.board.land(of)?;
-        Ok(Some((of, None, out)))
+        let out = self.board.land(rt, of);
+        Some((of, None, out))
     }
 
     /// One delivery, if there is one to make: most are results.
-    fn deliver(&mut self, alloc: Global) -> Result<Option<Touched>, Unmade> {
+    fn deliver(&mut self, rt: &(impl Abort + AllocGlobal)) -> Option<Touched> {
         match self.dice.roll(16) {
             0 | 1 | 2 => {
                 if self.board.rows.len() < 6 {
-                    self.admit(alloc)?;
+                    self.admit(rt);
                 }
-                Ok(None)
+                None
             }
             3 | 4 | 5 | 6 | 7 | 8 => {
-                self.take(alloc)?;
-                Ok(None)
+                self.take(rt);
+                None
             }
-            9 => Ok(self.leave()),
-            10 | 11 => self.land(),
-            _ => Ok(self.end()),
+            9 => self.leave(),
+            10 | 11 => self.land(rt),
+            _ => self.end(),
         }
     }
 }
@@ -194,18 +189,19 @@ fn ended(row: &Row, job: &str) -> bool {
 }
 
 /// The edits of a settling of a board.
-fn settling(rt: &impl Abort, alloc: Global, board: &Board, last: u64) -> Result<Vec<Edit>, Unmade> {
-    let settings = queue(alloc, board.window, board.floor)?;
-    let mut items: Vec<Item> = Vec::new(alloc);
-    let mut about = Vec::new(alloc);
+fn settling(rt: &(impl Abort + AllocGlobal), board: &Board, last: u64) -> Vec<Edit> {
+    let settings = queue(rt, board.window, board.floor);
+    let mut items: Vec<Item> = Vec::new(rt.alloc());
+    let mut about = Vec::new(rt.alloc());
     for row in board.rows.iter() {
-        items.push(row.item)?;
-        about.push(ItemFacts {
+        items.push(row.item).expect(rt, "memory");
+        let facts = ItemFacts {
             needs: &row.needs,
             jobs: &row.jobs,
-        })?;
+        };
+        about.push(facts).expect(rt, "memory");
     }
-    let builds = board.builds_up_to(alloc, last)?;
+    let builds = board.builds_up_to(rt, last);
     assert!(rt; board.reports <= 1_000_000_000_000_000);
     let facts = Facts {
         settings: &settings,
@@ -214,42 +210,34 @@ fn settling(rt: &impl Abort, alloc: Global, board: &Board, last: u64) -> Result<
         items: &about,
         reports: board.reports,
     };
-    settled(rt, alloc, &items, &builds, &facts)
+    settled(rt, &items, &builds, &facts)
 }
 
 /// Walks and settles, and compares what the two leave. The queue goes on as the walk leaves it.
-fn compare(
-    rt: &impl Abort,
-    alloc: Global,
-    life: &mut Life,
-    touched: Touched,
-) -> Result<(), Unmade> {
+fn compare(rt: &(impl Abort + AllocGlobal), life: &mut Life, touched: Touched) {
     let (from, ahead, out) = touched;
-    let settled = settling(rt, alloc, &life.board, life.build)?;
-    let (walk, _visited) = life.board.walk(rt, alloc, from, ahead, out)?;
-    let mut whole = life.board.copy(alloc)?;
-    whole.apply_all(alloc, &settled)?;
-    life.board.apply_all(alloc, walk.edits())?;
-    let wanted = whole.text(alloc)?;
-    let text = life.board.text(alloc)?;
+    let settled = settling(rt, &life.board, life.build);
+    let (walk, _visited) = life.board.walk(rt, from, ahead, out);
+    let mut whole = life.board.copy(rt);
+    whole.apply_all(rt, &settled);
+    life.board.apply_all(rt, walk.edits());
+    let wanted = whole.text(rt.alloc()).expect(rt, "memory");
+    let text = life.board.text(rt.alloc()).expect(rt, "memory");
     assert_eq!(rt; text.as_str(), wanted.as_str());
-    Ok(())
 }
 
 #[test]
-fn a_thousand_walks_leave_what_settling_leaves(rt: HostRuntime) -> Result<(), Unmade> {
-    let alloc = rt.alloc();
+fn a_thousand_walks_leave_what_settling_leaves(rt: HostRuntime) {
     let mut walks = 0u32;
     for number in 0..1000 {
-        let mut life = Life::new(alloc, number);
+        let mut life = Life::new(&rt, number);
         for _ in 0..100 {
-            if let Some(touched) = life.deliver(alloc)? {
-                compare(&rt, alloc, &mut life, touched)?;
+            if let Some(touched) = life.deliver(&rt) {
+                compare(&rt, &mut life, touched);
                 walks = walks.saturating_add(1);
             }
         }
     }
     // most of the 100,000 draws find nothing to touch, or only admit or take
     assert!(rt; walks > 10_000);
-    Ok(())
 }

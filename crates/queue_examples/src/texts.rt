@@ -1,6 +1,5 @@
 //! Rows and edits as text, a line each, with all that they say.
 use gate_types::edits::Edit;
-use gate_types::names::Name;
 use gate_types::records::{Item, Report, Verdict};
 use std::alloc::{AllocError, Global};
 
@@ -35,7 +34,7 @@ fn report_text(alloc: Global, place: u64, report: &Report) -> Result<String, All
     format!(in alloc; "report {place}: {serial} {change},{revision} {verdict}\n")
 }
 
-/// An edit of a walk.
+/// An edit of a queue.
 pub fn edit_text(alloc: Global, edit: &Edit) -> Result<String, AllocError> {
     match edit {
         Edit::PutItem { queue, item } => {
@@ -68,59 +67,11 @@ pub fn edit_text(alloc: Global, edit: &Edit) -> Result<String, AllocError> {
     }
 }
 
-/// The edits of a walk.
+/// The edits of a queue.
 pub fn edits_text(alloc: Global, edits: &[Edit]) -> Result<String, AllocError> {
     let mut text = String::new(alloc);
     for edit in edits {
         let line = edit_text(alloc, edit)?;
-        text.push_str(line.as_str())?;
-    }
-    Ok(text)
-}
-
-/// An item as a settling leaves it; 0 stands for no item ahead.
-fn item_line(alloc: Global, queue: &Name, item: &Item) -> Result<String, AllocError> {
-    let (queue, serial) = (queue.as_str(), item.serial.get());
-    let (change, revision) = (item.change.get(), item.revision.get());
-    let ahead = item.ahead.map_or(0, |ahead| ahead.get());
-    let state = if item.failing { "failing" } else { "ok" };
-    format!(in alloc; "put {queue} {serial} {change},{revision} {ahead} {state}\n")
-}
-
-fn report_line(
-    alloc: Global,
-    queue: &Name,
-    place: u64,
-    report: &Report,
-) -> Result<String, AllocError> {
-    let (queue, serial) = (queue.as_str(), report.serial.get());
-    let (change, revision) = (report.change.get(), report.revision.get());
-    let verdict = word(report.verdict);
-    format!(in alloc; "report {queue} {place} {serial} {change},{revision} {verdict}\n")
-}
-
-/// An edit of a settling.
-fn line(alloc: Global, edit: &Edit) -> Result<String, AllocError> {
-    match edit {
-        Edit::PutItem { queue, item } => item_line(alloc, queue, item),
-        Edit::PutReport {
-            queue,
-            place,
-            report,
-        } => report_line(alloc, queue, *place, report),
-        Edit::SetWindow { queue, window } => {
-            let queue = queue.as_str();
-            format!(in alloc; "window {queue} {window}\n")
-        }
-        _ => edit_text(alloc, edit),
-    }
-}
-
-/// The edits of a settling.
-pub fn lines(alloc: Global, edits: &[Edit]) -> Result<String, AllocError> {
-    let mut text = String::new(alloc);
-    for edit in edits {
-        let line = line(alloc, edit)?;
         text.push_str(line.as_str())?;
     }
     Ok(text)

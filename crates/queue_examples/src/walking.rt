@@ -1,62 +1,57 @@
 //! Walks over the rows of a board.
 use crate::board::{Board, Row};
-use crate::fixtures::{Unmade, queue, serial};
+use crate::fixtures::{queue, serial, serial_ahead};
 use gate_types::numbers::ChangeNo;
 use gate_walk::seen::SeenNeed;
 use gate_walk::walk::{Next, QueueFacts, Seen, TakenOut, Touched, Walk};
-use std::alloc::Global;
 use std::process::Abort;
 
 impl Board {
-    fn needs_seen(&self, alloc: Global, row: &Row) -> Result<Vec<SeenNeed>, Unmade> {
-        let mut seen = Vec::new(alloc);
+    fn needs_seen(&self, rt: &(impl Abort + AllocGlobal), row: &Row) -> Vec<SeenNeed> {
+        let mut seen = Vec::new(rt.alloc());
         for need in row.needs.iter() {
-            seen.push(SeenNeed {
+            let one = SeenNeed {
                 change: need.change,
                 landed: need.landed,
                 standing: self.standing(need.change),
-            })?;
+            };
+            seen.push(one).expect(rt, "memory");
         }
-        Ok(seen)
+        seen
     }
 
     /// A walk from a serial on that has visited no row yet.
     fn start(
         &self,
-        rt: &impl Abort,
-        alloc: Global,
+        rt: &(impl Abort + AllocGlobal),
         from: u64,
         ahead: Option<u64>,
         out: Option<TakenOut>,
-    ) -> Result<Walk, Unmade> {
+    ) -> Walk {
         assert!(rt; self.reports <= 1_000_000_000_000_000);
-        let ahead = match ahead {
-            Some(n) => Some(serial(n)?),
-            None => None,
-        };
-        let settings = queue(alloc, self.window, self.floor)?;
+        let settings = queue(rt, self.window, self.floor);
         let facts = QueueFacts {
             settings: &settings,
             window: self.window,
             reports: self.reports,
         };
         let touched = Touched {
-            serial: serial(from)?,
-            ahead,
+            serial: serial(rt, from),
+            ahead: serial_ahead(rt, ahead),
             out,
         };
-        Ok(Walk::start(alloc, facts, touched)?)
+        Walk::start(rt.alloc(), facts, touched).expect(rt, "memory")
     }
 
-    fn visit(&self, alloc: Global, walk: &mut Walk, row: &Row) -> Result<Next, Unmade> {
-        let needs = self.needs_seen(alloc, row)?;
+    fn visit(&self, rt: &(impl Abort + AllocGlobal), walk: &mut Walk, row: &Row) -> Next {
+        let needs = self.needs_seen(rt, row);
         let seen = Seen {
             row: row.item,
             needs: &needs,
             jobs: &row.jobs,
             builds: &row.builds,
         };
-        Ok(walk.visit(alloc, Some(&seen))?)
+        walk.visit(rt.alloc(), Some(&seen)).expect(rt, "memory")
     }
 
     /// The row that a walk wants.
@@ -72,26 +67,26 @@ impl Board {
     /// A walk to its stop, from a serial on, and the serials of the rows that it visited.
     pub fn walk(
         &self,
-        rt: &impl Abort,
-        alloc: Global,
+        rt: &(impl Abort + AllocGlobal),
         from: u64,
         ahead: Option<u64>,
         out: Option<TakenOut>,
-    ) -> Result<(Walk, Vec<u64>), Unmade> {
-        let mut walk = self.start(rt, alloc, from, ahead, out)?;
-        let mut visited = Vec::new(alloc);
+    ) -> (Walk, Vec<u64>) {
+        let mut walk = self.start(rt, from, ahead, out);
+        let mut visited = Vec::new(rt.alloc());
         let mut wanted = self.rows.iter().find(|row| row.item.serial.get() >= from);
         for _ in 0..self.rows.len() {
             let Some(row) = wanted else {
                 break;
             };
-            visited.push(row.item.serial.get())?;
-            let next = self.visit(alloc, &mut walk, row)?;
+            visited.push(row.item.serial.get()).expect(rt, "memory");
+            let next = self.visit(rt, &mut walk, row);
             wanted = self.wanted(&walk, next);
         }
         assert!(rt; wanted.is_none());
-        assert_eq!(rt; walk.visit(alloc, None)?, Next::Stop);
-        Ok((walk, visited))
+        let next = walk.visit(rt.alloc(), None).expect(rt, "memory");
+        assert_eq!(rt; next, Next::Stop);
+        (walk, visited)
     }
 }
 
