@@ -180,8 +180,8 @@ fn full_queue_settled(alloc: Global) -> Result<String, AllocError> {
         alloc,
         "core report 1: 1 1001,1 failed\ndrop 1\ncore item 2 1002,1 ahead - ok\n",
     )?;
-    for serial in 3..1001 {
-        let (change, ahead) = (1000 + serial, serial - 1);
+    for serial in 3..1001u64 {
+        let (change, ahead) = (1000 + serial, serial.saturating_sub(1));
         let put = format!(in alloc; "core item {serial} {change},1 ahead {ahead} ok\n")?;
         text.push_str(put.as_str())?;
     }
