@@ -53,7 +53,8 @@ def is_refused(crate, folder, kept, function, turns):
     status, said = check(folder, "--only", f"{crate}::{function}")
     for path, _, _ in turns:
         shutil.copyfile(f"{kept}/{path}", f"{folder}/{path}")
-    if status not in (PROVED, REFUSED):
+    # (code that can't be read has the status of a refusal)
+    if status not in (PROVED, REFUSED) or "error[" in said:
         sys.exit(f"{crate}: no verdict on {function}: {said[-900:]}")
     return status == REFUSED
 
