@@ -2,8 +2,9 @@
 ghost use Rattle.std.specs.Prelude.{◌≡◌, ◌≤◌, codes, IfOk, IfSome, IfErr, map, is_some, true, false, option_map, option_and_then};
 ghost use Rattle.clap.specs.Words.{App, app_of, rule_of, with_subcommand, subcommand_rows_of, rows_of, found_of, first_of};
 ghost use Rattle.clap.specs.Words.{kind_of, takes};
-ghost use Rattle.gated_command.specs.CommandLine.{gated, check, replay, over_file, history, serve, settings_rule, file_rule, queue_rule};
-ghost use Rattle.gated_command.specs.CommandLine.{number_rule, is_set, said, says, said_of, number_in};
+ghost use Rattle.gated_command.specs.CommandLine.{gated, check, init, replay, deliver, status, over_file, history, serve};
+ghost use Rattle.gated_command.specs.CommandLine.{settings_rule, file_rule, queue_rule, status_rule};
+ghost use Rattle.gated_command.specs.CommandLine.{number_rule, most_port, most_count, is_set, said, says, said_of, number_in};
 ghost use Rattle.gated_command.specs.CommandLine.{asked, files_of, Names, IsCommand, IsExplained};
 
 use clap::builder::ValueParser;
@@ -78,8 +79,8 @@ pub fn command<'a, S: AsStr>(alloc: Global, words: &'a [S]) -> Result<Cmd<'a>, U
     ensures err { IfErr result (λ usage. takes gated (map S.text words.entry.now) ≡ true
         → is_some (asked (map S.text words.entry.now)) ≡ true → kind_of usage ≡ ErrorKind.OutOfMemory) }
 {
-    let matches = app(alloc)?.try_get_matches_from(words)?;
-    match read(&matches) {
+    let asked = read(&app(alloc)?.try_get_matches_from(words)?);
+    match asked {
         Some(cmd) => Ok(cmd),
         None => Err(app(alloc)?.error(ErrorKind::MissingSubcommand, "a command is missing")?),
     }
@@ -93,26 +94,11 @@ fn app<'a>(alloc: Global) -> Result<Command<'a>, AllocError>
             "The gate of a code forge: decides which approved changes may land, and in which order.",
         )
         .subcommand_required(true);
-    let init = over_file(
-        alloc,
-        "init",
-        "Makes the tables of a new gate in FILE. Run it once, before the first delivery.",
-    );
-    let deliver = over_file(
-        alloc,
-        "deliver",
-        "Answers each line of standard input, a delivery, over the gate that FILE keeps.",
-    );
-    let status = over_file(
-        alloc,
-        "status",
-        "Prints the queues of the gate that FILE keeps, their items, and the changes that wait. Use it to look, while no other `gated` has FILE.",
-    );
     let whole = with(Ok(bare), check(alloc));
-    let whole = with(whole, init);
+    let whole = with(whole, init(alloc));
     let whole = with(whole, replay(alloc));
-    let whole = with(whole, deliver);
-    let whole = with(whole, status);
+    let whole = with(whole, deliver(alloc));
+    let whole = with(whole, status(alloc));
     let whole = with(whole, history(alloc));
     with(whole, serve(alloc))
 }
@@ -161,6 +147,17 @@ fn queue<'a>(alloc: Global) -> Arg<'a>
         .required(true)
 }
 
+/// Whether the status is printed too.
+fn status_flag<'a>(alloc: Global) -> Arg<'a>
+    ensures rule { rule_of result ≡ status_rule }
+    ensures local { result.global ≡ false }
+{
+    Arg::new(alloc, "status")
+        .long("status")
+        .help("Print the status text after the last reply")
+        .action(ArgAction::SetTrue)
+}
+
 /// An option whose value is a number in a range, which has to be given.
 fn number_option<'a>(
     alloc: Global,
@@ -179,6 +176,34 @@ fn number_option<'a>(
         .help(help)
         .value_parser(ValueParser::unsigned(least, most))
         .required(true)
+}
+
+fn port<'a>(alloc: Global) -> Arg<'a>
+    ensures rule { rule_of result ≡ number_rule (codes "port") 0 most_port }
+    ensures local { result.global ≡ false }
+{
+    number_option(
+        alloc,
+        "port",
+        "P",
+        "The port of 127.0.0.1; 0 takes a free one",
+        0,
+        MOST_PORT,
+    )
+}
+
+fn count<'a>(alloc: Global) -> Arg<'a>
+    ensures rule { rule_of result ≡ number_rule (codes "count") 1 most_count }
+    ensures local { result.global ≡ false }
+{
+    number_option(
+        alloc,
+        "count",
+        "N",
+        "How many connections are served, one after another",
+        1,
+        MOST_COUNT,
+    )
 }
 
 fn check<'a>(alloc: Global) -> Result<Command<'a>, AllocError>
@@ -203,17 +228,43 @@ fn over_file<'a>(
         .arg(file(alloc))
 }
 
+fn init<'a>(alloc: Global) -> Result<Command<'a>, AllocError>
+    ensures { IfOk result (IsCommand init) }
+{
+    over_file(
+        alloc,
+        "init",
+        "Makes the tables of a new gate in FILE. Run it once, before the first delivery.",
+    )
+}
+
 fn replay<'a>(alloc: Global) -> Result<Command<'a>, AllocError>
     ensures { IfOk result (IsCommand replay) }
 {
-    let status = Arg::new(alloc, "status")
-        .long("status")
-        .help("Print the status text after the last reply")
-        .action(ArgAction::SetTrue);
     Command::new(alloc, "replay")
         .about("Answers each line of standard input, a delivery, by a line on standard output.")
         .arg(settings(alloc))?
-        .arg(status)
+        .arg(status_flag(alloc))
+}
+
+fn deliver<'a>(alloc: Global) -> Result<Command<'a>, AllocError>
+    ensures { IfOk result (IsCommand deliver) }
+{
+    over_file(
+        alloc,
+        "deliver",
+        "Answers each line of standard input, a delivery, over the gate that FILE keeps.",
+    )
+}
+
+fn status<'a>(alloc: Global) -> Result<Command<'a>, AllocError>
+    ensures { IfOk result (IsCommand status) }
+{
+    over_file(
+        alloc,
+        "status",
+        "Prints the queues of the gate that FILE keeps, their items, and the changes that wait. Use it to look, while no other `gated` has FILE.",
+    )
 }
 
 fn history<'a>(alloc: Global) -> Result<Command<'a>, AllocError>
@@ -230,29 +281,13 @@ fn history<'a>(alloc: Global) -> Result<Command<'a>, AllocError>
 fn serve<'a>(alloc: Global) -> Result<Command<'a>, AllocError>
     ensures { IfOk result (IsCommand serve) }
 {
-    let port = number_option(
-        alloc,
-        "port",
-        "P",
-        "The port of 127.0.0.1; 0 takes a free one",
-        0,
-        MOST_PORT,
-    );
-    let count = number_option(
-        alloc,
-        "count",
-        "N",
-        "How many connections are served, one after another",
-        1,
-        MOST_COUNT,
-    );
     over_file(
         alloc,
         "serve",
         "Answers requests over HTTP, one a connection, over the gate that FILE keeps.",
     )?
-    .arg(port)?
-    .arg(count)
+    .arg(port(alloc))?
+    .arg(count(alloc))
 }
 
 fn read<'a>(matches: &ArgMatches<'a>) -> Option<Cmd<'a>>

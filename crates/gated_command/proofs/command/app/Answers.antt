@@ -14,9 +14,9 @@ returns c =
     let strict : app_of c.subcommand_required-bare.result ≡ requiring bare =
     ap app_of_fields c.subcommand_required-bare.ensures ∙ ap requiring about in
     let checking = c.with-whole.ensures _ _ strict c.check.ensures in
-    let making = c.with-whole-2.ensures _ _ checking c.over_file-init.ensures in
+    let making = c.with-whole-2.ensures _ _ checking c.init.ensures in
     let replaying = c.with-whole-3.ensures _ _ making c.replay.ensures in
-    let delivering = c.with-whole-4.ensures _ _ replaying c.over_file-deliver.ensures in
-    let showing = c.with-whole-5.ensures _ _ delivering c.over_file-status.ensures in
+    let delivering = c.with-whole-4.ensures _ _ replaying c.deliver.ensures in
+    let showing = c.with-whole-5.ensures _ _ delivering c.status.ensures in
     let telling = c.with-whole-6.ensures _ _ showing c.history.ensures in
     c.with.ensures _ _ telling c.serve.ensures
