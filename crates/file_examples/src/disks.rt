@@ -2,27 +2,39 @@
 use sqlite::{Connection, FileStore, Files, Options};
 use sqlite_disk::{Disk, Fuse, Memory};
 use std::alloc::Global;
-use std::io;
+use std::process::Abort;
 
 /// A file of these bytes, on a disk that fails after so many calls.
-pub fn fused(alloc: Global, bytes: &[u8], calls: u64) -> io::Result<Fuse<Memory>> {
-    let mut memory = Memory::new(alloc);
-    memory.write_at(0, bytes)?;
-    memory.sync()?;
-    Ok(Fuse::new(memory, calls))
+pub fn fused(rt: &(impl Abort + AllocGlobal), bytes: &[u8], calls: u64) -> Fuse<Memory> {
+    let mut memory = Memory::new(rt.alloc());
+    memory.write_at(0, bytes).expect(rt, "a write");
+    memory.sync().expect(rt, "a sync");
+    Fuse::new(memory, calls)
+}
+
+/// An empty file and an empty log, on disks that fail after so many calls.
+pub fn empty(
+    rt: &(impl Abort + AllocGlobal),
+    log_calls: u64,
+    db_calls: u64,
+) -> Files<Fuse<Memory>> {
+    Files {
+        log: fused(rt, &[], log_calls),
+        db: fused(rt, &[], db_calls),
+    }
 }
 
 /// Copies of a file and its log, on disks that fail after so many calls.
 pub fn copied(
-    alloc: Global,
+    rt: &(impl Abort + AllocGlobal),
     files: &Files<Fuse<Memory>>,
     log_calls: u64,
     db_calls: u64,
-) -> io::Result<Files<Fuse<Memory>>> {
-    Ok(Files {
-        log: fused(alloc, files.log.inner().bytes(), log_calls)?,
-        db: fused(alloc, files.db.inner().bytes(), db_calls)?,
-    })
+) -> Files<Fuse<Memory>> {
+    Files {
+        log: fused(rt, files.log.inner().bytes(), log_calls),
+        db: fused(rt, files.db.inner().bytes(), db_calls),
+    }
 }
 
 /// The databases of files on such disks. Functions take any `Disks`, since the proof of each call over the connections of

@@ -11,7 +11,6 @@ use gate_types::tap::Tap;
 use sqlite::{Alter, Connection};
 use std::alloc::Global;
 use std::process::Abort;
-use std::test::Fail;
 
 /// The queues `core`, with the projects `lib` and `app`, and `web`, with `site`.
 pub const SETTINGS: &str = r#"
@@ -53,52 +52,94 @@ name = "unit"
 /// A gate over a file, as the program makes it.
 pub type FileGate<S> = Gate<CachedBook<SqlBook<S>>>;
 
-/// A gate over the tables of a new file.
-pub fn new_gate<S: Alter + Drop>(alloc: Global, conn: Connection<S>) -> Result<FileGate<S>, Fail> {
-    let config = read(alloc, SETTINGS.as_bytes())?;
-    let Ok(book) = SqlBook::create(alloc, conn, &config) else {
-        return Err(Fail::new("no file is made"));
-    };
-    Ok(Gate::new(config, CachedBook::new(alloc, book)))
+/// Makes the tables of a new gate in a file: its connection, or why they aren't made.
+pub fn created<S: Alter + Drop>(
+    rt: &(impl Abort + AllocGlobal),
+    conn: Connection<S>,
+) -> (Option<OpenFault>, Connection<S>) {
+    let config = read(rt.alloc(), SETTINGS.as_bytes()).expect(rt, "settings");
+    match SqlBook::create(rt.alloc(), conn, &config) {
+        Ok(book) => (None, book.into_conn()),
+        Err((fault, conn)) => (Some(fault), conn),
+    }
+}
+
+/// A file with the tables of a new gate.
+pub fn new_file<S: Alter + Drop>(
+    rt: &(impl Abort + AllocGlobal),
+    conn: Connection<S>,
+) -> Connection<S> {
+    let (fault, conn) = created(rt, conn);
+    assert!(rt; fault.is_none(), "no tables are made");
+    conn
 }
 
 /// The gate in a file under these settings, or why there is none, with the connection.
 pub fn gate_in<S: Alter + Drop>(
-    alloc: Global,
+    rt: &(impl Abort + AllocGlobal),
     conn: Connection<S>,
     settings: &str,
 ) -> Result<FileGate<S>, (OpenFault, Connection<S>)> {
-    let Ok(config) = read(alloc, settings.as_bytes()) else {
-        return Err((OpenFault::Unavailable, conn));
-    };
-    let book = SqlBook::open(alloc, conn, &config)?;
-    Ok(Gate::new(config, CachedBook::new(alloc, book)))
+    let config = read(rt.alloc(), settings.as_bytes()).expect(rt, "settings");
+    let book = SqlBook::open(rt.alloc(), conn, &config)?;
+    Ok(Gate::new(config, CachedBook::new(rt.alloc(), book)))
 }
 
-/// The connection that a gate was made over.
+/// The gate in a file.
+pub fn gate_of<S: Alter + Drop>(
+    rt: &(impl Abort + AllocGlobal),
+    conn: Connection<S>,
+) -> FileGate<S> {
+    gate_in(rt, conn, SETTINGS)
+        .ok()
+        .expect(rt, "a gate in the file")
+}
+
+/// The connection that a gate was made over. A test ends a gate so, since the end of the tower takes the prover longer.
 pub fn conn_of<S: Alter + Drop>(gate: FileGate<S>) -> Connection<S> {
     gate.into_book().into_book().into_conn()
 }
 
 /// What a gate writes for lines.
-pub fn said<B: Book>(alloc: Global, gate: &mut Gate<B>, lines: &str) -> Result<Vec<u8>, IoFault> {
+fn said<B: Book>(alloc: Global, gate: &mut Gate<B>, lines: &str) -> Result<Vec<u8>, IoFault> {
     let mut r = Tap::new(lines.as_bytes());
     let mut w = Tap::new(Vec::new(alloc));
     let _count = replay(alloc, gate, &mut r, &mut w)?;
     Ok(w.into_inner())
 }
 
+/// What a gate over a file writes for lines; and the connection.
+pub fn said_over<S: Alter + Drop>(
+    alloc: Global,
+    mut gate: FileGate<S>,
+    lines: &str,
+) -> (Result<Vec<u8>, IoFault>, Connection<S>) {
+    let written = said(alloc, &mut gate, lines);
+    (written, conn_of(gate))
+}
+
 /// The lines get the answers, and leave the status.
-pub fn tells<B: Book>(
+fn tells<B: Book>(
     rt: &(impl Abort + AllocGlobal),
     gate: &mut Gate<B>,
     lines: &str,
     answers: &str,
     status: &str,
-) -> Result<(), Fail> {
-    let written = said(rt.alloc(), gate, lines)?;
+) {
+    let written = said(rt.alloc(), gate, lines).expect(rt, "answers");
     assert_eq!(rt; written.as_slice(), answers.as_bytes());
-    let text = gate.status(rt.alloc())?;
+    let text = gate.status(rt.alloc()).expect(rt, "a status");
     assert_eq!(rt; text.as_str(), status);
-    Ok(())
+}
+
+/// The lines get the answers of a gate over a file, and leave the status; the connection is given back.
+pub fn tells_over<S: Alter + Drop>(
+    rt: &(impl Abort + AllocGlobal),
+    mut gate: FileGate<S>,
+    lines: &str,
+    answers: &str,
+    status: &str,
+) -> Connection<S> {
+    tells(rt, &mut gate, lines, answers, status);
+    conn_of(gate)
 }

@@ -1,6 +1,6 @@
 //! A history of 300 reports, from a file whose disk fails at each call that the history makes.
-use crate::disks::{Disks, InMemory, copied, fused};
-use crate::files::{SETTINGS, conn_of, gate_in, new_gate, said};
+use crate::disks::{Disks, InMemory, copied, empty};
+use crate::files::{SETTINGS, conn_of, gate_in, gate_of, new_file, said_over};
 use gate_book::book::Book;
 use gate_book::fault::HistoryFault;
 use gate_core::gate::Gate;
@@ -9,7 +9,6 @@ use sqlite::{Alter, Connection, Files, Options};
 use sqlite_disk::{Fuse, Memory};
 use std::alloc::{AllocError, Global};
 use std::process::Abort;
-use std::test::Fail;
 
 /// How many reports there are.
 const REPORTS: u32 = 300;
@@ -52,62 +51,67 @@ fn history(alloc: Global) -> Result<String, AllocError> {
 }
 
 /// Makes a gate with these reports over the tables of a new file.
-fn filled<S: Alter + Drop>(alloc: Global, conn: Connection<S>) -> Result<Connection<S>, Fail> {
-    let mut gate = new_gate(alloc, conn)?;
-    let _answers = said(alloc, &mut gate, deliveries(alloc)?.as_str())?;
-    Ok(conn_of(gate))
+fn filled<S: Alter + Drop>(rt: &(impl Abort + AllocGlobal), conn: Connection<S>) -> Connection<S> {
+    let lines = deliveries(rt.alloc()).expect(rt, "memory");
+    let gate = gate_of(rt, new_file(rt, conn));
+    let (answers, conn) = said_over(rt.alloc(), gate, lines.as_str());
+    let _ = answers.expect(rt, "answers");
+    conn
 }
 
 /// The files of a gate with these reports. Some of their pages stand in the log, the others in the database file.
 fn reported<S: Alter + Drop, D: Disks<Database = Connection<S>>>(
-    alloc: Global,
+    rt: &(impl Abort + AllocGlobal),
     disks: &D,
-) -> Result<Files<Fuse<Memory>>, Fail> {
-    let files = Files {
-        log: fused(alloc, &[], u64::MAX)?,
-        db: fused(alloc, &[], u64::MAX)?,
-    };
-    let Ok(conn) = disks.connected(files, options()) else {
-        return Err(Fail::new("an empty file isn't opened"));
-    };
-    Ok(disks.left(filled(alloc, conn)?))
+) -> Files<Fuse<Memory>> {
+    let conn = disks
+        .connected(empty(rt, u64::MAX, u64::MAX), options())
+        .ok()
+        .expect(rt, "an empty file");
+    disks.left(filled(rt, conn))
 }
 
 /// The connection to copies of the files, if they are opened with so many calls of the log, or of the database file.
 fn limited<S: Alter + Drop, D: Disks<Database = Connection<S>>>(
-    alloc: Global,
+    rt: &(impl Abort + AllocGlobal),
     disks: &D,
     files: &Files<Fuse<Memory>>,
     is_log: bool,
     calls: u64,
-) -> Result<Option<Connection<S>>, Fail> {
+) -> Option<Connection<S>> {
     let (log_calls, db_calls) = if is_log {
         (calls, u64::MAX)
     } else {
         (u64::MAX, calls)
     };
-    let copies = copied(alloc, files, log_calls, db_calls)?;
-    Ok(disks.connected(copies, options()).ok())
+    let copies = copied(rt, files, log_calls, db_calls);
+    disks.connected(copies, options()).ok()
 }
 
 /// Whether the gate in a file is opened.
-fn is_opened<S: Alter + Drop>(alloc: Global, conn: Connection<S>) -> bool {
-    gate_in(alloc, conn, SETTINGS).is_ok()
+fn is_opened<S: Alter + Drop>(rt: &(impl Abort + AllocGlobal), conn: Connection<S>) -> bool {
+    match gate_in(rt, conn, SETTINGS) {
+        Ok(gate) => {
+            let _ = conn_of(gate);
+            true
+        }
+        Err(_) => false,
+    }
 }
 
 /// The fewest calls with which the gate is opened, which are less than 65,536.
 fn calls_of_opening<S: Alter + Drop, D: Disks<Database = Connection<S>>>(
-    alloc: Global,
+    rt: &(impl Abort + AllocGlobal),
     disks: &D,
     files: &Files<Fuse<Memory>>,
     is_log: bool,
-) -> Result<u64, Fail> {
+) -> u64 {
     let mut fewest = 0u64;
     let mut step = 32_768u64;
     for _ in 0..16 {
         let tried = fewest.saturating_add(step).saturating_sub(1);
-        let is_enough = match limited(alloc, disks, files, is_log, tried)? {
-            Some(conn) => is_opened(alloc, conn),
+        let is_enough = match limited(rt, disks, files, is_log, tried) {
+            Some(conn) => is_opened(rt, conn),
             None => false,
         };
         if !is_enough {
@@ -115,7 +119,7 @@ fn calls_of_opening<S: Alter + Drop, D: Disks<Database = Connection<S>>>(
         }
         step /= 2;
     }
-    Ok(fewest)
+    fewest
 }
 
 /// How a history ended.
@@ -130,28 +134,24 @@ enum End {
 }
 
 /// Asks a gate for its history: it is this text, a beginning of it, or nothing.
-fn asked<B: Book>(
-    rt: &(impl Abort + AllocGlobal),
-    gate: &mut Gate<B>,
-    text: &[u8],
-) -> Result<End, Fail> {
+fn asked<B: Book>(rt: &(impl Abort + AllocGlobal), gate: &mut Gate<B>, text: &[u8]) -> End {
     let mut w = Tap::new(Vec::new(rt.alloc()));
     let answer = gate.history("core", b"", &mut w);
     let written = w.into_inner();
     match answer {
         Ok(()) => {
             assert!(rt; written.as_slice() == text);
-            Ok(End::Whole)
+            End::Whole
         }
         Err(HistoryFault::Unavailable) => {
             assert!(rt; written.is_empty());
-            Ok(End::Unavailable)
+            End::Unavailable
         }
         Err(fault) => {
             assert_eq!(rt; fault, HistoryFault::Broken);
             assert!(rt; written.len() < text.len());
             assert!(rt; text.starts_with(written.as_slice()));
-            Ok(End::Broken)
+            End::Broken
         }
     }
 }
@@ -161,11 +161,11 @@ fn asked_in<S: Alter + Drop>(
     rt: &(impl Abort + AllocGlobal),
     conn: Connection<S>,
     text: &[u8],
-) -> Result<End, Fail> {
-    let Ok(mut gate) = gate_in(rt.alloc(), conn, SETTINGS) else {
-        return Err(Fail::new("the gate isn't opened"));
-    };
-    asked(rt, &mut gate, text)
+) -> End {
+    let mut gate = gate_of(rt, conn);
+    let end = asked(rt, &mut gate, text);
+    let _ = conn_of(gate);
+    end
 }
 
 /// How many histories were refused, and how many broke off.
@@ -182,41 +182,38 @@ fn each_stop<S: Alter + Drop, D: Disks<Database = Connection<S>>>(
     files: &Files<Fuse<Memory>>,
     text: &[u8],
     is_log: bool,
-) -> Result<Ends, Fail> {
+) -> Ends {
     let mut ends = Ends {
         unavailable: 0,
         broken: 0,
     };
-    let mut calls = calls_of_opening(rt.alloc(), disks, files, is_log)?;
+    let mut calls = calls_of_opening(rt, disks, files, is_log);
     for _ in 0..10_000 {
-        let Some(conn) = limited(rt.alloc(), disks, files, is_log, calls)? else {
-            return Err(Fail::new("the files aren't opened"));
-        };
-        match asked_in(rt, conn, text)? {
+        let conn = limited(rt, disks, files, is_log, calls).expect(rt, "open files");
+        match asked_in(rt, conn, text) {
             End::Unavailable => ends.unavailable = ends.unavailable.saturating_add(1),
             End::Broken => ends.broken = ends.broken.saturating_add(1),
-            End::Whole => return Ok(ends),
+            End::Whole => return ends,
         }
         calls = calls.saturating_add(1);
     }
-    Err(Fail::new("no history is whole"))
+    panic!(rt; "no history is whole")
 }
 
 /// Each of the files fails, and any of these ends comes.
 fn all_stops<S: Alter + Drop, D: Disks<Database = Connection<S>>>(
     rt: &(impl Abort + AllocGlobal),
     disks: &D,
-) -> Result<(), Fail> {
-    let files = reported(rt.alloc(), disks)?;
-    let text = history(rt.alloc())?;
-    let log = each_stop(rt, disks, &files, text.as_bytes(), true)?;
-    let db = each_stop(rt, disks, &files, text.as_bytes(), false)?;
+) {
+    let files = reported(rt, disks);
+    let text = history(rt.alloc()).expect(rt, "memory");
+    let log = each_stop(rt, disks, &files, text.as_bytes(), true);
+    let db = each_stop(rt, disks, &files, text.as_bytes(), false);
     assert!(rt; db.unavailable > 0 && db.broken > 0, "{log:?}, {db:?}");
-    Ok(())
 }
 
 /// Whichever call fails, what is written has its last line only where no report is missing.
 #[test]
-fn a_history_is_refused_breaks_off_or_is_whole(rt: HostRuntime) -> Result<(), Fail> {
-    all_stops(&rt, &InMemory { alloc: rt.alloc() })
+fn a_history_is_refused_breaks_off_or_is_whole(rt: HostRuntime) {
+    all_stops(&rt, &InMemory { alloc: rt.alloc() });
 }

@@ -1,12 +1,9 @@
 //! A file that is opened again, and what isn't opened.
-use crate::files::{SETTINGS, conn_of, gate_in, new_gate, tells};
-use gate_config::read;
-use gate_sql::book::SqlBook;
+use crate::files::{SETTINGS, created, gate_in, gate_of, new_file, tells_over};
+use crate::tables::empty;
 use gate_sql::open_fault::OpenFault;
-use sqlite::{Connection, MemStore, params};
-use std::alloc::Global;
+use sqlite::{Alter, Connection, params};
 use std::process::Abort;
-use std::test::Fail;
 
 const NEED_IS_MISSING: &str =
     r#"{"id":"00000000-0000-4000-8000-000000000001","kind":"revision","change":101,"project":"lib","revision":1,"message":""}
@@ -43,88 +40,89 @@ queue web window 2 landed 0
 end
 ";
 
-/// A file in memory whose gate has a waiting change.
-fn one_waits(rt: &(impl Abort + AllocGlobal)) -> Result<Connection<MemStore>, Fail> {
-    let mut gate = new_gate(rt.alloc(), Connection::open_in_memory(rt.alloc())?)?;
-    tells(rt, &mut gate, NEED_IS_MISSING, MISSING, ONE_WAITS)?;
-    Ok(conn_of(gate))
+/// The gate of a new file has a waiting change then.
+fn one_waits<S: Alter + Drop>(
+    rt: &(impl Abort + AllocGlobal),
+    conn: Connection<S>,
+) -> Connection<S> {
+    let gate = gate_of(rt, new_file(rt, conn));
+    tells_over(rt, gate, NEED_IS_MISSING, MISSING, ONE_WAITS)
 }
 
 /// The gate in the file has a waiting change.
-fn still_waits(rt: &(impl Abort + AllocGlobal), conn: Connection<MemStore>) -> Result<(), Fail> {
-    let Ok(mut gate) = gate_in(rt.alloc(), conn, SETTINGS) else {
-        return Err(Fail::new("no gate is in the file"));
-    };
-    tells(rt, &mut gate, "", "", ONE_WAITS)
+fn still_waits<S: Alter + Drop>(rt: &(impl Abort + AllocGlobal), conn: Connection<S>) {
+    let _ = tells_over(rt, gate_of(rt, conn), "", "", ONE_WAITS);
+}
+
+/// A gate whose file is opened again knows what it was told, and goes on.
+fn goes_on<S: Alter + Drop>(rt: &(impl Abort + AllocGlobal), conn: Connection<S>) {
+    let conn = one_waits(rt, conn);
+    let conn = tells_over(rt, gate_of(rt, conn), NEED_IS_MISSING, MISSING, ONE_WAITS);
+    let _ = tells_over(rt, gate_of(rt, conn), NEED_COMES, CAME, BOTH_QUEUED);
 }
 
 /// The answers of both gates together are those of one, and what was answered is answered so again.
 #[test]
-fn a_gate_goes_on_in_a_file_that_is_opened_again(rt: HostRuntime) -> Result<(), Fail> {
-    let Ok(mut gate) = gate_in(rt.alloc(), one_waits(&rt)?, SETTINGS) else {
-        return Err(Fail::new("no gate is in the file"));
-    };
-    tells(&rt, &mut gate, "", "", ONE_WAITS)?;
-    tells(&rt, &mut gate, NEED_IS_MISSING, MISSING, ONE_WAITS)?;
-    tells(&rt, &mut gate, NEED_COMES, CAME, BOTH_QUEUED)
-}
-
-/// The second time it is refused, and the gate in it is as before.
-#[test]
-fn a_file_is_made_once(rt: HostRuntime) -> Result<(), Fail> {
-    let config = read(rt.alloc(), SETTINGS.as_bytes())?;
-    match SqlBook::create(rt.alloc(), one_waits(&rt)?, &config) {
-        Ok(_) => Err(Fail::new("the file is made again")),
-        Err((fault, conn)) => {
-            assert_eq!(rt; fault, OpenFault::WrongFile);
-            still_waits(&rt, conn)
-        }
-    }
+fn a_gate_goes_on_in_a_file_that_is_opened_again(rt: HostRuntime) {
+    goes_on(&rt, empty(&rt));
 }
 
 /// The file isn't opened under these settings, and is handed back.
-fn is_refused(
+fn is_refused<S: Alter + Drop>(
     rt: &(impl Abort + AllocGlobal),
-    conn: Connection<MemStore>,
+    conn: Connection<S>,
     settings: &str,
     wanted: OpenFault,
-) -> Result<Connection<MemStore>, Fail> {
-    match gate_in(rt.alloc(), conn, settings) {
-        Ok(_) => Err(Fail::new("the file is opened")),
+) -> Connection<S> {
+    match gate_in(rt, conn, settings) {
+        Ok(_) => panic!(rt; "the file is opened"),
         Err((fault, conn)) => {
             assert_eq!(rt; fault, wanted);
-            Ok(conn)
+            conn
         }
     }
 }
 
-/// With the right ones its gate is as before.
-#[test]
-fn a_file_of_other_settings_is_not_opened(rt: HostRuntime) -> Result<(), Fail> {
-    let other = SETTINGS.replacen(rt.alloc(), "floor = 1", "floor = 2", 1)?;
-    let conn = is_refused(
-        &rt,
-        one_waits(&rt)?,
-        other.as_str(),
-        OpenFault::OtherSettings,
-    )?;
-    still_waits(&rt, conn)
+/// A new file is made once, and opened under its settings alone.
+fn keeps_its_gate<S: Alter + Drop>(
+    rt: &(impl Abort + AllocGlobal),
+    conn: Connection<S>,
+    other: &str,
+) {
+    let (fault, conn) = created(rt, one_waits(rt, conn));
+    assert_eq!(rt; fault, Some(OpenFault::WrongFile));
+    let conn = is_refused(rt, conn, other, OpenFault::OtherSettings);
+    still_waits(rt, conn);
 }
 
-/// Nor one that lacks a row of `meta`, nor an empty one.
+/// What is refused leaves the gate in the file as before.
 #[test]
-fn a_file_of_other_tables_is_not_opened(rt: HostRuntime) -> Result<(), Fail> {
-    let empty = Connection::open_in_memory(rt.alloc())?;
-    is_refused(&rt, empty, SETTINGS, OpenFault::WrongFile)?;
-    let mut conn = one_waits(&rt)?;
+fn a_file_is_made_once_and_opened_under_its_settings(rt: HostRuntime) {
+    let other = SETTINGS
+        .replacen(rt.alloc(), "floor = 1", "floor = 2", 1)
+        .expect(&rt, "memory");
+    keeps_its_gate(&rt, empty(&rt), other.as_str());
+}
+
+/// A file whose tables are of another version isn't opened, nor one that lacks a row of `meta`.
+fn needs_its_meta<S: Alter + Drop>(rt: &(impl Abort + AllocGlobal), conn: Connection<S>) {
+    let mut conn = one_waits(rt, conn);
     for version in ["2", "7"] {
         conn.execute(
             "UPDATE meta SET v = ?1 WHERE k = 'schema'",
             params![version],
-        )?;
-        conn = is_refused(&rt, conn, SETTINGS, OpenFault::OtherSchema)?;
+        )
+        .expect(rt, "a change");
+        conn = is_refused(rt, conn, SETTINGS, OpenFault::OtherSchema);
     }
-    conn.execute("DELETE FROM meta WHERE k = 'format'", &[])?;
-    is_refused(&rt, conn, SETTINGS, OpenFault::WrongFile)?;
-    Ok(())
+    conn.execute("DELETE FROM meta WHERE k = 'format'", &[])
+        .expect(rt, "a change");
+    is_refused(rt, conn, SETTINGS, OpenFault::WrongFile);
+}
+
+/// Nor an empty one.
+#[test]
+fn a_file_of_other_tables_is_not_opened(rt: HostRuntime) {
+    is_refused(&rt, empty(&rt), SETTINGS, OpenFault::WrongFile);
+    needs_its_meta(&rt, empty(&rt));
 }

@@ -1,14 +1,12 @@
 //! A gate's file that is stopped at each call of the disk: in a delivery of each kind, and while it is made.
-use crate::disks::{Disks, InMemory, copied, fused};
-use crate::files::{SETTINGS, conn_of, gate_in, new_gate, said, tells};
+use crate::disks::{Disks, InMemory, copied, empty};
+use crate::files::{SETTINGS, created, gate_in, gate_of, new_file, said_over, tells_over};
 use gate_config::read;
 use gate_sql::book::SqlBook;
 use gate_sql::open_fault::OpenFault;
 use sqlite::{Alter, Connection, Files, Options};
 use sqlite_disk::{Crash, Fuse, Memory};
-use std::alloc::Global;
 use std::process::Abort;
-use std::test::Fail;
 
 /// Deliveries of all eight kinds, each accepted, and each changing a row besides its own: the approval of 101 lets both
 /// changes enter.
@@ -82,25 +80,26 @@ const TABLES: [&str; 10] = [
 ];
 
 /// The rows of all tables, as a text.
-fn rows_in<S: Alter>(alloc: Global, conn: &mut Connection<S>) -> Result<String, Fail> {
-    let mut rows = String::new(alloc);
+fn rows_in<S: Alter>(rt: &(impl Abort + AllocGlobal), conn: &mut Connection<S>) -> String {
+    let mut rows = String::new(rt.alloc());
     for table in TABLES {
-        let read = conn.query_all(table, &[])?;
-        rows.push_str(format!(in alloc; "{table}: {:?}\n", read.as_slice())?.as_str())?;
+        let read = conn.query_all(table, &[]).expect(rt, "rows");
+        let text = format!(in rt.alloc(); "{table}: {:?}\n", read.as_slice()).expect(rt, "memory");
+        rows.push_str(text.as_str()).expect(rt, "memory");
     }
-    Ok(rows)
+    rows
 }
 
 /// What the gate in the file answers to a delivery, if there is one, and the connection.
 fn answered<S: Alter + Drop>(
-    alloc: Global,
+    rt: &(impl Abort + AllocGlobal),
     conn: Connection<S>,
     delivery: &str,
 ) -> (Option<Vec<u8>>, Connection<S>) {
-    match gate_in(alloc, conn, SETTINGS) {
-        Ok(mut gate) => {
-            let answer = said(alloc, &mut gate, delivery).ok();
-            (answer, conn_of(gate))
+    match gate_in(rt, conn, SETTINGS) {
+        Ok(gate) => {
+            let (answer, conn) = said_over(rt.alloc(), gate, delivery);
+            (answer.ok(), conn)
         }
         Err((_, conn)) => (None, conn),
     }
@@ -108,31 +107,41 @@ fn answered<S: Alter + Drop>(
 
 /// Makes a gate over the tables of a new file, and gives all its rows.
 fn begun<S: Alter + Drop>(
-    alloc: Global,
+    rt: &(impl Abort + AllocGlobal),
     conn: Connection<S>,
-) -> Result<(Connection<S>, String), Fail> {
-    let mut conn = conn_of(new_gate(alloc, conn)?);
-    let rows = rows_in(alloc, &mut conn)?;
-    Ok((conn, rows))
+) -> (Connection<S>, String) {
+    let mut conn = new_file(rt, conn);
+    let rows = rows_in(rt, &mut conn);
+    (conn, rows)
+}
+
+/// The database of these files.
+fn opened<D: Disks>(
+    rt: &(impl Abort + AllocGlobal),
+    disks: &D,
+    files: Files<Fuse<Memory>>,
+) -> D::Database {
+    disks
+        .connected(files, Options::new(SEED))
+        .ok()
+        .expect(rt, "open files")
+}
+
+/// The files of a database that is closed without a stop.
+fn closed<D: Disks>(rt: &impl Abort, disks: &D, conn: D::Database) -> Files<Fuse<Memory>> {
+    let (is_whole, files) = disks.closed(conn);
+    assert!(rt; is_whole, "the files aren't closed");
+    files
 }
 
 /// The files of a gate that has seen no delivery, closed, and all its rows.
 fn new_files<S: Alter + Drop, D: Disks<Database = Connection<S>>>(
     rt: &(impl Abort + AllocGlobal),
     disks: &D,
-) -> Result<(Files<Fuse<Memory>>, String), Fail> {
-    let files = Files {
-        log: fused(rt.alloc(), &[], u64::MAX)?,
-        db: fused(rt.alloc(), &[], u64::MAX)?,
-    };
-    let Ok(conn) = disks.connected(files, Options::new(SEED)) else {
-        return Err(Fail::new("an empty file isn't opened"));
-    };
-    let (conn, rows) = begun(rt.alloc(), conn)?;
-    match disks.closed(conn) {
-        (true, files) => Ok((files, rows)),
-        (false, _) => Err(Fail::new("the file isn't closed")),
-    }
+) -> (Files<Fuse<Memory>>, String) {
+    let conn = opened(rt, disks, empty(rt, u64::MAX, u64::MAX));
+    let (conn, rows) = begun(rt, conn);
+    (closed(rt, disks, conn), rows)
 }
 
 /// How a run ended: what the delivery was answered, if there was an answer; whether nothing stopped the run; and what
@@ -146,7 +155,7 @@ struct Run {
 
 /// Tells a delivery to the gate in the file, and closes the file.
 fn tell<S: Alter + Drop, D: Disks<Database = Connection<S>>>(
-    alloc: Global,
+    rt: &(impl Abort + AllocGlobal),
     disks: &D,
     files: Files<Fuse<Memory>>,
     delivery: &str,
@@ -161,7 +170,7 @@ fn tell<S: Alter + Drop, D: Disks<Database = Connection<S>>>(
             };
         }
     };
-    let (answer, conn) = answered(alloc, conn, delivery);
+    let (answer, conn) = answered(rt, conn, delivery);
     let (is_whole, left) = disks.closed(conn);
     Run {
         answer,
@@ -179,37 +188,31 @@ struct Found {
 }
 
 fn found_in<S: Alter + Drop>(
-    alloc: Global,
+    rt: &(impl Abort + AllocGlobal),
     mut conn: Connection<S>,
     delivery: &str,
-) -> Result<Found, Fail> {
-    let rows = rows_in(alloc, &mut conn)?;
-    let Ok(mut gate) = gate_in(alloc, conn, SETTINGS) else {
-        return Err(Fail::new("no gate is in the file"));
-    };
-    let answer = said(alloc, &mut gate, delivery)?;
-    let mut conn = conn_of(gate);
-    let rows_then = rows_in(alloc, &mut conn)?;
-    Ok(Found {
+) -> Found {
+    let rows = rows_in(rt, &mut conn);
+    let (answer, mut conn) = said_over(rt.alloc(), gate_of(rt, conn), delivery);
+    let answer = answer.expect(rt, "an answer");
+    let rows_then = rows_in(rt, &mut conn);
+    Found {
         rows,
         answer,
         rows_then,
-    })
+    }
 }
 
 /// What is found in the files after a crash, which loses all that wasn't synced.
 fn found_after_a_crash<S: Alter + Drop, D: Disks<Database = Connection<S>>>(
-    alloc: Global,
+    rt: &(impl Abort + AllocGlobal),
     disks: &D,
     mut files: Files<Fuse<Memory>>,
     delivery: &str,
-) -> Result<Found, Fail> {
+) -> Found {
     files.log.crash();
     files.db.crash();
-    match disks.connected(files, Options::new(SEED)) {
-        Ok(conn) => found_in(alloc, conn, delivery),
-        Err(_) => Err(Fail::new("the files aren't opened after a crash")),
-    }
+    found_in(rt, opened(rt, disks, files), delivery)
 }
 
 /// Which file's disk fails, and after how many calls.
@@ -217,6 +220,25 @@ fn found_after_a_crash<S: Alter + Drop, D: Disks<Database = Connection<S>>>(
 enum Stop {
     Log(u64),
     Database(u64),
+}
+
+impl Stop {
+    /// One of the files after so many calls.
+    fn after(is_log: bool, calls: u64) -> Stop {
+        if is_log {
+            Stop::Log(calls)
+        } else {
+            Stop::Database(calls)
+        }
+    }
+
+    /// The calls of the log that don't fail, and those of the database file.
+    fn calls(self) -> (u64, u64) {
+        match self {
+            Stop::Log(calls) => (calls, u64::MAX),
+            Stop::Database(calls) => (u64::MAX, calls),
+        }
+    }
 }
 
 /// The files before a delivery, and all rows before it and after it.
@@ -242,26 +264,23 @@ fn stopped<S: Alter + Drop, D: Disks<Database = Connection<S>>>(
     step: &Step,
     line: &Line<'_>,
     stop: Stop,
-) -> Result<End, Fail> {
-    let (log_calls, db_calls) = match stop {
-        Stop::Log(calls) => (calls, u64::MAX),
-        Stop::Database(calls) => (u64::MAX, calls),
-    };
-    let files = copied(rt.alloc(), &step.files, log_calls, db_calls)?;
-    let run = tell(rt.alloc(), disks, files, line.said);
+) -> End {
+    let (log_calls, db_calls) = stop.calls();
+    let files = copied(rt, &step.files, log_calls, db_calls);
+    let run = tell(rt, disks, files, line.said);
     let is_answered = run
         .answer
         .is_some_and(|answer| line.has_answer(answer.as_slice()));
-    let found = found_after_a_crash(rt.alloc(), disks, run.left, line.said)?;
+    let found = found_after_a_crash(rt, disks, run.left, line.said);
     let is_done = found.rows.as_str() == step.after.as_str();
     assert!(rt; is_done || !is_answered);
     assert!(rt; is_done || found.rows.as_str() == step.before.as_str());
     assert!(rt; line.has_answer(found.answer.as_slice()));
     assert_eq!(rt; found.rows_then.as_str(), step.after.as_str());
-    Ok(End {
+    End {
         is_whole: run.is_whole,
         is_done,
-    })
+    }
 }
 
 /// One of the files stops at each call in turn, until a run ends without a stop. Gives how many runs left the file as
@@ -272,18 +291,13 @@ fn each_stop<S: Alter + Drop, D: Disks<Database = Connection<S>>>(
     step: &Step,
     line: &Line<'_>,
     is_log: bool,
-) -> Result<(u32, u32), Fail> {
+) -> (u32, u32) {
     let mut before = 0u32;
     let mut after = 0u32;
     for calls in 0..10_000 {
-        let stop = if is_log {
-            Stop::Log(calls)
-        } else {
-            Stop::Database(calls)
-        };
-        let end = stopped(rt, disks, step, line, stop)?;
+        let end = stopped(rt, disks, step, line, Stop::after(is_log, calls));
         if end.is_whole {
-            return Ok((before, after));
+            return (before, after);
         }
         if end.is_done {
             after = after.saturating_add(1);
@@ -291,7 +305,7 @@ fn each_stop<S: Alter + Drop, D: Disks<Database = Connection<S>>>(
             before = before.saturating_add(1);
         }
     }
-    Err(Fail::new("each run is stopped"))
+    panic!(rt; "each run is stopped")
 }
 
 /// The gate in the file answers a delivery. Gives all its rows then.
@@ -299,12 +313,12 @@ fn told_in<S: Alter + Drop>(
     rt: &(impl Abort + AllocGlobal),
     conn: Connection<S>,
     line: &Line<'_>,
-) -> Result<(Connection<S>, String), Fail> {
-    let (answer, mut conn) = answered(rt.alloc(), conn, line.said);
-    let answer = answer.ok_or("the delivery isn't answered")?;
+) -> (Connection<S>, String) {
+    let (answer, mut conn) = answered(rt, conn, line.said);
+    let answer = answer.expect(rt, "an answer");
     assert!(rt; line.has_answer(answer.as_slice()));
-    let rows = rows_in(rt.alloc(), &mut conn)?;
-    Ok((conn, rows))
+    let rows = rows_in(rt, &mut conn);
+    (conn, rows)
 }
 
 /// The files after a delivery that nothing stops, and all their rows.
@@ -313,15 +327,9 @@ fn told<S: Alter + Drop, D: Disks<Database = Connection<S>>>(
     disks: &D,
     files: Files<Fuse<Memory>>,
     line: &Line<'_>,
-) -> Result<(Files<Fuse<Memory>>, String), Fail> {
-    let Ok(conn) = disks.connected(files, Options::new(SEED)) else {
-        return Err(Fail::new("the file isn't opened"));
-    };
-    let (conn, rows) = told_in(rt, conn, line)?;
-    match disks.closed(conn) {
-        (true, files) => Ok((files, rows)),
-        (false, _) => Err(Fail::new("the file isn't closed")),
-    }
+) -> (Files<Fuse<Memory>>, String) {
+    let (conn, rows) = told_in(rt, opened(rt, disks, files), line);
+    (closed(rt, disks, conn), rows)
 }
 
 /// Stops a delivery at each call of the log, then at each call of the database file; and goes on to the files after it.
@@ -331,92 +339,80 @@ fn each_stop_of<S: Alter + Drop, D: Disks<Database = Connection<S>>>(
     files: Files<Fuse<Memory>>,
     before: String,
     line: &Line<'_>,
-) -> Result<(Files<Fuse<Memory>>, String), Fail> {
-    let copies = copied(rt.alloc(), &files, u64::MAX, u64::MAX)?;
-    let (next, after) = told(rt, disks, copies, line)?;
+) -> (Files<Fuse<Memory>>, String) {
+    let copies = copied(rt, &files, u64::MAX, u64::MAX);
+    let (next, after) = told(rt, disks, copies, line);
     let step = Step {
         files,
         before,
         after,
     };
     for is_log in [true, false] {
-        let (before, after) = each_stop(rt, disks, &step, line, is_log)?;
+        let (before, after) = each_stop(rt, disks, &step, line, is_log);
         assert!(rt;
             before > 0 && after > 0,
             "{before} before, {after} after: {:?}",
             line.said
         );
     }
-    Ok((next, step.after))
+    (next, step.after)
 }
 
 /// Stops each delivery of the day.
 fn each_stop_of_the_day<S: Alter + Drop, D: Disks<Database = Connection<S>>>(
     rt: &(impl Abort + AllocGlobal),
     disks: &D,
-) -> Result<(), Fail> {
-    let (mut files, mut rows) = new_files(rt, disks)?;
+) {
+    let (mut files, mut rows) = new_files(rt, disks);
     for (said, answer) in DAY.lines().zip(ANSWERS.lines()) {
-        (files, rows) = each_stop_of(rt, disks, files, rows, &Line { said, answer })?;
+        (files, rows) = each_stop_of(rt, disks, files, rows, &Line { said, answer });
     }
-    Ok(())
 }
 
 #[test]
-fn a_stop_leaves_the_file_before_or_after_a_delivery(rt: HostRuntime) -> Result<(), Fail> {
-    each_stop_of_the_day(&rt, &InMemory { alloc: rt.alloc() })
-}
-
-/// Makes a gate in a new file: whether it was made, and the connection.
-fn created<S: Alter + Drop>(
-    alloc: Global,
-    conn: Connection<S>,
-) -> Result<(bool, Connection<S>), Fail> {
-    let config = read(alloc, SETTINGS.as_bytes())?;
-    match SqlBook::create(alloc, conn, &config) {
-        Ok(book) => Ok((true, book.into_conn())),
-        Err((_, conn)) => Ok((false, conn)),
-    }
+fn a_stop_leaves_the_file_before_or_after_a_delivery(rt: HostRuntime) {
+    each_stop_of_the_day(&rt, &InMemory { alloc: rt.alloc() });
 }
 
 /// Makes a gate in new files, one of which stops after so many calls; and closes them. Whether nothing stopped that.
 fn made<S: Alter + Drop, D: Disks<Database = Connection<S>>>(
-    alloc: Global,
+    rt: &(impl Abort + AllocGlobal),
     disks: &D,
     stop: Stop,
-) -> Result<(bool, Files<Fuse<Memory>>), Fail> {
-    let (log_calls, db_calls) = match stop {
-        Stop::Log(calls) => (calls, u64::MAX),
-        Stop::Database(calls) => (u64::MAX, calls),
-    };
-    let files = Files {
-        log: fused(alloc, &[], log_calls)?,
-        db: fused(alloc, &[], db_calls)?,
-    };
+) -> (bool, Files<Fuse<Memory>>) {
+    let (log_calls, db_calls) = stop.calls();
+    let files = empty(rt, log_calls, db_calls);
     let conn = match disks.connected(files, Options::new(SEED)) {
         Ok(conn) => conn,
-        Err(left) => return Ok((false, left)),
+        Err(left) => return (false, left),
     };
-    let (is_made, conn) = created(alloc, conn)?;
+    let (fault, conn) = created(rt, conn);
     let (is_closed, files) = disks.closed(conn);
-    Ok((is_made && is_closed, files))
+    (fault.is_none() && is_closed, files)
+}
+
+/// No table is in the file.
+fn has_no_table<S: Alter>(rt: &(impl Abort + AllocGlobal), conn: &mut Connection<S>) {
+    let tables = conn
+        .query_all("SELECT name FROM sqlite_schema", &[])
+        .expect(rt, "the tables");
+    assert_eq!(rt; tables.len(), 0);
 }
 
 /// In the file is a gate that has seen no delivery, or no table. Gives whether it is a gate.
 fn has_gate_or_nothing<S: Alter + Drop>(
     rt: &(impl Abort + AllocGlobal),
     conn: Connection<S>,
-) -> Result<bool, Fail> {
-    match gate_in(rt.alloc(), conn, SETTINGS) {
-        Ok(mut gate) => {
-            tells(rt, &mut gate, "", "", NO_DELIVERY)?;
-            Ok(true)
+) -> bool {
+    match gate_in(rt, conn, SETTINGS) {
+        Ok(gate) => {
+            let _ = tells_over(rt, gate, "", "", NO_DELIVERY);
+            true
         }
         Err((fault, mut conn)) => {
             assert_eq!(rt; fault, OpenFault::WrongFile);
-            let tables = conn.query_all("SELECT name FROM sqlite_schema", &[])?;
-            assert_eq!(rt; tables.len(), 0);
-            Ok(false)
+            has_no_table(rt, &mut conn);
+            false
         }
     }
 }
@@ -426,13 +422,10 @@ fn is_made_after_a_crash<S: Alter + Drop, D: Disks<Database = Connection<S>>>(
     rt: &(impl Abort + AllocGlobal),
     disks: &D,
     mut files: Files<Fuse<Memory>>,
-) -> Result<bool, Fail> {
+) -> bool {
     files.log.crash();
     files.db.crash();
-    match disks.connected(files, Options::new(SEED)) {
-        Ok(conn) => has_gate_or_nothing(rt, conn),
-        Err(_) => Err(Fail::new("the files aren't opened after a crash")),
-    }
+    has_gate_or_nothing(rt, opened(rt, disks, files))
 }
 
 /// Stops the making of a gate at each call of one of the files, until a run ends without a stop. Gives how many runs
@@ -441,20 +434,15 @@ fn each_stop_of_making<S: Alter + Drop, D: Disks<Database = Connection<S>>>(
     rt: &(impl Abort + AllocGlobal),
     disks: &D,
     is_log: bool,
-) -> Result<(u32, u32), Fail> {
+) -> (u32, u32) {
     let mut none = 0u32;
     let mut some = 0u32;
     for calls in 0..10_000 {
-        let stop = if is_log {
-            Stop::Log(calls)
-        } else {
-            Stop::Database(calls)
-        };
-        let (is_whole, left) = made(rt.alloc(), disks, stop)?;
-        let is_made = is_made_after_a_crash(rt, disks, left)?;
+        let (is_whole, left) = made(rt, disks, Stop::after(is_log, calls));
+        let is_made = is_made_after_a_crash(rt, disks, left);
         if is_whole {
             assert!(rt; is_made);
-            return Ok((none, some));
+            return (none, some);
         }
         if is_made {
             some = some.saturating_add(1);
@@ -462,25 +450,24 @@ fn each_stop_of_making<S: Alter + Drop, D: Disks<Database = Connection<S>>>(
             none = none.saturating_add(1);
         }
     }
-    Err(Fail::new("each run is stopped"))
+    panic!(rt; "each run is stopped")
 }
 
 /// Stops the making at each call of the log, then at each call of the database file.
 fn all_stops_of_making<S: Alter + Drop, D: Disks<Database = Connection<S>>>(
     rt: &(impl Abort + AllocGlobal),
     disks: &D,
-) -> Result<(), Fail> {
+) {
     for is_log in [true, false] {
-        let (none, some) = each_stop_of_making(rt, disks, is_log)?;
+        let (none, some) = each_stop_of_making(rt, disks, is_log);
         assert!(rt;
             none > 0 && some > 0,
             "{none} without a table, {some} with a gate"
         );
     }
-    Ok(())
 }
 
 #[test]
-fn a_stop_leaves_no_table_or_an_empty_gate(rt: HostRuntime) -> Result<(), Fail> {
-    all_stops_of_making(&rt, &InMemory { alloc: rt.alloc() })
+fn a_stop_leaves_no_table_or_an_empty_gate(rt: HostRuntime) {
+    all_stops_of_making(&rt, &InMemory { alloc: rt.alloc() });
 }
