@@ -79,6 +79,7 @@ pub(crate) fn revision<B: Book>(
     if is_late(&known, revision) {
         return Ok(Raw::Stands(Reply::Stale));
     }
+    // Ended here, so that none of the early returns below has to end it too.
     drop(known);
     if is_submitting(alloc, book, config, change)? {
         return Ok(Raw::Refused(Refusal::Submitting));
