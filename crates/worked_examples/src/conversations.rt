@@ -1,20 +1,17 @@
-//! Conversations with a gate, with the answers typed from its rules.
-use crate::books::{goes, goes_in_memory};
-use crate::gates::CORE;
-use std::test::Fail;
+//! Conversations with a gate of one queue, with the answers typed from its rules.
+use crate::scenes::plays;
 
-const EMPTY: &str = r#"
+const SCENES: &str = r#"
+# the empty gate has a queue
+gate core 2 1
+
 status
 queue core window 2 landed 0
 end
-"#;
 
-#[test]
-fn the_empty_gate_has_a_queue(rt: HostRuntime) -> Result<(), Fail> {
-    goes(&rt, CORE, EMPTY)
-}
+# what is no delivery is refused
+gate core 2 1
 
-const NO_DELIVERY: &str = r#"
 > nul
 < {"code":"E1","error":"bad-json"}
 >
@@ -27,14 +24,10 @@ const NO_DELIVERY: &str = r#"
 status
 queue core window 2 landed 0
 end
-"#;
 
-#[test]
-fn what_is_no_delivery_is_refused(rt: HostRuntime) -> Result<(), Fail> {
-    goes(&rt, CORE, NO_DELIVERY)
-}
+# a refused delivery does not spend its id
+gate core 2 1
 
-const REFUSED_AT_FIRST: &str = r#"
 > {"id":"00000000-0000-4000-8000-000000000001","kind":"approved","change":101,"revision":1}
 < {"code":"E5","error":"unknown-change"}
 > {"id":"00000000-0000-4000-8000-000000000002","kind":"revision","change":101,"project":"lib","revision":1,"message":""}
@@ -46,14 +39,10 @@ status
 queue core window 2 landed 0
      1       101    1      - ok      unit=waiting docs=waiting
 end
-"#;
 
-#[test]
-fn a_refused_delivery_does_not_spend_its_id(rt: HostRuntime) -> Result<(), Fail> {
-    goes(&rt, CORE, REFUSED_AT_FIRST)
-}
+# a repeat gets the kept reply
+gate core 2 1
 
-const SENT_TWICE: &str = r#"
 > {"id":"00000000-0000-4000-8000-000000000001","kind":"revision","change":101,"project":"lib","revision":1,"message":""}
 < {"reply":"recorded"}
 > {"id":"00000000-0000-4000-8000-000000000002","kind":"revision","change":102,"project":"app","revision":1,"message":""}
@@ -70,14 +59,10 @@ queue core window 2 landed 0
      1       101    1      - ok      unit=waiting docs=waiting
      2       102    1      1 ok      unit=waiting
 end
-"#;
 
-#[test]
-fn a_repeat_gets_the_kept_reply(rt: HostRuntime) -> Result<(), Fail> {
-    goes(&rt, CORE, SENT_TWICE)
-}
+# an id serves one delivery
+gate core 2 1
 
-const REUSED_ID: &str = r#"
 > {"id":"00000000-0000-4000-8000-000000000001","kind":"revision","change":101,"project":"lib","revision":1,"message":""}
 < {"reply":"recorded"}
 > {"id":"0a000000-0000-4000-8000-000000000002","kind":"approved","change":101,"revision":1}
@@ -93,14 +78,10 @@ status
 queue core window 2 landed 0
      1       101    1      - ok      unit=waiting docs=waiting
 end
-"#;
 
-#[test]
-fn an_id_serves_one_delivery(rt: HostRuntime) -> Result<(), Fail> {
-    goes(&rt, CORE, REUSED_ID)
-}
+# a new revision supersedes the item
+gate core 2 1
 
-const SUPERSEDED: &str = r#"
 > {"id":"00000000-0000-4000-8000-000000000001","kind":"revision","change":101,"project":"lib","revision":1,"message":""}
 < {"reply":"recorded"}
 > {"id":"00000000-0000-4000-8000-000000000002","kind":"revision","change":102,"project":"app","revision":1,"message":""}
@@ -121,14 +102,10 @@ end
 
 >> {"id":"00000000-0000-4000-8000-000000000007","kind":"approved","change":101,"revision":2}
 < {"order":3,"reply":"queued"}
-"#;
 
-#[test]
-fn a_new_revision_supersedes_the_item(rt: HostRuntime) -> Result<(), Fail> {
-    goes(&rt, CORE, SUPERSEDED)
-}
+# each refusal of a revision and an approval
+gate core 2 1
 
-const REFUSED: &str = r#"
 > {"id":"00000000-0000-4000-8000-000000000001","kind":"revision","change":101,"project":"site","revision":2,"message":""}
 < {"code":"E7","error":"unknown-project"}
 > {"id":"00000000-0000-4000-8000-000000000002","kind":"revision","change":101,"project":"lib","revision":2,"message":""}
@@ -161,27 +138,26 @@ queue core window 2 landed 0
      1       101    2      - ok      unit=waiting docs=waiting
 waiting 102 1
 end
-"#;
 
-#[test]
-fn each_refusal_of_a_revision_and_an_approval(rt: HostRuntime) -> Result<(), Fail> {
-    goes(&rt, CORE, REFUSED)
-}
+# a full queue lets the next change wait
+gate core 2 1 in memory
 
-const FULL: &str = r#"
-fills lib 1 to 1000
+for n from 1 to 1000
+> {"id":"0a000000-0000-4000-8000-<000n>","kind":"revision","change":<n>,"project":"lib","revision":1,"message":""}
+< {"reply":"recorded"}
+> {"id":"0b000000-0000-4000-8000-<000n>","kind":"approved","change":<n>,"revision":1}
+< {"order":<n>,"reply":"queued"}
 
 > {"id":"0a000000-0000-4000-8000-000000001001","kind":"revision","change":1001,"project":"lib","revision":1,"message":""}
 < {"reply":"recorded"}
 > {"id":"0b000000-0000-4000-8000-000000001001","kind":"approved","change":1001,"revision":1}
 < {"reply":"waiting"}
 
-status begins
+status
 queue core window 2 landed 0
      1         1    1      - ok      unit=waiting docs=waiting
      2         2    1      1 ok      unit=waiting docs=waiting
-
-status ends
+...
   1000      1000    1    999 ok      unit=waiting docs=waiting
 waiting 1001 1
 end
@@ -193,18 +169,17 @@ end
 > {"id":"0c000000-0000-4000-8000-000000000003","kind":"approved","change":1,"revision":2}
 < {"reply":"waiting"}
 
-status begins
+status
 queue core window 2 landed 0
      2         2    1      - ok      unit=waiting docs=waiting
      3         3    1      2 ok      unit=waiting docs=waiting
-
-status ends
+...
   1001      1001    1   1000 ok      unit=waiting docs=waiting
 waiting 1 2
 end
 "#;
 
 #[test]
-fn a_full_queue_lets_the_next_change_wait(rt: HostRuntime) -> Result<(), Fail> {
-    goes_in_memory(&rt, CORE, FULL)
+fn conversations(rt: HostRuntime) {
+    plays(&rt, SCENES);
 }

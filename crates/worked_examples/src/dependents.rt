@@ -1,9 +1,11 @@
 //! What leaves a queue with a change that it needs.
-use crate::books::goes;
-use crate::gates::{CORE_AND_WEB, within};
-use std::test::Fail;
+use crate::scenes::plays;
 
-const NEED_FAILS: &str = r#"
+const SCENES: &str = r#"
+# what needs a failed change leaves with it
+It gets no more builds before, and the window is halved once, for the failed one.
+gate core 4 1 and web
+
 > {"id":"00000000-0000-4000-8000-000000000001","kind":"revision","change":101,"project":"lib","revision":1,"message":""}
 < {"reply":"recorded"}
 > {"id":"00000000-0000-4000-8000-000000000002","kind":"revision","change":102,"project":"app","revision":1,"message":"Depends-On: https://forge/c/101"}
@@ -49,16 +51,12 @@ queue core window 2 landed 0
 queue web window 2 landed 0
 waiting 102 1
 end
-"#;
 
-/// It gets no more builds before, and the window is halved once, for the failed one.
-#[test]
-fn what_needs_a_failed_change_leaves_with_it(rt: HostRuntime) -> Result<(), Fail> {
-    goes(&rt, within(4, 1), NEED_FAILS)
-}
+# a landing lets those behind it leave
+The failed item leaves, and the last one that needs it; the one between them keeps its builds. Four changes are queued
+in a window of 4, each of their jobs is given to a worker, and the last needs the second.
+gate core 4 1 and web
 
-/// Four changes are queued in a window of 4, each of their jobs is given to a worker, and the last needs the second.
-const LANDING_BEFORE_A_FAILED_NEED: &str = r#"
 > {"id":"0a000000-0000-4000-8000-000000000001","kind":"revision","change":101,"project":"lib","revision":1,"message":""}
 < {"reply":"recorded"}
 > {"id":"0a000000-0000-4000-8000-000000000002","kind":"revision","change":102,"project":"app","revision":1,"message":""}
@@ -134,15 +132,46 @@ history core
      2      2       102    1 failed          -
      3      4       104    1 needs           -
 end 3
-"#;
 
-/// The failed item leaves, and the last one that needs it; the one between them keeps its builds.
-#[test]
-fn a_landing_lets_those_behind_it_leave(rt: HostRuntime) -> Result<(), Fail> {
-    goes(&rt, within(4, 1), LANDING_BEFORE_A_FAILED_NEED)
-}
+# what needs a failing item fails as it enters
+gate core 2 1 and web
 
-const NEED_WITHDRAWN: &str = r#"
+> {"id":"00000000-0000-4000-8000-000000000001","kind":"revision","change":101,"project":"app","revision":1,"message":""}
+< {"reply":"recorded"}
+> {"id":"00000000-0000-4000-8000-000000000002","kind":"revision","change":102,"project":"app","revision":1,"message":""}
+< {"reply":"recorded"}
+> {"id":"00000000-0000-4000-8000-000000000003","kind":"revision","change":103,"project":"app","revision":1,"message":"Depends-On: https://forge/c/102"}
+< {"reply":"recorded"}
+> {"id":"00000000-0000-4000-8000-000000000004","kind":"revision","change":104,"project":"app","revision":1,"message":"Depends-On: https://forge/c/105"}
+< {"reply":"recorded"}
+> {"id":"00000000-0000-4000-8000-000000000005","kind":"approved","change":101,"revision":1}
+< {"order":1,"reply":"queued"}
+> {"id":"00000000-0000-4000-8000-000000000006","kind":"approved","change":102,"revision":1}
+< {"order":2,"reply":"queued"}
+> {"id":"00000000-0000-4000-8000-000000000007","kind":"take","worker":"w1"}
+< {"after":0,"ahead":[],"build":1,"change":101,"job":"unit","queue":"core","reply":"build","revision":1}
+> {"id":"00000000-0000-4000-8000-000000000008","kind":"take","worker":"w1"}
+< {"after":0,"ahead":[[101,1]],"build":2,"change":102,"job":"unit","queue":"core","reply":"build","revision":1}
+> {"id":"00000000-0000-4000-8000-000000000009","kind":"result","build":2,"outcome":"failure"}
+< {"reply":"noted"}
+> {"id":"00000000-0000-4000-8000-000000000010","kind":"approved","change":103,"revision":1}
+< {"order":3,"reply":"queued"}
+> {"id":"00000000-0000-4000-8000-000000000011","kind":"approved","change":104,"revision":1}
+< {"reply":"waiting"}
+
+status
+queue core window 2 landed 0
+     1       101    1      - ok      unit=running
+     2       102    1      1 failing unit=failure
+     3       103    1      1 blocked unit=waiting
+queue web window 2 landed 0
+waiting 104 1
+end
+
+# what needs a withdrawn change leaves with it
+And what needs that in turn. They have to be approved again, and the window stays.
+gate core 2 1 and web
+
 > {"id":"00000000-0000-4000-8000-000000000001","kind":"revision","change":101,"project":"lib","revision":1,"message":""}
 < {"reply":"recorded"}
 > {"id":"00000000-0000-4000-8000-000000000002","kind":"revision","change":102,"project":"app","revision":1,"message":"Depends-On: https://forge/c/101"}
@@ -167,8 +196,7 @@ queue web window 2 landed 0
 end
 "#;
 
-/// And what needs that in turn. They have to be approved again, and the window stays.
 #[test]
-fn what_needs_a_withdrawn_change_leaves_with_it(rt: HostRuntime) -> Result<(), Fail> {
-    goes(&rt, CORE_AND_WEB, NEED_WITHDRAWN)
+fn dependents(rt: HostRuntime) {
+    plays(&rt, SCENES);
 }

@@ -1,14 +1,12 @@
-//! Conversations in which a reader, a writer or memory fails.
-use crate::gates::{UNAVAILABLE, new_gate, said, tells};
+//! Readers and writers that fail in the midst of a conversation, or give few bytes at a time.
+use crate::scenes::gate_in_memory;
 use crate::streams::{Failing, Narrow};
 use gate_book::book::Book;
 use gate_core::fault::IoFault;
 use gate_core::gate::Gate;
 use gate_core::replay::replay;
 use gate_types::tap::Tap;
-use std::alloc::Global;
 use std::process::Abort;
-use std::test::Fail;
 
 /// A change is approved and waits for the one that it needs, which is approved then.
 const LINES: &str =
@@ -18,8 +16,11 @@ const LINES: &str =
 {"id":"00000000-0000-4000-8000-000000000004","kind":"approved","change":101,"revision":1}
 "#;
 
-const ANSWERS: &str =
-    "{\"reply\":\"recorded\"}\n{\"reply\":\"recorded\"}\n{\"reply\":\"waiting\"}\n{\"order\":1,\"reply\":\"queued\"}\n";
+const ANSWERS: &str = r#"{"reply":"recorded"}
+{"reply":"recorded"}
+{"reply":"waiting"}
+{"order":1,"reply":"queued"}
+"#;
 
 /// Another delivery, under the id of each of the lines in turn.
 const OTHERS: &str =
@@ -33,167 +34,125 @@ const REUSED: &str = "{\"code\":\"E4\",\"error\":\"id-reused\"}\n";
 
 const UNKNOWN: &str = "{\"code\":\"E5\",\"error\":\"unknown-change\"}\n";
 
-/// How many lines end within so many bytes.
-fn lines_within(text: &[u8], length: usize) -> usize {
-    let mut lines = 0usize;
-    for byte in text.get(..length).unwrap_or(text) {
-        if *byte == b'\n' {
-            lines = lines.saturating_add(1);
-        }
-    }
-    lines
-}
+/// How many reads and bytes no conversation here needs.
+const MANY: usize = 10_000;
 
-/// Whether these are the answers to so many lines, each of them whole.
-fn are_answers(written: &[u8], lines: usize) -> bool {
-    ANSWERS.as_bytes().starts_with(written)
-        && lines_within(written, written.len()) == lines
-        && (written.is_empty() || written.ends_with(b"\n"))
-}
-
-/// The count, and what a writer takes that fails after some bytes.
-fn taken_by<B: Book>(
-    alloc: Global,
+/// How many lines are read, and what is written, where so many reads give so many bytes each and then fail, and a
+/// writer has room for so many bytes.
+fn replayed<B: Book>(
+    rt: &(impl Abort + AllocGlobal),
     gate: &mut Gate<B>,
-    left: usize,
-) -> (Result<u64, IoFault>, Vec<u8>) {
-    let mut r = Tap::new(LINES.as_bytes());
-    let mut w = Tap::new(Narrow {
-        taken: Vec::new(alloc),
-        left,
-        silent: left % 2 == 0,
-    });
-    let count = replay(alloc, gate, &mut r, &mut w);
-    let Narrow { taken, .. } = w.into_inner();
-    (count, taken)
-}
-
-/// The count, and what is written where a reader fails after some reads of a byte.
-fn written_after<B: Book>(
-    alloc: Global,
-    gate: &mut Gate<B>,
-    left: usize,
-) -> (Result<u64, IoFault>, Vec<u8>) {
+    lines: &str,
+    (reads, step): (usize, usize),
+    room: usize,
+) -> (Result<u64, IoFault>, String) {
     let mut r = Tap::new(Failing {
-        bytes: LINES.as_bytes(),
-        step: 1,
-        left,
+        bytes: lines.as_bytes(),
+        step,
+        left: reads,
     });
-    let mut w = Tap::new(Vec::new(alloc));
-    let count = replay(alloc, gate, &mut r, &mut w);
-    (count, w.into_inner())
+    let mut w = Tap::new(Narrow {
+        taken: Vec::new(rt.alloc()),
+        left: room,
+        silent: room % 2 == 0,
+    });
+    let count = replay(rt.alloc(), gate, &mut r, &mut w);
+    let Narrow { taken, .. } = w.into_inner();
+    (count, String::from_utf8(taken).ok().expect(rt, "a text"))
+}
+
+/// How many lines end within so many bytes.
+fn lines_within(text: &str, length: usize) -> usize {
+    text.get(..length).unwrap_or(text).matches('\n').count()
 }
 
 /// So many of the lines' ids are spent, and the lines get their answers, new or kept.
-fn continues<B: Book>(
-    rt: &(impl Abort + AllocGlobal),
-    gate: &mut Gate<B>,
-    spent: usize,
-) -> Result<(), IoFault> {
+fn continues<B: Book>(rt: &(impl Abort + AllocGlobal), gate: &mut Gate<B>, spent: usize) {
     for (place, other) in OTHERS.lines().enumerate() {
+        let (_count, written) = replayed(rt, gate, other, (MANY, MANY), MANY);
         let answer = if place < spent { REUSED } else { UNKNOWN };
-        tells(rt, gate, other, answer)?;
+        assert_eq!(rt; written.as_str(), answer, "{spent} spent");
     }
-    tells(rt, gate, LINES, ANSWERS)
+    let (count, written) = replayed(rt, gate, LINES, (MANY, MANY), MANY);
+    assert_eq!(rt; count, Ok(4), "{spent} spent");
+    assert_eq!(rt; written.as_str(), ANSWERS, "{spent} spent");
 }
 
 /// The answer after so many bytes is cut, and its delivery stands.
-fn stands_after<B: Book>(
-    rt: &(impl Abort + AllocGlobal),
-    gate: &mut Gate<B>,
-    left: usize,
-) -> Result<(), Fail> {
-    let (count, taken) = taken_by(rt.alloc(), gate, left);
-    let wanted = if left < 91 {
+fn stands_after<B: Book>(rt: &(impl Abort + AllocGlobal), gate: &mut Gate<B>, room: usize) {
+    let (count, taken) = replayed(rt, gate, LINES, (MANY, MANY), room);
+    let wanted = if room < ANSWERS.len() {
         Err(IoFault::Write)
     } else {
         Ok(4)
     };
-    assert_eq!(rt; count, wanted, "after {left} bytes");
-    assert_eq!(rt; taken.len(), left);
-    assert!(rt;
-        ANSWERS.as_bytes().starts_with(taken.as_slice()),
-        "after {left} bytes"
+    assert_eq!(rt; count, wanted, "after {room} bytes");
+    assert_eq!(rt;
+        Some(taken.as_str()),
+        ANSWERS.get(..room),
+        "after {room} bytes"
     );
-    let answered = lines_within(ANSWERS.as_bytes(), left);
-    continues(rt, gate, answered.saturating_add(1))?;
-    Ok(())
+    continues(rt, gate, lines_within(ANSWERS, room).saturating_add(1));
 }
 
 /// The answers have 91 bytes. The delivery whose answer is cut stands.
 #[test]
-fn after_a_write_error_the_delivery_stands(rt: HostRuntime) -> Result<(), Fail> {
-    for left in 0..92 {
-        let mut gate = new_gate(rt.alloc())?;
-        stands_after(&rt, &mut gate, left)?;
+fn after_a_write_error_the_delivery_stands(rt: HostRuntime) {
+    for room in 0..92 {
+        let mut gate = gate_in_memory(&rt, "core 2 1", "");
+        stands_after(&rt, &mut gate, room);
     }
-    Ok(())
 }
 
-/// The line that so many reads cut is new later.
-fn is_new_after<B: Book>(
-    rt: &(impl Abort + AllocGlobal),
-    gate: &mut Gate<B>,
-    left: usize,
-) -> Result<(), Fail> {
-    let (count, written) = written_after(rt.alloc(), gate, left);
-    assert_eq!(rt; count, Err(IoFault::Read), "after {left} reads");
-    let spent = lines_within(LINES.as_bytes(), left);
+/// The line that so many reads of a byte cut is new later.
+fn is_new_after<B: Book>(rt: &(impl Abort + AllocGlobal), gate: &mut Gate<B>, reads: usize) {
+    let (count, written) = replayed(rt, gate, LINES, (reads, 1), MANY);
+    let spent = lines_within(LINES, reads);
+    assert_eq!(rt; count, Err(IoFault::Read), "after {reads} reads");
     assert!(rt;
-        are_answers(written.as_slice(), spent),
-        "after {left} reads"
+        ANSWERS.starts_with(written.as_str()),
+        "after {reads} reads"
     );
-    continues(rt, gate, spent)?;
-    Ok(())
+    assert_eq!(rt;
+        lines_within(written.as_str(), MANY),
+        spent,
+        "after {reads} reads"
+    );
+    assert!(rt;
+        written.is_empty() || written.ends_with('\n'),
+        "after {reads} reads"
+    );
+    continues(rt, gate, spent);
 }
 
 /// The lines have 449 bytes.
 #[test]
-fn a_line_that_a_read_error_cut_is_new_later(rt: HostRuntime) -> Result<(), Fail> {
-    for left in 0..450 {
-        let mut gate = new_gate(rt.alloc())?;
-        is_new_after(&rt, &mut gate, left)?;
+fn a_line_that_a_read_error_cut_is_new_later(rt: HostRuntime) {
+    for reads in 0..450 {
+        let mut gate = gate_in_memory(&rt, "core 2 1", "");
+        is_new_after(&rt, &mut gate, reads);
     }
-    Ok(())
 }
 
-/// Whether memory was refused: the line is answered so, or not at all. Any other answer is the right one.
-fn is_refused<B: Book>(
-    rt: &(impl Abort + AllocGlobal),
-    gate: &mut Gate<B>,
-    line: &str,
-    answer: &str,
-) -> bool {
-    let Ok(written) = said(rt.alloc(), gate, line) else {
-        return true;
-    };
-    if written.as_slice() == UNAVAILABLE.as_bytes() {
-        return true;
-    }
-    assert_eq!(rt; written.as_slice().trim_ascii_end(), answer.as_bytes());
-    false
+const INPUT: &str = "1\n\n{}\n[1]";
+
+const OUTPUT: &str = r#"{"code":"E2","error":"bad-delivery"}
+{"code":"E1","error":"bad-json"}
+{"code":"E2","error":"bad-delivery"}
+{"code":"E2","error":"bad-delivery"}
+"#;
+
+/// The lines of the input are answered, where a read gives so many bytes.
+fn reads_by<B: Book>(rt: &(impl Abort + AllocGlobal), gate: &mut Gate<B>, step: usize) {
+    let (count, written) = replayed(rt, gate, INPUT, (20, step), MANY);
+    assert_eq!(rt; count, Ok(4), "{step} bytes a read");
+    assert_eq!(rt; written.as_str(), OUTPUT, "{step} bytes a read");
 }
 
-/// How often memory is refused where each line is told twice.
-fn refusals<B: Book>(rt: &(impl Abort + AllocGlobal), gate: &mut Gate<B>) -> u32 {
-    let mut refused = 0u32;
-    for (line, answer) in LINES.lines().zip(ANSWERS.lines()) {
-        let first = is_refused(rt, gate, line, answer);
-        let again = is_refused(rt, gate, line, answer);
-        refused = refused
-            .saturating_add(u32::from(first))
-            .saturating_add(u32::from(again));
-    }
-    refused
-}
-
-/// Passes whichever one allocation is refused: the line's answer is `unavailable` then, or there
-/// is none, and the line sent again gets the answer.
 #[test]
-fn a_refused_allocation_changes_nothing(rt: HostRuntime) -> Result<(), Fail> {
-    let Ok(mut gate) = new_gate(rt.alloc()) else {
-        return Ok(());
-    };
-    assert!(rt; refusals(&rt, &mut gate) < 2);
-    Ok(())
+fn few_bytes_a_read_change_nothing(rt: HostRuntime) {
+    for step in 1..6 {
+        let mut gate = gate_in_memory(&rt, "core 2 1", "");
+        reads_by(&rt, &mut gate, step);
+    }
 }

@@ -1,9 +1,12 @@
 //! Landings: what lands, behind what, and what is kept behind it.
-use crate::books::goes;
-use crate::gates::CORE_AND_WEB;
-use std::test::Fail;
+use crate::scenes::plays;
 
-const LANDS_PAST_A_FAILING_ONE: &str = r#"
+const SCENES: &str = r#"
+# a change lands past a failing one
+The failing item stays until its last job has ended; then it leaves, and the window is halved. After a writer failed
+within the history the gate goes on.
+gate core 2 1 and web
+
 tells three taken
 
 tells first failed
@@ -33,7 +36,7 @@ queue core window 1 landed 1
 queue web window 2 landed 0
 end
 
-first 20 bytes of history core
+history core up to byte 20
 history core
      1      2       102    1 landed          1
 
@@ -50,17 +53,13 @@ history web
 history web
 end 0
 
-no history nope
-"#;
+history nope
+none
 
-/// The failing item stays until its last job has ended; then it leaves, and the window is halved. After a writer failed
-/// within the history the gate goes on.
-#[test]
-fn a_change_lands_past_a_failing_one(rt: HostRuntime) -> Result<(), Fail> {
-    goes(&rt, CORE_AND_WEB, LANDS_PAST_A_FAILING_ONE)
-}
+# a change lands though a job that does not vote failed
+It waits for its voting job all the same.
+gate core 2 1 and web
 
-const DOCS_FAILED: &str = r#"
 > {"id":"00000000-0000-4000-8000-000000000001","kind":"revision","change":101,"project":"lib","revision":1,"message":""}
 < {"reply":"recorded"}
 > {"id":"00000000-0000-4000-8000-000000000002","kind":"approved","change":101,"revision":1}
@@ -91,15 +90,11 @@ end
 
 orders
 []
-"#;
 
-/// It waits for its voting job all the same.
-#[test]
-fn a_change_lands_though_a_job_that_does_not_vote_failed(rt: HostRuntime) -> Result<(), Fail> {
-    goes(&rt, CORE_AND_WEB, DOCS_FAILED)
-}
+# a change waits for a job that does not vote
+No order is shown, and none can be answered, while it runs.
+gate core 2 1 and web
 
-const DOCS_RUN: &str = r#"
 > {"id":"00000000-0000-4000-8000-000000000001","kind":"revision","change":101,"project":"lib","revision":1,"message":""}
 < {"reply":"recorded"}
 > {"id":"00000000-0000-4000-8000-000000000002","kind":"approved","change":101,"revision":1}
@@ -124,15 +119,11 @@ orders
 
 > {"id":"0d000000-0000-4000-8000-000000000001","kind":"landed","order":1}
 < {"n":1,"reply":"landed"}
-"#;
 
-/// No order is shown, and none can be answered, while it runs.
-#[test]
-fn a_change_waits_for_a_job_that_does_not_vote(rt: HostRuntime) -> Result<(), Fail> {
-    goes(&rt, CORE_AND_WEB, DOCS_RUN)
-}
+# a landing keeps the builds behind it
+What was ahead has landed: the build ran on the same changes.
+gate core 2 1 and web
 
-const FIRST_OF_TWO_LANDS: &str = r#"
 tells two taken
 
 > {"id":"0b000000-0000-4000-8000-000000000001","kind":"result","build":1,"outcome":"success"}
@@ -161,15 +152,11 @@ status
 queue core window 4 landed 2
 queue web window 2 landed 0
 end
-"#;
 
-/// What was ahead has landed: the build ran on the same changes.
-#[test]
-fn a_landing_keeps_the_builds_behind_it(rt: HostRuntime) -> Result<(), Fail> {
-    goes(&rt, CORE_AND_WEB, FIRST_OF_TWO_LANDS)
-}
+# changes land one after the other
+A landing is told once; told again under its id it gets the kept reply, under another id it is refused.
+gate core 2 1 and web
 
-const BOTH_LAND: &str = r#"
 tells two taken
 
 tells both landed
@@ -178,15 +165,11 @@ status
 queue core window 4 landed 2
 queue web window 2 landed 0
 end
-"#;
 
-/// A landing is told once; told again under its id it gets the kept reply, under another id it is refused.
-#[test]
-fn changes_land_one_after_the_other(rt: HostRuntime) -> Result<(), Fail> {
-    goes(&rt, CORE_AND_WEB, BOTH_LAND)
-}
+# a build counts the landings before it
+A new item is built on all that has landed.
+gate core 2 1 and web
 
-const BUILT_BEHIND_LANDINGS: &str = r#"
 tells two taken
 
 tells both landed
@@ -199,8 +182,7 @@ tells both landed
 < {"after":2,"ahead":[],"build":4,"change":103,"job":"unit","queue":"core","reply":"build","revision":1}
 "#;
 
-/// A new item is built on all that has landed.
 #[test]
-fn a_build_counts_the_landings_before_it(rt: HostRuntime) -> Result<(), Fail> {
-    goes(&rt, CORE_AND_WEB, BUILT_BEHIND_LANDINGS)
+fn landings(rt: HostRuntime) {
+    plays(&rt, SCENES);
 }

@@ -4,8 +4,6 @@
 #[cfg(test)]
 mod beginnings;
 #[cfg(test)]
-mod books;
-#[cfg(test)]
 mod conversations;
 #[cfg(test)]
 mod counters;
@@ -15,12 +13,6 @@ mod dependents;
 mod failures;
 #[cfg(test)]
 mod faults;
-#[cfg(test)]
-mod footers;
-#[cfg(test)]
-mod gates;
-#[cfg(test)]
-mod halvings;
 #[cfg(test)]
 mod landings;
 #[cfg(test)]
@@ -34,8 +26,6 @@ mod needs;
 #[cfg(test)]
 mod orders;
 #[cfg(test)]
-mod parts;
-#[cfg(test)]
 mod queues;
 #[cfg(test)]
 mod refusals;
@@ -44,7 +34,11 @@ mod refused;
 #[cfg(test)]
 mod repeats;
 #[cfg(test)]
-mod sizes;
+mod rulings;
+#[cfg(test)]
+mod scenes;
+#[cfg(test)]
+mod standing;
 #[cfg(test)]
 mod streams;
 #[cfg(test)]

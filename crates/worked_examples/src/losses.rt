@@ -1,10 +1,12 @@
 //! Lost builds: a job is tried three times.
-use crate::books::goes;
-use crate::gates::CORE_AND_WEB;
-use std::test::Fail;
+use crate::scenes::plays;
 
-/// Only what runs stops being live when its item leaves: the last build stays so.
-const LOST_THREE_TIMES: &str = r#"
+const SCENES: &str = r#"
+# a lost build is tried three times
+A job whose build is lost waits again; the third loss fails it. Only what runs stops being live when its item leaves:
+the last build stays so.
+gate core 2 1 and web
+
 > {"id":"00000000-0000-4000-8000-000000000001","kind":"revision","change":102,"project":"app","revision":1,"message":""}
 < {"reply":"recorded"}
 > {"id":"00000000-0000-4000-8000-000000000002","kind":"approved","change":102,"revision":1}
@@ -38,15 +40,11 @@ end
 
 build 3
 {"after":0,"ahead":[],"build":3,"change":102,"job":"unit","live":true,"outcome":"lost","queue":"core","revision":1}
-"#;
 
-/// A job whose build is lost waits again; the third loss fails it.
-#[test]
-fn a_lost_build_is_tried_three_times(rt: HostRuntime) -> Result<(), Fail> {
-    goes(&rt, CORE_AND_WEB, LOST_THREE_TIMES)
-}
+# losses with other changes ahead do not count
+Two builds are lost behind a change, and one without it: the job is tried again.
+gate core 2 1 and web
 
-const LOST_ON_TWO_LINES: &str = r#"
 tells two taken
 
 > {"id":"0b000000-0000-4000-8000-000000000001","kind":"result","build":3,"outcome":"lost"}
@@ -72,8 +70,7 @@ queue web window 2 landed 0
 end
 "#;
 
-/// Two builds are lost behind a change, and one without it: the job is tried again.
 #[test]
-fn losses_with_other_changes_ahead_do_not_count(rt: HostRuntime) -> Result<(), Fail> {
-    goes(&rt, CORE_AND_WEB, LOST_ON_TWO_LINES)
+fn losses(rt: HostRuntime) {
+    plays(&rt, SCENES);
 }

@@ -1,9 +1,11 @@
 //! Orders: when they are shown, and how they are answered.
-use crate::books::goes;
-use crate::gates::CORE_AND_WEB;
-use std::test::Fail;
+use crate::scenes::plays;
 
-const SECOND_ANSWERED: &str = r#"
+const SCENES: &str = r#"
+# an order is shown until it is answered
+The failing item before it leaves, and the order stays. It is answered once, under its own number.
+gate core 2 1 and web
+
 tells three taken
 
 tells first failed
@@ -46,15 +48,11 @@ queue core window 2 landed 1
      3       103    1      - ok      unit=waiting docs=waiting
 queue web window 2 landed 0
 end
-"#;
 
-/// The failing item before it leaves, and the order stays. It is answered once, under its own number.
-#[test]
-fn an_order_is_shown_until_it_is_answered(rt: HostRuntime) -> Result<(), Fail> {
-    goes(&rt, CORE_AND_WEB, SECOND_ANSWERED)
-}
+# a change whose order is shown cannot be taken back
+Not withdrawn, not closed, and no new revision, until the forge has answered. The refusals spend no id.
+gate core 2 1 and web
 
-const HELD: &str = r#"
 > {"id":"00000000-0000-4000-8000-000000000001","kind":"revision","change":101,"project":"lib","revision":1,"message":""}
 < {"reply":"recorded"}
 > {"id":"00000000-0000-4000-8000-000000000002","kind":"approved","change":101,"revision":1}
@@ -99,15 +97,11 @@ end
 < {"reply":"stale"}
 > {"id":"00000000-0000-4000-8000-000000000009","kind":"closed","change":101,"revision":1}
 < {"reply":"stale"}
-"#;
 
-/// Not withdrawn, not closed, and no new revision, until the forge has answered. The refusals spend no id.
-#[test]
-fn a_change_whose_order_is_shown_cannot_be_taken_back(rt: HostRuntime) -> Result<(), Fail> {
-    goes(&rt, CORE_AND_WEB, HELD)
-}
+# no order is shown behind an undecided item
+All jobs of the second item have ended, and it waits for the first one.
+gate core 2 1 and web
 
-const SECOND_FIRST: &str = r#"
 tells two taken
 
 > {"id":"0b000000-0000-4000-8000-000000000001","kind":"result","build":3,"outcome":"success"}
@@ -126,15 +120,11 @@ queue core window 2 landed 0
      2       102    1      1 ok      unit=success
 queue web window 2 landed 0
 end
-"#;
 
-/// All jobs of the second item have ended, and it waits for the first one.
-#[test]
-fn no_order_is_shown_behind_an_undecided_item(rt: HostRuntime) -> Result<(), Fail> {
-    goes(&rt, CORE_AND_WEB, SECOND_FIRST)
-}
+# a refused order resets the items behind it
+The second item succeeded behind a change that did not land.
+gate core 2 1 and web
 
-const FIRST_REFUSED: &str = r#"
 tells two taken
 
 > {"id":"0b000000-0000-4000-8000-000000000001","kind":"result","build":1,"outcome":"success"}
@@ -158,15 +148,11 @@ queue core window 1 landed 0
      2       102    1      - ok      unit=running
 queue web window 2 landed 0
 end
-"#;
 
-/// The second item succeeded behind a change that did not land.
-#[test]
-fn a_refused_order_resets_the_items_behind_it(rt: HostRuntime) -> Result<(), Fail> {
-    goes(&rt, CORE_AND_WEB, FIRST_REFUSED)
-}
+# each queue shows its order
+In the order of the settings, and each queue counts its own landings.
+gate core 2 1 and web
 
-const BUILT_IN_BOTH: &str = r#"
 > {"id":"00000000-0000-4000-8000-000000000001","kind":"revision","change":301,"project":"site","revision":1,"message":""}
 < {"reply":"recorded"}
 > {"id":"00000000-0000-4000-8000-000000000002","kind":"revision","change":102,"project":"app","revision":1,"message":""}
@@ -198,8 +184,7 @@ queue web window 3 landed 1
 end
 "#;
 
-/// In the order of the settings, and each queue counts its own landings.
 #[test]
-fn each_queue_shows_its_order(rt: HostRuntime) -> Result<(), Fail> {
-    goes(&rt, CORE_AND_WEB, BUILT_IN_BOTH)
+fn orders(rt: HostRuntime) {
+    plays(&rt, SCENES);
 }

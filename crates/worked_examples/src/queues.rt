@@ -1,21 +1,18 @@
 //! Conversations over two queues.
-use crate::books::{goes, goes_in_memory};
-use crate::gates::CORE_AND_WEB;
-use std::test::Fail;
+use crate::scenes::plays;
 
-const BOTH_EMPTY: &str = r#"
+const SCENES: &str = r#"
+# each queue has a line
+gate core 2 1 and web
+
 status
 queue core window 2 landed 0
 queue web window 2 landed 0
 end
-"#;
 
-#[test]
-fn each_queue_has_a_line(rt: HostRuntime) -> Result<(), Fail> {
-    goes(&rt, CORE_AND_WEB, BOTH_EMPTY)
-}
+# a change stands in its project's queue
+gate core 2 1 and web
 
-const IN_BOTH: &str = r#"
 > {"id":"00000000-0000-4000-8000-000000000001","kind":"revision","change":101,"project":"lib","revision":1,"message":""}
 < {"reply":"recorded"}
 > {"id":"00000000-0000-4000-8000-000000000002","kind":"revision","change":201,"project":"site","revision":1,"message":""}
@@ -36,14 +33,10 @@ queue core window 2 landed 0
 queue web window 2 landed 0
      2       201    1      - ok      unit=waiting
 end
-"#;
 
-#[test]
-fn a_change_stands_in_its_projects_queue(rt: HostRuntime) -> Result<(), Fail> {
-    goes(&rt, CORE_AND_WEB, IN_BOTH)
-}
+# a revision leaves the other queue alone
+gate core 2 1 and web
 
-const ONE_REVISED: &str = r#"
 > {"id":"00000000-0000-4000-8000-000000000001","kind":"revision","change":101,"project":"lib","revision":1,"message":""}
 < {"reply":"recorded"}
 > {"id":"00000000-0000-4000-8000-000000000002","kind":"revision","change":201,"project":"site","revision":1,"message":""}
@@ -62,45 +55,52 @@ queue core window 2 landed 0
 queue web window 2 landed 0
      2       201    1      - ok      unit=waiting
 end
-"#;
 
-#[test]
-fn a_revision_leaves_the_other_queue_alone(rt: HostRuntime) -> Result<(), Fail> {
-    goes(&rt, CORE_AND_WEB, ONE_REVISED)
-}
+# a full queue keeps no other from filling
+gate core 2 1 and web in memory
 
-const ONE_FULL: &str = r#"
-fills lib 1 to 1000
+for n from 1 to 1000
+> {"id":"0a000000-0000-4000-8000-<000n>","kind":"revision","change":<n>,"project":"lib","revision":1,"message":""}
+< {"reply":"recorded"}
+> {"id":"0b000000-0000-4000-8000-<000n>","kind":"approved","change":<n>,"revision":1}
+< {"order":<n>,"reply":"queued"}
 
 > {"id":"0a000000-0000-4000-8000-000000002001","kind":"revision","change":2001,"project":"app","revision":1,"message":""}
 < {"reply":"recorded"}
 > {"id":"0b000000-0000-4000-8000-000000002001","kind":"approved","change":2001,"revision":1}
 < {"reply":"waiting"}
 
-fills site 1001 to 1002
+for n from 1001 to 1002
+> {"id":"0a000000-0000-4000-8000-<000n>","kind":"revision","change":<n>,"project":"site","revision":1,"message":""}
+< {"reply":"recorded"}
+> {"id":"0b000000-0000-4000-8000-<000n>","kind":"approved","change":<n>,"revision":1}
+< {"order":<n>,"reply":"queued"}
 
-status begins
+status
 queue core window 2 landed 0
      1         1    1      - ok      unit=waiting docs=waiting
-
-status ends
+...
   1000      1000    1    999 ok      unit=waiting docs=waiting
 queue web window 2 landed 0
   1001      1001    1      - ok      unit=waiting
   1002      1002    1   1001 ok      unit=waiting
 waiting 2001 1
 end
-"#;
 
-#[test]
-fn a_full_queue_keeps_no_other_from_filling(rt: HostRuntime) -> Result<(), Fail> {
-    goes_in_memory(&rt, CORE_AND_WEB, ONE_FULL)
-}
+# a place goes to the first of its queue
+gate core 2 1 and web in memory
 
-const BOTH_FULL: &str = r#"
-fills lib 1 to 1000
+for n from 1 to 1000
+> {"id":"0a000000-0000-4000-8000-<000n>","kind":"revision","change":<n>,"project":"lib","revision":1,"message":""}
+< {"reply":"recorded"}
+> {"id":"0b000000-0000-4000-8000-<000n>","kind":"approved","change":<n>,"revision":1}
+< {"order":<n>,"reply":"queued"}
 
-fills site 1001 to 2000
+for n from 1001 to 2000
+> {"id":"0a000000-0000-4000-8000-<000n>","kind":"revision","change":<n>,"project":"site","revision":1,"message":""}
+< {"reply":"recorded"}
+> {"id":"0b000000-0000-4000-8000-<000n>","kind":"approved","change":<n>,"revision":1}
+< {"order":<n>,"reply":"queued"}
 
 > {"id":"0a000000-0000-4000-8000-000000003001","kind":"revision","change":3001,"project":"site","revision":1,"message":""}
 < {"reply":"recorded"}
@@ -120,11 +120,10 @@ fills site 1001 to 2000
 > {"id":"0c000000-0000-4000-8000-000000000001","kind":"revision","change":1,"project":"lib","revision":2,"message":""}
 < {"reply":"recorded"}
 
-status begins
+status
 queue core window 2 landed 0
      2         2    1      - ok      unit=waiting docs=waiting
-
-status ends
+...
   2000      2000    1   1999 ok      unit=waiting
 waiting 3001 1
 waiting 3003 1
@@ -132,6 +131,6 @@ end
 "#;
 
 #[test]
-fn a_place_goes_to_the_first_of_its_queue(rt: HostRuntime) -> Result<(), Fail> {
-    goes_in_memory(&rt, CORE_AND_WEB, BOTH_FULL)
+fn queues(rt: HostRuntime) {
+    plays(&rt, SCENES);
 }

@@ -1,9 +1,11 @@
 //! Each refusal of a delivery, and what is stale.
-use crate::books::goes;
-use crate::gates::CORE_AND_WEB;
-use std::test::Fail;
+use crate::scenes::plays;
 
-const QUEUED_AND_BACK: &str = r#"
+const SCENES: &str = r#"
+# withdrawing and closing a queued change
+A closed change is opened by its next revision alone.
+gate core 2 1 and web
+
 > {"id":"00000000-0000-4000-8000-000000000001","kind":"withdrawn","change":101,"revision":1}
 < {"code":"E5","error":"unknown-change"}
 > {"id":"00000000-0000-4000-8000-000000000002","kind":"closed","change":101,"revision":1}
@@ -46,15 +48,11 @@ queue core window 2 landed 0
      3       101    3      - ok      unit=waiting docs=waiting
 queue web window 2 landed 0
 end
-"#;
 
-/// A closed change is opened by its next revision alone.
-#[test]
-fn withdrawing_and_closing_a_queued_change(rt: HostRuntime) -> Result<(), Fail> {
-    goes(&rt, CORE_AND_WEB, QUEUED_AND_BACK)
-}
+# withdrawing and closing a waiting change
+A change that stands nowhere can be closed, and not withdrawn; a new revision waits nowhere.
+gate core 2 1 and web
 
-const WAITED_AND_BACK: &str = r#"
 > {"id":"00000000-0000-4000-8000-000000000001","kind":"revision","change":102,"project":"app","revision":1,"message":"Depends-On: https://forge/c/900"}
 < {"reply":"recorded"}
 > {"id":"00000000-0000-4000-8000-000000000002","kind":"approved","change":102,"revision":1}
@@ -86,15 +84,11 @@ status
 queue core window 2 landed 0
 queue web window 2 landed 0
 end
-"#;
 
-/// A change that stands nowhere can be closed, and not withdrawn; a new revision waits nowhere.
-#[test]
-fn withdrawing_and_closing_a_waiting_change(rt: HostRuntime) -> Result<(), Fail> {
-    goes(&rt, CORE_AND_WEB, WAITED_AND_BACK)
-}
+# building and landing a change
+Each build has one result, and each order one answer.
+gate core 2 1 and web
 
-const BUILT_AND_LANDED: &str = r#"
 tells one landed
 
 orders
@@ -104,15 +98,11 @@ status
 queue core window 3 landed 1
 queue web window 2 landed 0
 end
-"#;
 
-/// Each build has one result, and each order one answer.
-#[test]
-fn building_and_landing_a_change(rt: HostRuntime) -> Result<(), Fail> {
-    goes(&rt, CORE_AND_WEB, BUILT_AND_LANDED)
-}
+# a landed change has landed for good
+Whatever is said of it is stale or refused.
+gate core 2 1 and web
 
-const LANDED_FOR_GOOD: &str = r#"
 tells one landed
 
 > {"id":"00000000-0000-4000-8000-000000000021","kind":"revision","change":102,"project":"app","revision":2,"message":""}
@@ -140,8 +130,7 @@ queue web window 2 landed 0
 end
 "#;
 
-/// Whatever is said of it is stale or refused.
 #[test]
-fn a_landed_change_has_landed_for_good(rt: HostRuntime) -> Result<(), Fail> {
-    goes(&rt, CORE_AND_WEB, LANDED_FOR_GOOD)
+fn refusals(rt: HostRuntime) {
+    plays(&rt, SCENES);
 }

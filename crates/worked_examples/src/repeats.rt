@@ -1,9 +1,11 @@
 //! Repeated deliveries, over two queues.
-use crate::books::goes;
-use crate::gates::CORE_AND_WEB;
-use std::test::Fail;
+use crate::scenes::plays;
 
-const REFUSED_AT_FIRST: &str = r#"
+const SCENES: &str = r#"
+# a refused delivery may be sent again
+Its id is not spent: sent again, it is looked at anew.
+gate core 2 1 and web
+
 > {"id":"00000000-0000-4000-8000-000000000001","kind":"approved","change":101,"revision":1}
 < {"code":"E5","error":"unknown-change"}
 > {"id":"00000000-0000-4000-8000-000000000002","kind":"revision","change":101,"project":"lib","revision":1,"message":""}
@@ -16,15 +18,11 @@ queue core window 2 landed 0
      1       101    1      - ok      unit=waiting docs=waiting
 queue web window 2 landed 0
 end
-"#;
 
-/// Its id is not spent: sent again, it is looked at anew.
-#[test]
-fn a_refused_delivery_may_be_sent_again(rt: HostRuntime) -> Result<(), Fail> {
-    goes(&rt, CORE_AND_WEB, REFUSED_AT_FIRST)
-}
+# a repeat gets the kept reply
+Ids are compared by value, and deliveries by what they say.
+gate core 2 1 and web
 
-const SENT_TWICE: &str = r#"
 > {"id":"00000000-0000-4000-8000-000000000001","kind":"revision","change":101,"project":"lib","revision":1,"message":""}
 < {"reply":"recorded"}
 > {"id":"00000000-0000-4000-8000-000000000002","kind":"revision","change":102,"project":"app","revision":1,"message":""}
@@ -58,15 +56,11 @@ queue core window 2 landed 0
      2       102    1      1 ok      unit=waiting
 queue web window 2 landed 0
 end
-"#;
 
-/// Ids are compared by value, and deliveries by what they say.
-#[test]
-fn a_repeat_gets_the_kept_reply(rt: HostRuntime) -> Result<(), Fail> {
-    goes(&rt, CORE_AND_WEB, SENT_TWICE)
-}
+# a stale delivery stays stale
+Its reply is kept too: the repeat takes nothing out, though a new delivery of the same would.
+gate core 2 1 and web
 
-const STALE_THEN: &str = r#"
 > {"id":"00000000-0000-4000-8000-000000000001","kind":"revision","change":101,"project":"lib","revision":1,"message":""}
 < {"reply":"recorded"}
 > {"id":"00000000-0000-4000-8000-000000000002","kind":"withdrawn","change":101,"revision":1}
@@ -81,15 +75,11 @@ queue core window 2 landed 0
      1       101    1      - ok      unit=waiting docs=waiting
 queue web window 2 landed 0
 end
-"#;
 
-/// Its reply is kept too: the repeat takes nothing out, though a new delivery of the same would.
-#[test]
-fn a_stale_delivery_stays_stale(rt: HostRuntime) -> Result<(), Fail> {
-    goes(&rt, CORE_AND_WEB, STALE_THEN)
-}
+# a repeated take gives the same build
+Under the same id and worker; another worker cannot use the id.
+gate core 2 1 and web
 
-const TAKEN_TWICE: &str = r#"
 > {"id":"00000000-0000-4000-8000-000000000001","kind":"revision","change":101,"project":"lib","revision":1,"message":""}
 < {"reply":"recorded"}
 > {"id":"00000000-0000-4000-8000-000000000002","kind":"approved","change":101,"revision":1}
@@ -116,8 +106,7 @@ queue web window 2 landed 0
 end
 "#;
 
-/// Under the same id and worker; another worker cannot use the id.
 #[test]
-fn a_repeated_take_gives_the_same_build(rt: HostRuntime) -> Result<(), Fail> {
-    goes(&rt, CORE_AND_WEB, TAKEN_TWICE)
+fn repeats(rt: HostRuntime) {
+    plays(&rt, SCENES);
 }

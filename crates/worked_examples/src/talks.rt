@@ -1,99 +1,188 @@
-//! Conversations held with a gate.
-use crate::gates::{fills, tells};
-use crate::parts::{Part, answered, is_talk, push_line, read, told};
+//! What is told to a gate and what it shows, part after part, with an empty line between two.
+//!
+//! In a part that is told, lines behind `>` are told, a last one behind `>>` without an end, and lines behind `<` are
+//! the answers; `<a*9>` stands in what is told for a text so many times. `tells two taken` stands for such a part of
+//! `beginnings`. Below `for n from 2 to 9` stands such a part that is told once for each of these numbers: `<n>` is
+//! the number, `<000n>` the number in twelve digits, `<n+1>` the next one, and `<to n>` has `,[k,1]` for each number k
+//! from the first up to the one before.
+//!
+//! Each other part is what the gate shows: its first line says of what, and its text stands below. It is `status`, in
+//! which a line `...` stands for any lines, `status without unit=running`, `orders`, `build 3` or `history core`,
+//! where the text may be `none`, or `history core up to byte 20`, where a writer fails behind that byte.
+use crate::beginnings::beginning;
 use crate::streams::Narrow;
 use gate_book::book::Book;
 use gate_book::fault::HistoryFault;
 use gate_core::gate::Gate;
+use gate_core::replay::replay;
+use gate_types::deliveries::Refusal;
 use gate_types::numbers::BuildNo;
 use gate_types::tap::Tap;
 use std::process::Abort;
-use std::test::Fail;
+use std::str::from_utf8;
 
 /// More bytes than any history here has.
 const WIDE: usize = 10_000;
 
-/// The gate answers so.
-fn answers<B: Book>(
-    rt: &(impl Abort + AllocGlobal),
-    gate: &mut Gate<B>,
-    talk: &str,
-) -> Result<(), Fail> {
-    assert!(rt; is_talk(talk), "told or answered: {talk}");
-    let told = told(rt.alloc(), talk)?;
-    let answered = answered(rt.alloc(), talk)?;
-    tells(rt, gate, told.as_str(), answered.as_str())?;
-    Ok(())
+/// Adds the words, with `<a*9>` in them for a text so many times.
+fn push(rt: &(impl Abort + AllocGlobal), told: &mut String, words: &str) {
+    let Some((front, rest)) = words.split_once('<') else {
+        return told.push_str(words).expect(rt, "memory");
+    };
+    let (text, rest) = rest.split_once('*').expect(rt, words);
+    let (times, back) = rest.split_once('>').expect(rt, words);
+    let times = times.parse::<usize>().ok().expect(rt, words);
+    let text = text.repeat(rt.alloc(), times).expect(rt, "memory");
+    let words = format!(in rt.alloc(); "{front}{text}{back}").expect(rt, "memory");
+    told.push_str(words.as_str()).expect(rt, "memory");
 }
 
-/// The status of the gate is this.
+/// What is told in a talk.
+fn told(rt: &(impl Abort + AllocGlobal), title: &str, talk: &str) -> String {
+    let mut told = String::new(rt.alloc());
+    for line in talk.lines() {
+        let (mark, words) = line.split_once(' ').unwrap_or((line, ""));
+        match mark {
+            "<" => {}
+            ">" | ">>" => push(rt, &mut told, words),
+            _ => panic!(rt; "{title}: neither told nor answered: {line}"),
+        }
+        if mark == ">" {
+            told.push('\n').expect(rt, "memory");
+        }
+    }
+    told
+}
+
+/// The answers of a talk are written, and nothing else. Gives their number.
+fn answered(rt: &impl Abort, title: &str, talk: &str, written: &str) -> u64 {
+    let mut lines = written.split('\n');
+    let mut count = 0u64;
+    for line in talk.lines() {
+        if let Some(answer) = line.strip_prefix("< ") {
+            assert_eq!(rt; lines.next(), Some(answer), "{title}");
+            count = count.saturating_add(1);
+        }
+    }
+    assert_eq!(rt; lines.next(), Some(""), "{title}");
+    assert_eq!(rt; lines.next(), None, "{title}");
+    count
+}
+
+/// What is told gets its answers.
+pub fn tells<B: Book>(
+    rt: &(impl Abort + AllocGlobal),
+    gate: &mut Gate<B>,
+    title: &str,
+    talk: &str,
+) {
+    let told = told(rt, title, talk);
+    let mut r = Tap::new(told.as_bytes());
+    let mut w = Tap::new(Vec::new(rt.alloc()));
+    let count = replay(rt.alloc(), gate, &mut r, &mut w).expect(rt, title);
+    let written = w.into_inner();
+    let written = from_utf8(written.as_slice()).ok().expect(rt, title);
+    assert_eq!(rt; answered(rt, title, talk, written), count, "{title}");
+}
+
+/// The lines for one number.
+fn numbered(rt: &(impl Abort + AllocGlobal), lines: &str, n: u32, before: &str) -> String {
+    let alloc = rt.alloc();
+    let number = format!(in alloc; "{n}").expect(rt, "memory");
+    let digits = format!(in alloc; "{n:012}").expect(rt, "memory");
+    let next = n.saturating_add(1);
+    let next = format!(in alloc; "{next}").expect(rt, "memory");
+    let lines = lines.replace(alloc, "<n>", number.as_str());
+    let lines = lines.expect(rt, "memory");
+    let lines = lines.as_str().replace(alloc, "<000n>", digits.as_str());
+    let lines = lines.expect(rt, "memory");
+    let lines = lines.as_str().replace(alloc, "<n+1>", next.as_str());
+    let lines = lines.expect(rt, "memory");
+    let lines = lines.as_str().replace(alloc, "<to n>", before);
+    lines.expect(rt, "memory")
+}
+
+/// The lines, once for each number, as `n from 2 to 9`.
+fn repeated(rt: &(impl Abort + AllocGlobal), words: &str, lines: &str) -> String {
+    let (first, last) = words.split_once(" to ").expect(rt, words);
+    let first = first.strip_prefix("n from ").expect(rt, words);
+    let first = first.parse::<u32>().ok().expect(rt, words);
+    let last = last.parse::<u32>().ok().expect(rt, words);
+    let mut talk = String::new(rt.alloc());
+    let mut before = String::new(rt.alloc());
+    for n in first..last.saturating_add(1) {
+        let lines = numbered(rt, lines, n, before.as_str());
+        let entry = format!(in rt.alloc(); ",[{n},1]").expect(rt, "memory");
+        talk.push_str(lines.as_str()).expect(rt, "memory");
+        talk.push('\n').expect(rt, "memory");
+        before.push_str(entry.as_str()).expect(rt, "memory");
+    }
+    talk
+}
+
+/// The status text is this, or has nothing of what it is to be without.
 fn has_status<B: Book>(
     rt: &(impl Abort + AllocGlobal),
     gate: &mut Gate<B>,
-    status: &str,
-) -> Result<(), Fail> {
-    let text = gate.status(rt.alloc())?;
-    assert_eq!(rt; text.as_str(), status);
-    Ok(())
-}
-
-/// Whether the status text begins, ends or does without, as the part says.
-fn fits(status: &str, part: &Part) -> bool {
-    match *part {
-        Part::StatusBegins(front) => status.starts_with(front),
-        Part::StatusEnds(back) => match status.strip_suffix(back) {
-            Some(front) => front.ends_with('\n'),
-            None => false,
-        },
-        Part::StatusWithout(words) => !status.contains(words),
-        _ => false,
+    title: &str,
+    words: &str,
+    text: &str,
+) {
+    let status = gate.status(rt.alloc()).expect(rt, title);
+    let status = status.as_str().strip_suffix('\n').expect(rt, title);
+    if !words.is_empty() {
+        let missing = words.strip_prefix("without ").expect(rt, words);
+        assert!(rt; text.is_empty() && !status.contains(missing), "{title}");
+    } else if let Some((front, back)) = text.split_once("...") {
+        assert!(rt; status.starts_with(front), "{title}: {front}");
+        assert!(rt; status.ends_with(back), "{title}: {back}");
+    } else {
+        assert_eq!(rt; status, text, "{title}");
     }
 }
 
-/// The status of the gate fits.
-fn status_fits<B: Book>(
-    rt: &(impl Abort + AllocGlobal),
-    gate: &mut Gate<B>,
-    part: &Part,
-) -> Result<(), Fail> {
-    let text = gate.status(rt.alloc())?;
-    assert!(rt; fits(text.as_str(), part));
-    Ok(())
-}
-
-/// The gate shows these orders.
+/// The orders that are shown are these.
 fn has_orders<B: Book>(
     rt: &(impl Abort + AllocGlobal),
     gate: &mut Gate<B>,
-    orders: &str,
-) -> Result<(), Fail> {
-    let text = gate.orders(rt.alloc())?;
-    assert_eq!(rt; text.as_str(), orders);
-    Ok(())
+    title: &str,
+    text: &str,
+) {
+    let orders = gate.orders(rt.alloc()).expect(rt, title);
+    assert_eq!(rt; orders.as_str(), text, "{title}");
 }
 
-/// The build of the number has this text.
+/// The build of the number has this text, or there is none.
 fn has_build<B: Book>(
     rt: &(impl Abort + AllocGlobal),
     gate: &mut Gate<B>,
-    number: u64,
-    build: &str,
-) -> Result<(), Fail> {
-    let number = BuildNo::new(number).ok_or("no number of a build")?;
-    let text = gate.build(rt.alloc(), number)?;
-    assert_eq!(rt; text.as_str(), build);
-    Ok(())
+    title: &str,
+    number: &str,
+    text: &str,
+) {
+    let number = number.parse::<u64>().ok().expect(rt, number);
+    let number = BuildNo::new(number).expect(rt, title);
+    match gate.build(rt.alloc(), number) {
+        Ok(build) => assert_eq!(rt; build.as_str(), text, "{title}"),
+        Err(refusal) => assert!(rt;
+            refusal == Refusal::UnknownBuild && text == "none",
+            "{title}"
+        ),
+    }
 }
 
-/// Asked for a queue's history, with a writer that fails after so many bytes, the gate answers so and writes this.
+/// The queue has this history, or its beginning is what a writer takes, or there is no such queue.
 fn has_history<B: Book>(
     rt: &(impl Abort + AllocGlobal),
     gate: &mut Gate<B>,
-    queue: &str,
-    room: usize,
-    answer: Result<(), HistoryFault>,
-    text: &[u8],
-) -> Result<(), Fail> {
+    title: &str,
+    words: &str,
+    text: &str,
+) {
+    let (queue, room) = match words.split_once(" up to byte ") {
+        Some((queue, room)) => (queue, room.parse::<usize>().ok().expect(rt, words)),
+        None => (words, WIDE),
+    };
     let mut w = Tap::new(Narrow {
         taken: Vec::new(rt.alloc()),
         left: room,
@@ -101,72 +190,42 @@ fn has_history<B: Book>(
     });
     let answered = gate.history(queue, b"", &mut w);
     let Narrow { taken, .. } = w.into_inner();
-    assert_eq!(rt; answered, answer);
-    assert_eq!(rt; taken.as_slice(), text);
-    Ok(())
-}
-
-/// The gate says this part, which is about a history.
-fn says_history<B: Book>(
-    rt: &(impl Abort + AllocGlobal),
-    gate: &mut Gate<B>,
-    part: &Part,
-) -> Result<(), Fail> {
-    match *part {
-        Part::History(queue, text) => {
-            has_history(rt, gate, queue, WIDE, Ok(()), text.as_bytes())
-        }
-        Part::CutHistory(queue, room, text) => {
-            let front = text.as_bytes().get(..room).ok_or("the text is shorter")?;
-            has_history(rt, gate, queue, room, Err(HistoryFault::Write), front)
-        }
-        Part::NoHistory(queue) => {
-            has_history(rt, gate, queue, WIDE, Err(HistoryFault::NoQueue), b"")
-        }
-        _ => Err(Fail::new("no history")),
-    }
-}
-
-/// The gate says this part.
-fn says<B: Book>(
-    rt: &(impl Abort + AllocGlobal),
-    gate: &mut Gate<B>,
-    text: &str,
-) -> Result<(), Fail> {
-    let Some(part) = read(text) else {
-        return Err(Fail::new(format_args!("no part of a conversation: {text}")));
-    };
-    match part {
-        Part::Talk(talk) => answers(rt, gate, talk),
-        Part::Fill(project, first, last) => {
-            fills(rt, gate, project, first..last.saturating_add(1))
-        }
-        Part::Status(status) => has_status(rt, gate, status),
-        Part::StatusBegins(_) | Part::StatusEnds(_) | Part::StatusWithout(_) => {
-            status_fits(rt, gate, &part)
-        }
-        Part::Orders(orders) => has_orders(rt, gate, orders),
-        Part::Build(number, build) => has_build(rt, gate, number, build),
-        Part::History(_, _) | Part::CutHistory(_, _, _) | Part::NoHistory(_) => {
-            says_history(rt, gate, &part)
+    let taken = from_utf8(taken.as_slice()).ok().expect(rt, title);
+    match answered {
+        Ok(()) => assert_eq!(rt; taken.strip_suffix('\n'), Some(text), "{title}"),
+        Err(HistoryFault::Write) => assert_eq!(rt; Some(taken), text.get(..room), "{title}"),
+        Err(fault) => {
+            assert_eq!(rt; fault, HistoryFault::NoQueue, "{title}");
+            assert_eq!(rt; taken, "", "{title}");
+            assert_eq!(rt; text, "none", "{title}");
         }
     }
 }
 
-/// The gate says all this, part after part.
+/// The gate goes on by this part.
+fn says<B: Book>(rt: &(impl Abort + AllocGlobal), gate: &mut Gate<B>, title: &str, part: &str) {
+    let (head, text) = part.split_once('\n').unwrap_or((part, ""));
+    let (word, words) = head.split_once(' ').unwrap_or((head, ""));
+    match word {
+        ">" | ">>" => tells(rt, gate, title, part),
+        "tells" if text.is_empty() => tells(rt, gate, title, beginning(rt, words)),
+        "for" => tells(rt, gate, title, repeated(rt, words, text).as_str()),
+        "status" => has_status(rt, gate, title, words, text),
+        "orders" if words.is_empty() => has_orders(rt, gate, title, text),
+        "build" => has_build(rt, gate, title, words, text),
+        "history" => has_history(rt, gate, title, words, text),
+        _ => panic!(rt; "{title}: no part of a scene: {part}"),
+    }
+}
+
+/// The gate goes on by these parts.
 pub fn goes_on<B: Book>(
     rt: &(impl Abort + AllocGlobal),
     gate: &mut Gate<B>,
-    talk: &str,
-) -> Result<(), Fail> {
-    let mut part = String::new(rt.alloc());
-    for line in talk.lines() {
-        if !line.is_empty() {
-            push_line(&mut part, line)?;
-        } else if !part.is_empty() {
-            says(rt, gate, part.as_str())?;
-            part.clear();
-        }
+    title: &str,
+    parts: &str,
+) {
+    for part in parts.trim_end().split("\n\n") {
+        says(rt, gate, title, part);
     }
-    says(rt, gate, part.as_str())
 }

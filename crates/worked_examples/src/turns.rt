@@ -1,5 +1,5 @@
 //! Who speaks when: over pipes the other side waits for an answer before it sends its next line.
-use crate::gates::new_gate;
+use crate::scenes::gate_in_memory;
 use gate_book::book::Book;
 use gate_core::gate::Gate;
 use gate_core::replay::replay;
@@ -8,7 +8,6 @@ use std::cell::Cell;
 use std::io;
 use std::io::{Read, Write};
 use std::process::Abort;
-use std::test::Fail;
 
 /// How many lines were given and answered, and whether a read came while an answer was owed.
 #[derive(Drop)]
@@ -18,20 +17,19 @@ struct Talk {
     owed: Cell<bool>,
 }
 
-/// Gives so many lines, one a read.
+/// One side of a talk: gives five lines, one a read, and counts the answers by their ends.
 #[derive(Drop)]
-struct Asking<'a> {
+struct Side<'a> {
     talk: &'a Talk,
-    lines: usize,
 }
 
-impl Read for Asking<'_> {
+impl Read for Side<'_> {
     fn read(&mut self, buf: &mut [u8]) -> io::Result<usize> {
         let given = self.talk.given.get();
         if self.talk.answered.get() < given {
             self.talk.owed.set(true);
         }
-        if given >= self.lines {
+        if given >= 5 {
             return Ok(0);
         }
         self.talk.given.set(given.saturating_add(1));
@@ -40,13 +38,7 @@ impl Read for Asking<'_> {
     }
 }
 
-/// Counts the answers by their ends.
-#[derive(Drop)]
-struct Answering<'a> {
-    talk: &'a Talk,
-}
-
-impl Write for Answering<'_> {
+impl Write for Side<'_> {
     fn write(&mut self, buf: &[u8]) -> io::Result<usize> {
         if buf.contains(&b'\n') {
             let answered = self.talk.answered.get();
@@ -61,28 +53,23 @@ impl Write for Answering<'_> {
 }
 
 /// The gate answers five lines in turn.
-fn takes_turns<B: Book>(
-    rt: &(impl Abort + AllocGlobal),
-    gate: &mut Gate<B>,
-    talk: &Talk,
-) -> Result<(), Fail> {
-    let mut r = Tap::new(Asking { talk, lines: 5 });
-    let mut w = Tap::new(Answering { talk });
-    let count = replay(rt.alloc(), gate, &mut r, &mut w)?;
-    assert_eq!(rt; count, 5);
+fn takes_turns<B: Book>(rt: &(impl Abort + AllocGlobal), gate: &mut Gate<B>, talk: &Talk) {
+    let mut r = Tap::new(Side { talk });
+    let mut w = Tap::new(Side { talk });
+    let count = replay(rt.alloc(), gate, &mut r, &mut w);
+    assert_eq!(rt; count, Ok(5));
     assert_eq!(rt; talk.answered.get(), 5);
     assert!(rt; !talk.owed.get());
-    Ok(())
 }
 
 /// An engine that holds an answer back until it has read again would wait for ever over pipes.
 #[test]
-fn no_answer_is_held_back_over_a_read(rt: HostRuntime) -> Result<(), Fail> {
+fn no_answer_is_held_back_over_a_read(rt: HostRuntime) {
     let talk = Talk {
         given: Cell::new(0),
         answered: Cell::new(0),
         owed: Cell::new(false),
     };
-    let mut gate = new_gate(rt.alloc())?;
-    takes_turns(&rt, &mut gate, &talk)
+    let mut gate = gate_in_memory(&rt, "core 2 1", "");
+    takes_turns(&rt, &mut gate, &talk);
 }

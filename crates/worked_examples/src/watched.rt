@@ -1,8 +1,11 @@
-//! A book that gives up where a delivery reads more than the rows that it can change.
+//! A book that counts the items of a queue that a delivery reads: no more of a long queue than of a short one.
+use crate::scenes::gate_in_memory;
+use crate::talks::goes_on;
 use gate_book::book::Book;
 use gate_book::fault::{BookFault, HistoryFault};
 use gate_book::memory::MemBook;
 use gate_book::rows::{QueueSizes, QueuedItem};
+use gate_core::gate::Gate;
 use gate_types::edits::Edit;
 use gate_types::names::Name;
 use gate_types::numbers::{BuildNo, ChangeNo, Serial};
@@ -10,28 +13,13 @@ use gate_types::records::{Build, Change, Counters, Id, Item, Kept, Ready};
 use gate_types::sequence::Sequence;
 use gate_types::tap::Tap;
 use std::io::Write;
+use std::process::Abort;
 
-/// The items of a queue that a delivery may ask for, one after another.
-const ITEMS: u32 = 2;
-
-/// Answers as the book in it, but for a fault where all items of a queue are asked for, or those that need a
-/// change, or a third item of one delivery.
+/// Answers as the book in it, and counts the reads of items that stand in a queue since the last delivery came.
 #[derive(Drop)]
-pub struct Watched {
+struct Watched {
     book: MemBook,
     asked: u32,
-}
-
-impl Watched {
-    pub fn new(book: MemBook) -> Watched {
-        Watched { book, asked: 0 }
-    }
-
-    /// Gives the book back.
-    pub fn into_book(self) -> MemBook {
-        let Watched { book, asked: _ } = self;
-        book
-    }
 }
 
 impl Book for Watched {
@@ -67,8 +55,9 @@ impl Book for Watched {
         self.book.landing_before(queue, serial)
     }
 
-    fn items(&mut self, _queue: &Name) -> Result<Sequence<Item>, BookFault> {
-        Err(BookFault::Store)
+    fn items(&mut self, queue: &Name) -> Result<Sequence<Item>, BookFault> {
+        self.asked = u32::MAX;
+        self.book.items(queue)
     }
 
     fn item(&mut self, serial: Serial) -> Result<Option<Item>, BookFault> {
@@ -80,10 +69,7 @@ impl Book for Watched {
     }
 
     fn next_item(&mut self, queue: &Name, above: u64) -> Result<Option<Item>, BookFault> {
-        if ITEMS <= self.asked {
-            return Err(BookFault::Store);
-        }
-        self.asked += 1;
+        self.asked = self.asked.saturating_add(1);
         self.book.next_item(queue, above)
     }
 
@@ -93,11 +79,12 @@ impl Book for Watched {
 
     fn needing(
         &mut self,
-        _queue: &Name,
-        _change: ChangeNo,
-        _above: u64,
+        queue: &Name,
+        change: ChangeNo,
+        above: u64,
     ) -> Result<Option<Item>, BookFault> {
-        Err(BookFault::Store)
+        self.asked = u32::MAX;
+        self.book.needing(queue, change, above)
     }
 
     fn live_builds(&mut self, serial: Serial) -> Result<Sequence<Build>, BookFault> {
@@ -128,4 +115,65 @@ impl Book for Watched {
     fn apply(&mut self, edits: &[Edit]) -> Result<(), BookFault> {
         self.book.apply(edits)
     }
+}
+
+/// The queue `web` is full, and its first two items have builds.
+const FULL_WEB: &str = r#"for n from 1 to 1000
+> {"id":"0a000000-0000-4000-8000-<000n>","kind":"revision","change":<n>,"project":"site","revision":1,"message":""}
+< {"reply":"recorded"}
+> {"id":"0b000000-0000-4000-8000-<000n>","kind":"approved","change":<n>,"revision":1}
+< {"order":<n>,"reply":"queued"}
+
+> {"id":"0c000000-0000-4000-8000-000000000001","kind":"take","worker":"w1"}
+< {"after":0,"ahead":[],"build":1,"change":1,"job":"unit","queue":"web","reply":"build","revision":1}
+> {"id":"0c000000-0000-4000-8000-000000000002","kind":"take","worker":"w1"}
+< {"after":0,"ahead":[[1,1]],"build":2,"change":2,"job":"unit","queue":"web","reply":"build","revision":1}
+"#;
+
+const FIRST_ENDS: &str =
+    r#"> {"id":"0c000000-0000-4000-8000-000000000003","kind":"result","build":1,"outcome":"success"}
+< {"reply":"noted"}"#;
+
+const FIRST_LANDS: &str =
+    r#"> {"id":"0c000000-0000-4000-8000-000000000004","kind":"landed","order":1}
+< {"n":1,"reply":"landed"}"#;
+
+const TWO_MORE: &str =
+    r#"> {"id":"0c000000-0000-4000-8000-000000000005","kind":"revision","change":1001,"project":"site","revision":1,"message":""}
+< {"reply":"recorded"}
+> {"id":"0c000000-0000-4000-8000-000000000006","kind":"revision","change":1002,"project":"site","revision":1,"message":""}
+< {"reply":"recorded"}
+> {"id":"0c000000-0000-4000-8000-000000000007","kind":"approved","change":1001,"revision":1}
+< {"order":1001,"reply":"queued"}
+> {"id":"0c000000-0000-4000-8000-000000000008","kind":"approved","change":1002,"revision":1}
+< {"reply":"waiting"}
+> {"id":"0c000000-0000-4000-8000-000000000009","kind":"withdrawn","change":500,"revision":1}
+< {"reply":"removed"}
+
+status
+queue core window 2 landed 0
+queue web window 3 landed 1
+     2         2    1      - ok      unit=running
+...
+   999       999    1    998 ok      unit=waiting
+  1000      1000    1    999 ok      unit=waiting
+  1001      1001    1   1000 ok      unit=waiting
+  1002      1002    1   1001 ok      unit=waiting
+end
+"#;
+
+/// The gate goes on by these parts, of which the last delivery reads two items of a queue at most.
+fn reads_two(rt: &(impl Abort + AllocGlobal), gate: &mut Gate<Watched>, parts: &str) {
+    goes_on(rt, gate, "two items are read", parts);
+    assert!(rt; gate.book.asked <= 2, "{parts}");
+}
+
+#[test]
+fn a_landing_reads_no_more_of_a_long_queue_than_of_a_short_one(rt: HostRuntime) {
+    let Gate { config, book } = gate_in_memory(&rt, "core 2 1 and web", "");
+    let mut gate = Gate::new(config, Watched { book, asked: 0 });
+    goes_on(&rt, &mut gate, "a full queue", FULL_WEB);
+    reads_two(&rt, &mut gate, FIRST_ENDS);
+    reads_two(&rt, &mut gate, FIRST_LANDS);
+    goes_on(&rt, &mut gate, "two more changes", TWO_MORE);
 }

@@ -1,10 +1,12 @@
-//! For some gates that are wrong in one thing, a conversation that ends otherwise with them. Each test has the name of
-//! the wrong gate on which it fails.
-use crate::books::goes;
-use crate::gates::CORE_AND_WEB;
-use std::test::Fail;
+//! For some gates that are wrong in one thing, a scene that ends otherwise with them. Each has the name of the wrong
+//! gate on which it fails.
+use crate::scenes::plays;
 
-const SUCCESS_BEFORE_A_FAILURE: &str = r#"
+const SCENES: &str = r#"
+# a gate that lands on a success from before a failure
+The second change succeeded behind the first one, which failed then: it has to succeed without it.
+gate core 2 1 and web
+
 tells two taken
 
 > {"id":"0b000000-0000-4000-8000-000000000001","kind":"result","build":3,"outcome":"success"}
@@ -26,15 +28,11 @@ queue core window 1 landed 0
      2       102    1      - ok      unit=running
 queue web window 2 landed 0
 end
-"#;
 
-/// The second change succeeded behind the first one, which failed then: it has to succeed without it.
-#[test]
-fn lands_on_a_success_from_before_a_failure(rt: HostRuntime) -> Result<(), Fail> {
-    goes(&rt, CORE_AND_WEB, SUCCESS_BEFORE_A_FAILURE)
-}
+# a gate that resets builds behind a landing
+The build of the second change is wanted as before.
+gate core 2 1 and web
 
-const SUCCESS_BEHIND_A_LANDING: &str = r#"
 tells two taken
 
 > {"id":"0b000000-0000-4000-8000-000000000001","kind":"result","build":1,"outcome":"success"}
@@ -48,25 +46,17 @@ tells two taken
 
 orders
 [{"change":102,"order":2,"project":"app","queue":"core","revision":1}]
-"#;
 
-/// The build of the second change is wanted as before.
-#[test]
-fn resets_builds_behind_landing(rt: HostRuntime) -> Result<(), Fail> {
-    goes(&rt, CORE_AND_WEB, SUCCESS_BEHIND_A_LANDING)
-}
+# a gate that is always idle
+Each job within the window is given to a worker.
+gate core 2 1 and web
 
-const ALL_GIVEN: &str = r#"
 tells two taken
-"#;
 
-/// Each job within the window is given to a worker.
-#[test]
-fn always_idle(rt: HostRuntime) -> Result<(), Fail> {
-    goes(&rt, CORE_AND_WEB, ALL_GIVEN)
-}
+# a gate that never lands
+A change that has passed its jobs lands.
+gate core 2 1 and web
 
-const ONE_LANDS: &str = r#"
 > {"id":"00000000-0000-4000-8000-000000000001","kind":"revision","change":102,"project":"app","revision":1,"message":""}
 < {"reply":"recorded"}
 > {"id":"00000000-0000-4000-8000-000000000002","kind":"approved","change":102,"revision":1}
@@ -82,15 +72,11 @@ status
 queue core window 3 landed 1
 queue web window 2 landed 0
 end
-"#;
 
-/// A change that has passed its jobs lands.
-#[test]
-fn never_lands(rt: HostRuntime) -> Result<(), Fail> {
-    goes(&rt, CORE_AND_WEB, ONE_LANDS)
-}
+# a gate that is always unavailable
+Deliveries of all eight kinds are accepted.
+gate core 2 1 and web
 
-const EACH_KIND: &str = r#"
 > {"id":"00000000-0000-4000-8000-000000000001","kind":"revision","change":102,"project":"app","revision":1,"message":""}
 < {"reply":"recorded"}
 > {"id":"00000000-0000-4000-8000-000000000002","kind":"approved","change":102,"revision":1}
@@ -127,8 +113,7 @@ queue web window 2 landed 0
 end
 "#;
 
-/// Deliveries of all eight kinds are accepted.
 #[test]
-fn always_unavailable(rt: HostRuntime) -> Result<(), Fail> {
-    goes(&rt, CORE_AND_WEB, EACH_KIND)
+fn wrong_gates(rt: HostRuntime) {
+    plays(&rt, SCENES);
 }
