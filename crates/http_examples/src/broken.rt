@@ -1,140 +1,79 @@
 //! Connections over a listener and over streams that fail.
-use crate::connections::APPROVAL;
-use crate::gates::{KNOWN, new_gate, told};
+use crate::clients::served;
+use crate::gates::KNOWN;
+use crate::scenes::{Fresh, tell};
+use crate::streams::{Pace, Stream};
 use gate_book::book::Book;
+use gate_book::memory::MemBook;
 use gate_core::gate::Gate;
-use gate_http::connections::serve;
-use gate_types::tap::Tap;
 use std::alloc::Global;
 use std::io;
-use std::io::{ErrorKind, Read, Write};
-use std::net::{Ipv4Addr, OpenListener, OpenStream, SocketAddr};
+use std::io::ErrorKind;
+use std::net::{Ipv4Addr, OpenListener, SocketAddr};
 use std::process::Abort;
-use std::test::Fail;
 
-/// What fails.
-#[derive(Clone, Copy, PartialEq, Eq)]
-enum Part {
-    Accept,
-    Clone,
-    Read,
-    Write,
-}
-
-/// A listener whose clients each approve a change, over a stream of which a part fails.
+/// A listener whose clients each approve a change over a stream that can't be written, and of which this part fails
+/// before.
 #[derive(Drop)]
-struct Broken(Part);
-
-/// The stream of such a client.
-#[derive(Drop)]
-struct Wire {
-    broken: Part,
-    request: &'static [u8],
+struct Broken {
+    alloc: Global,
+    part: &'static str,
 }
 
-fn fault() -> io::Error {
-    io::Error::from(ErrorKind::BrokenPipe)
-}
+const APPROVAL: &[u8] =
+    b"POST /forge HTTP/1.1\r\nHost: gate\r\nContent-Length: 89\r\n\r\n{\"id\":\"0b000000-0000-4000-8000-000000000002\",\"kind\":\"approved\",\"change\":101,\"revision\":1}";
 
 impl OpenListener for Broken {
-    type Stream = Wire;
+    type Stream = Stream<'static>;
 
-    fn accept(&self) -> io::Result<(Wire, SocketAddr)> {
-        if self.0 == Part::Accept {
-            return Err(fault());
+    fn accept(&self) -> io::Result<(Stream<'static>, SocketAddr)> {
+        if self.part == "accept" {
+            return Err(io::Error::from(ErrorKind::BrokenPipe));
         }
-        let wire = Wire {
-            broken: self.0,
-            request: APPROVAL.as_bytes(),
+        let reads = if self.part == "read" { 0 } else { usize::MAX };
+        let pace = Pace {
+            step: usize::MAX,
+            reads,
+            writes: 0,
         };
-        Ok((wire, SocketAddr::from((Ipv4Addr::LOCALHOST, 1))))
+        let mut stream = Stream::new(self.alloc, APPROVAL, pace);
+        stream.clones = self.part != "clone";
+        stream.fault = ErrorKind::BrokenPipe;
+        Ok((stream, SocketAddr::from((Ipv4Addr::LOCALHOST, 1))))
     }
 }
 
-impl OpenStream for Wire {
-    fn try_clone(&self) -> io::Result<Wire> {
-        if self.broken == Part::Clone {
-            return Err(fault());
-        }
-        Ok(Wire {
-            broken: self.broken,
-            request: self.request,
-        })
-    }
-}
-
-impl Read for Wire {
-    fn read(&mut self, buf: &mut [u8]) -> io::Result<usize> {
-        if self.broken == Part::Read {
-            return Err(fault());
-        }
-        self.request.read(buf)
-    }
-}
-
-impl Write for Wire {
-    fn write(&mut self, _: &[u8]) -> io::Result<usize> {
-        Err(fault())
-    }
-
-    fn flush(&mut self) -> io::Result<()> {
-        Ok(())
-    }
-}
-
-/// Serves two connections: whether it listened, and what is told of them.
-fn told_of<B: Book>(alloc: Global, gate: &mut Gate<B>, broken: Part) -> (bool, Vec<u8>) {
-    let mut errors = Tap::new(Vec::new(alloc));
-    let served = serve(alloc, &Broken(broken), gate, 2, &mut errors);
-    (served.is_ok(), errors.into_inner())
-}
-
+/// Serves two connections of which this part fails: whether it listens to the end, and what is told of them.
 fn tells<B: Book>(
-    rt: &impl Abort,
-    alloc: Global,
+    rt: &(impl Abort + AllocGlobal),
     gate: &mut Gate<B>,
-    broken: Part,
-    lines: &str,
-) -> Result<(), Fail> {
-    let (listened, errors) = told_of(alloc, gate, broken);
-    assert!(rt; listened == (broken != Part::Accept));
-    assert!(rt; errors.as_slice() == lines.as_bytes(), "{lines}");
-    Ok(())
+    part: &'static str,
+    listens: bool,
+    told: &str,
+) {
+    let alloc = rt.alloc();
+    let (listened, errors) = served(alloc, &Broken { alloc, part }, gate, 2);
+    assert!(rt;
+        listened == listens && errors.as_slice() == told.as_bytes(),
+        "{part}"
+    );
 }
 
-#[test]
-fn a_listener_that_fails_ends_it(rt: HostRuntime) -> Result<(), Fail> {
-    let mut gate = new_gate(rt.alloc())?;
-    tells(&rt, rt.alloc(), &mut gate, Part::Accept, "")
-}
-
-fn each_is_told<B: Book>(rt: &impl Abort, alloc: Global, gate: &mut Gate<B>) -> Result<(), Fail> {
-    told(alloc, gate, KNOWN)?;
+fn faults_are_told<B: Book>(rt: &(impl Abort + AllocGlobal), gate: &mut Gate<B>) {
+    tell(rt, gate, KNOWN);
+    tells(rt, gate, "accept", false, "");
+    tells(rt, gate, "clone", true, "gated: I1 read\ngated: I1 read\n");
+    tells(rt, gate, "read", true, "gated: I1 read\ngated: I1 read\n");
     tells(
         rt,
-        alloc,
         gate,
-        Part::Clone,
-        "gated: I1 read\ngated: I1 read\n",
-    )?;
-    tells(
-        rt,
-        alloc,
-        gate,
-        Part::Read,
-        "gated: I1 read\ngated: I1 read\n",
-    )?;
-    tells(
-        rt,
-        alloc,
-        gate,
-        Part::Write,
+        "write",
+        true,
         "gated: I2 write\ngated: I2 write\n",
-    )
+    );
 }
 
 #[test]
-fn a_fault_is_told_and_the_next_is_served(rt: HostRuntime) -> Result<(), Fail> {
-    let mut gate = new_gate(rt.alloc())?;
-    each_is_told(&rt, rt.alloc(), &mut gate)
+fn a_fault_is_told_and_the_next_is_served(rt: HostRuntime) {
+    faults_are_told(&rt, &mut Gate::<MemBook>::fresh(&rt));
 }

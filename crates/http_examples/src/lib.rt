@@ -1,22 +1,16 @@
-//! Requests to a gate over settings files, and to one that counts: tests alone.
+//! Requests and connections to a gate over a settings file, and to engines and streams that fail: tests alone.
 #![tactic(auto)]
 
 #[cfg(test)]
 mod broken;
 #[cfg(test)]
-mod connections;
+mod clients;
 #[cfg(test)]
-mod counted;
-#[cfg(test)]
-mod exchanges;
-#[cfg(test)]
-mod fakes;
+mod engines;
 #[cfg(test)]
 mod gates;
 #[cfg(test)]
-mod histories;
-#[cfg(test)]
-mod requests;
+mod scenes;
 #[cfg(test)]
 mod streams;
 #[cfg(test)]

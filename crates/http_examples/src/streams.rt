@@ -1,142 +1,113 @@
-//! Requests over readers and writers that fail, and what their repeats get.
-use crate::fakes::{Dripping, Narrow};
-use crate::gates::{KNOWN, goes_on, new_gate, posting, told};
-use crate::texts::response;
-use gate_book::book::Book;
-use gate_core::fault::IoFault;
-use gate_core::gate::Gate;
-use gate_http::serve::serve_one;
-use gate_http::served::Served;
-use gate_types::tap::Tap;
+//! A stream in memory, which may be slow and may fail.
 use std::alloc::Global;
-use std::process::Abort;
-use std::test::Fail;
+use std::io;
+use std::io::{ErrorKind, Read, Write};
+use std::net::OpenStream;
 
-const APPROVED: &str =
-    r#"{"id":"0b000000-0000-4000-8000-000000000002","kind":"approved","change":101,"revision":1}"#;
+/// How a stream goes: it gives and takes at most `step` bytes a call, and fails once so many reads or writes are done.
+#[derive(Clone, Copy)]
+pub struct Pace {
+    pub step: usize,
+    pub reads: usize,
+    pub writes: usize,
+}
 
-const TAKE: &str = r#"{"id":"0b000000-0000-4000-8000-000000000003","kind":"take","worker":"w1"}"#;
+impl Pace {
+    /// It gives and takes all at once.
+    pub const WHOLE: Self = Self {
+        step: usize::MAX,
+        reads: usize::MAX,
+        writes: usize::MAX,
+    };
 
-/// What was done for a request, and what was written.
+    /// It gives and takes a byte a call.
+    pub const DRIP: Self = Self {
+        step: 1,
+        reads: usize::MAX,
+        writes: usize::MAX,
+    };
+
+    /// It gives so many bytes, one a call.
+    pub fn reading(reads: usize) -> Self {
+        Self {
+            step: 1,
+            reads,
+            writes: usize::MAX,
+        }
+    }
+
+    /// It takes so many bytes, one a call.
+    pub fn writing(writes: usize) -> Self {
+        Self {
+            step: 1,
+            reads: usize::MAX,
+            writes,
+        }
+    }
+}
+
+/// A stream over an input, with the output that it took.
 #[derive(Drop)]
-struct Done {
-    served: Result<Served, IoFault>,
-    written: Vec<u8>,
+pub struct Stream<'a> {
+    pub input: &'a [u8],
+    pub output: Vec<u8>,
+    pub pace: Pace,
+    /// Whether it can be had twice.
+    pub clones: bool,
+    /// What it fails with.
+    pub fault: ErrorKind,
 }
 
-/// Serves a request, by a reader and a writer that fail after so many calls.
-fn served_over<B: Book>(
-    alloc: Global,
-    gate: &mut Gate<B>,
-    request: &str,
-    reads: usize,
-    writes: usize,
-) -> Done {
-    let mut reader = Tap::new(Dripping {
-        bytes: request.as_bytes(),
-        left: reads,
-    });
-    let mut writer = Tap::new(Narrow {
-        bytes: Vec::new(alloc),
-        left: writes,
-    });
-    let served = serve_one(alloc, gate, &mut reader, &mut writer);
-    Done {
-        served,
-        written: writer.into_inner().bytes,
+impl<'a> Stream<'a> {
+    /// One over this input.
+    pub fn new(alloc: Global, input: &'a [u8], pace: Pace) -> Self {
+        Self {
+            input,
+            output: Vec::new(alloc),
+            pace,
+            clones: true,
+            fault: ErrorKind::Interrupted,
+        }
     }
 }
 
-/// The writer failed once it had taken this.
-fn is_cut_behind(done: &Done, written: &[u8]) -> bool {
-    done.served == Err(IoFault::Write) && done.written.as_slice() == written
-}
-
-/// The take that was cut off comes again, and then another one.
-const TAKES: &str =
-    r#"worker first-build {"id":"0b000000-0000-4000-8000-000000000003","kind":"take","worker":"w1"}
-worker second-build {"id":"0b000000-0000-4000-8000-000000000004","kind":"take","worker":"w1"}
-"#;
-
-fn takes_again<B: Book>(rt: &impl Abort, alloc: Global, gate: &mut Gate<B>) -> Result<(), Fail> {
-    told(alloc, gate, KNOWN)?;
-    told(alloc, gate, APPROVED)?;
-    let take = posting(alloc, "worker", TAKE)?;
-    let cut = served_over(alloc, gate, take.as_str(), 1000, 5);
-    assert!(rt; is_cut_behind(&cut, b"HTTP/"));
-    goes_on(rt, alloc, gate, TAKES)
-}
-
-#[test]
-fn a_cut_answer_is_given_again(rt: HostRuntime) -> Result<(), Fail> {
-    let mut gate = new_gate(rt.alloc())?;
-    takes_again(&rt, rt.alloc(), &mut gate)
-}
-
-/// A change is approved over a writer that fails after so many bytes, and then again.
-fn approves_twice<B: Book>(
-    rt: &impl Abort,
-    alloc: Global,
-    gate: &mut Gate<B>,
-    writes: usize,
-) -> Result<(), Fail> {
-    told(alloc, gate, KNOWN)?;
-    let request = posting(alloc, "forge", APPROVED)?;
-    let queued = response(alloc, "queued")?;
-    let (beginning, _) = queued
-        .as_str()
-        .split_at_checked(writes)
-        .ok_or("no beginning")?;
-    let first = served_over(alloc, gate, request.as_str(), 1000, writes);
-    assert!(rt;
-        is_cut_behind(&first, beginning.as_bytes()),
-        "after {writes} bytes"
-    );
-    let second = served_over(alloc, gate, request.as_str(), 1000, 1000);
-    assert!(rt;
-        second.written.as_slice() == queued.as_str().as_bytes(),
-        "after {writes} bytes"
-    );
-    Ok(())
-}
-
-#[test]
-fn a_repeat_after_a_cut_answer_gets_the_kept_reply(rt: HostRuntime) -> Result<(), Fail> {
-    let queued = response(rt.alloc(), "queued")?;
-    for writes in 0..queued.len() {
-        let mut gate = new_gate(rt.alloc())?;
-        approves_twice(&rt, rt.alloc(), &mut gate, writes)?;
+impl Read for Stream<'_> {
+    fn read(&mut self, buf: &mut [u8]) -> io::Result<usize> {
+        if self.pace.reads == 0 {
+            return Err(io::Error::from(self.fault));
+        }
+        self.pace.reads -= 1;
+        let most = buf.len().min(self.pace.step);
+        self.input.read(&mut buf[..most])
     }
-    Ok(())
 }
 
-fn is_unread(done: &Done) -> bool {
-    done.served == Err(IoFault::Read) && done.written.is_empty()
-}
-
-/// The approval is not answered, wherever it breaks off.
-fn breaks_off<B: Book>(rt: &impl Abort, alloc: Global, gate: &mut Gate<B>) -> Result<(), Fail> {
-    let request = posting(alloc, "forge", APPROVED)?;
-    for reads in 0..request.len() {
-        let broken = served_over(alloc, gate, request.as_str(), reads, 1000);
-        assert!(rt; is_unread(&broken), "after {reads} bytes");
+impl Write for Stream<'_> {
+    fn write(&mut self, buf: &[u8]) -> io::Result<usize> {
+        if self.pace.writes == 0 {
+            return Err(io::Error::from(self.fault));
+        }
+        self.pace.writes -= 1;
+        let most = buf.len().min(self.pace.step);
+        self.output.write(&buf[..most])
     }
-    Ok(())
+
+    fn flush(&mut self) -> io::Result<()> {
+        Ok(())
+    }
 }
 
-const QUEUED: &str =
-    r#"forge queued {"id":"0b000000-0000-4000-8000-000000000002","kind":"approved","change":101,"revision":1}"#;
-
-fn acts_at_last<B: Book>(rt: &impl Abort, alloc: Global, gate: &mut Gate<B>) -> Result<(), Fail> {
-    told(alloc, gate, KNOWN)?;
-    breaks_off(rt, alloc, gate)?;
-    let orders = served_over(alloc, gate, "GET /orders HTTP/1.1\r\n\r\n", 1000, 1000);
-    assert!(rt; orders.written.as_slice().ends_with(b"[]"));
-    goes_on(rt, alloc, gate, QUEUED)
-}
-
-#[test]
-fn a_request_that_breaks_off_is_not_acted_on(rt: HostRuntime) -> Result<(), Fail> {
-    let mut gate = new_gate(rt.alloc())?;
-    acts_at_last(&rt, rt.alloc(), &mut gate)
+impl OpenStream for Stream<'_> {
+    fn try_clone(&self) -> io::Result<Self> {
+        if !self.clones {
+            return Err(io::Error::from(self.fault));
+        }
+        Ok(Self {
+            input: self.input,
+            output: self.output.clone()?,
+            pace: self.pace,
+            clones: self.clones,
+            fault: self.fault,
+        })
+    }
 }

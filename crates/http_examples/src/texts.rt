@@ -1,11 +1,11 @@
-//! Responses that several files share, typed from the formats. In a line `\r`, `\n` and `\t` stand for the
-//! bytes that they name, and `<TEXT*TIMES>` for a text so many times.
-use std::alloc::{AllocError, Global};
-use std::test::Fail;
+//! What the lines of scenes stand for.
+use std::process::Abort;
 
-/// Whole responses, each behind its name.
-const RESPONSES: &str =
-    r#"queued HTTP/1.1 200 OK\r\nContent-Type: application/json\r\nContent-Length: 28\r\nConnection: close\r\n\r\n{"order":1,"reply":"queued"}
+/// Whole responses, each behind its name, typed from the formats. `\r` and `\n` stand for the bytes that they name.
+const RESPONSES: &str = r#"
+nothing 
+beginning HTTP/
+queued HTTP/1.1 200 OK\r\nContent-Type: application/json\r\nContent-Length: 28\r\nConnection: close\r\n\r\n{"order":1,"reply":"queued"}
 unknown HTTP/1.1 404 Not Found\r\nContent-Type: application/json\r\nContent-Length: 38\r\nConnection: close\r\n\r\n{"code":"E5","error":"unknown-change"}
 cut HTTP/1.1 400 Bad Request\r\nContent-Type: application/json\r\nContent-Length: 15\r\nConnection: close\r\n\r\n{"error":"cut"}
 bad HTTP/1.1 400 Bad Request\r\nContent-Type: application/json\r\nContent-Length: 23\r\nConnection: close\r\n\r\n{"error":"bad-request"}
@@ -18,6 +18,7 @@ unknown-build HTTP/1.1 404 Not Found\r\nContent-Type: application/json\r\nConten
 recorded HTTP/1.1 200 OK\r\nContent-Type: application/json\r\nContent-Length: 20\r\nConnection: close\r\n\r\n{"reply":"recorded"}
 status HTTP/1.1 200 OK\r\nContent-Type: text/plain\r\nContent-Length: 4\r\nConnection: close\r\n\r\nend\n
 orders HTTP/1.1 200 OK\r\nContent-Type: application/json\r\nContent-Length: 2\r\nConnection: close\r\n\r\n[]
+taken HTTP/1.1 200 OK\r\nContent-Type: application/json\r\nContent-Length: 4\r\nConnection: close\r\n\r\n[{}]
 build HTTP/1.1 200 OK\r\nContent-Type: application/json\r\nContent-Length: 2\r\nConnection: close\r\n\r\n{}
 no-route HTTP/1.1 404 Not Found\r\nContent-Type: application/json\r\nContent-Length: 20\r\nConnection: close\r\n\r\n{"error":"no-route"}
 post-alone HTTP/1.1 405 Method Not Allowed\r\nContent-Type: application/json\r\nContent-Length: 18\r\nAllow: POST\r\nConnection: close\r\n\r\n{"error":"method"}
@@ -32,72 +33,58 @@ stopped-build HTTP/1.1 200 OK\r\nContent-Type: application/json\r\nContent-Lengt
 core-history HTTP/1.1 200 OK\r\nContent-Type: text/plain\r\nConnection: close\r\n\r\nhistory core\n     1      2       102    1 landed          1\n     2      1       101    1 failed          -\nend 2\n
 web-history HTTP/1.1 200 OK\r\nContent-Type: text/plain\r\nConnection: close\r\n\r\nhistory web\nend 0\n
 item-status HTTP/1.1 200 OK\r\nContent-Type: text/plain\r\nContent-Length: 124\r\nConnection: close\r\n\r\nqueue core window 2 landed 0\n     1       101    1      - ok      unit=waiting docs=waiting\nqueue web window 2 landed 0\nend\n
+idle HTTP/1.1 404 Not Found\r\nContent-Type: application/json\r\nContent-Length: 29\r\nConnection: close\r\n\r\n{"code":"E12","error":"idle"}
+bad-delivery HTTP/1.1 422 Unprocessable Entity\r\nContent-Type: application/json\r\nContent-Length: 36\r\nConnection: close\r\n\r\n{"code":"E2","error":"bad-delivery"}
+first-build HTTP/1.1 200 OK\r\nContent-Type: application/json\r\nContent-Length: 102\r\nConnection: close\r\n\r\n{"after":0,"ahead":[],"build":1,"change":101,"job":"unit","queue":"core","reply":"build","revision":1}
+second-build HTTP/1.1 200 OK\r\nContent-Type: application/json\r\nContent-Length: 102\r\nConnection: close\r\n\r\n{"after":0,"ahead":[],"build":2,"change":101,"job":"docs","queue":"core","reply":"build","revision":1}
 "#;
 
-/// What some responses end in.
-const ENDINGS: &str =
-    r#"wrong-door Content-Length: 34\r\nConnection: close\r\n\r\n{"code":"E3","error":"wrong-door"}
-no-json \r\n\r\n{"code":"E1","error":"bad-json"}
-queued HTTP/1.1 200 OK\r\nContent-Type: application/json\r\nContent-Length: 28\r\nConnection: close\r\n\r\n{"order":1,"reply":"queued"}
-idle \r\n\r\n{"code":"E12","error":"idle"}
-bad-delivery \r\n\r\n{"code":"E2","error":"bad-delivery"}
-first-build Content-Length: 102\r\nConnection: close\r\n\r\n{"after":0,"ahead":[],"build":1,"change":101,"job":"unit","queue":"core","reply":"build","revision":1}
-second-build {"after":0,"ahead":[],"build":2,"change":101,"job":"docs","queue":"core","reply":"build","revision":1}
-"#;
-
-fn unescaped(alloc: Global, text: &str) -> Result<String, AllocError> {
-    let text = text.replace(alloc, "\\r", "\r")?;
-    let text = text.as_str().replace(alloc, "\\n", "\n")?;
-    text.as_str().replace(alloc, "\\t", "\t")
+/// What stands before the first blank, and behind it.
+pub fn halves<'a>(rt: &impl Abort, line: &'a str) -> (&'a str, &'a str) {
+    line.split_once(' ').expect(rt, line)
 }
 
-/// What stands behind this name, if the line begins with it.
-fn named<'a>(line: &'a str, name: &str) -> Option<&'a str> {
-    let (word, text) = line.split_once(' ')?;
-    if word == name { Some(text) } else { None }
+fn unescaped(rt: &(impl Abort + AllocGlobal), text: &str) -> String {
+    let text = text.replace(rt.alloc(), "\\r", "\r").expect(rt, "memory");
+    let text = text.replace(rt.alloc(), "\\n", "\n").expect(rt, "memory");
+    text.replace(rt.alloc(), "\\t", "\t").expect(rt, "memory")
 }
 
-fn found(alloc: Global, lines: &str, name: &str) -> Result<String, Fail> {
-    for line in lines.lines() {
-        if let Some(text) = named(line, name) {
-            return Ok(unescaped(alloc, text)?);
-        }
+/// The response of a name.
+pub fn response(rt: &(impl Abort + AllocGlobal), name: &str) -> String {
+    let key = format!(in rt.alloc(); "\n{name} ").expect(rt, "memory");
+    let (_, behind) = RESPONSES.split_once(key.as_str()).expect(rt, name);
+    let (text, _) = behind.split_once('\n').expect(rt, name);
+    unescaped(rt, text)
+}
+
+/// A part of a line that may begin with `TEXT*TIMES>`, with that text so many times.
+fn repeated(rt: &(impl Abort + AllocGlobal), part: &str) -> String {
+    let (repeated, rest) = part.split_once('>').unwrap_or(("*0", part));
+    let (text, times) = repeated.split_once('*').expect(rt, part);
+    let times = times.parse::<usize>().expect(rt, part);
+    let mut text = text.repeat(rt.alloc(), times).expect(rt, "memory");
+    text.push_str(rest).expect(rt, "memory");
+    text
+}
+
+fn expanded(rt: &(impl Abort + AllocGlobal), text: &str) -> String {
+    let mut whole = String::new(rt.alloc());
+    for part in text.split('<') {
+        let part = repeated(rt, part);
+        whole.push_str(part.as_str()).expect(rt, "memory");
     }
-    Err(Fail::new("no text of this name"))
+    whole
 }
 
-pub fn response(alloc: Global, name: &str) -> Result<String, Fail> {
-    found(alloc, RESPONSES, name)
-}
-
-pub fn ending(alloc: Global, name: &str) -> Result<String, Fail> {
-    found(alloc, ENDINGS, name)
-}
-
-/// A part of a line behind a `<`: the repeated text and what stands behind the `>`.
-fn repeated(alloc: Global, part: &str) -> Option<String> {
-    let (repeated, rest) = part.split_once('>')?;
-    let (text, times) = repeated.split_once('*')?;
-    let times = times.parse::<usize>().ok()?;
-    let mut text = text.repeat(alloc, times).ok()?;
-    text.push_str(rest).ok()?;
-    Some(text)
-}
-
-fn expanded(alloc: Global, text: &str) -> Option<String> {
-    let (front, rest) = text.split_once('<')?;
-    let mut text = String::from_str(alloc, front).ok()?;
-    for part in rest.split('<') {
-        text.push_str(repeated(alloc, part)?.as_str()).ok()?;
+/// The bytes of a request. In its line `\r`, `\n` and `\t` stand for the bytes that they name, `<TEXT*TIMES>` stands for
+/// a text so many times, and each other character for the byte of its number.
+pub fn request(rt: &(impl Abort + AllocGlobal), line: &str) -> Vec<u8> {
+    let text = expanded(rt, unescaped(rt, line).as_str());
+    let mut bytes = Vec::new(rt.alloc());
+    for character in text.chars() {
+        let byte = u8::try_from(character).expect(rt, line);
+        bytes.push(byte).expect(rt, "memory");
     }
-    Some(text)
-}
-
-/// What a line of a request or a body stands for.
-pub fn meant(alloc: Global, line: &str) -> Result<String, Fail> {
-    let text = unescaped(alloc, line)?;
-    if text.as_str().contains('<') {
-        return Ok(expanded(alloc, text.as_str()).ok_or("no repeated text")?);
-    }
-    Ok(text)
+    bytes
 }
