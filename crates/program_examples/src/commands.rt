@@ -1,42 +1,18 @@
-//! Whole runs: what is printed, and the status.
-use crate::sessions::{clear, goes, shown, write};
-use crate::streams::{Input, Output, Streams};
-use crate::texts::{APPROVAL, ONE_QUEUE, TWO_QUEUES};
-use gate_config::ConfigFault;
-use gate_types::tap::Tap;
-use gated_cli::run::{Fault, ended};
-use std::test::Fail;
+//! Whole runs of the program over settings files: what is printed, and the status.
+use crate::machine::Machine;
+use crate::sessions::plays;
 
-/// The same settings, with a floor above the window of the first queue.
-fn write_a_high_floor(host: &HostRuntime, file: &str) -> Result<(), Fail> {
-    let high = TWO_QUEUES.replacen(host.alloc(), "floor = 1", "floor = 3", 1)?;
-    write(host, file, high.as_str())
-}
-
-/// A settings file of one comment, of so many bytes.
-fn write_a_comment(host: &HostRuntime, file: &str, size: usize) -> Result<(), Fail> {
-    let comment = String::from_utf8(vec![in host.alloc(); b'#'; size]?)?;
-    write(host, file, comment.as_str())
-}
-
-const COUNTED: &str = "\
+const SESSIONS: &str = r#"# a check counts what the settings have
 $ write check_counts.toml < two queues
 $ gated check check_counts.toml
 ok: 2 queues, 3 projects, 4 jobs
 |= 0
 $ clear check_counts.toml
-";
-
-#[test]
-fn a_check_counts_what_the_settings_have(rt: HostRuntime) -> Result<(), Fail> {
-    goes(&rt, &rt, COUNTED)
-}
-
-const CHECKED_FAULTS: &str = "\
-$ gated check check_high.toml
+# a check tells the fault
+$ write check_faults.toml < high floor
+$ gated check check_faults.toml
 |gated: C8 bad-window
 = 1
-$ clear check_high.toml
 $ write check_faults.toml < nothing
 $ gated check check_faults.toml
 |gated: C2 missing-member
@@ -46,15 +22,7 @@ $ gated check check_faults.toml
 |gated: C1 not-toml
 = 1
 $ clear check_faults.toml
-";
-
-#[test]
-fn a_check_tells_the_fault(rt: HostRuntime) -> Result<(), Fail> {
-    write_a_high_floor(&rt, "check_high.toml")?;
-    goes(&rt, &rt, CHECKED_FAULTS)
-}
-
-const EMPTY: &str = "\
+# an empty replay shows each queue
 $ write run_empty.toml < two queues
 $ gated replay run_empty.toml
 |= 0
@@ -64,31 +32,18 @@ queue web window 2 landed 0
 end
 |= 0
 $ clear run_empty.toml
-";
-
-#[test]
-fn an_empty_replay_shows_each_queue(rt: HostRuntime) -> Result<(), Fail> {
-    goes(&rt, &rt, EMPTY)
-}
-
-const ANSWERED: &str = r#"$ write run_answered.toml < one queue
+# a delivery is answered, and a refusal is no fault
+$ write run_answered.toml < one queue
 $ gated replay run_answered.toml < approval
 {"code":"E5","error":"unknown-change"}
 |= 0
 $ clear run_answered.toml
-"#;
-
-#[test]
-fn a_delivery_is_answered_and_a_refusal_is_no_fault(rt: HostRuntime) -> Result<(), Fail> {
-    goes(&rt, &rt, ANSWERED)
-}
-
-const FAULTS: &str = "\
-$ gated replay run_high.toml --status < approval
+# a settings file with a fault ends the command
+$ write run_faulty.toml < high floor
+$ gated replay run_faulty.toml --status < approval
 |gated: C8 bad-window
 = 1
 unread
-$ clear run_high.toml
 $ write run_faulty.toml < no settings
 $ gated replay run_faulty.toml --status < approval
 |gated: C1 not-toml
@@ -100,15 +55,7 @@ $ gated replay run_faulty.toml --status < approval
 = 1
 unread
 $ clear run_faulty.toml
-";
-
-#[test]
-fn a_settings_file_with_a_fault_ends_the_command(rt: HostRuntime) -> Result<(), Fail> {
-    write_a_high_floor(&rt, "run_high.toml")?;
-    goes(&rt, &rt, FAULTS)
-}
-
-const UNREADABLE: &str = "\
+# a settings file that can't be read, or has a byte too many, ends the command
 $ gated replay run_missing.toml --status < approval
 |gated: I5 settings-file
 = 1
@@ -117,109 +64,150 @@ $ gated replay . --status < approval
 |gated: I5 settings-file
 = 1
 unread
+$ fill run_long.toml 1048577
 $ gated replay run_long.toml --status < approval
 |gated: I5 settings-file
 = 1
 unread
 $ clear run_long.toml
-";
-
-#[test]
-fn a_settings_file_that_cannot_be_read_ends_the_command(rt: HostRuntime) -> Result<(), Fail> {
-    write_a_comment(&rt, "run_long.toml", 1_048_577)?;
-    goes(&rt, &rt, UNREADABLE)
-}
-
-const AT_THE_LIMIT: &str = "\
+# a settings file at the limit is read
+$ fill run_at_the_limit.toml 1048576
 $ gated replay run_at_the_limit.toml
 |gated: C2 missing-member
 = 1
 $ clear run_at_the_limit.toml
+# a failing stream ends the command
+$ write run_broken.toml < one queue
+$ gated replay run_broken.toml --status < broken
+|gated: I1 read
+= 1
+$ gated replay run_broken.toml --status < approval > 0
+|gated: I2 write
+= 1
+$ gated replay run_broken.toml --status < approval > 0 2> 0
+|= 1
+$ clear run_broken.toml
+# a command is done
+$ write program_done.toml < one queue
+$ gated check program_done.toml < no delivery
+ok: 1 queues, 1 projects, 1 jobs
+|= 0
+unread
+$ gated replay program_done.toml --status < no delivery
+{"code":"E1","error":"bad-json"}
+queue core window 2 landed 0
+end
+|= 0
+$ clear program_done.toml
+# a fault is told on the errors
+$ gated check program_missing.toml < no delivery
+|gated: I5 settings-file
+= 1
+unread
+$ gated replay program_missing.toml < no delivery
+|gated: I5 settings-file
+= 1
+unread
+# a refused line is told on the errors
+$ gated land < no delivery
+|error: unrecognized subcommand 'land'
+
+Usage: gated <COMMAND>
+
+For more information, try '--help'.
+= 2
+unread
+$ gated check < no delivery
+|error: the following required arguments were not provided:
+  <SETTINGS>
+
+Usage: gated check <SETTINGS>
+
+For more information, try '--help'.
+= 2
+unread
+$ gated check a --status < no delivery
+|error: unexpected argument '--status' found
+
+  tip: to pass '--status' as a value, use '-- --status'
+
+Usage: gated check <SETTINGS>
+
+For more information, try '--help'.
+= 2
+unread
+$ gated replay a b < no delivery
+|error: unexpected argument 'b' found
+
+Usage: gated replay [OPTIONS] <SETTINGS>
+
+For more information, try '--help'.
+= 2
+unread
+# help is given on the output
+$ gated --help < no delivery
+...Usage: gated <COMMAND>
+...
+|= 0
+unread
+$ gated check --help < no delivery
+...Usage: gated check <SETTINGS>
+...
+|= 0
+unread
+$ gated help replay < no delivery
+...Usage: gated replay [OPTIONS] <SETTINGS>
+...
+|= 0
+unread
+# help that can't be written is a fault
+$ gated --help < no delivery > 0
+|gated: I2 write
+= 1
+unread
+"#;
+
+#[test]
+fn a_command_over_settings_is_done(rt: HostRuntime) {
+    plays(&rt, &Machine::new(&rt), SESSIONS);
+}
+
+/// Any command leaves its input.
+const STARVED: &str = "\
+# a settings file whose bytes find no memory ends the command
+$ gated check run_starved.toml < no delivery
+|gated: I3 no-memory
+= 1
+unread
+$ gated replay run_starved.toml --status < no delivery
+|gated: I3 no-memory
+= 1
+unread
+$ gated init run_starved.toml run_starved.gate < no delivery
+|gated: I3 no-memory
+= 1
+unread
+$ gated deliver run_starved.toml run_starved.gate < no delivery
+|gated: I3 no-memory
+= 1
+unread
+$ gated status run_starved.toml run_starved.gate < no delivery
+|gated: I3 no-memory
+= 1
+unread
+$ gated history run_starved.toml run_starved.gate core < no delivery
+|gated: I3 no-memory
+= 1
+unread
+$ gated serve run_starved.toml run_starved.gate --port 0 --count 1 < no delivery
+|gated: I3 no-memory
+= 1
+unread
 ";
 
 #[test]
-fn a_settings_file_at_the_limit_is_read(rt: HostRuntime) -> Result<(), Fail> {
-    write_a_comment(&rt, "run_at_the_limit.toml", 1_048_576)?;
-    goes(&rt, &rt, AT_THE_LIMIT)
-}
-
-/// What a replay shows, with its status, over streams of which some are broken.
-fn replayed(host: &HostRuntime, streams: Streams<'_>) -> Result<String, Fail> {
-    let words = ["gated", "replay", "run_broken.toml", "--status"];
-    shown(host, &words, streams)
-}
-
-#[test]
-fn a_failing_stream_ends_the_command(rt: HostRuntime) -> Result<(), Fail> {
-    write(&rt, "run_broken.toml", ONE_QUEUE)?;
-    let mut streams = Streams::over(rt.alloc(), APPROVAL);
-    streams.input = Input::broken();
-    assert_eq!(rt; replayed(&rt, streams)?.as_str(), "|gated: I1 read\n= 1\n");
-    let mut streams = Streams::over(rt.alloc(), APPROVAL);
-    streams.output = Output::broken(rt.alloc());
-    assert_eq!(rt; replayed(&rt, streams)?.as_str(), "|gated: I2 write\n= 1\n");
-    let mut streams = Streams::over(rt.alloc(), APPROVAL);
-    streams.output = Output::broken(rt.alloc());
-    streams.errors = Output::broken(rt.alloc());
-    assert_eq!(rt; replayed(&rt, streams)?.as_str(), "|= 1\n");
-    clear(&rt, "run_broken.toml");
-    Ok(())
-}
-
-const EACH_FAULT: [Fault; 18] = [
-    Fault::Settings(ConfigFault::NotToml),
-    Fault::Settings(ConfigFault::MissingMember),
-    Fault::Settings(ConfigFault::WrongKind),
-    Fault::Settings(ConfigFault::UnknownMember),
-    Fault::Settings(ConfigFault::BadName),
-    Fault::Settings(ConfigFault::DoubleName),
-    Fault::Settings(ConfigFault::UnknownQueue),
-    Fault::Settings(ConfigFault::BadWindow),
-    Fault::Settings(ConfigFault::NoVotingJob),
-    Fault::Settings(ConfigFault::Limit),
-    Fault::Settings(ConfigFault::NoMemory),
-    Fault::Unavailable,
-    Fault::Read,
-    Fault::Write,
-    Fault::NoMemory,
-    Fault::Listener,
-    Fault::SettingsFile,
-    Fault::Store,
-];
-
-/// The line of each of these faults.
-const LINES: &str = "\
-gated: C1 not-toml
-gated: C2 missing-member
-gated: C3 wrong-kind
-gated: C4 unknown-member
-gated: C5 bad-name
-gated: C6 double-name
-gated: C7 unknown-queue
-gated: C8 bad-window
-gated: C9 no-voting-job
-gated: C10 limit
-gated: C11 no-memory
-gated: E15 unavailable
-gated: I1 read
-gated: I2 write
-gated: I3 no-memory
-gated: I4 listen
-gated: I5 settings-file
-gated: I7 store
-";
-
-/// Ends a command by a fault, and gives its status.
-fn ended_by(fault: Fault, errors: &mut Tap<Vec<u8>>) -> u8 {
-    ended(Err(fault), errors)
-}
-
-#[test]
-fn each_fault_has_its_line(rt: HostRuntime) {
-    let mut errors = Tap::new(Vec::new(rt.alloc()));
-    for fault in &EACH_FAULT {
-        let status = ended_by(*fault, &mut errors);
-        assert_eq!(rt; status, 1, "{fault:?}");
-    }
-    assert_eq!(rt; errors.into_inner().as_slice(), LINES.as_bytes());
+fn settings_without_memory_end_the_command(rt: HostRuntime) {
+    let mut machine = Machine::new(&rt);
+    machine.is_starved = true;
+    plays(&rt, &machine, STARVED);
 }

@@ -4,17 +4,15 @@
 #[cfg(test)]
 mod commands;
 #[cfg(test)]
+mod faults;
+#[cfg(test)]
 mod files;
 #[cfg(test)]
-mod machines;
-#[cfg(test)]
-mod processes;
+mod machine;
 #[cfg(test)]
 mod serving;
 #[cfg(test)]
 mod sessions;
-#[cfg(test)]
-mod showing;
 #[cfg(test)]
 mod streams;
 #[cfg(test)]

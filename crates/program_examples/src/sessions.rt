@@ -1,21 +1,22 @@
 //! Sessions at a shell: what is typed, and what comes of it.
-use crate::streams::Streams;
+use crate::machine::Machine;
+use crate::streams::{Input, Output};
 use crate::texts::text_of;
 use gate_types::tap::Tap;
-use gated_cli::machine::GateFiles;
 use gated_cli::program::program;
-use std::alloc::{AllocError, Global};
 use std::fs;
 use std::process::Abort;
-use std::rt::Files;
-use std::test::Fail;
 
-/// What the program shows on some machine.
-pub fn shown_on<F: Files + GateFiles + AllocGlobal>(
-    machine: &F,
-    words: &[&str],
-    streams: Streams<'_>,
-) -> Result<String, Fail> {
+/// What a run reads and writes.
+#[derive(Drop)]
+struct Streams<'a> {
+    input: Input<'a>,
+    output: Output,
+    errors: Output,
+}
+
+/// Runs the program, and gives what it leaves and its status. All come here, since the proof of such a call takes long.
+fn run<'a>(machine: &Machine<'_>, words: &[&str], streams: Streams<'a>) -> (Streams<'a>, u8) {
     let mut input = Tap::new(streams.input);
     let mut output = Tap::new(streams.output);
     let mut errors = Tap::new(streams.errors);
@@ -25,86 +26,139 @@ pub fn shown_on<F: Files + GateFiles + AllocGlobal>(
         output: output.into_inner(),
         errors: errors.into_inner(),
     };
-    left.shown(machine.alloc(), status)
+    (left, status)
 }
 
-/// What it shows on the process's own machine. All come here, since the proof of each such call takes long.
-pub fn shown(host: &HostRuntime, words: &[&str], streams: Streams<'_>) -> Result<String, Fail> {
-    shown_on(host, words, streams)
+/// What stands before a mark, and behind it, or else this.
+fn parted<'a>(line: &'a str, mark: &str, other: &'a str) -> (&'a str, &'a str) {
+    line.split_once(mark).unwrap_or((line, other))
 }
 
-/// The words of a line.
-pub fn words_of(alloc: Global, line: &str) -> Result<Vec<&str>, AllocError> {
-    line.split_whitespace().collect(alloc)
+/// The words of a line, of which the last may stand in quotes.
+pub fn words_of<'a>(rt: &(impl Abort + AllocGlobal), line: &'a str) -> Vec<&'a str> {
+    let (plain, quoted) = parted(line, " '", "");
+    let words = plain.split_whitespace().collect::<Vec<&str>>(rt.alloc());
+    let mut words = words.expect(rt, "memory");
+    if let Some(word) = quoted.strip_suffix('\'') {
+        words.push(word).expect(rt, "memory");
+    }
+    words
 }
 
-/// The words of a line, and the text that it names.
-pub fn typed(alloc: Global, line: &str) -> Result<(Vec<&str>, &'static str), Fail> {
-    let (line, input) = line.split_once(" < ").unwrap_or((line, "nothing"));
-    let text = text_of(input)?;
-    Ok((words_of(alloc, line)?, text))
+/// An output that has room for so many bytes, or for all.
+fn output(rt: &(impl Abort + AllocGlobal), room: &str) -> Output {
+    let room = match room {
+        "all" => usize::MAX,
+        _ => room.parse::<usize>().expect(rt, room),
+    };
+    Output::new(rt.alloc(), room)
 }
 
-/// What the program shows that a line starts.
-fn answer(host: &HostRuntime, line: &str) -> Result<String, Fail> {
-    let (words, text) = typed(host.alloc(), line)?;
-    shown(host, words.as_slice(), Streams::over(host.alloc(), text))
+/// The words of a line, and its streams.
+fn typed<'a>(rt: &(impl Abort + AllocGlobal), line: &'a str) -> (Vec<&'a str>, Streams<'static>) {
+    let (line, errors) = parted(line, " 2> ", "all");
+    let (line, room) = parted(line, " > ", "all");
+    let (line, input) = parted(line, " < ", "nothing");
+    let streams = Streams {
+        input: Input::new(text_of(input).expect(rt, input), input == "broken"),
+        output: output(rt, room),
+        errors: output(rt, errors),
+    };
+    (words_of(rt, line), streams)
 }
 
-/// Writes a text into a file.
-pub fn write(host: &HostRuntime, file: &str, text: &str) -> Result<(), Fail> {
-    fs::write(host, file, text.as_bytes())?;
-    Ok(())
+/// What a run shows: the output, a bar and the errors, and behind them its status, and whether the input was read.
+fn shown(rt: &(impl Abort + AllocGlobal), left: Streams<'_>, status: u8) -> String {
+    let read = left.input.read();
+    let output = String::from_utf8(left.output.bytes).expect(rt, "a text");
+    let errors = String::from_utf8(left.errors.bytes).expect(rt, "a text");
+    format!(in rt.alloc(); "{output}|{errors}= {status}\n{read}").expect(rt, "memory")
 }
 
-/// Writes a text into a file, by their names.
-fn write_named(host: &HostRuntime, line: &str) -> Result<(), Fail> {
-    let (file, text) = line.split_once(" < ").ok_or("no text to write")?;
-    write(host, file, text_of(text)?)
+/// Whether this is what was wanted, where `...` stands for any text.
+fn fits(came: &str, wanted: &str) -> bool {
+    let Some(part) = wanted.strip_prefix("...") else {
+        return came == wanted;
+    };
+    let (middle, end) = parted(part, "...", part);
+    came.contains(middle) && came.ends_with(end)
+}
+
+/// The program is run, and shows what is wanted.
+fn runs(
+    rt: &(impl Abort + AllocGlobal),
+    machine: &Machine<'_>,
+    title: &str,
+    line: &str,
+    wanted: &str,
+) {
+    let (words, streams) = typed(rt, line);
+    let (left, status) = run(machine, words.as_slice(), streams);
+    let came = shown(rt, left, status);
+    assert!(rt; fits(came.as_str(), wanted), "{title}: {line}\n{came}");
+}
+
+fn write(rt: &impl Abort, machine: &Machine<'_>, line: &str) {
+    let (file, name) = line.split_once(" < ").expect(rt, line);
+    let text = text_of(name).expect(rt, name);
+    fs::write(machine.host, file, text).expect(rt, line);
+}
+
+/// Writes one comment of so many bytes into a file.
+fn fill(rt: &(impl Abort + AllocGlobal), machine: &Machine<'_>, line: &str) {
+    let (file, size) = line.split_once(' ').expect(rt, line);
+    let size = size.parse::<usize>().expect(rt, line);
+    let comment = "#".repeat(rt.alloc(), size).expect(rt, "memory");
+    fs::write(machine.host, file, comment).expect(rt, line);
 }
 
 /// Removes files, of which any may be missing.
-pub fn clear(host: &HostRuntime, files: &str) {
+fn clear(machine: &Machine<'_>, files: &str) {
     for file in files.split_whitespace() {
-        let _ = fs::remove_file(host, file);
+        let _ = fs::remove_file(machine.host, file);
     }
 }
 
 /// Whether there is a file.
-fn presence(host: &HostRuntime, file: &str) -> &'static str {
-    match fs::open(host, file) {
+fn presence(machine: &Machine<'_>, file: &str) -> &'static str {
+    match fs::open(machine.host, file) {
         Ok(_) => "present\n",
         Err(_) => "missing\n",
     }
 }
 
-/// What comes of a line.
-pub fn outcome(host: &HostRuntime, line: &str) -> Result<String, Fail> {
-    let (verb, rest) = line.split_once(' ').ok_or("no command")?;
+/// Does what stands behind `$ `, and finds below it what comes of it.
+fn goes_on(rt: &(impl Abort + AllocGlobal), machine: &Machine<'_>, title: &str, part: &str) {
+    let (line, wanted) = parted(part, "\n", "");
+    let (verb, rest) = line.split_once(' ').expect(rt, title);
     match verb {
-        "gated" => return answer(host, line),
-        "write" => write_named(host, rest)?,
-        "clear" => clear(host, rest),
-        "look" => return Ok(presence(host, rest).to_string(host.alloc())?),
-        _ => return Err(Fail::new("an unknown command")),
+        "gated" => return runs(rt, machine, title, line, wanted),
+        "look" => assert!(rt; presence(machine, rest) == wanted, "{title}: {line}"),
+        "write" => write(rt, machine, rest),
+        "fill" => fill(rt, machine, rest),
+        "clear" => clear(machine, rest),
+        _ => panic!(rt; "{title}: no such command: {line}"),
     }
-    Ok(String::new(host.alloc()))
 }
 
-/// Does the first line of a part of a session, and finds what stands below it.
-fn goes_on(rt: &impl Abort, host: &HostRuntime, part: &str) -> Result<(), Fail> {
-    let (line, wanted) = part.split_once('\n').ok_or("no line's end")?;
-    let came = outcome(host, line)?;
-    assert_eq!(rt; came.as_str(), wanted, "{line}");
-    Ok(())
+/// Plays a scene, which has its title, and then commands behind `$ `, each with what comes of it:
+///
+/// - `gated WORDS < TEXT > ROOM 2> ROOM` shows what the program writes: its output, a bar and its errors, then its
+///   status, and whether the input was read. Where no stream is named it is empty, and has room for all. `...` before
+///   what is wanted stands for any text, and so it does once more in the middle;
+/// - `write FILE < TEXT` writes a text of a name, `fill FILE SIZE` a comment of so many bytes;
+/// - `clear FILES` removes files, and `look FILE` tells whether one is there.
+fn plays_scene(rt: &(impl Abort + AllocGlobal), machine: &Machine<'_>, scene: &str) {
+    let (title, lines) = scene.split_once("\n$ ").expect(rt, scene);
+    for part in lines.split("$ ") {
+        goes_on(rt, machine, title, part);
+    }
 }
 
-/// Does the lines behind `$ `, and finds below each what comes of it. A test gives its machine twice, since that may end
-/// a process only as `rt`.
-pub fn goes(rt: &impl Abort, host: &HostRuntime, session: &str) -> Result<(), Fail> {
-    let session = session.strip_prefix("$ ").ok_or("no line to do")?;
-    for part in session.split("$ ") {
-        goes_on(rt, host, part)?;
+/// Plays the scenes of a text, which begin with `# ` each.
+pub fn plays(rt: &(impl Abort + AllocGlobal), machine: &Machine<'_>, text: &str) {
+    let scenes = text.strip_prefix("# ").expect(rt, text);
+    for scene in scenes.split("# ") {
+        plays_scene(rt, machine, scene);
     }
-    Ok(())
 }

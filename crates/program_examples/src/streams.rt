@@ -1,7 +1,6 @@
 //! The streams of a run, of which any may fail or be full.
 use std::alloc::Global;
 use std::io;
-use std::test::Fail;
 
 /// A text to read.
 #[derive(Drop)]
@@ -12,29 +11,21 @@ pub struct Input<'a> {
 }
 
 impl<'a> Input<'a> {
-    pub fn of(text: &'a str) -> Self {
+    /// One that gives this text, or fails at once.
+    pub fn new(text: &'a str, is_broken: bool) -> Self {
         let text = text.as_bytes();
         Self {
             text,
             left: text,
-            is_broken: false,
-        }
-    }
-
-    /// One that fails at once.
-    pub fn broken() -> Self {
-        Self {
-            text: &[],
-            left: &[],
-            is_broken: true,
+            is_broken,
         }
     }
 
     /// How much of the text was read, if not all.
-    fn read(&self) -> &'static str {
+    pub fn read(&self) -> &'static str {
         if self.left.is_empty() {
             ""
-        } else if self.left == self.text {
+        } else if self.left.len() == self.text.len() {
             "unread\n"
         } else {
             "partly read\n"
@@ -54,31 +45,15 @@ impl io::Read for Input<'_> {
 /// Takes so many bytes, and fails then.
 #[derive(Drop)]
 pub struct Output {
-    bytes: Vec<u8>,
+    pub bytes: Vec<u8>,
     room: usize,
-    error: io::ErrorKind,
 }
 
 impl Output {
-    /// One that takes all.
-    pub fn whole(alloc: Global) -> Self {
-        Self::full_after(alloc, usize::MAX)
-    }
-
-    pub fn full_after(alloc: Global, room: usize) -> Self {
+    pub fn new(alloc: Global, room: usize) -> Self {
         Self {
             bytes: Vec::new(alloc),
             room,
-            error: io::ErrorKind::StorageFull,
-        }
-    }
-
-    /// One that fails at once.
-    pub fn broken(alloc: Global) -> Self {
-        Self {
-            bytes: Vec::new(alloc),
-            room: 0,
-            error: io::ErrorKind::Interrupted,
         }
     }
 }
@@ -87,40 +62,17 @@ impl io::Write for Output {
     fn write(&mut self, buf: &[u8]) -> io::Result<usize> {
         let room = self.room.saturating_sub(self.bytes.len());
         if room == 0 {
-            return Err(io::Error::from(self.error));
+            let kind = if self.room == 0 {
+                io::ErrorKind::Interrupted
+            } else {
+                io::ErrorKind::StorageFull
+            };
+            return Err(io::Error::from(kind));
         }
         self.bytes.write(&buf[..room.min(buf.len())])
     }
 
     fn flush(&mut self) -> io::Result<()> {
         Ok(())
-    }
-}
-
-/// What a run reads and writes.
-#[derive(Drop)]
-pub struct Streams<'a> {
-    pub input: Input<'a>,
-    pub output: Output,
-    pub errors: Output,
-}
-
-impl<'a> Streams<'a> {
-    /// Those of a run that reads this text.
-    pub fn over(alloc: Global, text: &'a str) -> Self {
-        Self {
-            input: Input::of(text),
-            output: Output::whole(alloc),
-            errors: Output::whole(alloc),
-        }
-    }
-
-    /// What a run left there: the output, a bar and the errors, and behind them its status, and whether the input was
-    /// read.
-    pub fn shown(self, alloc: Global, status: u8) -> Result<String, Fail> {
-        let read = self.input.read();
-        let output = String::from_utf8(self.output.bytes)?;
-        let errors = String::from_utf8(self.errors.bytes)?;
-        Ok(format!(in alloc; "{output}|{errors}= {status}\n{read}")?)
     }
 }

@@ -1,8 +1,6 @@
 //! Settings and deliveries, by the names that a session calls them by.
-use std::test::Fail;
-
 /// One queue, one project and one job.
-pub const ONE_QUEUE: &str = r#"[forge]
+const ONE_QUEUE: &str = r#"[forge]
 base = "https://forge/c/"
 
 [[queue]]
@@ -18,7 +16,7 @@ name = "unit"
 "#;
 
 /// Two queues, three projects and four jobs.
-pub const TWO_QUEUES: &str = r#"[forge]
+const TWO_QUEUES: &str = r#"[forge]
 base = "https://forge/c/"
 
 [[queue]]
@@ -53,7 +51,43 @@ queue = "web"
 name = "unit"
 "#;
 
-pub const APPROVAL: &str =
+/// The same with a floor above the window of the first queue.
+const HIGH_FLOOR: &str = r#"[forge]
+base = "https://forge/c/"
+
+[[queue]]
+name = "core"
+window = 2
+floor = 3
+
+[[queue]]
+name = "web"
+window = 2
+floor = 1
+
+[[project]]
+name = "lib"
+queue = "core"
+[[project.job]]
+name = "unit"
+[[project.job]]
+name = "docs"
+voting = false
+
+[[project]]
+name = "app"
+queue = "core"
+[[project.job]]
+name = "unit"
+
+[[project]]
+name = "site"
+queue = "web"
+[[project.job]]
+name = "unit"
+"#;
+
+const APPROVAL: &str =
     "{\"id\":\"0a000000-0000-4000-8000-000000000001\",\"kind\":\"approved\",\"change\":101,\"revision\":1}\n";
 
 const REVISION: &str =
@@ -88,19 +122,20 @@ const EVENING: &str =
     "{\"id\":\"0a000000-0000-4000-8000-000000000010\",\"kind\":\"result\",\"build\":2,\"outcome\":\"success\"}\n";
 
 /// The text of a name.
-pub fn text_of(name: &str) -> Result<&'static str, Fail> {
+pub fn text_of(name: &str) -> Option<&'static str> {
     match name {
-        "nothing" => Ok(""),
-        "no settings" => Ok("[forge"),
-        "no gate" => Ok("ten bytes\n"),
-        "one queue" => Ok(ONE_QUEUE),
-        "two queues" => Ok(TWO_QUEUES),
-        "no delivery" => Ok("no delivery\n"),
-        "approval" => Ok(APPROVAL),
-        "revision" => Ok(REVISION),
-        "approved" => Ok(APPROVED),
-        "day" => Ok(DAY),
-        "evening" => Ok(EVENING),
-        _ => Err(Fail::new("no text has the name")),
+        "nothing" | "broken" => Some(""),
+        "no settings" => Some("[forge"),
+        "no gate" => Some("ten bytes\n"),
+        "one queue" => Some(ONE_QUEUE),
+        "two queues" => Some(TWO_QUEUES),
+        "high floor" => Some(HIGH_FLOOR),
+        "no delivery" => Some("no delivery\n"),
+        "approval" => Some(APPROVAL),
+        "revision" => Some(REVISION),
+        "approved" => Some(APPROVED),
+        "day" => Some(DAY),
+        "evening" => Some(EVENING),
+        _ => None,
     }
 }
