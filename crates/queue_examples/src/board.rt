@@ -1,311 +1,248 @@
 //! A queue whose rows are changed by deliveries and by edits.
-use crate::fixtures::{
-    BuildCase, build_of, change, first, jobs, landing, need, serial, serial_ahead,
-};
-use crate::texts::{edit_text, item_text};
-use gate_types::config::Job;
+use crate::told::{tell_edit, tell_item};
+use crate::words::{build, jobs, landing, name, needs, number, outcome, serial, size, word};
+use gate_queue::window::grow;
+use gate_types::config::{Job, Queue};
 use gate_types::edits::Edit;
-use gate_types::numbers::ChangeNo;
+use gate_types::numbers::{ChangeNo, Serial};
 use gate_types::records::{Build, Item, Landing, Need, Outcome};
-use gate_types::sequence::Sequence;
-use gate_walk::walk::TakenOut;
-use std::alloc::{AllocError, Global};
+use gate_walk::walk::{TakenOut, Touched};
 use std::process::Abort;
+use std::str::SplitWhitespace;
 
-/// An item's stored row, with the needs of its change, the jobs of its project and its live builds.
+/// An item's stored row, with the needs of its change and the jobs of its project.
 #[derive(Drop)]
 pub struct Row {
     pub item: Item,
     pub needs: Vec<Need>,
     pub jobs: Vec<Job>,
-    pub builds: Vec<Build>,
 }
 
-/// The queue `core`: its floor, its window, what has landed, its items, and how many reports it has made.
+/// The queue `core`: its settings, its window, how many reports it has made, what has landed, its items and the live
+/// builds, by number.
 #[derive(Drop)]
 pub struct Board {
-    pub floor: u32,
+    pub settings: Queue,
     pub window: u32,
+    pub reports: u64,
     pub landings: Vec<Landing>,
     pub rows: Vec<Row>,
-    pub reports: u64,
-    /// Those that edits have put, a line each.
+    pub builds: Vec<Build>,
+    /// The reports that edits have put, a line each.
     pub told: String,
+}
+
+fn item_at(rows: &[Row], serial: Serial) -> Option<Item> {
+    for row in rows {
+        if row.item.serial == serial {
+            return Some(row.item);
+        }
+    }
+    None
+}
+
+/// Whether the row of a change says that it is failing, where it stands.
+pub fn standing(rows: &[Row], of: ChangeNo) -> Option<bool> {
+    for row in rows {
+        if row.item.change == of {
+            return Some(row.item.failing);
+        }
+    }
+    None
+}
+
+/// Whether some need has neither landed nor stands as a non-failing item.
+pub fn is_blocked(rows: &[Row], needs: &[Need]) -> bool {
+    needs.iter().any(|need| !need.landed && standing(rows, need.change) != Some(false))
+}
+
+/// The needs of a change that landed are met from now on.
+fn meet(rows: &mut [Row], landed: ChangeNo) {
+    for row in rows {
+        meet_each(&mut row.needs, landed);
+    }
+}
+
+fn meet_each(needs: &mut [Need], landed: ChangeNo) {
+    for need in needs {
+        need.landed = need.landed || need.change == landed;
+    }
+}
+
+fn put(rows: &mut [Row], item: Item) {
+    for row in rows {
+        if row.item.serial == item.serial {
+            row.item = item;
+        }
+    }
+}
+
+/// A build has ended. Its item is told.
+fn set_outcome(builds: &mut [Build], number: u64, outcome: Outcome) -> Option<Serial> {
+    for build in builds {
+        if build.number.get() == number {
+            build.outcome = outcome;
+            return Some(build.serial);
+        }
+    }
+    None
 }
 
 impl Board {
     /// A queue without items.
-    pub fn new(rt: &(impl Abort + AllocGlobal), window: u32, floor: u32) -> Self {
+    pub fn new(rt: &(impl Abort + AllocGlobal)) -> Self {
         Board {
-            floor,
-            window,
+            settings: Queue {
+                name: name(rt, "core"),
+                window: 2,
+                floor: 1,
+            },
+            window: 2,
+            reports: 0,
             landings: Vec::new(rt.alloc()),
             rows: Vec::new(rt.alloc()),
-            reports: 0,
+            builds: Vec::new(rt.alloc()),
             told: String::new(rt.alloc()),
         }
     }
 
-    /// Adds an item behind the others, non-failing, with the serial of the last one as `ahead`.
-    pub fn push(
-        &mut self,
-        rt: &(impl Abort + AllocGlobal),
-        item: (u64, u64),
-        ahead: Option<u64>,
-        needs: &[u64],
-        texts: &[(&str, bool)],
-    ) {
-        let mut needed = Vec::new(rt.alloc());
-        for n in needs {
-            needed.push(need(rt, *n, false)).expect(rt, "memory");
+    /// The window, the floor and how many reports there are.
+    fn begin(&mut self, rt: &impl Abort, words: &mut SplitWhitespace) {
+        self.window = size(rt, words);
+        self.settings.window = self.window;
+        self.settings.floor = size(rt, words);
+        self.reports = number(rt, word(rt, words));
+    }
+
+    /// The serial of the last non-failing item.
+    fn last_ahead(&self) -> Option<Serial> {
+        let mut ahead = None;
+        for row in self.rows.iter() {
+            if !row.item.failing {
+                ahead = Some(row.item.serial);
+            }
         }
-        let row = Row {
-            item: Item {
-                serial: serial(rt, item.0),
-                change: change(rt, item.1),
-                revision: first(rt),
-                ahead: serial_ahead(rt, ahead),
-                failing: false,
-            },
-            needs: needed,
-            jobs: jobs(rt, texts),
-            builds: Vec::new(rt.alloc()),
+        ahead
+    }
+
+    /// Adds an item behind the others: its serial, its change, its project and its needs.
+    fn admit(&mut self, rt: &(impl Abort + AllocGlobal), words: &mut SplitWhitespace) {
+        let item = landing(rt, words);
+        let jobs = jobs(rt, word(rt, words));
+        let needs = needs(rt, words);
+        let item = Item {
+            serial: item.serial,
+            change: item.change,
+            revision: item.revision,
+            ahead: self.last_ahead(),
+            failing: is_blocked(&self.rows, &needs),
         };
-        self.rows.push(row).expect(rt, "memory");
+        self.rows
+            .push(Row { item, needs, jobs })
+            .expect(rt, "memory");
     }
 
-    /// Starts a build of a job of an item, behind all landings and these changes.
-    pub fn take(
-        &mut self,
-        rt: &(impl Abort + AllocGlobal),
-        number: u64,
-        of: u64,
-        job: &str,
-        ahead: &[u64],
-    ) {
-        let before = self.landings.iter().filter(|l| l.serial.get() < of).count();
-        let after = before as u64;
-        for row in self.rows.iter_mut() {
-            if row.item.serial.get() == of {
-                let run = BuildCase {
-                    number,
-                    serial: of,
-                    change: row.item.change.get(),
-                    job,
-                    after,
-                    ahead,
-                    outcome: Outcome::Running,
-                };
-                row.builds.push(build_of(rt, &run)).expect(rt, "memory");
-            }
-        }
-    }
-
-    /// A build has ended.
-    pub fn end(&mut self, number: u64, outcome: Outcome) {
-        for row in self.rows.iter_mut() {
-            for build in row.builds.iter_mut() {
-                if build.number.get() == number {
-                    build.outcome = outcome;
-                }
-            }
-        }
-    }
-
-    /// Takes an item out, and says what the walk is told of it.
-    fn take_out(&mut self, of: u64, landed: bool) -> Option<TakenOut> {
-        let out = self
-            .rows
-            .iter()
-            .find(|row| row.item.serial.get() == of)?
-            .item;
-        self.rows.retain(|row| row.item.serial.get() != of);
-        self.reports = self.reports.saturating_add(1);
-        Some(TakenOut {
-            change: out.change,
-            failing: out.failing,
-            landed,
+    /// A build has ended: its number and its outcome.
+    fn end(&mut self, rt: &impl Abort, words: &mut SplitWhitespace) -> Option<Touched> {
+        let number = number(rt, word(rt, words));
+        let outcome = outcome(rt, word(rt, words));
+        let serial = set_outcome(&mut self.builds, number, outcome)?;
+        let item = item_at(&self.rows, serial)?;
+        Some(Touched {
+            serial,
+            ahead: item.ahead,
+            out: None,
         })
     }
 
-    /// An item leaves without landing.
-    pub fn leave(&mut self, of: u64) -> Option<TakenOut> {
-        self.take_out(of, false)
+    /// Takes an item and its builds out.
+    fn drop_item(&mut self, of: Serial) {
+        self.rows.retain(|row| row.item.serial != of);
+        self.builds.retain(|build| build.serial != of);
     }
 
-    /// The needs of a change that landed are met from now on.
-    fn meet(&mut self, landed: ChangeNo) {
-        for row in self.rows.iter_mut() {
-            for need in row.needs.iter_mut() {
-                need.landed = need.landed || need.change == landed;
-            }
+    /// An item leaves, and its report is made.
+    fn leave(&mut self, of: Serial, landed: bool) -> Option<Touched> {
+        let item = item_at(&self.rows, of)?;
+        self.drop_item(of);
+        self.reports = self.reports.saturating_add(1);
+        Some(Touched {
+            serial: of,
+            ahead: item.ahead,
+            out: Some(TakenOut {
+                change: item.change,
+                failing: item.failing,
+                landed,
+            }),
+        })
+    }
+
+    /// An item of a change lands: its serial and its change.
+    fn land(&mut self, rt: &impl Abort, words: &mut SplitWhitespace) -> Option<Touched> {
+        let landed = landing(rt, words);
+        let (serial, change) = (landed.serial, landed.change);
+        self.landings.push(landed).expect(rt, "memory");
+        meet(&mut self.rows, change);
+        self.window = grow(self.window);
+        self.leave(serial, true)
+    }
+
+    /// Does what a line says, and tells which item it touched.
+    pub fn deliver(&mut self, rt: &(impl Abort + AllocGlobal), line: &str) -> Option<Touched> {
+        let mut words = line.split_whitespace();
+        let mut touched = None;
+        match word(rt, &mut words) {
+            "queue" => self.begin(rt, &mut words),
+            "landed" => self
+                .landings
+                .push(landing(rt, &mut words))
+                .expect(rt, "memory"),
+            "item" => self.admit(rt, &mut words),
+            "build" => self.builds.push(build(rt, &mut words)).expect(rt, "memory"),
+            "end" => touched = self.end(rt, &mut words),
+            "leave" => touched = self.leave(serial(rt, &mut words), false),
+            "land" => touched = self.land(rt, &mut words),
+            _ => panic!(rt; "no delivery: {line}"),
         }
+        assert!(rt; words.next().is_none(), "{line}");
+        touched
     }
 
-    /// The first non-failing item lands: the window grows by one.
-    pub fn land(&mut self, rt: &impl Abort, of: u64) -> Option<TakenOut> {
-        let out = self.take_out(of, true)?;
-        let landing = landing(rt, of, out.change.get());
-        self.landings.push(landing).expect(rt, "memory");
-        self.meet(out.change);
-        self.window = if self.window == 0 {
-            0
-        } else {
-            self.window.min(999) + 1
-        };
-        Some(out)
-    }
-
-    /// Whether the row of a change says that it is failing, where it stands.
-    pub fn standing(&self, of: ChangeNo) -> Option<bool> {
-        let row = self.rows.iter().find(|row| row.item.change == of)?;
-        Some(row.item.failing)
-    }
-
-    /// An item is failing by its row.
-    pub fn fail(&mut self, of: u64) {
-        for row in self.rows.iter_mut() {
-            if row.item.serial.get() == of {
-                row.item.failing = true;
-            }
-        }
-    }
-
-    /// Whether some need of a row has neither landed nor stands as a non-failing item.
-    pub fn is_blocked(&self, row: &Row) -> bool {
-        row.needs.iter().any(|need| !need.landed && self.standing(need.change) != Some(false))
-    }
-
-    /// The builds of all items, in order.
-    pub fn builds_up_to(&self, rt: &(impl Abort + AllocGlobal), last: u64) -> Vec<Build> {
-        let mut builds = Vec::new(rt.alloc());
-        for number in 0..last.saturating_add(1) {
-            for row in self.rows.iter() {
-                for build in row.builds.iter() {
-                    if build.number.get() == number {
-                        builds.push(build_copy(rt, build)).expect(rt, "memory");
-                    }
-                }
-            }
-        }
-        builds
-    }
-
-    /// The same queue once more.
-    pub fn copy(&self, rt: &(impl Abort + AllocGlobal)) -> Self {
-        let mut rows = Vec::new(rt.alloc());
-        for row in self.rows.iter() {
-            rows.push(row_copy(rt, row)).expect(rt, "memory");
-        }
-        let landings = self.landings.as_slice().to_vec(rt.alloc());
-        let told = self.told.as_str().to_string(rt.alloc());
-        Board {
-            floor: self.floor,
-            window: self.window,
-            landings: landings.expect(rt, "memory"),
-            rows,
-            reports: self.reports,
-            told: told.expect(rt, "memory"),
-        }
-    }
-
-    /// Does what an edit says to the stored rows.
-    fn apply(&mut self, rt: &(impl Abort + AllocGlobal), edit: &Edit) {
+    fn apply_one(&mut self, rt: &impl Abort, edit: &Edit) {
         match edit {
-            Edit::PutItem { queue: _, item } => {
-                for row in self.rows.iter_mut() {
-                    if row.item.serial == item.serial {
-                        row.item = *item;
-                    }
-                }
-            }
-            Edit::DropItem(serial) => self.rows.retain(|row| row.item.serial != *serial),
-            Edit::StopBuild(number) => {
-                for row in self.rows.iter_mut() {
-                    row.builds.retain(|build| build.number != *number);
-                }
-            }
+            Edit::PutItem { queue: _, item } => put(&mut self.rows, *item),
+            Edit::DropItem(serial) => self.drop_item(*serial),
+            Edit::StopBuild(number) => self.builds.retain(|build| build.number != *number),
             Edit::SetWindow { queue: _, window } => self.window = *window,
             Edit::PutReport { .. } => {
                 self.reports = self.reports.saturating_add(1);
-                let text = edit_text(rt.alloc(), edit).expect(rt, "memory");
-                self.told.push_str(text.as_str()).expect(rt, "memory");
+                tell_edit(rt, &mut self.told, edit);
             }
             _ => panic!(rt; "no edit of a queue"),
         }
     }
 
-    /// Does what the edits say, one after another.
-    pub fn apply_all(&mut self, rt: &(impl Abort + AllocGlobal), edits: &[Edit]) {
+    /// Does what edits say.
+    pub fn apply(&mut self, rt: &impl Abort, edits: &[Edit]) {
         for edit in edits {
-            self.apply(rt, edit);
+            self.apply_one(rt, edit);
         }
     }
 
-    /// The window, the rows with their live builds, and the reports that edits have put.
-    pub fn text(&self, alloc: Global) -> Result<String, AllocError> {
-        let window = self.window;
-        let mut text = format!(in alloc; "window {window}\n")?;
+    fn tell_builds(&self, rt: &impl Abort, text: &mut String) {
+        for build in self.builds.iter() {
+            write!(text, "build {}\n", build.number.get()).expect(rt, "memory");
+        }
+    }
+
+    /// The window, the rows, the live builds, and the reports that edits have put.
+    pub fn text(&self, rt: &(impl Abort + AllocGlobal)) -> String {
+        let mut text = format!(in rt.alloc(); "window {}\n", self.window).expect(rt, "memory");
         for row in self.rows.iter() {
-            text.push_str(item_text(alloc, &row.item)?.as_str())?;
-            for build in row.builds.iter() {
-                let number = build.number.get();
-                text.push_str(format!(in alloc; "build {number}\n")?.as_str())?;
-            }
+            tell_item(rt, &mut text, &row.item);
         }
-        text.push_str(self.told.as_str())?;
-        Ok(text)
+        self.tell_builds(rt, &mut text);
+        text.push_str(self.told.as_str()).expect(rt, "memory");
+        text
     }
-}
-
-fn build_copy(rt: &(impl Abort + AllocGlobal), build: &Build) -> Build {
-    let ahead = build.ahead.as_slice().to_vec(rt.alloc());
-    Build {
-        number: build.number,
-        queue: build.queue.copy().expect(rt, "memory"),
-        serial: build.serial,
-        change: build.change,
-        revision: build.revision,
-        job: build.job.copy().expect(rt, "memory"),
-        after: build.after,
-        ahead: Sequence::from_vec(ahead.expect(rt, "memory")),
-        outcome: build.outcome,
-        live: build.live,
-    }
-}
-
-fn row_copy(rt: &(impl Abort + AllocGlobal), row: &Row) -> Row {
-    let mut jobs = Vec::new(rt.alloc());
-    for job in row.jobs.iter() {
-        let job = Job {
-            name: job.name.copy().expect(rt, "memory"),
-            voting: job.voting,
-        };
-        jobs.push(job).expect(rt, "memory");
-    }
-    let mut builds = Vec::new(rt.alloc());
-    for build in row.builds.iter() {
-        builds.push(build_copy(rt, build)).expect(rt, "memory");
-    }
-    let needs = row.needs.as_slice().to_vec(rt.alloc());
-    Row {
-        item: row.item,
-        needs: needs.expect(rt, "memory"),
-        jobs,
-        builds,
-    }
-}
-
-/// Whether a job of an item that isn't blocked waits for a build.
-pub fn waits(row: &Row, job: &str) -> bool {
-    let mut lost = 0u32;
-    for build in row.builds.iter() {
-        if build.job.as_str() == job {
-            match build.outcome {
-                Outcome::Lost => lost = lost.saturating_add(1),
-                _ => return false,
-            }
-        }
-    }
-    lost < 3
 }

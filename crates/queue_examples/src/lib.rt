@@ -2,13 +2,13 @@
 #![tactic(auto)]
 
 #[cfg(test)]
+mod asked;
+#[cfg(test)]
 mod board;
 #[cfg(test)]
 mod choices;
 #[cfg(test)]
 mod counting;
-#[cfg(test)]
-mod fixtures;
 #[cfg(test)]
 mod lives;
 #[cfg(test)]
@@ -18,10 +18,10 @@ mod scenes;
 #[cfg(test)]
 mod settlings;
 #[cfg(test)]
-mod texts;
+mod told;
 #[cfg(test)]
 mod walking;
 #[cfg(test)]
 mod walks;
 #[cfg(test)]
-mod windows;
+mod words;

@@ -1,113 +1,123 @@
-//! Queues to settle, and their edits as text.
-use crate::fixtures::{
-    APP, BuildCase, ItemCase, LIB, builds_of, docs, item, items_of, jobs, landings, needs, queue,
-    unit,
-};
-use crate::rising::{builds_rise, items_rise};
-use crate::texts::edits_text;
-use gate_queue::facts::{Facts, ItemFacts};
-use gate_queue::settle::settle;
-use gate_types::config::Job;
+//! Texts of scenes: a title behind `# `, and below it what befalls a queue and what is asked of it, each on a line
+//! behind `> `, with the answer below that. `each 1 9 TEXT` is this text nine times, with the number in place of `#`,
+//! 1,000 more in place of `+#`, and one less in place of `-#`.
+use crate::board::Board;
+use crate::told::tell_edit;
+use crate::words::{number, size, word};
+use gate_queue::window::{grow, shrink};
 use gate_types::edits::Edit;
-use gate_types::records::{Build, Item, Need, Outcome};
 use std::process::Abort;
 
-/// The needs and the jobs of an item.
-type About = (Vec<Need>, Vec<Job>);
+fn push_numbered(rt: &(impl Abort + AllocGlobal), text: &mut String, line: &str, number: u64) {
+    let more = format!(in rt.alloc(); "{}", number.saturating_add(1000)).expect(rt, "memory");
+    let less = format!(in rt.alloc(); "{}", number.saturating_sub(1)).expect(rt, "memory");
+    let number = format!(in rt.alloc(); "{number}").expect(rt, "memory");
+    let line = line
+        .replace(rt.alloc(), "+#", more.as_str())
+        .expect(rt, "memory");
+    let line = line
+        .as_str()
+        .replace(rt.alloc(), "-#", less.as_str())
+        .expect(rt, "memory");
+    let line = line
+        .as_str()
+        .replace(rt.alloc(), '#', number.as_str())
+        .expect(rt, "memory");
+    write!(text, "{line}\n").expect(rt, "memory");
+}
 
-fn about(rt: &(impl Abort + AllocGlobal), rows: &[ItemCase]) -> Vec<About> {
-    let mut all = Vec::new(rt.alloc());
-    for row in rows {
-        let about = (needs(rt, row.needs), jobs(rt, row.jobs));
-        all.push(about).expect(rt, "memory");
+/// Two numbers, and a line for each from the first to the last.
+fn push_each(rt: &(impl Abort + AllocGlobal), text: &mut String, each: &str) {
+    let (first, rest) = each.split_once(' ').expect(rt, each);
+    let (last, line) = rest.split_once(' ').expect(rt, each);
+    for count in number(rt, first)..number(rt, last).saturating_add(1) {
+        push_numbered(rt, text, line, count);
     }
-    all
 }
 
-fn facts_of<'a>(rt: &(impl Abort + AllocGlobal), all: &'a [About]) -> Vec<ItemFacts<'a>> {
-    let mut facts = Vec::new(rt.alloc());
-    for (needs, jobs) in all {
-        facts.push(ItemFacts { needs, jobs }).expect(rt, "memory");
+fn push_line(rt: &(impl Abort + AllocGlobal), text: &mut String, line: &str) {
+    match line.strip_prefix("each ") {
+        Some(each) => push_each(rt, text, each),
+        None => write!(text, "{line}\n").expect(rt, "memory"),
     }
-    facts
 }
 
-/// A queue `core` with its window, floor, number of reports and landings.
-#[derive(Clone, Copy)]
-pub struct Scene<'a> {
-    pub window: u32,
-    pub floor: u32,
-    pub reports: u64,
-    pub landed: &'a [(u64, u64)],
+/// A scene with its lines for each of several numbers written out.
+fn written(rt: &(impl Abort + AllocGlobal), scene: &str) -> String {
+    let mut text = String::new(rt.alloc());
+    for line in scene.lines() {
+        push_line(rt, &mut text, line);
+    }
+    text
 }
 
-pub const PLAIN: Scene = Scene {
-    window: 2,
-    floor: 1,
-    reports: 0,
-    landed: &[],
-};
-
-/// The edits of a settling of the whole queue.
-pub fn settled(
-    rt: &(impl Abort + AllocGlobal),
-    items: &[Item],
-    builds: &[Build],
-    facts: &Facts,
-) -> Vec<Edit> {
-    assert!(rt; items_rise(items));
-    assert!(rt; builds_rise(builds));
-    assert_eq!(rt; facts.items.len(), items.len());
-    settle(rt.alloc(), items, builds, facts).expect(rt, "memory")
+fn tell_edits(rt: &impl Abort, told: &mut String, edits: &[Edit]) {
+    for edit in edits {
+        tell_edit(rt, told, edit);
+    }
 }
 
-fn edits_of(
-    rt: &(impl Abort + AllocGlobal),
-    scene: Scene,
-    rows: &[ItemCase],
-    runs: &[BuildCase],
-) -> Vec<Edit> {
-    let settings = queue(rt, scene.window, scene.floor);
-    let landed = landings(rt, scene.landed);
-    let items = items_of(rt, rows);
-    let builds = builds_of(rt, runs);
-    let all = about(rt, rows);
-    let items_facts = facts_of(rt, &all);
-    assert!(rt; scene.reports <= 1_000_000_000_000_000);
-    let facts = Facts {
-        settings: &settings,
-        window: scene.window,
-        landings: &landed,
-        items: &items_facts,
-        reports: scene.reports,
-    };
-    settled(rt, &items, &builds, &facts)
+/// A delivery, with the rows that the walk behind it visits and its edits, which are done.
+fn deliver(rt: &(impl Abort + AllocGlobal), board: &mut Board, line: &str, told: &mut String) {
+    if let Some(touched) = board.deliver(rt, line) {
+        let (walk, visited) = board.walk(rt, touched);
+        write!(told, "visits{visited}\n").expect(rt, "memory");
+        tell_edits(rt, told, walk.edits());
+        board.apply(rt, walk.edits());
+    }
 }
 
-pub fn settles(
-    rt: &(impl Abort + AllocGlobal),
-    scene: Scene,
-    rows: &[ItemCase],
-    runs: &[BuildCase],
-    wanted: &str,
-) {
-    let edits = edits_of(rt, scene, rows, runs);
-    let text = edits_text(rt.alloc(), &edits).expect(rt, "memory");
-    assert_eq!(rt; text.as_str(), wanted);
+fn choose(rt: &(impl Abort + AllocGlobal), board: &Board, window: u32, told: &mut String) {
+    match board.choose(rt, window) {
+        Some((serial, job)) => write!(told, "item {} job {job}\n", serial.get()).expect(
+            rt, "memory",
+        ),
+        None => told.push_str("none\n").expect(rt, "memory"),
+    }
 }
 
-/// Builds 1 and 2 are of 101, the first item, and build 3 of 102 behind it.
-pub fn settles_two(
-    rt: &(impl Abort + AllocGlobal),
-    needs: &[(u64, bool)],
-    outcomes: [Outcome; 3],
-    wanted: &str,
-) {
-    let rows = [item(1, 101, &[], LIB), item(2, 102, needs, APP)];
-    let runs = [
-        unit(1, 1, 101, 0, &[], outcomes[0]),
-        docs(2, 1, 101, 0, &[], outcomes[1]),
-        unit(3, 2, 102, 0, &[101], outcomes[2]),
-    ];
-    settles(rt, PLAIN, &rows, &runs, wanted)
+/// What befalls a queue or is asked of it, and what is answered.
+fn answer(rt: &(impl Abort + AllocGlobal), board: &mut Board, line: &str, told: &mut String) {
+    let mut words = line.split_whitespace();
+    match word(rt, &mut words) {
+        "settle" => tell_edits(rt, told, &board.settle(rt)),
+        "choose" => choose(rt, board, size(rt, &mut words), told),
+        "grow" => {
+            let window = grow(size(rt, &mut words));
+            write!(told, "{window}\n").expect(rt, "memory");
+        }
+        "shrink" => {
+            let window = shrink(size(rt, &mut words), size(rt, &mut words));
+            write!(told, "{window}\n").expect(rt, "memory");
+        }
+        _ => deliver(rt, board, line, told),
+    }
+}
+
+/// A line of a scene. One that isn't behind `> ` is told by the answer to another.
+fn tell_line(rt: &(impl Abort + AllocGlobal), board: &mut Board, line: &str, told: &mut String) {
+    if let Some(asked) = line.strip_prefix("> ") {
+        write!(told, "{line}\n").expect(rt, "memory");
+        answer(rt, board, asked, told);
+    }
+}
+
+/// A scene is told as it stands: the lines behind `> `, with the answers to them.
+fn scene_holds(rt: &(impl Abort + AllocGlobal), scene: &str) {
+    let (title, lines) = scene.split_once('\n').expect(rt, "a title");
+    let scene = written(rt, lines);
+    let mut board = Board::new(rt);
+    let mut told = String::new(rt.alloc());
+    for line in scene.as_str().lines() {
+        tell_line(rt, &mut board, line, &mut told);
+    }
+    assert_eq!(rt; told.as_str(), scene.as_str(), "{title}");
+}
+
+/// Each scene of a text is told as it stands.
+pub fn scenes_hold(rt: &(impl Abort + AllocGlobal), scenes: &str) {
+    let scenes = scenes.strip_prefix("# ").expect(rt, "a scene");
+    for scene in scenes.split("\n# ") {
+        scene_holds(rt, scene);
+    }
 }
