@@ -1,82 +1,67 @@
-//! Bytes that are no JSON, or no delivery.
-use crate::said::{bytes_say, members_say, say, says};
-use gate_wire::Door;
+//! Texts that are no JSON, or no delivery.
+use crate::answers::answer;
+use crate::rows::rows_hold;
 use std::process::Abort;
 
-#[test]
-fn four_hundred_digits_are_no_json(rt: HostRuntime) {
-    let digits = "9".repeat(rt.alloc(), 400).expect(&rt, "memory");
-    says(&rt, Door::Any, digits.as_str(), "E1");
-    has_no_number(&rt, "order", digits.as_str());
-    has_no_number(&rt, "x", digits.as_str());
-}
-
-/// A member with these digits makes a landing's text no JSON.
-fn has_no_number(rt: &(impl Abort + AllocGlobal), name: &str, digits: &str) {
-    let parts = [r#""kind":"landed",""#, name, "\":", digits];
-    let members = parts.concat(rt.alloc()).expect(rt, "memory");
-    members_say(rt, Door::Any, members.as_str(), "E1");
-}
-
-// Each line has a text, and what it says.
-const NO_OBJECTS: &str = r#"null -> E2
-true -> E2
-1 -> E2
-[] -> E2
-"id" -> E2
-{"kind":"landed","order":1} -> E2
-[{"id":"6ba7b810-9dad-11d1-80b4-00c04fd430c8","kind":"landed","order":1}] -> E2"#;
-
-#[test]
-fn what_is_no_object_is_no_delivery(rt: HostRuntime) {
-    say(&rt, Door::Any, NO_OBJECTS);
-    says(&rt, Door::Any, " {} \r\n", "E2");
-}
-
-const NO_JSON: &str = r#" -> E1
-  -> E1
-{ -> E1
-{}x -> E1
-{} {} -> E1
-nul -> E1
-'a' -> E1
-{"id":} -> E1
-{"id"} -> E1
-[1,] -> E1
-1. -> E1
-"\u12" -> E1
-NaN -> E1"#;
+const ROWS: &str = r#"# four hundred digits are no JSON
+any <1-400 9> -> E1
+any {<id>,"kind":"landed","order":<1-400 9>} -> E1
+any {<id>,"kind":"landed","x":<1-400 9>} -> E1
+# what is no object is no delivery
+any null -> E2
+any true -> E2
+any 1 -> E2
+any [] -> E2
+any "id" -> E2
+any {"kind":"landed","order":1} -> E2
+any [{"id":"6ba7b810-9dad-11d1-80b4-00c04fd430c8","kind":"landed","order":1}] -> E2
+any  {} <cr>¶ -> E2
+# what is no JSON is refused
+any  -> E1
+any   -> E1
+any { -> E1
+any {}x -> E1
+any {} {} -> E1
+any nul -> E1
+any 'a' -> E1
+any {"id":} -> E1
+any {"id"} -> E1
+any [1,] -> E1
+any 1. -> E1
+any "\u12" -> E1
+any NaN -> E1
+any <cr> -> E1
+any <bom>{} -> E1
+any "<tab>" -> E1
+any // a¶{} -> E1
+# brackets nest to 127
+any <1-126 [><1-126 ]> -> E2
+any <1-127 [><1-127 ]> -> E2
+any <1-128 [><1-128 ]> -> E1"#;
 
 #[test]
-fn what_is_no_json_is_refused(rt: HostRuntime) {
-    say(&rt, Door::Any, NO_JSON);
-    says(&rt, Door::Any, "\r", "E1");
-    says(&rt, Door::Any, "\u{feff}{}", "E1");
-    says(&rt, Door::Any, "\"\t\"", "E1");
-    says(&rt, Door::Any, "// a\n{}", "E1");
+fn what_is_no_delivery_is_refused(rt: HostRuntime) {
+    rows_hold(&rt, ROWS);
 }
 
-#[test]
-fn bytes_that_are_no_text_are_no_json(rt: HostRuntime) {
-    bytes_say(&rt, Door::Any, b"\"\xff\"", "E1", "\"ff\"");
-    bytes_say(&rt, Door::Any, b"\"\x80\"", "E1", "\"80\"");
-    bytes_say(&rt, Door::Any, b"\xc3\"\"", "E1", "c3\"\"");
-    bytes_say(&rt, Door::Any, b"\"\xc3\"", "E1", "\"c3\"");
-    bytes_say(&rt, Door::Any, b"{}\xfe", "E1", "{}fe");
-}
+/// A way to ask, bytes, and the answer.
+const NO_TEXTS: &[(&str, &[u8], &str)] = &[
+    ("any", b"\"\xff\"", "E1"),
+    ("any", b"\"\x80\"", "E1"),
+    ("any", b"\xc3\"\"", "E1"),
+    ("any", b"\"\xc3\"", "E1"),
+    ("any", b"{}\xfe", "E1"),
+    ("fault", b"forge = {base = '\xff'}", "1 not-toml"),
+];
 
-/// So many brackets within one another say this.
-fn nested(rt: &(impl Abort + AllocGlobal), depth: usize, wanted: &str) {
-    let opening = "[".repeat(rt.alloc(), depth).expect(rt, "memory");
-    let closing = "]".repeat(rt.alloc(), depth).expect(rt, "memory");
-    let parts = [opening.as_str(), closing.as_str()];
-    let text = parts.concat(rt.alloc()).expect(rt, "memory");
-    says(rt, Door::Any, text.as_str(), wanted);
+fn is_refused(rt: &(impl Abort + AllocGlobal), way: &str, bytes: &[u8], wanted: &str) {
+    let found = answer(rt.alloc(), way, bytes).expect(rt, way);
+    assert_eq!(rt; found.as_str(), wanted, "{bytes:?}");
 }
 
 #[test]
-fn brackets_nest_to_127(rt: HostRuntime) {
-    nested(&rt, 126, "E2");
-    nested(&rt, 127, "E2");
-    nested(&rt, 128, "E1");
+fn bytes_that_are_no_text_are_refused(rt: HostRuntime) {
+    for (way, bytes, wanted) in NO_TEXTS {
+        is_refused(&rt, way, bytes, wanted);
+    }
 }

@@ -2,9 +2,9 @@
 #![tactic(auto)]
 
 #[cfg(test)]
-mod broken;
+mod answers;
 #[cfg(test)]
-mod canonical;
+mod broken;
 #[cfg(test)]
 mod faults;
 #[cfg(test)]
@@ -16,17 +16,13 @@ mod ids;
 #[cfg(test)]
 mod members;
 #[cfg(test)]
-mod names;
-#[cfg(test)]
 mod refusals;
+#[cfg(test)]
+mod replied;
 #[cfg(test)]
 mod replies;
 #[cfg(test)]
-mod said;
-#[cfg(test)]
-mod same;
-#[cfg(test)]
-mod settings;
+mod rows;
 #[cfg(test)]
 mod taps;
 #[cfg(test)]

@@ -2,7 +2,7 @@
 use gate_types::tap::Tap;
 use std::io;
 use std::io::{Read, Write};
-use std::test::Fail;
+use std::process::Abort;
 
 /// Gives or takes at most 3 bytes a call, and an error once `left` calls are done. A writer without
 /// an error takes 0 bytes then.
@@ -42,46 +42,59 @@ impl Write for Faulty {
     }
 }
 
-#[test]
-fn a_tap_passes_bytes(rt: HostRuntime) -> Result<(), Fail> {
-    let mut bytes = [0; 4];
-    let mut reader = Tap::new(b"abcdef".as_slice());
-    assert!(rt; matches!(reader.read(&mut bytes), Ok(4)));
-    assert_eq!(rt; bytes, *b"abcd");
-    assert!(rt; !reader.failed());
-    assert_eq!(rt; reader.into_inner(), b"ef".as_slice());
-    let mut writer = Tap::new(Vec::new(rt.alloc()));
-    assert!(rt; writer.write_all(b"abcd").is_ok());
-    assert!(rt; writer.write_line("ef").is_ok());
-    assert!(rt; !writer.failed());
-    assert_eq!(rt; writer.into_inner().as_slice(), b"abcdef\n".as_slice());
-    Ok(())
+/// How many bytes one read gives, unless it fails. The tap knows which.
+fn read_by<R: Read>(rt: &impl Abort, tap: &mut Tap<R>, bytes: &mut [u8]) -> Option<usize> {
+    assert!(rt; !tap.failed());
+    let read = tap.read(bytes).ok();
+    assert_eq!(rt; tap.failed(), read.is_none());
+    read
+}
+
+/// Whether a line is written. The tap knows it.
+fn is_written<W: Write>(rt: &impl Abort, tap: &mut Tap<W>, line: &str) -> bool {
+    assert!(rt; !tap.failed());
+    let is_written = tap.write_line(line).is_ok();
+    assert_eq!(rt; tap.failed(), !is_written);
+    is_written
 }
 
 #[test]
-fn a_tap_keeps_a_failure(rt: HostRuntime) -> Result<(), Fail> {
+fn a_tap_passes_bytes(rt: HostRuntime) {
     let mut bytes = [0; 4];
-    let mut reader = Tap::new(Faulty {
+    let mut reader = Tap::new(b"abcdef".as_slice());
+    assert_eq!(rt; read_by(&rt, &mut reader, &mut bytes), Some(4));
+    assert_eq!(rt; bytes, *b"abcd");
+    assert_eq!(rt; reader.into_inner(), b"ef".as_slice());
+    let mut writer = Tap::new(Vec::new(rt.alloc()));
+    assert!(rt; writer.write_all(b"abcd").is_ok());
+    assert!(rt; is_written(&rt, &mut writer, "ef"));
+    assert_eq!(rt; writer.into_inner().as_slice(), b"abcdef\n".as_slice());
+}
+
+/// A reader or writer that fails once its calls are done.
+fn faulty_tap(rt: &impl AllocGlobal, left: usize, is_silent: bool) -> Tap<Faulty> {
+    Tap::new(Faulty {
         written: Vec::new(rt.alloc()),
-        left: 1,
-        is_silent: false,
-    });
-    assert!(rt; matches!(reader.read(&mut bytes), Ok(3)));
-    assert!(rt; !reader.failed());
-    assert!(rt; reader.read(&mut bytes).is_err());
-    assert!(rt; reader.failed());
-    for is_silent in [false, true] {
-        let mut writer = Tap::new(Faulty {
-            written: Vec::new(rt.alloc()),
-            left: 2,
-            is_silent,
-        });
-        assert!(rt; writer.write_line("abcdefgh").is_err());
-        assert!(rt; writer.failed());
-        assert_eq!(rt;
-            writer.into_inner().written.as_slice(),
-            b"abcdef".as_slice()
-        );
-    }
-    Ok(())
+        left,
+        is_silent,
+    })
+}
+
+fn cuts_a_line(rt: &(impl Abort + AllocGlobal), is_silent: bool) {
+    let mut writer = faulty_tap(rt, 2, is_silent);
+    assert!(rt; !is_written(rt, &mut writer, "abcdefgh"));
+    assert_eq!(rt;
+        writer.into_inner().written.as_slice(),
+        b"abcdef".as_slice()
+    );
+}
+
+#[test]
+fn a_tap_keeps_a_failure(rt: HostRuntime) {
+    let mut bytes = [0; 4];
+    let mut reader = faulty_tap(&rt, 1, false);
+    assert_eq!(rt; read_by(&rt, &mut reader, &mut bytes), Some(3));
+    assert_eq!(rt; read_by(&rt, &mut reader, &mut bytes), None);
+    cuts_a_line(&rt, false);
+    cuts_a_line(&rt, true);
 }

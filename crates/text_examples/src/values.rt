@@ -1,70 +1,100 @@
 //! Numbers, names and sequences, as they are made and given back.
-use crate::names::{message, owned, path};
-use crate::same::same;
 use gate_types::deliveries::Ending;
-use gate_types::names::{Base, Name, PathName, Text};
+use gate_types::names::{Base, Message, Name, PathName, Text};
 use gate_types::numbers::{BuildNo, ChangeNo, Revision, Serial};
 use gate_types::records::Outcome;
 use gate_types::sequence::Sequence;
 use std::process::Abort;
 
+/// A number that is given back, if it is in its range.
+fn ranged(kind: &str, number: u64) -> Option<u64> {
+    match kind {
+        "change" => Some(ChangeNo::new(number)?.get()),
+        "revision" => Some(Revision::new(number)?.get()),
+        "serial" => Some(Serial::new(number)?.get()),
+        "build" => Some(BuildNo::new(number)?.get()),
+        _ => None,
+    }
+}
+
+/// Kinds, each with a number in its range and one outside.
+const RANGES: &[(&str, u64, u64)] = &[
+    ("change", 999_999_999, 1_000_000_000),
+    ("revision", 9_999, 10_000),
+    ("serial", 1_000_000_000_000_000, 0),
+    ("build", 1, 1_000_000_000_000_001),
+];
+
 #[test]
 fn numbers_have_ranges(rt: HostRuntime) {
-    let change = ChangeNo::new(999_999_999).expect(&rt, "a change");
-    assert!(rt; change.get() == 999_999_999);
-    assert!(rt; ChangeNo::new(1_000_000_000).is_none());
-    let revision = Revision::new(9_999).expect(&rt, "a revision");
-    assert!(rt; revision.get() == 9_999);
-    assert!(rt; Revision::new(10_000).is_none());
-    let serial = Serial::new(1_000_000_000_000_000).expect(&rt, "a serial");
-    assert!(rt; serial.get() == 1_000_000_000_000_000);
-    assert!(rt; Serial::new(0).is_none());
-    let build = BuildNo::new(1).expect(&rt, "a build");
-    assert!(rt; build.get() == 1);
-    assert!(rt; BuildNo::new(1_000_000_000_000_001).is_none());
+    for (kind, inside, outside) in RANGES {
+        assert_eq!(rt; ranged(kind, *inside), Some(*inside), "{kind}");
+        assert_eq!(rt; ranged(kind, *outside), None, "{kind}");
+    }
 }
 
-fn the_name_of_a_queue(rt: &(impl Abort + AllocGlobal)) {
-    let name = Name::new(owned(rt, "core-1.x_y")).expect(rt, "a name");
-    let copy = name.copy().expect(rt, "memory");
-    same(rt, copy.as_str(), "core-1.x_y", "a copy");
-    same(rt, name.as_str(), "core-1.x_y", "a name");
-    assert!(rt; Name::new(owned(rt, "team/core")).is_none());
+fn owned(rt: &(impl Abort + AllocGlobal), text: &str) -> String {
+    String::from_str(rt.alloc(), text).expect(rt, "memory")
 }
 
-fn the_name_of_a_project(rt: &(impl Abort + AllocGlobal)) {
-    let project = path(rt, "team/lib");
-    let copy = project.copy().expect(rt, "memory");
-    same(rt, copy.as_str(), "team/lib", "a copy");
-    same(rt, project.as_str(), "team/lib", "a project");
-    assert!(rt; PathName::new(owned(rt, "/lib")).is_none());
+/// A text and its copy, as they are given back, if the text is of its kind.
+fn named(rt: &(impl Abort + AllocGlobal), kind: &str, text: &str) -> Option<String> {
+    let text = owned(rt, text);
+    match kind {
+        "name" => {
+            let name = Name::new(text)?;
+            let copy = name.copy().expect(rt, "memory");
+            Some(both(rt, name.as_str(), copy.as_str()))
+        }
+        "path" => {
+            let path = PathName::new(text)?;
+            let copy = path.copy().expect(rt, "memory");
+            Some(both(rt, path.as_str(), copy.as_str()))
+        }
+        "base" => {
+            let base = Base::new(text)?;
+            let copy = base.copy().expect(rt, "memory");
+            Some(both(rt, base.as_str(), copy.as_str()))
+        }
+        "message" => {
+            let message = Message::new(text)?;
+            let copy = message.copy().expect(rt, "memory");
+            Some(both(rt, message.as_str(), copy.as_str()))
+        }
+        _ => {
+            let text = Text::new(text);
+            let copy = text.copy().expect(rt, "memory").into_string();
+            Some(both(rt, text.as_str(), copy.as_str()))
+        }
+    }
 }
 
-fn a_base(rt: &(impl Abort + AllocGlobal)) {
-    let base = Base::new(owned(rt, "https://forge/c/")).expect(rt, "a base");
-    let copy = base.copy().expect(rt, "memory");
-    same(rt, copy.as_str(), "https://forge/c/", "a copy");
-    same(rt, base.as_str(), "https://forge/c/", "a base");
-    assert!(rt; Base::new(owned(rt, "a b")).is_none());
+fn both(rt: &(impl Abort + AllocGlobal), text: &str, copy: &str) -> String {
+    format!(in rt.alloc(); "{text}, {copy}").expect(rt, "memory")
 }
 
-fn texts(rt: &(impl Abort + AllocGlobal)) {
-    let said = message(rt, "Mend\nit");
-    let copy = said.copy().expect(rt, "memory");
-    same(rt, copy.as_str(), "Mend\nit", "a copy");
-    same(rt, said.as_str(), "Mend\nit", "a message");
-    let text = Text::new(owned(rt, "any"));
-    let copy = text.copy().expect(rt, "memory");
-    same(rt, copy.as_str(), "any", "a copy");
-    same(rt, text.into_string().as_str(), "any", "a text");
-}
+/// Kinds, each with a text and what is given back of it.
+const NAMES: &[(&str, &str, &str)] = &[
+    ("name", "core-1.x_y", "core-1.x_y, core-1.x_y"),
+    ("name", "team/core", "none"),
+    ("path", "team/lib", "team/lib, team/lib"),
+    ("path", "/lib", "none"),
+    (
+        "base",
+        "https://forge/c/",
+        "https://forge/c/, https://forge/c/",
+    ),
+    ("base", "a b", "none"),
+    ("message", "Mend\nit", "Mend\nit, Mend\nit"),
+    ("text", "any", "any, any"),
+];
 
 #[test]
 fn names_are_given_back(rt: HostRuntime) {
-    the_name_of_a_queue(&rt);
-    the_name_of_a_project(&rt);
-    a_base(&rt);
-    texts(&rt);
+    for (kind, text, wanted) in NAMES {
+        let found = named(&rt, kind, text).unwrap_or(owned(&rt, "none"));
+        assert_eq!(rt; found.as_str(), *wanted, "{kind} {text}");
+    }
 }
 
 #[test]
