@@ -6,7 +6,7 @@ use gate_queue::facts::{Facts, ItemFacts, ItemJobs, Jobs};
 use gate_queue::settle::settle;
 use gate_types::edits::Edit;
 use gate_types::numbers::Serial;
-use gate_types::records::{Build, Item};
+use gate_types::records::Item;
 use std::process::Abort;
 
 impl Board {
@@ -40,6 +40,9 @@ impl Board {
     pub fn settle(&self, rt: &(impl Abort + AllocGlobal)) -> Vec<Edit> {
         let items = self.items(rt);
         let about = self.facts(rt);
+        assert!(rt; items_rise(&items));
+        assert!(rt; builds_rise(&self.builds));
+        assert_eq!(rt; about.len(), items.len());
         assert!(rt; self.reports <= 1_000_000_000_000_000);
         let facts = Facts {
             settings: &self.settings,
@@ -48,7 +51,7 @@ impl Board {
             items: &about,
             reports: self.reports,
         };
-        settled(rt, &items, &self.builds, &facts)
+        settle(rt.alloc(), &items, &self.builds, &facts).expect(rt, "memory")
     }
 
     fn item_jobs(&self, rt: &(impl Abort + AllocGlobal)) -> Vec<ItemJobs<'_>> {
@@ -70,16 +73,4 @@ impl Board {
         assert_eq!(rt; jobs.len(), items.len());
         choose(&items, &self.builds, window, &Jobs { items: &jobs })
     }
-}
-
-fn settled(
-    rt: &(impl Abort + AllocGlobal),
-    items: &[Item],
-    builds: &[Build],
-    facts: &Facts,
-) -> Vec<Edit> {
-    assert!(rt; items_rise(items));
-    assert!(rt; builds_rise(builds));
-    assert_eq!(rt; facts.items.len(), items.len());
-    settle(rt.alloc(), items, builds, facts).expect(rt, "memory")
 }
