@@ -2,6 +2,7 @@
 use crate::replied::replied;
 use gate_config::{ConfigFault, read};
 use gate_types::canonical::canonical;
+use gate_types::config::Config;
 use gate_types::deliveries::Refusal;
 use gate_types::numbers::ChangeNo;
 use gate_wire::{Door, needs, read_delivery};
@@ -39,21 +40,28 @@ fn identified(alloc: Global, bytes: &[u8]) -> Option<String> {
     }
 }
 
-/// The settings that a file says, by their text or just that they are `sound`; or the number and the word of its fault.
-fn read_settings(alloc: Global, file: &[u8], with_text: bool) -> Option<String> {
+fn settings_text(alloc: Global, config: &Config, is_whole: bool) -> Option<String> {
+    if is_whole {
+        config.text(alloc).ok()
+    } else {
+        "sound".to_string(alloc).ok()
+    }
+}
+
+/// The number and the word of a fault.
+fn fault_text(alloc: Global, fault: ConfigFault) -> Option<String> {
+    if fault == ConfigFault::NoMemory {
+        return None;
+    }
+    let (number, word) = (fault.number(), fault.word());
+    format!(in alloc; "{number} {word}").ok()
+}
+
+/// The settings that a file says, by their whole text or just that they are `sound`; or its fault.
+fn read_settings(alloc: Global, file: &[u8], is_whole: bool) -> Option<String> {
     match read(alloc, file) {
-        Ok(config) => {
-            if with_text {
-                config.text(alloc).ok()
-            } else {
-                "sound".to_string(alloc).ok()
-            }
-        }
-        Err(ConfigFault::NoMemory) => None,
-        Err(fault) => {
-            let (number, word) = (fault.number(), fault.word());
-            format!(in alloc; "{number} {word}").ok()
-        }
+        Ok(config) => settings_text(alloc, &config, is_whole),
+        Err(fault) => fault_text(alloc, fault),
     }
 }
 
