@@ -4,33 +4,58 @@ use sqlite_disk::{Disk, Fuse, Memory};
 use std::alloc::Global;
 use std::process::Abort;
 
+/// Which file's disk fails, and after how many calls.
+#[derive(Clone, Copy)]
+pub enum Stop {
+    Never,
+    Log(u64),
+    Database(u64),
+}
+
+impl Stop {
+    /// One of the files after so many calls.
+    pub fn after(is_log: bool, calls: u64) -> Stop {
+        if is_log {
+            Stop::Log(calls)
+        } else {
+            Stop::Database(calls)
+        }
+    }
+
+    /// The calls of the log that don't fail, and those of the database file.
+    fn calls(self) -> (u64, u64) {
+        match self {
+            Stop::Never => (u64::MAX, u64::MAX),
+            Stop::Log(calls) => (calls, u64::MAX),
+            Stop::Database(calls) => (u64::MAX, calls),
+        }
+    }
+}
+
 /// A file of these bytes, on a disk that fails after so many calls.
-pub fn fused(rt: &(impl Abort + AllocGlobal), bytes: &[u8], calls: u64) -> Fuse<Memory> {
+fn fused(rt: &(impl Abort + AllocGlobal), bytes: &[u8], calls: u64) -> Fuse<Memory> {
     let mut memory = Memory::new(rt.alloc());
     memory.write_at(0, bytes).expect(rt, "a write");
     memory.sync().expect(rt, "a sync");
     Fuse::new(memory, calls)
 }
 
-/// An empty file and an empty log, on disks that fail after so many calls.
-pub fn empty(
-    rt: &(impl Abort + AllocGlobal),
-    log_calls: u64,
-    db_calls: u64,
-) -> Files<Fuse<Memory>> {
+/// An empty file and an empty log, on disks with this stop.
+pub fn empty_files(rt: &(impl Abort + AllocGlobal), stop: Stop) -> Files<Fuse<Memory>> {
+    let (log_calls, db_calls) = stop.calls();
     Files {
         log: fused(rt, &[], log_calls),
         db: fused(rt, &[], db_calls),
     }
 }
 
-/// Copies of a file and its log, on disks that fail after so many calls.
+/// Copies of a file and its log, on disks with this stop.
 pub fn copied(
     rt: &(impl Abort + AllocGlobal),
     files: &Files<Fuse<Memory>>,
-    log_calls: u64,
-    db_calls: u64,
+    stop: Stop,
 ) -> Files<Fuse<Memory>> {
+    let (log_calls, db_calls) = stop.calls();
     Files {
         log: fused(rt, files.log.inner().bytes(), log_calls),
         db: fused(rt, files.db.inner().bytes(), db_calls),

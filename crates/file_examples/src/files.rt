@@ -52,16 +52,23 @@ name = "unit"
 /// A gate over a file, as the program makes it.
 pub type FileGate<S> = Gate<CachedBook<SqlBook<S>>>;
 
-/// Makes the tables of a new gate in a file: its connection, or why they aren't made.
+/// Why there is no book over a file's tables, if there is none, and the file's connection.
+pub fn parts<S: Alter + Drop>(
+    made: Result<SqlBook<S>, (OpenFault, Connection<S>)>,
+) -> (Option<OpenFault>, Connection<S>) {
+    match made {
+        Ok(book) => (None, book.into_conn()),
+        Err((fault, conn)) => (Some(fault), conn),
+    }
+}
+
+/// Makes the tables of a new gate in a file: why they aren't made, if they aren't, and the connection.
 pub fn created<S: Alter + Drop>(
     rt: &(impl Abort + AllocGlobal),
     conn: Connection<S>,
 ) -> (Option<OpenFault>, Connection<S>) {
     let config = read(rt.alloc(), SETTINGS.as_bytes()).expect(rt, "settings");
-    match SqlBook::create(rt.alloc(), conn, &config) {
-        Ok(book) => (None, book.into_conn()),
-        Err((fault, conn)) => (Some(fault), conn),
-    }
+    parts(SqlBook::create(rt.alloc(), conn, &config))
 }
 
 /// A file with the tables of a new gate.
@@ -75,7 +82,7 @@ pub fn new_file<S: Alter + Drop>(
 }
 
 /// The gate in a file under these settings, or why there is none, with the connection.
-pub fn gate_in<S: Alter + Drop>(
+pub fn gate_under<S: Alter + Drop>(
     rt: &(impl Abort + AllocGlobal),
     conn: Connection<S>,
     settings: &str,
@@ -86,16 +93,16 @@ pub fn gate_in<S: Alter + Drop>(
 }
 
 /// The gate in a file.
-pub fn gate_of<S: Alter + Drop>(
+pub fn gate_in<S: Alter + Drop>(
     rt: &(impl Abort + AllocGlobal),
     conn: Connection<S>,
 ) -> FileGate<S> {
-    gate_in(rt, conn, SETTINGS)
+    gate_under(rt, conn, SETTINGS)
         .ok()
         .expect(rt, "a gate in the file")
 }
 
-/// The connection that a gate was made over. A test ends a gate so, since the end of the tower takes the prover longer.
+/// The connection that a gate was made over. A test ends a gate so: the end of a connection takes the prover less.
 pub fn conn_of<S: Alter + Drop>(gate: FileGate<S>) -> Connection<S> {
     gate.into_book().into_book().into_conn()
 }

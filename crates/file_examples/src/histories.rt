@@ -1,6 +1,6 @@
 //! A history of 300 reports, from a file whose disk fails at each call that the history makes.
-use crate::disks::{Disks, InMemory, copied, empty};
-use crate::files::{SETTINGS, conn_of, gate_in, gate_of, new_file, said_over};
+use crate::disks::{Disks, InMemory, Stop, copied, empty_files};
+use crate::files::{SETTINGS, conn_of, gate_in, gate_under, new_file, said_over};
 use gate_book::book::Book;
 use gate_book::fault::HistoryFault;
 use gate_core::gate::Gate;
@@ -53,7 +53,7 @@ fn history(alloc: Global) -> Result<String, AllocError> {
 /// Makes a gate with these reports over the tables of a new file.
 fn filled<S: Alter + Drop>(rt: &(impl Abort + AllocGlobal), conn: Connection<S>) -> Connection<S> {
     let lines = deliveries(rt.alloc()).expect(rt, "memory");
-    let gate = gate_of(rt, new_file(rt, conn));
+    let gate = gate_in(rt, new_file(rt, conn));
     let (answers, conn) = said_over(rt.alloc(), gate, lines.as_str());
     let _ = answers.expect(rt, "answers");
     conn
@@ -65,32 +65,25 @@ fn reported<S: Alter + Drop, D: Disks<Database = Connection<S>>>(
     disks: &D,
 ) -> Files<Fuse<Memory>> {
     let conn = disks
-        .connected(empty(rt, u64::MAX, u64::MAX), options())
+        .connected(empty_files(rt, Stop::Never), options())
         .ok()
         .expect(rt, "an empty file");
     disks.left(filled(rt, conn))
 }
 
-/// The connection to copies of the files, if they are opened with so many calls of the log, or of the database file.
+/// The connection to copies of the files with this stop, if they are opened.
 fn limited<S: Alter + Drop, D: Disks<Database = Connection<S>>>(
     rt: &(impl Abort + AllocGlobal),
     disks: &D,
     files: &Files<Fuse<Memory>>,
-    is_log: bool,
-    calls: u64,
+    stop: Stop,
 ) -> Option<Connection<S>> {
-    let (log_calls, db_calls) = if is_log {
-        (calls, u64::MAX)
-    } else {
-        (u64::MAX, calls)
-    };
-    let copies = copied(rt, files, log_calls, db_calls);
-    disks.connected(copies, options()).ok()
+    disks.connected(copied(rt, files, stop), options()).ok()
 }
 
 /// Whether the gate in a file is opened.
 fn is_opened<S: Alter + Drop>(rt: &(impl Abort + AllocGlobal), conn: Connection<S>) -> bool {
-    match gate_in(rt, conn, SETTINGS) {
+    match gate_under(rt, conn, SETTINGS) {
         Ok(gate) => {
             let _ = conn_of(gate);
             true
@@ -110,7 +103,7 @@ fn calls_of_opening<S: Alter + Drop, D: Disks<Database = Connection<S>>>(
     let mut step = 32_768u64;
     for _ in 0..16 {
         let tried = fewest.saturating_add(step).saturating_sub(1);
-        let is_enough = match limited(rt, disks, files, is_log, tried) {
+        let is_enough = match limited(rt, disks, files, Stop::after(is_log, tried)) {
             Some(conn) => is_opened(rt, conn),
             None => false,
         };
@@ -162,7 +155,7 @@ fn asked_in<S: Alter + Drop>(
     conn: Connection<S>,
     text: &[u8],
 ) -> End {
-    let mut gate = gate_of(rt, conn);
+    let mut gate = gate_in(rt, conn);
     let end = asked(rt, &mut gate, text);
     let _ = conn_of(gate);
     end
@@ -189,7 +182,8 @@ fn each_stop<S: Alter + Drop, D: Disks<Database = Connection<S>>>(
     };
     let mut calls = calls_of_opening(rt, disks, files, is_log);
     for _ in 0..10_000 {
-        let conn = limited(rt, disks, files, is_log, calls).expect(rt, "open files");
+        let stop = Stop::after(is_log, calls);
+        let conn = limited(rt, disks, files, stop).expect(rt, "open files");
         match asked_in(rt, conn, text) {
             End::Unavailable => ends.unavailable = ends.unavailable.saturating_add(1),
             End::Broken => ends.broken = ends.broken.saturating_add(1),

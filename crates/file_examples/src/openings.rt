@@ -1,5 +1,5 @@
 //! A file that is opened again, and what isn't opened.
-use crate::files::{SETTINGS, created, gate_in, gate_of, new_file, tells_over};
+use crate::files::{SETTINGS, created, gate_in, gate_under, new_file, tells_over};
 use crate::tables::empty;
 use gate_sql::open_fault::OpenFault;
 use sqlite::{Alter, Connection, params};
@@ -45,23 +45,23 @@ fn one_waits<S: Alter + Drop>(
     rt: &(impl Abort + AllocGlobal),
     conn: Connection<S>,
 ) -> Connection<S> {
-    let gate = gate_of(rt, new_file(rt, conn));
+    let gate = gate_in(rt, new_file(rt, conn));
     tells_over(rt, gate, NEED_IS_MISSING, MISSING, ONE_WAITS)
 }
 
 /// The gate in the file has a waiting change.
 fn still_waits<S: Alter + Drop>(rt: &(impl Abort + AllocGlobal), conn: Connection<S>) {
-    let _ = tells_over(rt, gate_of(rt, conn), "", "", ONE_WAITS);
+    let _ = tells_over(rt, gate_in(rt, conn), "", "", ONE_WAITS);
 }
 
 /// A gate whose file is opened again knows what it was told, and goes on.
 fn goes_on<S: Alter + Drop>(rt: &(impl Abort + AllocGlobal), conn: Connection<S>) {
     let conn = one_waits(rt, conn);
-    let conn = tells_over(rt, gate_of(rt, conn), NEED_IS_MISSING, MISSING, ONE_WAITS);
-    let _ = tells_over(rt, gate_of(rt, conn), NEED_COMES, CAME, BOTH_QUEUED);
+    let conn = tells_over(rt, gate_in(rt, conn), NEED_IS_MISSING, MISSING, ONE_WAITS);
+    let _ = tells_over(rt, gate_in(rt, conn), NEED_COMES, CAME, BOTH_QUEUED);
 }
 
-/// The answers of both gates together are those of one, and what was answered is answered so again.
+/// The answers of the three gates together are those of one, and what was answered is answered so again.
 #[test]
 fn a_gate_goes_on_in_a_file_that_is_opened_again(rt: HostRuntime) {
     goes_on(&rt, empty(&rt));
@@ -74,7 +74,7 @@ fn is_refused<S: Alter + Drop>(
     settings: &str,
     wanted: OpenFault,
 ) -> Connection<S> {
-    match gate_in(rt, conn, settings) {
+    match gate_under(rt, conn, settings) {
         Ok(_) => panic!(rt; "the file is opened"),
         Err((fault, conn)) => {
             assert_eq!(rt; fault, wanted);

@@ -1,8 +1,6 @@
 //! A gate's file that is stopped at each call of the disk: in a delivery of each kind, and while it is made.
-use crate::disks::{Disks, InMemory, copied, empty};
-use crate::files::{SETTINGS, created, gate_in, gate_of, new_file, said_over, tells_over};
-use gate_config::read;
-use gate_sql::book::SqlBook;
+use crate::disks::{Disks, InMemory, Stop, copied, empty_files};
+use crate::files::{SETTINGS, created, gate_in, gate_under, new_file, said_over, tells_over};
 use gate_sql::open_fault::OpenFault;
 use sqlite::{Alter, Connection, Files, Options};
 use sqlite_disk::{Crash, Fuse, Memory};
@@ -96,7 +94,7 @@ fn answered<S: Alter + Drop>(
     conn: Connection<S>,
     delivery: &str,
 ) -> (Option<Vec<u8>>, Connection<S>) {
-    match gate_in(rt, conn, SETTINGS) {
+    match gate_under(rt, conn, SETTINGS) {
         Ok(gate) => {
             let (answer, conn) = said_over(rt.alloc(), gate, delivery);
             (answer.ok(), conn)
@@ -139,7 +137,7 @@ fn new_files<S: Alter + Drop, D: Disks<Database = Connection<S>>>(
     rt: &(impl Abort + AllocGlobal),
     disks: &D,
 ) -> (Files<Fuse<Memory>>, String) {
-    let conn = opened(rt, disks, empty(rt, u64::MAX, u64::MAX));
+    let conn = opened(rt, disks, empty_files(rt, Stop::Never));
     let (conn, rows) = begun(rt, conn);
     (closed(rt, disks, conn), rows)
 }
@@ -193,7 +191,7 @@ fn found_in<S: Alter + Drop>(
     delivery: &str,
 ) -> Found {
     let rows = rows_in(rt, &mut conn);
-    let (answer, mut conn) = said_over(rt.alloc(), gate_of(rt, conn), delivery);
+    let (answer, mut conn) = said_over(rt.alloc(), gate_in(rt, conn), delivery);
     let answer = answer.expect(rt, "an answer");
     let rows_then = rows_in(rt, &mut conn);
     Found {
@@ -213,32 +211,6 @@ fn found_after_a_crash<S: Alter + Drop, D: Disks<Database = Connection<S>>>(
     files.log.crash();
     files.db.crash();
     found_in(rt, opened(rt, disks, files), delivery)
-}
-
-/// Which file's disk fails, and after how many calls.
-#[derive(Clone, Copy)]
-enum Stop {
-    Log(u64),
-    Database(u64),
-}
-
-impl Stop {
-    /// One of the files after so many calls.
-    fn after(is_log: bool, calls: u64) -> Stop {
-        if is_log {
-            Stop::Log(calls)
-        } else {
-            Stop::Database(calls)
-        }
-    }
-
-    /// The calls of the log that don't fail, and those of the database file.
-    fn calls(self) -> (u64, u64) {
-        match self {
-            Stop::Log(calls) => (calls, u64::MAX),
-            Stop::Database(calls) => (u64::MAX, calls),
-        }
-    }
 }
 
 /// The files before a delivery, and all rows before it and after it.
@@ -265,9 +237,7 @@ fn stopped<S: Alter + Drop, D: Disks<Database = Connection<S>>>(
     line: &Line<'_>,
     stop: Stop,
 ) -> End {
-    let (log_calls, db_calls) = stop.calls();
-    let files = copied(rt, &step.files, log_calls, db_calls);
-    let run = tell(rt, disks, files, line.said);
+    let run = tell(rt, disks, copied(rt, &step.files, stop), line.said);
     let is_answered = run
         .answer
         .is_some_and(|answer| line.has_answer(answer.as_slice()));
@@ -340,7 +310,7 @@ fn each_stop_of<S: Alter + Drop, D: Disks<Database = Connection<S>>>(
     before: String,
     line: &Line<'_>,
 ) -> (Files<Fuse<Memory>>, String) {
-    let copies = copied(rt, &files, u64::MAX, u64::MAX);
+    let copies = copied(rt, &files, Stop::Never);
     let (next, after) = told(rt, disks, copies, line);
     let step = Step {
         files,
@@ -380,9 +350,7 @@ fn made<S: Alter + Drop, D: Disks<Database = Connection<S>>>(
     disks: &D,
     stop: Stop,
 ) -> (bool, Files<Fuse<Memory>>) {
-    let (log_calls, db_calls) = stop.calls();
-    let files = empty(rt, log_calls, db_calls);
-    let conn = match disks.connected(files, Options::new(SEED)) {
+    let conn = match disks.connected(empty_files(rt, stop), Options::new(SEED)) {
         Ok(conn) => conn,
         Err(left) => return (false, left),
     };
@@ -404,7 +372,7 @@ fn has_gate_or_nothing<S: Alter + Drop>(
     rt: &(impl Abort + AllocGlobal),
     conn: Connection<S>,
 ) -> bool {
-    match gate_in(rt, conn, SETTINGS) {
+    match gate_under(rt, conn, SETTINGS) {
         Ok(gate) => {
             let _ = tells_over(rt, gate, "", "", NO_DELIVERY);
             true

@@ -6,6 +6,7 @@
 mod histories;
 mod openings;
 
+use crate::files::parts;
 use gate_config::read;
 use gate_sql::book::SqlBook;
 use gate_sql::open_fault::OpenFault;
@@ -40,16 +41,6 @@ const OTHER: &str = "https://other/c/";
 pub fn settings(rt: &(impl Abort + AllocGlobal), base: &str) -> Config {
     let text = format!(in rt.alloc(); "[forge]\nbase = \"{base}\"\n{QUEUES}").expect(rt, "memory");
     read(rt.alloc(), text.as_bytes()).expect(rt, "settings")
-}
-
-/// The connection, and the fault that came with it.
-fn parts<S: Alter + Drop>(
-    opened: Result<SqlBook<S>, (OpenFault, Connection<S>)>,
-) -> (Option<OpenFault>, Connection<S>) {
-    match opened {
-        Ok(book) => (None, book.into_conn()),
-        Err((fault, conn)) => (Some(fault), conn),
-    }
 }
 
 fn create<S: Alter + Drop>(
