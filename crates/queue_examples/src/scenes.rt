@@ -105,6 +105,7 @@ fn tell_line(rt: &(impl Abort + AllocGlobal), board: &mut Board, line: &str, tol
 /// A scene is told as it stands: the lines behind `> `, with the answers to them.
 fn scene_holds(rt: &(impl Abort + AllocGlobal), scene: &str) {
     let (title, lines) = scene.split_once('\n').expect(rt, "a title");
+    assert!(rt; lines.contains("> "), "{title}: nothing is told");
     let scene = written(rt, lines);
     let mut board = Board::new(rt);
     let mut told = String::new(rt.alloc());

@@ -70,6 +70,7 @@ fn row_holds(rt: &(impl Abort + AllocGlobal), title: &str, row: &str) {
 
 fn scene_holds(rt: &(impl Abort + AllocGlobal), scene: &str) {
     let (title, rows) = scene.split_once('\n').expect(rt, "a title and its rows");
+    assert!(rt; rows.contains(" -> "), "{title}: nothing is asked");
     for row in rows.lines() {
         row_holds(rt, title, row);
     }
