@@ -62,8 +62,8 @@ pub fn copied(
     }
 }
 
-/// The databases of files on such disks. Functions take any `Disks`, since the proof of each call over the connections of
-/// `InMemory` takes long: a test makes one.
+/// The databases of files on such disks. Functions take any `Disks`, since the proof of each call over the connections
+/// of `InMemory` takes long: a test makes one.
 pub trait Disks {
     /// An open database.
     type Database;

@@ -77,8 +77,8 @@ fn expanded(rt: &(impl Abort + AllocGlobal), text: &str) -> String {
     whole
 }
 
-/// The bytes of a request. In its line `\r`, `\n` and `\t` stand for the bytes that they name, `<TEXT*TIMES>` stands for
-/// a text so many times, and each other character for the byte of its number.
+/// The bytes of a request. In its line `\r`, `\n` and `\t` stand for the bytes that they name, `<TEXT*TIMES>` for a text
+/// so many times, and each other character for the byte of its number.
 pub fn request(rt: &(impl Abort + AllocGlobal), line: &str) -> Vec<u8> {
     let text = expanded(rt, unescaped(rt, line).as_str());
     let mut bytes = Vec::new(rt.alloc());

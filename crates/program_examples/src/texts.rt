@@ -97,8 +97,8 @@ const REVISION: &str =
 const APPROVED: &str =
     "{\"id\":\"0a000000-0000-4000-8000-000000000002\",\"kind\":\"approved\",\"change\":101,\"revision\":1}\n";
 
-/// 101, 102 and 103 enter `core`, and 301 waits for 101. Then 101 fails, 102 is built again without it, and lands, while
-/// a job of 101 that doesn't vote still runs.
+/// 101, 102 and 103 enter `core`, and 301 waits for 101. Then 101 fails, 102 is built again without it, and lands,
+/// while a job of 101 that doesn't vote still runs.
 const DAY: &str =
     r#"{"id":"0a000000-0000-4000-8000-000000000001","kind":"revision","change":101,"project":"lib","revision":1,"message":""}
 {"id":"0a000000-0000-4000-8000-000000000002","kind":"revision","change":102,"project":"app","revision":1,"message":""}
