@@ -1,5 +1,5 @@
 //! The words of the tables, read.
-ghost use Rattle.std.specs.Prelude.{◌≡◌, ◌<◌, length, Some, IfOk, IfSome, OnErr};
+ghost use Rattle.std.specs.Prelude.{◌≡◌, ◌<◌, length, None, Some, IfOk, IfSome, OnErr};
 ghost use Rattle.sqlite_value.specs.Order.{column};
 ghost use Rattle.sqlite.specs.declared.types.Value.TheVariants.{Text};
 ghost use Rattle.gate_schema.specs.Rows.{number_or_null};
@@ -16,11 +16,14 @@ fn stage_of(word: &[u8]) -> Option<Stage>
     ensures told { (stage : _) → word.now ≡ stage_word stage → result ≡ Some stage }
     ensures form { IfSome result (λ stage. word.now ≡ stage_word stage) }
 {
-    match word {
-        b"open" => Some(Stage::Open),
-        b"landed" => Some(Stage::Landed),
-        b"closed" => Some(Stage::Closed),
-        _ => None,
+    if word == b"open".as_slice() {
+        Some(Stage::Open)
+    } else if word == b"landed".as_slice() {
+        Some(Stage::Landed)
+    } else if word == b"closed".as_slice() {
+        Some(Stage::Closed)
+    } else {
+        None
     }
 }
 
@@ -29,12 +32,16 @@ fn outcome_of(word: &[u8]) -> Option<Outcome>
     ensures told { (outcome : _) → word.now ≡ outcome_word outcome → result ≡ Some outcome }
     ensures form { IfSome result (λ outcome. word.now ≡ outcome_word outcome) }
 {
-    match word {
-        b"running" => Some(Outcome::Running),
-        b"success" => Some(Outcome::Success),
-        b"failure" => Some(Outcome::Failure),
-        b"lost" => Some(Outcome::Lost),
-        _ => None,
+    if word == b"running".as_slice() {
+        Some(Outcome::Running)
+    } else if word == b"success".as_slice() {
+        Some(Outcome::Success)
+    } else if word == b"failure".as_slice() {
+        Some(Outcome::Failure)
+    } else if word == b"lost".as_slice() {
+        Some(Outcome::Lost)
+    } else {
+        None
     }
 }
 
@@ -44,15 +51,32 @@ fn verdict_of(word: &[u8], place: Option<u64>) -> Option<Verdict>
         result ≡ Some verdict }
     ensures form { IfSome result (λ verdict. (word.now ≡ verdict_word verdict) × (place ≡ verdict_place verdict)) }
 {
-    match (word, place) {
-        (b"landed", Some(place)) => Some(Verdict::Landed(place)),
-        (b"failed", None) => Some(Verdict::Failed),
-        (b"refused", None) => Some(Verdict::Refused),
-        (b"needs", None) => Some(Verdict::Needs),
-        (b"superseded", None) => Some(Verdict::Superseded),
-        (b"withdrawn", None) => Some(Verdict::Withdrawn),
-        (b"closed", None) => Some(Verdict::Closed),
-        _ => None,
+    match place {
+        Some(place) => (word == b"landed".as_slice()).then_some(Verdict::Landed(place)),
+        None => verdict_without_place(word),
+    }
+}
+
+/// The verdict of a word, but for that of a landing.
+fn verdict_without_place(word: &[u8]) -> Option<Verdict>
+    ensures told { (verdict : _) → word.now ≡ verdict_word verdict → verdict_place verdict ≡ None →
+        result ≡ Some verdict }
+    ensures form { IfSome result (λ verdict. (word.now ≡ verdict_word verdict) × (verdict_place verdict ≡ None)) }
+{
+    if word == b"failed".as_slice() {
+        Some(Verdict::Failed)
+    } else if word == b"refused".as_slice() {
+        Some(Verdict::Refused)
+    } else if word == b"needs".as_slice() {
+        Some(Verdict::Needs)
+    } else if word == b"superseded".as_slice() {
+        Some(Verdict::Superseded)
+    } else if word == b"withdrawn".as_slice() {
+        Some(Verdict::Withdrawn)
+    } else if word == b"closed".as_slice() {
+        Some(Verdict::Closed)
+    } else {
+        None
     }
 }
 
