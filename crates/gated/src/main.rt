@@ -1,7 +1,7 @@
 //! `gated`: the gate of a code forge.
 #![tactic(auto)]
 
-use gated_cli::started;
+use gated_process::started;
 use std::process::ExitCode;
 
 fn main(rt: HostRuntime) -> ExitCode {

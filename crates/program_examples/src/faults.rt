@@ -3,7 +3,7 @@ use gate_config::ConfigFault;
 use gate_types::tap::Tap;
 use gated_cli::program::unread;
 use gated_cli::run::{Fault, ended};
-use gated_cli::started;
+use gated_process::started;
 use std::io;
 use std::process::ExitCode;
 
