@@ -1,4 +1,4 @@
-use Rattle.std.proofs.Common.{true, ◌≡◌, ◌∙◌, ap, sym, subst}
+use Rattle.std.proofs.Common.{rules, true, ◌≡◌, ◌∙◌, ap, sym, subst}
 use Rattle.sqlite.specs.Effect.{Database}
 use Rattle.sqlite.specs.Held.{state}
 use Rattle.sqlite.proofs.StateLemmas.{survives_weaker}
@@ -39,3 +39,12 @@ returns-clause-crash g c bare =
     let text : c.as_str.result.now ≡ settings_text c.args.config.now = c.as_str.ensures.value ∙ c.in-Ok.ensures.0 in
     let queues : c.as_slice.result.now ≡ c.args.config.now.queues = c.as_slice.ensures ∙ ap (λ (s : Settings). s.queues) c.config.view_is in
     survives_weaker (state g.S.Store c.args.conn) (state g.S.Store c.fill.new.conn) _ _ (λ _ db stands. stands_for_empty db _ _ _ text queues stands) (c.fill.ensures.crash bare)
+
+pub returns-in_default-clause-faults : goal.returns-in_default-clause-faults
+returns-in_default-clause-faults g c = search rules
+
+pub returns-in-Ok-fill-clause-faults : goal.returns-in-Ok-fill-clause-faults
+returns-in-Ok-fill-clause-faults g c = search rules
+
+pub returns-clause-faults : goal.returns-clause-faults
+returns-clause-faults g c = search rules

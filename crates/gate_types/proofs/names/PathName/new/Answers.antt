@@ -1,0 +1,5 @@
+use Rattle.std.proofs.Common.{rules}
+use Rattle.gate_types.proofs.names.PathName.new.Goals as goal
+
+pub returns-else-has_path_form-clause-form : goal.returns-else-has_path_form-clause-form
+returns-else-has_path_form-clause-form c = search rules
