@@ -63,7 +63,7 @@ fn after_all(queue: &Name, serial: Serial, item: Option<Item>, edits: &[Edit]) -
 }
 
 /// The item of a serial in a queue, after the edits.
-pub fn item_at<B: Book>(
+pub(crate) fn item_at<B: Book>(
     book: &mut B,
     edits: &[Edit],
     queue: &Name,
@@ -253,7 +253,7 @@ fn last_below<B: Book>(
 }
 
 /// The last item of a queue after the edits, where `next` is above all serials.
-pub fn last_item<B: Book>(
+pub(crate) fn last_item<B: Book>(
     book: &mut B,
     edits: &[Edit],
     queue: &Name,

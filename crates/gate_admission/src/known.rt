@@ -18,7 +18,7 @@ use gate_types::records::{Change, Need, Stage};
 use std::alloc::Global;
 
 /// Whether two names are the same.
-pub fn same_name(a: &Name, b: &Name) -> bool
+pub(crate) fn same_name(a: &Name, b: &Name) -> bool
     ensures { result ≡ same_name a.now b.now }
 {
     a.as_str() == b.as_str()
@@ -126,7 +126,7 @@ fn needs_with<B: Book>(
 }
 
 /// The needs of a change; none where it isn't known.
-pub fn needs_of<B: Book>(
+pub(crate) fn needs_of<B: Book>(
     alloc: Global,
     book: &mut B,
     edits: &[Edit],

@@ -18,7 +18,7 @@ use std::alloc::{AllocError, Global};
 use toml::Value;
 
 /// The settings of a document.
-pub fn config(alloc: Global, document: &Value) -> Result<Config, AllocError>
+pub(crate) fn config(alloc: Global, document: &Value) -> Result<Config, AllocError>
     requires { fault_of (view document.now) ≡ None }
     ensures { IfOk result (λ c. c ≡ settings_of (view document.now)) }
 {

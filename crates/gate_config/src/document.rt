@@ -7,7 +7,7 @@ use toml::Value;
 
 /// The values of the array at a key, or none.
 #[tactic(auto, using(crate::proofs::DocumentLemmas::list_of_view))]
-pub fn items_at<'v>(value: &'v Value, key: &str) -> &'v [Value]
+pub(crate) fn items_at<'v>(value: &'v Value, key: &str) -> &'v [Value]
     ensures { map view result.now ≡ items_at key.now (view value.now) }
 {
     match value.get(key) {
@@ -19,26 +19,26 @@ pub fn items_at<'v>(value: &'v Value, key: &str) -> &'v [Value]
     }
 }
 
-pub fn queues_of(document: &Value) -> &[Value]
+pub(crate) fn queues_of(document: &Value) -> &[Value]
     ensures { map view result.now ≡ queues_of (view document.now) }
 {
     items_at(document, "queue")
 }
 
-pub fn projects_of(document: &Value) -> &[Value]
+pub(crate) fn projects_of(document: &Value) -> &[Value]
     ensures { map view result.now ≡ projects_of (view document.now) }
 {
     items_at(document, "project")
 }
 
-pub fn jobs_of(project: &Value) -> &[Value]
+pub(crate) fn jobs_of(project: &Value) -> &[Value]
     ensures { map view result.now ≡ jobs_of (view project.now) }
 {
     items_at(project, "job")
 }
 
 /// The text at a key, or the empty one.
-pub fn text_at<'v>(value: &'v Value, key: &str) -> &'v str
+pub(crate) fn text_at<'v>(value: &'v Value, key: &str) -> &'v str
     ensures { result.now ≡ text_at key.now (view value.now) }
 {
     match value.get(key) {
@@ -50,19 +50,19 @@ pub fn text_at<'v>(value: &'v Value, key: &str) -> &'v str
     }
 }
 
-pub fn name_of(value: &Value) -> &str
+pub(crate) fn name_of(value: &Value) -> &str
     ensures { result.now ≡ name_of (view value.now) }
 {
     text_at(value, "name")
 }
 
-pub fn queue_named_by(project: &Value) -> &str
+pub(crate) fn queue_named_by(project: &Value) -> &str
     ensures { result.now ≡ queue_named_by (view project.now) }
 {
     text_at(project, "queue")
 }
 
-pub fn base_of(document: &Value) -> &str
+pub(crate) fn base_of(document: &Value) -> &str
     ensures { result.now ≡ base_of (view document.now) }
 {
     match document.get("forge") {
@@ -90,20 +90,20 @@ fn number_at(value: &Value, key: &str, default: u64) -> Option<u64>
     }
 }
 
-pub fn window_of(queue: &Value) -> Option<u64>
+pub(crate) fn window_of(queue: &Value) -> Option<u64>
     ensures { result ≡ window_of (view queue.now) }
 {
     number_at(queue, "window", 20)
 }
 
-pub fn floor_of(queue: &Value) -> Option<u64>
+pub(crate) fn floor_of(queue: &Value) -> Option<u64>
     ensures { result ≡ floor_of (view queue.now) }
 {
     number_at(queue, "floor", 3)
 }
 
 /// A job votes unless it says otherwise.
-pub fn is_voting(job: &Value) -> bool
+pub(crate) fn is_voting(job: &Value) -> bool
     ensures { result ≡ is_voting (view job.now) }
 {
     match job.get("voting") {

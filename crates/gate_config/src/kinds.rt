@@ -112,7 +112,7 @@ fn has_wrong_base(document: &Value) -> bool
 
 /// Whether a known member is of another kind, anywhere.
 #[tactic(auto, using(crate::proofs::DocumentLemmas::list_any_map))]
-pub fn has_wrong_kind(document: &Value) -> bool
+pub(crate) fn has_wrong_kind(document: &Value) -> bool
     ensures { result ≡ has_wrong_kind (view document.now) }
 {
     is_wrong(Kind::Table, "forge", document)

@@ -46,7 +46,7 @@ fn lacks_base(document: &Value) -> bool
 
 /// Whether a member that has to be there isn't.
 #[tactic(auto, using(crate::proofs::DocumentLemmas::list_any_map))]
-pub fn misses_member(document: &Value) -> bool
+pub(crate) fn misses_member(document: &Value) -> bool
     ensures { result ≡ misses_member (view document.now) }
 {
     lacks(document, "forge")
@@ -133,7 +133,7 @@ fn has_unknown_in_forge(document: &Value) -> bool
 
 /// Whether a member that has no meaning stands anywhere.
 #[tactic(auto, using(crate::proofs::DocumentLemmas::list_any_map))]
-pub fn has_unknown_member(document: &Value) -> bool
+pub(crate) fn has_unknown_member(document: &Value) -> bool
     ensures { result ≡ has_unknown_member (view document.now) }
 {
     has_unknown(Section::Document, document)

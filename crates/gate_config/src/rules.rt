@@ -43,7 +43,7 @@ fn any_has_bad_name_in_project(projects: &[Value]) -> bool
 
 /// Whether a name or the base isn't of its form. The queue that a project names isn't judged here.
 #[tactic(auto, using(crate::proofs::DocumentLemmas::list_any_map))]
-pub fn has_bad_name_anywhere(document: &Value) -> bool
+pub(crate) fn has_bad_name_anywhere(document: &Value) -> bool
     ensures { result ≡ has_bad_name_anywhere (view document.now) }
 {
     !has_base_form(base_of(document))
@@ -78,7 +78,7 @@ fn any_has_double_job(projects: &[Value]) -> bool
 
 /// Whether two queues, two projects, or two jobs of one project have one name.
 #[tactic(auto, using(crate::proofs::DocumentLemmas::list_any_map))]
-pub fn has_double_name(document: &Value) -> bool
+pub(crate) fn has_double_name(document: &Value) -> bool
     ensures { result ≡ has_double_name (view document.now) }
 {
     has_double(queues_of(document))
@@ -101,7 +101,7 @@ fn has_named(name: &str, values: &[Value]) -> bool
 
 /// Whether a project names no queue of the document.
 #[tactic(auto, using(crate::proofs::DocumentLemmas::list_any_map))]
-pub fn names_no_queue(document: &Value) -> bool
+pub(crate) fn names_no_queue(document: &Value) -> bool
     ensures { result ≡ names_no_queue (view document.now) }
 {
     any_names_none_of(projects_of(document), queues_of(document))
@@ -135,7 +135,7 @@ fn any_is_bad_window(queues: &[Value]) -> bool
 
 /// Whether a queue has a window or a floor that can't be.
 #[tactic(auto, using(crate::proofs::DocumentLemmas::list_any_map))]
-pub fn has_bad_window(document: &Value) -> bool
+pub(crate) fn has_bad_window(document: &Value) -> bool
     ensures { result ≡ has_bad_window (view document.now) }
 {
     any_is_bad_window(queues_of(document))
@@ -162,7 +162,7 @@ fn any_has_no_vote(projects: &[Value]) -> bool
 
 /// Whether there is a project of which no job votes.
 #[tactic(auto, using(crate::proofs::DocumentLemmas::list_any_map))]
-pub fn has_no_voting_job(document: &Value) -> bool
+pub(crate) fn has_no_voting_job(document: &Value) -> bool
     ensures { result ≡ has_no_voting_job (view document.now) }
 {
     any_has_no_vote(projects_of(document))
@@ -191,7 +191,7 @@ fn any_has_too_many_jobs(projects: &[Value]) -> bool
 
 /// Whether there are too few or too many queues or projects, or too many jobs in a project.
 #[tactic(auto, using(crate::proofs::DocumentLemmas::list_any_map))]
-pub fn is_beyond_limits(document: &Value) -> bool
+pub(crate) fn is_beyond_limits(document: &Value) -> bool
     ensures { result ≡ is_beyond_limits (view document.now) }
 {
     !are_some_up_to(MOST_QUEUES, queues_of(document))

@@ -93,7 +93,7 @@ fn feed<G: Respond, W: Write>(
 
 /// Answers each line of the reader by a line to the writer, and gives the number of lines.
 /// Each answer is written before the next read.
-pub fn answer_lines<G: Respond, R: Read, W: Write>(
+pub(crate) fn answer_lines<G: Respond, R: Read, W: Write>(
     alloc: Global,
     gate: &mut G,
     r: &mut Tap<R>,

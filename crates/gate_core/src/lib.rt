@@ -1,7 +1,7 @@
 //! The gate over any book: deliveries in, replies out, each exactly one step of the plain gate.
 #![tactic(auto)]
 
-pub mod engine;
+mod engine;
 pub mod fault;
 pub mod gate;
 mod line;

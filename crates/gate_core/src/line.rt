@@ -19,7 +19,7 @@ pub struct Line {
 impl Line {
     ghost use Rattle.gate_core.specs.Line.{Holds, Shows};
 
-    pub fn new(alloc: Global) -> Result<Line, AllocError>
+    pub(crate) fn new(alloc: Global) -> Result<Line, AllocError>
         ensures { IfOk result (λ line. Holds line []) }
     {
         Ok(Line {
@@ -28,7 +28,7 @@ impl Line {
         })
     }
 
-    pub fn push(&mut self, byte: u8)
+    pub(crate) fn push(&mut self, byte: u8)
         ensures { (begun : List ℕ) → Holds self.old begun → Holds self.new (begun ++ byte ∷ []) }
     {
         if self.bytes.len() < LIMIT {
@@ -38,7 +38,7 @@ impl Line {
         }
     }
 
-    pub fn clear(&mut self)
+    pub(crate) fn clear(&mut self)
         ensures { Holds self.new [] }
     {
         self.bytes.clear();
@@ -46,7 +46,7 @@ impl Line {
     }
 
     /// The line, or nothing where it is too long.
-    pub fn get(&self) -> Option<&[u8]>
+    pub(crate) fn get(&self) -> Option<&[u8]>
         ensures within { IfSome result (λ s. length s.now ≤ limit) }
         ensures shows { (begun : List ℕ) → Holds self.now begun → Shows result begun }
     {
@@ -57,7 +57,7 @@ impl Line {
         }
     }
 
-    pub fn is_empty(&self) -> bool
+    pub(crate) fn is_empty(&self) -> bool
         ensures { (begun : List ℕ) → Holds self.now begun → IsTrue result ↔ (begun ≡ []) }
     {
         self.bytes.is_empty()

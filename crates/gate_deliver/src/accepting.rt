@@ -20,7 +20,7 @@ use gate_wire::write_reply;
 use std::alloc::Global;
 
 /// Keeps the reply, and applies all edits at once. No memory is taken once they are applied.
-pub fn accept<B: Book>(
+pub(crate) fn accept<B: Book>(
     alloc: Global,
     book: &mut B,
     id: Id,

@@ -29,7 +29,7 @@ pub enum Ruled {
 }
 
 /// Rules on a delivery under a new id. This only reads.
-pub fn rule<B: Book>(
+pub(crate) fn rule<B: Book>(
     alloc: Global,
     book: &mut B,
     config: &Config,

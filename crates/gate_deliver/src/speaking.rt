@@ -44,7 +44,7 @@ fn place_of<B: Book>(
 }
 
 /// The reply; a change's place is read off the edits that lead to the settled state.
-pub fn speak<B: Book>(
+pub(crate) fn speak<B: Book>(
     book: &mut B,
     config: &Config,
     said: Said,

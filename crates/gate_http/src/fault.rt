@@ -28,7 +28,7 @@ impl Fault {
     ghost use Rattle.gate_http.specs.Faults.{fault_status, fault_text};
 
     /// The status of the answer.
-    pub fn status(self) -> u16
+    pub(crate) fn status(self) -> u16
         ensures { result ≡ fault_status self }
     {
         match self {
@@ -43,7 +43,7 @@ impl Fault {
     }
 
     /// The body of the answer.
-    pub fn text(self) -> &'static str
+    pub(crate) fn text(self) -> &'static str
         ensures { result.now ≡ fault_text self }
     {
         match self {

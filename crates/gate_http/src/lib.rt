@@ -5,7 +5,7 @@ mod body;
 pub mod connections;
 mod digits;
 pub mod engine;
-pub mod fault;
+mod fault;
 mod fields;
 mod gate;
 mod head;

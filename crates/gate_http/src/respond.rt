@@ -25,7 +25,7 @@ pub enum Page {
 }
 
 /// The status that an answer has over HTTP.
-pub fn status_of(answer: &Answer) -> u16
+pub(crate) fn status_of(answer: &Answer) -> u16
     ensures { result ≡ answer_status answer.now }
 {
     match answer {
@@ -35,7 +35,7 @@ pub fn status_of(answer: &Answer) -> u16
 }
 
 /// The text of an answer.
-pub fn text_of(answer: &Answer) -> &str
+pub(crate) fn text_of(answer: &Answer) -> &str
     ensures { result.now ≡ answer_text answer.now }
 {
     match answer {

@@ -30,7 +30,7 @@ impl Model for BareItem {
 impl BareItem {
     ghost use Rattle.gate_types.specs.Rows.{item_of};
 
-    pub fn of(item: &Item) -> Self
+    pub(crate) fn of(item: &Item) -> Self
         ensures { result ≡ item_of item.now }
     {
         BareItem {
@@ -62,7 +62,7 @@ fn has_change(items: &[BareItem], change: ChangeNo) -> bool
 }
 
 /// Whether each need has landed or is one of some items.
-pub fn are_met_by(items: &[BareItem], needs: &[Need]) -> bool
+pub(crate) fn are_met_by(items: &[BareItem], needs: &[Need]) -> bool
     ensures { result ≡ are_met_by items.now needs.now }
 {
     needs

@@ -142,7 +142,7 @@ fn is_line(
 }
 
 /// Whether the build ran on the item's line.
-pub fn ran_on_line(context: &ItemContext, build: &Build) -> bool
+pub(crate) fn ran_on_line(context: &ItemContext, build: &Build) -> bool
     ensures { result ≡ same_entries (ran_on context.now.landings.now build.now) (line (place_of context.now)) }
 {
     is_line(

@@ -22,7 +22,7 @@ fn shared_from(landings: &[Landing], known: usize, serial: Serial) -> usize
 
 /// Some first landings with serials below `serial`, where the first `known` have serials below `below`:
 /// as many as there are before the first that hasn't, if the serials rise from call to call.
-pub fn shared_with(landings: &[Landing], known: usize, below: u64, serial: Serial) -> usize
+pub(crate) fn shared_with(landings: &[Landing], known: usize, below: u64, serial: Serial) -> usize
     requires { are_below known landings.now below ≡ true }
     ensures { are_below result landings.now serial ≡ true }
 {

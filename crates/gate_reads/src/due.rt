@@ -70,7 +70,7 @@ fn build_on<B: Book>(
 }
 
 /// The build of the first waiting job of an item with these changes ahead, unless it is blocked.
-pub fn build_of_item<B: Book>(
+pub(crate) fn build_of_item<B: Book>(
     alloc: Global,
     book: &mut B,
     config: &Config,

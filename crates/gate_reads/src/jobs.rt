@@ -44,7 +44,7 @@ fn is_waiting(slot: Slot) -> bool
 }
 
 /// The first waiting job.
-pub fn first_waiting<'j>(
+pub(crate) fn first_waiting<'j>(
     alloc: Global,
     builds: &[Build],
     jobs: &'j [Job],
@@ -61,7 +61,7 @@ pub fn first_waiting<'j>(
 }
 
 /// Whether each job has ended.
-pub fn have_ended(alloc: Global, builds: &[Build], jobs: &[Job]) -> Result<bool, NoMemory>
+pub(crate) fn have_ended(alloc: Global, builds: &[Build], jobs: &[Job]) -> Result<bool, NoMemory>
     ensures { IfOk result (λ ended. ended ≡ list_all (λ j. is_finished (slot_among builds.now j)) jobs.now) }
 {
     let mut ended = true;

@@ -7,7 +7,7 @@ use serde_json::Value;
 use std::alloc::Global;
 
 /// A text in JSON's quotes.
-pub fn quote(alloc: Global, text: &str) -> Result<String, NoMemory>
+pub(crate) fn quote(alloc: Global, text: &str) -> Result<String, NoMemory>
     ensures { IfOk result (λ s. string_bytes s ≡ quoted text.now) }
 {
     Value::try_from_str(alloc, text)?.to_string(alloc)

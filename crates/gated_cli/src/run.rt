@@ -10,9 +10,9 @@ ghost use Rattle.gate_core.specs.Gated.{opened};
 
 mod check;
 mod fault;
-pub mod listening;
+mod listening;
 pub mod over_file;
-pub mod showing;
+mod showing;
 
 use crate::machine::GateFiles;
 use crate::run::check::check_text;

@@ -7,7 +7,7 @@ use gate_types::config::{Config, Project};
 use std::alloc::{AllocError, Global};
 
 /// How many queues, projects and jobs there are.
-pub fn check_text(alloc: Global, config: &Config) -> Result<String, AllocError>
+pub(crate) fn check_text(alloc: Global, config: &Config) -> Result<String, AllocError>
     ensures { IfOk result (λ s. string_bytes s ≡ check_text config.now) }
 {
     let queues = config.queues.as_slice().len();

@@ -18,7 +18,7 @@ use std::io::Write;
 ///
 /// `Unavailable` where the book gave a fault or memory was refused: nothing is written. `Write` where the output
 /// failed: a beginning is written.
-pub fn write_status<B: Book, W: Write>(
+pub(crate) fn write_status<B: Book, W: Write>(
     alloc: Global,
     gate: &mut Gate<B>,
     output: &mut Tap<W>,
@@ -44,7 +44,7 @@ pub fn write_status<B: Book, W: Write>(
 ///
 /// `NoQueue` where no queue has the name, and `Unavailable` where the book gave a fault or memory was refused: nothing
 /// is written. `Store` where such a fault came later, and `Write` where the output failed: a beginning is written.
-pub fn write_history<B: Book, W: Write>(
+pub(crate) fn write_history<B: Book, W: Write>(
     gate: &mut Gate<B>,
     queue: &str,
     output: &mut Tap<W>,
