@@ -12,7 +12,7 @@ use gate_types::edits::{Counter, Edit};
 use std::marker::Model;
 
 /// The last number drawn of each kind, which may be past 10^15.
-#[derive(Clone, Copy, Debug)]
+#[derive(Clone, Copy)]
 pub struct LastDrawn {
     pub approval: u64,
     pub build: u64,

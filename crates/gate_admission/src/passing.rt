@@ -20,14 +20,14 @@ use gate_types::records::Ready;
 use std::alloc::Global;
 
 /// A ready change that may enter, behind so many that may not.
-#[derive(Clone, Copy, Debug)]
+#[derive(Clone, Copy)]
 pub struct Found {
     pub passed: usize,
     pub ready: Ready,
 }
 
 /// A ready change that enters, and so many at the front of the ready list that may not enter once it has.
-#[derive(Clone, Copy, Debug)]
+#[derive(Clone, Copy)]
 pub struct Entrant {
     pub ready: Ready,
     pub passed: usize,

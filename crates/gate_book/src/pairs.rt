@@ -7,7 +7,7 @@ ghost use Rattle.gate_book.specs.Pairs.{pair_key, IsFit};
 use crate::sorted::{Keyed, between};
 
 /// Two numbers, the first of which decides the order before the second.
-#[derive(Clone, Copy, Debug, PartialEq, Eq)]
+#[derive(Clone, Copy, PartialEq, Eq)]
 pub struct Pair {
     pub first: u64,
     pub second: u64,

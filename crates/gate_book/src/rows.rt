@@ -3,7 +3,7 @@ use gate_types::names::Name;
 use gate_types::records::Item;
 
 /// The window of a queue, and how many items and landings it has.
-#[derive(Clone, Copy, Debug, PartialEq, Eq)]
+#[derive(Clone, Copy, PartialEq, Eq)]
 pub struct QueueSizes {
     pub window: u32,
     pub items: u64,
@@ -11,7 +11,7 @@ pub struct QueueSizes {
 }
 
 /// An item, and the name of its queue.
-#[derive(Debug, Drop)]
+#[derive(Drop)]
 pub struct QueuedItem {
     pub queue: Name,
     pub item: Item,

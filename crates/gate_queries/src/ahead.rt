@@ -18,7 +18,7 @@ use sqlite::types::ValueRef;
 use std::alloc::{AllocError, Global};
 
 /// How far the text has been read.
-#[derive(Clone, Copy, Debug, PartialEq, Eq)]
+#[derive(Clone, Copy, PartialEq, Eq)]
 pub(crate) enum Part {
     Start,
     /// Behind the outer bracket.

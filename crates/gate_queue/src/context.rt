@@ -10,7 +10,7 @@ use gate_types::records::{Entry, Item, Landing, Need};
 use std::marker::Model;
 
 /// An item without what is worked out of it: what is ahead, and whether it fails.
-#[derive(Clone, Copy, Debug, PartialEq, Eq)]
+#[derive(Clone, Copy, PartialEq, Eq)]
 pub struct BareItem {
     pub serial: Serial,
     pub change: ChangeNo,
@@ -43,7 +43,7 @@ impl BareItem {
 
 /// An item, the landings of its queue, the items before it that aren't failing, the needs of its
 /// change, the jobs of its project. The first `shared` landings have lower serials.
-#[derive(Clone, Copy, Debug)]
+#[derive(Clone, Copy)]
 pub struct ItemContext<'a> {
     pub landings: &'a [Landing],
     pub ahead: &'a [BareItem],

@@ -6,7 +6,7 @@ use gate_types::records::{Landing, Need};
 
 /// What is known of an item's change: its needs, each with whether it has landed, and the jobs of
 /// its project.
-#[derive(Clone, Copy, Debug)]
+#[derive(Clone, Copy)]
 pub struct ItemFacts<'a> {
     pub needs: &'a [Need],
     pub jobs: &'a [Job],
@@ -14,7 +14,7 @@ pub struct ItemFacts<'a> {
 
 /// What is known of a queue: its settings, its window, what has landed in it, and how many reports
 /// it has made, at most 10^15. `items` has those of each of the queue's items, in order.
-#[derive(Clone, Copy, Debug)]
+#[derive(Clone, Copy)]
 pub struct Facts<'a> {
     pub settings: &'a Queue,
     pub window: u32,
@@ -25,14 +25,14 @@ pub struct Facts<'a> {
 }
 
 /// The jobs of an item's project, and whether the item is blocked.
-#[derive(Clone, Copy, Debug)]
+#[derive(Clone, Copy)]
 pub struct ItemJobs<'a> {
     pub jobs: &'a [Job],
     pub blocked: bool,
 }
 
 /// What a choice asks for: `items` has the jobs of each of the queue's items, in order.
-#[derive(Clone, Copy, Debug)]
+#[derive(Clone, Copy)]
 pub struct Jobs<'a> {
     pub items: &'a [ItemJobs<'a>],
 }

@@ -12,7 +12,7 @@ use gate_types::records::{Build, Verdict};
 use std::alloc::Global;
 
 /// What the rules say of an item.
-#[derive(Clone, Copy, Debug)]
+#[derive(Clone, Copy)]
 pub(crate) struct Ruling {
     pub blocked: bool,
     pub failing: bool,

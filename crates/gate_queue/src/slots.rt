@@ -62,7 +62,7 @@ fn slot_of(
 }
 
 /// What the jobs of an item say of it.
-#[derive(Clone, Copy, Debug)]
+#[derive(Clone, Copy)]
 pub struct Marks {
     /// A voting job has failed.
     pub failed: bool,

@@ -6,7 +6,7 @@ use gate_types::records::{Item, Verdict};
 
 /// What befell an item: a running build of it has ended; it was taken out of its queue, for another reason than a
 /// landing; or it has landed.
-#[derive(Clone, Copy, Debug, PartialEq, Eq)]
+#[derive(Clone, Copy, PartialEq, Eq)]
 pub enum Event {
     Ended { build: BuildNo, ending: Ending },
     Left(Verdict),
@@ -14,7 +14,7 @@ pub enum Event {
 }
 
 /// An item that a delivery touched: its queue, its row as it was stored before, and what befell it.
-#[derive(Debug, Drop)]
+#[derive(Drop)]
 pub struct TouchedItem {
     pub queue: Name,
     pub item: Item,

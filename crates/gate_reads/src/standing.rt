@@ -14,7 +14,7 @@ use gate_types::records::Ready;
 use std::alloc::Global;
 
 /// Where a change stands.
-#[derive(Debug, Drop)]
+#[derive(Drop)]
 pub enum Stand {
     /// It is an item of a queue.
     Queued(QueuedItem),

@@ -4,7 +4,7 @@ use crate::sequence::Sequence;
 use std::marker::Model;
 
 /// A job of a project. One that doesn't vote is waited for, and doesn't decide.
-#[derive(Debug, Drop)]
+#[derive(Drop)]
 pub struct Job {
     pub name: Name,
     pub voting: bool,
@@ -12,7 +12,7 @@ pub struct Job {
 
 /// A queue: `window` is how many items may be tested at once (0 sets no bound, at most 1,000),
 /// `floor` the least that failures leave of it (1 to 1,000).
-#[derive(Debug, Drop)]
+#[derive(Drop)]
 pub struct Queue {
     pub name: Name,
     pub window: u32,
@@ -20,7 +20,7 @@ pub struct Queue {
 }
 
 /// A project, and the queue that its changes stand in.
-#[derive(Debug, Drop)]
+#[derive(Drop)]
 pub struct Project {
     pub name: PathName,
     pub queue: Name,
@@ -28,7 +28,7 @@ pub struct Project {
 }
 
 /// The settings of a gate. No `Config` has a fault that reading a settings file answers.
-#[derive(Debug, Drop)]
+#[derive(Drop)]
 pub struct Config {
     pub base: Base,
     pub queues: Sequence<Queue>,

@@ -4,7 +4,7 @@ use crate::numbers::{BuildNo, ChangeNo, Revision, Serial};
 use crate::records::{Build, Outcome};
 
 /// How a build ended, as a worker reports it.
-#[derive(Clone, Copy, Debug, PartialEq, Eq)]
+#[derive(Clone, Copy, PartialEq, Eq)]
 pub enum Ending {
     Success,
     Failure,
@@ -27,7 +27,7 @@ impl From<Ending> for Outcome {
 }
 
 /// What the forge or a worker tells the gate.
-#[derive(Debug, Drop)]
+#[derive(Drop)]
 pub enum Delivery {
     Revision {
         change: ChangeNo,
@@ -64,7 +64,7 @@ pub enum Delivery {
 
 /// The reply to an accepted delivery. `Landed` holds the landing's place among those of its
 /// queue, from 1.
-#[derive(Debug, Drop)]
+#[derive(Drop)]
 pub enum Reply {
     Recorded,
     Stale,
@@ -113,7 +113,7 @@ pub enum Refusal {
 }
 
 /// What the gate answers to a delivery: a reply's text, or a refusal.
-#[derive(Debug, Drop)]
+#[derive(Drop)]
 pub enum Answer {
     Said(Text),
     Refused(Refusal),

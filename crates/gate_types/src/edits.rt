@@ -4,7 +4,7 @@ use crate::numbers::{BuildNo, Serial};
 use crate::records::{Build, Change, Item, Kept, Landing, Outcome, Report};
 
 /// One of the three counters.
-#[derive(Clone, Copy, Debug, PartialEq, Eq)]
+#[derive(Clone, Copy, PartialEq, Eq)]
 pub enum Counter {
     Approval,
     Build,
@@ -12,7 +12,7 @@ pub enum Counter {
 }
 
 /// A change of one row. Nothing but items is ever dropped.
-#[derive(Debug, Drop)]
+#[derive(Drop)]
 pub enum Edit {
     /// The change's row, its approval number while it is ready, and its needs in place of the old ones.
     PutChange {

@@ -11,7 +11,7 @@ pub type NoMemory = AllocError;
 
 /// The name of a queue or a job: 1 to 64 ASCII letters, digits, `.`, `_` and `-`,
 /// beginning with a letter or digit.
-#[derive(Debug, Drop)]
+#[derive(Drop)]
 pub struct Name {
     text: String,
 }
@@ -57,7 +57,7 @@ impl Name {
 
 /// The name of a project or a worker: as the name of a queue, but `/` may stand behind
 /// the first byte.
-#[derive(Debug, Drop)]
+#[derive(Drop)]
 pub struct PathName {
     text: String,
 }
@@ -102,7 +102,7 @@ impl PathName {
 }
 
 /// What stands before a change's number in a need's address: 1 to 200 bytes from 0x21 to 0x7E.
-#[derive(Debug, Drop)]
+#[derive(Drop)]
 pub struct Base {
     text: String,
 }
@@ -147,7 +147,7 @@ impl Base {
 }
 
 /// A commit message: at most 16,384 bytes of UTF-8.
-#[derive(Debug, Drop)]
+#[derive(Drop)]
 pub struct Message {
     text: String,
 }
@@ -192,7 +192,7 @@ impl Message {
 }
 
 /// A text of any length.
-#[derive(Debug, Drop)]
+#[derive(Drop)]
 pub struct Text {
     text: String,
 }

@@ -4,7 +4,7 @@ ghost use Rattle.std.specs.Prelude.{◌≡◌, ℕ, ◌≤◌, ◌↔◌, IsSome
 use std::marker::Model;
 
 /// The number of a change: 1 to 999,999,999.
-#[derive(Clone, Copy, Debug, PartialEq, Eq, PartialOrd, Ord)]
+#[derive(Clone, Copy, PartialEq, Eq, PartialOrd, Ord)]
 pub struct ChangeNo {
     number: u32,
 }
@@ -44,7 +44,7 @@ impl ChangeNo {
 }
 
 /// The revision of a change: 1 to 9,999.
-#[derive(Clone, Copy, Debug, PartialEq, Eq, PartialOrd, Ord)]
+#[derive(Clone, Copy, PartialEq, Eq, PartialOrd, Ord)]
 pub struct Revision {
     number: u16,
 }
@@ -84,7 +84,7 @@ impl Revision {
 }
 
 /// The serial of an item, which is also the number of its order: 1 to 10^15.
-#[derive(Clone, Copy, Debug, PartialEq, Eq, PartialOrd, Ord)]
+#[derive(Clone, Copy, PartialEq, Eq, PartialOrd, Ord)]
 pub struct Serial {
     number: u64,
 }
@@ -122,7 +122,7 @@ impl Serial {
 }
 
 /// The number of a build: 1 to 10^15.
-#[derive(Clone, Copy, Debug, PartialEq, Eq, PartialOrd, Ord)]
+#[derive(Clone, Copy, PartialEq, Eq, PartialOrd, Ord)]
 pub struct BuildNo {
     number: u64,
 }

@@ -5,14 +5,14 @@ use crate::sequence::Sequence;
 use std::marker::Model;
 
 /// A change at a revision.
-#[derive(Clone, Copy, Debug, PartialEq, Eq)]
+#[derive(Clone, Copy, PartialEq, Eq)]
 pub struct Entry {
     pub change: ChangeNo,
     pub revision: Revision,
 }
 
 /// How far a build has come.
-#[derive(Clone, Copy, Debug, PartialEq, Eq)]
+#[derive(Clone, Copy, PartialEq, Eq)]
 pub enum Outcome {
     Running,
     Success,
@@ -21,7 +21,7 @@ pub enum Outcome {
 }
 
 /// What a job of an item has come to.
-#[derive(Clone, Copy, Debug, PartialEq, Eq)]
+#[derive(Clone, Copy, PartialEq, Eq)]
 pub enum Slot {
     Waiting,
     Running,
@@ -30,7 +30,7 @@ pub enum Slot {
 }
 
 /// Why an item left its queue. `Landed` holds the landing's place among those of its queue, from 1.
-#[derive(Clone, Copy, Debug, PartialEq, Eq)]
+#[derive(Clone, Copy, PartialEq, Eq)]
 pub enum Verdict {
     Landed(u64),
     Failed,
@@ -42,7 +42,7 @@ pub enum Verdict {
 }
 
 /// What has become of a change.
-#[derive(Clone, Copy, Debug, PartialEq, Eq)]
+#[derive(Clone, Copy, PartialEq, Eq)]
 pub enum Stage {
     Open,
     Landed,
@@ -50,7 +50,7 @@ pub enum Stage {
 }
 
 /// A change at its latest revision, with the changes that this revision needs (at most 32).
-#[derive(Debug, Drop)]
+#[derive(Drop)]
 pub struct Change {
     pub number: ChangeNo,
     pub project: PathName,
@@ -76,7 +76,7 @@ impl Change {
 }
 
 /// A change in a queue, with the serial of the last item before it that isn't failing.
-#[derive(Clone, Copy, Debug, PartialEq, Eq)]
+#[derive(Clone, Copy, PartialEq, Eq)]
 pub struct Item {
     pub serial: Serial,
     pub change: ChangeNo,
@@ -86,7 +86,7 @@ pub struct Item {
 }
 
 /// A change that landed.
-#[derive(Clone, Copy, Debug, PartialEq, Eq)]
+#[derive(Clone, Copy, PartialEq, Eq)]
 pub struct Landing {
     pub serial: Serial,
     pub change: ChangeNo,
@@ -94,7 +94,7 @@ pub struct Landing {
 }
 
 /// An approved change that stands in no queue, under the number of its approval (1 to 10^15).
-#[derive(Clone, Copy, Debug, PartialEq, Eq)]
+#[derive(Clone, Copy, PartialEq, Eq)]
 pub struct Ready {
     pub approval: u64,
     pub change: ChangeNo,
@@ -102,7 +102,7 @@ pub struct Ready {
 
 /// A build of a job of an item. It runs on the first `after` landings of its queue, then on
 /// `ahead`, then on its own change. Once it isn't `live`, its outcome decides nothing.
-#[derive(Debug, Drop)]
+#[derive(Drop)]
 pub struct Build {
     pub number: BuildNo,
     pub queue: Name,
@@ -138,7 +138,7 @@ impl Build {
 }
 
 /// That an item left its queue, and why.
-#[derive(Clone, Copy, Debug, PartialEq, Eq)]
+#[derive(Clone, Copy, PartialEq, Eq)]
 pub struct Report {
     pub serial: Serial,
     pub change: ChangeNo,
@@ -147,7 +147,7 @@ pub struct Report {
 }
 
 /// The last number drawn of each kind, 0 at first: at most 10^15 each.
-#[derive(Clone, Copy, Debug, PartialEq, Eq)]
+#[derive(Clone, Copy, PartialEq, Eq)]
 pub struct Counters {
     pub approval: u64,
     pub build: u64,
@@ -169,18 +169,18 @@ impl Model for Counters {
 }
 
 /// A need of an item's change, and whether that change has landed.
-#[derive(Clone, Copy, Debug, PartialEq, Eq)]
+#[derive(Clone, Copy, PartialEq, Eq)]
 pub struct Need {
     pub change: ChangeNo,
     pub landed: bool,
 }
 
 /// The id of a delivery: a UUID.
-#[derive(Clone, Copy, Debug, PartialEq, Eq)]
+#[derive(Clone, Copy, PartialEq, Eq)]
 pub struct Id(pub [u8; 16]);
 
 /// What is kept of an accepted delivery: its canonical text and its reply's text.
-#[derive(Debug, Drop)]
+#[derive(Drop)]
 pub struct Kept {
     pub id: Id,
     pub said: Text,

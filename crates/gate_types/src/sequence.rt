@@ -5,7 +5,7 @@ use std::alloc::{AllocError, AllocFailed, Global};
 use std::marker::Model;
 
 /// Values in order. It is made from a `Vec`, and gives it back.
-#[derive(Debug, Drop)]
+#[derive(Drop)]
 pub struct Sequence<T> {
     values: Vec<T>,
 }

@@ -16,7 +16,7 @@ use std::marker::Model;
 
 /// A need of an item, whether it has landed, and where an item of this change stands in the queue, whether its
 /// stored row says that it is failing. What the walk has changed of it, the walk knows by itself.
-#[derive(Clone, Copy, Debug)]
+#[derive(Clone, Copy)]
 pub struct SeenNeed {
     pub change: ChangeNo,
     pub landed: bool,
@@ -34,7 +34,7 @@ impl Model for SeenNeed {
 }
 
 /// Whether an item that was visited is failing now.
-#[derive(Clone, Copy, Debug)]
+#[derive(Clone, Copy)]
 pub struct Mark {
     pub change: ChangeNo,
     pub failing: bool,
@@ -131,7 +131,7 @@ fn slot_among(alloc: Global, builds: &[Build], job: &Job) -> Result<Slot, NoMemo
 }
 
 /// What a walk makes of an item.
-#[derive(Clone, Copy, Debug)]
+#[derive(Clone, Copy)]
 pub struct Judged {
     pub failing: bool,
     pub verdict: Option<Verdict>,

@@ -53,7 +53,7 @@ fn push_row(
 }
 
 /// What stands beside an item's row for its edits: the row as it is stored, and the walk's queue.
-#[derive(Clone, Copy, Debug)]
+#[derive(Clone, Copy)]
 pub struct Beside {
     pub stored: Item,
     pub floor: u32,

@@ -19,7 +19,7 @@ use std::marker::Model;
 
 /// What a visit is given: a row as it is stored, the needs of its change, the jobs of its project, its live
 /// builds.
-#[derive(Clone, Copy, Debug)]
+#[derive(Clone, Copy)]
 pub struct Seen<'a> {
     pub row: Item,
     pub needs: &'a [SeenNeed],
@@ -28,7 +28,7 @@ pub struct Seen<'a> {
 }
 
 /// What was taken out of a queue.
-#[derive(Clone, Copy, Debug)]
+#[derive(Clone, Copy)]
 pub struct TakenOut {
     pub change: ChangeNo,
     pub failing: bool,
@@ -37,7 +37,7 @@ pub struct TakenOut {
 
 /// Where a delivery touched a queue: the serial of the item, that of the last non-failing item before it, and
 /// what was taken out, unless the item stands.
-#[derive(Clone, Copy, Debug)]
+#[derive(Clone, Copy)]
 pub struct Touched {
     pub serial: Serial,
     pub ahead: Option<Serial>,
@@ -46,7 +46,7 @@ pub struct Touched {
 
 /// The queue as the delivery left it: its settings, its window, and how many reports it has made, that of the
 /// delivery among them, at most 10^15.
-#[derive(Clone, Copy, Debug)]
+#[derive(Clone, Copy)]
 pub struct QueueFacts<'a> {
     pub settings: &'a Queue,
     pub window: u32,
@@ -56,7 +56,7 @@ pub struct QueueFacts<'a> {
 
 /// What a walk wants next: the queue's first item above a serial, its first item above it that needs a
 /// change of `gone`, or nothing more.
-#[derive(Clone, Copy, Debug, PartialEq, Eq)]
+#[derive(Clone, Copy, PartialEq, Eq)]
 pub enum Next {
     Go(Serial),
     Need(Serial),

@@ -3,7 +3,7 @@ ghost use Rattle.std.specs.Prelude.{◌≡◌};
 ghost use Rattle.gate_wire.specs.Kinds.{kind_named, opens_to};
 
 /// Where a delivery comes in.
-#[derive(Clone, Copy, Debug, PartialEq, Eq)]
+#[derive(Clone, Copy, PartialEq, Eq)]
 pub enum Door {
     /// Open to what the forge says: `revision`, `approved`, `withdrawn`, `closed`, `landed` and
     /// `refused`.
@@ -15,7 +15,7 @@ pub enum Door {
 }
 
 /// What a delivery says, by its word.
-#[derive(Clone, Copy, Debug, PartialEq, Eq)]
+#[derive(Clone, Copy, PartialEq, Eq)]
 pub(crate) enum Kind {
     Revision,
     Approved,

@@ -86,7 +86,7 @@ impl Board {
             wanted = self.wanted(&walk, next);
         }
         assert!(rt; wanted.is_none());
-        assert_eq!(rt; visit(rt, &mut walk, None), Next::Stop);
+        assert!(rt; visit(rt, &mut walk, None) == Next::Stop);
         (walk, visited)
     }
 }
