@@ -137,13 +137,6 @@ impl Base {
     {
         self.text.as_str()
     }
-
-    pub fn copy(&self) -> Result<Self, NoMemory>
-        ensures { IfOk result (λ n. n ≡ self.now) }
-    {
-        let text = self.text.clone()?;
-        Ok(Base { text })
-    }
 }
 
 /// A commit message: at most 16,384 bytes of UTF-8.
@@ -181,13 +174,6 @@ impl Message {
         ensures form { is_message self.now ≡ true }
     {
         self.text.as_str()
-    }
-
-    pub fn copy(&self) -> Result<Self, NoMemory>
-        ensures { IfOk result (λ n. n ≡ self.now) }
-    {
-        let text = self.text.clone()?;
-        Ok(Message { text })
     }
 }
 

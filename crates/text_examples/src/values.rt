@@ -37,7 +37,7 @@ fn owned(rt: &(impl Abort + AllocGlobal), text: &str) -> String {
     String::from_str(rt.alloc(), text).expect(rt, "memory")
 }
 
-/// A text and its copy, as they are given back, if the text is of its kind.
+/// A text as it is given back, and as its copy is where it has one, if the text is of its kind.
 fn named(rt: &(impl Abort + AllocGlobal), kind: &str, text: &str) -> Option<String> {
     let text = owned(rt, text);
     match kind {
@@ -53,13 +53,11 @@ fn named(rt: &(impl Abort + AllocGlobal), kind: &str, text: &str) -> Option<Stri
         }
         "base" => {
             let base = Base::new(text)?;
-            let copy = base.copy().expect(rt, "memory");
-            Some(both(rt, base.as_str(), copy.as_str()))
+            Some(owned(rt, base.as_str()))
         }
         "message" => {
             let message = Message::new(text)?;
-            let copy = message.copy().expect(rt, "memory");
-            Some(both(rt, message.as_str(), copy.as_str()))
+            Some(owned(rt, message.as_str()))
         }
         _ => {
             let text = Text::new(text);
@@ -79,13 +77,9 @@ const NAMES: &[(&str, &str, &str)] = &[
     ("name", "team/core", "none"),
     ("path", "team/lib", "team/lib, team/lib"),
     ("path", "/lib", "none"),
-    (
-        "base",
-        "https://forge/c/",
-        "https://forge/c/, https://forge/c/",
-    ),
+    ("base", "https://forge/c/", "https://forge/c/"),
     ("base", "a b", "none"),
-    ("message", "Mend\nit", "Mend\nit, Mend\nit"),
+    ("message", "Mend\nit", "Mend\nit"),
     ("text", "any", "any, any"),
 ];
 
