@@ -5,3 +5,9 @@ pub mod Landings
 pub mod Orders
 pub mod Touch
 pub mod InForm
+pub mod Script
+pub mod DeliveryExamples
+pub mod BuildExamples
+pub mod LandingExamples
+pub mod NeedExamples
+pub mod LimitExamples

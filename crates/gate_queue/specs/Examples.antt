@@ -12,7 +12,7 @@ use Rattle.gate_types.specs.State.{Item, Queue}
 use Rattle.gate_types.specs.Line.{Place}
 use Rattle.gate_types.specs.declared.rows.ReportRow.{ReportRow}
 use Rattle.gate_types.specs.Rows.{Rows}
-use Rattle.gate_types.specs.Script.{core, unit, docs}
+use Rattle.gate_laws.specs.Script.{core, unit, docs}
 use Rattle.gate_queue.specs.Settles.{settled_rows}
 
 -- a change at its first revision under a serial

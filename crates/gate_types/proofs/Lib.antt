@@ -1,9 +1,4 @@
 pub mod TapLemmas
 pub mod JoinLemmas
 pub mod OnceLaw
-pub mod DeliveryExamplesComputed
-pub mod BuildExamplesComputed
-pub mod LandingExamplesComputed
-pub mod NeedExamplesComputed
-pub mod LimitExamplesComputed
 pub mod OneTextLaw

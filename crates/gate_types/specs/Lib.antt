@@ -33,9 +33,3 @@ pub mod OrderList
 pub mod BuildText
 pub mod History
 pub mod Tap
-pub mod Script
-pub mod DeliveryExamples
-pub mod BuildExamples
-pub mod LandingExamples
-pub mod NeedExamples
-pub mod LimitExamples

@@ -1,13 +1,12 @@
 //! What every part of the gate speaks of: numbers and names in their ranges, records, settings,
 //! deliveries with their replies and refusals, edits, taps, and the one text of a delivery. With them
-//! stand the definitions of all rules, laws of these, and worked examples.
+//! stand the definitions of all rules, and laws of some of these.
 #![tactic(auto)]
 
 pub mod canonical;
 pub mod config;
 pub mod deliveries;
 pub mod edits;
-pub mod examples;
 mod json_text;
 pub mod laws;
 pub mod names;

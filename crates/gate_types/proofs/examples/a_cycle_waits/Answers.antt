@@ -1,5 +1,0 @@
-use Rattle.gate_types.proofs.NeedExamplesComputed.{a_cycle_waits}
-use Rattle.gate_types.proofs.examples.a_cycle_waits.Goals as goal
-
-pub returns : goal.returns
-returns c = a_cycle_waits

@@ -1,5 +1,0 @@
-use Rattle.gate_types.proofs.LandingExamplesComputed.{a_job_that_doesnt_vote_decides_nothing}
-use Rattle.gate_types.proofs.examples.a_job_that_doesnt_vote_decides_nothing.Goals as goal
-
-pub returns : goal.returns
-returns c = a_job_that_doesnt_vote_decides_nothing

@@ -1,5 +1,0 @@
-use Rattle.gate_types.proofs.LimitExamplesComputed.{a_landing_that_admits_runs_out}
-use Rattle.gate_types.proofs.examples.a_landing_that_admits_runs_out.Goals as goal
-
-pub returns : goal.returns
-returns c = a_landing_that_admits_runs_out

@@ -1,5 +1,0 @@
-use Rattle.gate_types.proofs.DeliveryExamplesComputed.{a_revision_supersedes}
-use Rattle.gate_types.proofs.examples.a_revision_supersedes.Goals as goal
-
-pub returns : goal.returns
-returns c = a_revision_supersedes

@@ -1,5 +1,0 @@
-use Rattle.gate_types.proofs.LandingExamplesComputed.{a_shown_order_is_left_alone}
-use Rattle.gate_types.proofs.examples.a_shown_order_is_left_alone.Goals as goal
-
-pub returns : goal.returns
-returns c = a_shown_order_is_left_alone

@@ -1,5 +1,0 @@
-use Rattle.gate_types.proofs.LimitExamplesComputed.{a_window_of_0_sets_no_bound}
-use Rattle.gate_types.proofs.examples.a_window_of_0_sets_no_bound.Goals as goal
-
-pub returns : goal.returns
-returns c = a_window_of_0_sets_no_bound

@@ -1,5 +1,0 @@
-use Rattle.gate_types.proofs.NeedExamplesComputed.{admission_starts_anew}
-use Rattle.gate_types.proofs.examples.admission_starts_anew.Goals as goal
-
-pub returns : goal.returns
-returns c = admission_starts_anew

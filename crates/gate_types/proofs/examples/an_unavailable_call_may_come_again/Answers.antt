@@ -1,5 +1,0 @@
-use Rattle.gate_types.proofs.DeliveryExamplesComputed.{an_unavailable_call_may_come_again}
-use Rattle.gate_types.proofs.examples.an_unavailable_call_may_come_again.Goals as goal
-
-pub returns : goal.returns
-returns c = an_unavailable_call_may_come_again

@@ -1,5 +1,0 @@
-use Rattle.gate_types.proofs.NeedExamplesComputed.{at_most_32_needs_are_taken}
-use Rattle.gate_types.proofs.examples.at_most_32_needs_are_taken.Goals as goal
-
-pub returns : goal.returns
-returns c = at_most_32_needs_are_taken

@@ -1,5 +1,0 @@
-use Rattle.gate_types.proofs.LimitExamplesComputed.{builds_and_approvals_run_out}
-use Rattle.gate_types.proofs.examples.builds_and_approvals_run_out.Goals as goal
-
-pub returns : goal.returns
-returns c = builds_and_approvals_run_out

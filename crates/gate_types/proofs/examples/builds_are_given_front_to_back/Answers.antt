@@ -1,5 +1,0 @@
-use Rattle.gate_types.proofs.BuildExamplesComputed.{builds_are_given_front_to_back}
-use Rattle.gate_types.proofs.examples.builds_are_given_front_to_back.Goals as goal
-
-pub returns : goal.returns
-returns c = builds_are_given_front_to_back

@@ -1,5 +1,0 @@
-use Rattle.gate_types.proofs.LandingExamplesComputed.{each_queue_shows_its_order}
-use Rattle.gate_types.proofs.examples.each_queue_shows_its_order.Goals as goal
-
-pub returns : goal.returns
-returns c = each_queue_shows_its_order

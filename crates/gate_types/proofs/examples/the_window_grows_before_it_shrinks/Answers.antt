@@ -1,5 +1,0 @@
-use Rattle.gate_types.proofs.LandingExamplesComputed.{the_window_grows_before_it_shrinks}
-use Rattle.gate_types.proofs.examples.the_window_grows_before_it_shrinks.Goals as goal
-
-pub returns : goal.returns
-returns c = the_window_grows_before_it_shrinks
