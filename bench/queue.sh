@@ -4,12 +4,12 @@ set -eu
 . "$(dirname "$0")/scratch.sh"
 scratch "$top/bench/queue/timed" gate_types gate_laws gate_queue
 # That the made items and builds rise is tested and proved as in the tests of queues.
-from=$top/crates/queue_examples/proofs
+from=$top/crates/part_examples/proofs/queues
 proofs=$work/crates/timed/proofs
 for list in items builds; do
     mkdir -p "$proofs/${list}_rise"
     for file in Invariants Answers; do
-        sed 's/queue_examples.proofs.rising/timed.proofs/; s/gate_queue.proofs.Ordered/timed.proofs.Rising/' \
+        sed 's/part_examples.proofs.queues.rising/timed.proofs/; s/gate_queue.proofs.Ordered/timed.proofs.Rising/' \
             "$from/rising/${list}_rise/$file.antt" >"$proofs/${list}_rise/$file.antt"
     done
 done

@@ -1,4 +1,5 @@
 //! What each fault is told by, and how a process ends.
+use crate::claims::holds;
 use gate_config::ConfigFault;
 use gate_types::tap::Tap;
 use gated_cli::program::unread;
@@ -55,7 +56,7 @@ fn each_fault_has_its_line(rt: HostRuntime) {
     let mut errors = Tap::new(Vec::new(rt.alloc()));
     for fault in &EACH_FAULT {
         let status = ended(Err(*fault), &mut errors);
-        assert_eq!(rt; status, 1, "{fault:?}");
+        holds(&rt, status == 1, fault.text());
     }
     assert_eq!(rt; errors.into_inner().as_slice(), LINES.as_bytes());
 }

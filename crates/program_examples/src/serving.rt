@@ -1,4 +1,5 @@
 //! Clients over loopback, at the gate of a file.
+use crate::claims::holds;
 use crate::machine::Machine;
 use crate::sessions::plays;
 use std::io::{Read, Write};
@@ -27,7 +28,7 @@ fn client<N: Net + Abort>(net: &N, address: SocketAddr, sends: &str) -> N::Strea
 fn received(rt: &(impl Abort + AllocGlobal), mut stream: impl Read + Drop, wanted: &str) {
     let mut bytes = Vec::new(rt.alloc());
     stream.read_to_end(&mut bytes).expect(rt, wanted);
-    assert!(rt; bytes.as_slice() == wanted.as_bytes(), "{wanted}");
+    holds(rt, bytes.as_slice() == wanted.as_bytes(), wanted);
 }
 
 /// Plays scenes in which `PORT` stands for the port of an address.

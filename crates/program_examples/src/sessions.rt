@@ -84,6 +84,11 @@ fn fits(came: &str, wanted: &str) -> bool {
     came.contains(middle) && came.ends_with(end)
 }
 
+/// What came is what was wanted.
+fn has_come(rt: &impl Abort, came: &str, wanted: &str, title: &str, line: &str) {
+    assert!(rt; fits(came, wanted), "{title}: {line}\n{came}");
+}
+
 /// The program is run, and shows what is wanted.
 fn runs(
     rt: &(impl Abort + AllocGlobal),
@@ -95,7 +100,7 @@ fn runs(
     let (words, streams) = typed(rt, line);
     let (left, status) = run(machine, words.as_slice(), streams);
     let came = shown(rt, left, status);
-    assert!(rt; fits(came.as_str(), wanted), "{title}: {line}\n{came}");
+    has_come(rt, came.as_str(), wanted, title, line);
 }
 
 fn write(rt: &impl Abort, machine: &Machine<'_>, line: &str) {
@@ -133,7 +138,7 @@ fn goes_on(rt: &(impl Abort + AllocGlobal), machine: &Machine<'_>, title: &str, 
     let (verb, rest) = line.split_once(' ').expect(rt, title);
     match verb {
         "gated" => return runs(rt, machine, title, line, wanted),
-        "look" => assert!(rt; presence(machine, rest) == wanted, "{title}: {line}"),
+        "look" => has_come(rt, presence(machine, rest), wanted, title, line),
         "write" => write(rt, machine, rest),
         "fill" => fill(rt, machine, rest),
         "clear" => clear(machine, rest),

@@ -1,4 +1,5 @@
 //! Command lines, and what they ask for.
+use crate::claims::{holds, is};
 use crate::sessions::words_of;
 use gated_command::command::command;
 use std::process::Abort;
@@ -16,10 +17,10 @@ fn asked(rt: &(impl Abort + AllocGlobal), line: &str) -> String {
 /// The lines below a title. What stands before an arrow asks for what stands behind it.
 fn asks(rt: &(impl Abort + AllocGlobal), part: &str) {
     let (title, lines) = part.split_once('\n').expect(rt, part);
-    assert!(rt; !lines.is_empty(), "{title} has no lines");
+    holds(rt, !lines.is_empty(), title);
     for line in lines.lines() {
         let (words, wanted) = line.split_once(" -> ").expect(rt, line);
-        assert_eq!(rt; asked(rt, words).as_str(), wanted, "{title}: {line}");
+        is(rt, asked(rt, words).as_str(), wanted, line);
     }
 }
 

@@ -1,4 +1,5 @@
 //! Readers and writers that fail in the midst of a conversation, or give few bytes at a time.
+use crate::claims::{holds_at, is_at};
 use crate::scenes::gate_in_memory;
 use crate::streams::{Failing, Narrow};
 use gate_book::book::Book;
@@ -71,11 +72,11 @@ fn continues<B: Book>(rt: &(impl Abort + AllocGlobal), gate: &mut Gate<B>, spent
     for (place, other) in OTHERS.lines().enumerate() {
         let (_count, written) = replayed(rt, gate, other, (MANY, MANY), MANY);
         let answer = if place < spent { REUSED } else { UNKNOWN };
-        assert_eq!(rt; written.as_str(), answer, "{spent} spent");
+        is_at(rt, written.as_str(), answer, spent, "ids spent:");
     }
     let (count, written) = replayed(rt, gate, LINES, (MANY, MANY), MANY);
-    assert_eq!(rt; count, Ok(4), "{spent} spent");
-    assert_eq!(rt; written.as_str(), ANSWERS, "{spent} spent");
+    holds_at(rt, count == Ok(4), spent, "ids spent:");
+    is_at(rt, written.as_str(), ANSWERS, spent, "ids spent:");
 }
 
 /// The answer after so many bytes is cut, and its delivery stands.
@@ -86,12 +87,9 @@ fn stands_after<B: Book>(rt: &(impl Abort + AllocGlobal), gate: &mut Gate<B>, ro
     } else {
         Ok(4)
     };
-    assert_eq!(rt; count, wanted, "after {room} bytes");
-    assert_eq!(rt;
-        Some(taken.as_str()),
-        ANSWERS.get(..room),
-        "after {room} bytes"
-    );
+    holds_at(rt, count == wanted, room, "bytes written:");
+    let front = ANSWERS.get(..room).unwrap_or("cut in a letter");
+    is_at(rt, taken.as_str(), front, room, "bytes written:");
     continues(rt, gate, lines_within(ANSWERS, room).saturating_add(1));
 }
 
@@ -108,20 +106,11 @@ fn after_a_write_error_the_delivery_stands(rt: HostRuntime) {
 fn is_new_after<B: Book>(rt: &(impl Abort + AllocGlobal), gate: &mut Gate<B>, reads: usize) {
     let (count, written) = replayed(rt, gate, LINES, (reads, 1), MANY);
     let spent = lines_within(LINES, reads);
-    assert_eq!(rt; count, Err(IoFault::Read), "after {reads} reads");
-    assert!(rt;
-        ANSWERS.starts_with(written.as_str()),
-        "after {reads} reads"
-    );
-    assert_eq!(rt;
-        lines_within(written.as_str(), MANY),
-        spent,
-        "after {reads} reads"
-    );
-    assert!(rt;
-        written.is_empty() || written.ends_with('\n'),
-        "after {reads} reads"
-    );
+    let answered = lines_within(written.as_str(), MANY);
+    let is_whole = written.is_empty() || written.ends_with('\n');
+    holds_at(rt, count == Err(IoFault::Read), reads, "reads:");
+    holds_at(rt, ANSWERS.starts_with(written.as_str()), reads, "reads:");
+    holds_at(rt, answered == spent && is_whole, reads, "reads:");
     continues(rt, gate, spent);
 }
 
@@ -145,8 +134,8 @@ const OUTPUT: &str = r#"{"code":"E2","error":"bad-delivery"}
 /// The lines of the input are answered, where a read gives so many bytes.
 fn reads_by<B: Book>(rt: &(impl Abort + AllocGlobal), gate: &mut Gate<B>, step: usize) {
     let (count, written) = replayed(rt, gate, INPUT, (20, step), MANY);
-    assert_eq!(rt; count, Ok(4), "{step} bytes a read");
-    assert_eq!(rt; written.as_str(), OUTPUT, "{step} bytes a read");
+    holds_at(rt, count == Ok(4), step, "bytes a read:");
+    is_at(rt, written.as_str(), OUTPUT, step, "bytes a read:");
 }
 
 #[test]

@@ -4,6 +4,8 @@
 #[cfg(test)]
 mod beginnings;
 #[cfg(test)]
+mod claims;
+#[cfg(test)]
 mod conversations;
 #[cfg(test)]
 mod counters;
@@ -39,6 +41,8 @@ mod rulings;
 mod scenes;
 #[cfg(test)]
 mod standing;
+#[cfg(test)]
+mod stored;
 #[cfg(test)]
 mod streams;
 #[cfg(test)]

@@ -1,4 +1,5 @@
 //! Memory is refused once, wherever it may be.
+use crate::claims::{holds, is};
 use crate::scenes::gate_in_memory;
 use gate_book::book::Book;
 use gate_core::gate::Gate;
@@ -83,7 +84,7 @@ fn is_answered<B: Book>(
     };
     let written = written.as_slice().trim_ascii_end();
     let is_answered = written == answer.as_bytes();
-    assert!(rt; is_answered || written == UNAVAILABLE.as_bytes(), "{line}");
+    holds(rt, is_answered || written == UNAVAILABLE.as_bytes(), line);
     is_answered
 }
 
@@ -97,8 +98,8 @@ fn is_refused<B: Book>(
     let before = shown(rt, gate);
     let is_refused = !is_answered(rt, gate, line, answer);
     if is_refused {
-        assert_eq!(rt; shown(rt, gate).as_str(), before.as_str(), "{line}");
-        assert!(rt; is_answered(rt, gate, line, answer), "{line}");
+        is(rt, shown(rt, gate).as_str(), before.as_str(), line);
+        holds(rt, is_answered(rt, gate, line, answer), line);
     }
     is_refused
 }
@@ -115,7 +116,7 @@ fn refusals<B: Book>(rt: &(impl Abort + AllocGlobal), gate: &mut Gate<B>) -> u32
             .saturating_add(u32::from(first))
             .saturating_add(u32::from(again));
     }
-    assert_eq!(rt; shown(rt, gate).as_str(), STATUS);
+    is(rt, shown(rt, gate).as_str(), STATUS, "at the end");
     refused
 }
 

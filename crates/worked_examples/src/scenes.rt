@@ -49,20 +49,24 @@ queue = "web"
 name = "unit"
 "#;
 
-/// The settings of these queues, as `core 2 1 and web`.
-fn config(rt: &(impl Abort + AllocGlobal), queues: &str) -> Config {
+/// The settings file of these queues, as `core 2 1 and web`.
+fn settings(rt: &(impl Abort + AllocGlobal), queues: &str) -> String {
     let (core, web) = match queues.strip_suffix(" and web") {
         Some(core) => (core, WEB),
         None => (queues, ""),
     };
     let core = core.strip_prefix("core ").expect(rt, queues);
     let (window, floor) = core.split_once(' ').expect(rt, queues);
-    let settings = format!(in rt.alloc();
+    format!(in rt.alloc();
         "[forge]\nbase = \"https://forge/c/\"\n\n\
          [[queue]]\nname = \"core\"\nwindow = {window}\nfloor = {floor}\n{LIB_AND_APP}{web}"
     )
-    .expect(rt, "memory");
-    read(rt.alloc(), settings.as_bytes()).expect(rt, queues)
+    .expect(rt, "memory")
+}
+
+/// The settings of these queues.
+fn config(rt: &(impl Abort + AllocGlobal), queues: &str) -> Config {
+    read(rt.alloc(), settings(rt, queues).as_bytes()).expect(rt, queues)
 }
 
 /// The counters of a gate that has drawn nothing, or all numbers up to that of ` after order 7`.

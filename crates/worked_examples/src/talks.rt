@@ -10,6 +10,7 @@
 //! which a line `...` stands for any lines, `status without unit=running`, `orders`, `build 3` or `history core`,
 //! where the text may be `none`, or `history core up to byte 20`, where a writer fails behind that byte.
 use crate::beginnings::beginning;
+use crate::claims::{holds, is};
 use crate::streams::Narrow;
 use gate_book::book::Book;
 use gate_book::fault::HistoryFault;
@@ -24,17 +25,22 @@ use std::str::from_utf8;
 /// More bytes than any history here has.
 const WIDE: usize = 10_000;
 
+/// What stands for a line or a text that isn't there, and is none.
+const NONE: &str = "\n";
+
 /// Adds the words, with `<a*9>` in them for a text so many times.
-fn push(rt: &(impl Abort + AllocGlobal), told: &mut String, words: &str) {
+fn push(rt: &impl Abort, told: &mut String, words: &str) {
     let Some((front, rest)) = words.split_once('<') else {
         return told.push_str(words).expect(rt, "memory");
     };
     let (text, rest) = rest.split_once('*').expect(rt, words);
     let (times, back) = rest.split_once('>').expect(rt, words);
     let times = times.parse::<usize>().ok().expect(rt, words);
-    let text = text.repeat(rt.alloc(), times).expect(rt, "memory");
-    let words = format!(in rt.alloc(); "{front}{text}{back}").expect(rt, "memory");
-    told.push_str(words.as_str()).expect(rt, "memory");
+    told.push_str(front).expect(rt, "memory");
+    for _ in 0..times {
+        told.push_str(text).expect(rt, "memory");
+    }
+    told.push_str(back).expect(rt, "memory");
 }
 
 /// What is told in a talk.
@@ -60,12 +66,12 @@ fn answered(rt: &impl Abort, title: &str, talk: &str, written: &str) -> u64 {
     let mut count = 0u64;
     for line in talk.lines() {
         if let Some(answer) = line.strip_prefix("< ") {
-            assert_eq!(rt; lines.next(), Some(answer), "{title}");
+            is(rt, lines.next().unwrap_or(NONE), answer, title);
             count = count.saturating_add(1);
         }
     }
-    assert_eq!(rt; lines.next(), Some(""), "{title}");
-    assert_eq!(rt; lines.next(), None, "{title}");
+    is(rt, lines.next().unwrap_or(NONE), "", title);
+    holds(rt, lines.next().is_none(), title);
     count
 }
 
@@ -82,24 +88,30 @@ pub fn tells<B: Book>(
     let count = replay(rt.alloc(), gate, &mut r, &mut w).expect(rt, title);
     let written = w.into_inner();
     let written = from_utf8(written.as_slice()).ok().expect(rt, title);
-    assert_eq!(rt; answered(rt, title, talk, written), count, "{title}");
+    holds(rt, answered(rt, title, talk, written) == count, title);
 }
 
-/// The lines for one number.
-fn numbered(rt: &(impl Abort + AllocGlobal), lines: &str, n: u32, before: &str) -> String {
-    let alloc = rt.alloc();
-    let number = format!(in alloc; "{n}").expect(rt, "memory");
-    let digits = format!(in alloc; "{n:012}").expect(rt, "memory");
-    let next = n.saturating_add(1);
-    let next = format!(in alloc; "{next}").expect(rt, "memory");
-    let lines = lines.replace(alloc, "<n>", number.as_str());
-    let lines = lines.expect(rt, "memory");
-    let lines = lines.as_str().replace(alloc, "<000n>", digits.as_str());
-    let lines = lines.expect(rt, "memory");
-    let lines = lines.as_str().replace(alloc, "<n+1>", next.as_str());
-    let lines = lines.expect(rt, "memory");
-    let lines = lines.as_str().replace(alloc, "<to n>", before);
-    lines.expect(rt, "memory")
+/// Adds a piece of lines: what stands for a mark and a number, and the text behind its `>`.
+fn push_piece(rt: &impl Abort, talk: &mut String, piece: &str, n: u32, before: &str) {
+    let (mark, rest) = piece.split_once('>').unwrap_or(("", piece));
+    match mark {
+        "n" => write!(talk, "{n}{rest}"),
+        "000n" => write!(talk, "{n:012}{rest}"),
+        "n+1" => write!(talk, "{}{rest}", n.saturating_add(1)),
+        "to n" => write!(talk, "{before}{rest}"),
+        _ => write!(talk, "<{piece}"),
+    }
+    .expect(rt, "memory");
+}
+
+/// Adds the lines for one number.
+fn push_numbered(rt: &impl Abort, talk: &mut String, lines: &str, n: u32, before: &str) {
+    let (front, pieces) = lines.split_once('<').expect(rt, lines);
+    talk.push_str(front).expect(rt, "memory");
+    for piece in pieces.split('<') {
+        push_piece(rt, talk, piece, n, before);
+    }
+    talk.push('\n').expect(rt, "memory");
 }
 
 /// The lines, once for each number, as `n from 2 to 9`.
@@ -111,13 +123,23 @@ fn repeated(rt: &(impl Abort + AllocGlobal), words: &str, lines: &str) -> String
     let mut talk = String::new(rt.alloc());
     let mut before = String::new(rt.alloc());
     for n in first..last.saturating_add(1) {
-        let lines = numbered(rt, lines, n, before.as_str());
-        let entry = format!(in rt.alloc(); ",[{n},1]").expect(rt, "memory");
-        talk.push_str(lines.as_str()).expect(rt, "memory");
-        talk.push('\n').expect(rt, "memory");
-        before.push_str(entry.as_str()).expect(rt, "memory");
+        push_numbered(rt, &mut talk, lines, n, before.as_str());
+        write!(before, ",[{n},1]").expect(rt, "memory");
     }
     talk
+}
+
+/// A status is this text, or has nothing of what it is to be without.
+fn is_status(rt: &impl Abort, status: &str, title: &str, words: &str, text: &str) {
+    if !words.is_empty() {
+        let missing = words.strip_prefix("without ").expect(rt, words);
+        holds(rt, text.is_empty() && !status.contains(missing), title);
+    } else if let Some((front, back)) = text.split_once("...") {
+        holds(rt, status.starts_with(front), title);
+        holds(rt, status.ends_with(back), title);
+    } else {
+        is(rt, status, text, title);
+    }
 }
 
 /// The status text is this, or has nothing of what it is to be without.
@@ -130,15 +152,7 @@ fn has_status<B: Book>(
 ) {
     let status = gate.status(rt.alloc()).expect(rt, title);
     let status = status.as_str().strip_suffix('\n').expect(rt, title);
-    if !words.is_empty() {
-        let missing = words.strip_prefix("without ").expect(rt, words);
-        assert!(rt; text.is_empty() && !status.contains(missing), "{title}");
-    } else if let Some((front, back)) = text.split_once("...") {
-        assert!(rt; status.starts_with(front), "{title}: {front}");
-        assert!(rt; status.ends_with(back), "{title}: {back}");
-    } else {
-        assert_eq!(rt; status, text, "{title}");
-    }
+    is_status(rt, status, title, words, text);
 }
 
 /// The orders that are shown are these.
@@ -149,7 +163,7 @@ fn has_orders<B: Book>(
     text: &str,
 ) {
     let orders = gate.orders(rt.alloc()).expect(rt, title);
-    assert_eq!(rt; orders.as_str(), text, "{title}");
+    is(rt, orders.as_str(), text, title);
 }
 
 /// The build of the number has this text, or there is none.
@@ -163,11 +177,11 @@ fn has_build<B: Book>(
     let number = number.parse::<u64>().ok().expect(rt, number);
     let number = BuildNo::new(number).expect(rt, title);
     match gate.build(rt.alloc(), number) {
-        Ok(build) => assert_eq!(rt; build.as_str(), text, "{title}"),
-        Err(refusal) => assert!(rt;
-            refusal == Refusal::UnknownBuild && text == "none",
-            "{title}"
-        ),
+        Ok(build) => is(rt, build.as_str(), text, title),
+        Err(refusal) => {
+            holds(rt, refusal == Refusal::UnknownBuild, title);
+            is(rt, "none", text, title);
+        }
     }
 }
 
@@ -192,12 +206,12 @@ fn has_history<B: Book>(
     let Narrow { taken, .. } = w.into_inner();
     let taken = from_utf8(taken.as_slice()).ok().expect(rt, title);
     match answered {
-        Ok(()) => assert_eq!(rt; taken.strip_suffix('\n'), Some(text), "{title}"),
-        Err(HistoryFault::Write) => assert_eq!(rt; Some(taken), text.get(..room), "{title}"),
+        Ok(()) => is(rt, taken.strip_suffix('\n').unwrap_or(NONE), text, title),
+        Err(HistoryFault::Write) => is(rt, taken, text.get(..room).unwrap_or(NONE), title),
         Err(fault) => {
-            assert_eq!(rt; fault, HistoryFault::NoQueue, "{title}");
-            assert_eq!(rt; taken, "", "{title}");
-            assert_eq!(rt; text, "none", "{title}");
+            holds(rt, fault == HistoryFault::NoQueue, title);
+            is(rt, taken, "", title);
+            is(rt, "none", text, title);
         }
     }
 }

@@ -1,4 +1,5 @@
 //! A book that counts the items of a queue that a delivery reads: no more of a long queue than of a short one.
+use crate::claims::holds;
 use crate::scenes::gate_in_memory;
 use crate::talks::goes_on;
 use gate_book::book::Book;
@@ -165,7 +166,7 @@ end
 /// The gate goes on by these parts, of which the last delivery reads two items of a queue at most.
 fn reads_two(rt: &(impl Abort + AllocGlobal), gate: &mut Gate<Watched>, parts: &str) {
     goes_on(rt, gate, "two items are read", parts);
-    assert!(rt; gate.book.asked <= 2, "{parts}");
+    holds(rt, gate.book.asked <= 2, parts);
 }
 
 #[test]

@@ -1,0 +1,6 @@
+//! A book in memory, and one that keeps answers over it.
+mod asked;
+mod cached;
+mod counting;
+mod memory;
+mod scene;

@@ -1,0 +1,141 @@
+//! What a book answers, compared with what it has to answer.
+use crate::books::scene::{change_no, id, name, serial_no};
+use gate_book::book::Book;
+use gate_book::rows::QueueSizes;
+use gate_types::numbers::ChangeNo;
+use gate_types::records::{Counters, Item, Ready};
+use std::process::Abort;
+
+pub fn queue_is<B: Book>(
+    rt: &(impl Abort + AllocGlobal),
+    book: &mut B,
+    queue: &str,
+    wanted: Option<QueueSizes>,
+) {
+    let found = book.queue(&name(rt, queue));
+    assert!(rt; found == Ok(wanted), "{queue}");
+}
+
+pub fn reports_are<B: Book>(
+    rt: &(impl Abort + AllocGlobal),
+    book: &mut B,
+    queue: &str,
+    wanted: u64,
+) {
+    let found = book.reports(&name(rt, queue));
+    assert!(rt; found == Ok(wanted), "{queue}");
+}
+
+/// So many landings of `core` have a lower serial.
+pub fn landings_before<B: Book>(
+    rt: &(impl Abort + AllocGlobal),
+    book: &mut B,
+    serial: u64,
+    wanted: u64,
+) {
+    let found = book.landing_before(&name(rt, "core"), serial_no(rt, serial));
+    assert!(rt; found == Ok(wanted), "{serial}");
+}
+
+pub fn counters_are<B: Book>(rt: &impl Abort, book: &mut B, wanted: Counters) {
+    assert!(rt; book.counters() == Ok(wanted));
+}
+
+pub fn ready_are<B: Book>(rt: &impl Abort, book: &mut B, wanted: &[Ready]) {
+    let ready = book.ready().expect(rt, "the ready list");
+    assert!(rt; ready.as_slice() == wanted);
+}
+
+/// The items of `core`.
+pub fn items_are<B: Book>(rt: &(impl Abort + AllocGlobal), book: &mut B, wanted: &[Item]) {
+    let items = book.items(&name(rt, "core")).expect(rt, "items");
+    assert!(rt; items.as_slice() == wanted);
+}
+
+pub fn item_is<B: Book>(rt: &impl Abort, book: &mut B, serial: u64, wanted: Option<Item>) {
+    assert!(rt; book.item(serial_no(rt, serial)) == Ok(wanted), "{serial}");
+}
+
+/// The first item of `core` above a serial.
+pub fn next_item_is<B: Book>(
+    rt: &(impl Abort + AllocGlobal),
+    book: &mut B,
+    above: u64,
+    wanted: Option<Item>,
+) {
+    assert!(rt;
+        book.next_item(&name(rt, "core"), above) == Ok(wanted),
+        "{above}"
+    );
+}
+
+/// The last item of `core` below a serial.
+pub fn last_item_is<B: Book>(
+    rt: &(impl Abort + AllocGlobal),
+    book: &mut B,
+    below: u64,
+    wanted: Option<Item>,
+) {
+    assert!(rt;
+        book.last_item(&name(rt, "core"), below) == Ok(wanted),
+        "{below}"
+    );
+}
+
+/// The first item of `core` above a serial whose change needs this one.
+pub fn needing_is<B: Book>(
+    rt: &(impl Abort + AllocGlobal),
+    book: &mut B,
+    change: u64,
+    above: u64,
+    wanted: Option<Item>,
+) {
+    let found = book.needing(&name(rt, "core"), change_no(rt, change), above);
+    assert!(rt; found == Ok(wanted), "{above}");
+}
+
+/// A change stands in `core` as this item.
+pub fn queued_is<B: Book>(rt: &impl Abort, book: &mut B, change: u64, wanted: Item) {
+    let queued = book.queued(change_no(rt, change)).expect(rt, "an item");
+    let queued = queued.expect(rt, "an item");
+    assert_eq!(rt; queued.queue.as_str(), "core");
+    assert!(rt; queued.item == wanted, "{change}");
+}
+
+pub fn not_queued<B: Book>(rt: &impl Abort, book: &mut B, change: u64) {
+    assert!(rt;
+        matches!(&book.queued(change_no(rt, change)), Ok(None)),
+        "{change}"
+    );
+}
+
+/// A change is known, and needs these.
+pub fn needs_are<B: Book>(rt: &impl Abort, book: &mut B, change: u64, wanted: &[ChangeNo]) {
+    let known = book.change(change_no(rt, change)).expect(rt, "a change");
+    let needs = known.expect(rt, "a change").needs;
+    assert!(rt; needs.as_slice() == wanted, "{change}");
+}
+
+pub fn not_known<B: Book>(rt: &impl Abort, book: &mut B, change: u64) {
+    assert!(rt;
+        matches!(&book.change(change_no(rt, change)), Ok(None)),
+        "{change}"
+    );
+}
+
+/// An item has so many live builds.
+pub fn live_builds<B: Book>(rt: &impl Abort, book: &mut B, serial: u64, wanted: usize) {
+    let live = book.live_builds(serial_no(rt, serial)).expect(rt, "builds");
+    assert!(rt; live.as_slice().len() == wanted, "{serial}");
+}
+
+/// This reply is kept under an id.
+pub fn reply_is<B: Book>(rt: &impl Abort, book: &mut B, number: u64, wanted: &str) {
+    let kept = book.delivery(&id(number)).expect(rt, "a kept reply");
+    let reply = kept.expect(rt, "a kept reply").reply;
+    assert_eq!(rt; reply.as_str(), wanted);
+}
+
+pub fn no_reply<B: Book>(rt: &impl Abort, book: &mut B, number: u64) {
+    assert!(rt; matches!(&book.delivery(&id(number)), Ok(None)), "{number}");
+}

@@ -1,0 +1,13 @@
+//! Small queues that are settled and walked over, and the builds that are due in them.
+mod asked;
+mod board;
+mod choices;
+mod counting;
+mod lives;
+mod rising;
+mod scenes;
+mod settlings;
+mod told;
+mod walking;
+mod walks;
+mod words;

@@ -1,0 +1,28 @@
+//! What a test claims, and where. Each claim is a call, since what a test holds beside a message that is written is to be
+//! proved unharmed by each of its words.
+use std::process::Abort;
+
+/// The claim holds.
+pub fn holds(rt: &impl Abort, claim: bool, place: &str) {
+    assert!(rt; claim, "{place}");
+}
+
+/// The text is the one that is wanted.
+pub fn is(rt: &impl Abort, found: &str, wanted: &str, place: &str) {
+    assert_eq!(rt; found, wanted, "{place}");
+}
+
+/// The claim holds at a number of something, as `after 7 bytes`.
+pub fn holds_at(rt: &impl Abort, claim: bool, number: usize, what: &str) {
+    assert!(rt; claim, "{what} {number}");
+}
+
+/// The text at a number of something is the one that is wanted.
+pub fn is_at(rt: &impl Abort, found: &str, wanted: &str, number: usize, what: &str) {
+    assert_eq!(rt; found, wanted, "{what} {number}");
+}
+
+/// Runs ended in both ways.
+pub fn both_came(rt: &impl Abort, (some, others): (u32, u32), what: &str) {
+    assert!(rt; some > 0 && others > 0, "{what}: {some} and {others}");
+}

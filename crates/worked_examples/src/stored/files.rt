@@ -1,0 +1,153 @@
+//! What all tests share: settings, gates over a file's tables, and what they are told.
+use crate::claims::is;
+use gate_book::book::Book;
+use gate_cache::cached::CachedBook;
+use gate_config::read;
+use gate_core::fault::IoFault;
+use gate_core::gate::Gate;
+use gate_core::replay::replay;
+use gate_sql::book::SqlBook;
+use gate_sql::open_fault::OpenFault;
+use gate_types::tap::Tap;
+use sqlite::{Alter, Connection};
+use std::alloc::Global;
+use std::process::Abort;
+
+/// The queues `core`, with the projects `lib` and `app`, and `web`, with `site`.
+pub const SETTINGS: &str = r#"
+[forge]
+base = "https://forge/c/"
+
+[[queue]]
+name = "core"
+window = 2
+floor = 1
+
+[[queue]]
+name = "web"
+window = 2
+floor = 1
+
+[[project]]
+name = "lib"
+queue = "core"
+[[project.job]]
+name = "unit"
+[[project.job]]
+name = "docs"
+voting = false
+
+[[project]]
+name = "app"
+queue = "core"
+[[project.job]]
+name = "unit"
+
+[[project]]
+name = "site"
+queue = "web"
+[[project.job]]
+name = "unit"
+"#;
+
+/// A gate over a file, as the program makes it.
+pub type FileGate<S> = Gate<CachedBook<SqlBook<S>>>;
+
+/// Why there is no book over a file's tables, if there is none, and the file's connection.
+pub fn parts<S: Alter + Drop>(
+    made: Result<SqlBook<S>, (OpenFault, Connection<S>)>,
+) -> (Option<OpenFault>, Connection<S>) {
+    match made {
+        Ok(book) => (None, book.into_conn()),
+        Err((fault, conn)) => (Some(fault), conn),
+    }
+}
+
+/// Makes the tables of a new gate in a file: why they aren't made, if they aren't, and the connection.
+pub fn created<S: Alter + Drop>(
+    rt: &(impl Abort + AllocGlobal),
+    conn: Connection<S>,
+) -> (Option<OpenFault>, Connection<S>) {
+    let config = read(rt.alloc(), SETTINGS.as_bytes()).expect(rt, "settings");
+    parts(SqlBook::create(rt.alloc(), conn, &config))
+}
+
+/// A file with the tables of a new gate.
+pub fn new_file<S: Alter + Drop>(
+    rt: &(impl Abort + AllocGlobal),
+    conn: Connection<S>,
+) -> Connection<S> {
+    let (fault, conn) = created(rt, conn);
+    assert!(rt; fault.is_none(), "no tables are made");
+    conn
+}
+
+/// The gate in a file under these settings, or why there is none, with the connection.
+pub fn gate_under<S: Alter + Drop>(
+    rt: &(impl Abort + AllocGlobal),
+    conn: Connection<S>,
+    settings: &str,
+) -> Result<FileGate<S>, (OpenFault, Connection<S>)> {
+    let config = read(rt.alloc(), settings.as_bytes()).expect(rt, "settings");
+    let book = SqlBook::open(rt.alloc(), conn, &config)?;
+    Ok(Gate::new(config, CachedBook::new(rt.alloc(), book)))
+}
+
+/// The gate in a file.
+pub fn gate_in<S: Alter + Drop>(
+    rt: &(impl Abort + AllocGlobal),
+    conn: Connection<S>,
+) -> FileGate<S> {
+    gate_under(rt, conn, SETTINGS)
+        .ok()
+        .expect(rt, "a gate in the file")
+}
+
+/// The connection that a gate was made over. A test ends a gate so: the end of a connection takes the prover less.
+pub fn conn_of<S: Alter + Drop>(gate: FileGate<S>) -> Connection<S> {
+    gate.into_book().into_book().into_conn()
+}
+
+/// What a gate writes for lines.
+fn said<B: Book>(alloc: Global, gate: &mut Gate<B>, lines: &str) -> Result<Vec<u8>, IoFault> {
+    let mut r = Tap::new(lines.as_bytes());
+    let mut w = Tap::new(Vec::new(alloc));
+    let _count = replay(alloc, gate, &mut r, &mut w)?;
+    Ok(w.into_inner())
+}
+
+/// What a gate over a file writes for lines; and the connection.
+pub fn said_over<S: Alter + Drop>(
+    alloc: Global,
+    mut gate: FileGate<S>,
+    lines: &str,
+) -> (Result<Vec<u8>, IoFault>, Connection<S>) {
+    let written = said(alloc, &mut gate, lines);
+    (written, conn_of(gate))
+}
+
+/// The lines get the answers, and leave the status.
+fn tells<B: Book>(
+    rt: &(impl Abort + AllocGlobal),
+    gate: &mut Gate<B>,
+    lines: &str,
+    answers: &str,
+    status: &str,
+) {
+    let written = said(rt.alloc(), gate, lines).expect(rt, "answers");
+    assert!(rt; written.as_slice() == answers.as_bytes());
+    let text = gate.status(rt.alloc()).expect(rt, "a status");
+    is(rt, text.as_str(), status, "the status");
+}
+
+/// The lines get the answers of a gate over a file, and leave the status; the connection is given back.
+pub fn tells_over<S: Alter + Drop>(
+    rt: &(impl Abort + AllocGlobal),
+    mut gate: FileGate<S>,
+    lines: &str,
+    answers: &str,
+    status: &str,
+) -> Connection<S> {
+    tells(rt, &mut gate, lines, answers, status);
+    conn_of(gate)
+}
