@@ -1,10 +1,10 @@
 //! What each fault is told by, and how a process ends.
 use crate::claims::holds;
+use crate::process::started;
 use gate_config::ConfigFault;
 use gate_types::tap::Tap;
 use gated_cli::program::unread;
 use gated_cli::run::{Fault, ended};
-use gated_process::started;
 use std::io;
 use std::process::ExitCode;
 

@@ -1,13 +1,11 @@
 //! The program as a process: what `main` does.
-#![tactic(auto)]
-
 use gate_types::tap::Tap;
 use gated_cli::program::{program, unread};
 use std::process::ExitCode;
 use std::{env, io};
 
 /// The program over the words and the streams of its process.
-pub fn started(rt: &HostRuntime) -> ExitCode {
+pub(crate) fn started(rt: &HostRuntime) -> ExitCode {
     let mut input = Tap::new(rt.stdin());
     let mut output = Tap::new(rt.stdout());
     let mut errors = Tap::new(rt.stderr());
