@@ -20,7 +20,7 @@ CALLS = KINDS + ["result, two items leave", "landed, three items leave", "a conv
 
 NAMES = {number: f"{call}, in memory" for number, call in enumerate(CALLS)}
 NAMES |= {100 + number: f"{call}, over tables" for number, call in enumerate(CALLS)}
-NAMES |= {200: "settings are read", 201: "a file is made", 202: "a file is opened"}
+NAMES |= {200: "settings are read", 201: "a file is made", 202: "a file is opened", 203: "a walk visits a row"}
 
 
 def write(folder, name, case, wasted, behind):
