@@ -25,6 +25,7 @@ try() {
     }
 }
 
+rm -rf "$work/first" "$work/places"
 sweep first "$work/first" ${CASES:-}
 try "$work/first"
 sweep places "$work/first" "$work/places" "${PLACES:-100000}"

@@ -89,8 +89,8 @@ def judge(known, folder):
         counts = [said.count(word) for word in ("refused", "broken off", "nothing")]
         assert sum(counts) == len(said) and sum(counts[:2]) > 0, f"{NAMES[case]}: {set(said)}"
         assert (counts[1] > 0) == NAMES[case].startswith("a history"), f"{NAMES[case]}: {counts[1]} broken off"
-        told = "{} refused, {} broken off, {} answered".format(*counts)
-        print(f"{NAMES[case]}: {count} places, {len(said)} tried: {told}")
+        came = "{} refused, {} broken off, {} answered".format(*counts)
+        print(f"{NAMES[case]}: {count} places, {len(said)} tried: {came}")
     print("ok")
 
 
