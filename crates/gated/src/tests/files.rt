@@ -1,6 +1,6 @@
 //! Whole runs of the program over the gate that a real file keeps.
-use crate::machine::Machine;
-use crate::sessions::plays;
+use crate::tests::machine::Machine;
+use crate::tests::sessions::plays;
 
 const DELIVERED: &str =
     r#"# a second init is refused and leaves the gate: a repeat gets the kept reply, and the change is still known

@@ -1,6 +1,6 @@
 //! What each fault is told by, and how a process ends.
-use crate::claims::holds;
 use crate::process::started;
+use crate::tests::claims::holds;
 use gate_config::ConfigFault;
 use gate_types::tap::Tap;
 use gated_cli::program::unread;

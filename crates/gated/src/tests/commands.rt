@@ -1,6 +1,6 @@
 //! Whole runs of the program over settings files: what is printed, and the status.
-use crate::machine::Machine;
-use crate::sessions::plays;
+use crate::tests::machine::Machine;
+use crate::tests::sessions::plays;
 
 const SESSIONS: &str = r#"# a check counts what the settings have
 $ write check_counts.toml < two queues

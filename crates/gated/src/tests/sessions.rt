@@ -1,7 +1,7 @@
 //! Sessions at a shell: what is typed, and what comes of it.
-use crate::machine::Machine;
-use crate::streams::{Input, Output};
-use crate::texts::text_of;
+use crate::tests::machine::Machine;
+use crate::tests::streams::{Input, Output};
+use crate::tests::texts::text_of;
 use gate_types::tap::Tap;
 use gated_cli::program::program;
 use std::fs;

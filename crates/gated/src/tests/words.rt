@@ -1,6 +1,6 @@
 //! Command lines, and what they ask for.
-use crate::claims::{holds, is};
-use crate::sessions::words_of;
+use crate::tests::claims::{holds, is};
+use crate::tests::sessions::words_of;
 use gated_command::command::command;
 use std::process::Abort;
 

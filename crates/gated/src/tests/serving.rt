@@ -1,7 +1,7 @@
 //! Clients over loopback, at the gate of a file.
-use crate::claims::holds;
-use crate::machine::Machine;
-use crate::sessions::plays;
+use crate::tests::claims::holds;
+use crate::tests::machine::Machine;
+use crate::tests::sessions::plays;
 use std::io::{Read, Write};
 use std::net::{Net, SocketAddr, TcpListener, TcpStream};
 use std::process::Abort;
