@@ -2,8 +2,8 @@
 # Refuses memory at each place of some calls, one place a run: of a delivery of each kind and two that let more than one
 # item leave, over a book in memory and over tables; of a conversation, a request, a history, reading settings, making
 # and opening a gate's file, and a walk's visit. Each answers that memory is wanting, leaves all as it was, and gives its
-# answer when it is made again; or gives its answer at once. PLACES is how many places of each call are tried at most, by
-# default all; CASES names some of the cases, by their numbers in bench/refused/sweep.py.
+# answer when it is made again; or gives its answer at once. PLACES is how many places of each call but the histories are
+# tried at most, by default all; CASES names some of the cases, by their numbers in bench/refused/sweep.py.
 set -eu
 . "$(dirname "$0")/scratch.sh"
 LIBRARIES=sqlite

@@ -3,7 +3,7 @@
 sweep.py last: which allocation of a run is refused.
 sweep.py first FOLDER [CASE..]: two runs a case, that tell how many allocations come before its call, and in it.
 sweep.py places FIRST FOLDER MOST: from what these told, a run for each place in each call, and one behind it; of a call
-with over MOST places for about as many of them.
+with over MOST places for about as many of them, but of a history for all, since some run of it has to break off.
 sweep.py judge FIRST PLACES: what these told. Each place must have been met, and no run gone wrong.
 
 A run is named CASE-PLACE, and its input is the case, how many allocations it makes before the call, and how many at
@@ -21,6 +21,10 @@ CALLS = KINDS + ["result, two items leave", "landed, three items leave", "a conv
 NAMES = {number: f"{call}, in memory" for number, call in enumerate(CALLS)}
 NAMES |= {100 + number: f"{call}, over tables" for number, call in enumerate(CALLS)}
 NAMES |= {200: "settings are read", 201: "a file is made", 202: "a file is opened", 203: "a walk visits a row"}
+
+
+def is_history(case):
+    return NAMES[case].startswith("a history")
 
 
 def write(folder, name, case, wasted, behind):
@@ -73,7 +77,8 @@ def sizes(folder):
 def places(known, folder, most):
     os.mkdir(folder)
     for case, (left, count) in sizes(known).items():
-        for place in [*range(1, count + 1, -(-count // most)), count + 1]:
+        step = 1 if is_history(case) else -(-count // most)
+        for place in [*range(1, count + 1, step), count + 1]:
             write(folder, f"{case:03d}-{place:05d}", case, left - place, 3)
 
 
@@ -88,7 +93,7 @@ def judge(known, folder):
         said = list(of_case.values())
         counts = [said.count(word) for word in ("refused", "broken off", "nothing")]
         assert sum(counts) == len(said) and sum(counts[:2]) > 0, f"{NAMES[case]}: {set(said)}"
-        assert (counts[1] > 0) == NAMES[case].startswith("a history"), f"{NAMES[case]}: {counts[1]} broken off"
+        assert (counts[1] > 0) == is_history(case), f"{NAMES[case]}: {counts[1]} broken off"
         came = "{} refused, {} broken off, {} answered".format(*counts)
         print(f"{NAMES[case]}: {count} places, {len(said)} tried: {came}")
     print("ok")
