@@ -1,4 +1,6 @@
 pub mod TapLemmas
 pub mod JoinLemmas
+pub mod SettingsTextLemmas
+pub mod AdoptedLemmas
 pub mod OnceLaw
 pub mod OneTextLaw

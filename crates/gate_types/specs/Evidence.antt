@@ -8,7 +8,7 @@ use Rattle.gate_types.specs.Settings.{Settings}
 use Rattle.gate_types.specs.declared.records.Landing.{Landing}
 use Rattle.gate_types.specs.declared.records.Build.{Build}
 use Rattle.gate_types.specs.Names.{same_name}
-use Rattle.gate_types.specs.State.{Queue, State, project_of}
+use Rattle.gate_types.specs.State.{Queue, State, plan_of}
 use Rattle.gate_types.specs.Line.{landed_entry, same_entries, ran_on}
 use Rattle.gate_types.specs.Slot.{is_success}
 
@@ -22,12 +22,12 @@ abbrev pub is_one_on : List Landing → List Entry → List Build → Bool
 is_one_on landings on (b ∷ []) = same_entries (ran_on landings b) on
 is_one_on landings on _ = false
 
--- each voting job of a landing's project has passed just once, on the first n landings
+-- each voting job of a landing's plan has passed just once, on the first n landings
 abbrev pub is_shown : Settings → State → Queue → ℕ → Landing → Bool
 is_shown c s q n l =
     list_all (λ j. not j.voting ||
     is_one_on q.landings (map landed_entry (take n q.landings)) (passed_builds s.builds l.serial j))
-    (project_of c s l.change).jobs
+    (plan_of s l.serial).jobs
 
 -- the landing at a place, from 0, is shown: its builds ran on the landings before it, then itself
 abbrev pub IsShown : Settings → State → Queue → ℕ → Type 0

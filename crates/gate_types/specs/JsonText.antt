@@ -30,6 +30,11 @@ joined [] rest = rest
 joined (x ∷ []) rest = x rest
 joined (x ∷ y ∷ xs) rest = x (44 ∷ joined (y ∷ xs) rest)
 
+-- pieces with a comma behind each
+abbrev pub leading : List Piece → Piece
+leading [] rest = rest
+leading (x ∷ xs) rest = x (44 ∷ leading xs rest)
+
 -- an array
 abbrev pub array : List Piece → Piece
 array items rest = 91 ∷ joined items (93 ∷ rest)

@@ -21,6 +21,9 @@ pub mod ReplyText
 pub mod Refusals
 pub mod Once
 pub mod Acting
+pub mod Adopt
+pub mod Events
+pub mod Migrate
 pub mod Evidence
 pub mod Lawful
 pub mod Forms
@@ -28,6 +31,7 @@ pub mod SettingsText
 pub mod Columns
 pub mod Rows
 pub mod Tables
+pub mod AdoptedTables
 pub mod Status
 pub mod OrderList
 pub mod BuildText

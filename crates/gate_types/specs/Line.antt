@@ -9,13 +9,14 @@ use Rattle.gate_types.specs.declared.records.Need.{Need}
 use Rattle.gate_types.specs.State.{Item}
 
 -- an item of a queue with all that its rules ask for: the landings of its queue, the non-failing items
--- before it, the needs of its change, the jobs of its project
+-- before it, the needs of its change, the jobs of its plan, and whether one failure ends them all
 pub record Place : Type 0 where
   pub landings : List Landing
   pub ahead : List Item
   pub item : Item
   pub needs : List Need
   pub jobs : List Job
+  pub fast : Bool
 
 -- the change of a landing at its revision
 abbrev pub landed_entry : Landing → Entry

@@ -1,16 +1,28 @@
 -- The settings, and the tests that sound ones pass.
-use Rattle.std.specs.Prelude.{ℕ, Bool, true, ◌&&◌, ◌||◌, not, ◌==◌, nat_le, List, [], ◌∷◌, map, length}
+use Rattle.std.specs.Prelude.{ℕ, Bool, true, false, ◌&&◌, ◌||◌, not, ◌==◌, nat_le, List, [], ◌∷◌, map, length}
 use Rattle.std.specs.List.{list_any, list_all}
 use Rattle.gate_types.specs.Names.{same_name}
 use Rattle.gate_types.specs.declared.config.Job.{Job}
 use Rattle.gate_types.specs.declared.config.Queue.{Queue}
 use Rattle.gate_types.specs.declared.config.Project.{Project}
+use Rattle.gate_types.specs.declared.config.Pace.{Pace}
+use Rattle.gate_types.specs.declared.config.WindowRule.{WindowRule}
+use Rattle.gate_types.specs.declared.config.Pace.TheVariants as pace
 
 -- what a settings file says
 pub record Settings : Type 0 where
   pub base : List ℕ
   pub queues : List Queue
   pub projects : List Project
+
+-- whether a window changes by a number of items
+abbrev pub is_linear : Pace → Bool
+is_linear pace.Linear = true
+is_linear pace.Exponential = false
+
+-- the rule of a queue that says nothing of it: one more for a landing, half for a failure
+abbrev pub default_rule : WindowRule
+default_rule = record { increase = pace.Linear; increase_by = 1; decrease = pace.Exponential; decrease_by = 2 }
 
 -- no name stands twice
 abbrev pub are_distinct : List (List ℕ) → Bool
@@ -21,10 +33,19 @@ are_distinct (n ∷ ns) = not (list_any (same_name n) ns) && are_distinct ns
 abbrev pub has_queue : List Queue → List ℕ → Bool
 has_queue queues name = list_any (λ q. same_name q.name name) queues
 
--- a window up to 1,000, over a floor of 1 to 1,000; the window 0 has no bound
+-- what a window changes by: 1 to 1,000
+abbrev pub is_factor : ℕ → Bool
+is_factor n = nat_le 1 n && nat_le n 1000
+
+-- the numbers of a rule
+abbrev pub is_sound_rule : WindowRule → Bool
+is_sound_rule r = is_factor r.increase_by && is_factor r.decrease_by
+
+-- a window up to 1,000, over a floor of 1 to 1,000, by a sound rule; the window 0 has no bound
 abbrev pub is_sound_window : Queue → Bool
 is_sound_window q =
-    nat_le q.window 1000 && nat_le 1 q.floor && nat_le q.floor 1000 && (q.window == 0 || nat_le q.floor q.window)
+    nat_le q.window 1000 && nat_le 1 q.floor && nat_le q.floor 1000 &&
+    (q.window == 0 || nat_le q.floor q.window) && is_sound_rule q.rule
 
 -- up to 32 jobs of different names, one of them voting
 abbrev pub are_sound_jobs : List Job → Bool

@@ -56,10 +56,6 @@ slot_of_outcomes os =
     if list_any is_failure os || nat_le 3 (count_by is_lost os) then slot.Failure else (
     if list_any is_running os then slot.Running else slot.Waiting))
 
--- what a job of an item has come to
-abbrev pub slot_of : List Build → Place → Job → Slot
-slot_of builds p job = slot_of_outcomes (outcomes_of builds p job)
-
 -- one build failed, or three were lost
 abbrev pub is_failed_slot : Slot → Bool
 is_failed_slot slot.Failure = true
@@ -70,8 +66,35 @@ abbrev pub is_waiting_slot : Slot → Bool
 is_waiting_slot slot.Waiting = true
 is_waiting_slot _ = false
 
--- a success or a failure
+-- nothing more is to come of the job: a success, a failure, or skipped
 abbrev pub is_finished : Slot → Bool
 is_finished slot.Success = true
 is_finished slot.Failure = true
+is_finished slot.Skipped = true
 is_finished _ = false
+
+-- what the builds of a job have come to
+abbrev pub raw_slot_of : List Build → Place → Job → Slot
+raw_slot_of builds p job = slot_of_outcomes (outcomes_of builds p job)
+
+-- a voting job is a failure
+abbrev pub has_failure : List Build → Place → Bool
+has_failure builds p = list_any (λ j. j.voting && is_failed_slot (raw_slot_of builds p j)) p.jobs
+
+-- an item is cut if it is to fail fast, it isn't blocked, and a voting job is a failure
+abbrev pub is_cut : List Build → Place → Bool
+is_cut builds p = p.fast && not (is_blocked p) && has_failure builds p
+
+-- what a cut item leaves of a slot
+abbrev pub cut_slot : Slot → Slot
+cut_slot slot.Running = slot.Skipped
+cut_slot slot.Waiting = slot.Skipped
+cut_slot x = x
+
+-- what a job of an item has come to
+abbrev pub slot_of : List Build → Place → Job → Slot
+slot_of builds p job = if is_cut builds p then cut_slot (raw_slot_of builds p job) else raw_slot_of builds p job
+
+-- a build is wanted if it counts, and isn't still running for a cut item
+abbrev pub is_wanted : List Build → Place → Build → Bool
+is_wanted builds p b = counts p b && not (is_running b.outcome && is_cut builds p)

@@ -1,18 +1,18 @@
 -- Which items are failing, and what is ahead of each: worked out from the front, never kept.
-use Rattle.std.specs.Prelude.{ℕ, Bool, ◌&&◌, ◌||◌, if◌then◌else◌, ◌-◌, List, [], ◌∷◌, ◌++◌, map, length, slice_get, Option, option_map, flat_map}
-use Rattle.std.specs.List.{list_any, list_all}
+use Rattle.std.specs.Prelude.{ℕ, Bool, ◌||◌, if◌then◌else◌, ◌-◌, List, [], ◌∷◌, ◌++◌, map, length, slice_get, Option, option_map, flat_map}
+use Rattle.std.specs.List.{list_all}
 use Rattle.gate_types.specs.Settings.{Settings}
 use Rattle.gate_types.specs.declared.records.Build.{Build}
 use Rattle.gate_types.specs.declared.records.Need.{Need}
-use Rattle.gate_types.specs.State.{Item, Queue, State, change_of, is_landed, project_of}
+use Rattle.gate_types.specs.State.{Item, Queue, State, change_of, is_landed, plan_of}
 use Rattle.gate_types.specs.Line.{Place}
-use Rattle.gate_types.specs.Slot.{is_blocked, slot_of, is_failed_slot, is_finished}
+use Rattle.gate_types.specs.Slot.{is_blocked, has_failure, slot_of, is_finished}
 
--- blocked, or a voting job's slot is a failure
+-- blocked, or a voting job is a failure
 abbrev pub is_failing : List Build → Place → Bool
-is_failing builds p = is_blocked p || list_any (λ j. j.voting && is_failed_slot (slot_of builds p j)) p.jobs
+is_failing builds p = is_blocked p || has_failure builds p
 
--- each slot is a success or a failure
+-- each slot is finished
 abbrev pub are_finished : List Build → Place → Bool
 are_finished builds p = list_all (λ j. is_finished (slot_of builds p j)) p.jobs
 
@@ -46,7 +46,8 @@ place_of c s q i =
       ahead = [];
       item = i;
       needs = needs_of s i.change;
-      jobs = (project_of c s i.change).jobs;
+      jobs = (plan_of s i.serial).jobs;
+      fast = (plan_of s i.serial).fast;
     }
 
 -- the places of a queue, front to back

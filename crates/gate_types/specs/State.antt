@@ -6,6 +6,7 @@ use Rattle.gate_types.specs.Settings.{Settings}
 use Rattle.gate_types.specs.declared.config.Project.{Project}
 use Rattle.gate_types.specs.declared.records.Change.{Change}
 use Rattle.gate_types.specs.declared.records.Landing.{Landing}
+use Rattle.gate_types.specs.declared.records.Plan.{Plan}
 use Rattle.gate_types.specs.declared.records.Ready.{Ready}
 use Rattle.gate_types.specs.declared.records.Build.{Build}
 use Rattle.gate_types.specs.declared.records.Report.{Report}
@@ -27,11 +28,13 @@ pub record Queue : Type 0 where
   pub items : List Item
   pub reports : List Report
 
--- all that the gate knows; what is ahead of an item, and whether it fails, is worked out
+-- all that the gate knows: each item and each landing has a plan under its serial. What is ahead of an item, and
+-- whether it fails, is worked out
 pub record State : Type 0 where
   pub changes : List Change
   pub ready : List Ready
   pub queues : List Queue
+  pub plans : List Plan
   pub builds : List Build
   pub counters : Drawn
 
@@ -45,6 +48,7 @@ start c = record {
   changes = [];
   ready = [];
   queues = map empty_queue c.queues;
+  plans = [];
   builds = [];
   counters = record { approval = 0; build = 0; order = 0 };
 }
@@ -84,7 +88,19 @@ is_landed k = elim k.stage [ stage.Landed ↦ true | stage.Open ↦ false | stag
 abbrev pub project_of : Settings → State → ℕ → Project
 project_of c s n =
     unwrap_or (find (λ p. same_name p.name (change_of s n).project) c.projects)
-    (record { name = []; queue = []; jobs = [] })
+    (record { name = []; queue = []; jobs = []; fail_fast = false })
+
+-- the plan under a serial, and one without jobs where there is none
+abbrev pub plan_in : List Plan → ℕ → Plan
+plan_in plans n = unwrap_or (find (λ p. p.serial == n) plans) (record { serial = n; jobs = []; fast = false })
+
+-- the plan of the item or the landing of a serial
+abbrev pub plan_of : State → ℕ → Plan
+plan_of s n = plan_in s.plans n
+
+-- a plan recorded, in place of the one under its serial
+abbrev pub put_plan : Plan → State → State
+put_plan p s = record s { plans = put_by (λ q. q.serial) p s.plans }
 
 -- whether a change is that of one of some items
 abbrev pub has_change : List Item → ℕ → Bool

@@ -18,6 +18,7 @@ slot_word slot.Waiting = codes "waiting"
 slot_word slot.Running = codes "running"
 slot_word slot.Success = codes "success"
 slot_word slot.Failure = codes "failure"
+slot_word slot.Skipped = codes "skipped"
 
 -- how an item stands
 abbrev pub standing_word : List Build → Place → List ℕ

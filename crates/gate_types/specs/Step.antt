@@ -9,6 +9,7 @@ use Rattle.gate_types.specs.declared.records.Verdict.{Verdict}
 use Rattle.gate_types.specs.declared.records.Stage.{Stage}
 use Rattle.gate_types.specs.declared.records.Change.{Change}
 use Rattle.gate_types.specs.declared.records.Build.{Build}
+use Rattle.gate_types.specs.declared.records.Plan.{Plan}
 use Rattle.gate_types.specs.declared.deliveries.Ending.{Ending}
 use Rattle.gate_types.specs.declared.deliveries.Ending.TheVariants as ending
 use Rattle.gate_types.specs.declared.deliveries.Delivery.{Delivery}
@@ -21,10 +22,10 @@ use Rattle.gate_types.specs.declared.deliveries.Reply.TheVariants as reply
 use Rattle.gate_types.specs.declared.deliveries.Refusal.TheVariants as refusal
 use Rattle.gate_types.specs.Needs.{needs}
 use Rattle.gate_types.specs.Names.{same_name}
-use Rattle.gate_types.specs.State.{Item, Queue, State, put_change, change_queue, known_change, change_of, is_open, is_landed, is_queued, is_ready}
+use Rattle.gate_types.specs.State.{Item, Queue, State, put_change, change_queue, known_change, change_of, is_open, is_landed, is_queued, is_ready, plan_of, put_plan}
 use Rattle.gate_types.specs.Slot.{is_running}
-use Rattle.gate_types.specs.Window.{grow, shrink, floor_of}
-use Rattle.gate_types.specs.Sweep.{report_of, without_runs}
+use Rattle.gate_types.specs.Window.{grow, shrink, bounds_of}
+use Rattle.gate_types.specs.Sweep.{report_of, without_runs, without_plans}
 use Rattle.gate_types.specs.Admit.{without_ready}
 use Rattle.gate_types.specs.Settle.{settle}
 use Rattle.gate_types.specs.SubmitOrder.{Order, shown_order, is_submitting}
@@ -42,12 +43,16 @@ left_queue v n q = record q {
   reports = q.reports ++ map (report_of v) (filter (λ i. i.change == n) q.items);
 }
 
--- the same in all queues; and its running builds stop being live
+-- the serial is that of an item of the change
+abbrev pub is_of_change : ℕ → State → ℕ → Bool
+is_of_change n s serial = list_any (λ q. list_any (λ i. i.change == n && i.serial == serial) q.items) s.queues
+
+-- the same in all queues; its plan goes, and its running builds stop being live
 abbrev pub leave : Verdict → ℕ → State → State
 leave v n s = record s {
   queues = map (left_queue v n) s.queues;
-  builds = without_runs (λ serial. list_any (λ q. list_any (λ i. i.change == n && i.serial == serial) q.items) s.queues)
-      s.builds;
+  plans = without_plans (is_of_change n s) s.plans;
+  builds = without_runs (is_of_change n s) s.builds;
 }
 
 -- a change at another stage
@@ -121,17 +126,22 @@ raw_closed c s n r = on_known s n r (λ k.
     (with_stage stage.Closed n (without_ready n (leave verdict.Closed n s)))))
 
 -- an item last in the landings of its queue, whose window grows
-abbrev pub landed_queue : Item → Queue → Queue
-landed_queue i q = record q {
-  window = grow q.window;
+abbrev pub landed_queue : Settings → Item → Queue → Queue
+landed_queue c i q = record q {
+  window = grow q.window (bounds_of c q).rule;
   landings = q.landings ++ record { serial = i.serial; change = i.change; revision = i.revision } ∷ [];
 }
 
--- the item of an order as the n-th landing of its queue
-abbrev pub with_landing : ℕ → Order → State → State
-with_landing n o s =
+-- what a landing keeps of an item's plan: its jobs
+abbrev pub landed_plan : State → ℕ → Plan
+landed_plan s n = record { serial = n; jobs = (plan_of s n).jobs; fast = false }
+
+-- the item of an order as the n-th landing of its queue; its jobs stay
+abbrev pub with_landing : Settings → ℕ → Order → State → State
+with_landing c n o s =
     with_stage stage.Landed o.item.change
-    (change_queue o.queue.name (landed_queue o.item) (leave (verdict.Landed n) o.item.change s))
+    (put_plan (landed_plan s o.item.serial)
+    (change_queue o.queue.name (landed_queue c o.item) (leave (verdict.Landed n) o.item.change s)))
 
 -- what becomes of a shown order, and the refusal where none of this number is shown
 abbrev pub on_order : Settings → State → ℕ → (Order → Stepped) → Stepped
@@ -140,11 +150,12 @@ on_order c s number f = option_map_or f (shown_order c s number) (refused refusa
 -- `landed`
 abbrev pub raw_landed : Settings → State → ℕ → Stepped
 raw_landed c s number = on_order c s number (λ o.
-    let n = length o.queue.landings + 1 in accepted (reply.Landed n) (with_landing n o s))
+    let n = length o.queue.landings + 1 in accepted (reply.Landed n) (with_landing c n o s))
 
 -- a queue with a smaller window
 abbrev pub shrunk_queue : Settings → Queue → Queue
-shrunk_queue c q = record q { window = shrink q.window (floor_of c q) }
+shrunk_queue c q =
+    let bounds = bounds_of c q in record q { window = shrink q.window bounds.floor bounds.rule }
 
 -- `refused`
 abbrev pub raw_refused : Settings → State → ℕ → Stepped

@@ -4,6 +4,7 @@ use Rattle.std.specs.List.{list_any}
 use Rattle.gate_types.specs.Settings.{Settings}
 use Rattle.gate_types.specs.declared.records.Verdict.{Verdict}
 use Rattle.gate_types.specs.declared.records.Build.{Build}
+use Rattle.gate_types.specs.declared.records.Plan.{Plan}
 use Rattle.gate_types.specs.declared.records.Report.{Report}
 use Rattle.gate_types.specs.declared.records.Verdict.TheVariants as verdict
 use Rattle.gate_types.specs.State.{Item, Queue, State}
@@ -11,7 +12,7 @@ use Rattle.gate_types.specs.Line.{Place}
 use Rattle.gate_types.specs.Slot.{is_running, are_met_by, is_blocked}
 use Rattle.gate_types.specs.Standing.{is_failing, are_finished, places}
 use Rattle.gate_types.specs.Rebase.{with_live}
-use Rattle.gate_types.specs.Window.{shrink, floor_of}
+use Rattle.gate_types.specs.Window.{Bounds, shrink, bounds_of}
 
 -- failing but not blocked, no non-failing item before it, and nothing left to wait for
 abbrev pub has_failed : List Build → Place → Bool
@@ -51,13 +52,13 @@ abbrev pub report_of : Verdict → Item → Report
 report_of v i = record { serial = i.serial; change = i.change; revision = i.revision; verdict = v }
 
 -- each `failed` shrinks the window
-abbrev pub next_window : ℕ → ℕ → Judged → ℕ
-next_window floor w j = elim j.verdict [ Some verdict.Failed ↦ shrink w floor | _ ↦ w ]
+abbrev pub next_window : Bounds → ℕ → Judged → ℕ
+next_window bounds w j = elim j.verdict [ Some verdict.Failed ↦ shrink w bounds.floor bounds.rule | _ ↦ w ]
 
 -- a queue without the items that go, each with a report
-abbrev pub swept_queue : ℕ → List Judged → Queue → Queue
-swept_queue floor js q = record q {
-  window = fold (next_window floor) q.window js;
+abbrev pub swept_queue : Bounds → List Judged → Queue → Queue
+swept_queue bounds js q = record q {
+  window = fold (next_window bounds) q.window js;
   items = map (λ j. j.item) (filter (λ j. not (is_some j.verdict)) js);
   reports = q.reports ++ filter_map (λ j. option_map (λ v. report_of v j.item) j.verdict) js;
 }
@@ -66,6 +67,10 @@ swept_queue floor js q = record q {
 abbrev pub without_runs : (ℕ → Bool) → List Build → List Build
 without_runs leaves builds = map (λ b. with_live (b.live && not (is_running b.outcome && leaves b.serial)) b) builds
 
+-- the plans of items that leave go with them
+abbrev pub without_plans : (ℕ → Bool) → List Plan → List Plan
+without_plans leaves plans = filter (λ p. not (leaves p.serial)) plans
+
 -- whether the item of a serial goes
 abbrev pub goes : List Judged → ℕ → Bool
 goes js serial = list_any (λ j. is_some j.verdict && j.item.serial == serial) js
@@ -73,6 +78,7 @@ goes js serial = list_any (λ j. is_some j.verdict && j.item.serial == serial) j
 -- all items that go leave, in all queues, all by the same state
 abbrev pub sweep : Settings → State → State
 sweep c s = record s {
-  queues = map (λ q. swept_queue (floor_of c q) (judged c s q) q) s.queues;
+  queues = map (λ q. swept_queue (bounds_of c q) (judged c s q) q) s.queues;
+  plans = without_plans (goes (flat_map (judged c s) s.queues)) s.plans;
   builds = without_runs (goes (flat_map (judged c s) s.queues)) s.builds;
 }

@@ -1,8 +1,9 @@
 -- What the tables hold of a whole content, and what edits make of that.
-use Rattle.std.specs.Prelude.{ℕ, false, ◌==◌, ◌≡◌, if◌then◌else◌, suc, List, [], ◌∷◌, ◌++◌, map, fold, Option, option_map, find}
+use Rattle.std.specs.Prelude.{ℕ, false, not, ◌==◌, ◌≡◌, if◌then◌else◌, suc, List, [], ◌∷◌, ◌++◌, map, filter, fold, Option, option_map, find}
 use Rattle.gate_types.specs.declared.records.Change.{Change}
 use Rattle.gate_types.specs.declared.records.Item.{Item as ItemRow}
 use Rattle.gate_types.specs.declared.records.Landing.{Landing}
+use Rattle.gate_types.specs.declared.records.Plan.{Plan}
 use Rattle.gate_types.specs.declared.records.Ready.{Ready}
 use Rattle.gate_types.specs.declared.records.Build.{Build}
 use Rattle.gate_types.specs.declared.records.Kept.{Kept}
@@ -33,6 +34,7 @@ pub record QueueRows : Type 0 where
 pub record Tables : Type 0 where
   pub changes : List ChangeRow
   pub queues : List QueueRows
+  pub plans : List Plan
   pub builds : List Build
   pub counters : Drawn
   pub kept : List Kept
@@ -67,6 +69,7 @@ abbrev pub tables_with : (Queue → List ItemRow) → Content → Tables
 tables_with items x = record {
   changes = map (change_row x.state.ready) x.state.changes;
   queues = map (λ q. queue_rows (items q) q) x.state.queues;
+  plans = x.state.plans;
   builds = x.state.builds;
   counters = x.state.counters;
   kept = x.kept;
@@ -100,6 +103,12 @@ edited_queue e q = record {
   reports = edited_reports q.name q.reports e;
 }
 
+-- the plans: that of an item goes with its row
+abbrev pub edited_plans : List Plan → Edit → List Plan
+edited_plans rows (edit.PutPlan p) = put_by (λ q. q.serial) p rows
+edited_plans rows (edit.DropItem serial) = filter (λ p. not (p.serial == serial)) rows
+edited_plans rows _ = rows
+
 -- the builds' rows
 abbrev pub edited_build_rows : List Build → Edit → List Build
 edited_build_rows rows (edit.PutBuild b) = put_by (λ c. c.number) b rows
@@ -128,6 +137,7 @@ abbrev pub edited_tables : Tables → Edit → Tables
 edited_tables t e = record {
   changes = edited_changes t.changes e;
   queues = map (edited_queue e) t.queues;
+  plans = edited_plans t.plans e;
   builds = edited_build_rows t.builds e;
   counters = edited_counters t.counters e;
   kept = edited_kept t.kept e;

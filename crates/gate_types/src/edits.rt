@@ -1,7 +1,7 @@
 //! Edits: each puts, changes or drops one keyed row of the gate's tables.
 use crate::names::{Name, NoMemory};
 use crate::numbers::{BuildNo, Serial};
-use crate::records::{Build, Change, Item, Kept, Landing, Outcome, Report};
+use crate::records::{Build, Change, Item, Kept, Landing, Outcome, Plan, Report};
 
 /// One of the three counters.
 #[derive(Clone, Copy, PartialEq, Eq)]
@@ -11,7 +11,7 @@ pub enum Counter {
     Order,
 }
 
-/// A change of one row. Nothing but items is ever dropped.
+/// A change of one row. Nothing is ever dropped but items, each with its plan.
 #[derive(Drop)]
 pub enum Edit {
     /// The change's row, its approval number while it is ready, and its needs in place of the old ones.
@@ -23,7 +23,10 @@ pub enum Edit {
         queue: Name,
         item: Item,
     },
+    /// The item's row, and the plan under its serial.
     DropItem(Serial),
+    /// What an item is admitted with, or what a landing keeps of that.
+    PutPlan(Plan),
     /// The n-th landing of its queue, from 1.
     PutLanding {
         queue: Name,
@@ -71,6 +74,7 @@ impl Edit {
                 item: *item,
             }),
             Edit::DropItem(serial) => Ok(Edit::DropItem(*serial)),
+            Edit::PutPlan(plan) => Ok(Edit::PutPlan(plan.copy()?)),
             Edit::PutLanding {
                 queue,
                 place,

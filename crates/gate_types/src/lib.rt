@@ -3,6 +3,7 @@
 //! stand the definitions of all rules, and laws of some of these.
 #![tactic(auto)]
 
+pub mod adopting;
 pub mod canonical;
 pub mod config;
 pub mod deliveries;
@@ -11,6 +12,7 @@ mod json_text;
 pub mod laws;
 pub mod names;
 pub mod numbers;
+pub mod open_fault;
 pub mod records;
 pub mod refusals;
 pub mod rows;

@@ -119,6 +119,13 @@ impl Model for Base {
 }
 
 impl Base {
+    pub(crate) fn copy(&self) -> Result<Self, NoMemory>
+        ensures { IfOk result (λ n. n ≡ self.now) }
+    {
+        let text = self.text.clone()?;
+        Ok(Base { text })
+    }
+
     /// None where the text isn't of the form.
     pub fn new(text: String) -> Option<Self>
         ensures form { is_some result ≡ is_base (string_bytes text) }

@@ -1,7 +1,11 @@
 //! The records of the gate's state.
+ghost use Rattle.std.specs.Prelude.{◌≡◌, IfOk};
+
+use crate::config::{Job, Project, copied_jobs};
 use crate::names::{Name, NoMemory, PathName, Text};
 use crate::numbers::{BuildNo, ChangeNo, Revision, Serial};
 use crate::sequence::Sequence;
+use std::alloc::Global;
 use std::marker::Model;
 
 /// A change at a revision.
@@ -20,13 +24,14 @@ pub enum Outcome {
     Lost,
 }
 
-/// What a job of an item has come to.
+/// What a job of an item has come to. A skipped one gets no more builds, since another has failed.
 #[derive(Clone, Copy, PartialEq, Eq)]
 pub enum Slot {
     Waiting,
     Running,
     Success,
     Failure,
+    Skipped,
 }
 
 /// Why an item left its queue. `Landed` holds the landing's place among those of its queue, from 1.
@@ -91,6 +96,41 @@ pub struct Landing {
     pub serial: Serial,
     pub change: ChangeNo,
     pub revision: Revision,
+}
+
+/// What an item was admitted with: the jobs of its project then, and whether it fails fast. A landing
+/// keeps its jobs.
+#[derive(Drop)]
+pub struct Plan {
+    pub serial: Serial,
+    pub jobs: Sequence<Job>,
+    pub fast: bool,
+}
+
+impl Plan {
+    ghost use Rattle.std.specs.Prelude.{◌≡◌, IfOk};
+
+    /// What an item of a project is admitted with under a serial.
+    pub fn of_project(project: &Project, serial: Serial) -> Result<Plan, NoMemory>
+        ensures { IfOk result (λ plan. plan
+            ≡ record { serial = serial; jobs = project.now.jobs; fast = project.now.fail_fast }) }
+    {
+        Ok(Plan {
+            serial,
+            jobs: copied_jobs(project.jobs.allocator(), project.jobs.as_slice())?,
+            fast: project.fail_fast,
+        })
+    }
+
+    pub fn copy(&self) -> Result<Plan, NoMemory>
+        ensures { IfOk result (λ plan. plan ≡ self.now) }
+    {
+        Ok(Plan {
+            serial: self.serial,
+            jobs: copied_jobs(self.jobs.allocator(), self.jobs.as_slice())?,
+            fast: self.fast,
+        })
+    }
 }
 
 /// An approved change that stands in no queue, under the number of its approval (1 to 10^15).

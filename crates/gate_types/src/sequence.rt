@@ -40,6 +40,11 @@ impl<T> Sequence<T> {
         values
     }
 
+    /// Where its values lie.
+    pub(crate) fn allocator(&self) -> Global {
+        *self.values.allocator()
+    }
+
     pub fn as_slice(&self) -> &[T]
         ensures { result.now ≡ self.now }
     {
