@@ -1,22 +1,24 @@
 -- What a chosen build is for.
-use Rattle.std.proofs.Common.{◌≡◌, ℕ, ◌+◌, Bool, true, false, cond, Some, List, [], map, filter, take, refl, sym, ap}
+use Rattle.std.proofs.Common.{◌≡◌, ℕ, ◌+◌, Bool, true, false, cond, Some, List, [], map, filter, take, not, refl, sym, ap, ◌∙◌}
 use Rattle.std.specs.Prelude.{◌==◌, Contains}
 use Rattle.std.specs.List.{flat_map}
+use Rattle.std.proofs.lemmas.Bool.{and_parts, not-true}
 use Rattle.std.proofs.lemmas.List.Elements.{All-take, All-contains, All-contains_itself}
 use Rattle.gate_types.specs.declared.config.Job.{Job}
 use Rattle.gate_types.specs.declared.records.Build.{Build}
 use Rattle.gate_types.specs.Settings.{Settings}
 use Rattle.gate_types.specs.State.{Item, Queue, State}
 use Rattle.gate_types.specs.Line.{Place}
-use Rattle.gate_types.specs.Slot.{is_blocked, slot_of, is_waiting_slot}
+use Rattle.gate_types.specs.Slot.{is_blocked, is_cut, raw_slot_of, slot_of, is_waiting_slot}
 use Rattle.gate_types.specs.Standing.{with_ahead, place_of, places}
 use Rattle.gate_types.specs.Window.{within_window}
 use Rattle.gate_types.specs.Choice.{build_for, builds_for, choices, choose}
 use Rattle.gate_types.specs.declared.records.Outcome.TheVariants as outcome
+use Rattle.gate_laws.proofs.Cuts.{waiting_cut}
 use Rattle.gate_laws.proofs.Members.{In, from_map, from_filter, from_flat, contains_in, in_contains, got}
 use Rattle.gate_laws.proofs.Places.{item_of_place}
 
--- a build for a waiting job of an item that isn't blocked
+-- a build for a waiting job of an item that is neither blocked nor cut
 pub record Chosen (c : Settings) (s : State) (b : Build) : Type 0 where
   pub queue : Queue
   pub place : Place
@@ -29,7 +31,8 @@ pub record Chosen (c : Settings) (s : State) (b : Build) : Type 0 where
   pub is_place : with_ahead ahead (place_of c s queue item) ≡ place
   pub job_in : In job place.jobs
   pub unblocked : is_blocked place ≡ false
-  pub waiting : is_waiting_slot (slot_of s.builds place job) ≡ true
+  pub uncut : is_cut s.builds place ≡ false
+  pub waiting : is_waiting_slot (raw_slot_of s.builds place job) ≡ true
   pub same : build_for (s.counters.build + 1) queue place job ≡ b
 
 in_take : {X : Type 0} (n : ℕ) (xs : List X) (x : X) → In x (take n xs) → In x xs
@@ -63,10 +66,16 @@ chosen c s b h =
       is_place = i.3;
       job_in = z.1;
       unblocked = z.2;
-      waiting = z.3;
+      uncut = not-true (is_cut s.builds y.0) (waits y.0 z.0 z.3).0;
+      waiting = (waits y.0 z.0 z.3).1;
       same = z.4;
     }
   where
+    waits : (p : Place) (j : Job) → is_waiting_slot (slot_of s.builds p j) ≡ true →
+        (not (is_cut s.builds p) ≡ true) × (is_waiting_slot (raw_slot_of s.builds p j) ≡ true)
+    waits p j e = and_parts (not (is_cut s.builds p)) (is_waiting_slot (raw_slot_of s.builds p j))
+        (sym (waiting_cut (is_cut s.builds p) (raw_slot_of s.builds p j)) ∙ e)
+
     by_blocked : (q : Queue) (p : Place) (t : Bool) → is_blocked p ≡ t →
         In b (cond t [] (map (build_for (s.counters.build + 1) q p)
         (filter (λ j. is_waiting_slot (slot_of s.builds p j)) p.jobs))) →

@@ -1,25 +1,24 @@
 -- A chosen build has its shape: the names are the settings', the numbers those of items.
-use Rattle.std.proofs.Common.{◌≡◌, ℕ, ◌+◌, ◌≤◌, Bool, true, false, cond, Option, Some, None, List, [], ◌∷◌, ◌++◌, map, length, refl, sym, ap, ◌∙◌, subst, ◌⊎◌, inl, inr, arith}
-use Rattle.std.specs.Prelude.{find, unwrap_or, nat_lt}
+use Rattle.std.proofs.Common.{◌≡◌, ◌+◌, ◌≤◌, Bool, true, false, cond, Some, List, [], ◌∷◌, ◌++◌, map, length, refl, sym, ap, ◌∙◌, subst, ◌⊎◌, inl, inr, arith}
+use Rattle.std.specs.Prelude.{nat_lt}
 use Rattle.std.proofs.lemmas.Bool.{and_parts, and_from}
 use Rattle.std.proofs.lemmas.List.{length-map}
 use Rattle.gate_types.specs.declared.config.Job.{Job}
-use Rattle.gate_types.specs.declared.config.Project.{Project}
 use Rattle.gate_types.specs.declared.config.Queue.{Queue as QueueSetting}
 use Rattle.gate_types.specs.declared.records.Build.{Build}
 use Rattle.gate_types.specs.Names.{same_name, is_name}
 use Rattle.gate_types.specs.Settings.{Settings, has_queue}
-use Rattle.gate_types.specs.State.{Item, Queue, State, change_of, project_of}
+use Rattle.gate_types.specs.State.{Item, Queue, State}
 use Rattle.gate_types.specs.Line.{Place, item_entry}
 use Rattle.gate_types.specs.Standing.{is_failing, with_ahead, next_ahead, places_after, place_of, places}
 use Rattle.gate_types.specs.Choice.{build_for, choose}
 use Rattle.gate_types.specs.Step.{with_build}
 use Rattle.gate_types.specs.Lawful.{IsSound}
-use Rattle.gate_types.specs.Forms.{is_change_number, is_revision_number, is_entry_in_form, is_project_in_form, are_settings_in_form}
-use Rattle.gate_laws.proofs.Members.{In, from_map, to_map, from_append, any_to, all_from, all_to, found}
+use Rattle.gate_types.specs.Forms.{is_change_number, is_revision_number, is_entry_in_form, are_settings_in_form}
+use Rattle.gate_laws.proofs.Members.{In, from_map, to_map, from_append, any_to, all_from, all_to}
 use Rattle.gate_laws.proofs.Alone.{same_name_of}
 use Rattle.gate_laws.proofs.Chosen.{chosen}
-use Rattle.gate_laws.proofs.Shapes.{NumberedItem, BuildShape, Shaped}
+use Rattle.gate_laws.proofs.Shapes.{plan_named, NumberedItem, BuildShape, Shaped}
 use Rattle.gate_laws.proofs.FewRows.{few_landings, Tops}
 use Rattle.gate_laws.proofs.Tallies.{shorter}
 
@@ -36,21 +35,6 @@ queue_set c s h f q m =
       any_to (λ (r : QueueSetting). same_name r.name q.name) c.queues x.0 x.1 (same_name_of x.0.name q.name x.2),
       subst (λ n. is_name n ≡ true) x.2 (all_from (λ (r : QueueSetting). is_name r.name) c.queues first.1 x.0 x.1),
     )
-
--- so has a job of a change
-job_set : (c : Settings) (s : State) (n : ℕ) → are_settings_in_form c ≡ true → (j : Job) →
-    In j (project_of c s n).jobs → is_name j.name ≡ true
-job_set c s n f j m = by_project (find (λ p. same_name p.name (change_of s n).project) c.projects) refl m
-  where
-    by_project : (o : Option Project) → find (λ p. same_name p.name (change_of s n).project) c.projects ≡ o →
-        In j (unwrap_or o (record { name = []; queue = []; jobs = [] })).jobs → is_name j.name ≡ true
-    by_project None e k = absurd k
-    by_project (Some p) e k =
-        let last = and_parts _ _ f in
-        let form = all_from is_project_in_form c.projects last.1 p
-        (found (λ p. same_name p.name (change_of s n).project) c.projects p e).0 in
-        let jobs = and_parts _ _ form in
-        all_from (λ (j : Job). is_name j.name) p.jobs jobs.1 j k
 
 -- ---- what is ahead
 
@@ -129,7 +113,7 @@ chosen_shape c s f h t k b e =
         counted = omega arith;
         in_queue = names.0;
         queue_name = names.1;
-        job_name = job_set c s x.item.change f x.job job;
+        job_name = all_from (λ (j : Job). is_name j.name) p.jobs (plan_named c s k x.item.serial) x.job job;
         base = omega (arith, less, top, order);
         few = omega (arith, ahead, places, room, entries);
         entries = all_to is_entry_in_form (map item_entry x.ahead) (λ y m.
@@ -146,6 +130,7 @@ take_shaped c s f h t k b e = record {
   changes = k.changes;
   ready = k.ready;
   queues = k.queues;
+  plans = k.plans;
   builds = λ x m. elim (from_append s.builds (b ∷ []) x m) [
     | inl o ↦ k.builds x o
     | inr w ↦ (elim w [ inl i ↦ subst (BuildShape c) i (chosen_shape c s f h t k b e) | inr z ↦ absurd z ])

@@ -2,7 +2,7 @@
 use Rattle.std.proofs.Common.{refl}
 use Rattle.std.specs.Fmt.{digits}
 use Rattle.json.specs.Print.{escape_byte}
-use Rattle.gate_laws.specs.LimitExamples.{OrdersRunOut, ALandingThatAdmitsRunsOut, BuildsAndApprovalsRunOut, TheWindowAtItsEnds, AWindowOf0SetsNoBound}
+use Rattle.gate_laws.specs.LimitExamples.{OrdersRunOut, ALandingThatAdmitsRunsOut, BuildsAndApprovalsRunOut, TheWindowAtItsEnds, AWindowChangesByItsRule, AWindowOf0SetsNoBound}
 
 pub orders_run_out : OrdersRunOut
 unfolding digits escape_byte
@@ -18,7 +18,11 @@ builds_and_approvals_run_out = record { last_one = refl; refused = refl; approva
 
 pub the_window_at_its_ends : TheWindowAtItsEnds
 unfolding digits escape_byte
-the_window_at_its_ends = record { grown = refl; shrunk = refl }
+the_window_at_its_ends = record { more = refl; less = refl }
+
+pub a_window_changes_by_its_rule : AWindowChangesByItsRule
+unfolding digits escape_byte
+a_window_changes_by_its_rule = record { grown = refl; shrunk = refl; told = refl; untold = refl }
 
 pub a_window_of_0_sets_no_bound : AWindowOf0SetsNoBound
 unfolding digits escape_byte

@@ -75,10 +75,10 @@ closed_replied c u false = tt
 -- an order that is shown lands
 landed_is : (c : Settings) (s : State) (number : ℕ) (o : Order) → shown_order c s number ≡ Some o →
     raw_step c s (delivery.Landed number) ≡ accepted (reply.Landed (length o.queue.landings + 1))
-    (with_landing (length o.queue.landings + 1) o s)
+    (with_landing c (length o.queue.landings + 1) o s)
 landed_is c s number o e =
     ap (λ (x : Option Order). option_map_or (λ (y : Order). accepted (reply.Landed (length y.queue.landings + 1))
-    (with_landing (length y.queue.landings + 1) y s)) x (refused refusal.NoOrder)) e
+    (with_landing c (length y.queue.landings + 1) y s)) x (refused refusal.NoOrder)) e
 
 each_replied : (c : Settings) (s : State) → are_sound c ≡ true → are_settings_in_form c ≡ true → IsLawful c s →
     Shaped c s → (d : Delivery) → OnReply (RawReply c) (raw_step c s d)
@@ -108,10 +108,10 @@ each_replied c s w f h k (delivery.Landed number) = reply_some (RawReply c) (sho
       shows = shows c s number o e;
       needs = settled_is_at_rest.needs_before c s h.settled;
     } in
-    let u = after_landing n o s in
-    let sound = subst (IsSound c) (is_after n o s) (raw_step_is_sound c s (delivery.Landed number) (reply.Landed n)
-    (with_landing n o s) w h (landed_is c s number o e)) in
-    let few = few_landings c u sound (after_shaped c s o submitted k) (landed_here n o o.queue)
+    let u = after_landing c n o s in
+    let sound = subst (IsSound c) (is_after c n o s) (raw_step_is_sound c s (delivery.Landed number) (reply.Landed n)
+    (with_landing c n o s) w h (landed_is c s number o e)) in
+    let few = few_landings c u sound (after_shaped c s o submitted k) (landed_here c n o o.queue)
     (here_after c s o n submitted) in
     let long = landings_long o.queue.landings
     (record { serial = o.item.serial; change = o.item.change; revision = o.item.revision }) in

@@ -1,21 +1,22 @@
 -- What rows keep to whatever the counters are, as a proof reads it: form without the tops of what is drawn.
-use Rattle.std.proofs.Common.{◌≡◌, ℕ, ◌≤◌, true, ◌&&◌, List, length, refl}
-use Rattle.std.specs.Prelude.{nat_le}
+use Rattle.std.proofs.Common.{◌≡◌, ℕ, ◌≤◌, true, false, ◌&&◌, Option, Some, None, List, [], length, refl}
+use Rattle.std.specs.Prelude.{nat_le, ◌==◌, find, unwrap_or}
 use Rattle.std.specs.List.{list_all}
 use Rattle.std.proofs.lemmas.Bool.{and_parts, and_from, leb-true, le-leb}
 use Rattle.gate_types.specs.declared.records.Build.{Build}
 use Rattle.gate_types.specs.declared.records.Change.{Change}
 use Rattle.gate_types.specs.declared.records.Entry.{Entry}
 use Rattle.gate_types.specs.declared.records.Landing.{Landing}
+use Rattle.gate_types.specs.declared.records.Plan.{Plan}
 use Rattle.gate_types.specs.declared.records.Report.{Report}
 use Rattle.gate_types.specs.declared.records.Verdict.{Verdict}
 use Rattle.gate_types.specs.declared.records.Verdict.TheVariants as verdict
 use Rattle.gate_types.specs.Names.{is_name}
 use Rattle.gate_types.specs.Settings.{Settings, has_queue}
 use Rattle.gate_types.specs.declared.records.Ready.{Ready}
-use Rattle.gate_types.specs.State.{Item, Queue, State}
-use Rattle.gate_types.specs.Forms.{is_up_to, is_change_number, is_revision_number, is_drawn_number, is_entry_in_form, is_change_in_form, is_ready_in_form, is_item_in_form, is_landing_in_form, is_verdict_in_form, is_report_in_form, is_queue_in_form, is_build_in_form, IsInForm}
-use Rattle.gate_laws.proofs.Members.{In, every, all_from, all_to}
+use Rattle.gate_types.specs.State.{Item, Queue, State, plan_of}
+use Rattle.gate_types.specs.Forms.{is_up_to, is_change_number, is_revision_number, is_drawn_number, is_entry_in_form, is_change_in_form, is_ready_in_form, is_item_in_form, is_landing_in_form, is_plan_in_form, is_verdict_in_form, is_report_in_form, is_queue_in_form, is_build_in_form, IsInForm}
+use Rattle.gate_laws.proofs.Members.{In, every, all_from, all_to, found}
 
 -- ---- what is said of rows
 
@@ -59,6 +60,10 @@ pub record Began (c : Settings) (number : ℕ) (queue job : List ℕ) (after : �
 abbrev pub BuildShape : Settings → Build → Type 0
 BuildShape c b = Began c b.number b.queue b.job b.after b.ahead × Numbered b.serial b.change b.revision
 
+-- a plan
+abbrev pub PlanShape : Plan → Type 0
+PlanShape p = (1 ≤ p.serial) × (list_all (λ j. is_name j.name) p.jobs ≡ true)
+
 -- a ready change
 abbrev pub ReadyShape : Ready → Type 0
 ReadyShape r = (1 ≤ r.approval) × (is_change_number r.change ≡ true)
@@ -68,6 +73,7 @@ pub record Shaped (c : Settings) (s : State) : Type 0 where
   pub changes : (k : Change) → In k s.changes → is_change_in_form k ≡ true
   pub ready : (r : Ready) → In r s.ready → ReadyShape r
   pub queues : (q : Queue) → In q s.queues → QueueShape (length q.landings) q
+  pub plans : (p : Plan) → In p s.plans → PlanShape p
   pub builds : (b : Build) → In b s.builds → BuildShape c b
 
 -- ---- from the form
@@ -160,13 +166,29 @@ ready_from r h =
     let both = and_parts (is_drawn_number r.approval) (is_change_number r.change) h in
     (least 1000000000000000 r.approval both.0, both.1)
 
+plan_from : (p : Plan) → is_plan_in_form p ≡ true → PlanShape p
+plan_from p h =
+    let both = and_parts (is_drawn_number p.serial) (list_all (λ j. is_name j.name) p.jobs) h in
+    (least 1000000000000000 p.serial both.0, both.1)
+
 pub shaped_from : (c : Settings) (s : State) → IsInForm c s → Shaped c s
 shaped_from c s h = record {
   changes = every (λ k. is_change_in_form k ≡ true) s.changes h.changes;
   ready = λ r m. ready_from r (every (λ r. is_ready_in_form r ≡ true) s.ready h.ready r m);
   queues = λ q m. queue_from q (every (λ q. is_queue_in_form q ≡ true) s.queues h.queues q m);
+  plans = λ p m. plan_from p (every (λ p. is_plan_in_form p ≡ true) s.plans h.plans p m);
   builds = λ b m. build_from c b (every (λ b. is_build_in_form c b ≡ true) s.builds h.builds b m);
 }
+
+-- the jobs under any serial are named
+pub plan_named : (c : Settings) (s : State) → Shaped c s → (n : ℕ) →
+    list_all (λ j. is_name j.name) (plan_of s n).jobs ≡ true
+plan_named c s h n = by_plan (find (λ p. p.serial == n) s.plans) refl
+  where
+    by_plan : (o : Option Plan) → find (λ p. p.serial == n) s.plans ≡ o →
+        list_all (λ j. is_name j.name) (unwrap_or o (record { serial = n; jobs = []; fast = false })).jobs ≡ true
+    by_plan None e = refl
+    by_plan (Some p) e = (h.plans p (found (λ p. p.serial == n) s.plans p e).0).1
 
 -- ---- to the form, by the tops
 
@@ -181,6 +203,10 @@ report_to m r t h =
     and_from (is_drawn_number r.serial && is_change_number r.change && is_revision_number r.revision)
     (is_verdict_in_form m r.verdict)
     (numbered_to r.serial r.change r.revision t h.0) (tells_to m r.verdict h.1)
+
+pub plan_to : (p : Plan) → p.serial ≤ 1000000000000000 → PlanShape p → is_plan_in_form p ≡ true
+plan_to p t h = and_from (is_drawn_number p.serial) (list_all (λ j. is_name j.name) p.jobs)
+    (up_to 1000000000000000 p.serial h.0 t) h.1
 
 pub ready_to : (r : Ready) → r.approval ≤ 1000000000000000 → ReadyShape r → is_ready_in_form r ≡ true
 ready_to r t h = and_from (is_drawn_number r.approval) (is_change_number r.change)

@@ -19,7 +19,7 @@ use Rattle.gate_types.specs.Settle.{settle}
 use Rattle.gate_types.specs.SubmitOrder.{is_submitting}
 use Rattle.gate_types.specs.Step.{Stepped, accepted, refused, leave, has_project, is_known_and, raw_revision, raw_step, step, settled_step, is_exhausted}
 use Rattle.gate_types.specs.Lawful.{IsSound, IsLawful}
-use Rattle.gate_types.specs.Forms.{is_change_number, is_revision_number, is_change_in_form, is_ready_in_form, is_queue_in_form, is_build_in_form, are_settings_in_form, is_delivery_in_form, IsInForm}
+use Rattle.gate_types.specs.Forms.{is_change_number, is_revision_number, is_change_in_form, is_ready_in_form, is_plan_in_form, is_queue_in_form, is_build_in_form, are_settings_in_form, is_delivery_in_form, IsInForm}
 use Rattle.gate_laws.specs.InForm.{StartIsInForm, StepIsInForm}
 use Rattle.gate_laws.proofs.Members.{In, every, all, all_from, from_map, found}
 use Rattle.gate_laws.proofs.OrderFacts.{shows}
@@ -28,18 +28,19 @@ use Rattle.gate_laws.proofs.SettledIsAtRest.{settled_is_at_rest}
 use Rattle.gate_laws.proofs.StartIsLawful.{start_lawful}
 use Rattle.gate_laws.proofs.RunIsLawful.{raw_step_is_sound, step_is_lawful}
 use Rattle.gate_laws.proofs.EachAccepted.{OnAccepted, on_accepted, on_test, known_is, new_revision, each_approved, each_withdrawn, each_closed, each_landed, each_refused, each_take, each_result}
-use Rattle.gate_laws.proofs.Shapes.{Shaped, shaped_from, ready_to, build_to, queue_to}
+use Rattle.gate_laws.proofs.Shapes.{Shaped, shaped_from, plan_to, ready_to, build_to, queue_to}
 use Rattle.gate_laws.proofs.StateShapes.{WholeQueue, settle_shaped, leave_shaped, put_shaped, stage_shaped, unready_shaped, ready_shaped, shrunk_shaped, end_shaped}
 use Rattle.gate_laws.proofs.RowShapes.{windows_of}
 use Rattle.gate_laws.proofs.NeedForms.{needs_in_form}
 use Rattle.gate_laws.proofs.Drawn.{item_drawn, report_drawn, landing_drawn, build_drawn}
+use Rattle.gate_laws.proofs.Plans.{plan_drawn}
 use Rattle.gate_laws.proofs.FewRows.{tops}
 use Rattle.gate_laws.proofs.ChosenShape.{queue_set, take_shaped}
 use Rattle.gate_laws.proofs.LandedShape.{after_shaped}
 
 -- ---- shape and lawfulness are form
 
-form_of : (c : Settings) (s : State) → are_settings_in_form c ≡ true → IsLawful c s → Shaped c s → IsInForm c s
+pub form_of : (c : Settings) (s : State) → are_settings_in_form c ≡ true → IsLawful c s → Shaped c s → IsInForm c s
 form_of c s f h k =
     let t = tops s h.not_exhausted in
     let order = t.order in
@@ -57,6 +58,8 @@ form_of c s f h k =
           (λ l n. let top = landing_drawn c s h.sound q m l n in omega (arith, top, order))
           (λ r n. let top = report_drawn c s h.sound q m r n in omega (arith, top, order))
           (k.queues q m));
+      plans = all (λ p. is_plan_in_form p ≡ true) s.plans (λ p m. let top = plan_drawn c s h.sound p m in
+          plan_to p (omega (arith, top, order)) (k.plans p m));
       builds = all (λ b. is_build_in_form c b ≡ true) s.builds (λ b m.
           let number = leb-true b.number s.counters.build
           (every (λ b. nat_le b.number s.counters.build ≡ true) s.builds h.sound.builds_are_drawn b m) in
@@ -109,7 +112,7 @@ each_shaped c s w f h k (delivery.Closed n r) d = each_closed (Shaped c) c s n r
     (subst (λ y. In y s.changes) (sym (known_is s n x e)) (found (λ y. y.number == n) s.changes x e).0)
     (unready_shaped c (leave verdict.Closed n s) n (leave_shaped c s verdict.Closed n (λ m. tt) k)))
 each_shaped c s w f h k (delivery.Landed number) d = each_landed (Shaped c) c s number (λ o e.
-    subst (Shaped c) (sym (is_after (length o.queue.landings + 1) o s))
+    subst (Shaped c) (sym (is_after c (length o.queue.landings + 1) o s))
     (after_shaped c s o (record {
       settings = w;
       sound = h.sound;
@@ -125,15 +128,15 @@ each_shaped c s w f h k (delivery.Result n e) d = each_result (Shaped c) s n e k
 
 -- ---- settled
 
-settled_shaped : (c : Settings) → are_sound c ≡ true → (x : Stepped) → OnAccepted (IsSound c) x →
+settled_shaped : (c : Settings) → are_sound c ≡ true → are_settings_in_form c ≡ true → (x : Stepped) → OnAccepted (IsSound c) x →
     OnAccepted (Shaped c) x → OnAccepted (Shaped c) (settled_step c x)
-settled_shaped c w (accepted said t) h k =
+settled_shaped c w f (accepted said t) h k =
     on_test (Shaped c) (is_exhausted (settle c t)) (refused refusal.Exhausted) (accepted said (settle c t)) (λ e. tt)
-    (λ e. settle_shaped c t w h k)
-settled_shaped c w (refused r) h k = tt
+    (λ e. settle_shaped c t w f h k)
+settled_shaped c w f (refused r) h k = tt
 
 -- what is said of each accepted state is said of the one there is
-to_accepted : (P : State → Type 0) (x : Stepped) → ((r : Reply) (t : State) → x ≡ accepted r t → P t) → OnAccepted P x
+pub to_accepted : (P : State → Type 0) (x : Stepped) → ((r : Reply) (t : State) → x ≡ accepted r t → P t) → OnAccepted P x
 to_accepted P (accepted r t) h = h r t refl
 to_accepted P (refused r) h = tt
 
@@ -141,16 +144,16 @@ pub step_is_in_form : StepIsInForm
 step_is_in_form c s d r t w f h k v e =
     form_of c t f (step_is_lawful c s d r t w h e)
     (on_accepted (Shaped c) (step c s d)
-    (settled_shaped c w (raw_step c s d)
+    (settled_shaped c w f (raw_step c s d)
     (to_accepted (IsSound c) (raw_step c s d) (λ q u g. raw_step_is_sound c s d q u w h g))
     (each_shaped c s w f h (shaped_from c s k) d v)) r t e)
 
 -- ---- the start
 
-start_queue : (c : Settings) → are_sound c ≡ true → (q : QueueSetting) → In q c.queues → WholeQueue (empty_queue q)
+pub start_queue : (c : Settings) → are_sound c ≡ true → (q : QueueSetting) → In q c.queues → WholeQueue (empty_queue q)
 start_queue c w q m =
     let sound = all_from is_sound_window c.queues (windows_of c w) q m in
-    let p3 = and_parts _ _ sound in
+    let p3 = and_parts _ _ (and_parts _ _ sound).0 in
     let p2 = and_parts _ _ p3.0 in
     let p1 = and_parts _ _ p2.0 in
     record {
@@ -166,6 +169,7 @@ start_shaped c w = record {
   changes = λ k m. absurd m;
   ready = λ r m. absurd m;
   queues = λ q m. let x = from_map empty_queue c.queues q m in subst WholeQueue x.2 (start_queue c w x.0 x.1);
+  plans = λ p m. absurd m;
   builds = λ b m. absurd m;
 }
 

@@ -3,11 +3,16 @@ pub mod Settling
 pub mod Runs
 pub mod Landings
 pub mod Orders
+pub mod Adoption
+pub mod Sessions
+pub mod Migration
 pub mod Touch
 pub mod InForm
 pub mod Script
 pub mod DeliveryExamples
 pub mod BuildExamples
+pub mod FastExamples
 pub mod LandingExamples
 pub mod NeedExamples
 pub mod LimitExamples
+pub mod AdoptionExamples

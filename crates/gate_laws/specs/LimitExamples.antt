@@ -3,6 +3,10 @@ use Rattle.std.specs.Prelude.{◌≡◌, ℕ, [], ◌∷◌, codes}
 use Rattle.gate_types.specs.declared.deliveries.Delivery.TheVariants as delivery
 use Rattle.gate_types.specs.Counters.{Drawn}
 use Rattle.gate_types.specs.State.{State}
+use Rattle.gate_types.specs.declared.config.WindowRule.{WindowRule}
+use Rattle.gate_types.specs.declared.config.Pace.TheVariants as pace
+use Rattle.gate_types.specs.Settings.{default_rule}
+use Rattle.gate_types.specs.SettingsText.{queue_text}
 use Rattle.gate_types.specs.Window.{grow, shrink}
 use Rattle.gate_types.specs.Status.{status_text}
 use Rattle.gate_laws.specs.Script.{settings, with_window, lib, app, site, opened, opened_needing, approved, take, passed, failed, said, after, begun, lines, waiting, already, queued, landed_as, idle, exhausted}
@@ -54,10 +58,32 @@ pub record BuildsAndApprovalsRunOut : Type 0 where
       (with_drawn (record { approval = last; build = 0; order = 0 }) (begun settings (opened 101 lib ∷ [])))
       (approved 101 ∷ []) ≡ exhausted ∷ []
 
+-- one more
+abbrev grown : ℕ → ℕ
+grown w = grow w default_rule
+
+-- half
+abbrev halved : ℕ → ℕ → ℕ
+halved w floor = shrink w floor default_rule
+
 -- the window at its ends
 pub record TheWindowAtItsEnds : Type 0 where
-  pub grown : (grow 1 ∷ grow 999 ∷ grow 1000 ∷ grow 0 ∷ []) ≡ (2 ∷ 1000 ∷ 1000 ∷ 0 ∷ [])
-  pub shrunk : (shrink 20 3 ∷ shrink 3 1 ∷ shrink 5 3 ∷ shrink 1 1 ∷ shrink 0 3 ∷ []) ≡ (10 ∷ 1 ∷ 3 ∷ 1 ∷ 0 ∷ [])
+  pub more : (grown 1 ∷ grown 999 ∷ grown 1000 ∷ grown 0 ∷ []) ≡ (2 ∷ 1000 ∷ 1000 ∷ 0 ∷ [])
+  pub less : (halved 20 3 ∷ halved 3 1 ∷ halved 5 3 ∷ halved 1 1 ∷ halved 0 3 ∷ []) ≡ (10 ∷ 1 ∷ 3 ∷ 1 ∷ 0 ∷ [])
+
+-- a window that doubles with a landing, and loses 5 with a failure
+abbrev doubling : WindowRule
+doubling = record { increase = pace.Exponential; increase_by = 2; decrease = pace.Linear; decrease_by = 5 }
+
+-- a window changes by its queue's rule, and the rule is told in the settings' text
+pub record AWindowChangesByItsRule : Type 0 where
+  pub grown : (grow 20 doubling ∷ grow 600 doubling ∷ grow 0 doubling ∷ []) ≡ (40 ∷ 1000 ∷ 0 ∷ [])
+  pub shrunk : (shrink 40 3 doubling ∷ shrink 6 3 doubling ∷ shrink 4 3 doubling ∷ shrink 0 3 doubling ∷ [])
+      ≡ (35 ∷ 3 ∷ 3 ∷ 0 ∷ [])
+  pub told : queue_text (record { name = codes "core"; window = 20; floor = 3; rule = doubling })
+      ≡ codes "{\"decrease\":\"linear\",\"decrease_by\":5,\"floor\":3,\"increase\":\"exponential\",\"increase_by\":2,\"name\":\"core\",\"window\":20}"
+  pub untold : queue_text (record { name = codes "core"; window = 20; floor = 3; rule = default_rule })
+      ≡ codes "{\"floor\":3,\"name\":\"core\",\"window\":20}"
 
 -- 101, 102 and 103 under a window of 0
 abbrev unbounded : State

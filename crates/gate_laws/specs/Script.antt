@@ -6,7 +6,7 @@ use Rattle.gate_types.specs.declared.config.Queue.{Queue}
 use Rattle.gate_types.specs.declared.deliveries.Delivery.{Delivery}
 use Rattle.gate_types.specs.declared.deliveries.Delivery.TheVariants as delivery
 use Rattle.gate_types.specs.declared.deliveries.Ending.TheVariants as ending
-use Rattle.gate_types.specs.Settings.{Settings}
+use Rattle.gate_types.specs.Settings.{Settings, default_rule}
 use Rattle.gate_types.specs.Names.{same_name}
 use Rattle.gate_types.specs.State.{State, start}
 use Rattle.gate_types.specs.Step.{build_of}
@@ -42,7 +42,7 @@ docs = record { name = codes "docs"; voting = false }
 
 -- a queue with this window, and the floor 1
 abbrev pub queue : List ℕ → ℕ → Queue
-queue name window = record { name = name; window = window; floor = 1 }
+queue name window = record { name = name; window = window; floor = 1; rule = default_rule }
 
 -- the queue `core` of `lib` and `app`, with this window, and the queue `web` of `site`
 abbrev pub with_window : ℕ → Settings
@@ -50,9 +50,9 @@ with_window window = record {
   base = base;
   queues = queue core window ∷ queue (codes "web") 2 ∷ [];
   projects =
-      record { name = lib; queue = core; jobs = unit ∷ docs ∷ [] } ∷
-      record { name = app; queue = core; jobs = unit ∷ [] } ∷
-      record { name = site; queue = codes "web"; jobs = unit ∷ [] } ∷ [];
+      record { name = lib; queue = core; jobs = unit ∷ docs ∷ []; fail_fast = false } ∷
+      record { name = app; queue = core; jobs = unit ∷ []; fail_fast = false } ∷
+      record { name = site; queue = codes "web"; jobs = unit ∷ []; fail_fast = false } ∷ [];
 }
 
 -- the same with the window 2
@@ -65,8 +65,8 @@ core_alone = record {
   base = base;
   queues = queue core 2 ∷ [];
   projects =
-      record { name = lib; queue = core; jobs = unit ∷ docs ∷ [] } ∷
-      record { name = app; queue = core; jobs = unit ∷ [] } ∷ [];
+      record { name = lib; queue = core; jobs = unit ∷ docs ∷ []; fail_fast = false } ∷
+      record { name = app; queue = core; jobs = unit ∷ []; fail_fast = false } ∷ [];
 }
 
 -- ---- deliveries

@@ -2,9 +2,11 @@
 //! the gate is proved against. They do nothing when they run.
 ghost use Rattle.gate_laws.specs.DeliveryExamples.{ARepeatGetsTheKeptReply, ASpentIdServesNothingElse, ARefusalSpendsNoId, AnUnavailableCallMayComeAgain, ARevisionSupersedes};
 ghost use Rattle.gate_laws.specs.BuildExamples.{BuildsAreGivenFrontToBack, AFailureResetsTheItemsBehindIt, AFailureBehindAnItemStays, ALostBuildIsTriedThreeTimes, LossesOnTwoLinesArentAdded};
+ghost use Rattle.gate_laws.specs.FastExamples.{FailFastIsTold, AFastFailureGoesAtOnce, AFastFailureBehindAnItemSkips, AJobThatDoesntVoteSkipsNothing};
 ghost use Rattle.gate_laws.specs.LandingExamples.{AnItemLandsBeforeAFailingOne, AJobThatDoesntVoteDecidesNothing, ALandingKeepsTheBuildsBehindIt, AShownOrderIsLeftAlone, TheWindowGrowsBeforeItShrinks, EachQueueShowsItsOrder};
 ghost use Rattle.gate_laws.specs.NeedExamples.{ANeedAdmitsTheWaitingChange, ACycleWaits, ANeedInAnotherQueueLandsFirst, AnItemGoesWithItsNeed, AdmissionStartsAnew, FootersNameNeeds, AtMost32NeedsAreTaken};
-ghost use Rattle.gate_laws.specs.LimitExamples.{OrdersRunOut, ALandingThatAdmitsRunsOut, BuildsAndApprovalsRunOut, TheWindowAtItsEnds, AWindowOf0SetsNoBound};
+ghost use Rattle.gate_laws.specs.AdoptionExamples.{AnItemKeepsItsJobs, AWindowIsAdopted, ARuleIsAdopted, AnItemKeepsFailFast};
+ghost use Rattle.gate_laws.specs.LimitExamples.{OrdersRunOut, ALandingThatAdmitsRunsOut, BuildsAndApprovalsRunOut, TheWindowAtItsEnds, AWindowChangesByItsRule, AWindowOf0SetsNoBound};
 
 /// A repeat of a delivery gets the reply that was kept, and makes no second item.
 pub fn a_repeat_gets_the_kept_reply()
@@ -49,6 +51,28 @@ pub fn a_failure_resets_the_items_behind_it()
 /// is withdrawn, and the second starts anew.
 pub fn a_failure_behind_an_item_stays()
     ensures { AFailureBehindAnItemStays }
+{}
+
+/// The settings' text tells which projects are to fail fast.
+pub fn fail_fast_is_told()
+    ensures { FailFastIsTold }
+{}
+
+/// A voting job of the first item fails while another job runs: where its project is to fail fast, the item
+/// leaves at once.
+pub fn a_fast_failure_goes_at_once()
+    ensures { AFastFailureGoesAtOnce }
+{}
+
+/// A voting job of an item behind another fails: its other job is skipped and its running build stops. When
+/// the item before it fails too, all its jobs wait anew.
+pub fn a_fast_failure_behind_an_item_skips()
+    ensures { AFastFailureBehindAnItemSkips }
+{}
+
+/// A job that doesn't vote fails: nothing is skipped.
+pub fn a_job_that_doesnt_vote_skips_nothing()
+    ensures { AJobThatDoesntVoteSkipsNothing }
 {}
 
 /// The only build of an item is lost three times: the item leaves as failed.
@@ -152,7 +176,33 @@ pub fn the_window_at_its_ends()
     ensures { TheWindowAtItsEnds }
 {}
 
+/// A window changes by its queue's rule.
+pub fn a_window_changes_by_its_rule()
+    ensures { AWindowChangesByItsRule }
+{}
+
 /// Behind a window of 0 every item gets builds, and failures leave it 0.
 pub fn a_window_of_0_sets_no_bound()
     ensures { AWindowOf0SetsNoBound }
+{}
+
+/// `docs` of 101 fail once the settings let `docs` vote: 101 was admitted before that, and lands. 103 is admitted after
+/// it, and fails.
+pub fn an_item_keeps_its_jobs()
+    ensures { AnItemKeepsItsJobs }
+{}
+
+/// A queue takes a window that is another in the settings, and back. Settings without one of the queues change nothing.
+pub fn a_window_is_adopted()
+    ensures { AWindowIsAdopted }
+{}
+
+/// A queue whose rule alone is another in the settings keeps its window, and opens it by the new rule from then on.
+pub fn a_rule_is_adopted()
+    ensures { ARuleIsAdopted }
+{}
+
+/// An item fails fast if its project did when it was admitted, whatever the settings say since.
+pub fn an_item_keeps_fail_fast()
+    ensures { AnItemKeepsFailFast }
 {}

@@ -1,0 +1,5 @@
+use Rattle.gate_laws.proofs.AdoptedIsLawful as law
+use Rattle.gate_laws.proofs.adoption.adopted_is_lawful.Goals as goal
+
+pub returns : goal.returns
+returns c = law.adopted_is_lawful
