@@ -1,14 +1,15 @@
 -- A document without a fault says sound settings.
-use Rattle.std.proofs.Common.{◌≡◌, ℕ, List, [], ◌∷◌, map, length, Bool, true, false, not, ◌&&◌, ◌||◌, nat_le, nat_lt, cond, Option, Some, None, refl, ap, sym, ◌∙◌, arith, subst}
-use Rattle.std.proofs.lemmas.Bool.{or_parts, and_parts, not-false}
+use Rattle.std.proofs.Common.{◌≡◌, ℕ, ◌≤◌, List, [], ◌∷◌, map, length, Bool, true, false, not, ◌&&◌, ◌||◌, nat_le, nat_lt, cond, Option, Some, None, refl, ap, sym, ◌∙◌, arith, subst}
+use Rattle.std.proofs.lemmas.Bool.{or_parts, and_parts, not-false, leb-true}
 use Rattle.std.proofs.lemmas.Bool.Decides.{nat_tests}
 use Rattle.std.proofs.lemmas.List.{length-map}
 use Rattle.std.proofs.lemmas.Slice.Eq.{bytes_eq-Decides}
+use Rattle.std.specs.Prelude.{unwrap_or}
 use Rattle.std.specs.List.{list_any, list_all}
 use Rattle.toml.specs.Data.{Data}
 use Rattle.gate_types.specs.Names.{same_name, is_name, is_base}
 use Rattle.gate_types.specs.Settings.{are_distinct, has_queue, is_sound_window, are_sound_jobs, are_sound}
-use Rattle.gate_config.specs.Document.{queues_of, projects_of, jobs_of, name_of, queue_named_by, base_of, queue_of, job_of, project_of, settings_of, is_voting}
+use Rattle.gate_config.specs.Document.{queues_of, projects_of, jobs_of, name_of, queue_named_by, base_of, queue_of, job_of, project_of, settings_of, window_of, floor_of, increase_by_of, decrease_by_of, is_voting}
 use Rattle.gate_config.specs.Members.{misses_member, has_unknown_member}
 use Rattle.gate_config.specs.Kinds.{has_wrong_kind}
 use Rattle.gate_config.specs.Rules.{has_bad_name, has_bad_name_in_project, has_bad_name_anywhere, has_double, has_double_name, has_named, names_no_queue, is_bad_window, is_bad_queue, is_bad_project, has_bad_window, has_no_voting_job, has_too_many_jobs, most_jobs, is_beyond_limits}
@@ -109,6 +110,28 @@ sound_windows [] h = refl
 sound_windows (d ∷ ds) h =
     let (here, later) = or_parts (is_bad_window d) (list_any is_bad_window ds) h in
     both _ _ (not-false _ (or_parts _ _ here).1) (sound_windows ds later)
+
+-- the numbers of a queue that isn't bad
+pub record SmallNumbers (d : Data) : Type 0 where
+  pub window : unwrap_or (window_of d) 0 ≤ 1000
+  pub floor : unwrap_or (floor_of d) 0 ≤ 1000
+  pub increase_by : unwrap_or (increase_by_of d) 0 ≤ 1000
+  pub decrease_by : unwrap_or (decrease_by_of d) 0 ≤ 1000
+
+pub small_numbers : (d : Data) → is_bad_queue d ≡ false → SmallNumbers d
+small_numbers d h =
+    let sound : is_sound_window (queue_of d) ≡ true = not-false _ (or_parts _ _ (or_parts (has_bad_name d) (is_bad_window d) h).1).1 in
+    let (over, rule) = and_parts _ _ sound in
+    let (ranges, floors) = and_parts _ _ over in
+    let (low, floor) = and_parts _ _ ranges in
+    let (window, least) = and_parts _ _ low in
+    let (grows, shrinks) = and_parts _ _ rule in
+    record {
+      window = leb-true (unwrap_or (window_of d) 0) 1000 window;
+      floor = leb-true (unwrap_or (floor_of d) 0) 1000 floor;
+      increase_by = leb-true (unwrap_or (increase_by_of d) 0) 1000 (and_parts _ _ grows).1;
+      decrease_by = leb-true (unwrap_or (decrease_by_of d) 0) 1000 (and_parts _ _ shrinks).1;
+    }
 
 sound_jobs : (ds : List Data) → has_double ds ≡ false → list_any is_voting ds ≡ true → nat_lt most_jobs (length ds) ≡ false → are_sound_jobs (map job_of ds) ≡ true
 sound_jobs ds doubles votes few =

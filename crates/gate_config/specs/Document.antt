@@ -1,9 +1,13 @@
 -- What a document says at a place, and what stands for it where nothing of the kind is there.
-use Rattle.std.specs.Prelude.{ℕ, ℤ, pos, negsuc, codes, List, [], ◌∷◌, map, Bool, true, Option, Some, None, unwrap_or, option_and_then}
+use Rattle.std.specs.Prelude.{ℕ, ℤ, pos, negsuc, codes, List, [], ◌∷◌, map, Bool, true, false, if◌then◌else◌, Option, Some, None, unwrap_or, option_and_then}
 use Rattle.std.specs.Option.{option_map_or}
 use Rattle.toml.specs.Data.{Data, Items, no_items, item, get, as_str, as_integer, as_bool, as_array}
+use Rattle.gate_types.specs.Names.{same_name}
 use Rattle.gate_types.specs.Settings.{Settings}
 use Rattle.gate_types.specs.declared.config.Job.{Job}
+use Rattle.gate_types.specs.declared.config.Pace.{Pace}
+use Rattle.gate_types.specs.declared.config.Pace.TheVariants as pace
+use Rattle.gate_types.specs.declared.config.WindowRule.{WindowRule}
 use Rattle.gate_types.specs.declared.config.Queue.{Queue}
 use Rattle.gate_types.specs.declared.config.Project.{Project}
 
@@ -58,13 +62,51 @@ window_of q = number_at (codes "window") 20 q
 abbrev pub floor_of : Data → Option ℕ
 floor_of q = number_at (codes "floor") 3 q
 
+-- the pace of a word, if it is one
+abbrev pub pace_said : List ℕ → Option Pace
+pace_said word =
+    if same_name word (codes "linear") then Some pace.Linear else (
+    if same_name word (codes "exponential") then Some pace.Exponential else None)
+
+-- the pace at a key, or the default where it is left out
+abbrev pub pace_at : List ℕ → Pace → Data → Option Pace
+pace_at key default d = option_map_or pace_said (option_and_then as_str (get key d)) (Some default)
+
+-- how the window of a queue grows, and by what
+abbrev pub increase_of : Data → Option Pace
+increase_of q = pace_at (codes "increase") pace.Linear q
+
+abbrev pub increase_by_of : Data → Option ℕ
+increase_by_of q = number_at (codes "increase_by") 1 q
+
+-- how it shrinks, and by what
+abbrev pub decrease_of : Data → Option Pace
+decrease_of q = pace_at (codes "decrease") pace.Exponential q
+
+abbrev pub decrease_by_of : Data → Option ℕ
+decrease_by_of q = number_at (codes "decrease_by") 2 q
+
+-- the rule of a queue
+abbrev pub rule_of : Data → WindowRule
+rule_of q = record {
+  increase = unwrap_or (increase_of q) pace.Linear;
+  increase_by = unwrap_or (increase_by_of q) 0;
+  decrease = unwrap_or (decrease_of q) pace.Linear;
+  decrease_by = unwrap_or (decrease_by_of q) 0;
+}
+
+-- whether a project is to fail fast, which it isn't unless it says so
+abbrev pub is_fast : Data → Bool
+is_fast p = unwrap_or (option_and_then as_bool (get (codes "fail_fast") p)) false
+
 -- whether a job votes, which it does unless it says otherwise
 abbrev pub is_voting : Data → Bool
 is_voting j = unwrap_or (option_and_then as_bool (get (codes "voting") j)) true
 
 -- the settings of a queue
 abbrev pub queue_of : Data → Queue
-queue_of q = record { name = name_of q; window = unwrap_or (window_of q) 0; floor = unwrap_or (floor_of q) 0 }
+queue_of q =
+    record { name = name_of q; window = unwrap_or (window_of q) 0; floor = unwrap_or (floor_of q) 0; rule = rule_of q }
 
 -- the settings of a job
 abbrev pub job_of : Data → Job
@@ -72,7 +114,8 @@ job_of j = record { name = name_of j; voting = is_voting j }
 
 -- the settings of a project
 abbrev pub project_of : Data → Project
-project_of p = record { name = name_of p; queue = queue_named_by p; jobs = map job_of (jobs_of p) }
+project_of p =
+    record { name = name_of p; queue = queue_named_by p; jobs = map job_of (jobs_of p); fail_fast = is_fast p }
 
 -- the settings that a document says, lists in its order
 abbrev pub settings_of : Data → Settings

@@ -25,7 +25,9 @@ is_wrong k key d = option_map_or (λ m. not (is_of k m)) (get key d) false
 abbrev pub is_wrong_queue : Data → Bool
 is_wrong_queue q =
     is_wrong kind.Text (codes "name") q || is_wrong kind.WholeNumber (codes "window") q ||
-    is_wrong kind.WholeNumber (codes "floor") q
+    is_wrong kind.WholeNumber (codes "floor") q ||
+    is_wrong kind.Text (codes "increase") q || is_wrong kind.WholeNumber (codes "increase_by") q ||
+    is_wrong kind.Text (codes "decrease") q || is_wrong kind.WholeNumber (codes "decrease_by") q
 
 abbrev pub is_wrong_job : Data → Bool
 is_wrong_job j = is_wrong kind.Text (codes "name") j || is_wrong kind.TruthValue (codes "voting") j
@@ -33,7 +35,7 @@ is_wrong_job j = is_wrong kind.Text (codes "name") j || is_wrong kind.TruthValue
 abbrev pub is_wrong_project : Data → Bool
 is_wrong_project p =
     is_wrong kind.Text (codes "name") p || is_wrong kind.Text (codes "queue") p ||
-    is_wrong kind.Tables (codes "job") p ||
+    is_wrong kind.Tables (codes "job") p || is_wrong kind.TruthValue (codes "fail_fast") p ||
     list_any is_wrong_job (jobs_of p)
 
 -- a known member of another kind, anywhere in a document

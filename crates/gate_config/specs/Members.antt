@@ -29,8 +29,12 @@ knows section.Document key =
     same_name key (codes "forge") || same_name key (codes "queue") || same_name key (codes "project")
 knows section.Forge key = same_name key (codes "base")
 knows section.Queue key =
-    same_name key (codes "name") || same_name key (codes "window") || same_name key (codes "floor")
-knows section.Project key = same_name key (codes "name") || same_name key (codes "queue") || same_name key (codes "job")
+    same_name key (codes "name") || same_name key (codes "window") || same_name key (codes "floor") ||
+    same_name key (codes "increase") || same_name key (codes "increase_by") ||
+    same_name key (codes "decrease") || same_name key (codes "decrease_by")
+knows section.Project key =
+    same_name key (codes "name") || same_name key (codes "queue") || same_name key (codes "job") ||
+    same_name key (codes "fail_fast")
 knows section.Job key = same_name key (codes "name") || same_name key (codes "voting")
 
 -- a member whose name the section doesn't know

@@ -4,7 +4,7 @@ use Rattle.std.specs.List.{list_any}
 use Rattle.toml.specs.Data.{Data}
 use Rattle.gate_types.specs.Names.{is_name, is_path_name, is_base, same_name}
 use Rattle.gate_types.specs.Settings.{are_distinct, is_sound_window}
-use Rattle.gate_config.specs.Document.{queues_of, projects_of, jobs_of, name_of, queue_named_by, base_of, window_of, floor_of, is_voting, queue_of}
+use Rattle.gate_config.specs.Document.{queues_of, projects_of, jobs_of, name_of, queue_named_by, base_of, window_of, floor_of, increase_of, decrease_of, is_voting, queue_of}
 
 -- how many queues, projects, and jobs of a project there may be
 abbrev pub most_queues : ℕ
@@ -46,9 +46,12 @@ has_named name ds = list_any (λ d. same_name (name_of d) name) ds
 abbrev pub names_no_queue : Data → Bool
 names_no_queue d = list_any (λ p. not (has_named (queue_named_by p) (queues_of d))) (projects_of d)
 
--- the window or the floor is negative or out of its range, or the floor is above a window that isn't 0
+-- the window or the floor is negative or out of its range, the floor is above a window that isn't 0, or how the window
+-- changes is no word for it or by a number out of its range
 abbrev pub is_bad_window : Data → Bool
-is_bad_window q = is_none (window_of q) || is_none (floor_of q) || not (is_sound_window (queue_of q))
+is_bad_window q =
+    is_none (window_of q) || is_none (floor_of q) || is_none (increase_of q) || is_none (decrease_of q) ||
+    not (is_sound_window (queue_of q))
 
 abbrev pub has_bad_window : Data → Bool
 has_bad_window d = list_any is_bad_window (queues_of d)

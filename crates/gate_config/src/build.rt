@@ -3,15 +3,15 @@ ghost use Rattle.std.specs.Prelude.{◌≡◌, None, IfOk, map, false, true};
 ghost use Rattle.std.specs.List.{list_any};
 ghost use Rattle.toml.specs.View.{view};
 ghost use Rattle.gate_types.specs.Names.{is_name, is_path_name, is_base};
-ghost use Rattle.gate_config.specs.Document.{settings_of, queue_of, job_of, project_of};
+ghost use Rattle.gate_config.specs.Document.{settings_of, rule_of, queue_of, job_of, project_of};
 ghost use Rattle.gate_config.specs.Faults.{fault_of};
 ghost use Rattle.gate_config.specs.Rules.{has_bad_name, is_bad_queue, is_bad_project};
 
 use crate::document::{
-    base_of, floor_of, is_voting, jobs_of, name_of, projects_of, queue_named_by, queues_of,
-    window_of,
+    base_of, decrease_by_of, decrease_of, floor_of, increase_by_of, increase_of, is_fast,
+    is_voting, jobs_of, name_of, projects_of, queue_named_by, queues_of, window_of,
 };
-use gate_types::config::{Config, Job, Project, Queue};
+use gate_types::config::{Config, Job, Pace, Project, Queue, WindowRule};
 use gate_types::names::{Base, Name, PathName};
 use gate_types::sequence::Sequence;
 use std::alloc::{AllocError, Global};
@@ -53,6 +53,20 @@ fn path_name(alloc: Global, text: &str) -> Result<PathName, AllocError>
     Ok(PathName::new(String::from_str(alloc, text)?).unwrap())
 }
 
+fn rule(value: &Value) -> WindowRule
+    requires { is_bad_queue (view value.now) ≡ false }
+    ensures { result ≡ rule_of (view value.now) }
+{
+    let increase_by = increase_by_of(value).unwrap_or(0);
+    let decrease_by = decrease_by_of(value).unwrap_or(0);
+    WindowRule {
+        increase: increase_of(value).unwrap_or(Pace::Linear),
+        increase_by: increase_by as u32,
+        decrease: decrease_of(value).unwrap_or(Pace::Linear),
+        decrease_by: decrease_by as u32,
+    }
+}
+
 fn queue(alloc: Global, value: &Value) -> Result<Queue, AllocError>
     requires { is_bad_queue (view value.now) ≡ false }
     ensures { IfOk result (λ q. q ≡ queue_of (view value.now)) }
@@ -64,6 +78,7 @@ fn queue(alloc: Global, value: &Value) -> Result<Queue, AllocError>
         name,
         window: window as u32,
         floor: floor as u32,
+        rule: rule(value),
     })
 }
 
@@ -111,6 +126,7 @@ fn project(alloc: Global, value: &Value) -> Result<Project, AllocError>
         name: path_name,
         queue,
         jobs: Sequence::from_vec(jobs),
+        fail_fast: is_fast(value),
     })
 }
 

@@ -1,8 +1,9 @@
 //! What a document says at a place, and what stands for it where nothing of the kind is there.
 ghost use Rattle.std.specs.Prelude.{◌≡◌, map};
 ghost use Rattle.toml.specs.View.{view};
-ghost use Rattle.gate_config.specs.Document.{items_at, queues_of, projects_of, jobs_of, text_at, name_of, queue_named_by, base_of, number_at, window_of, floor_of, is_voting};
+ghost use Rattle.gate_config.specs.Document.{items_at, queues_of, projects_of, jobs_of, text_at, name_of, queue_named_by, base_of, number_at, window_of, floor_of, pace_said, pace_at, increase_of, increase_by_of, decrease_of, decrease_by_of, is_fast, is_voting};
 
+use gate_types::config::Pace;
 use toml::Value;
 
 /// The values of the array at a key, or none.
@@ -100,6 +101,69 @@ pub(crate) fn floor_of(queue: &Value) -> Option<u64>
     ensures { result ≡ floor_of (view queue.now) }
 {
     number_at(queue, "floor", 3)
+}
+
+/// The pace of a word, if it is one.
+fn pace_said(word: &str) -> Option<Pace>
+    ensures { result ≡ pace_said word.now }
+{
+    if word == "linear" {
+        Some(Pace::Linear)
+    } else if word == "exponential" {
+        Some(Pace::Exponential)
+    } else {
+        None
+    }
+}
+
+/// The pace at a key, or the default where it is left out. None where the word says none.
+fn pace_at(value: &Value, key: &str, default: Pace) -> Option<Pace>
+    ensures { result ≡ pace_at key.now default (view value.now) }
+{
+    match value.get(key) {
+        Some(member) => match member.as_str() {
+            Some(word) => pace_said(word),
+            None => Some(default),
+        },
+        None => Some(default),
+    }
+}
+
+pub(crate) fn increase_of(queue: &Value) -> Option<Pace>
+    ensures { result ≡ increase_of (view queue.now) }
+{
+    pace_at(queue, "increase", Pace::Linear)
+}
+
+pub(crate) fn increase_by_of(queue: &Value) -> Option<u64>
+    ensures { result ≡ increase_by_of (view queue.now) }
+{
+    number_at(queue, "increase_by", 1)
+}
+
+pub(crate) fn decrease_of(queue: &Value) -> Option<Pace>
+    ensures { result ≡ decrease_of (view queue.now) }
+{
+    pace_at(queue, "decrease", Pace::Exponential)
+}
+
+pub(crate) fn decrease_by_of(queue: &Value) -> Option<u64>
+    ensures { result ≡ decrease_by_of (view queue.now) }
+{
+    number_at(queue, "decrease_by", 2)
+}
+
+/// A project isn't to fail fast unless it says so.
+pub(crate) fn is_fast(project: &Value) -> bool
+    ensures { result ≡ is_fast (view project.now) }
+{
+    match project.get("fail_fast") {
+        Some(member) => match member.as_bool() {
+            Some(fast) => fast,
+            None => false,
+        },
+        None => false,
+    }
 }
 
 /// A job votes unless it says otherwise.

@@ -64,6 +64,10 @@ fn is_wrong_queue(queue: &Value) -> bool
     is_wrong(Kind::Text, "name", queue)
         || is_wrong(Kind::WholeNumber, "window", queue)
         || is_wrong(Kind::WholeNumber, "floor", queue)
+        || is_wrong(Kind::Text, "increase", queue)
+        || is_wrong(Kind::WholeNumber, "increase_by", queue)
+        || is_wrong(Kind::Text, "decrease", queue)
+        || is_wrong(Kind::WholeNumber, "decrease_by", queue)
 }
 
 fn any_is_wrong_queue(queues: &[Value]) -> bool
@@ -91,6 +95,7 @@ fn is_wrong_project(project: &Value) -> bool
     is_wrong(Kind::Text, "name", project)
         || is_wrong(Kind::Text, "queue", project)
         || is_wrong(Kind::Tables, "job", project)
+        || is_wrong(Kind::TruthValue, "fail_fast", project)
         || any_is_wrong_job(jobs_of(project))
 }
 

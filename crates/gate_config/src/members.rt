@@ -67,14 +67,26 @@ enum Section {
     Job,
 }
 
+fn knows_of_a_queue(key: &str) -> bool
+    ensures { result ≡ knows Section.Queue key.now }
+{
+    key == "name"
+        || key == "window"
+        || key == "floor"
+        || key == "increase"
+        || key == "increase_by"
+        || key == "decrease"
+        || key == "decrease_by"
+}
+
 fn knows(section: Section, key: &str) -> bool
     ensures { result ≡ knows section key.now }
 {
     match section {
         Section::Document => key == "forge" || key == "queue" || key == "project",
         Section::Forge => key == "base",
-        Section::Queue => key == "name" || key == "window" || key == "floor",
-        Section::Project => key == "name" || key == "queue" || key == "job",
+        Section::Queue => knows_of_a_queue(key),
+        Section::Project => key == "name" || key == "queue" || key == "job" || key == "fail_fast",
         Section::Job => key == "name" || key == "voting",
     }
 }

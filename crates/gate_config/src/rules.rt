@@ -1,15 +1,15 @@
 //! What names, windows, jobs and numbers of things have to be.
-ghost use Rattle.std.specs.Prelude.{◌≡◌, map, not};
+ghost use Rattle.std.specs.Prelude.{◌≡◌, ◌==◌, ◌&&◌, ◌||◌, map, not, is_none, unwrap_or, nat_le};
 ghost use Rattle.std.specs.List.{list_any};
 ghost use Rattle.toml.specs.View.{view};
 ghost use Rattle.gate_types.specs.Names.{is_base, same_name};
-ghost use Rattle.gate_types.specs.Settings.{is_sound_window};
-ghost use Rattle.gate_config.specs.Document.{name_of, queue_named_by, base_of, jobs_of, is_voting, queue_of};
+ghost use Rattle.gate_types.specs.Settings.{is_factor, is_sound_rule, is_sound_window};
+ghost use Rattle.gate_config.specs.Document.{name_of, queue_named_by, base_of, jobs_of, is_voting, increase_of, decrease_of, rule_of, queue_of};
 ghost use Rattle.gate_config.specs.Rules.{has_bad_name, has_bad_name_in_project, has_bad_name_anywhere, has_double, has_double_name, has_named, names_no_queue, is_bad_window, has_bad_window, has_no_voting_job, are_some_up_to, has_too_many_jobs, is_beyond_limits};
 
 use crate::document::{
-    base_of, floor_of, is_voting, jobs_of, name_of, projects_of, queue_named_by, queues_of,
-    window_of,
+    base_of, decrease_by_of, decrease_of, floor_of, increase_by_of, increase_of, is_voting,
+    jobs_of, name_of, projects_of, queue_named_by, queues_of, window_of,
 };
 use gate_types::names::{has_base_form, has_name_form, has_path_form};
 use toml::Value;
@@ -115,13 +115,45 @@ fn any_names_none_of(projects: &[Value], queues: &[Value]) -> bool
         .any(|project| !has_named(queue_named_by(project), queues))
 }
 
-/// Whether the window or the floor is out of its range, or the floor above a window that isn't 0.
+/// Whether a number that a window changes by is in its range.
+fn is_factor(number: Option<u64>) -> bool
+    ensures { result ≡ is_factor (unwrap_or number 0) }
+{
+    match number {
+        Some(number) => 1 <= number && number <= 1000,
+        None => false,
+    }
+}
+
+fn has_sound_rule(queue: &Value) -> bool
+    ensures { result ≡ is_sound_rule (rule_of (view queue.now)) }
+{
+    is_factor(increase_by_of(queue)) && is_factor(decrease_by_of(queue))
+}
+
+/// Whether a window is in its range and stands over its floor.
+fn is_over(window: u64, floor: u64) -> bool
+    ensures { result ≡ nat_le window 1000 && nat_le 1 floor && nat_le floor 1000
+        && (window == 0 || nat_le floor window) }
+{
+    window <= 1000 && 1 <= floor && floor <= 1000 && (window == 0 || floor <= window)
+}
+
+/// Whether how the window changes is no word for it.
+fn has_no_pace(queue: &Value) -> bool
+    ensures { result ≡ is_none (increase_of (view queue.now)) || is_none (decrease_of (view queue.now)) }
+{
+    increase_of(queue).is_none() || decrease_of(queue).is_none()
+}
+
+/// Whether the window or the floor is out of its range, the floor above a window that isn't 0, or the rule
+/// no rule.
 fn is_bad_window(queue: &Value) -> bool
     ensures { result ≡ is_bad_window (view queue.now) }
 {
     match (window_of(queue), floor_of(queue)) {
         (Some(window), Some(floor)) => {
-            !(window <= 1000 && 1 <= floor && floor <= 1000 && (window == 0 || floor <= window))
+            has_no_pace(queue) || !(is_over(window, floor) && has_sound_rule(queue))
         }
         _ => true,
     }
@@ -133,7 +165,7 @@ fn any_is_bad_window(queues: &[Value]) -> bool
     queues.iter().any(|queue| is_bad_window(queue))
 }
 
-/// Whether a queue has a window or a floor that can't be.
+/// Whether a queue has a window, a floor or a rule that can't be.
 #[tactic(auto, using(crate::proofs::DocumentLemmas::list_any_map))]
 pub(crate) fn has_bad_window(document: &Value) -> bool
     ensures { result ≡ has_bad_window (view document.now) }

@@ -18,4 +18,4 @@ returns c =
     let queue : c.in_ok-queue.queue ≡ queue_named_by (view c.args.value.now) = c.in_ok-queue.ensures ∙ c.queue_named_by.ensures in
     let jobs : c.from_vec.result ≡ map job_of (jobs_of (view c.args.value.now)) =
     c.from_vec.ensures ∙ c.in_ok-jobs.ensures ∙ made_of_values job_of _ _ c.jobs_of.ensures in
-    rw (name, queue, jobs) refl
+    rw (name, queue, jobs, c.is_fast.ensures) refl
