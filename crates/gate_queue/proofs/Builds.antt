@@ -12,7 +12,7 @@ use Rattle.gate_types.specs.declared.edits.Edit.{Edit}
 use Rattle.gate_types.specs.declared.edits.Edit.TheVariants as edit
 use Rattle.gate_types.specs.State.{Item}
 use Rattle.gate_types.specs.Line.{Place, same_entries, line, ran_on}
-use Rattle.gate_types.specs.Slot.{is_blocked, counts, is_running}
+use Rattle.gate_types.specs.Slot.{is_blocked, is_running, is_cut, is_wanted}
 use Rattle.gate_types.specs.Rebase.{with_live, stays_live}
 use Rattle.gate_types.specs.Sweep.{judge, judged_after, verdict_of, next_staying, goes, without_runs}
 use Rattle.gate_types.specs.Rows.{row_of, edited_builds, change_build}
@@ -98,7 +98,7 @@ own_leave name n i (Some v) bs = refl
 
 -- the builds that one item stops
 abbrev stops_at : List Build → List Item → Place → Build → Bool
-stops_at bs staying p = stops p (is_some (verdict_of bs staying p))
+stops_at bs staying p = stops p (is_some (verdict_of bs staying p) || is_cut bs p)
 
 -- those that some item stops
 abbrev pub stops_along : List Build → List Item → List Place → Build → Bool
@@ -109,7 +109,7 @@ builds_step : (name : List ℕ) (bs : List Build) (n : ℕ) (staying : List Item
     fold (edited_builds name) (map (stop_if test) bs) (edits_at name bs n staying p ++ rest) ≡ fold (edited_builds name) (map (stop_if (λ b. test b || stops_at bs staying p b)) bs) rest
 builds_step name bs n staying p test rest r =
     let f = edited_builds name in
-    let stop = stop_edits bs p (is_some (verdict_of bs staying p)) in
+    let stop = stop_edits bs p (is_some (verdict_of bs staying p) || is_cut bs p) in
     let own = item_edits name n (row_of bs p) (verdict_of bs staying p) in
     fold-append f (map (stop_if test) bs) (stop ++ own) rest
     ∙ ap (λ l. fold f l rest)
@@ -138,33 +138,37 @@ stop_live true false b = refl
 stop_live false true b = refl
 stop_live false false b = refl
 
-abbrev left : Bool → Bool → Bool → Bool → Bool → Bool → Bool → Bool
-left l x nb sm g r a = l && not (l && x && (not (l && x && nb && sm) || g && r) || a)
+abbrev left : Bool → Bool → Bool → Bool → Bool → Bool → Bool → Bool → Bool
+left l x nb sm g u r a = l && not (l && x && (not (l && x && nb && sm) || (g || u) && r) || a)
 
-abbrev right : Bool → Bool → Bool → Bool → Bool → Bool → Bool → Bool → Bool → Bool → Bool
-right l x y nb sm g r q c v = l && (not (y || q) || (l && x && nb && sm || c)) && not (r && (g && y || v))
+abbrev right : Bool → Bool → Bool → Bool → Bool → Bool → Bool → Bool → Bool → Bool → Bool → Bool
+right l x y nb sm g u r q c v = l && (not (y || q) || ((l && x && nb && sm) && not (r && u) || c)) && not (r && (g && y || v))
 
-mine : (l nb sm g r : Bool) → left l true nb sm g r false ≡ right l true true nb sm g r false false false
-mine false nb sm g r = refl
-mine true false sm g r = refl
-mine true true false g r = refl
-mine true true true false true = refl
-mine true true true false false = refl
-mine true true true true true = refl
-mine true true true true false = refl
+mine : (l nb sm g u r : Bool) → left l true nb sm g u r false ≡ right l true true nb sm g u r false false false
+mine false nb sm g u r = refl
+mine true false sm g u r = refl
+mine true true false g u r = refl
+mine true true true false false true = refl
+mine true true true false true true = refl
+mine true true true false false false = refl
+mine true true true false true false = refl
+mine true true true true false true = refl
+mine true true true true true true = refl
+mine true true true true false false = refl
+mine true true true true true false = refl
 
-other : (l nb sm g r a q c v : Bool) → l && not a ≡ (l && (not q || c) && not (r && v)) → left l false nb sm g r a ≡ right l false false nb sm g r q c v
-other false nb sm g r a q c v h = refl
-other true nb sm true r a q c v h = h
-other true nb sm false r a q c v h = h
+other : (l nb sm g u r a q c v : Bool) → l && not a ≡ (l && (not q || c) && not (r && v)) → left l false nb sm g u r a ≡ right l false false nb sm g u r q c v
+other false nb sm g u r a q c v h = refl
+other true nb sm true u r a q c v h = h
+other true nb sm false u r a q c v h = h
 
 x_off : (l z : Bool) → l && false && z ≡ false
 x_off true z = refl
 x_off false z = refl
 
-c_off : (l nb sm : Bool) → l && false && nb && sm ≡ false
-c_off true nb sm = refl
-c_off false nb sm = refl
+c_off : (l nb sm z : Bool) → (l && false && nb && sm) && z ≡ false
+c_off true nb sm z = refl
+c_off false nb sm z = refl
 
 v_off : (g : Bool) → g && false ≡ false
 v_off true = refl
@@ -173,14 +177,14 @@ v_off false = refl
 abbrev is_of : List Place → Build → Bool
 is_of ps b = list_any (λ p. p.item.serial == b.serial) ps
 
-abbrev counts_at : List Place → Build → Bool
-counts_at ps b = list_any (λ p. counts p b) ps
+abbrev wanted_at : List Build → List Place → Build → Bool
+wanted_at bs ps b = list_any (λ p. is_wanted bs p b) ps
 
 -- a build of a lower serial than all these places have
 record Aside (bs : List Build) (staying : List Item) (ps : List Place) (b : Build) : Type 0 where
   stopping : stops_along bs staying ps b ≡ false
   queued : is_of ps b ≡ false
-  counting : counts_at ps b ≡ false
+  counting : wanted_at bs ps b ≡ false
   leaving : goes (judged_after bs staying ps) b.serial ≡ false
 
 aside : (bs : List Build) (b : Build) (n : ℕ) (staying : List Item) (ps : List Place) → b.serial < n → RiseFrom place_serial n ps → Aside bs staying ps b
@@ -194,18 +198,20 @@ aside bs b n staying (p ∷ ps) l r =
     let nb = not (is_blocked p) in
     let sm = same_entries (ran_on p.landings b) (line p) in
     let g = is_some (verdict_of bs staying p) in
+    let u = is_cut bs p in
     record {
-      stopping = ap (λ z. b.live && z && (not (b.live && z && nb && sm) || g && is_running b.outcome) || stops_along bs next ps b) x
-          ∙ ap (λ z. z || stops_along bs next ps b) (x_off b.live (not (b.live && false && nb && sm) || g && is_running b.outcome))
+      stopping = ap (λ z. b.live && z && (not (b.live && z && nb && sm) || (g || u) && is_running b.outcome) || stops_along bs next ps b) x
+          ∙ ap (λ z. z || stops_along bs next ps b) (x_off b.live (not (b.live && false && nb && sm) || (g || u) && is_running b.outcome))
           ∙ t.stopping;
       queued = ap (λ z. z || is_of ps b) y ∙ t.queued;
-      counting = ap (λ z. b.live && z && nb && sm || counts_at ps b) x ∙ ap (λ z. z || counts_at ps b) (c_off b.live nb sm) ∙ t.counting;
+      counting = ap (λ z. (b.live && z && nb && sm) && not (is_running b.outcome && u) || wanted_at bs ps b) x
+          ∙ ap (λ z. z || wanted_at bs ps b) (c_off b.live nb sm (not (is_running b.outcome && u))) ∙ t.counting;
       leaving = ap (λ z. g && z || goes (judged_after bs next ps) b.serial) y ∙ ap (λ z. z || goes (judged_after bs next ps) b.serial) (v_off g) ∙ t.leaving;
     }
 
 -- a build stays live just where it does after a rebase and a sweep
 lives : (bs : List Build) (b : Build) (n : ℕ) (staying : List Item) (ps : List Place) → RiseFrom place_serial n ps →
-    b.live && not (stops_along bs staying ps b) ≡ (b.live && (not (is_of ps b) || counts_at ps b) && not (is_running b.outcome && goes (judged_after bs staying ps) b.serial))
+    b.live && not (stops_along bs staying ps b) ≡ (b.live && (not (is_of ps b) || wanted_at bs ps b) && not (is_running b.outcome && goes (judged_after bs staying ps) b.serial))
 lives bs b n staying [] r = none b.live (is_running b.outcome)
   where
     none : (l r : Bool) → l && true ≡ (l && true && not (r && false))
@@ -217,21 +223,22 @@ lives bs b n staying (p ∷ ps) r =
     let nb = not (is_blocked p) in
     let sm = same_entries (ran_on p.landings b) (line p) in
     let g = is_some (verdict_of bs staying p) in
+    let u = is_cut bs p in
     let run = is_running b.outcome in
     ⊎_elim
     (λ (t : (b.serial == p.item.serial ≡ true) × (b.serial ≡ p.item.serial)).
     let same : b.serial ≡ p.item.serial = t.1 in
     let o = aside bs b (suc p.item.serial) next ps (omega arith) r.1 in
     let y : p.item.serial == b.serial ≡ true = eq-eqb p.item.serial b.serial (sym same) in
-    (λ k. left b.live (t.0 k) nb sm g run (o.stopping k)) ∙ mine b.live nb sm g run ∙ sym (λ k. right b.live (t.0 k) (y k) nb sm g run (o.queued k) (o.counting k) (o.leaving k)))
+    (λ k. left b.live (t.0 k) nb sm g u run (o.stopping k)) ∙ mine b.live nb sm g u run ∙ sym (λ k. right b.live (t.0 k) (y k) nb sm g u run (o.queued k) (o.counting k) (o.leaving k)))
     (λ (t : (b.serial == p.item.serial ≡ false) × (b.serial ≢ p.item.serial)).
     let y : p.item.serial == b.serial ≡ false = ne_eqb p.item.serial b.serial (λ s. t.1 (sym s)) in
     let h = lives bs b (suc p.item.serial) next ps r.1 in
-    (λ k. left b.live (t.0 k) nb sm g run (stops_along bs next ps b)) ∙ other b.live nb sm g run (stops_along bs next ps b) (is_of ps b) (counts_at ps b) (goes (judged_after bs next ps) b.serial) h ∙ sym (λ k. right b.live (t.0 k) (y k) nb sm g run (is_of ps b) (counts_at ps b) (goes (judged_after bs next ps) b.serial)))
+    (λ k. left b.live (t.0 k) nb sm g u run (stops_along bs next ps b)) ∙ other b.live nb sm g u run (stops_along bs next ps b) (is_of ps b) (wanted_at bs ps b) (goes (judged_after bs next ps) b.serial) h ∙ sym (λ k. right b.live (t.0 k) (y k) nb sm g u run (is_of ps b) (wanted_at bs ps b) (goes (judged_after bs next ps) b.serial)))
     (eqb_tells b.serial p.item.serial)
 
 builds_are : (bs cs : List Build) (ps : List Place) → RiseFrom place_serial 0 ps →
-    map (stop_if (λ b. false || stops_along bs [] ps b)) cs ≡ without_runs (goes (judged_after bs [] ps)) (map (λ b. with_live (b.live && stays_live ps b) b) cs)
+    map (stop_if (λ b. false || stops_along bs [] ps b)) cs ≡ without_runs (goes (judged_after bs [] ps)) (map (λ b. with_live (b.live && stays_live bs ps b) b) cs)
 builds_are bs [] ps r = refl
 builds_are bs (b ∷ cs) ps r = λ k. (stop_live (stops_along bs [] ps b) b.live b ∙ ap (λ l. with_live l b) (lives bs b 0 [] ps r)) k ∷ builds_are bs cs ps r k
 
@@ -241,7 +248,7 @@ unstopped (c ∷ cs) = ap (λ l. c ∷ l) (unstopped cs)
 
 -- the builds are those of a rebase and then a sweep
 pub builds_fold : (name : List ℕ) (bs : List Build) (n : ℕ) (ps : List Place) → RiseFrom build_number 0 bs → RiseFrom place_serial 0 ps →
-    fold (edited_builds name) bs (edits_along name bs n [] ps) ≡ without_runs (goes (judged_after bs [] ps)) (map (λ b. with_live (b.live && stays_live ps b) b) bs)
+    fold (edited_builds name) bs (edits_along name bs n [] ps) ≡ without_runs (goes (judged_after bs [] ps)) (map (λ b. with_live (b.live && stays_live bs ps b) b) bs)
 builds_fold name bs n ps r s =
     ap (λ (l : List Build). fold (edited_builds name) l (edits_along name bs n [] ps)) (sym (unstopped bs))
     ∙ builds_along name bs n [] ps (λ b. false) r

@@ -1,5 +1,5 @@
 -- The fold of a queue's edits over its rows, part by part.
-use Rattle.std.proofs.Common.{◌≡◌, ℕ, suc, ◌+◌, ◌<◌, ◌≤◌, Bool, true, cond, not, Option, Some, None, is_some, List, [], ◌∷◌, ◌++◌, map, fold, length, refl, sym, ap, ◌∙◌, arith, append_assoc, append-nil, length-append}
+use Rattle.std.proofs.Common.{◌≡◌, ℕ, suc, ◌+◌, ◌<◌, ◌≤◌, Bool, true, cond, not, ◌||◌, Option, Some, None, is_some, List, [], ◌∷◌, ◌++◌, map, fold, length, refl, sym, ap, ◌∙◌, arith, append_assoc, append-nil, length-append}
 use Rattle.std.specs.Prelude.{filter, filter_map, option_map, ◌==◌, nat_lt, ◌&&◌}
 use Rattle.std.proofs.lemmas.List.Sums.{fold-append}
 use Rattle.std.proofs.lemmas.Bool.{eq-eqb, ne_eqb, le-ltb}
@@ -12,6 +12,7 @@ use Rattle.gate_types.specs.declared.edits.Edit.TheVariants as edit
 use Rattle.gate_types.specs.Names.{same_name}
 use Rattle.gate_types.specs.State.{Item, put_by}
 use Rattle.gate_types.specs.Line.{Place}
+use Rattle.gate_types.specs.Slot.{is_cut}
 use Rattle.gate_types.specs.Standing.{places_after, with_ahead, next_ahead}
 use Rattle.gate_types.specs.Sweep.{Judged, judge, judged_after, verdict_of, next_staying, report_of}
 use Rattle.gate_types.specs.declared.rows.ReportRow.{ReportRow}
@@ -56,10 +57,10 @@ stops_leave f h y (b ∷ bs) = ap (λ z. fold f z (map (λ (x : Build). edit.Sto
 pub at_step : {Y : Type 0} (f : Y → Edit → Y) (h : (y : Y) (n : ℕ) → f y (edit.StopBuild n) ≡ y) (name : List ℕ) (bs : List Build) (n : ℕ) (staying : List Item) (p : Place) (y : Y) (rest : List Edit) →
     fold f y (edits_at name bs n staying p ++ rest) ≡ fold f (fold f y (item_edits name n (row_of bs p) (verdict_of bs staying p))) rest
 at_step f h name bs n staying p y rest =
-    let stop = stop_edits bs p (is_some (verdict_of bs staying p)) in
+    let stop = stop_edits bs p (is_some (verdict_of bs staying p) || is_cut bs p) in
     let own = item_edits name n (row_of bs p) (verdict_of bs staying p) in
     fold-append f y (stop ++ own) rest
-    ∙ ap (λ z. fold f z rest) (fold-append f y stop own ∙ ap (λ z. fold f z own) (stops_leave f h y (filter (stops p (is_some (verdict_of bs staying p))) bs)))
+    ∙ ap (λ z. fold f z rest) (fold-append f y stop own ∙ ap (λ z. fold f z own) (stops_leave f h y (filter (stops p (is_some (verdict_of bs staying p) || is_cut bs p)) bs)))
 
 -- ---- the window
 

@@ -1,21 +1,22 @@
 -- The laws of a rebase and a sweep, proved.
-use Rattle.std.proofs.Common.{◌≡◌, ℕ, suc, Bool, true, false, not, cond, List, [], ◌∷◌, ◌++◌, map, refl, sym, ap, ◌∙◌, true≢false}
-use Rattle.std.specs.List.{All, AllPass}
+use Rattle.std.proofs.Common.{◌≡◌, ℕ, suc, Bool, true, false, not, ◌&&◌, ◌||◌, cond, List, [], ◌∷◌, ◌++◌, map, refl, sym, ap, ◌∙◌, true≢false}
+use Rattle.std.specs.List.{All, AllPass, list_any}
 use Rattle.std.proofs.lemmas.List.Elements.{All-cons, All-nil, All-head, All-tail}
 use Rattle.gate_types.specs.declared.config.Job.{Job}
 use Rattle.gate_types.specs.declared.records.Build.{Build}
 use Rattle.gate_types.specs.Settings.{Settings}
 use Rattle.gate_types.specs.State.{Item, Queue, State}
 use Rattle.gate_types.specs.Line.{Place}
-use Rattle.gate_types.specs.Slot.{slot_of}
+use Rattle.gate_types.specs.Slot.{is_blocked, is_cut, slot_of, raw_slot_of}
 use Rattle.gate_types.specs.Standing.{is_failing, places, all_places, places_after, place_of, with_ahead, next_ahead}
 use Rattle.gate_types.specs.Rebase.{rebase, stays_live}
 use Rattle.gate_types.specs.Sweep.{judged, judged_after, judge, next_staying, goes}
-use Rattle.gate_queue.specs.Laws.{RebaseKeepsMarks, WhatGoesStandsInNoLine}
+use Rattle.gate_queue.specs.Laws.{RebaseKeepsMarks, SlotsTellFailing, WhatGoesStandsInNoLine}
 use Rattle.gate_queue.specs.Examples.{TwoItemsAreSettled}
 use Rattle.gate_queue.proofs.Ordered.{RiseFrom, Tells, place_serial, rises, ahead_rise}
 use Rattle.gate_laws.proofs.Members.{all}
 use Rattle.gate_laws.proofs.Stays.{Among, among_next, goes_failing}
+use Rattle.gate_laws.proofs.Cuts.{failed_cut}
 use Rattle.gate_laws.proofs.AfterRebase.{all_places_rebased}
 use Rattle.gate_queue.proofs.Keeps.{passes_at, all_alike, slot_kept, rebase_passes}
 use Rattle.gate_queue.proofs.Settled.{goes_tells}
@@ -28,13 +29,20 @@ two_items_are_settled = record { first_fails = refl; first_goes = refl; both_go 
 pub rebase_keeps_marks : RebaseKeepsMarks
 rebase_keeps_marks = record {
   places = all_places_rebased;
-  slots = λ c s. let ps = all_places c s in let test = stays_live ps in
+  slots = λ c s. let ps = all_places c s in let test = stays_live s.builds ps in
       all (λ p. (j : Job) → slot_of (rebase c s).builds p j ≡ slot_of s.builds p j) ps
-      (λ p m. slot_kept s.builds p test (passes_at test ps (rebase_passes ps) p m));
+      (λ p m. slot_kept s.builds p test (passes_at s.builds test ps (rebase_passes s.builds ps) p m));
   marks = λ c s. let ps = all_places c s in
       all (λ p. is_failing (rebase c s).builds p ≡ is_failing s.builds p) ps
-      (λ p m. (all_alike s.builds ps (stays_live ps) (rebase_passes ps) p m).failing);
+      (λ p m. (all_alike s.builds ps (stays_live s.builds ps) (rebase_passes s.builds ps) p m).failing);
+  cuts = λ c s. let ps = all_places c s in
+      all (λ p. is_cut (rebase c s).builds p ≡ is_cut s.builds p) ps
+      (λ p m. (all_alike s.builds ps (stays_live s.builds ps) (rebase_passes s.builds ps) p m).cut);
 }
+
+pub slots_tell_failing : SlotsTellFailing
+slots_tell_failing builds p =
+    λ k. is_blocked p || list_any (λ j. j.voting && sym (failed_cut (is_cut builds p) (raw_slot_of builds p j)) k) p.jobs
 
 -- ---- a sweep
 

@@ -3,6 +3,7 @@ use Rattle.std.proofs.Common.{◌≡◌, ℕ, suc, ◌<◌, ◌≤◌, Bool, tru
 use Rattle.std.specs.Prelude.{filter, filter_map, find, unwrap_or, ◌==◌}
 use Rattle.std.specs.Option.{option_map_or}
 use Rattle.std.proofs.lemmas.Bool.{eq-eqb, ne_eqb}
+use Rattle.gate_types.specs.Window.{Bounds}
 use Rattle.gate_types.specs.declared.records.Build.{Build}
 use Rattle.gate_types.specs.declared.records.Report.{Report}
 use Rattle.gate_types.specs.declared.records.Verdict.{Verdict}
@@ -63,8 +64,8 @@ abbrev is_one : Judged → ℕ → Bool
 is_one j = goes (j ∷ [])
 
 -- what taking one out leaves of a sweep
-record Apart (floor : ℕ) (js : List Judged) (j : Judged) (rest : List Judged) : Type 0 where
-  window : (w : ℕ) → fold (next_window floor) w js ≡ fold (next_window floor) (next_window floor w j) rest
+record Apart (bounds : Bounds) (js : List Judged) (j : Judged) (rest : List Judged) : Type 0 where
+  window : (w : ℕ) → fold (next_window bounds) w js ≡ fold (next_window bounds) (next_window bounds w j) rest
   going : (n : ℕ) → goes js n ≡ (is_one j n || goes rest n)
   reports : filter_map report_on js ≡ filter_map report_on (j ∷ []) ++ filter_map report_on rest
   only : Only (is_one j) js
@@ -95,10 +96,10 @@ only_none j n (x ∷ xs) l r =
     off true = refl
     off false = refl
 
-window_same : (floor w : ℕ) (x : Judged) → is_some x.verdict ≡ false → next_window floor w x ≡ w
-window_same floor w x e = by_verdict x.verdict e
+window_same : (bounds : Bounds) (w : ℕ) (x : Judged) → is_some x.verdict ≡ false → next_window bounds w x ≡ w
+window_same bounds w x e = by_verdict x.verdict e
   where
-    by_verdict : (v : Option Verdict) → is_some v ≡ false → next_window floor w (record { item = x.item; verdict = v }) ≡ w
+    by_verdict : (v : Option Verdict) → is_some v ≡ false → next_window bounds w (record { item = x.item; verdict = v }) ≡ w
     by_verdict None h = refl
     by_verdict (Some v) h = absurd (true≢false h)
 
@@ -128,9 +129,9 @@ report_counts x js e = by_verdict x.verdict e
     by_verdict (Some v) h = refl
 
 -- the first one goes
-apart_first : (floor n : ℕ) (x : Judged) (xs : List Judged) → is_some x.verdict ≡ true → RiseFrom serial_of n (x ∷ xs) → Apart floor (x ∷ xs) x (left_of (is_one x) (x ∷ xs))
-apart_first floor n x xs g r =
-    subst (λ (l : List Judged). Apart floor (x ∷ xs) x l)
+apart_first : (bounds : Bounds) (n : ℕ) (x : Judged) (xs : List Judged) → is_some x.verdict ≡ true → RiseFrom serial_of n (x ∷ xs) → Apart bounds (x ∷ xs) x (left_of (is_one x) (x ∷ xs))
+apart_first bounds n x xs g r =
+    subst (λ (l : List Judged). Apart bounds (x ∷ xs) x l)
     (sym
     ((λ k. cond (not (g k && eq-eqb x.item.serial x.item.serial refl k || false)) (x ∷ left_of (is_one x) xs) (left_of (is_one x) xs))
     ∙ none_left x (suc x.item.serial) xs (omega arith) r.1))
@@ -144,16 +145,16 @@ apart_first floor n x xs g r =
     })
 
 -- one behind it does
-apart_later : (floor n : ℕ) (x : Judged) (xs : List Judged) (j : Judged) → is_some x.verdict ≡ false → RiseFrom serial_of n (x ∷ xs) → Apart floor xs j (left_of (is_one j) xs) → Apart floor (x ∷ xs) j (left_of (is_one j) (x ∷ xs))
-apart_later floor n x xs j g r ih =
+apart_later : (bounds : Bounds) (n : ℕ) (x : Judged) (xs : List Judged) (j : Judged) → is_some x.verdict ≡ false → RiseFrom serial_of n (x ∷ xs) → Apart bounds xs j (left_of (is_one j) xs) → Apart bounds (x ∷ xs) j (left_of (is_one j) (x ∷ xs))
+apart_later bounds n x xs j g r ih =
     let low : suc x.item.serial ≤ j.item.serial = ih.above (suc x.item.serial) r.1 in
     let other : j.item.serial == x.item.serial ≡ false = ne_eqb j.item.serial x.item.serial (λ e. omega (arith, e)) in
     let rest = left_of (is_one j) xs in
     let skipped : is_one j x.item.serial ≡ false = ap (λ t. is_some j.verdict && t || false) other ∙ off (is_some j.verdict) in
-    subst (λ (l : List Judged). Apart floor (x ∷ xs) j l)
+    subst (λ (l : List Judged). Apart bounds (x ∷ xs) j l)
     (sym (ap (λ t. cond (not t) (x ∷ rest) rest) skipped))
     (record {
-      window = λ w. ap (λ v. fold (next_window floor) v xs) (window_same floor w x g) ∙ ih.window w ∙ ap (λ v. fold (next_window floor) v rest) (sym (window_same floor (next_window floor w j) x g));
+      window = λ w. ap (λ v. fold (next_window bounds) v xs) (window_same bounds w x g) ∙ ih.window w ∙ ap (λ v. fold (next_window bounds) v rest) (sym (window_same bounds (next_window bounds w j) x g));
       going = λ m. ap (λ t. t && x.item.serial == m || goes xs m) g ∙ ih.going m ∙ ap (λ t. is_one j m || (t && x.item.serial == m || goes rest m)) (sym g);
       reports = no_report x xs g ∙ ih.reports ∙ ap (λ l. filter_map report_on (j ∷ []) ++ l) (sym (no_report x rest g));
       only = ((λ e. absurd (true≢false (sym e ∙ skipped))), ih.only);
@@ -161,16 +162,16 @@ apart_later floor n x xs j g r ih =
       above = λ m s. let from : m ≤ x.item.serial = s.0 in omega arith;
     })
 
-apart : (floor n : ℕ) (js : List Judged) (j : Judged) → RiseFrom serial_of n js → first_out js ≡ Some j → Apart floor js j (left_of (is_one j) js)
-apart floor n [] j r e = absurd (none_some e)
+apart : (bounds : Bounds) (n : ℕ) (js : List Judged) (j : Judged) → RiseFrom serial_of n js → first_out js ≡ Some j → Apart bounds js j (left_of (is_one j) js)
+apart bounds n [] j r e = absurd (none_some e)
   where
     none_some : {X : Type 0} {x : X} → None ≡ Some x → ⊥
     none_some h = true≢false (sym (ap is_some h))
-apart floor n (x ∷ xs) j r e = by_verdict (λ h. apart floor (suc x.item.serial) xs j r.1 h) (is_some x.verdict) refl e
+apart bounds n (x ∷ xs) j r e = by_verdict (λ h. apart bounds (suc x.item.serial) xs j r.1 h) (is_some x.verdict) refl e
   where
-    by_verdict : (first_out xs ≡ Some j → Apart floor xs j (left_of (is_one j) xs)) → (g : Bool) → is_some x.verdict ≡ g → cond g (Some x) (first_out xs) ≡ Some j → Apart floor (x ∷ xs) j (left_of (is_one j) (x ∷ xs))
-    by_verdict ih true g h = subst (λ (y : Judged). Apart floor (x ∷ xs) y (left_of (is_one y) (x ∷ xs))) (ap (λ (o : Option Judged). unwrap_or o x) h) (apart_first floor n x xs g r)
-    by_verdict ih false g h = apart_later floor n x xs j g r (ih h)
+    by_verdict : (first_out xs ≡ Some j → Apart bounds xs j (left_of (is_one j) xs)) → (g : Bool) → is_some x.verdict ≡ g → cond g (Some x) (first_out xs) ≡ Some j → Apart bounds (x ∷ xs) j (left_of (is_one j) (x ∷ xs))
+    by_verdict ih true g h = subst (λ (y : Judged). Apart bounds (x ∷ xs) y (left_of (is_one y) (x ∷ xs))) (ap (λ (o : Option Judged). unwrap_or o x) h) (apart_first bounds n x xs g r)
+    by_verdict ih false g h = apart_later bounds n x xs j g r (ih h)
 
 -- ---- scans
 
@@ -216,18 +217,18 @@ judged_rise bs n staying [] r = tt
 judged_rise bs n staying (p ∷ ps) r = (r.0, judged_rise bs (suc p.item.serial) (next_staying staying (judge bs staying p)) ps r.1)
 
 -- taking one out leaves the sweep as it is
-out_same : (floor : ℕ) (q : Scan) (j : Judged) → RiseFrom place_serial 0 q.places → first_out (verdicts q.places q.builds) ≡ Some j →
-    (swept floor (without floor q j) ≡ swept floor q) × (length (filter_map report_on (verdicts q.places q.builds)) ≡ suc (length (filter_map report_on (verdicts (without floor q j).places (without floor q j).builds))))
-out_same floor q j r e =
+out_same : (bounds : Bounds) (q : Scan) (j : Judged) → RiseFrom place_serial 0 q.places → first_out (verdicts q.places q.builds) ≡ Some j →
+    (swept bounds (without bounds q j) ≡ swept bounds q) × (length (filter_map report_on (verdicts q.places q.builds)) ≡ suc (length (filter_map report_on (verdicts (without bounds q j).places (without bounds q j).builds))))
+out_same bounds q j r e =
     let js = verdicts q.places q.builds in
     let rest = left_of (is_one j) js in
     let qs = places_after q.builds [] q.places in
-    let t = apart floor 0 js j (judged_rise q.builds 0 [] qs (ahead_rise q.builds 0 [] q.places r)) e in
-    let next = without floor q j in
+    let t = apart bounds 0 js j (judged_rise q.builds 0 [] qs (ahead_rise q.builds 0 [] q.places r)) e in
+    let next = without bounds q j in
     let left : verdicts next.places next.builds ≡ rest =
     ap (judged_after next.builds []) (places_left q.builds [] [] q.places (is_one j) (λ n h. h) t.only) ∙ verdicts_left q.builds [] qs (is_one j) t.only in
     let sweep_by : List Judged → Scan = λ ks. record {
-      window = fold (next_window floor) next.window ks;
+      window = fold (next_window bounds) next.window ks;
       places = stayers (goes ks) next.places;
       builds = without_runs (goes ks) next.builds;
       reports = next.reports ++ filter_map report_on ks;
@@ -243,19 +244,19 @@ out_same floor q j r e =
     )
 
 -- where nobody goes
-record Idle (floor : ℕ) (js : List Judged) : Type 0 where
-  window : (w : ℕ) → fold (next_window floor) w js ≡ w
+record Idle (bounds : Bounds) (js : List Judged) : Type 0 where
+  window : (w : ℕ) → fold (next_window bounds) w js ≡ w
   going : (n : ℕ) → goes js n ≡ false
   reports : filter_map report_on js ≡ []
 
-idle : (floor : ℕ) (js : List Judged) → first_out js ≡ None → Idle floor js
-idle floor [] e = record { window = λ w. refl; going = λ n. refl; reports = refl }
-idle floor (x ∷ xs) e = by_verdict (λ h. idle floor xs h) (is_some x.verdict) refl e
+idle : (bounds : Bounds) (js : List Judged) → first_out js ≡ None → Idle bounds js
+idle bounds [] e = record { window = λ w. refl; going = λ n. refl; reports = refl }
+idle bounds (x ∷ xs) e = by_verdict (λ h. idle bounds xs h) (is_some x.verdict) refl e
   where
-    by_verdict : (first_out xs ≡ None → Idle floor xs) → (g : Bool) → is_some x.verdict ≡ g → cond g (Some x) (first_out xs) ≡ None → Idle floor (x ∷ xs)
+    by_verdict : (first_out xs ≡ None → Idle bounds xs) → (g : Bool) → is_some x.verdict ≡ g → cond g (Some x) (first_out xs) ≡ None → Idle bounds (x ∷ xs)
     by_verdict ih true g h = absurd (true≢false (ap is_some h))
     by_verdict ih false g h = record {
-      window = λ w. ap (λ v. fold (next_window floor) v xs) (window_same floor w x g) ∙ (ih h).window w;
+      window = λ w. ap (λ v. fold (next_window bounds) v xs) (window_same bounds w x g) ∙ (ih h).window w;
       going = λ n. ap (λ t. t && x.item.serial == n || goes xs n) g ∙ (ih h).going n;
       reports = no_report x xs g ∙ (ih h).reports;
     }
@@ -273,10 +274,10 @@ stop_none (b ∷ bs) leaves h = λ k. with_live ((ap (λ t. b.live && not (is_ru
     kept true false = refl
     kept false r = refl
 
-idle_same : (floor : ℕ) (q : Scan) → first_out (verdicts q.places q.builds) ≡ None → swept floor q ≡ q
-idle_same floor q e =
+idle_same : (bounds : Bounds) (q : Scan) → first_out (verdicts q.places q.builds) ≡ None → swept bounds q ≡ q
+idle_same bounds q e =
     let js = verdicts q.places q.builds in
-    let i = idle floor js e in
+    let i = idle bounds js e in
     λ k. record {
       window = i.window q.window k;
       places = stay_all q.places (goes js) i.going k;
@@ -284,24 +285,24 @@ idle_same floor q e =
       reports = (ap (λ l. q.reports ++ l) i.reports ∙ append-nil q.reports) k;
     }
 
-outs : (floor : ℕ) (l : List Place) (q : Scan) → RiseFrom place_serial 0 q.places → length (filter_map report_on (verdicts q.places q.builds)) ≤ length l → fold (λ t _. one_out floor t) q l ≡ swept floor q
-outs floor [] q r few = by_first (first_out (verdicts q.places q.builds)) refl
+outs : (bounds : Bounds) (l : List Place) (q : Scan) → RiseFrom place_serial 0 q.places → length (filter_map report_on (verdicts q.places q.builds)) ≤ length l → fold (λ t _. one_out bounds t) q l ≡ swept bounds q
+outs bounds [] q r few = by_first (first_out (verdicts q.places q.builds)) refl
   where
-    by_first : (o : Option Judged) → first_out (verdicts q.places q.builds) ≡ o → q ≡ swept floor q
-    by_first None e = sym (idle_same floor q e)
-    by_first (Some j) e = let more = (out_same floor q j r e).1 in absurd (omega arith)
-outs floor (x ∷ l) q r few = by_first (λ t h k. outs floor l t h k) (first_out (verdicts q.places q.builds)) refl
+    by_first : (o : Option Judged) → first_out (verdicts q.places q.builds) ≡ o → q ≡ swept bounds q
+    by_first None e = sym (idle_same bounds q e)
+    by_first (Some j) e = let more = (out_same bounds q j r e).1 in absurd (omega arith)
+outs bounds (x ∷ l) q r few = by_first (λ t h k. outs bounds l t h k) (first_out (verdicts q.places q.builds)) refl
   where
-    by_first : ((t : Scan) → RiseFrom place_serial 0 t.places → length (filter_map report_on (verdicts t.places t.builds)) ≤ length l → fold (λ t _. one_out floor t) t l ≡ swept floor t) →
-        (o : Option Judged) → first_out (verdicts q.places q.builds) ≡ o → fold (λ t _. one_out floor t) (one_out floor q) l ≡ swept floor q
+    by_first : ((t : Scan) → RiseFrom place_serial 0 t.places → length (filter_map report_on (verdicts t.places t.builds)) ≤ length l → fold (λ t _. one_out bounds t) t l ≡ swept bounds t) →
+        (o : Option Judged) → first_out (verdicts q.places q.builds) ≡ o → fold (λ t _. one_out bounds t) (one_out bounds q) l ≡ swept bounds q
     by_first ih None e =
-        let none : length (filter_map report_on (verdicts q.places q.builds)) ≡ 0 = ap length (idle floor (verdicts q.places q.builds) e).reports in
-        ap (λ (o : Option Judged). fold (λ t _. one_out floor t) (option_map_or (without floor q) o q) l) e ∙ ih q r (omega arith)
+        let none : length (filter_map report_on (verdicts q.places q.builds)) ≡ 0 = ap length (idle bounds (verdicts q.places q.builds) e).reports in
+        ap (λ (o : Option Judged). fold (λ t _. one_out bounds t) (option_map_or (without bounds q) o q) l) e ∙ ih q r (omega arith)
     by_first ih (Some j) e =
-        let same = out_same floor q j r e in
-        let more : length (filter_map report_on (verdicts q.places q.builds)) ≡ suc (length (filter_map report_on (verdicts (without floor q j).places (without floor q j).builds))) = same.1 in
-        ap (λ (o : Option Judged). fold (λ t _. one_out floor t) (option_map_or (without floor q) o q) l) e
-        ∙ ih (without floor q j) (rise_stayers 0 q.places (is_one j) r) (omega arith)
+        let same = out_same bounds q j r e in
+        let more : length (filter_map report_on (verdicts q.places q.builds)) ≡ suc (length (filter_map report_on (verdicts (without bounds q j).places (without bounds q j).builds))) = same.1 in
+        ap (λ (o : Option Judged). fold (λ t _. one_out bounds t) (option_map_or (without bounds q) o q) l) e
+        ∙ ih (without bounds q j) (rise_stayers 0 q.places (is_one j) r) (omega arith)
         ∙ same.0
 
 reports-le : (js : List Judged) → length (filter_map report_on js) ≤ length js
@@ -317,7 +318,7 @@ verdict_each bs ahead staying [] = refl
 verdict_each bs ahead staying (p ∷ ps) = let q = with_ahead ahead p in ap suc (verdict_each bs (next_ahead bs q) (next_staying staying (judge bs staying q)) ps)
 
 pub one_sweep_is_one_by_one : OneSweepIsOneByOne
-one_sweep_is_one_by_one floor q r =
+one_sweep_is_one_by_one bounds q r =
     let few : length (filter_map report_on (verdicts q.places q.builds)) ≤ length (verdicts q.places q.builds) = reports-le (verdicts q.places q.builds) in
     let each : length (verdicts q.places q.builds) ≡ length q.places = verdict_each q.builds [] [] q.places in
-    outs floor q.places q (rises place_serial q.places r) (omega arith)
+    outs bounds q.places q (rises place_serial q.places r) (omega arith)

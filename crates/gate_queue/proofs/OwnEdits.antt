@@ -4,6 +4,7 @@ use Rattle.std.specs.Prelude.{filter, ◌==◌}
 use Rattle.std.specs.List.{AllPass}
 use Rattle.std.proofs.lemmas.Bool.{eq-eqb}
 use Rattle.std.proofs.lemmas.List.Elements.{All-nil, All-cons, All-append}
+use Rattle.gate_types.specs.Window.{Bounds}
 use Rattle.gate_types.specs.declared.records.Item.{Item as ItemRow}
 use Rattle.gate_types.specs.declared.records.Build.{Build}
 use Rattle.gate_types.specs.declared.records.Landing.{Landing}
@@ -13,6 +14,7 @@ use Rattle.gate_types.specs.declared.edits.Edit.TheVariants as edit
 use Rattle.gate_types.specs.Names.{same_name}
 use Rattle.gate_types.specs.State.{Item}
 use Rattle.gate_types.specs.Line.{Place}
+use Rattle.gate_types.specs.Slot.{is_cut}
 use Rattle.gate_types.specs.Standing.{with_ahead, next_ahead}
 use Rattle.gate_types.specs.Sweep.{verdict_of, judge, next_staying, report_of}
 use Rattle.gate_types.specs.Rows.{row_of, item_of}
@@ -87,13 +89,13 @@ own_after name items builds n ahead staying (p ∷ ps) h =
     let q = with_ahead ahead p in
     let v = verdict_of builds staying q in
     All-append P (edits_at name builds n staying q) _
-    (All-append P (stop_edits builds q (is_some v)) _ (own_stops name items builds builds q (is_some v) (λ m e. e)) (own_item name items builds n (row_of builds q) v h.0))
+    (All-append P (stop_edits builds q (is_some v || is_cut builds q)) _ (own_stops name items builds builds q (is_some v || is_cut builds q) (λ m e. e)) (own_item name items builds n (row_of builds q) v h.0))
     (own_after name items builds (next_reports n v) (next_ahead builds q) (next_staying staying (judge builds staying q)) ps h.1)
 
-pub own_edits : (name : List ℕ) (floor window reports : ℕ) (builds : List Build) (items : List ItemRow) (ls : List Landing) (fs : List ItemFacts) →
-    AllPass (is_own name items builds) (edits_of_queue name floor window reports builds (places_by ls items fs))
-own_edits name floor window reports builds items ls fs =
+pub own_edits : (name : List ℕ) (bounds : Bounds) (window reports : ℕ) (builds : List Build) (items : List ItemRow) (ls : List Landing) (fs : List ItemFacts) →
+    AllPass (is_own name items builds) (edits_of_queue name bounds window reports builds (places_by ls items fs))
+own_edits name bounds window reports builds items ls fs =
     let ps = places_by ls items fs in
     All-append (IsOwn name items builds) (edits_after name builds reports [] [] ps) _
     (own_after name items builds reports [] [] ps (there items ls items fs (λ n e. e)))
-    (own_window name items builds window (window_after builds floor window [] [] ps))
+    (own_window name items builds window (window_after builds bounds window [] [] ps))

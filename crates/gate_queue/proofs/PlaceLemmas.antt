@@ -1,5 +1,8 @@
 -- The place of an item, by its parts.
-use Rattle.std.proofs.Common.{◌≡◌, ℕ, ◌+◌, ◌<◌, ◌≤◌, Option, Some, None, List, ◌∷◌, ◌++◌, length, get_or, drop, refl, sym, ap, ◌∙◌, add-one, drop-cons, append_assoc, arith}
+use Rattle.std.proofs.Common.{◌≡◌, ℕ, Bool, false, not, ◌&&◌, ◌||◌, cond, ◌+◌, ◌<◌, ◌≤◌, Option, Some, None, List, ◌∷◌, ◌++◌, length, get_or, drop, refl, sym, ap, ◌∙◌, add-one, drop-cons, append_assoc, arith}
+use Rattle.std.specs.Prelude.{◌==◌}
+use Rattle.std.specs.List.{list_all}
+use Rattle.gate_types.specs.Window.{Bounds}
 use Rattle.gate_types.specs.declared.records.Item.{Item as ItemRow}
 use Rattle.gate_types.specs.declared.records.Landing.{Landing}
 use Rattle.gate_types.specs.declared.records.Build.{Build}
@@ -8,16 +11,19 @@ use Rattle.gate_types.specs.declared.records.Verdict.TheVariants as verdict
 use Rattle.gate_types.specs.declared.edits.Edit.{Edit}
 use Rattle.gate_types.specs.State.{Item}
 use Rattle.gate_types.specs.Line.{Place}
+use Rattle.gate_types.specs.Slot.{is_blocked, are_met_by, has_failure, is_cut, raw_slot_of, is_finished}
 use Rattle.gate_types.specs.Standing.{with_ahead, next_ahead}
-use Rattle.gate_types.specs.Sweep.{verdict_of, judge, next_staying, next_window}
+use Rattle.gate_types.specs.Sweep.{verdict_of, has_failed, judge, next_staying, next_window}
 use Rattle.gate_types.specs.Rows.{item_of}
 use Rattle.gate_queue.specs.Edits.{edits_at, edits_after, next_reports, window_behind, window_after}
 use Rattle.gate_queue.specs.declared.facts.ItemFacts.{ItemFacts}
+use Rattle.gate_laws.proofs.Tests.{and_true}
+use Rattle.gate_laws.proofs.Cuts.{finished_is}
 use Rattle.gate_queue.specs.Facts.{place_by, place_behind, places_by}
 
 -- a place with those parts
 abbrev pub with_parts : List Item → List Landing → Item → ItemFacts → Place
-with_parts ahead landings i f = record { landings = landings; ahead = ahead; item = i; needs = f.needs.now; jobs = f.jobs.now }
+with_parts ahead landings i f = record { landings = landings; ahead = ahead; item = i; needs = f.needs.now; jobs = f.jobs.now; fast = f.fast }
 
 pub place_is : (ahead a : List Item) (landings : List Landing) (i : ItemRow) (q : Item) (f : ItemFacts) → a ≡ ahead → q ≡ item_of i → with_parts a landings q f ≡ place_behind ahead landings i f
 place_is ahead a landings i q f ea eq = λ k. with_parts (ea k) landings (eq k) f
@@ -27,15 +33,15 @@ pub places-drop : (ls : List Landing) (items : List ItemRow) (fs : List ItemFact
     places_by ls (drop i items) (drop i fs) ≡ place_by ls (get_or items i d) (get_or fs i e) ∷ places_by ls (drop (i + 1) items) (drop (i + 1) fs)
 places-drop ls items fs i d e p q = rw (add-one, drop-cons items i d, drop-cons fs i e) refl
 
-pub window_same : (floor w : ℕ) (i : Item) (v : Option Verdict) → window_behind floor w v ≡ next_window floor w (record { item = i; verdict = v })
-window_same floor w i None = refl
-window_same floor w i (Some verdict.Failed) = refl
-window_same floor w i (Some verdict.Needs) = refl
-window_same floor w i (Some verdict.Refused) = refl
-window_same floor w i (Some verdict.Superseded) = refl
-window_same floor w i (Some verdict.Withdrawn) = refl
-window_same floor w i (Some verdict.Closed) = refl
-window_same floor w i (Some (verdict.Landed n)) = refl
+pub window_same : (bounds : Bounds) (w : ℕ) (i : Item) (v : Option Verdict) → window_behind bounds w v ≡ next_window bounds w (record { item = i; verdict = v })
+window_same bounds w i None = refl
+window_same bounds w i (Some verdict.Failed) = refl
+window_same bounds w i (Some verdict.Needs) = refl
+window_same bounds w i (Some verdict.Refused) = refl
+window_same bounds w i (Some verdict.Superseded) = refl
+window_same bounds w i (Some verdict.Withdrawn) = refl
+window_same bounds w i (Some verdict.Closed) = refl
+window_same bounds w i (Some (verdict.Landed n)) = refl
 
 -- one more item, for the edits
 pub edits_after_more : (name : List ℕ) (builds : List Build) (n m : ℕ) (ahead ahead' staying staying' : List Item) (p : Place) (ps rest : List Place) (old new all : List Edit) →
@@ -49,15 +55,29 @@ edits_after_more name builds n m ahead ahead' staying staying' p ps rest old new
     ∙ h
 
 -- and for the window
-pub window_after_more : (builds : List Build) (floor w v : ℕ) (ahead ahead' staying staying' : List Item) (p : Place) (ps rest : List Place) (all : ℕ) →
+pub window_after_more : (builds : List Build) (bounds : Bounds) (w v : ℕ) (ahead ahead' staying staying' : List Item) (p : Place) (ps rest : List Place) (all : ℕ) →
     rest ≡ p ∷ ps → ahead' ≡ next_ahead builds (with_ahead ahead p) → staying' ≡ next_staying staying (judge builds staying (with_ahead ahead p)) →
-    v ≡ window_behind floor w (verdict_of builds staying (with_ahead ahead p)) →
-    window_after builds floor w ahead staying rest ≡ all → window_after builds floor v ahead' staying' ps ≡ all
-window_after_more builds floor w v ahead ahead' staying staying' p ps rest all er ea es ev h =
-    (λ k. window_after builds floor ((ev ∙ window_same floor w p.item (verdict_of builds staying (with_ahead ahead p))) k) (ea k) (es k) ps)
-    ∙ sym (ap (λ r. window_after builds floor w ahead staying r) er)
+    v ≡ window_behind bounds w (verdict_of builds staying (with_ahead ahead p)) →
+    window_after builds bounds w ahead staying rest ≡ all → window_after builds bounds v ahead' staying' ps ≡ all
+window_after_more builds bounds w v ahead ahead' staying staying' p ps rest all er ea es ev h =
+    (λ k. window_after builds bounds ((ev ∙ window_same bounds w p.item (verdict_of builds staying (with_ahead ahead p))) k) (ea k) (es k) ps)
+    ∙ sym (ap (λ r. window_after builds bounds w ahead staying r) er)
     ∙ h
 
 pub next_reports-le : (n : ℕ) (v : Option Verdict) → next_reports n v ≤ n + 1
 next_reports-le n None = omega arith
 next_reports-le n (Some v) = omega arith
+
+-- the verdict on an item that isn't blocked, by what its jobs say
+pub verdict_told : (bs : List Build) (staying : List Item) (p : Place) (m f e u d : Bool) → is_blocked p ≡ false →
+    m ≡ are_met_by staying p.needs → f ≡ has_failure bs p → e ≡ length p.ahead == 0 → u ≡ p.fast && f →
+    d ≡ list_all (λ j. is_finished (raw_slot_of bs p j)) p.jobs →
+    cond (not m) (Some verdict.Needs) (cond (f && e && (u || d)) (Some verdict.Failed) None) ≡ verdict_of bs staying p
+verdict_told bs staying p m f e u d eb em ef ee eu ed =
+    let cut : u ≡ is_cut bs p =
+    eu ∙ ap (λ t. p.fast && t) ef ∙ sym (ap (λ t. p.fast && not t && has_failure bs p) eb ∙ ap (λ t. t && has_failure bs p) (and_true p.fast)) in
+    let all : f && e && (u || d) ≡ has_failed bs p =
+    (λ k. ef k && ee k && (cut k || ed k))
+    ∙ sym ((λ k. (eb k || has_failure bs p) && not (eb k) && length p.ahead == 0 && finished_is bs p k)
+    ∙ ap (λ t. t && length p.ahead == 0 && (is_cut bs p || list_all (λ j. is_finished (raw_slot_of bs p j)) p.jobs)) (and_true (has_failure bs p))) in
+    λ k. cond (not (em k)) (Some verdict.Needs) (cond (all k) (Some verdict.Failed) None)

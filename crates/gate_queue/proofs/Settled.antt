@@ -3,6 +3,7 @@ use Rattle.std.proofs.Common.{◌≡◌, ℕ, suc, ◌<◌, ◌≤◌, Bool, tru
 use Rattle.std.specs.Prelude.{◌==◌, ◌&&◌, ◌||◌}
 use Rattle.std.proofs.lemmas.List.Sums.{fold-append}
 use Rattle.std.proofs.lemmas.Bool.{eq-eqb, ne_eqb, eqb-true}
+use Rattle.gate_types.specs.Window.{Bounds}
 use Rattle.gate_types.specs.declared.records.Item.{Item as ItemRow}
 use Rattle.gate_types.specs.declared.records.Landing.{Landing}
 use Rattle.gate_types.specs.declared.records.Build.{Build}
@@ -83,7 +84,7 @@ window_leaves f name old new y h = by_test (old == new)
     by_test true = refl
     by_test false = h
 
-stayers_kept : (bs : List Build) (ps : List Place) (leaves : ℕ → Bool) (test : Build → Bool) → PassesAll test ps →
+stayers_kept : (bs : List Build) (ps : List Place) (leaves : ℕ → Bool) (test : Build → Bool) → PassesAll bs test ps →
     map (row_of (map (keeps test) bs)) (stayers leaves ps) ≡ map (row_of bs) (stayers leaves ps)
 stayers_kept bs ps leaves test h =
     rows_alike (map (keeps test) bs) bs (stayers leaves ps)
@@ -92,39 +93,39 @@ stayers_kept bs ps leaves test h =
 -- after a rebase the verdicts are what they were
 pub verdicts_rebased : (ps : List Place) (bs : List Build) → verdicts ps (rebased ps bs) ≡ verdicts ps bs
 verdicts_rebased ps bs =
-    let test = stays_live (places_after bs [] ps) in
-    ap (judged_after (rebased ps bs) []) (places_kept bs [] ps test (rebase_passes (places_after bs [] ps))) ∙ verdicts_kept bs [] (places_after bs [] ps) test (rebase_passes (places_after bs [] ps))
+    let test = stays_live bs (places_after bs [] ps) in
+    ap (judged_after (rebased ps bs) []) (places_kept bs [] ps test (rebase_passes bs (places_after bs [] ps))) ∙ verdicts_kept bs [] (places_after bs [] ps) test (rebase_passes bs (places_after bs [] ps))
 
 -- the rows of the items that stay, worked out anew from what a rebase and a sweep leave
 rows_settled : (ps : List Place) (bs : List Build) → RiseFrom place_serial 0 ps →
     (let leaves = goes (verdicts ps bs) in let left = without_runs leaves (rebased ps bs) in map (row_of left) (places_after left [] (stayers leaves ps)) ≡ map (row_of bs) (stayers leaves (places_after bs [] ps)))
 rows_settled ps bs r =
-    let test = stays_live (places_after bs [] ps) in
+    let test = stays_live bs (places_after bs [] ps) in
     let mid = rebased ps bs in
     let js = verdicts ps bs in
     let leaves = goes js in
     let left = without_runs leaves mid in
     let tells = subst (Tells leaves) (sym (verdicts_rebased ps bs)) (goes_tells bs 0 [] (places_after bs [] ps) (ahead_rise bs 0 [] ps r)) in
-    ap (map (row_of left)) (places_stay mid [] [] ps leaves (λ n h. h) tells ∙ ap (stayers leaves) (places_kept bs [] ps test (rebase_passes (places_after bs [] ps))))
+    ap (map (row_of left)) (places_stay mid [] [] ps leaves (λ n h. h) tells ∙ ap (stayers leaves) (places_kept bs [] ps test (rebase_passes bs (places_after bs [] ps))))
     ∙ rows_stay mid (stayers leaves (places_after bs [] ps)) leaves
-    ∙ stayers_kept bs (places_after bs [] ps) leaves test (rebase_passes (places_after bs [] ps))
+    ∙ stayers_kept bs (places_after bs [] ps) leaves test (rebase_passes bs (places_after bs [] ps))
 
 -- what the edits make of the rows
-pub edits_make : (name : List ℕ) (floor w n : ℕ) (bs : List Build) (is : List ItemRow) (ps : List Place) (rs : List Report) → length rs ≡ n → GoWith is ps → RiseFrom row_serial 0 is → RiseFrom build_number 0 bs →
-    fold_edits (record { name = name; window = w; items = is; builds = bs; reports = numbered 0 rs }) (edits_of_queue name floor w n bs ps)
+pub edits_make : (name : List ℕ) (bounds : Bounds) (w n : ℕ) (bs : List Build) (is : List ItemRow) (ps : List Place) (rs : List Report) → length rs ≡ n → GoWith is ps → RiseFrom row_serial 0 is → RiseFrom build_number 0 bs →
+    fold_edits (record { name = name; window = w; items = is; builds = bs; reports = numbered 0 rs }) (edits_of_queue name bounds w n bs ps)
     ≡ record {
       name = name;
-      window = fold (next_window floor) w (verdicts ps bs);
+      window = fold (next_window bounds) w (verdicts ps bs);
       items = map (row_of bs) (stayers (goes (verdicts ps bs)) (places_after bs [] ps));
       builds = without_runs (goes (verdicts ps bs)) (rebased ps bs);
       reports = numbered 0 (rs ++ reports_of (verdicts ps bs));
     }
-edits_make name floor w n bs is ps rs en g r rb =
+edits_make name bounds w n bs is ps rs en g r rb =
     let qs = places_after bs [] ps in
     let js = verdicts ps bs in
     let own = edits_after name bs n [] [] ps in
     let same : own ≡ edits_along name bs n [] qs = along name bs n [] [] ps in
-    let new = fold (next_window floor) w js in
+    let new = fold (next_window bounds) w js in
     let last = window_edits name w new in
     let rp = places_rise 0 is ps g r in
     let rq = ahead_rise bs 0 [] ps rp in
@@ -151,18 +152,18 @@ edits_make name floor w n bs is ps rs en g r rb =
     parts ∙ (λ k. record { name = name; window = windows k; items = items k; builds = builds k; reports = reports k })
 
 -- they are those of a rebase and then a sweep
-pub settles : (name : List ℕ) (floor w n : ℕ) (bs : List Build) (is : List ItemRow) (ls : List Landing) (ps : List Place) (rs : List Report) (items : List Item) → length rs ≡ n → GoWith is ps → RiseFrom row_serial 0 is → RiseFrom build_number 0 bs →
-    fold_edits (record { name = name; window = w; items = is; builds = bs; reports = numbered 0 rs }) (edits_of_queue name floor w n bs ps)
-    ≡ settled_rows floor ps bs (record { name = name; window = w; landings = ls; items = items; reports = rs })
-settles name floor w n bs is ls ps rs items en g r rb =
+pub settles : (name : List ℕ) (bounds : Bounds) (w n : ℕ) (bs : List Build) (is : List ItemRow) (ls : List Landing) (ps : List Place) (rs : List Report) (items : List Item) → length rs ≡ n → GoWith is ps → RiseFrom row_serial 0 is → RiseFrom build_number 0 bs →
+    fold_edits (record { name = name; window = w; items = is; builds = bs; reports = numbered 0 rs }) (edits_of_queue name bounds w n bs ps)
+    ≡ settled_rows bounds ps bs (record { name = name; window = w; landings = ls; items = items; reports = rs })
+settles name bounds w n bs is ls ps rs items en g r rb =
     let js = verdicts ps bs in
     let q : Queue = record { name = name; window = w; landings = ls; items = items; reports = rs } in
-    edits_make name floor w n bs is ps rs en g r rb
+    edits_make name bounds w n bs is ps rs en g r rb
     ∙ (λ k. record {
       name = name;
-      window = fold (next_window floor) w js;
+      window = fold (next_window bounds) w js;
       items = sym (rows_settled ps bs (places_rise 0 is ps g r)) k;
       builds = without_runs (goes js) (rebased ps bs);
       reports = numbered 0 (rs ++ reports_of js);
     })
-    ∙ ap (λ (l : List Judged). swept_rows floor l ps (rebased ps bs) q) (sym (verdicts_rebased ps bs))
+    ∙ ap (λ (l : List Judged). swept_rows bounds l ps (rebased ps bs) q) (sym (verdicts_rebased ps bs))

@@ -20,28 +20,29 @@ use Rattle.gate_types.specs.Names.{same_name}
 use Rattle.gate_types.specs.Settings.{Settings}
 use Rattle.gate_types.specs.State.{Item, Queue, State}
 use Rattle.gate_types.specs.Line.{Place, same_entries, line, ran_on}
-use Rattle.gate_types.specs.Slot.{is_blocked, is_running, counts, outcomes_of, slot_of, slot_of_outcomes}
+use Rattle.gate_types.specs.Slot.{is_blocked, is_running, counts, is_wanted, outcomes_of, raw_slot_of, slot_of_outcomes}
 use Rattle.gate_types.specs.Standing.{with_ahead, next_ahead, places_after, place_of, places, all_places}
 use Rattle.gate_types.specs.Rebase.{rebase, with_live, stays_live}
-use Rattle.gate_types.specs.Window.{floor_of}
+use Rattle.gate_types.specs.Window.{bounds_of}
 use Rattle.gate_types.specs.Sweep.{Judged, judged, judged_after, goes, without_runs, sweep, next_window, report_of}
 use Rattle.gate_types.specs.Rows.{row_of, numbered}
-use Rattle.gate_laws.proofs.Tests.{implied, flipped}
-use Rattle.gate_laws.proofs.Members.{In, every, to_right}
-use Rattle.gate_laws.proofs.Alike.{StandsAlike, alike_slots, places_alike, verdicts_alike}
+use Rattle.gate_laws.proofs.Tests.{implied}
+use Rattle.gate_laws.proofs.Members.{In, every, to_right, map_same, from_filter}
+use Rattle.gate_laws.proofs.Alike.{StandsAlike, alike_slots, places_alike, verdicts_alike, live_alike}
 use Rattle.gate_laws.proofs.Keeps.{keeps, map-cond}
 use Rattle.gate_laws.proofs.Outcomes.{counted_live}
 use Rattle.gate_laws.proofs.Stays.{stayers}
 use Rattle.gate_laws.proofs.AfterRebase.{judged_rebased}
-use Rattle.gate_laws.proofs.Swept.{items_left, place-staying}
-use Rattle.gate_laws.proofs.OneQueue.{none_there}
+use Rattle.gate_laws.proofs.Swept.{items_left, place-staying, staying_items, staying_not}
+use Rattle.gate_laws.proofs.Plans.{plan_stays, same_place}
+use Rattle.gate_laws.proofs.OneQueue.{none_there, none_wanted}
 use Rattle.gate_laws.proofs.OtherQueuesStay.{none_goes_there}
 
 -- ---- builds that give the same slots
 
 -- at each place of these items
 abbrev SameSlots : List Build → List Build → List Item → Type 0
-SameSlots cs bs items = (p : Place) → has_serial items p.item.serial ≡ true → (job : Job) → slot_of cs p job ≡ slot_of bs p job
+SameSlots cs bs items = (p : Place) → has_serial items p.item.serial ≡ true → (job : Job) → raw_slot_of cs p job ≡ raw_slot_of bs p job
 
 abbrev AllIn : List Item → List Place → Type 0
 AllIn items = Each (λ p. has_serial items p.item.serial ≡ true)
@@ -136,19 +137,6 @@ builds_picked pick others q test mine leaves own (b ∷ bs) h same =
 
 -- ---- the other queues
 
-count_off : (l n q : Bool) → l && false && n && q ≡ false
-count_off true n q = refl
-count_off false n q = refl
-
-none_counts : (c : Settings) (s : State) (o : Queue) (bs : List Build) (b : Build) (ahead is : List Item) → has_serial is b.serial ≡ false → list_any (λ p. counts p b) (places_after bs ahead (map (place_of c s o) is)) ≡ false
-none_counts c s o bs b ahead [] h = refl
-none_counts c s o bs b ahead (i ∷ is) h =
-    let both = or_parts (i.serial == b.serial) (has_serial is b.serial) h in
-    let p = with_ahead ahead (place_of c s o i) in
-    or_from (counts p b) _
-    (ap (λ t. b.live && t && not (is_blocked p) && same_entries (ran_on p.landings b) (line p)) (flipped i.serial b.serial both.0) ∙ count_off b.live (not (is_blocked p)) (same_entries (ran_on p.landings b) (line p)))
-    (none_counts c s o bs b (next_ahead bs p) is both.1)
-
 -- a test over all queues that no other passes
 none_of : {X : Type 0} (f : X → Bool) (g : Queue → List X) (n : ℕ) (os : List Queue) → ((o : Queue) → has_serial o.items n ≡ false → list_any f (g o) ≡ false) → list_any (λ o. has_serial o.items n) os ≡ false → list_any f (flat_map g os) ≡ false
 none_of f g n [] h e = refl
@@ -193,11 +181,11 @@ places_left c s q bs ahead staying is leaves t =
     ap (map (place_of c s q)) (items_left c s q bs ahead staying is leaves t) ∙ place-staying c s q leaves is
 
 -- what the whole rebase stops of a build that is of no other queue's item
-live_same : (c : Settings) (s : State) (before after : List Queue) (q : Queue) (b : Build) → s.queues ≡ before ++ q ∷ after → NoOther (before ++ after) b → stays_live (all_places c s) b ≡ stays_live (places c s q) b
+live_same : (c : Settings) (s : State) (before after : List Queue) (q : Queue) (b : Build) → s.queues ≡ before ++ q ∷ after → NoOther (before ++ after) b → stays_live s.builds (all_places c s) b ≡ stays_live s.builds (places c s q) b
 live_same c s before after q b e h =
-    ap (λ (l : List Queue). stays_live (flat_map (places c s) l) b) e
+    ap (λ (l : List Queue). stays_live s.builds (flat_map (places c s) l) b) e
     ∙ (λ k. not (only_one (λ (p : Place). p.item.serial == b.serial) (places c s) b.serial before after q (λ o z. none_there c s o s.builds b.serial [] o.items z) h k)
-    || only_one (λ (p : Place). counts p b) (places c s) b.serial before after q (λ o z. none_counts c s o s.builds b [] o.items z) h k)
+    || only_one (λ (p : Place). is_wanted s.builds p b) (places c s) b.serial before after q (λ o z. none_wanted c s o s.builds s.builds b [] o.items z) h k)
 
 goes_same : (c : Settings) (s : State) (before after : List Queue) (q : Queue) (n : ℕ) → s.queues ≡ before ++ q ∷ after → list_any (λ o. has_serial o.items n) (before ++ after) ≡ false → goes (flat_map (judged c s) s.queues) n ≡ goes (judged c s q) n
 goes_same c s before after q n e h =
@@ -210,7 +198,7 @@ verdicts_whole c s before after q e =
     judged_rebased c s q (subst (In q) (sym e) (to_right before (q ∷ after) q (inl refl)))
 
 pub each_queue_is_settled_by_itself : EachQueueIsSettledByItself
-each_queue_is_settled_by_itself c s before after q pick e r h =
+each_queue_is_settled_by_itself c s before after q pick e r apart h =
     let ps = map (place_of c s q) q.items in
     let js = verdicts ps s.builds in
     let own = picked pick s.builds in
@@ -222,12 +210,13 @@ each_queue_is_settled_by_itself c s before after q pick e r h =
     let alone : verdicts ps (rebased ps own) ≡ js =
     verdicts_rebased ps own ∙ ap (judged_after own []) here ∙ verdicts_alike own s.builds [] (places c s q) alike in
     let whole : judged c (rebase c s) q ≡ js = verdicts_whole c s before after q e in
-    let test = stays_live (all_places c s) in
+    let test = stays_live s.builds (all_places c s) in
     let left = (sweep c (rebase c s)).builds in
     let builds : picked pick left ≡ without_runs (goes js) (rebased ps own) =
-    builds_picked pick (before ++ after) q test (stays_live (places_after own [] ps)) (goes (flat_map (judged c (rebase c s)) s.queues)) (goes js) s.builds h
+    builds_picked pick (before ++ after) q test (stays_live own (places_after own [] ps)) (goes (flat_map (judged c (rebase c s)) s.queues)) (goes js) s.builds h
     (λ b z. (
-      live_same c s before after q b e z ∙ ap (λ (l : List Place). stays_live l b) (sym here),
+      live_same c s before after q b e z
+          ∙ sym (live_alike own s.builds (places c s q) b alike) ∙ ap (λ (l : List Place). stays_live own l b) (sym here),
       goes_same c (rebase c s) before after q b.serial e z ∙ ap (λ (l : List Judged). goes l b.serial) whole,
     )) in
     let before_it = (rebase c s).builds in
@@ -239,16 +228,30 @@ each_queue_is_settled_by_itself c s before after q pick e r h =
     let slots = slots_picked pick q.items left fewer in
     let stay_in = ahead_in left q.items [] stay (stayers_in q.items ps (goes js) all_in) in
     let left_alike = same_alike (picked pick left) left q.items (places_after left [] stay) slots stay_in in
-    let items : map (row_of left) (places_after left [] (map (place_of c s q) (swept_of c s q).items)) ≡ map (row_of (without_runs (goes js) (rebased ps own))) (places_after (without_runs (goes js) (rebased ps own)) [] stay) =
-    ap (λ (l : List Place). map (row_of left) (places_after left [] l)) staying
+    let leaves = goes (flat_map (judged c (rebase c s)) s.queues) in
+    let kept_items : (swept_of c s q).items ≡ staying_items (goes (judged c (rebase c s) q)) q.items =
+    items_left c s q before_it [] [] q.items (goes (judged c (rebase c s) q)) told in
+    let plans : map (place_of c (sweep c (rebase c s)) (swept_of c s q)) (swept_of c s q).items ≡ map (place_of c s q)
+    (swept_of c s q).items =
+    map_same (place_of c (sweep c (rebase c s)) (swept_of c s q)) (place_of c s q) (swept_of c s q).items (λ i m.
+    let own_item = subst (In i) kept_items m in
+    let mine = (from_filter (λ (j : Item). not (goes (judged c (rebase c s) q) j.serial)) q.items i own_item).0 in
+    same_place c s (sweep c (rebase c s)) q (swept_of c s q) i refl refl
+    (plan_stays leaves s.plans i.serial
+    (goes_same c (rebase c s) before after q i.serial e
+    (not-true (list_any (λ o. has_serial o.items i.serial) (before ++ after))
+    (every (λ (j : Item). not (list_any (λ o. has_serial o.items j.serial) (before ++ after)) ≡ true) q.items apart i mine))
+    ∙ staying_not (goes (judged c (rebase c s) q)) q.items i own_item))) in
+    let items : map (row_of left) (places c (sweep c (rebase c s)) (swept_of c s q)) ≡ map (row_of (without_runs (goes js) (rebased ps own))) (places_after (without_runs (goes js) (rebased ps own)) [] stay) =
+    ap (λ (l : List Place). map (row_of left) (places_after left [] l)) (plans ∙ staying)
     ∙ sym (rows_alike (picked pick left) left (places_after left [] stay) left_alike)
     ∙ ap (map (row_of (picked pick left))) (sym (places_alike (picked pick left) left [] stay left_alike))
     ∙ ap (λ (l : List Build). map (row_of l) (places_after l [] stay)) builds in
     (λ k. record {
       name = q.name;
-      window = fold (next_window (floor_of c q)) q.window (whole k);
+      window = fold (next_window (bounds_of c q)) q.window (whole k);
       items = items k;
       builds = builds k;
       reports = numbered 0 (q.reports ++ filter_map (λ j. option_map (λ v. report_of v j.item) j.verdict) (whole k));
     })
-    ∙ ap (λ (l : List Judged). swept_rows (floor_of c q) l ps (rebased ps own) q) (sym alone)
+    ∙ ap (λ (l : List Judged). swept_rows (bounds_of c q) l ps (rebased ps own) q) (sym alone)

@@ -23,11 +23,12 @@ first_choice builds [] = None
 first_choice builds (p ∷ ps) =
     elim (first_waiting builds p) [ Some j ↦ Some (p.item.serial, j) | None ↦ first_choice builds ps ]
 
--- items and jobs tell of the places: their serials, their jobs, whether they are blocked
+-- items and jobs tell of the places: their serials, their jobs, whether they are blocked and are to fail fast
 abbrev pub TellOf : List Place → List ItemRow → List ItemJobs → Type 0
 TellOf [] [] [] = Unit {0}
 TellOf (p ∷ ps) (i ∷ items) (j ∷ jobs) =
-    (p.item.serial ≡ i.serial) × (p.jobs ≡ j.jobs.now) × (is_blocked p ≡ j.blocked) × TellOf ps items jobs
+    (p.item.serial ≡ i.serial) × (p.jobs ≡ j.jobs.now) × (is_blocked p ≡ j.blocked) × (p.fast ≡ j.fast) ×
+    TellOf ps items jobs
 TellOf _ _ _ = ⊥
 
 -- each live build of the item counts

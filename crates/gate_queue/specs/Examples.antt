@@ -1,5 +1,6 @@
 -- A queue of two items, settled.
 use Rattle.std.specs.Prelude.{ℕ, Bool, true, false, ◌≡◌, List, [], ◌∷◌, Option, Some, None}
+use Rattle.gate_types.specs.Settings.{default_rule}
 use Rattle.gate_types.specs.declared.config.Job.{Job}
 use Rattle.gate_types.specs.declared.records.Build.{Build}
 use Rattle.gate_types.specs.declared.records.Entry.{Entry}
@@ -27,6 +28,7 @@ place serial change needs jobs = record {
   item = item serial change;
   needs = needs;
   jobs = jobs;
+  fast = false;
 }
 
 -- 101 of a project with the jobs `unit` and `docs`, then 102 of one with `unit` alone, with its needs
@@ -86,7 +88,7 @@ queue = record {
 
 -- what settling leaves of it
 abbrev left : List Need → Outcome → Outcome → Outcome → Rows
-left needs a b c = settled_rows 1 (two needs) (runs a b c true) queue
+left needs a b c = settled_rows (record { floor = 1; rule = default_rule }) (two needs) (runs a b c true) queue
 
 -- one settling of two items
 pub record TwoItemsAreSettled : Type 0 where

@@ -1,5 +1,5 @@
 -- The places of a queue's items, by what is known of it.
-use Rattle.std.specs.Prelude.{List, [], ◌∷◌}
+use Rattle.std.specs.Prelude.{false, List, [], ◌∷◌}
 use Rattle.gate_types.specs.declared.records.Item.{Item as ItemRow}
 use Rattle.gate_types.specs.declared.records.Landing.{Landing}
 use Rattle.gate_types.specs.State.{Item}
@@ -11,7 +11,8 @@ use Rattle.gate_queue.specs.declared.context.ItemContext.{ItemContext}
 
 -- the place of an item, as far as its line asks for it
 abbrev pub place_before : List Landing → List Item → Item → Place
-place_before landings ahead i = record { landings = landings; ahead = ahead; item = i; needs = []; jobs = [] }
+place_before landings ahead i =
+    record { landings = landings; ahead = ahead; item = i; needs = []; jobs = []; fast = false }
 
 -- the place of an item, before what is ahead is known
 abbrev pub place_by : List Landing → ItemRow → ItemFacts → Place
@@ -21,6 +22,7 @@ place_by landings i f = record {
   item = item_of i;
   needs = f.needs.now;
   jobs = f.jobs.now;
+  fast = f.fast;
 }
 
 -- the same, once what is ahead is known
@@ -41,4 +43,5 @@ place_of c = record {
   item = c.item;
   needs = c.needs.now;
   jobs = c.jobs.now;
+  fast = c.fast;
 }

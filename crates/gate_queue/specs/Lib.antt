@@ -1,4 +1,5 @@
 pub mod Facts
+pub mod Outcomes
 pub mod Settles
 pub mod Chooses
 pub mod Laws

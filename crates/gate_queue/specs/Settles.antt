@@ -11,14 +11,15 @@ use Rattle.gate_types.specs.State.{Queue}
 use Rattle.gate_types.specs.Line.{Place}
 use Rattle.gate_types.specs.Standing.{places_after}
 use Rattle.gate_types.specs.Rebase.{with_live, stays_live}
+use Rattle.gate_types.specs.Window.{Bounds, bounds_by}
 use Rattle.gate_types.specs.Sweep.{Judged, judged_after, swept_queue, without_runs, goes}
 use Rattle.gate_types.specs.Rows.{Rows, item_of, numbered, rows_of, fold_edits}
 use Rattle.gate_queue.specs.declared.facts.Facts.{Facts}
 use Rattle.gate_queue.specs.Facts.{places_by}
 
--- the builds of a queue after a rebase: each live build of an item that doesn't count has stopped
+-- the builds of a queue after a rebase: each live build of an item that isn't wanted has stopped
 abbrev pub rebased : List Place → List Build → List Build
-rebased ps builds = map (λ b. with_live (b.live && stays_live (places_after builds [] ps) b) b) builds
+rebased ps builds = map (λ b. with_live (b.live && stays_live builds (places_after builds [] ps) b) b) builds
 
 -- the verdicts on the items of a queue, all by the same builds
 abbrev pub verdicts : List Place → List Build → List Judged
@@ -33,14 +34,14 @@ abbrev pub staying_places : List Judged → List Place → List Place
 staying_places js ps = filter (λ p. not (goes js p.item.serial)) ps
 
 -- the rows after a sweep by these verdicts, the columns worked out anew
-abbrev pub swept_rows : ℕ → List Judged → List Place → List Build → Queue → Rows
-swept_rows floor js ps builds q =
+abbrev pub swept_rows : Bounds → List Judged → List Place → List Build → Queue → Rows
+swept_rows bounds js ps builds q =
     let left = swept_builds js builds in
-    rows_of (places_after left [] (staying_places js ps)) left (swept_queue floor js q)
+    rows_of (places_after left [] (staying_places js ps)) left (swept_queue bounds js q)
 
 -- the rows after a rebase and then a sweep, both of the whole queue by one state
-abbrev pub settled_rows : ℕ → List Place → List Build → Queue → Rows
-settled_rows floor ps builds q = swept_rows floor (verdicts ps (rebased ps builds)) ps (rebased ps builds) q
+abbrev pub settled_rows : Bounds → List Place → List Build → Queue → Rows
+settled_rows bounds ps builds q = swept_rows bounds (verdicts ps (rebased ps builds)) ps (rebased ps builds) q
 
 -- the queue that facts, items and reports tell of
 abbrev pub queue_by : Facts → List ItemRow → List Report → Queue
@@ -84,6 +85,6 @@ is_own name items builds _ = false
 pub record Settles (facts : Facts) (items : List ItemRow) (builds : List Build) (edits : List Edit) : Type 0 where
   pub rows : (reports : List Report) → length reports ≡ facts.reports →
       fold_edits (stored_rows facts items builds reports) edits
-      ≡ settled_rows facts.settings.now.floor (places_by facts.landings.now items facts.items.now) builds
+      ≡ settled_rows (bounds_by facts.settings.now) (places_by facts.landings.now items facts.items.now) builds
       (queue_by facts items reports)
   pub own : AllPass (is_own facts.settings.now.name items builds) edits

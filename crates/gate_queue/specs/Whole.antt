@@ -7,7 +7,7 @@ use Rattle.gate_types.specs.Settings.{Settings}
 use Rattle.gate_types.specs.State.{Queue, State}
 use Rattle.gate_types.specs.Standing.{place_of, places}
 use Rattle.gate_types.specs.Rebase.{rebase}
-use Rattle.gate_types.specs.Window.{floor_of}
+use Rattle.gate_types.specs.Window.{bounds_of}
 use Rattle.gate_types.specs.Sweep.{judged, swept_queue, sweep}
 use Rattle.gate_laws.specs.Touch.{has_serial}
 use Rattle.gate_types.specs.Rows.{Rows, rows_of}
@@ -25,7 +25,7 @@ is_picked_rightly pick others q b =
 
 -- a queue after a rebase and then a sweep of the whole state
 abbrev pub swept_of : Settings → State → Queue → Queue
-swept_of c s q = swept_queue (floor_of c q) (judged c (rebase c s) q) q
+swept_of c s q = swept_queue (bounds_of c q) (judged c (rebase c s) q) q
 
 -- the rows of a queue in a state
 abbrev pub rows_in : Settings → State → Queue → Rows
@@ -35,10 +35,14 @@ rows_in c s q = rows_of (places c s q) s.builds q
 abbrev pub picked_rows : Settings → State → (ℕ → Bool) → Queue → Rows
 picked_rows c s pick q = record (rows_in c s q) { builds = picked pick s.builds }
 
+-- no other queue has the serial of an item of this one
+abbrev pub IsApart : List Queue → Queue → Type 0
+IsApart others q = AllPass (λ i. not (list_any (λ o. has_serial o.items i.serial) others)) q.items
+
 -- the rows of a queue in the state after a rebase and then a sweep are those that settling the queue by itself leaves
 abbrev pub EachQueueIsSettledByItself : Type 0
 EachQueueIsSettledByItself = (c : Settings) (s : State) (before after : List Queue) (q : Queue) (pick : ℕ → Bool) →
     s.queues ≡ before ++ q ∷ after → IsStrictlyIncreasing (map (λ i. i.serial) q.items) →
-    AllPass (is_picked_rightly pick (before ++ after) q) s.builds →
+    IsApart (before ++ after) q → AllPass (is_picked_rightly pick (before ++ after) q) s.builds →
     picked_rows c (sweep c (rebase c s)) pick (swept_of c s q)
-    ≡ settled_rows (floor_of c q) (map (place_of c s q) q.items) (picked pick s.builds) q
+    ≡ settled_rows (bounds_of c q) (map (place_of c s q) q.items) (picked pick s.builds) q

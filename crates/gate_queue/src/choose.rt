@@ -1,7 +1,7 @@
 //! Which build of a queue is due.
 ghost use Rattle.std.specs.Prelude.{◌≡◌, ◌&&◌, ◌≤◌, not, count_by, length};
 ghost use Rattle.std.specs.List.{list_any, position};
-ghost use Rattle.gate_types.specs.Slot.{is_lost};
+ghost use Rattle.gate_types.specs.Slot.{is_success, is_failure, is_lost};
 ghost use Rattle.gate_types.specs.Window.{within_window};
 ghost use Rattle.gate_queue.specs.Chooses.{Chooses};
 ghost use Rattle.gate_queue.specs.Waiting as waiting;
@@ -52,6 +52,59 @@ fn waits(serial: Serial, builds: &[Build], job: &Job) -> bool
     count_lost(serial, builds, job) < 3
 }
 
+fn is_success(outcome: Outcome) -> bool
+    ensures { result ≡ is_success outcome }
+{
+    matches!(outcome, Outcome::Success)
+}
+
+fn is_failure(outcome: Outcome) -> bool
+    ensures { result ≡ is_failure outcome }
+{
+    matches!(outcome, Outcome::Failure)
+}
+
+/// Whether some live build of the job has passed.
+fn has_passed(serial: Serial, builds: &[Build], job: &Job) -> bool
+    ensures { result ≡ list_any (λ b. waiting.is_of serial job.now b && is_success b.outcome) builds.now }
+{
+    builds.iter().any(|build| is_of(serial, job, build) && is_success(build.outcome))
+}
+
+/// Whether some live build of the job has failed.
+fn has_failed(serial: Serial, builds: &[Build], job: &Job) -> bool
+    ensures { result ≡ list_any (λ b. waiting.is_of serial job.now b && is_failure b.outcome) builds.now }
+{
+    builds.iter().any(|build| is_of(serial, job, build) && is_failure(build.outcome))
+}
+
+/// Whether the job has failed: none of its live builds has passed, and one has failed or three are lost.
+fn fails(serial: Serial, builds: &[Build], job: &Job) -> bool
+    ensures { result ≡ waiting.fails serial builds.now job.now }
+{
+    if has_passed(serial, builds, job) {
+        return false;
+    }
+    has_failed(serial, builds, job) || count_lost(serial, builds, job) >= 3
+}
+
+fn some_vote_fails(serial: Serial, builds: &[Build], jobs: &[Job]) -> bool
+    ensures { result ≡ list_any (λ k. k.voting && waiting.fails serial builds.now k) jobs.now }
+{
+    jobs.iter()
+        .any(|job| job.voting && fails(serial, builds, job))
+}
+
+/// Whether an item gets no more builds: it is blocked, or is to fail fast and a voting job has failed.
+fn is_over(builds: &[Build], item: &Item, about: &ItemJobs) -> bool
+    ensures { result ≡ waiting.is_over builds.now item.now about.now }
+{
+    if about.blocked {
+        return true;
+    }
+    about.fast && some_vote_fails(item.serial, builds, about.jobs)
+}
+
 /// The index of the first waiting job.
 fn first_waiting(serial: Serial, builds: &[Build], jobs: &[Job]) -> Option<usize>
     ensures { result ≡ position (waiting.waits serial builds.now) jobs.now }
@@ -59,11 +112,11 @@ fn first_waiting(serial: Serial, builds: &[Build], jobs: &[Job]) -> Option<usize
     jobs.iter().position(|job| waits(serial, builds, job))
 }
 
-/// The index of the first waiting job of an item, unless it is blocked.
+/// The index of the first waiting job of an item, unless it gets no more builds.
 fn waiting_job(builds: &[Build], item: &Item, about: &ItemJobs) -> Option<usize>
     ensures { result ≡ waiting.waiting_job builds.now item.now about.now }
 {
-    if about.blocked {
+    if is_over(builds, item, about) {
         return None;
     }
     first_waiting(item.serial, builds, about.jobs)
@@ -95,8 +148,8 @@ fn choose_among(items: &[Item], builds: &[Build], jobs: &[ItemJobs]) -> Option<(
 }
 
 /// The item and the index of its job, from 0, that the next build of the queue is for: of the items
-/// within the window (of all items where it is 0), the first that isn't blocked and has a waiting job,
-/// and the first such job. None where there is none. Each live build of an item
+/// within the window (of all items where it is 0), the first that is neither blocked nor cut and has a
+/// waiting job, and the first such job. None where there is none. Each live build of an item
 /// is to count for it, as after a settling; then the live builds of the items are all that `builds`
 /// must hold.
 pub fn choose(items: &[Item], builds: &[Build], window: u32, jobs: &Jobs) -> Option<(Serial, usize)>

@@ -42,7 +42,7 @@ impl BareItem {
 }
 
 /// An item, the landings of its queue, the items before it that aren't failing, the needs of its
-/// change, the jobs of its project. The first `shared` landings have lower serials.
+/// change, the jobs of its plan, and whether one failure ends them all. The first `shared` landings have lower serials.
 #[derive(Clone, Copy)]
 pub struct ItemContext<'a> {
     pub landings: &'a [Landing],
@@ -50,6 +50,7 @@ pub struct ItemContext<'a> {
     pub item: BareItem,
     pub needs: &'a [Need],
     pub jobs: &'a [Job],
+    pub fast: bool,
     pub shared: usize,
     ghost shared_is_below: { are_below shared landings.now item.serial ≡ true },
 }

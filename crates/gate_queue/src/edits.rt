@@ -16,33 +16,33 @@ use gate_types::records::{Build, Item, Outcome, Report, Verdict};
 use gate_types::sequence::Sequence;
 use std::alloc::Global;
 
-/// Whether a build of the item stops being live: it doesn't count, or it runs while the item goes.
-fn is_stopped(context: &ItemContext, blocked: bool, going: bool, build: &Build) -> bool
+/// Whether a build of the item stops being live: it doesn't count, or it runs though the item is over.
+fn is_stopped(context: &ItemContext, blocked: bool, over: bool, build: &Build) -> bool
     requires { blocked ≡ rules.is_blocked (place_of context.now) }
-    ensures { result ≡ edits_of.stops (place_of context.now) going build.now }
+    ensures { result ≡ edits_of.stops (place_of context.now) over build.now }
 {
     if !build.live || build.serial != context.item.serial {
         return false;
     }
-    if going && matches!(build.outcome, Outcome::Running) {
+    if over && matches!(build.outcome, Outcome::Running) {
         return true;
     }
     blocked || !ran_on_line(context, build)
 }
 
-/// Stops the builds of an item that don't count, and those that run while it goes.
+/// Stops the builds of an item that don't count, and those that run though it is over.
 fn push_stops(
     edits: &mut Sequence<Edit>,
     context: &ItemContext,
     blocked: bool,
-    going: bool,
+    over: bool,
     builds: &[Build],
 ) -> Result<(), NoMemory>
     requires { blocked ≡ rules.is_blocked (place_of context.now) }
-    ensures { OnOk result (edits.new ≡ edits.old ++ edits_of.stop_edits builds.now (place_of context.now) going) }
+    ensures { OnOk result (edits.new ≡ edits.old ++ edits_of.stop_edits builds.now (place_of context.now) over) }
 {
     for build in builds {
-        if is_stopped(context, blocked, going, build) {
+        if is_stopped(context, blocked, over, build) {
             edits.push(Edit::StopBuild(build.number))?;
         }
     }
@@ -122,8 +122,8 @@ pub(crate) fn push_edits(
     ensures verdict { IfOk result (λ j. j.verdict ≡ sweep.verdict_of builds.now staying.now (place_of context.now)) }
 {
     let ruling = judge(alloc, context, staying, builds)?;
-    let going = ruling.verdict.is_some();
-    push_stops(edits, context, ruling.blocked, going, builds)?;
+    let over = ruling.verdict.is_some() || ruling.cut;
+    push_stops(edits, context, ruling.blocked, over, builds)?;
     let row = Item {
         serial: context.item.serial,
         change: context.item.change,

@@ -4,12 +4,13 @@ ghost use Rattle.std.specs.Prelude.{◌≤◌};
 use gate_types::config::{Job, Queue};
 use gate_types::records::{Landing, Need};
 
-/// What is known of an item's change: its needs, each with whether it has landed, and the jobs of
-/// its project.
+/// What is known of an item beside its row: the needs of its change, each with whether it has landed,
+/// the jobs of its plan, and whether one failure ends them all.
 #[derive(Clone, Copy)]
 pub struct ItemFacts<'a> {
     pub needs: &'a [Need],
     pub jobs: &'a [Job],
+    pub fast: bool,
 }
 
 /// What is known of a queue: its settings, its window, what has landed in it, and how many reports
@@ -24,10 +25,11 @@ pub struct Facts<'a> {
     pub ghost reports_in_range: { reports ≤ 1000000000000000 },
 }
 
-/// The jobs of an item's project, and whether the item is blocked.
+/// The jobs of an item's plan, whether one failure ends them all, and whether the item is blocked.
 #[derive(Clone, Copy)]
 pub struct ItemJobs<'a> {
     pub jobs: &'a [Job],
+    pub fast: bool,
     pub blocked: bool,
 }
 

@@ -1,13 +1,18 @@
 //! Laws of the rules, and worked examples: each function proves one, by its contract. They do nothing
 //! when they run.
 ghost use Rattle.gate_queue.specs.Chooses.{FirstChoiceIsGiven};
-ghost use Rattle.gate_queue.specs.Laws.{RebaseKeepsMarks, WhatGoesStandsInNoLine, OneSweepIsOneByOne};
+ghost use Rattle.gate_queue.specs.Laws.{RebaseKeepsMarks, SlotsTellFailing, WhatGoesStandsInNoLine, OneSweepIsOneByOne};
 ghost use Rattle.gate_queue.specs.Whole.{EachQueueIsSettledByItself};
 ghost use Rattle.gate_queue.specs.Examples.{TwoItemsAreSettled};
 
-/// A rebase changes what is ahead of no item, no slot and no failing mark.
+/// A rebase changes what is ahead of no item, no slot and no failing mark, and cuts no other item.
 pub fn rebase_keeps_marks()
     ensures { RebaseKeepsMarks }
+{}
+
+/// An item is failing by its slots just where it is by what its builds have come to.
+pub fn slots_tell_failing()
+    ensures { SlotsTellFailing }
 {}
 
 /// What goes is failing, so no item that goes is ahead of another.

@@ -1,9 +1,14 @@
 //! What a job has come to, by the outcomes of its builds.
-ghost use Rattle.std.specs.Prelude.{◌≡◌, count_by};
+ghost use Rattle.std.specs.Prelude.{◌≡◌, if◌then◌else◌, count_by, IfOk};
 ghost use Rattle.std.specs.List.{list_any};
 ghost use Rattle.gate_types.specs.Slot as rules;
+ghost use Rattle.gate_queue.specs.Outcomes.{outcomes_among, slot_among};
 
-use gate_types::records::{Outcome, Slot};
+use crate::slots::same_name;
+use gate_types::config::Job;
+use gate_types::names::NoMemory;
+use gate_types::records::{Build, Outcome, Slot};
+use std::alloc::Global;
 
 fn has_success(outcomes: &[Outcome]) -> bool
     ensures { result ≡ list_any rules.is_success outcomes.now }
@@ -47,6 +52,27 @@ pub fn slot_of_outcomes(outcomes: &[Outcome]) -> Slot
     }
 }
 
+/// The outcomes of a job's builds.
+fn outcomes_among(alloc: Global, builds: &[Build], job: &Job) -> Result<Vec<Outcome>, NoMemory>
+    ensures { IfOk result (λ found. found.items ≡ outcomes_among builds.now job.now) }
+{
+    let mut found: Vec<Outcome> = Vec::new(alloc);
+    for build in builds {
+        if same_name(&build.job, &job.name) {
+            found.push(build.outcome)?;
+        }
+    }
+    Ok(found)
+}
+
+/// What a job has come to, by builds of its item that all count.
+pub fn slot_among(alloc: Global, builds: &[Build], job: &Job) -> Result<Slot, NoMemory>
+    ensures { IfOk result (λ slot. slot ≡ slot_among builds.now job.now) }
+{
+    let outcomes = outcomes_among(alloc, builds, job)?;
+    Ok(slot_of_outcomes(&outcomes))
+}
+
 /// Whether a job has failed.
 pub fn is_failed(slot: Slot) -> bool
     ensures { result ≡ rules.is_failed_slot slot }
@@ -54,9 +80,19 @@ pub fn is_failed(slot: Slot) -> bool
     matches!(slot, Slot::Failure)
 }
 
-/// Whether a job has ended.
+/// Whether nothing more is to come of a job.
 pub fn is_finished(slot: Slot) -> bool
     ensures { result ≡ rules.is_finished slot }
 {
-    matches!(slot, Slot::Success | Slot::Failure)
+    matches!(slot, Slot::Success | Slot::Failure | Slot::Skipped)
+}
+
+/// What is left of a job, by what its builds have come to and whether its item is cut.
+pub fn slot_where(cut: bool, slot: Slot) -> Slot
+    ensures { result ≡ (if cut then rules.cut_slot slot else slot) }
+{
+    match slot {
+        Slot::Waiting | Slot::Running if cut => Slot::Skipped,
+        _ => slot,
+    }
 }

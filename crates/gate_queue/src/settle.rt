@@ -12,6 +12,7 @@ use crate::edits::{push_edits, push_window};
 use crate::facts::{Facts, ItemFacts};
 use crate::shared::shared_with;
 use crate::window::shrink;
+use gate_types::config::WindowRule;
 use gate_types::edits::Edit;
 use gate_types::names::NoMemory;
 use gate_types::records::{Build, Item, Verdict};
@@ -19,11 +20,11 @@ use gate_types::sequence::Sequence;
 use std::alloc::Global;
 
 /// The window behind an item with a verdict: each failure shrinks it.
-pub fn window_behind(window: u32, floor: u32, verdict: Option<Verdict>) -> u32
-    ensures { result ≡ edits_of.window_behind floor window verdict }
+pub fn window_behind(window: u32, floor: u32, rule: WindowRule, verdict: Option<Verdict>) -> u32
+    ensures { result ≡ edits_of.window_behind (record { floor = floor; rule = rule }) window verdict }
 {
     match verdict {
-        Some(Verdict::Failed) => shrink(window, floor),
+        Some(Verdict::Failed) => shrink(window, floor, rule),
         _ => window,
     }
 }
@@ -86,6 +87,7 @@ impl Pass {
             item: bare,
             needs: about.needs,
             jobs: about.jobs,
+            fast: about.fast,
             shared,
         };
         let ruling = push_edits(
@@ -99,7 +101,8 @@ impl Pass {
         )?;
         push_unless(&mut self.ahead, bare, ruling.failing)?;
         push_unless(&mut self.staying, bare, ruling.verdict.is_some())?;
-        self.window = window_behind(self.window, facts.settings.floor, ruling.verdict);
+        let settings = facts.settings;
+        self.window = window_behind(self.window, settings.floor, settings.rule, ruling.verdict);
         self.reports = reports_behind(self.reports, ruling.verdict);
         self.shared = shared;
         self.below = item.serial.get();
@@ -145,8 +148,8 @@ fn edits_for(
 
 /// The edits that settle a queue: a rebase and then a sweep of it, each by one state. Whatever the
 /// columns of the items say, they are written anew for each item that stays; one that goes is reported
-/// and dropped, front to back; builds that don't count, and running builds of items that go, are
-/// stopped; the window is set where it changed. No row but the queue's own is touched. `builds` holds
+/// and dropped, front to back; builds that don't count, and running builds of items that go or are cut,
+/// are stopped; the window is set where it changed. No row but the queue's own is touched. `builds` holds
 /// at least all live builds of the items. `NoMemory` where memory was refused.
 pub fn settle(
     alloc: Global,

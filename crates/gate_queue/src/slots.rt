@@ -1,9 +1,8 @@
 //! What the jobs of an item have come to.
-ghost use Rattle.std.specs.Prelude.{◌≡◌, false, ◌&&◌, IfOk};
-ghost use Rattle.std.specs.List.{list_any};
+ghost use Rattle.std.specs.Prelude.{◌≡◌, false, IfOk};
+ghost use Rattle.std.specs.List.{list_all};
 ghost use Rattle.gate_types.specs.Names.{same_name};
 ghost use Rattle.gate_types.specs.Slot as rules;
-ghost use Rattle.gate_types.specs.Standing.{are_finished};
 ghost use Rattle.gate_queue.specs.Facts.{place_of};
 
 use crate::context::ItemContext;
@@ -48,14 +47,14 @@ fn outcomes_of(
     Ok(found)
 }
 
-fn slot_of(
+fn raw_slot_of(
     alloc: Global,
     context: &ItemContext,
     builds: &[Build],
     job: &Job,
 ) -> Result<Slot, NoMemory>
     requires { rules.is_blocked (place_of context.now) ≡ false }
-    ensures { IfOk result (λ slot. slot ≡ rules.slot_of builds.now (place_of context.now) job.now) }
+    ensures { IfOk result (λ slot. slot ≡ rules.raw_slot_of builds.now (place_of context.now) job.now) }
 {
     let outcomes = outcomes_of(alloc, context, builds, job)?;
     Ok(slot_of_outcomes(&outcomes))
@@ -66,8 +65,8 @@ fn slot_of(
 pub struct Marks {
     /// A voting job has failed.
     pub failed: bool,
-    /// Each job has ended.
-    pub finished: bool,
+    /// The builds of each job have decided it.
+    pub decided: bool,
 }
 
 /// What the jobs say of an item that isn't blocked.
@@ -77,17 +76,17 @@ pub(crate) fn marks_of(
     builds: &[Build],
 ) -> Result<Marks, NoMemory>
     requires { rules.is_blocked (place_of context.now) ≡ false }
-    ensures failed { let slot = rules.slot_of builds.now (place_of context.now) in
+    ensures failed { IfOk result (λ marks. marks.failed ≡ rules.has_failure builds.now (place_of context.now)) }
+    ensures decided { let slot = rules.raw_slot_of builds.now (place_of context.now) in
         let jobs = context.now.jobs.now in
-        IfOk result (λ marks. marks.failed ≡ list_any (λ j. j.voting && rules.is_failed_slot (slot j)) jobs) }
-    ensures finished { IfOk result (λ marks. marks.finished ≡ are_finished builds.now (place_of context.now)) }
+        IfOk result (λ marks. marks.decided ≡ list_all (λ j. rules.is_finished (slot j)) jobs) }
 {
     let mut failed = false;
-    let mut finished = true;
+    let mut decided = true;
     for job in context.jobs {
-        let slot = slot_of(alloc, context, builds, job)?;
+        let slot = raw_slot_of(alloc, context, builds, job)?;
         failed = failed || job.voting && is_failed(slot);
-        finished = finished && is_finished(slot);
+        decided = decided && is_finished(slot);
     }
-    Ok(Marks { failed, finished })
+    Ok(Marks { failed, decided })
 }

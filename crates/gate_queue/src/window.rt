@@ -1,22 +1,40 @@
 //! How many items of a queue may be tested at once.
-ghost use Rattle.std.specs.Prelude.{◌≡◌};
+ghost use Rattle.std.specs.Prelude.{◌≡◌, ◌/◌};
 ghost use Rattle.gate_types.specs.Window as rules;
 
-/// The window after a landing: one more, up to 1,000. A window of 0 sets no bound and stays 0.
-pub fn grow(window: u32) -> u32
-    ensures { result ≡ rules.grow window }
-{
-    if window == 0 { 0 } else { window.min(999) + 1 }
-}
+use gate_types::config::{Pace, WindowRule};
 
-/// The window after a failure: half of it, rounded down, and never below the floor. A window of 0
-/// sets no bound and stays 0.
-pub fn shrink(window: u32, floor: u32) -> u32
-    ensures { result ≡ rules.shrink window floor }
+/// The window after a landing: more by the queue's rule, up to 1,000. A window of 0 sets no bound and
+/// stays 0.
+pub fn grow(window: u32, rule: WindowRule) -> u32
+    ensures { result ≡ rules.grow window rule }
 {
     if window == 0 {
-        0
-    } else {
-        (window / 2).max(floor)
+        return 0;
     }
+    match rule.increase {
+        Pace::Linear => window.saturating_add(rule.increase_by).min(1000),
+        Pace::Exponential => window.saturating_mul(rule.increase_by).min(1000),
+    }
+}
+
+/// The window after a failure: less by the queue's rule, rounded down, and never below the floor. A window
+/// of 0 sets no bound and stays 0.
+pub fn shrink(window: u32, floor: u32, rule: WindowRule) -> u32
+    ensures { result ≡ rules.shrink window floor rule }
+{
+    if window == 0 {
+        return 0;
+    }
+    match rule.decrease {
+        Pace::Linear => window.saturating_sub(rule.decrease_by).max(floor),
+        Pace::Exponential => divided(window, rule.decrease_by).max(floor),
+    }
+}
+
+/// Rounded down; 0 where it is divided by 0, which no settings say.
+fn divided(window: u32, by: u32) -> u32
+    ensures { result ≡ window / by }
+{
+    if by == 0 { 0 } else { window / by }
 }

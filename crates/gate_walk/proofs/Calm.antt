@@ -26,12 +26,11 @@ use Rattle.gate_types.specs.Standing.{with_ahead, next_ahead, places_after, plac
 use Rattle.gate_types.specs.Sweep.{Judged, judge, judged, judged_after, verdict_of}
 use Rattle.gate_types.specs.Rows.{row_of}
 use Rattle.gate_types.specs.Lawful.{IsSound, is_sound_item, is_sound_build, is_of_item, waiting_changes, landed_changes}
-use Rattle.gate_queue.specs.Chooses.{live_builds_count}
-use Rattle.gate_walk.specs.Rescan.{standing_in, IsCalm}
+use Rattle.gate_walk.specs.Rescan.{live_builds_are_wanted, standing_in, IsCalm}
 use Rattle.gate_laws.proofs.Members.{In, every, all_from, any_from, to_map, to_flat}
 use Rattle.gate_walk.proofs.Once.{Once, once, once_left, once_right}
 use Rattle.gate_queue.proofs.Ordered.{RiseFrom, place_serial, rises}
-use Rattle.gate_walk.proofs.Slots.{is_live_of, all_count}
+use Rattle.gate_walk.proofs.Slots.{is_live_of, wanted_all_count, wanted_all_ended}
 use Rattle.gate_walk.proofs.Resets.{Quiet, NotLanded}
 use Rattle.gate_walk.proofs.Moved.{Elsewhere, Others, IsOther}
 
@@ -123,7 +122,7 @@ and_off false y h = refl
 
 -- a queue's items from here on, with the rows behind them
 pub quiet_from : (c : Settings) (s : State) (q : Queue) (stand : ℕ → Option Bool) (tail : List ItemRow) (before ahead is : List Item) →
-    ((p : Place) → In p (places_after s.builds ahead (map (place_of c s q) is)) → all_count s.builds p ≡ true) →
+    ((p : Place) → In p (places_after s.builds ahead (map (place_of c s q) is)) → live_builds_are_wanted s.builds p ≡ true) →
     ((j : Judged) → In j (judged_after s.builds before (places_after s.builds ahead (map (place_of c s q) is))) → is_some j.verdict ≡ false) →
     FreshFrom before is → ((n : ℕ) → has_change before n ≡ true → is_landed (change_of s n) ≡ false) → ((i : Item) → In i is → is_landed (change_of s i.change) ≡ false) →
     Says stand before (map (row_of s.builds) (places_after s.builds ahead (map (place_of c s q) is)) ++ tail) → Quiet stand s.builds before ahead (map (place_of c s q) is)
@@ -134,7 +133,8 @@ quiet_from c s q stand tail before ahead (i ∷ is) hc hj f ob oi says =
     let rest = places_after bs (next_ahead bs at) (map (place_of c s q) is) in
     let stays : verdict_of bs before at ≡ None = none_of (verdict_of bs before at) (hj (judge bs before at) (inl refl)) in (
       record {
-        counting = hc at (inl refl);
+        counting = wanted_all_count bs bs at (hc at (inl refl));
+        ended = wanted_all_ended bs bs at (hc at (inl refl));
         stays = stays;
         standing = says i.change f.0 ∙ ap (λ x. option_map (λ (y : ItemRow). y.failing) (cond x (Some (row_of bs at)) (find (λ y. y.change == i.change) (map (row_of bs) rest ++ tail)))) (eq-eqb i.change i.change refl);
         fresh = f.0;
@@ -160,7 +160,7 @@ pub quiet_queue : (c : Settings) (s : State) → IsSound c s → IsCalm c s → 
     Quiet stand s.builds [] [] (map (place_of c s q) q.items)
 quiet_queue c s h r q m stand tail says =
     quiet_from c s q stand tail [] [] q.items
-    (λ p mp. every (λ (x : Place). live_builds_count s.builds x ≡ true) (all_places c s) r.builds_count p (to_flat (places c s) s.queues q p m mp))
+    (λ p mp. every (λ (x : Place). live_builds_are_wanted s.builds x ≡ true) (all_places c s) r.builds_wanted p (to_flat (places c s) s.queues q p m mp))
     (λ j mj. off (is_some j.verdict) (every (λ (x : Judged). not (is_some x.verdict) ≡ true) (judged c s q) (every (λ (o : Queue). AllPass (λ x. not (is_some x.verdict)) (judged c s o)) s.queues r.stays q m) j mj))
     (fresh_from [] q.items (items_once c s h q m) (λ n e. absurd (true≢false (sym e)))) (λ n e. absurd (true≢false (sym e))) (item_open c s h q m) says
   where

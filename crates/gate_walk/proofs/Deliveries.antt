@@ -12,18 +12,17 @@ use Rattle.gate_types.specs.declared.deliveries.Ending.{Ending}
 use Rattle.gate_types.specs.Names.{same_name}
 use Rattle.gate_types.specs.Settings.{Settings, are_distinct}
 use Rattle.gate_types.specs.State.{Item, Queue, State, has_change}
-use Rattle.gate_types.specs.Slot.{counts}
+use Rattle.gate_types.specs.Slot.{is_wanted}
 use Rattle.gate_types.specs.Line.{Place}
 use Rattle.gate_types.specs.Standing.{is_failing, with_ahead, next_ahead, ahead_of, place_of, all_places}
 use Rattle.gate_types.specs.Rebase.{rebase}
-use Rattle.gate_types.specs.Window.{floor_of}
+use Rattle.gate_types.specs.Window.{bounds_of}
 use Rattle.gate_types.specs.Sweep.{sweep}
 use Rattle.gate_types.specs.SubmitOrder.{Order, shown_order}
 use Rattle.gate_types.specs.Step.{raw_step, left_queue, leave, revised, shrunk_queue, landed_queue, end_build, raw_revision, raw_withdrawn, raw_closed, raw_landed, raw_refused, raw_result}
 use Rattle.gate_types.specs.Lawful.{IsSound}
 use Rattle.gate_laws.specs.Touch.{has_serial, queue_of_change, queue_of_serial, touched_by, settle_touched, settle_one}
-use Rattle.gate_queue.specs.Chooses.{live_builds_count}
-use Rattle.gate_walk.specs.Rescan.{IsCalm, HasLeft, TakenOut, rows_with, Walks, start, stored, ahead_at, fails_at, without_row, rows_from, row_seen}
+use Rattle.gate_walk.specs.Rescan.{live_builds_are_wanted, IsCalm, HasLeft, TakenOut, rows_with, Walks, start, stored, ahead_at, fails_at, without_row, rows_from, row_seen}
 use Rattle.gate_walk.specs.Kinds.{IsIn}
 use Rattle.gate_walk.specs.Delivery.{build_ended, item_left, item_landed, moved, is_on, touch_of, out_by, standing_rows, WalksFrom, TouchedQueueIsWalked, AWalkIsEnough}
 use Rattle.gate_queue.specs.Whole.{swept_of}
@@ -59,10 +58,10 @@ use Rattle.gate_walk.proofs.Swept.{only_named, items_rise, settled_within}
 pub calm : (c : Settings) (s : State) → IsIdle c s → IsCalm c s
 calm c s h = record {
   stays = h.stays;
-  builds_count = all (λ p. live_builds_count s.builds p ≡ true) (all_places c s)
-      (λ p m. all_to (λ b. not (b.live && b.serial == p.item.serial) || counts p b) s.builds
-      (every (λ b. not (b.live && b.serial == p.item.serial) || counts p b ≡ true) s.builds
-      (every (λ (x : Place). AllPass (λ b. not (b.live && b.serial == x.item.serial) || counts x b) s.builds) (all_places c s) h.builds_count p m)));
+  builds_wanted = all (λ p. live_builds_are_wanted s.builds p ≡ true) (all_places c s)
+      (λ p m. all_to (λ b. not (b.live && b.serial == p.item.serial) || is_wanted s.builds p b) s.builds
+      (every (λ b. not (b.live && b.serial == p.item.serial) || is_wanted s.builds p b ≡ true) s.builds
+      (every (λ (x : Place). AllPass (λ b. not (b.live && b.serial == x.item.serial) || is_wanted s.builds x b) s.builds) (all_places c s) h.builds_wanted p m)));
 }
 
 -- ---- the item's queue is the touched one
@@ -106,7 +105,7 @@ record WalksAt (c : Settings) (s : State) (d : Delivery) (q : Queue) (i : Item) 
   walks : WalksFrom c s t q (moved c d q i) i (touch_of d)
 
 leaves : (c : Settings) (s t : State) (q o : Queue) (is : List Item) (i : Item) (js : List Item) → IsIn c s q is i js → IsCalm c s → HasLeft c s t q o i (is ++ js) → WalksFrom c s t q o i item_left
-leaves c s t q o is i js h rest l = walk_after_leaving c s t h.before h.after q o is js i (floor_of c o) h.sound rest h.queues h.items l
+leaves c s t q o is i js h rest l = walk_after_leaving c s t h.before h.after q o is js i (bounds_of c o) h.sound rest h.queues h.items l
 
 -- ---- deliveries of the item's change
 
@@ -187,11 +186,11 @@ first_row c s n q is i js h rest e =
 -- a walk that was told so by the row begins as one that is told what the row is
 at_first : (c : Settings) (s t : State) (q o : Queue) (i : Item) → ahead_at i.serial (stored c s q) ≡ None → fails_at i.serial (stored c s q) ≡ false →
     (let left = without_row i.serial (stored c s q) in let out : TakenOut = record { change = i.change; failing = false; landed = true } in
-    Walks (floor_of c o) o left t.builds (map (place_of c t o) o.items) (start (Some out) None (length o.reports) o.window) (row_seen c t left) (rows_from i.serial left)) → WalksFrom c s t q o i item_landed
+    Walks (bounds_of c o) o left t.builds (map (place_of c t o) o.items) (start (Some out) None (length o.reports) o.window) (row_seen c t left) (rows_from i.serial left)) → WalksFrom c s t q o i item_landed
 at_first c s t q o i first passes h =
     let left = without_row i.serial (stored c s q) in
     cast (λ k. let out : TakenOut = record { change = i.change; failing = sym passes k; landed = true } in
-    Walks (floor_of c o) o left t.builds (map (place_of c t o) o.items) (start (Some out) (sym first k) (length o.reports) o.window) (row_seen c t left) (rows_from i.serial left)) h
+    Walks (bounds_of c o) o left t.builds (map (place_of c t o) o.items) (start (Some out) (sym first k) (length o.reports) o.window) (row_seen c t left) (rows_from i.serial left)) h
 
 landed_done : (c : Settings) (s : State) (n : ℕ) (q : Queue) (is : List Item) (i : Item) (js : List Item) → IsIn c s q is i js → IsCalm c s → i.serial == n ≡ true → OnReply s (WalksAt c s (delivery.Landed n) q i) (raw_landed c s n)
 landed_done c s n q is i js h rest on =
@@ -199,23 +198,23 @@ landed_done c s n q is i js h rest on =
     let mi = item_in c s q is i js h in
     let v = verdict.Landed (length q.landings + 1) in
     let mine : Order = record { queue = q; item = i } in
-    let o = landed_queue i (left_queue v i.change q) in
+    let o = landed_queue c i (left_queue v i.change q) in
     landed_reply (WalksAt c s (delivery.Landed n) q i) c s n
-    (λ x e. subst (λ (y : Order). shown_order c s n ≡ Some y → WalksAt c s (delivery.Landed n) q i (landed_state y s)) (sym (order_is c s n x h.sound e q i mq mi on)) (λ f. record {
+    (λ x e. subst (λ (y : Order). shown_order c s n ≡ Some y → WalksAt c s (delivery.Landed n) q i (landed_state c y s)) (sym (order_is c s n x h.sound e q i mq mi on)) (λ f. record {
       touched = ap (option_map (λ (y : Order). y.queue.name)) f;
-      there = subst (λ t. In (cond t (landed_queue i (left_queue v i.change q)) (left_queue v i.change q)) (landed_state mine s).queues) (name_itself q.name)
-          (to_map (λ z. cond (same_name z.name q.name) (landed_queue i z) z) (map (left_queue v i.change) s.queues) (left_queue v i.change q) (to_map (left_queue v i.change) s.queues q mq));
+      there = subst (λ t. In (cond t (landed_queue c i (left_queue v i.change q)) (left_queue v i.change q)) (landed_state c mine s).queues) (name_itself q.name)
+          (to_map (λ z. cond (same_name z.name q.name) (landed_queue c i z) z) (map (left_queue v i.change) s.queues) (left_queue v i.change q) (to_map (left_queue v i.change) s.queues q mq));
       walks = lands f;
     }) e)
   where
     lands : shown_order c s n ≡ Some (record { queue = q; item = i }) →
-        WalksFrom c s (landed_state (record { queue = q; item = i }) s) q (landed_queue i (left_queue (verdict.Landed (length q.landings + 1)) i.change q)) i item_landed
+        WalksFrom c s (landed_state c (record { queue = q; item = i }) s) q (landed_queue c i (left_queue (verdict.Landed (length q.landings + 1)) i.change q)) i item_landed
     lands f =
         let first = first_row c s n q is i js h rest f in
-        let t = landed_state (record { queue = q; item = i }) s in
-        let o = landed_queue i (left_queue (verdict.Landed (length q.landings + 1)) i.change q) in
+        let t = landed_state c (record { queue = q; item = i }) s in
+        let o = landed_queue c i (left_queue (verdict.Landed (length q.landings + 1)) i.change q) in
         at_first c s t q o i first.0 first.1
-        (walk_after_landing c s t h.before h.after q o is js i (floor_of c o) h.sound rest h.queues h.items (items_leave.landed c s q is i js (length q.landings + 1) h) first.0 first.1)
+        (walk_after_landing c s t h.before h.after q o is js i (bounds_of c o) h.sound rest h.queues h.items (items_leave.landed c s q is i js (length q.landings + 1) h) first.0 first.1)
 
 -- ---- the end of a build of the item
 
@@ -231,7 +230,7 @@ result_done c s n e q is i js h rest on =
       touched = ap (λ o. option_map_or (λ (b : Build). queue_of_serial s b.serial) o None) known ∙ ap (queue_of_serial s) own ∙ serial_touched c s h.sound q i mq mi;
       there = mq;
       walks = subst (λ m. WalksFrom c s (end_build e m s) q q i build_ended) (eqb-true a.number n there.1)
-          (walk_after_build c s h.before h.after q is js i a e (floor_of c q) h.sound rest h.queues h.items (in_contains s.builds a there.0) live own);
+          (walk_after_build c s h.before h.after q is js i a e (bounds_of c q) h.sound rest h.queues h.items (in_contains s.builds a there.0) live own);
     })
 
 -- ---- all of them
@@ -282,7 +281,7 @@ touched_queue_is_walked c s d r t qs q rs is i js w lawful e eq ei on =
               swept = in_contains (sweep c (rebase c t)).queues (swept_of c t o) (to_map (swept_of c t) t.queues o x.there);
               rise = seen_increase c t left rise;
               settles = settles;
-              visits_settle = ap (fold_edits (rows_with o left t.builds)) (visited_is_walked c t o.name (floor_of c o) i.serial began left rise) ∙ settles;
+              visits_settle = ap (fold_edits (rows_with o left t.builds)) (visited_is_walked c t o.name (bounds_of c o) i.serial began left rise) ∙ settles;
             },
       )
     ]

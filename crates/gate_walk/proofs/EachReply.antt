@@ -117,8 +117,8 @@ revision_reply P c s n name r message revise =
 
 -- ---- answers to an order, and a result
 
-pub landed_reply : (P : State → Type 0) (c : Settings) (s : State) (m : ℕ) → ((o : Order) → shown_order c s m ≡ Some o → P (landed_state o s)) → OnReply s P (raw_landed c s m)
-landed_reply P c s m h = some_reply s P (shown_order c s m) (λ o. accepted (reply.Landed (length o.queue.landings + 1)) (landed_state o s)) (refused refusal.NoOrder) (λ o e. inr (refl, h o e)) tt
+pub landed_reply : (P : State → Type 0) (c : Settings) (s : State) (m : ℕ) → ((o : Order) → shown_order c s m ≡ Some o → P (landed_state c o s)) → OnReply s P (raw_landed c s m)
+landed_reply P c s m h = some_reply s P (shown_order c s m) (λ o. accepted (reply.Landed (length o.queue.landings + 1)) (landed_state c o s)) (refused refusal.NoOrder) (λ o e. inr (refl, h o e)) tt
 
 pub refused_reply : (P : State → Type 0) (c : Settings) (s : State) (m : ℕ) → ((o : Order) → shown_order c s m ≡ Some o → P (refused_state c o s)) → OnReply s P (raw_refused c s m)
 refused_reply P c s m h = some_reply s P (shown_order c s m) (λ o. accepted reply.Removed (refused_state c o s)) (refused refusal.NoOrder) (λ o e. inr (refl, h o e)) tt

@@ -12,7 +12,7 @@ use Rattle.gate_types.specs.declared.deliveries.Ending.{Ending}
 use Rattle.gate_types.specs.Names.{same_name}
 use Rattle.gate_types.specs.State.{State}
 use Rattle.gate_types.specs.Line.{Place, same_entries, line, ran_on}
-use Rattle.gate_types.specs.Slot.{is_blocked, is_success, is_failure, is_lost, is_running, counts, outcomes_of, slot_of, slot_of_outcomes, is_failed_slot}
+use Rattle.gate_types.specs.Slot.{is_blocked, is_success, is_failure, is_lost, is_running, counts, outcomes_of, raw_slot_of, slot_of_outcomes, is_failed_slot}
 use Rattle.gate_types.specs.Standing.{is_failing}
 use Rattle.gate_types.specs.Rebase.{with_live}
 use Rattle.gate_types.specs.Sweep.{without_runs}
@@ -255,7 +255,7 @@ has_running (x ∷ xs) b m e =
 
 -- the job of a running build hasn't failed
 running_job : (s : State) (p : Place) (j : Job) (b : Build) → all_count s.builds p ≡ true → is_single s p j ≡ true → In b s.builds → b.live && is_running b.outcome ≡ true → b.serial ≡ p.item.serial → same_name b.job j.name ≡ true →
-    is_failed_slot (slot_of s.builds p j) ≡ false
+    is_failed_slot (raw_slot_of s.builds p j) ≡ false
 running_job s p j b h single mb run own name =
     let parts = and_parts (nat_le (length (live_builds_of s p j)) 3) (nat_le (count_by (λ x. not (is_lost x.outcome)) (live_builds_of s p j)) 1) single in
     let same : outcomes_of s.builds p j ≡ map (λ (x : Build). x.outcome) (live_builds_of s p j) = ap (λ (l : List Build). map (λ (x : Build). x.outcome) l) (same_builds p j s.builds h) in
@@ -297,9 +297,9 @@ other_job e b p j all (x ∷ xs) r mb sub o = at (x.number == b.number) refl (ot
 pub ended_fails : (s : State) (p : Place) (b : Build) (e : Ending) → RiseFrom build_number 0 s.builds → all_count s.builds p ≡ true → ((j : Job) → In j p.jobs → is_single s p j ≡ true) → In b s.builds → b.live && is_running b.outcome ≡ true → b.serial ≡ p.item.serial →
     is_failing s.builds p ≡ true → is_failing (map (ended e b.number) s.builds) p ≡ true
 ended_fails s p b e r h single mb run own f =
-    ⊎_elim (λ (x : is_blocked p ≡ true). ap (λ t. t || list_any (λ j. j.voting && is_failed_slot (slot_of (map (ended e b.number) s.builds) p j)) p.jobs) x)
-    (λ (x : list_any (λ j. j.voting && is_failed_slot (slot_of s.builds p j)) p.jobs ≡ true). ap (λ t. is_blocked p || t) (each p.jobs single x) ∙ on (is_blocked p))
-    (or_split (is_blocked p) (list_any (λ j. j.voting && is_failed_slot (slot_of s.builds p j)) p.jobs) f)
+    ⊎_elim (λ (x : is_blocked p ≡ true). ap (λ t. t || list_any (λ j. j.voting && is_failed_slot (raw_slot_of (map (ended e b.number) s.builds) p j)) p.jobs) x)
+    (λ (x : list_any (λ j. j.voting && is_failed_slot (raw_slot_of s.builds p j)) p.jobs ≡ true). ap (λ t. is_blocked p || t) (each p.jobs single x) ∙ on (is_blocked p))
+    (or_split (is_blocked p) (list_any (λ j. j.voting && is_failed_slot (raw_slot_of s.builds p j)) p.jobs) f)
   where
     on : (t : Bool) → t || true ≡ true
     on true = refl
@@ -313,16 +313,16 @@ ended_fails s p b e r h single mb run own f =
     and_two true y z k g = g k
     and_two false y z k g = absurd (true≢false (sym k))
 
-    job : (j : Job) → is_single s p j ≡ true → is_failed_slot (slot_of s.builds p j) ≡ true → is_failed_slot (slot_of (map (ended e b.number) s.builds) p j) ≡ true
+    job : (j : Job) → is_single s p j ≡ true → is_failed_slot (raw_slot_of s.builds p j) ≡ true → is_failed_slot (raw_slot_of (map (ended e b.number) s.builds) p j) ≡ true
     job j sj k = by_name (same_name b.job j.name) refl
       where
-        by_name : (t : Bool) → same_name b.job j.name ≡ t → is_failed_slot (slot_of (map (ended e b.number) s.builds) p j) ≡ true
+        by_name : (t : Bool) → same_name b.job j.name ≡ t → is_failed_slot (raw_slot_of (map (ended e b.number) s.builds) p j) ≡ true
         by_name true n = absurd (true≢false (sym k ∙ running_job s p j b h sj mb run own n))
         by_name false n = ap (λ (l : List Outcome). is_failed_slot (slot_of_outcomes l)) (other_job e b p j s.builds s.builds r mb (λ x m. m) n) ∙ k
 
-    each : (js : List Job) → ((j : Job) → In j js → is_single s p j ≡ true) → list_any (λ j. j.voting && is_failed_slot (slot_of s.builds p j)) js ≡ true → list_any (λ j. j.voting && is_failed_slot (slot_of (map (ended e b.number) s.builds) p j)) js ≡ true
+    each : (js : List Job) → ((j : Job) → In j js → is_single s p j ≡ true) → list_any (λ j. j.voting && is_failed_slot (raw_slot_of s.builds p j)) js ≡ true → list_any (λ j. j.voting && is_failed_slot (raw_slot_of (map (ended e b.number) s.builds) p j)) js ≡ true
     each [] sj k = absurd (true≢false (sym k))
     each (j ∷ js) sj k =
-        ⊎_elim (λ (x : j.voting && is_failed_slot (slot_of s.builds p j) ≡ true). ap (λ t. t || list_any (λ i. i.voting && is_failed_slot (slot_of (map (ended e b.number) s.builds) p i)) js) (and_two j.voting (is_failed_slot (slot_of s.builds p j)) (is_failed_slot (slot_of (map (ended e b.number) s.builds) p j)) x (job j (sj j (inl refl)))))
-        (λ (x : list_any (λ i. i.voting && is_failed_slot (slot_of s.builds p i)) js ≡ true). ap (λ t. j.voting && is_failed_slot (slot_of (map (ended e b.number) s.builds) p j) || t) (each js (λ i m. sj i (inr m)) x) ∙ on (j.voting && is_failed_slot (slot_of (map (ended e b.number) s.builds) p j)))
-        (or_split (j.voting && is_failed_slot (slot_of s.builds p j)) (list_any (λ i. i.voting && is_failed_slot (slot_of s.builds p i)) js) k)
+        ⊎_elim (λ (x : j.voting && is_failed_slot (raw_slot_of s.builds p j) ≡ true). ap (λ t. t || list_any (λ i. i.voting && is_failed_slot (raw_slot_of (map (ended e b.number) s.builds) p i)) js) (and_two j.voting (is_failed_slot (raw_slot_of s.builds p j)) (is_failed_slot (raw_slot_of (map (ended e b.number) s.builds) p j)) x (job j (sj j (inl refl)))))
+        (λ (x : list_any (λ i. i.voting && is_failed_slot (raw_slot_of s.builds p i)) js ≡ true). ap (λ t. j.voting && is_failed_slot (raw_slot_of (map (ended e b.number) s.builds) p j) || t) (each js (λ i m. sj i (inr m)) x) ∙ on (j.voting && is_failed_slot (raw_slot_of (map (ended e b.number) s.builds) p j)))
+        (or_split (j.voting && is_failed_slot (raw_slot_of s.builds p j)) (list_any (λ i. i.voting && is_failed_slot (raw_slot_of s.builds p i)) js) k)

@@ -12,10 +12,11 @@ use Rattle.gate_types.specs.declared.records.Verdict.TheVariants as verdict
 use Rattle.gate_types.specs.Names.{same_name}
 use Rattle.gate_types.specs.State.{Item, has_change}
 use Rattle.gate_types.specs.Line.{Place, same_entries, line, ran_on, landed_entry, item_entry}
-use Rattle.gate_types.specs.Slot.{is_blocked, are_met_by, counts, outcomes_of, slot_of_outcomes, is_failed_slot, is_finished}
-use Rattle.gate_types.specs.Standing.{is_failing, with_ahead, next_ahead, places_after}
+use Rattle.gate_types.specs.Slot.{is_blocked, is_cut, are_met_by, counts, outcomes_of, slot_of_outcomes, is_failed_slot, is_finished}
+use Rattle.gate_types.specs.Standing.{is_failing, are_finished, with_ahead, next_ahead, places_after}
 use Rattle.gate_types.specs.Sweep.{verdict_of}
 use Rattle.gate_types.specs.Rows.{row_of}
+use Rattle.gate_laws.proofs.Cuts.{finished_is}
 use Rattle.gate_walk.proofs.Slots.{is_live_of, all_count}
 use Rattle.gate_walk.proofs.Resets.{none_parts, QuietAt, Quiet}
 use Rattle.gate_walk.proofs.Passes.{landing_as, need_landed, landed_place, same_run}
@@ -86,10 +87,20 @@ front_failing : (t : Item) (ahead : List Item) (p : Place) (bs : List Build) →
 front_failing t ahead p bs h m =
     λ i. not (are_met_by ahead (m i)) || list_any (λ j. j.voting && is_failed_slot (slot_of_outcomes (front_outcomes t ahead p j bs h.lower m h.began i))) p.jobs
 
+front_cut : (t : Item) (ahead : List Item) (p : Place) (bs : List Build) → FrontAt t bs p → map (need_landed t.change) p.needs ≡ p.needs → is_cut bs (with_ahead ahead (landed_place t p)) ≡ is_cut bs (with_ahead ahead p)
+front_cut t ahead p bs h m =
+    λ i. p.fast && not (not (are_met_by ahead (m i))) && list_any (λ j. j.voting && is_failed_slot (slot_of_outcomes (front_outcomes t ahead p j bs h.lower m h.began i))) p.jobs
+
+front_finished : (t : Item) (ahead : List Item) (p : Place) (bs : List Build) → FrontAt t bs p → map (need_landed t.change) p.needs ≡ p.needs → are_finished bs (with_ahead ahead (landed_place t p)) ≡ are_finished bs (with_ahead ahead p)
+front_finished t ahead p bs h m =
+    finished_is bs (with_ahead ahead (landed_place t p))
+    ∙ (λ i. front_cut t ahead p bs h m i || list_all (λ j. is_finished (slot_of_outcomes (front_outcomes t ahead p j bs h.lower m h.began i))) p.jobs)
+    ∙ sym (finished_is bs (with_ahead ahead p))
+
 front_verdict : (t : Item) (before ahead : List Item) (p : Place) (bs : List Build) → FrontAt t bs p → map (need_landed t.change) p.needs ≡ p.needs → verdict_of bs before (with_ahead ahead (landed_place t p)) ≡ verdict_of bs before (with_ahead ahead p)
 front_verdict t before ahead p bs h m =
     λ i. cond (not (are_met_by before (m i))) (Some verdict.Needs)
-    (cond (front_failing t ahead p bs h m i && not (not (are_met_by ahead (m i))) && length ahead == 0 && list_all (λ j. is_finished (slot_of_outcomes (front_outcomes t ahead p j bs h.lower m h.began i))) p.jobs) (Some verdict.Failed) None)
+    (cond (front_failing t ahead p bs h m i && not (not (are_met_by ahead (m i))) && length ahead == 0 && front_finished t ahead p bs h m i) (Some verdict.Failed) None)
 
 front_all_count : (t : Item) (ahead : List Item) (p : Place) (bs : List Build) → nat_lt t.serial p.item.serial ≡ false → map (need_landed t.change) p.needs ≡ p.needs → list_all (λ b. not (is_live_of p b) || nat_le b.after (length p.landings)) bs ≡ true →
     all_count bs (with_ahead ahead p) ≡ true → all_count bs (with_ahead ahead (landed_place t p)) ≡ true
@@ -125,6 +136,7 @@ front_kept stand bs t before ahead (p ∷ ps) f h q =
     let ahead_is : next_ahead bs new ≡ next_ahead bs old = λ i. cond (mark i) ahead (ahead ++ p.item ∷ []) in
     let own : QuietAt stand bs before new = record {
       counting = front_all_count t ahead p bs f.0.lower needs f.0.began q.0.counting;
+      ended = λ u. q.0.ended (sym (front_cut t ahead p bs f.0 needs) ∙ u);
       stays = front_verdict t before ahead p bs f.0 needs ∙ q.0.stays;
       standing = q.0.standing ∙ ap Some (sym mark);
       fresh = q.0.fresh;

@@ -2,6 +2,7 @@
 use Rattle.std.proofs.Common.{◌≡◌, ℕ, suc, ◌<◌, ◌≤◌, Bool, true, false, ◌&&◌, cond, Option, Some, None, List, [], ◌∷◌, ◌++◌, map, refl, sym, ap, ◌∙◌, arith, append_assoc}
 use Rattle.std.specs.Prelude.{nat_lt, nat_le, filter, find}
 use Rattle.std.proofs.lemmas.Bool.{lt-ltb, le-ltb, ltb-true, le-leb, leb-true}
+use Rattle.gate_types.specs.Window.{Bounds}
 use Rattle.gate_types.specs.declared.edits.Edit.{Edit}
 use Rattle.gate_walk.specs.Walk.{Seen, Carry, visit_edits, carried, asks_for, walk_edits, walk_from}
 use Rattle.gate_walk.specs.Next.{untold, VisitsGoOn}
@@ -35,41 +36,41 @@ behind us v vs b r =
     ∙ all_above v.row.serial (suc v.row.serial) vs (omega arith) r
 
 -- what a found row's visit tells, and what is left behind it
-abbrev told_by : List ℕ → ℕ → Carry → Option Seen → List Seen → List Edit
-told_by name floor k o ws = elim o as (λ x. List Edit) [ None ↦ [] | Some v ↦ visit_edits name floor k v ++ untold name floor (carried floor k v) v.row.serial ws ]
+abbrev told_by : List ℕ → Bounds → Carry → Option Seen → List Seen → List Edit
+told_by name bounds k o ws = elim o as (λ x. List Edit) [ None ↦ [] | Some v ↦ visit_edits name bounds k v ++ untold name bounds (carried bounds k v) v.row.serial ws ]
 
-goes_on : (name : List ℕ) (floor n m : ℕ) (k : Carry) (us vs : List Seen) → AllBelow seen_serial m us → RiseFrom seen_serial m vs → walk_edits name floor k (filter (above n) vs) ≡ told_by name floor k (find (test_of k n) vs) (us ++ vs)
-goes_on name floor n m k us [] b r = refl
-goes_on name floor n m k us (v ∷ vs) b r =
+goes_on : (name : List ℕ) (bounds : Bounds) (n m : ℕ) (k : Carry) (us vs : List Seen) → AllBelow seen_serial m us → RiseFrom seen_serial m vs → walk_edits name bounds k (filter (above n) vs) ≡ told_by name bounds k (find (test_of k n) vs) (us ++ vs)
+goes_on name bounds n m k us [] b r = refl
+goes_on name bounds n m k us (v ∷ vs) b r =
     let low : m ≤ v.row.serial = r.0 in
     let under = below_up m v.row.serial us low b in
     by_both (above n v) refl (asks_for k v) refl under
-    (ap (λ l. told_by name floor k (find (test_of k n) vs) l) (append_assoc us (v ∷ []) vs))
-    (goes_on name floor n (suc v.row.serial) k (us ++ v ∷ []) vs (below_push (suc v.row.serial) us v (below_up v.row.serial (suc v.row.serial) us (omega arith) under) (omega arith)) r.1)
+    (ap (λ l. told_by name bounds k (find (test_of k n) vs) l) (append_assoc us (v ∷ []) vs))
+    (goes_on name bounds n (suc v.row.serial) k (us ++ v ∷ []) vs (below_push (suc v.row.serial) us v (below_up v.row.serial (suc v.row.serial) us (omega arith) under) (omega arith)) r.1)
   where
     by_both : (x : Bool) → above n v ≡ x → (y : Bool) → asks_for k v ≡ y → AllBelow seen_serial v.row.serial us →
-        told_by name floor k (find (test_of k n) vs) ((us ++ v ∷ []) ++ vs) ≡ told_by name floor k (find (test_of k n) vs) (us ++ v ∷ vs) →
-        walk_edits name floor k (filter (above n) vs) ≡ told_by name floor k (find (test_of k n) vs) ((us ++ v ∷ []) ++ vs) →
-        walk_edits name floor k (cond x (v ∷ filter (above n) vs) (filter (above n) vs)) ≡ told_by name floor k (cond (x && asks_for k v) (Some v) (find (test_of k n) vs)) (us ++ v ∷ vs)
+        told_by name bounds k (find (test_of k n) vs) ((us ++ v ∷ []) ++ vs) ≡ told_by name bounds k (find (test_of k n) vs) (us ++ v ∷ vs) →
+        walk_edits name bounds k (filter (above n) vs) ≡ told_by name bounds k (find (test_of k n) vs) ((us ++ v ∷ []) ++ vs) →
+        walk_edits name bounds k (cond x (v ∷ filter (above n) vs) (filter (above n) vs)) ≡ told_by name bounds k (cond (x && asks_for k v) (Some v) (find (test_of k n) vs)) (us ++ v ∷ vs)
     by_both false ex y ey under same rest = rest ∙ same
     by_both true ex false ey under same rest =
-        ap (λ t. cond t (visit_edits name floor k v ++ walk_edits name floor (carried floor k v) (filter (above n) vs)) (walk_edits name floor k (filter (above n) vs))) ey
-        ∙ rest ∙ same ∙ sym (ap (λ t. told_by name floor k (cond t (Some v) (find (test_of k n) vs)) (us ++ v ∷ vs)) ey)
+        ap (λ t. cond t (visit_edits name bounds k v ++ walk_edits name bounds (carried bounds k v) (filter (above n) vs)) (walk_edits name bounds k (filter (above n) vs))) ey
+        ∙ rest ∙ same ∙ sym (ap (λ t. told_by name bounds k (cond t (Some v) (find (test_of k n) vs)) (us ++ v ∷ vs)) ey)
     by_both true ex true ey under same rest =
         let less = ltb-true n v.row.serial ex in
-        ap (λ t. cond t (visit_edits name floor k v ++ walk_edits name floor (carried floor k v) (filter (above n) vs)) (walk_edits name floor k (filter (above n) vs))) ey
-        ∙ ap (λ l. visit_edits name floor k v ++ walk_edits name floor (carried floor k v) l) (all_above n (suc v.row.serial) vs (omega (arith, less)) r.1 ∙ sym (behind us v vs under r.1))
-        ∙ sym (ap (λ t. told_by name floor k (cond t (Some v) (find (test_of k n) vs)) (us ++ v ∷ vs)) ey)
+        ap (λ t. cond t (visit_edits name bounds k v ++ walk_edits name bounds (carried bounds k v) (filter (above n) vs)) (walk_edits name bounds k (filter (above n) vs))) ey
+        ∙ ap (λ l. visit_edits name bounds k v ++ walk_edits name bounds (carried bounds k v) l) (all_above n (suc v.row.serial) vs (omega (arith, less)) r.1 ∙ sym (behind us v vs under r.1))
+        ∙ sym (ap (λ t. told_by name bounds k (cond t (Some v) (find (test_of k n) vs)) (us ++ v ∷ vs)) ey)
 
 -- the same of the first visit
-begins : (name : List ℕ) (floor n m : ℕ) (k : Carry) (us vs : List Seen) → AllBelow seen_serial m us → RiseFrom seen_serial m vs → walk_from name floor k (filter (λ v. nat_le n v.row.serial) vs) ≡ told_by name floor k (find (λ v. nat_le n v.row.serial) vs) (us ++ vs)
-begins name floor n m k us [] b r = refl
-begins name floor n m k us (v ∷ vs) b r =
+begins : (name : List ℕ) (bounds : Bounds) (n m : ℕ) (k : Carry) (us vs : List Seen) → AllBelow seen_serial m us → RiseFrom seen_serial m vs → walk_from name bounds k (filter (λ v. nat_le n v.row.serial) vs) ≡ told_by name bounds k (find (λ v. nat_le n v.row.serial) vs) (us ++ vs)
+begins name bounds n m k us [] b r = refl
+begins name bounds n m k us (v ∷ vs) b r =
     let low : m ≤ v.row.serial = r.0 in
     let under = below_up m v.row.serial us low b in
     by_test (nat_le n v.row.serial) refl under
-    (ap (λ l. told_by name floor k (find (λ x. nat_le n x.row.serial) vs) l) (append_assoc us (v ∷ []) vs))
-    (begins name floor n (suc v.row.serial) k (us ++ v ∷ []) vs (below_push (suc v.row.serial) us v (below_up v.row.serial (suc v.row.serial) us (omega arith) under) (omega arith)) r.1)
+    (ap (λ l. told_by name bounds k (find (λ x. nat_le n x.row.serial) vs) l) (append_assoc us (v ∷ []) vs))
+    (begins name bounds n (suc v.row.serial) k (us ++ v ∷ []) vs (below_push (suc v.row.serial) us v (below_up v.row.serial (suc v.row.serial) us (omega arith) under) (omega arith)) r.1)
   where
     all_from : (j : ℕ) (xs : List Seen) → n ≤ j → RiseFrom seen_serial j xs → filter (λ x. nat_le n x.row.serial) xs ≡ xs
     all_from j [] l h = refl
@@ -78,20 +79,20 @@ begins name floor n m k us (v ∷ vs) b r =
         (λ i. cond (le-leb n x.row.serial (omega arith) i) (x ∷ all_from (suc x.row.serial) xs (omega arith) h.1 i) (all_from (suc x.row.serial) xs (omega arith) h.1 i))
 
     by_test : (t : Bool) → nat_le n v.row.serial ≡ t → AllBelow seen_serial v.row.serial us →
-        told_by name floor k (find (λ x. nat_le n x.row.serial) vs) ((us ++ v ∷ []) ++ vs) ≡ told_by name floor k (find (λ x. nat_le n x.row.serial) vs) (us ++ v ∷ vs) →
-        walk_from name floor k (filter (λ x. nat_le n x.row.serial) vs) ≡ told_by name floor k (find (λ x. nat_le n x.row.serial) vs) ((us ++ v ∷ []) ++ vs) →
-        walk_from name floor k (cond t (v ∷ filter (λ x. nat_le n x.row.serial) vs) (filter (λ x. nat_le n x.row.serial) vs)) ≡ told_by name floor k (cond t (Some v) (find (λ x. nat_le n x.row.serial) vs)) (us ++ v ∷ vs)
+        told_by name bounds k (find (λ x. nat_le n x.row.serial) vs) ((us ++ v ∷ []) ++ vs) ≡ told_by name bounds k (find (λ x. nat_le n x.row.serial) vs) (us ++ v ∷ vs) →
+        walk_from name bounds k (filter (λ x. nat_le n x.row.serial) vs) ≡ told_by name bounds k (find (λ x. nat_le n x.row.serial) vs) ((us ++ v ∷ []) ++ vs) →
+        walk_from name bounds k (cond t (v ∷ filter (λ x. nat_le n x.row.serial) vs) (filter (λ x. nat_le n x.row.serial) vs)) ≡ told_by name bounds k (cond t (Some v) (find (λ x. nat_le n x.row.serial) vs)) (us ++ v ∷ vs)
     by_test false e under same rest = rest ∙ same
     by_test true e under same rest =
         let high = leb-true n v.row.serial e in
-        ap (λ l. visit_edits name floor k v ++ walk_edits name floor (carried floor k v) l) (all_from (suc v.row.serial) vs (omega (arith, high)) r.1 ∙ sym (behind us v vs under r.1))
+        ap (λ l. visit_edits name bounds k v ++ walk_edits name bounds (carried bounds k v) l) (all_from (suc v.row.serial) vs (omega (arith, high)) r.1 ∙ sym (behind us v vs under r.1))
 
 pub visits_go_on : VisitsGoOn
 visits_go_on = record {
-  begun = λ c t rows name floor n k v rise e. let vs = map (row_seen c t rows) rows in
-      ap (walk_from name floor k) (sym (seen_from c t rows n rows)) ∙ begins name floor n 0 k [] vs tt (rises seen_serial vs rise) ∙ ap (λ o. told_by name floor k o vs) e;
-  none = λ c t rows name floor n k rise e. let vs = map (row_seen c t rows) rows in
-      ap (walk_from name floor k) (sym (seen_from c t rows n rows)) ∙ begins name floor n 0 k [] vs tt (rises seen_serial vs rise) ∙ ap (λ o. told_by name floor k o vs) e;
-  more = λ name floor n k v vs rise e. goes_on name floor n 0 k [] vs tt (rises seen_serial vs rise) ∙ ap (λ o. told_by name floor k o vs) (sym (wanted_is k n vs) ∙ e);
-  done = λ name floor n k vs rise e. goes_on name floor n 0 k [] vs tt (rises seen_serial vs rise) ∙ ap (λ o. told_by name floor k o vs) (sym (wanted_is k n vs) ∙ e);
+  begun = λ c t rows name bounds n k v rise e. let vs = map (row_seen c t rows) rows in
+      ap (walk_from name bounds k) (sym (seen_from c t rows n rows)) ∙ begins name bounds n 0 k [] vs tt (rises seen_serial vs rise) ∙ ap (λ o. told_by name bounds k o vs) e;
+  none = λ c t rows name bounds n k rise e. let vs = map (row_seen c t rows) rows in
+      ap (walk_from name bounds k) (sym (seen_from c t rows n rows)) ∙ begins name bounds n 0 k [] vs tt (rises seen_serial vs rise) ∙ ap (λ o. told_by name bounds k o vs) e;
+  more = λ name bounds n k v vs rise e. goes_on name bounds n 0 k [] vs tt (rises seen_serial vs rise) ∙ ap (λ o. told_by name bounds k o vs) (sym (wanted_is k n vs) ∙ e);
+  done = λ name bounds n k vs rise e. goes_on name bounds n 0 k [] vs tt (rises seen_serial vs rise) ∙ ap (λ o. told_by name bounds k o vs) (sym (wanted_is k n vs) ∙ e);
 }

@@ -8,18 +8,19 @@ use Rattle.gate_types.specs.declared.records.Need.{Need}
 use Rattle.gate_types.specs.declared.records.Stage.{Stage}
 use Rattle.gate_types.specs.declared.records.Stage.TheVariants as stage
 use Rattle.gate_types.specs.declared.records.Verdict.TheVariants as verdict
-use Rattle.gate_types.specs.Names.{same_name}
 use Rattle.gate_types.specs.Settings.{Settings}
-use Rattle.gate_types.specs.State.{Item, Queue, State, put_by, put_change, has_change, change_of, is_open, is_landed}
+use Rattle.gate_types.specs.State.{Item, Queue, State, put_by, put_change, has_change, change_of, is_open, is_landed, plan_in, plan_of}
 use Rattle.gate_types.specs.Line.{Place}
-use Rattle.gate_types.specs.Standing.{place_of}
-use Rattle.gate_types.specs.Sweep.{without_runs}
-use Rattle.gate_types.specs.Step.{left_queue, with_stage, landed_queue}
+use Rattle.gate_types.specs.Standing.{needs_of, place_of}
+use Rattle.gate_types.specs.Sweep.{without_runs, without_plans}
+use Rattle.gate_types.specs.Step.{left_queue, leave, with_stage, revised, landed_queue, landed_plan, with_landing}
 use Rattle.gate_types.specs.Lawful.{IsSound}
 use Rattle.gate_walk.specs.Rescan.{need_behind, place_behind}
 use Rattle.gate_walk.specs.Kinds.{IsIn, ItemsLeave}
+use Rattle.gate_laws.proofs.Tests.{flipped}
+use Rattle.gate_laws.proofs.Plans.{plan_stays, plan_kept, same_place, other_stays}
 use Rattle.gate_laws.proofs.Touches.{changes_apart}
-use Rattle.gate_laws.proofs.Members.{In, any_from, any_to, to_map, to_right}
+use Rattle.gate_laws.proofs.Members.{In, any_from, any_to, from_append, to_map, to_left, to_right}
 use Rattle.gate_walk.proofs.Once.{Once}
 use Rattle.gate_walk.proofs.Calm.{items_once, item_open}
 
@@ -70,7 +71,7 @@ left_items n (x ∷ is) js i e h = λ k. cond (not (flip (x.change == n) refl k)
 abbrev leaves : State → ℕ → ℕ → Bool
 leaves s n serial = list_any (λ q. list_any (λ i. i.change == n && i.serial == serial) q.items) s.queues
 
-one_leaves : (c : Settings) (s : State) → IsSound c s → (q : Queue) (i : Item) (n : ℕ) → In q s.queues → In i q.items → i.change ≡ n → (m : ℕ) → leaves s n m ≡ (m == i.serial)
+pub one_leaves : (c : Settings) (s : State) → IsSound c s → (q : Queue) (i : Item) (n : ℕ) → In q s.queues → In i q.items → i.change ≡ n → (m : ℕ) → leaves s n m ≡ (m == i.serial)
 one_leaves c s sound q i n mq mi e m = at (leaves s n m) (m == i.serial) refl refl
   where
     own : has_change q.items n ≡ true
@@ -150,7 +151,8 @@ kept_place c s k q o i j en lk ls eo d =
       ahead = [];
       item = j;
       needs = (ap (λ (z : Change). map (λ m. let one : Need = record { change = m; landed = is_landed (change_of t m) } in one) z.needs) same ∙ needs (change_of s j.change).needs) x;
-      jobs = (ap (λ (z : Change). (unwrap_or (find (λ p. same_name p.name z.project) c.projects) (record { name = []; queue = []; jobs = [] })).jobs) same) x;
+      jobs = (plan_of s j.serial).jobs;
+      fast = (plan_of s j.serial).fast;
     }
   where
     flag : (m : ℕ) (t : Bool) → (k.number == m) ≡ t → is_landed (change_of (put_change k s) m) ≡ is_landed (change_of s m)
@@ -172,7 +174,8 @@ landed_other c s k q o i j en lk eo d =
       ahead = [];
       item = j;
       needs = (ap (λ (z : Change). map (λ m. let one : Need = record { change = m; landed = is_landed (change_of t m) } in one) z.needs) same ∙ needs (change_of s j.change).needs) x;
-      jobs = (ap (λ (z : Change). (unwrap_or (find (λ p. same_name p.name z.project) c.projects) (record { name = []; queue = []; jobs = [] })).jobs) same) x;
+      jobs = (plan_of s j.serial).jobs;
+      fast = (plan_of s j.serial).fast;
     }
   where
     yes : (x : Bool) → x || true ≡ true
@@ -207,6 +210,12 @@ record Gone (c : Settings) (s : State) (q : Queue) (is js : List Item) (i : Item
   builds : without_runs (leaves s i.change) s.builds ≡ without_runs (λ n. n == i.serial) s.builds
   differ : (j : Item) → In j (is ++ js) → (i.change == j.change) ≡ false
   open_before : is_landed (change_of s i.change) ≡ false
+  stay : (j : Item) → In j (is ++ js) → leaves s i.change j.serial ≡ false
+  apart : (j : Item) → In j (is ++ js) → i.serial == j.serial ≡ false
+
+-- an item beside another is one of all
+other_in : (is js : List Item) (i j : Item) → In j (is ++ js) → In j (is ++ i ∷ js)
+other_in is js i j m = elim (from_append is js j m) [ inl a ↦ to_left is (i ∷ js) j a | inr b ↦ to_right is (i ∷ js) j (inr b) ]
 
 gone : (c : Settings) (s : State) (q : Queue) (is : List Item) (i : Item) (js : List Item) → IsIn c s q is i js → Gone c s q is js i
 gone c s q is i js h =
@@ -214,12 +223,22 @@ gone c s q is i js h =
     let mi : In i q.items = subst (λ (l : List Item). In i l) (sym h.items) (to_right is (i ∷ js) i (inl refl)) in
     let o = subst (λ (l : List Item). Once (map (λ (x : Item). x.change) l)) h.items (items_once c s h.sound q mq) in
     let differ : (j : Item) → In j (is ++ js) → (i.change == j.change) ≡ false = λ j m. others_differ is js i j o m in
+    let stay : (j : Item) → In j (is ++ js) → leaves s i.change j.serial ≡ false =
+    λ j m. other_stays c s h.sound i.change q mq j (subst (In j) (sym h.items) (other_in is js i j m)) (flipped i.change j.change (differ j m)) in
     record {
       items = ap (filter (λ j. not (j.change == i.change))) h.items ∙ left_items i.change is js i refl differ;
       builds = stopped c s h.sound q i i.change mq mi refl;
       differ = differ;
       open_before = item_open c s h.sound q mq i mi;
+      stay = stay;
+      apart = λ j m. flipped j.serial i.serial (sym (one_leaves c s h.sound q i i.change mq mi refl j.serial) ∙ stay j m);
     }
+
+-- without the plan of the item that left, the others are placed as with it
+unplanned : (c : Settings) (s t : State) (o : Queue) (n : ℕ) (xs : List Item) → ((j : Item) → In j xs → leaves s n j.serial ≡ false) → ((j : Item) → needs_of t j.change ≡ needs_of s j.change) → t.plans ≡ without_plans (leaves s n) s.plans →
+    map (place_of c t o) xs ≡ map (place_of c s o) xs
+unplanned c s t o n xs h needs plans = each (place_of c t o) (place_of c s o) xs
+    (λ j m. same_place c s t o o j refl (needs j) (ap (λ ps. plan_in ps j.serial) plans ∙ plan_stays (leaves s n) s.plans j.serial (h j m)))
 
 open_is : (k : Change) → is_open k ≡ true → is_landed k ≡ false
 open_is k h = by_stage k.stage h
@@ -231,14 +250,16 @@ open_is k h = by_stage k.stage h
 
 pub items_leave : ItemsLeave
 items_leave = record {
-  withdrawn = λ c s q is i js h. let g = gone c s q is i js h in record { items = g.items; builds = g.builds; places = refl };
+  withdrawn = λ c s q is i js h. let g = gone c s q is i js h in
+      record { items = g.items; builds = g.builds; places = unplanned c s (leave verdict.Withdrawn i.change s) q i.change (is ++ js) g.stay (λ j. refl) refl };
   closed = λ c s q is i js h.
       let g = gone c s q is i js h in
       let k : Change = record (change_of s i.change) { stage = stage.Closed } in
       record {
         items = g.items;
         builds = g.builds;
-        places = each (place_of c (with_stage stage.Closed i.change s) (left_queue verdict.Closed i.change q)) (place_of c s q) (is ++ js)
+        places = unplanned c (with_stage stage.Closed i.change s) (with_stage stage.Closed i.change (leave verdict.Closed i.change s)) q i.change (is ++ js) g.stay (λ j. refl) refl
+            ∙ each (place_of c (with_stage stage.Closed i.change s) (left_queue verdict.Closed i.change q)) (place_of c s q) (is ++ js)
             (λ j m. kept_place c s k q (left_queue verdict.Closed i.change q) i j (number_of_change s i.change) refl g.open_before refl (g.differ j m));
       };
   superseded = λ c s q is i js k h e o.
@@ -246,18 +267,23 @@ items_leave = record {
       record {
         items = ap (λ n. filter (λ j. not (j.change == n)) q.items) e ∙ g.items;
         builds = ap (λ n. without_runs (leaves s n) s.builds) e ∙ g.builds;
-        places = each (place_of c (put_change k s) (left_queue verdict.Superseded k.number q)) (place_of c s q) (is ++ js)
+        places = unplanned c (put_change k s) (revised k s) q k.number (is ++ js) (λ j m. ap (λ n. leaves s n j.serial) e ∙ g.stay j m) (λ j. refl) refl
+            ∙ each (place_of c (put_change k s) (left_queue verdict.Superseded k.number q)) (place_of c s q) (is ++ js)
             (λ j m. kept_place c s k q (left_queue verdict.Superseded k.number q) i j e (open_is k o) g.open_before refl (g.differ j m));
       };
-  refused = λ c s q is i js h. let g = gone c s q is i js h in record { items = g.items; builds = g.builds; places = refl };
+  refused = λ c s q is i js h. let g = gone c s q is i js h in
+      record { items = g.items; builds = g.builds; places = unplanned c s (leave verdict.Refused i.change s) q i.change (is ++ js) g.stay (λ j. refl) refl };
   landed = λ c s q is i js n h.
       let g = gone c s q is i js h in
       let k : Change = record (change_of s i.change) { stage = stage.Landed } in
-      let o = landed_queue i (left_queue (verdict.Landed n) i.change q) in
+      let o = landed_queue c i (left_queue (verdict.Landed n) i.change q) in
       record {
         items = g.items;
         builds = g.builds;
-        places = each (place_of c (with_stage stage.Landed i.change s) o) (λ j. place_behind i (place_of c s q j)) (is ++ js)
+        places = each (place_of c (with_landing c n (record { queue = q; item = i }) s) o) (place_of c (with_stage stage.Landed i.change s) o) (is ++ js)
+            (λ j m. same_place c (with_stage stage.Landed i.change s) (with_landing c n (record { queue = q; item = i }) s) o o j refl refl
+            (plan_kept (landed_plan s i.serial) (without_plans (leaves s i.change) s.plans) j.serial (g.apart j m) ∙ plan_stays (leaves s i.change) s.plans j.serial (g.stay j m)))
+            ∙ each (place_of c (with_stage stage.Landed i.change s) o) (λ j. place_behind i (place_of c s q j)) (is ++ js)
             (λ j m. landed_other c s k q o i j (number_of_change s i.change) refl refl (g.differ j m))
             ∙ map_twice (place_behind i) (place_of c s q) (is ++ js);
       };

@@ -3,6 +3,7 @@ pub mod Once
 pub mod Parting
 -- one row: what a visit makes of it is what the rules say
 pub mod Slots
+pub mod VisitEdits
 pub mod Steps
 -- the parts of a walk: lines have changed, needs are followed, a landing is passed
 pub mod Resets

@@ -9,11 +9,12 @@ use Rattle.gate_types.specs.declared.records.Verdict.TheVariants as verdict
 use Rattle.gate_types.specs.Names.{same_name}
 use Rattle.gate_types.specs.State.{Item}
 use Rattle.gate_types.specs.Line.{Place, same_entries, line, ran_on}
-use Rattle.gate_types.specs.Slot.{is_blocked, are_met_by, counts, outcomes_of, slot_of_outcomes, is_failed_slot, is_finished}
-use Rattle.gate_types.specs.Standing.{is_failing, with_ahead, next_ahead, places_after}
+use Rattle.gate_types.specs.Slot.{is_blocked, is_cut, is_running, are_met_by, counts, outcomes_of, slot_of_outcomes, is_failed_slot, is_finished}
+use Rattle.gate_types.specs.Standing.{is_failing, are_finished, with_ahead, next_ahead, places_after}
 use Rattle.gate_types.specs.Sweep.{verdict_of}
 use Rattle.gate_types.specs.Rows.{row_of}
-use Rattle.gate_walk.proofs.Slots.{is_live_of, all_count}
+use Rattle.gate_laws.proofs.Cuts.{finished_is}
+use Rattle.gate_walk.proofs.Slots.{is_live_of, all_count, all_ended}
 use Rattle.gate_walk.proofs.Resets.{QuietAt, Quiet, visits, same, rows_seen}
 use Rattle.gate_walk.proofs.Events.{ahead_after}
 
@@ -92,10 +93,35 @@ moved_all_count t p (b ∷ bs) (c ∷ cs) o h = λ k. (not (moved_live t p b c o
 pub moved_failing : (t : ℕ) (p : Place) (bs cs : List Build) → IsOther t p → Elsewhere t bs cs → is_failing cs p ≡ is_failing bs p
 moved_failing t p bs cs o h = λ i. is_blocked p || list_any (λ j. j.voting && is_failed_slot (slot_of_outcomes (moved_outcomes t p j bs cs o h i))) p.jobs
 
+pub moved_cut : (t : ℕ) (p : Place) (bs cs : List Build) → IsOther t p → Elsewhere t bs cs → is_cut cs p ≡ is_cut bs p
+moved_cut t p bs cs o h = λ i. p.fast && not (is_blocked p) && list_any (λ j. j.voting && is_failed_slot (slot_of_outcomes (moved_outcomes t p j bs cs o h i))) p.jobs
+
+moved_finished : (t : ℕ) (p : Place) (bs cs : List Build) → IsOther t p → Elsewhere t bs cs → are_finished cs p ≡ are_finished bs p
+moved_finished t p bs cs o h =
+    finished_is cs p
+    ∙ (λ i. moved_cut t p bs cs o h i || list_all (λ j. is_finished (slot_of_outcomes (moved_outcomes t p j bs cs o h i))) p.jobs)
+    ∙ sym (finished_is bs p)
+
+-- each of its live builds has ended still
+moved_ended : (t : ℕ) (p : Place) (bs cs : List Build) → IsOther t p → Elsewhere t bs cs → all_ended cs p ≡ all_ended bs p
+moved_ended t p [] [] o h = refl
+moved_ended t p [] (c ∷ cs) o h = absurd h
+moved_ended t p (b ∷ bs) [] o h = absurd h
+moved_ended t p (b ∷ bs) (c ∷ cs) o h = λ k. one k && moved_ended t p bs cs o h.2 k
+  where
+    off : (l s r : Bool) → s ≡ false → not (l && s) || r ≡ true
+    off true true r e = absurd (true≢false e)
+    off true false r e = refl
+    off false s r e = refl
+
+    one : not (is_live_of p c) || not (is_running c.outcome) ≡ not (is_live_of p b) || not (is_running b.outcome)
+    one = by_serial t p b c o h.0 h.1 (λ s. ap (λ (x : Build). not (is_live_of p x) || not (is_running x.outcome)) s)
+        (λ x y. off c.live (c.serial == p.item.serial) (not (is_running c.outcome)) y ∙ sym (off b.live (b.serial == p.item.serial) (not (is_running b.outcome)) x))
+
 moved_verdict : (t : ℕ) (p : Place) (before : List Item) (bs cs : List Build) → IsOther t p → Elsewhere t bs cs → verdict_of cs before p ≡ verdict_of bs before p
 moved_verdict t p before bs cs o h =
     λ i. cond (not (are_met_by before p.needs)) (Some verdict.Needs)
-    (cond (moved_failing t p bs cs o h i && not (is_blocked p) && length p.ahead == 0 && list_all (λ j. is_finished (slot_of_outcomes (moved_outcomes t p j bs cs o h i))) p.jobs) (Some verdict.Failed) None)
+    (cond (moved_failing t p bs cs o h i && not (is_blocked p) && length p.ahead == 0 && moved_finished t p bs cs o h i) (Some verdict.Failed) None)
 
 -- the places are other items'
 abbrev pub Others : ℕ → List Place → Type 0
@@ -117,6 +143,7 @@ still_quiet stand t bs cs before ahead (p ∷ ps) h o q =
     let rest = still_quiet stand t bs cs (before ++ p.item ∷ []) (next_ahead bs at) ps h o.1 q.1 in
     let own : QuietAt stand cs before at = record {
       counting = moved_all_count t at bs cs o.0 h ∙ q.0.counting;
+      ended = λ u. moved_ended t at bs cs o.0 h ∙ q.0.ended (sym (moved_cut t at bs cs o.0 h) ∙ u);
       stays = moved_verdict t at before bs cs o.0 h ∙ q.0.stays;
       standing = q.0.standing ∙ ap Some (sym mark);
       fresh = q.0.fresh;

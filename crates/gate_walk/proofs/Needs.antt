@@ -4,6 +4,7 @@ use Rattle.std.specs.Prelude.{filter, ◌==◌}
 use Rattle.std.specs.List.{list_any, list_all}
 use Rattle.std.proofs.lemmas.Bool.{and_parts, or_parts, and_left, and_right, eqb-true}
 use Rattle.std.proofs.lemmas.List.Folds.{list_any-append}
+use Rattle.gate_types.specs.Window.{Bounds}
 use Rattle.gate_types.specs.declared.records.Build.{Build}
 use Rattle.gate_types.specs.declared.records.Need.{Need}
 use Rattle.gate_types.specs.declared.records.Verdict.{Verdict}
@@ -11,15 +12,16 @@ use Rattle.gate_types.specs.declared.records.Verdict.TheVariants as verdict
 use Rattle.gate_types.specs.declared.edits.Edit.TheVariants as edit
 use Rattle.gate_types.specs.State.{Item, has_change}
 use Rattle.gate_types.specs.Line.{Place}
-use Rattle.gate_types.specs.Slot.{are_met_by, is_running, slot_of, is_failed_slot}
+use Rattle.gate_types.specs.Slot.{are_met_by, is_running, is_cut, raw_slot_of, is_failed_slot}
 use Rattle.gate_types.specs.Standing.{is_failing, with_ahead, next_ahead, places_after}
 use Rattle.gate_types.specs.Sweep.{verdict_of, has_failed, judge, next_staying}
 use Rattle.gate_types.specs.Rows.{row_of}
 use Rattle.gate_queue.specs.Edits.{next_reports, window_behind}
-use Rattle.gate_walk.specs.Walk.{is_blocked_by, Seen, Mark, Carry, is_gone, needs_gone, slot_among, still_counting, fails, verdict_by, row_by, row_edits, window_edits_by, visit_edits, carried}
+use Rattle.gate_queue.specs.Outcomes.{slot_among}
+use Rattle.gate_walk.specs.Walk.{is_blocked_by, Seen, Mark, Carry, is_gone, needs_gone, still_counting, fails, verdict_by, row_by, row_edits, window_edits_by, visit_edits, carried, cuts, is_over}
 use Rattle.gate_walk.proofs.Slots.{live_of}
 use Rattle.gate_walk.proofs.Steps.{is_done, edits_for, seen_need, seen, Known, known_visited, known_skipped, blocked_seen, met_seen, other_one, other_in}
-use Rattle.gate_walk.proofs.Resets.{Right, asked, rows_seen, none_parts, none_from, stop_running, QuietAt, Quiet, visits, same}
+use Rattle.gate_walk.proofs.Resets.{Right, asked, rows_seen, none_parts, none_from, stop_running, QuietAt, Quiet, visits, same, none_stop}
 
 -- failing, not blocked, first and finished
 abbrev pub is_out : Carry → Seen → Bool
@@ -133,44 +135,45 @@ goes stand bs before staying k p kn f q g =
     let unmet = needs_unmet stand k.gone before staying p.needs inside (gone_leaves stand k.marks k.gone before p.ahead staying kn) q.open_needs g in
     record {
       fails_now = ap (λ t. t || list_any (λ j. j.voting && is_failed_slot (slot_among (still_counting k v) j)) v.jobs) (blocked_seen stand k.marks k.gone before p.ahead staying p.needs kn met ∙ ap not blocked);
-      was_failing = ap (λ t. not t || list_any (λ j. j.voting && is_failed_slot (slot_of bs p j)) p.jobs) blocked;
+      was_failing = ap (λ t. not t || list_any (λ j. j.voting && is_failed_slot (raw_slot_of bs p j)) p.jobs) blocked;
       by_walk = ap (λ t. cond (not t) (Some verdict.Needs) (cond (is_out k v) (Some verdict.Failed) None)) (met_seen stand k.marks k.gone before p.ahead staying p.needs kn met ∙ unmet);
       by_look = ap (λ t. cond (not t) (Some verdict.Needs) (cond (has_failed bs p) (Some verdict.Failed) None)) unmet;
     }
 
 -- its edits, whatever is carried as the last non-failing item
-goes_edits : (name : List ℕ) (floor : ℕ) (stand : ℕ → Option Bool) (bs : List Build) (before staying : List Item) (k : Carry) (p : Place) → k.resets ≡ false → QuietAt stand bs before p → Goes bs staying k (seen stand bs p p) p →
-    visit_edits name floor k (seen stand bs p p) ≡ edits_for name bs k.reports staying p (seen stand bs p p).row ++ window_edits_by name floor k.window (verdict_of bs staying p)
-goes_edits name floor stand bs before staying k p r q g =
+goes_edits : (name : List ℕ) (bounds : Bounds) (stand : ℕ → Option Bool) (bs : List Build) (before staying : List Item) (k : Carry) (p : Place) → k.resets ≡ false → QuietAt stand bs before p → Goes bs staying k (seen stand bs p p) p →
+    visit_edits name bounds k (seen stand bs p p) ≡ edits_for name bs k.reports staying p (seen stand bs p p).row ++ window_edits_by name bounds k.window (verdict_of bs staying p)
+goes_edits name bounds stand bs before staying k p r q g =
     let v = seen stand bs p p in
     let same_verdict : verdict_by k v ≡ verdict_of bs staying p = g.by_walk ∙ sym g.by_look in
-    let going = is_some (verdict_of bs staying p) in
+    let over = is_some (verdict_of bs staying p) || is_cut bs p in
+    let same_over : is_over k v ≡ over = ap (λ (o : Option Verdict). is_some o || cuts k v) g.by_walk ∙ sym (ap (λ (o : Option Verdict). is_some o || is_cut bs p) g.by_look) in
     let item : row_edits name k.reports v.row (row_by k v) (verdict_of bs staying p) ≡ row_edits name k.reports v.row (row_of bs p) (verdict_of bs staying p) =
     ap (row_edits name k.reports v.row (row_by k v)) g.by_look ∙ sym (ap (row_edits name k.reports v.row (row_of bs p)) g.by_look) in
-    (λ i. (map (λ b. edit.StopBuild b.number) (filter (λ b. r i || is_some (same_verdict i) && is_running b.outcome) (live_of bs p)) ++ row_edits name k.reports v.row (row_by k v) (same_verdict i)) ++ window_edits_by name floor k.window (same_verdict i))
-    ∙ (λ i. (map (λ b. edit.StopBuild b.number) (stop_running bs p going q.counting i) ++ item i) ++ window_edits_by name floor k.window (verdict_of bs staying p))
+    (λ i. (map (λ b. edit.StopBuild b.number) (filter (λ b. r i || same_over i && is_running b.outcome) (live_of bs p)) ++ row_edits name k.reports v.row (row_by k v) (same_verdict i)) ++ window_edits_by name bounds k.window (same_verdict i))
+    ∙ (λ i. (map (λ b. edit.StopBuild b.number) (stop_running bs p over q.counting i) ++ item i) ++ window_edits_by name bounds k.window (verdict_of bs staying p))
 
 -- a walk that follows needs
 abbrev pub needing : Option ℕ → List ℕ → List Mark → ℕ → ℕ → Carry
 needing a gone marks n w = record { resets = false; passes = false; ahead = a; gone = gone; marks = marks; reports = n; window = w }
 
 -- it follows the needs from these items on, and leaves each other row as it is
-abbrev pub Follows : List ℕ → ℕ → (ℕ → Option Bool) → List Build → List Item → List Item → List Place → Type 0
-Follows name floor stand bs before ahead ps = (a : Option ℕ) (gone : List ℕ) (marks : List Mark) (n w : ℕ) (staying : List Item) →
+abbrev pub Follows : List ℕ → Bounds → (ℕ → Option Bool) → List Build → List Item → List Item → List Place → Type 0
+Follows name bounds stand bs before ahead ps = (a : Option ℕ) (gone : List ℕ) (marks : List Mark) (n w : ℕ) (staying : List Item) →
     Known stand marks gone before ahead staying → Followed gone before ahead staying →
-    Right name floor bs n w staying (places_after bs ahead ps) (rows_seen (visits stand bs same ahead ps)) (asked name floor (needing a gone marks n w) (visits stand bs same ahead ps))
+    Right name bounds bs n w staying (places_after bs ahead ps) (rows_seen (visits stand bs same ahead ps)) (asked name bounds (needing a gone marks n w) (visits stand bs same ahead ps))
 
 -- behind an item that goes for its needs it does so still
-goes_on : (name : List ℕ) (floor : ℕ) (stand : ℕ → Option Bool) (bs : List Build) (before ahead staying : List Item) (k : Carry) (p : Place) (ps : List Place) → k.resets ≡ false → k.passes ≡ false →
+goes_on : (name : List ℕ) (bounds : Bounds) (stand : ℕ → Option Bool) (bs : List Build) (before ahead staying : List Item) (k : Carry) (p : Place) (ps : List Place) → k.resets ≡ false → k.passes ≡ false →
     Known stand k.marks k.gone before ahead staying → Followed k.gone before ahead staying → QuietAt stand bs before (with_ahead ahead p) →
-    Follows name floor stand bs (before ++ p.item ∷ []) (next_ahead bs (with_ahead ahead p)) ps → Goes bs staying k (seen stand bs (with_ahead ahead p) (with_ahead ahead p)) (with_ahead ahead p) →
+    Follows name bounds stand bs (before ++ p.item ∷ []) (next_ahead bs (with_ahead ahead p)) ps → Goes bs staying k (seen stand bs (with_ahead ahead p) (with_ahead ahead p)) (with_ahead ahead p) →
     (let old = with_ahead ahead p in let v = seen stand bs old p in let vs = visits stand bs same (next_ahead bs old) ps in
-    Right name floor bs k.reports k.window staying (places_after bs ahead (p ∷ ps)) (rows_seen (v ∷ vs)) (Some (visit_edits name floor k v) ∷ asked name floor (carried floor k v) vs))
-goes_on name floor stand bs before ahead staying k p ps r ps_off kn f q rest g =
+    Right name bounds bs k.reports k.window staying (places_after bs ahead (p ∷ ps)) (rows_seen (v ∷ vs)) (Some (visit_edits name bounds k v) ∷ asked name bounds (carried bounds k v) vs))
+goes_on name bounds stand bs before ahead staying k p ps r ps_off kn f q rest g =
     let old = with_ahead ahead p in
     let v = seen stand bs old p in
     let vs = visits stand bs same (next_ahead bs old) ps in
-    let k2 = carried floor k v in
+    let k2 = carried bounds k v in
     let verdict_is : verdict_by k v ≡ verdict_of bs staying old = g.by_walk ∙ sym g.by_look in
     let there = ap is_some q.standing in
     let no_ahead : has_change ahead p.item.change ≡ false = kn.not_ahead p.item.change q.fresh in
@@ -187,21 +190,21 @@ goes_on name floor stand bs before ahead staying k p ps r ps_off kn f q rest g =
     let no_pass : k2.passes ≡ false = ap (λ t. t && fails k v) ps_off in
     let behind = rest k2.ahead k2.gone k2.marks k2.reports k2.window (next_staying staying (judge bs staying old)) known followed in
     let carry : Bool → Bool → Carry = λ x y. record { resets = x; passes = y; ahead = k2.ahead; gone = k2.gone; marks = k2.marks; reports = k2.reports; window = k2.window } in (
-      goes_edits name floor stand bs before staying k old r q g,
-      subst (λ (w : Option Verdict). Right name floor bs (next_reports k.reports w) (window_behind floor k.window w) (next_staying staying (judge bs staying old)) (places_after bs (next_ahead bs old) ps) (rows_seen vs) (asked name floor k2 vs)) verdict_is
-          (subst (λ (x : Bool). Right name floor bs k2.reports k2.window (next_staying staying (judge bs staying old)) (places_after bs (next_ahead bs old) ps) (rows_seen vs) (asked name floor (carry x k2.passes) vs)) (sym no_reset)
-          (subst (λ (y : Bool). Right name floor bs k2.reports k2.window (next_staying staying (judge bs staying old)) (places_after bs (next_ahead bs old) ps) (rows_seen vs) (asked name floor (carry false y) vs)) (sym no_pass) behind)),
+      goes_edits name bounds stand bs before staying k old r q g,
+      subst (λ (w : Option Verdict). Right name bounds bs (next_reports k.reports w) (window_behind bounds k.window w) (next_staying staying (judge bs staying old)) (places_after bs (next_ahead bs old) ps) (rows_seen vs) (asked name bounds k2 vs)) verdict_is
+          (subst (λ (x : Bool). Right name bounds bs k2.reports k2.window (next_staying staying (judge bs staying old)) (places_after bs (next_ahead bs old) ps) (rows_seen vs) (asked name bounds (carry x k2.passes) vs)) (sym no_reset)
+          (subst (λ (y : Bool). Right name bounds bs k2.reports k2.window (next_staying staying (judge bs staying old)) (places_after bs (next_ahead bs old) ps) (rows_seen vs) (asked name bounds (carry false y) vs)) (sym no_pass) behind)),
     )
 
 -- one row: it is asked for if it needs what has gone
-follow_one : (name : List ℕ) (floor : ℕ) (stand : ℕ → Option Bool) (bs : List Build) (a : Option ℕ) (gone : List ℕ) (marks : List Mark) (n w : ℕ) (before ahead staying : List Item) (p : Place) (ps : List Place) →
-    Known stand marks gone before ahead staying → Followed gone before ahead staying → QuietAt stand bs before (with_ahead ahead p) → Follows name floor stand bs (before ++ p.item ∷ []) (next_ahead bs (with_ahead ahead p)) ps →
+follow_one : (name : List ℕ) (bounds : Bounds) (stand : ℕ → Option Bool) (bs : List Build) (a : Option ℕ) (gone : List ℕ) (marks : List Mark) (n w : ℕ) (before ahead staying : List Item) (p : Place) (ps : List Place) →
+    Known stand marks gone before ahead staying → Followed gone before ahead staying → QuietAt stand bs before (with_ahead ahead p) → Follows name bounds stand bs (before ++ p.item ∷ []) (next_ahead bs (with_ahead ahead p)) ps →
     (t : Bool) → needs_gone gone (map (seen_need stand) p.needs) ≡ t →
     (let k = needing a gone marks n w in let old = with_ahead ahead p in let v = seen stand bs old p in let vs = visits stand bs same (next_ahead bs old) ps in
-    Right name floor bs n w staying (places_after bs ahead (p ∷ ps)) (rows_seen (v ∷ vs)) (cond t (Some (visit_edits name floor k v) ∷ asked name floor (carried floor k v) vs) (None ∷ asked name floor k vs)))
-follow_one name floor stand bs a gone marks n w before ahead staying p ps kn f q rest true e =
-    goes_on name floor stand bs before ahead staying (needing a gone marks n w) p ps refl refl kn f q rest (goes stand bs before staying (needing a gone marks n w) (with_ahead ahead p) kn f q e)
-follow_one name floor stand bs a gone marks n w before ahead staying p ps kn f q rest false e =
+    Right name bounds bs n w staying (places_after bs ahead (p ∷ ps)) (rows_seen (v ∷ vs)) (cond t (Some (visit_edits name bounds k v) ∷ asked name bounds (carried bounds k v) vs) (None ∷ asked name bounds k vs)))
+follow_one name bounds stand bs a gone marks n w before ahead staying p ps kn f q rest true e =
+    goes_on name bounds stand bs before ahead staying (needing a gone marks n w) p ps refl refl kn f q rest (goes stand bs before staying (needing a gone marks n w) (with_ahead ahead p) kn f q e)
+follow_one name bounds stand bs a gone marks n w before ahead staying p ps kn f q rest false e =
     let old = with_ahead ahead p in
     let k = needing a gone marks n w in
     let vs = visits stand bs same (next_ahead bs old) ps in
@@ -209,16 +212,12 @@ follow_one name floor stand bs a gone marks n w before ahead staying p ps kn f q
     let stays : verdict_of bs staying old ≡ None = none_from bs staying old (needs_met stand gone before staying p.needs f.rest e parts.0) parts.1 in
     let known = known_skipped stand marks gone before ahead staying p.item (is_failing bs old) kn q.fresh q.standing in
     let followed = followed_kept gone before ahead staying p.item (is_failing bs old) f (kn.not_gone p.item.change q.fresh) in (
-      (refl, stays, sym (stop_running bs old false q.counting) ∙ none (live_of bs old)),
-      subst (λ (x : Option Verdict). Right name floor bs (next_reports n x) (window_behind floor w x) (cond (is_some x) staying (staying ++ p.item ∷ [])) (places_after bs (next_ahead bs old) ps) (rows_seen vs) (asked name floor k vs)) (sym stays)
+      (refl, stays, none_stop bs old q.counting q.ended),
+      subst (λ (x : Option Verdict). Right name bounds bs (next_reports n x) (window_behind bounds w x) (cond (is_some x) staying (staying ++ p.item ∷ [])) (places_after bs (next_ahead bs old) ps) (rows_seen vs) (asked name bounds k vs)) (sym stays)
           (rest a gone marks n w (staying ++ p.item ∷ []) known followed),
     )
-  where
-    none : (bs : List Build) → filter (λ b. false && is_running b.outcome) bs ≡ []
-    none [] = refl
-    none (b ∷ bs) = none bs
 
-pub follow : (name : List ℕ) (floor : ℕ) (stand : ℕ → Option Bool) (bs : List Build) (before ahead : List Item) (ps : List Place) → Quiet stand bs before ahead ps → Follows name floor stand bs before ahead ps
-follow name floor stand bs before ahead [] q a gone marks n w staying kn f = tt
-follow name floor stand bs before ahead (p ∷ ps) q a gone marks n w staying kn f =
-    follow_one name floor stand bs a gone marks n w before ahead staying p ps kn f q.0 (follow name floor stand bs (before ++ p.item ∷ []) (next_ahead bs (with_ahead ahead p)) ps q.1) (needs_gone gone (map (seen_need stand) p.needs)) refl
+pub follow : (name : List ℕ) (bounds : Bounds) (stand : ℕ → Option Bool) (bs : List Build) (before ahead : List Item) (ps : List Place) → Quiet stand bs before ahead ps → Follows name bounds stand bs before ahead ps
+follow name bounds stand bs before ahead [] q a gone marks n w staying kn f = tt
+follow name bounds stand bs before ahead (p ∷ ps) q a gone marks n w staying kn f =
+    follow_one name bounds stand bs a gone marks n w before ahead staying p ps kn f q.0 (follow name bounds stand bs (before ++ p.item ∷ []) (next_ahead bs (with_ahead ahead p)) ps q.1) (needs_gone gone (map (seen_need stand) p.needs)) refl

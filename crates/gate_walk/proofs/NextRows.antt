@@ -2,6 +2,7 @@
 use Rattle.std.proofs.Common.{◌≡◌, ℕ, suc, ◌<◌, ◌≤◌, Bool, true, false, not, ◌&&◌, ◌||◌, cond, Option, Some, None, is_some, List, [], ◌∷◌, ◌++◌, length, refl, sym, ap, ◌∙◌, true≢false, arith, append_assoc}
 use Rattle.std.specs.Prelude.{zero, ◌==◌, nat_lt, find}
 use Rattle.std.proofs.lemmas.Bool.{lt-ltb, le-ltb, eqb-true}
+use Rattle.gate_types.specs.Window.{Bounds}
 use Rattle.gate_types.specs.declared.edits.Edit.{Edit}
 use Rattle.gate_walk.specs.Walk.{Seen, SeenNeed, Carry, needs_gone, fails, visit_edits, carried, asks_for, walk_edits}
 use Rattle.gate_walk.specs.Rescan.{start}
@@ -81,45 +82,45 @@ find_push : (test : Seen → Bool) (us : List Seen) (v : Seen) → find test us 
 find_push test us v h e = find_past test us (v ∷ []) h ∙ ap (λ t. cond t (Some v) None) e
 
 -- from any row on
-pub visits_walk : (m : ℕ) (name : List ℕ) (floor n low : ℕ) (k : Carry) (us vs : List Seen) → length vs ≤ m → n < low → AllBelow seen_serial low us → RiseFrom seen_serial low vs → find (test_of k n) us ≡ None →
-    visits_from m name floor (next_of k n) k (us ++ vs) ≡ walk_edits name floor k vs
-visits_walk m name floor n low k us [] few l b r f = ended m
+pub visits_walk : (m : ℕ) (name : List ℕ) (bounds : Bounds) (n low : ℕ) (k : Carry) (us vs : List Seen) → length vs ≤ m → n < low → AllBelow seen_serial low us → RiseFrom seen_serial low vs → find (test_of k n) us ≡ None →
+    visits_from m name bounds (next_of k n) k (us ++ vs) ≡ walk_edits name bounds k vs
+visits_walk m name bounds n low k us [] few l b r f = ended m
   where
     nothing : wanted k.gone (next_of k n) (us ++ []) ≡ None
     nothing = wanted_is k n (us ++ []) ∙ find_past (test_of k n) us [] f
 
-    ended : (j : ℕ) → visits_from j name floor (next_of k n) k (us ++ []) ≡ []
+    ended : (j : ℕ) → visits_from j name bounds (next_of k n) k (us ++ []) ≡ []
     ended zero = refl
-    ended (suc j) = ap (λ (o : Option Seen). elim o as (λ x. List Edit) [ None ↦ [] | Some v ↦ visit_edits name floor k v ++ visits_from j name floor (next_of (carried floor k v) v.row.serial) (carried floor k v) (us ++ []) ]) nothing
-visits_walk m name floor n low k us (v ∷ vs) few l b r f =
+    ended (suc j) = ap (λ (o : Option Seen). elim o as (λ x. List Edit) [ None ↦ [] | Some v ↦ visit_edits name bounds k v ++ visits_from j name bounds (next_of (carried bounds k v) v.row.serial) (carried bounds k v) (us ++ []) ]) nothing
+visits_walk m name bounds n low k us (v ∷ vs) few l b r f =
     let high : low ≤ v.row.serial = r.0 in
     let above : nat_lt n v.row.serial ≡ true = lt-ltb n v.row.serial (omega arith) in
     by_test m (asks_for k v) refl above few
-    (λ j k2 enough. visits_walk j name floor v.row.serial (suc v.row.serial) k2 (us ++ v ∷ []) vs enough (omega arith) (below_push (suc v.row.serial) us v (below_up low (suc v.row.serial) us (omega arith) b) (omega arith)) r.1
+    (λ j k2 enough. visits_walk j name bounds v.row.serial (suc v.row.serial) k2 (us ++ v ∷ []) vs enough (omega arith) (below_push (suc v.row.serial) us v (below_up low (suc v.row.serial) us (omega arith) b) (omega arith)) r.1
     (passed k2 v.row.serial (us ++ v ∷ []) (below_push (suc v.row.serial) us v (below_up low (suc v.row.serial) us (omega arith) b) (omega arith))))
-    (λ no enough. visits_walk m name floor n (suc v.row.serial) k (us ++ v ∷ []) vs enough (omega arith) (below_push (suc v.row.serial) us v (below_up low (suc v.row.serial) us (omega arith) b) (omega arith)) r.1
+    (λ no enough. visits_walk m name bounds n (suc v.row.serial) k (us ++ v ∷ []) vs enough (omega arith) (below_push (suc v.row.serial) us v (below_up low (suc v.row.serial) us (omega arith) b) (omega arith)) r.1
     (find_push (test_of k n) us v f (ap (λ t. nat_lt n v.row.serial && t) no ∙ and_off (nat_lt n v.row.serial))))
   where
     by_test : (m2 : ℕ) (t : Bool) → asks_for k v ≡ t → nat_lt n v.row.serial ≡ true → length (v ∷ vs) ≤ m2 →
-        ((j : ℕ) (k2 : Carry) → length vs ≤ j → visits_from j name floor (next_of k2 v.row.serial) k2 ((us ++ v ∷ []) ++ vs) ≡ walk_edits name floor k2 vs) →
-        (asks_for k v ≡ false → length vs ≤ m2 → visits_from m2 name floor (next_of k n) k ((us ++ v ∷ []) ++ vs) ≡ walk_edits name floor k vs) →
-        visits_from m2 name floor (next_of k n) k (us ++ v ∷ vs) ≡ cond (asks_for k v) (visit_edits name floor k v ++ walk_edits name floor (carried floor k v) vs) (walk_edits name floor k vs)
+        ((j : ℕ) (k2 : Carry) → length vs ≤ j → visits_from j name bounds (next_of k2 v.row.serial) k2 ((us ++ v ∷ []) ++ vs) ≡ walk_edits name bounds k2 vs) →
+        (asks_for k v ≡ false → length vs ≤ m2 → visits_from m2 name bounds (next_of k n) k ((us ++ v ∷ []) ++ vs) ≡ walk_edits name bounds k vs) →
+        visits_from m2 name bounds (next_of k n) k (us ++ v ∷ vs) ≡ cond (asks_for k v) (visit_edits name bounds k v ++ walk_edits name bounds (carried bounds k v) vs) (walk_edits name bounds k vs)
     by_test zero t e above few2 there on = absurd (omega (arith, few2))
     by_test (suc j) true e above few2 there on =
-        let k2 = carried floor k v in
+        let k2 = carried bounds k v in
         let found : wanted k.gone (next_of k n) (us ++ v ∷ vs) ≡ Some v = wanted_is k n (us ++ v ∷ vs) ∙ find_past (test_of k n) us (v ∷ vs) f ∙ (λ i. cond (above i && e i) (Some v) (find (test_of k n) vs)) in
-        ap (λ (o : Option Seen). elim o as (λ x. List Edit) [ None ↦ [] | Some x ↦ visit_edits name floor k x ++ visits_from j name floor (next_of (carried floor k x) x.row.serial) (carried floor k x) (us ++ v ∷ vs) ]) found
-        ∙ ap (λ l. visit_edits name floor k v ++ l) (ap (visits_from j name floor (next_of k2 v.row.serial) k2) (sym (append_assoc us (v ∷ []) vs)) ∙ there j k2 (omega (arith, few2)))
-        ∙ ap (λ t. cond t (visit_edits name floor k v ++ walk_edits name floor k2 vs) (walk_edits name floor k vs)) (sym e)
+        ap (λ (o : Option Seen). elim o as (λ x. List Edit) [ None ↦ [] | Some x ↦ visit_edits name bounds k x ++ visits_from j name bounds (next_of (carried bounds k x) x.row.serial) (carried bounds k x) (us ++ v ∷ vs) ]) found
+        ∙ ap (λ l. visit_edits name bounds k v ++ l) (ap (visits_from j name bounds (next_of k2 v.row.serial) k2) (sym (append_assoc us (v ∷ []) vs)) ∙ there j k2 (omega (arith, few2)))
+        ∙ ap (λ t. cond t (visit_edits name bounds k v ++ walk_edits name bounds k2 vs) (walk_edits name bounds k vs)) (sym e)
     by_test (suc j) false e above few2 there on =
-        ap (visits_from (suc j) name floor (next_of k n) k) (sym (append_assoc us (v ∷ []) vs)) ∙ on e (omega (arith, few2))
-        ∙ ap (λ t. cond t (visit_edits name floor k v ++ walk_edits name floor (carried floor k v) vs) (walk_edits name floor k vs)) (sym e)
+        ap (visits_from (suc j) name bounds (next_of k n) k) (sym (append_assoc us (v ∷ []) vs)) ∙ on e (omega (arith, few2))
+        ∙ ap (λ t. cond t (visit_edits name bounds k v ++ walk_edits name bounds (carried bounds k v) vs) (walk_edits name bounds k vs)) (sym e)
 
 pub visits_are_the_walk : VisitsAreTheWalk
-visits_are_the_walk name floor k v vs rise =
+visits_are_the_walk name bounds k v vs rise =
     let r = rises seen_serial (v ∷ vs) rise in
-    ap (λ l. visit_edits name floor k v ++ l)
-    (visits_walk (length vs) name floor v.row.serial (suc v.row.serial) (carried floor k v) (v ∷ []) vs (omega arith) (omega arith) (omega arith, tt) r.1 (passed (carried floor k v) v.row.serial (v ∷ []) (omega arith, tt)))
+    ap (λ l. visit_edits name bounds k v ++ l)
+    (visits_walk (length vs) name bounds v.row.serial (suc v.row.serial) (carried bounds k v) (v ∷ []) vs (omega arith) (omega arith) (omega arith, tt) r.1 (passed (carried bounds k v) v.row.serial (v ∷ []) (omega arith, tt)))
 
 off : (f : Bool) → f && not f ≡ false
 off true = refl
@@ -127,13 +128,13 @@ off false = refl
 
 pub walk_stops : WalkStops
 walk_stops = record {
-  at_once = λ floor reports window ahead v m g.
+  at_once = λ bounds reports window ahead v m g.
       let k = start None ahead reports window in
       (λ i. cond ((false || m i && not v.row.failing) || (false && fails k v)) (go v.row.serial) (cond (length (cond (is_some (g i)) ([] ++ v.row.change ∷ []) []) == 0) stop (need v.row.serial)))
       ∙ ap (λ t. cond (t || false) (go v.row.serial) stop) (off v.row.failing);
-  keeps_lines = λ floor k v r m. (λ i. r i || m i && not v.row.failing) ∙ off v.row.failing;
-  not_further = λ floor n k v r m f.
-      let k2 = carried floor k v in
+  keeps_lines = λ bounds k v r m. (λ i. r i || m i && not v.row.failing) ∙ off v.row.failing;
+  not_further = λ bounds n k v r m f.
+      let k2 = carried bounds k v in
       let lines : k2.resets ≡ false = (λ i. r i || m i && not v.row.failing) ∙ off v.row.failing in
       let past : k2.passes ≡ false = ap (λ t. k.passes && t) (m ∙ f) ∙ and_off k.passes in
       λ i. cond (lines i || past i) (go n) (cond (length k2.gone == 0) stop (need n));

@@ -1,5 +1,6 @@
 -- A walk over one queue leaves what settling it leaves: by what became of the touched item.
 use Rattle.std.proofs.Common.{◌≡◌, ℕ, suc, ◌+◌, ◌≤◌, Bool, true, false, not, cond, Option, Some, None, List, [], ◌∷◌, ◌++◌, map, length, refl, sym, ap, ◌∙◌, subst, arith, append_assoc, length-append}
+use Rattle.gate_types.specs.Window.{Bounds}
 use Rattle.gate_types.specs.declared.records.Build.{Build}
 use Rattle.gate_types.specs.declared.records.Item.{Item as ItemRow}
 use Rattle.gate_types.specs.declared.records.Landing.{Landing}
@@ -66,10 +67,10 @@ rows_of_many bs ahead [] = refl
 rows_of_many bs ahead (p ∷ ps) = ap suc (rows_of_many bs (next_ahead bs (with_ahead ahead p)) ps)
 
 -- a walk over the rows from one item on is right, row by row
-pub record Walked (name : List ℕ) (floor w : ℕ) (cs : List Build) (is : List ItemRow) (ps : List Place) (rs : List Report) (k : Carry) (vs : List Seen) : Type 0 where
+pub record Walked (name : List ℕ) (bounds : Bounds) (w : ℕ) (cs : List Build) (is : List ItemRow) (ps : List Place) (rs : List Report) (k : Carry) (vs : List Seen) : Type 0 where
   pub front : List Place
   pub front_rows : List ItemRow
-  pub right : Right name floor cs (length rs) w [] (places_after cs [] ps) is (nones front ++ forced name floor k vs)
+  pub right : Right name bounds cs (length rs) w [] (places_after cs [] ps) is (nones front ++ forced name bounds k vs)
   pub parts : is ≡ front_rows ++ rows_seen vs
   pub front_many : length front ≡ length front_rows
   pub go : GoWith is ps
@@ -77,11 +78,11 @@ pub record Walked (name : List ℕ) (floor w : ℕ) (cs : List Build) (is : List
   pub numbers : RiseFrom build_number 0 cs
 
 -- what it leaves
-pub walked_settles : (name : List ℕ) (floor w : ℕ) (cs : List Build) (is : List ItemRow) (ls : List Landing) (ps : List Place) (rs : List Report) (items : List Item) (k : Carry) (vs : List Seen) → Walked name floor w cs is ps rs k vs →
-    fold_edits (stale name w is cs rs) (walk_from name floor k vs) ≡ settled_rows floor ps cs (record { name = name; window = w; landings = ls; items = items; reports = rs })
-walked_settles name floor w cs is ls ps rs items k vs h =
-    ap (fold_edits (stale name w is cs rs)) (sym (nones_told h.front (forced name floor k vs) ∙ forced_told name floor k vs))
-    ∙ walk_settles name floor w (length rs) cs is ls ps rs items (nones h.front ++ forced name floor k vs) refl h.go (rise_back 0 is ps h.go h.rise) h.numbers h.right
+pub walked_settles : (name : List ℕ) (bounds : Bounds) (w : ℕ) (cs : List Build) (is : List ItemRow) (ls : List Landing) (ps : List Place) (rs : List Report) (items : List Item) (k : Carry) (vs : List Seen) → Walked name bounds w cs is ps rs k vs →
+    fold_edits (stale name w is cs rs) (walk_from name bounds k vs) ≡ settled_rows bounds ps cs (record { name = name; window = w; landings = ls; items = items; reports = rs })
+walked_settles name bounds w cs is ls ps rs items k vs h =
+    ap (fold_edits (stale name w is cs rs)) (sym (nones_told h.front (forced name bounds k vs) ∙ forced_told name bounds k vs))
+    ∙ walk_settles name bounds w (length rs) cs is ls ps rs items (nones h.front ++ forced name bounds k vs) refl h.go (rise_back 0 is ps h.go h.rise) h.numbers h.right
 
 -- ---- and between two visits
 
@@ -105,23 +106,23 @@ rows_append : (us vs : List Seen) → rows_seen (us ++ vs) ≡ rows_seen us ++ r
 rows_append [] vs = refl
 rows_append (u ∷ us) vs = ap (λ l. u.row ∷ l) (rows_append us vs)
 
-asked_many : (name : List ℕ) (floor : ℕ) (k : Carry) (vs : List Seen) → length (asked name floor k vs) ≡ length vs
-asked_many name floor k [] = refl
-asked_many name floor k (v ∷ vs) = by_test (asks_for k v) (asked_many name floor (carried floor k v) vs) (asked_many name floor k vs)
+asked_many : (name : List ℕ) (bounds : Bounds) (k : Carry) (vs : List Seen) → length (asked name bounds k vs) ≡ length vs
+asked_many name bounds k [] = refl
+asked_many name bounds k (v ∷ vs) = by_test (asks_for k v) (asked_many name bounds (carried bounds k v) vs) (asked_many name bounds k vs)
   where
-    by_test : (t : Bool) → length (asked name floor (carried floor k v) vs) ≡ length vs → length (asked name floor k vs) ≡ length vs →
-        length (cond t (Some (visit_edits name floor k v) ∷ asked name floor (carried floor k v) vs) (None ∷ asked name floor k vs)) ≡ suc (length vs)
+    by_test : (t : Bool) → length (asked name bounds (carried bounds k v) vs) ≡ length vs → length (asked name bounds k vs) ≡ length vs →
+        length (cond t (Some (visit_edits name bounds k v) ∷ asked name bounds (carried bounds k v) vs) (None ∷ asked name bounds k vs)) ≡ suc (length vs)
     by_test true a b = ap suc a
     by_test false a b = ap suc b
 
-forced_many : (name : List ℕ) (floor : ℕ) (k : Carry) (vs : List Seen) → length (forced name floor k vs) ≡ length vs
-forced_many name floor k [] = refl
-forced_many name floor k (v ∷ vs) = ap suc (asked_many name floor (carried floor k v) vs)
+forced_many : (name : List ℕ) (bounds : Bounds) (k : Carry) (vs : List Seen) → length (forced name bounds k vs) ≡ length vs
+forced_many name bounds k [] = refl
+forced_many name bounds k (v ∷ vs) = ap suc (asked_many name bounds (carried bounds k v) vs)
 
 -- the rest of what is told is of the rest of the rows
-forced_more : (name : List ℕ) (floor : ℕ) (k : Carry) (us vs : List Seen) → (rest : List (Option (List Edit))) × (forced name floor k (us ++ vs) ≡ forced name floor k us ++ rest)
-forced_more name floor k [] vs = (forced name floor k vs, refl)
-forced_more name floor k (u ∷ us) vs = (asked name floor (carried_on name floor (carried floor k u) us) vs, ap (λ l. Some (visit_edits name floor k u) ∷ l) (asked_more name floor (carried floor k u) us vs))
+forced_more : (name : List ℕ) (bounds : Bounds) (k : Carry) (us vs : List Seen) → (rest : List (Option (List Edit))) × (forced name bounds k (us ++ vs) ≡ forced name bounds k us ++ rest)
+forced_more name bounds k [] vs = (forced name bounds k vs, refl)
+forced_more name bounds k (u ∷ us) vs = (asked name bounds (carried_on name bounds (carried bounds k u) us) vs, ap (λ l. Some (visit_edits name bounds k u) ∷ l) (asked_more name bounds (carried bounds k u) us vs))
 
 go_first : (is js : List ItemRow) (ps qs : List Place) → length is ≡ length ps → GoWith (is ++ js) (ps ++ qs) → GoWith is ps
 go_first [] js [] qs e g = tt
@@ -139,19 +140,19 @@ go_many [] (p ∷ ps) g = absurd g
 go_many (i ∷ is) [] g = absurd g
 go_many (i ∷ is) (p ∷ ps) g = ap suc (go_many is ps g.1)
 
-pub walked_so_far : (name : List ℕ) (floor w : ℕ) (cs : List Build) (is : List ItemRow) (ls : List Landing) (ps : List Place) (rs : List Report) (items : List Item) (k : Carry) (vs us ws : List Seen) (xs ys : List Place) → Walked name floor w cs is ps rs k vs →
+pub walked_so_far : (name : List ℕ) (bounds : Bounds) (w : ℕ) (cs : List Build) (is : List ItemRow) (ls : List Landing) (ps : List Place) (rs : List Report) (items : List Item) (k : Carry) (vs us ws : List Seen) (xs ys : List Place) → Walked name bounds w cs is ps rs k vs →
     vs ≡ us ++ ws → ps ≡ xs ++ ys → length ys ≡ length ws →
-    fold_edits (stale name w is cs rs) (walk_from name floor k us) ≡ settled_to floor cs (places_after cs [] xs) (rows_seen ws) (record { name = name; window = w; landings = ls; items = items; reports = rs })
-walked_so_far name floor w cs is ls ps rs items k vs us ws xs ys h ev ep en =
+    fold_edits (stale name w is cs rs) (walk_from name bounds k us) ≡ settled_to bounds cs (places_after cs [] xs) (rows_seen ws) (record { name = name; window = w; landings = ls; items = items; reports = rs })
+walked_so_far name bounds w cs is ls ps rs items k vs us ws xs ys h ev ep en =
     let first = h.front_rows ++ rows_seen us in
-    let es = nones h.front ++ forced name floor k us in
-    let more = forced_more name floor k us ws in
-    let told_all : nones h.front ++ forced name floor k vs ≡ es ++ more.0 =
-    ap (λ l. nones h.front ++ forced name floor k l) ev ∙ ap (λ l. nones h.front ++ l) more.1 ∙ sym (append_assoc (nones h.front) (forced name floor k us) more.0) in
+    let es = nones h.front ++ forced name bounds k us in
+    let more = forced_more name bounds k us ws in
+    let told_all : nones h.front ++ forced name bounds k vs ≡ es ++ more.0 =
+    ap (λ l. nones h.front ++ forced name bounds k l) ev ∙ ap (λ l. nones h.front ++ l) more.1 ∙ sym (append_assoc (nones h.front) (forced name bounds k us) more.0) in
     let rows : is ≡ first ++ rows_seen ws = h.parts ∙ ap (λ l. h.front_rows ++ rows_seen l) ev ∙ ap (λ l. h.front_rows ++ l) (rows_append us ws) ∙ sym (append_assoc h.front_rows (rows_seen us) (rows_seen ws)) in
     let places : places_after cs [] ps ≡ places_after cs [] xs ++ places_after cs (ahead_after cs [] xs) ys = ap (places_after cs []) ep ∙ places_split cs [] xs ys in
-    let whole : Right name floor cs (length rs) w [] (places_after cs [] xs ++ places_after cs (ahead_after cs [] xs) ys) (first ++ rows_seen ws) (es ++ more.0) =
-    cast (λ i. Right name floor cs (length rs) w [] (places i) (rows i) (told_all i)) h.right in
+    let whole : Right name bounds cs (length rs) w [] (places_after cs [] xs ++ places_after cs (ahead_after cs [] xs) ys) (first ++ rows_seen ws) (es ++ more.0) =
+    cast (λ i. Right name bounds cs (length rs) w [] (places i) (rows i) (told_all i)) h.right in
     let many_rows : length (first ++ rows_seen ws) ≡ length ps = ap length (sym rows) ∙ go_many is ps h.go in
     let a1 : length (first ++ rows_seen ws) ≡ length first + length (rows_seen ws) = length-append first (rows_seen ws) in
     let a2 : length ps ≡ length xs + length ys = ap length ep ∙ length-append xs ys in
@@ -159,17 +160,17 @@ walked_so_far name floor w cs is ls ps rs items k vs us ws xs ys h ev ep en =
     let as_many : length first ≡ length xs = omega (arith, en) in
     let b1 : length (places_after cs [] xs) ≡ length xs = places_many cs [] xs in
     let b2 : length first ≡ length h.front_rows + length (rows_seen us) = length-append h.front_rows (rows_seen us) in
-    let b3 : length es ≡ length (nones h.front) + length (forced name floor k us) = length-append (nones h.front) (forced name floor k us) in
+    let b3 : length es ≡ length (nones h.front) + length (forced name bounds k us) = length-append (nones h.front) (forced name bounds k us) in
     let b4 : length (nones h.front) ≡ length h.front = nones_many h.front in
-    let b5 : length (forced name floor k us) ≡ length us = forced_many name floor k us in
+    let b5 : length (forced name bounds k us) ≡ length us = forced_many name bounds k us in
     let b6 : length (rows_seen us) ≡ length us = rows_many us in
     let b7 : length h.front ≡ length h.front_rows = h.front_many in
-    let right = right_first name floor cs (length rs) w [] (places_after cs [] xs) (places_after cs (ahead_after cs [] xs) ys) first (rows_seen ws) es more.0 (omega arith) (omega arith) whole in
+    let right = right_first name bounds cs (length rs) w [] (places_after cs [] xs) (places_after cs (ahead_after cs [] xs) ys) first (rows_seen ws) es more.0 (omega arith) (omega arith) whole in
     let go_all : GoWith (first ++ rows_seen ws) (xs ++ ys) = cast (λ i. GoWith (rows i) (ep i)) h.go in
     let rise_all = subst (RiseFrom row_serial 0) rows (rise_back 0 is ps h.go h.rise) in
-    ap (λ l. fold_edits (stale name w l cs rs) (walk_from name floor k us)) rows
-    ∙ ap (fold_edits (stale name w (first ++ rows_seen ws) cs rs)) (sym (nones_told h.front (forced name floor k us) ∙ forced_told name floor k us))
-    ∙ told_so_far name floor w cs (places_after cs [] xs) first (rows_seen ws) ls items rs es (ahead_with cs [] first xs (go_first first (rows_seen ws) xs ys as_many go_all)) rise_all
+    ap (λ l. fold_edits (stale name w l cs rs) (walk_from name bounds k us)) rows
+    ∙ ap (fold_edits (stale name w (first ++ rows_seen ws) cs rs)) (sym (nones_told h.front (forced name bounds k us) ∙ forced_told name bounds k us))
+    ∙ told_so_far name bounds w cs (places_after cs [] xs) first (rows_seen ws) ls items rs es (ahead_with cs [] first xs (go_first first (rows_seen ws) xs ys as_many go_all)) rise_all
     (ahead_rise cs 0 [] xs (rise_first 0 xs ys (subst (RiseFrom place_serial 0) ep h.rise))) h.numbers right
 
 -- ---- the touched item stands
@@ -190,10 +191,10 @@ abbrev pub seen_standing : (ℕ → Option Bool) → List Build → List Build �
 seen_standing stand bs cs front p behind =
     (let at = with_ahead (ahead_after bs [] front) p in seen_as stand cs at (is_failing bs at) ∷ visits stand cs same (next_ahead bs at) behind)
 
-pub walk_standing : (name : List ℕ) (floor w : ℕ) (stand : ℕ → Option Bool) (bs cs : List Build) (front : List Place) (p : Place) (behind : List Place) (rs : List Report) → Stands stand bs cs front p behind →
-    Walked name floor w cs (map (row_of bs) (places_after bs [] (front ++ p ∷ behind))) (front ++ p ∷ behind) rs
+pub walk_standing : (name : List ℕ) (bounds : Bounds) (w : ℕ) (stand : ℕ → Option Bool) (bs cs : List Build) (front : List Place) (p : Place) (behind : List Place) (rs : List Report) → Stands stand bs cs front p behind →
+    Walked name bounds w cs (map (row_of bs) (places_after bs [] (front ++ p ∷ behind))) (front ++ p ∷ behind) rs
     (needing (last_serial (ahead_after bs [] front)) [] [] (length rs) w) (seen_standing stand bs cs front p behind)
-walk_standing name floor w stand bs cs front p behind rs h =
+walk_standing name bounds w stand bs cs front p behind rs h =
     let a = ahead_after bs [] front in
     let at = with_ahead a p in
     let parts = quiet_split stand bs [] [] front (p ∷ behind) h.quiet in
@@ -211,15 +212,15 @@ walk_standing name floor w stand bs cs front p behind rs h =
     } in
     let vs = seen_standing stand bs cs front p behind in
     let k = needing (last_serial a) [] [] (length rs) w in
-    let behind_it = touched name floor stand cs (length rs) w before at (is_failing bs at) behind known t sb.quiet h.not_landed in
-    let whole = front_right name floor stand cs (length rs) w [] [] front (p ∷ behind) (rows_seen vs) (forced name floor k vs) sf.quiet
-    (subst (λ (x : List Item). Right name floor cs (length rs) w before (places_after cs x (p ∷ behind)) (rows_seen vs) (forced name floor k vs)) (sym sf.ahead_same) behind_it) in
+    let behind_it = touched name bounds stand cs (length rs) w before at (is_failing bs at) behind known t sb.quiet h.not_landed in
+    let whole = front_right name bounds stand cs (length rs) w [] [] front (p ∷ behind) (rows_seen vs) (forced name bounds k vs) sf.quiet
+    (subst (λ (x : List Item). Right name bounds cs (length rs) w before (places_after cs x (p ∷ behind)) (rows_seen vs) (forced name bounds k vs)) (sym sf.ahead_same) behind_it) in
     let rows : map (row_of cs) (places_after cs [] front) ++ rows_seen vs ≡ map (row_of bs) (places_after bs [] (front ++ p ∷ behind)) =
     (λ i. sf.rows i ++ (row_of bs at ∷ (visits_rows stand cs same (next_ahead bs at) behind ∙ sb.rows) i)) ∙ sym (rows_split bs [] front (p ∷ behind)) in
     record {
       front = front;
       front_rows = map (row_of cs) (places_after cs [] front);
-      right = subst (λ (l : List ItemRow). Right name floor cs (length rs) w [] (places_after cs [] (front ++ p ∷ behind)) l (nones front ++ forced name floor k vs)) rows whole;
+      right = subst (λ (l : List ItemRow). Right name bounds cs (length rs) w [] (places_after cs [] (front ++ p ∷ behind)) l (nones front ++ forced name bounds k vs)) rows whole;
       parts = sym rows;
       front_many = sym (rows_of_many cs [] front);
       go = subst (GoWith (map (row_of bs) (places_after bs [] (front ++ p ∷ behind)))) (map_same (front ++ p ∷ behind)) (go_rows bs same (λ x. refl) [] (front ++ p ∷ behind));
@@ -253,9 +254,9 @@ carry_left bs front p n w = (let a = ahead_after bs [] front in
 abbrev pub seen_left : (ℕ → Option Bool) → List Build → List Build → List Place → Place → List Place → List Seen
 seen_left stand bs cs front p behind = (let a = ahead_after bs [] front in visits stand cs same (next_ahead bs (with_ahead a p)) behind)
 
-pub walk_left : (name : List ℕ) (floor w : ℕ) (stand : ℕ → Option Bool) (bs cs : List Build) (front : List Place) (p : Place) (behind : List Place) (rs : List Report) → Left stand bs cs front p behind →
-    Walked name floor w cs (rows_left bs front p behind) (front ++ behind) rs (carry_left bs front p (length rs) w) (seen_left stand bs cs front p behind)
-walk_left name floor w stand bs cs front p behind rs h =
+pub walk_left : (name : List ℕ) (bounds : Bounds) (w : ℕ) (stand : ℕ → Option Bool) (bs cs : List Build) (front : List Place) (p : Place) (behind : List Place) (rs : List Report) → Left stand bs cs front p behind →
+    Walked name bounds w cs (rows_left bs front p behind) (front ++ behind) rs (carry_left bs front p (length rs) w) (seen_left stand bs cs front p behind)
+walk_left name bounds w stand bs cs front p behind rs h =
     let a = ahead_after bs [] front in
     let at = with_ahead a p in
     let sf = still_quiet stand p.item.serial bs cs [] [] front h.elsewhere h.others.0 h.quiet in
@@ -264,15 +265,15 @@ walk_left name floor w stand bs cs front p behind rs h =
     let known = known_front stand bs [] [] front (known_start stand) h.quiet in
     let vs = seen_left stand bs cs front p behind in
     let k = carry_left bs front p (length rs) w in
-    let behind_it = taken_out name floor stand cs (length rs) w before a p.item (is_failing bs at) behind known h.none_stands h.fresh sb.quiet h.not_landed in
-    let whole = front_right name floor stand cs (length rs) w [] [] front behind (rows_seen vs) (forced name floor k vs) sf.quiet
-    (subst (λ (x : List Item). Right name floor cs (length rs) w before (places_after cs x behind) (rows_seen vs) (forced name floor k vs)) (sym sf.ahead_same) behind_it) in
+    let behind_it = taken_out name bounds stand cs (length rs) w before a p.item (is_failing bs at) behind known h.none_stands h.fresh sb.quiet h.not_landed in
+    let whole = front_right name bounds stand cs (length rs) w [] [] front behind (rows_seen vs) (forced name bounds k vs) sf.quiet
+    (subst (λ (x : List Item). Right name bounds cs (length rs) w before (places_after cs x behind) (rows_seen vs) (forced name bounds k vs)) (sym sf.ahead_same) behind_it) in
     let rows : map (row_of cs) (places_after cs [] front) ++ rows_seen vs ≡ rows_left bs front p behind =
     λ i. sf.rows i ++ (visits_rows stand cs same (next_ahead bs at) behind ∙ sb.rows) i in
     record {
       front = front;
       front_rows = map (row_of cs) (places_after cs [] front);
-      right = subst (λ (l : List ItemRow). Right name floor cs (length rs) w [] (places_after cs [] (front ++ behind)) l (nones front ++ forced name floor k vs)) rows whole;
+      right = subst (λ (l : List ItemRow). Right name bounds cs (length rs) w [] (places_after cs [] (front ++ behind)) l (nones front ++ forced name bounds k vs)) rows whole;
       parts = sym rows;
       front_many = sym (rows_of_many cs [] front);
       rise = h.places_rise;
@@ -300,9 +301,9 @@ pub record Lands (stand : ℕ → Option Bool) (bs cs : List Build) (front : Lis
 abbrev pub seen_landed : (ℕ → Option Bool) → List Build → Place → List Place → List Seen
 seen_landed stand cs p behind = visits stand cs (landed_place p.item) (p.item ∷ []) behind
 
-pub walk_landed : (name : List ℕ) (floor w : ℕ) (stand : ℕ → Option Bool) (bs cs : List Build) (front : List Place) (p : Place) (behind : List Place) (rs : List Report) → Lands stand bs cs front p behind →
-    Walked name floor w cs (map (row_of bs) (places_after bs [] front) ++ map (row_of bs) (places_after bs (p.item ∷ []) behind)) (map (landed_place p.item) front ++ map (landed_place p.item) behind) rs (passing [] [] (length rs) w) (seen_landed stand cs p behind)
-walk_landed name floor w stand bs cs front p behind rs h =
+pub walk_landed : (name : List ℕ) (bounds : Bounds) (w : ℕ) (stand : ℕ → Option Bool) (bs cs : List Build) (front : List Place) (p : Place) (behind : List Place) (rs : List Report) → Lands stand bs cs front p behind →
+    Walked name bounds w cs (map (row_of bs) (places_after bs [] front) ++ map (row_of bs) (places_after bs (p.item ∷ []) behind)) (map (landed_place p.item) front ++ map (landed_place p.item) behind) rs (passing [] [] (length rs) w) (seen_landed stand cs p behind)
+walk_landed name bounds w stand bs cs front p behind rs h =
     let now = landed_place p.item in
     let sf = still_quiet stand p.item.serial bs cs [] [] front h.elsewhere h.others.0 h.quiet in
     let before = all_before [] front in
@@ -312,15 +313,15 @@ walk_landed name floor w stand bs cs front p behind rs h =
     let known = subst (λ (a : List Item). Known stand [] [] before a before) h.first (known_front stand bs [] [] front (known_start stand) h.quiet) in
     let vs = seen_landed stand cs p behind in
     let k = passing [] [] (length rs) w in
-    let behind_it = landed_out name floor stand cs (length rs) w before p.item behind known h.fresh h.is_behind sb.quiet in
-    let whole = front_right name floor stand cs (length rs) w [] [] (map now front) (map now behind) (rows_seen vs) (forced name floor k vs) fk.quiet
-    (cast (λ i. Right name floor cs (length rs) w (sym fk.before_same i) (places_after cs (sym none i) (map now behind)) (rows_seen vs) (forced name floor k vs)) behind_it) in
+    let behind_it = landed_out name bounds stand cs (length rs) w before p.item behind known h.fresh h.is_behind sb.quiet in
+    let whole = front_right name bounds stand cs (length rs) w [] [] (map now front) (map now behind) (rows_seen vs) (forced name bounds k vs) fk.quiet
+    (cast (λ i. Right name bounds cs (length rs) w (sym fk.before_same i) (places_after cs (sym none i) (map now behind)) (rows_seen vs) (forced name bounds k vs)) behind_it) in
     let rows : map (row_of cs) (places_after cs [] (map now front)) ++ rows_seen vs ≡ map (row_of bs) (places_after bs [] front) ++ map (row_of bs) (places_after bs (p.item ∷ []) behind) =
     λ i. (fk.rows ∙ sf.rows) i ++ (visits_rows stand cs now (p.item ∷ []) behind ∙ sb.rows) i in
     record {
       front = map now front;
       front_rows = map (row_of cs) (places_after cs [] (map now front));
-      right = subst (λ (l : List ItemRow). Right name floor cs (length rs) w [] (places_after cs [] (map now front ++ map now behind)) l (nones (map now front) ++ forced name floor k vs)) rows whole;
+      right = subst (λ (l : List ItemRow). Right name bounds cs (length rs) w [] (places_after cs [] (map now front ++ map now behind)) l (nones (map now front) ++ forced name bounds k vs)) rows whole;
       parts = sym rows;
       front_many = sym (rows_of_many cs [] (map now front));
       go = go_append (map (row_of bs) (places_after bs [] front)) (map (row_of bs) (places_after bs (p.item ∷ []) behind)) (map now front) (map now behind) (go_rows bs now (λ x. refl) [] front) (go_rows bs now (λ x. refl) (p.item ∷ []) behind);

@@ -6,6 +6,7 @@ use Rattle.std.proofs.lemmas.Bool.{and_parts, or_parts, and_from, eqb-true, eq-e
 use Rattle.std.proofs.lemmas.List.{take-append-le}
 use Rattle.std.proofs.lemmas.List.Folds.{list_any-append}
 use Rattle.std.proofs.lemmas.Option.{slice_get-get_or}
+use Rattle.gate_types.specs.Window.{Bounds}
 use Rattle.gate_types.specs.declared.config.Job.{Job}
 use Rattle.gate_types.specs.declared.records.Build.{Build}
 use Rattle.gate_types.specs.declared.records.Landing.{Landing}
@@ -14,7 +15,7 @@ use Rattle.gate_types.specs.declared.records.Verdict.{Verdict}
 use Rattle.gate_types.specs.Names.{same_name}
 use Rattle.gate_types.specs.State.{Item, has_change}
 use Rattle.gate_types.specs.Line.{Place, same_entries, line, ran_on, landings_below, landed_entry, item_entry, built_entry}
-use Rattle.gate_types.specs.Slot.{is_blocked, are_met_by, counts, outcomes_of, slot_of_outcomes, is_failed_slot}
+use Rattle.gate_types.specs.Slot.{is_blocked, is_cut, are_met_by, counts, outcomes_of, slot_of_outcomes, is_failed_slot}
 use Rattle.gate_types.specs.Standing.{is_failing, are_finished, with_ahead, next_ahead, places_after}
 use Rattle.gate_types.specs.Sweep.{verdict_of, judge, next_staying}
 use Rattle.gate_walk.specs.Walk.{Mark, Carry, is_gone, fails, carried}
@@ -34,7 +35,7 @@ need_landed c n = record { change = n.change; landed = n.landed || c == n.change
 
 -- a place after the landing of an item before it
 abbrev pub landed_place : Item → Place → Place
-landed_place t p = record { landings = p.landings ++ landing_as t ∷ []; ahead = p.ahead; item = p.item; needs = map (need_landed t.change) p.needs; jobs = p.jobs }
+landed_place t p = record { landings = p.landings ++ landing_as t ∷ []; ahead = p.ahead; item = p.item; needs = map (need_landed t.change) p.needs; jobs = p.jobs; fast = p.fast }
 
 -- an item behind the one that lands; its builds began on landings that were there
 pub record BehindAt (t : Item) (bs : List Build) (p : Place) : Type 0 where
@@ -107,6 +108,10 @@ same_outcomes t ahead p job bs h e = ap (λ (l : List Build). map (λ (b : Build
 pub same_failing : (t : Item) (ahead : List Item) (p : Place) (bs : List Build) → BehindAt t bs p → is_failing bs (with_ahead ahead (landed_place t p)) ≡ is_failing bs (with_ahead (t ∷ ahead) p)
 same_failing t ahead p bs h =
     λ i. same_blocked t ahead p i || list_any (λ j. j.voting && is_failed_slot (slot_of_outcomes (same_outcomes t ahead p j bs h.higher h.began i))) p.jobs
+
+pub same_cut : (t : Item) (ahead : List Item) (p : Place) (bs : List Build) → BehindAt t bs p → is_cut bs (with_ahead ahead (landed_place t p)) ≡ is_cut bs (with_ahead (t ∷ ahead) p)
+same_cut t ahead p bs h =
+    λ i. p.fast && not (same_blocked t ahead p i) && list_any (λ j. j.voting && is_failed_slot (slot_of_outcomes (same_outcomes t ahead p j bs h.higher h.began i))) p.jobs
 
 still_count : (t : Item) (ahead : List Item) (p : Place) (bs : List Build) → nat_lt t.serial p.item.serial ≡ true → list_all (λ b. not (is_live_of p b) || nat_le b.after (length p.landings)) bs ≡ true →
     all_count bs (with_ahead (t ∷ ahead) p) ≡ true → all_count bs (with_ahead ahead (landed_place t p)) ≡ true
@@ -201,6 +206,7 @@ quiet_at stand bs t r before rest ahead p w h q =
     let new = with_ahead (r ∷ ahead) (landed_place t p) in
     record {
       counting = still_count t (r ∷ ahead) p bs h.higher h.began q.counting;
+      ended = λ u. q.ended (sym (same_cut t (r ∷ ahead) p bs h) ∙ u);
       stays = none_from bs rest new (met_without t before rest p.needs w (none_parts bs before (with_ahead (t ∷ r ∷ ahead) p) q.stays).0) (not_first (is_failing bs new) (not (is_blocked new)) (are_finished bs new) r ahead);
       standing = q.standing ∙ ap Some (sym (same_failing t (r ∷ ahead) p bs h));
       fresh = (or_parts (has_change rest p.item.change) (t.change == p.item.change) (sym (w.split p.item.change) ∙ q.fresh)).0;
@@ -256,9 +262,9 @@ abbrev pub passing : List ℕ → List Mark → ℕ → ℕ → Carry
 passing gone marks n w = record { resets = false; passes = true; ahead = None; gone = gone; marks = marks; reports = n; window = w }
 
 -- it asks for each row up to the next non-failing item, and then follows the needs
-abbrev pub Passes : List ℕ → ℕ → (ℕ → Option Bool) → List Build → Item → List Item → List Place → Type 0
-Passes name floor stand bs t rest ps = (gone : List ℕ) (marks : List Mark) (n w : ℕ) (staying : List Item) → Known stand marks gone rest [] staying → Followed gone rest [] staying →
-    (let vs = visits stand bs (landed_place t) (t ∷ []) ps in Right name floor bs n w staying (places_after bs [] (map (landed_place t) ps)) (rows_seen vs) (asked name floor (passing gone marks n w) vs))
+abbrev pub Passes : List ℕ → Bounds → (ℕ → Option Bool) → List Build → Item → List Item → List Place → Type 0
+Passes name bounds stand bs t rest ps = (gone : List ℕ) (marks : List Mark) (n w : ℕ) (staying : List Item) → Known stand marks gone rest [] staying → Followed gone rest [] staying →
+    (let vs = visits stand bs (landed_place t) (t ∷ []) ps in Right name bounds bs n w staying (places_after bs [] (map (landed_place t) ps)) (rows_seen vs) (asked name bounds (passing gone marks n w) vs))
 
 pub followed_next : (gone : List ℕ) (before ahead staying : List Item) (i : Item) (f g : Bool) → (g ≡ true → f ≡ true) → Followed gone before ahead staying → has_change ahead i.change ≡ false → is_gone gone i.change ≡ false →
     Followed (cond g (gone ++ i.change ∷ []) gone) (before ++ i ∷ []) (cond f ahead (ahead ++ i ∷ [])) (cond g staying (staying ++ i ∷ []))
@@ -266,21 +272,22 @@ followed_next gone before ahead staying i true true h fo a n = followed_gone gon
 followed_next gone before ahead staying i false true h fo a n = absurd (true≢false (sym (h refl)))
 followed_next gone before ahead staying i f false h fo a n = followed_kept gone before ahead staying i f fo n
 
-pass_one : (name : List ℕ) (floor : ℕ) (stand : ℕ → Option Bool) (bs : List Build) (t : Item) (before rest : List Item) (p : Place) (ps : List Place) → Without t before rest → Behind t bs (p ∷ ps) → Quiet stand bs before (t ∷ []) (p ∷ ps) →
-    (Quiet stand bs (before ++ p.item ∷ []) (t ∷ []) ps → Passes name floor stand bs t (rest ++ p.item ∷ []) ps) → Passes name floor stand bs t rest (p ∷ ps)
-pass_one name floor stand bs t before rest p ps w h q ih gone marks n win staying kn fo =
+pass_one : (name : List ℕ) (bounds : Bounds) (stand : ℕ → Option Bool) (bs : List Build) (t : Item) (before rest : List Item) (p : Place) (ps : List Place) → Without t before rest → Behind t bs (p ∷ ps) → Quiet stand bs before (t ∷ []) (p ∷ ps) →
+    (Quiet stand bs (before ++ p.item ∷ []) (t ∷ []) ps → Passes name bounds stand bs t (rest ++ p.item ∷ []) ps) → Passes name bounds stand bs t rest (p ∷ ps)
+pass_one name bounds stand bs t before rest p ps w h q ih gone marks n win staying kn fo =
     let k = passing gone marks n win in
     let old = with_ahead (t ∷ []) p in
     let new = with_ahead [] (landed_place t p) in
     let now = landed_place t in
     let v = seen stand bs old (now p) in
-    let k2 = carried floor k v in
+    let k2 = carried bounds k v in
     let met = met_without t before rest p.needs w (none_parts bs before old q.0.stays).0 in
     let counting = still_count t [] p bs h.0.higher h.0.began q.0.counting in
     let fresh = (or_parts (has_change rest p.item.change) (t.change == p.item.change) (sym (w.split p.item.change) ∙ q.0.fresh)).0 in
     let s : Sees bs staying k v new = record {
       same_item = (refl, refl, refl);
       same_jobs = refl;
+      same_fast = refl;
       blocked = blocked_seen stand marks gone rest [] staying new.needs kn met;
       met = met_seen stand marks gone rest [] staying new.needs kn met;
       outcomes = λ job. sym (outcomes_live bs new job counting);
@@ -290,7 +297,7 @@ pass_one name floor stand bs t before rest p ps w h q ih gone marks n win stayin
     } in
     let verdict_is = verdict_seen bs staying k v new s in
     let next = next_staying staying (judge bs staying new) in
-    let known = known_next stand floor bs rest staying k v new s kn fresh (ap is_some q.0.standing) in
+    let known = known_next stand bounds bs rest staying k v new s kn fresh (ap is_some q.0.standing) in
     let followed : Followed k2.gone (rest ++ p.item ∷ []) (next_ahead bs new) next =
     subst (λ (x : Option Verdict). Followed (cond (is_some x) (gone ++ p.item.change ∷ []) gone) (rest ++ p.item ∷ []) (next_ahead bs new) next) (sym verdict_is)
     (followed_next gone rest [] staying p.item (is_failing bs new) (is_some (verdict_of bs staying new)) (goes_failing bs staying new (λ c e. absurd (true≢false (sym e)))) fo refl (kn.not_gone p.item.change fresh)) in
@@ -298,11 +305,11 @@ pass_one name floor stand bs t before rest p ps w h q ih gone marks n win stayin
     let fails_is : fails k v ≡ is_failing bs old = fails_seen bs staying k v new s ∙ mark in
     let goal : List Item → List Item → Bool → Bool → Option ℕ → Type 0 = λ a b x y o.
     (let vs = visits stand bs now b ps in
-    Right name floor bs k2.reports k2.window next (places_after bs a (map now ps)) (rows_seen vs) (asked name floor (record { resets = x; passes = y; ahead = o; gone = k2.gone; marks = k2.marks; reports = k2.reports; window = k2.window }) vs)) in
+    Right name bounds bs k2.reports k2.window next (places_after bs a (map now ps)) (rows_seen vs) (asked name bounds (record { resets = x; passes = y; ahead = o; gone = k2.gone; marks = k2.marks; reports = k2.reports; window = k2.window }) vs)) in
     let from : (f : Bool) → is_failing bs old ≡ f → (g : goal (cond f [] (p.item ∷ [])) (cond f (t ∷ []) (t ∷ p.item ∷ [])) (f && not f) f (cond f None (Some p.item.serial))) →
     goal (next_ahead bs new) (next_ahead bs old) k2.resets k2.passes k2.ahead =
     λ f e g. cast (λ i. goal (cond (sym (mark ∙ e) i) [] (p.item ∷ [])) (cond (sym e i) (t ∷ []) (t ∷ p.item ∷ [])) (sym (fails_is ∙ e) i && not (sym e i)) (sym (fails_is ∙ e) i) (cond (sym (fails_is ∙ e) i) None (Some p.item.serial))) g in
-    right_visit name floor bs staying k v new (places_after bs (next_ahead bs new) (map now ps)) (visits stand bs now (next_ahead bs old) ps) s
+    right_visit name bounds bs staying k v new (places_after bs (next_ahead bs new) (map now ps)) (visits stand bs now (next_ahead bs old) ps) s
     ((elim (is_failing bs old) as (λ f. is_failing bs old ≡ f → goal (next_ahead bs new) (next_ahead bs old) k2.resets k2.passes k2.ahead) [
       | true ↦ λ e. from true e
           (ih (subst (λ (x : Bool). Quiet stand bs (before ++ p.item ∷ []) (cond x (t ∷ []) (t ∷ p.item ∷ [])) ps) e q.1) k2.gone k2.marks k2.reports k2.window next
@@ -312,14 +319,14 @@ pass_one name floor stand bs t before rest p ps w h q ih gone marks n win stayin
           (let vs = visits_landed stand bs t p.item [] ps h.1 in
           let quiet = quiet_landed stand bs t p.item (before ++ p.item ∷ []) (rest ++ p.item ∷ []) [] ps (without_more t before rest p.item w q.0.fresh) h.1
           (subst (λ (x : Bool). Quiet stand bs (before ++ p.item ∷ []) (cond x (t ∷ []) (t ∷ p.item ∷ [])) ps) e q.1) in
-          cast (λ i. Right name floor bs k2.reports k2.window next (places_after bs (p.item ∷ []) (map now ps)) (rows_seen (sym vs i)) (asked name floor (needing (Some p.item.serial) k2.gone k2.marks k2.reports k2.window) (sym vs i)))
-          (follow name floor stand bs (rest ++ p.item ∷ []) (p.item ∷ []) (map now ps) quiet (Some p.item.serial) k2.gone k2.marks k2.reports k2.window next
+          cast (λ i. Right name bounds bs k2.reports k2.window next (places_after bs (p.item ∷ []) (map now ps)) (rows_seen (sym vs i)) (asked name bounds (needing (Some p.item.serial) k2.gone k2.marks k2.reports k2.window) (sym vs i)))
+          (follow name bounds stand bs (rest ++ p.item ∷ []) (p.item ∷ []) (map now ps) quiet (Some p.item.serial) k2.gone k2.marks k2.reports k2.window next
           (subst (λ (x : Bool). Known stand k2.marks k2.gone (rest ++ p.item ∷ []) (cond x [] (p.item ∷ [])) next) (mark ∙ e) known)
           (subst (λ (x : Bool). Followed k2.gone (rest ++ p.item ∷ []) (cond x [] (p.item ∷ [])) next) (mark ∙ e) followed)))
     ]) refl)
 
-pub pass : (name : List ℕ) (floor : ℕ) (stand : ℕ → Option Bool) (bs : List Build) (t : Item) (before rest : List Item) (ps : List Place) → Without t before rest → Behind t bs ps → Quiet stand bs before (t ∷ []) ps → Passes name floor stand bs t rest ps
-pass name floor stand bs t before rest [] w h q = λ gone marks n win staying kn fo. tt
-pass name floor stand bs t before rest (p ∷ ps) w h q =
-    pass_one name floor stand bs t before rest p ps w h q
-    (λ more. pass name floor stand bs t (before ++ p.item ∷ []) (rest ++ p.item ∷ []) ps (without_more t before rest p.item w q.0.fresh) h.1 more)
+pub pass : (name : List ℕ) (bounds : Bounds) (stand : ℕ → Option Bool) (bs : List Build) (t : Item) (before rest : List Item) (ps : List Place) → Without t before rest → Behind t bs ps → Quiet stand bs before (t ∷ []) ps → Passes name bounds stand bs t rest ps
+pass name bounds stand bs t before rest [] w h q = λ gone marks n win staying kn fo. tt
+pass name bounds stand bs t before rest (p ∷ ps) w h q =
+    pass_one name bounds stand bs t before rest p ps w h q
+    (λ more. pass name bounds stand bs t (before ++ p.item ∷ []) (rest ++ p.item ∷ []) ps (without_more t before rest p.item w q.0.fresh) h.1 more)

@@ -6,6 +6,7 @@ use Rattle.std.proofs.lemmas.Bool.{and_parts, eqb-true, ne_eqb}
 use Rattle.std.proofs.lemmas.List.Folds.{list_any-append}
 use Rattle.std.proofs.lemmas.Option.{slice_get-get_or}
 use Rattle.std.proofs.Math.Seq.{get_or-append_seam}
+use Rattle.gate_types.specs.Window.{Bounds}
 use Rattle.gate_types.specs.declared.records.Build.{Build}
 use Rattle.gate_types.specs.declared.records.Item.{Item as ItemRow}
 use Rattle.gate_types.specs.declared.records.Verdict.{Verdict}
@@ -13,35 +14,35 @@ use Rattle.gate_types.specs.declared.records.Verdict.TheVariants as verdict
 use Rattle.gate_types.specs.declared.edits.Edit.{Edit}
 use Rattle.gate_types.specs.State.{Item, has_change}
 use Rattle.gate_types.specs.Line.{Place}
-use Rattle.gate_types.specs.Slot.{are_met_by, counts, is_running}
+use Rattle.gate_types.specs.Slot.{are_met_by, counts, is_running, is_cut}
 use Rattle.gate_types.specs.Standing.{is_failing, with_ahead, next_ahead, places_after}
 use Rattle.gate_types.specs.Sweep.{verdict_of, has_failed, judge, next_staying}
 use Rattle.gate_types.specs.Rows.{row_of}
 use Rattle.gate_queue.specs.Edits.{stops, next_reports, window_behind}
 use Rattle.gate_walk.specs.Walk.{Seen, Mark, Carry, fails, verdict_by, window_edits_by, visit_edits, carried, asks_for}
-use Rattle.gate_walk.proofs.Slots.{is_live_of, live_of, all_count, Lost, counts_no_more, none_counts}
+use Rattle.gate_walk.proofs.Slots.{is_live_of, live_of, all_count, all_ended, EndedIfCut, Lost, counts_no_more, none_counts}
 use Rattle.gate_walk.proofs.Steps.{seen, Known, Sees, known_visited, blocked_seen, met_seen, fails_seen, verdict_seen, edits_for, edits_seen}
 
 -- ---- what a walk has to give, row by row
 
 -- the edits of a row that is asked for are those of a look at the whole queue, but for a row that stays as it is
 -- stored; a row that isn't asked for does
-abbrev pub RightAt : List ℕ → ℕ → List Build → ℕ → ℕ → List Item → Place → ItemRow → Option (List Edit) → Type 0
-RightAt name floor bs n w staying p i (Some edits) = edits ≡ edits_for name bs n staying p i ++ window_edits_by name floor w (verdict_of bs staying p)
-RightAt name floor bs n w staying p i None = (i ≡ row_of bs p) × (verdict_of bs staying p ≡ None) × (filter (stops p false) bs ≡ [])
+abbrev pub RightAt : List ℕ → Bounds → List Build → ℕ → ℕ → List Item → Place → ItemRow → Option (List Edit) → Type 0
+RightAt name bounds bs n w staying p i (Some edits) = edits ≡ edits_for name bs n staying p i ++ window_edits_by name bounds w (verdict_of bs staying p)
+RightAt name bounds bs n w staying p i None = (i ≡ row_of bs p) × (verdict_of bs staying p ≡ None) × (filter (stops p (is_cut bs p)) bs ≡ [])
 
 -- so it is with each row, behind that many reports, under that window
-abbrev pub Right : List ℕ → ℕ → List Build → ℕ → ℕ → List Item → List Place → List ItemRow → List (Option (List Edit)) → Type 0
-Right name floor bs n w staying [] [] [] = Unit {0}
-Right name floor bs n w staying (p ∷ ps) (i ∷ is) (e ∷ es) =
-    RightAt name floor bs n w staying p i e ×
-    Right name floor bs (next_reports n (verdict_of bs staying p)) (window_behind floor w (verdict_of bs staying p)) (next_staying staying (judge bs staying p)) ps is es
-Right name floor bs n w staying _ _ _ = ⊥
+abbrev pub Right : List ℕ → Bounds → List Build → ℕ → ℕ → List Item → List Place → List ItemRow → List (Option (List Edit)) → Type 0
+Right name bounds bs n w staying [] [] [] = Unit {0}
+Right name bounds bs n w staying (p ∷ ps) (i ∷ is) (e ∷ es) =
+    RightAt name bounds bs n w staying p i e ×
+    Right name bounds bs (next_reports n (verdict_of bs staying p)) (window_behind bounds w (verdict_of bs staying p)) (next_staying staying (judge bs staying p)) ps is es
+Right name bounds bs n w staying _ _ _ = ⊥
 
 -- the edits of each row that is asked for
-abbrev pub asked : List ℕ → ℕ → Carry → List Seen → List (Option (List Edit))
-asked name floor k [] = []
-asked name floor k (v ∷ vs) = cond (asks_for k v) (Some (visit_edits name floor k v) ∷ asked name floor (carried floor k v) vs) (None ∷ asked name floor k vs)
+abbrev pub asked : List ℕ → Bounds → Carry → List Seen → List (Option (List Edit))
+asked name bounds k [] = []
+asked name bounds k (v ∷ vs) = cond (asks_for k v) (Some (visit_edits name bounds k v) ∷ asked name bounds (carried bounds k v) vs) (None ∷ asked name bounds k vs)
 
 abbrev pub rows_seen : List Seen → List ItemRow
 rows_seen vs = map (λ v. v.row) vs
@@ -119,12 +120,41 @@ stop_running (b ∷ bs) p going h =
     one_stop (λ c. going && is_running c.outcome) b (is_live_of p b) (live_of bs p) (filter (stops p going) bs) (stop_running bs p going both.1)
     ∙ ap (λ t. cond t (b ∷ filter (stops p going) bs) (filter (stops p going) bs)) (table b.live (b.serial == p.item.serial) (counts p b) (going && is_running b.outcome) both.0)
 
+-- none stops of an item that stays, where no build still runs for it once it is cut
+pub none_stop : (bs : List Build) (p : Place) → all_count bs p ≡ true → EndedIfCut bs p → filter (stops p (is_cut bs p)) bs ≡ []
+none_stop bs p h e = by_cut (is_cut bs p) refl
+  where
+    never : (cs : List Build) → filter (λ b. false && is_running b.outcome) cs ≡ []
+    never [] = refl
+    never (c ∷ cs) = never cs
+
+    one : (b : Build) (l r : Bool) (f : List Build) → not l || not r ≡ true → cond l (cond r (b ∷ f) f) f ≡ f
+    one b false r f k = refl
+    one b true false f k = refl
+    one b true true f k = absurd (true≢false (sym k))
+
+    push : (b : Build) (l : Bool) (f : List Build) → filter (λ x. true && is_running x.outcome) (cond l (b ∷ f) f) ≡ cond l (cond (is_running b.outcome) (b ∷ filter (λ x. true && is_running x.outcome) f) (filter (λ x. true && is_running x.outcome) f)) (filter (λ x. true && is_running x.outcome) f)
+    push b true f = refl
+    push b false f = refl
+
+    ended : (cs : List Build) → all_ended cs p ≡ true → filter (λ b. true && is_running b.outcome) (live_of cs p) ≡ []
+    ended [] k = refl
+    ended (c ∷ cs) k =
+        let both = and_parts (not (is_live_of p c) || not (is_running c.outcome)) (all_ended cs p) k in
+        push c (is_live_of p c) (live_of cs p)
+        ∙ one c (is_live_of p c) (is_running c.outcome) (filter (λ b. true && is_running b.outcome) (live_of cs p)) both.0
+        ∙ ended cs both.1
+
+    by_cut : (t : Bool) → is_cut bs p ≡ t → filter (stops p t) bs ≡ []
+    by_cut false k = sym (stop_running bs p false h) ∙ never (live_of bs p)
+    by_cut true k = sym (stop_running bs p true h) ∙ ended bs (e k)
+
 -- ---- behind a visit
 
-pub known_next : (stand : ℕ → Option Bool) (floor : ℕ) (bs : List Build) (before staying : List Item) (k : Carry) (v : Seen) (p : Place) → Sees bs staying k v p →
+pub known_next : (stand : ℕ → Option Bool) (bounds : Bounds) (bs : List Build) (before staying : List Item) (k : Carry) (v : Seen) (p : Place) → Sees bs staying k v p →
     Known stand k.marks k.gone before p.ahead staying → has_change before p.item.change ≡ false → is_some (stand p.item.change) ≡ true →
-    Known stand (carried floor k v).marks (carried floor k v).gone (before ++ p.item ∷ []) (next_ahead bs p) (next_staying staying (judge bs staying p))
-known_next stand floor bs before staying k v p s kn fresh there =
+    Known stand (carried bounds k v).marks (carried bounds k v).gone (before ++ p.item ∷ []) (next_ahead bs p) (next_staying staying (judge bs staying p))
+known_next stand bounds bs before staying k v p s kn fresh there =
     let base = known_visited stand k.marks k.gone before p.ahead staying p.item (is_failing bs p) (is_some (verdict_of bs staying p)) kn fresh there in
     let after : Option Verdict → Bool → ℕ → Type 0 = λ w f c.
     Known stand (k.marks ++ record { change = c; failing = f } ∷ []) (cond (is_some w) (k.gone ++ c ∷ []) k.gone) (before ++ p.item ∷ []) (next_ahead bs p) (next_staying staying (judge bs staying p)) in
@@ -132,24 +162,24 @@ known_next stand floor bs before staying k v p s kn fresh there =
     (subst (λ (w : Option Verdict). after w (fails k v) p.item.change) (sym (verdict_seen bs staying k v p s))
     (subst (λ (f : Bool). after (verdict_of bs staying p) f p.item.change) (sym (fails_seen bs staying k v p s)) base))
 
-pub ahead_next : (floor : ℕ) (bs : List Build) (staying : List Item) (k : Carry) (v : Seen) (p : Place) → Sees bs staying k v p → (carried floor k v).ahead ≡ last_serial (next_ahead bs p)
-ahead_next floor bs staying k v p s =
+pub ahead_next : (bounds : Bounds) (bs : List Build) (staying : List Item) (k : Carry) (v : Seen) (p : Place) → Sees bs staying k v p → (carried bounds k v).ahead ≡ last_serial (next_ahead bs p)
+ahead_next bounds bs staying k v p s =
     (λ i. cond (fails_seen bs staying k v p s i) k.ahead (Some (s.same_item.0 i)))
     ∙ last_next p.ahead p.item k.ahead (is_failing bs p) s.ahead
 
 -- a row that is asked for, where the visit sees what is so
-pub right_at : (name : List ℕ) (floor : ℕ) (bs : List Build) (staying : List Item) (k : Carry) (v : Seen) (p : Place) → Sees bs staying k v p →
-    RightAt name floor bs k.reports k.window staying p v.row (Some (visit_edits name floor k v))
-right_at name floor bs staying k v p s =
-    λ i. edits_seen name bs staying k v p s i ++ window_edits_by name floor k.window (verdict_seen bs staying k v p s i)
+pub right_at : (name : List ℕ) (bounds : Bounds) (bs : List Build) (staying : List Item) (k : Carry) (v : Seen) (p : Place) → Sees bs staying k v p →
+    RightAt name bounds bs k.reports k.window staying p v.row (Some (visit_edits name bounds k v))
+right_at name bounds bs staying k v p s =
+    λ i. edits_seen name bs staying k v p s i ++ window_edits_by name bounds k.window (verdict_seen bs staying k v p s i)
 
 -- and all behind it
-pub right_visit : (name : List ℕ) (floor : ℕ) (bs : List Build) (staying : List Item) (k : Carry) (v : Seen) (p : Place) (ps : List Place) (vs : List Seen) → Sees bs staying k v p →
-    Right name floor bs (carried floor k v).reports (carried floor k v).window (next_staying staying (judge bs staying p)) ps (rows_seen vs) (asked name floor (carried floor k v) vs) →
-    Right name floor bs k.reports k.window staying (p ∷ ps) (rows_seen (v ∷ vs)) (Some (visit_edits name floor k v) ∷ asked name floor (carried floor k v) vs)
-right_visit name floor bs staying k v p ps vs s h = (
-  right_at name floor bs staying k v p s,
-  subst (λ (w : Option Verdict). Right name floor bs (next_reports k.reports w) (window_behind floor k.window w) (next_staying staying (judge bs staying p)) ps (rows_seen vs) (asked name floor (carried floor k v) vs))
+pub right_visit : (name : List ℕ) (bounds : Bounds) (bs : List Build) (staying : List Item) (k : Carry) (v : Seen) (p : Place) (ps : List Place) (vs : List Seen) → Sees bs staying k v p →
+    Right name bounds bs (carried bounds k v).reports (carried bounds k v).window (next_staying staying (judge bs staying p)) ps (rows_seen vs) (asked name bounds (carried bounds k v) vs) →
+    Right name bounds bs k.reports k.window staying (p ∷ ps) (rows_seen (v ∷ vs)) (Some (visit_edits name bounds k v) ∷ asked name bounds (carried bounds k v) vs)
+right_visit name bounds bs staying k v p ps vs s h = (
+  right_at name bounds bs staying k v p s,
+  subst (λ (w : Option Verdict). Right name bounds bs (next_reports k.reports w) (window_behind bounds k.window w) (next_staying staying (judge bs staying p)) ps (rows_seen vs) (asked name bounds (carried bounds k v) vs))
       (verdict_seen bs staying k v p s) h,
 )
 
@@ -158,6 +188,7 @@ right_visit name floor bs staying k v p ps vs s h = (
 -- an item of a settled state, its row right
 pub record QuietAt (stand : ℕ → Option Bool) (bs : List Build) (before : List Item) (p : Place) : Type 0 where
   pub counting : all_count bs p ≡ true
+  pub ended : EndedIfCut bs p
   pub stays : verdict_of bs before p ≡ None
   pub standing : stand p.item.change ≡ Some (is_failing bs p)
   pub fresh : has_change before p.item.change ≡ false
@@ -186,13 +217,13 @@ in_more : (xs : List Item) (i : Item) (n : ℕ) → has_change xs n ≡ true →
 in_more xs i n h = list_any-append (λ (j : Item). j.change == n) xs (i ∷ []) ∙ ap (λ t. t || (i.change == n || false)) h
 
 -- a change that lost its place in the lines: each of them has changed, down to the last
-pub reset : (name : List ℕ) (floor : ℕ) (stand : ℕ → Option Bool) (bs : List Build) (t : ℕ) (passes : Bool) (a : Option ℕ) (gone : List ℕ) (marks : List Mark) (n w : ℕ) (before was ahead staying : List Item) (ps : List Place) →
+pub reset : (name : List ℕ) (bounds : Bounds) (stand : ℕ → Option Bool) (bs : List Build) (t : ℕ) (passes : Bool) (a : Option ℕ) (gone : List ℕ) (marks : List Mark) (n w : ℕ) (before was ahead staying : List Item) (ps : List Place) →
     Known stand marks gone before ahead staying → a ≡ last_serial ahead → has_change before t ≡ true → has_change was t ≡ true → has_change ahead t ≡ false →
     Quiet stand bs before was ps → NotLanded t ps →
-    Right name floor bs n w staying (places_after bs ahead ps) (rows_seen (visits stand bs same was ps))
-    (asked name floor (record { resets = true; passes = passes; ahead = a; gone = gone; marks = marks; reports = n; window = w }) (visits stand bs same was ps))
-reset name floor stand bs t passes a gone marks n w before was ahead staying [] kn ea tb tw ta q l = tt
-reset name floor stand bs t passes a gone marks n w before was ahead staying (p ∷ ps) kn ea tb tw ta q l =
+    Right name bounds bs n w staying (places_after bs ahead ps) (rows_seen (visits stand bs same was ps))
+    (asked name bounds (record { resets = true; passes = passes; ahead = a; gone = gone; marks = marks; reports = n; window = w }) (visits stand bs same was ps))
+reset name bounds stand bs t passes a gone marks n w before was ahead staying [] kn ea tb tw ta q l = tt
+reset name bounds stand bs t passes a gone marks n w before was ahead staying (p ∷ ps) kn ea tb tw ta q l =
     let k : Carry = record { resets = true; passes = passes; ahead = a; gone = gone; marks = marks; reports = n; window = w } in
     let old = with_ahead was p in
     let new = with_ahead ahead p in
@@ -204,6 +235,7 @@ reset name floor stand bs t passes a gone marks n w before was ahead staying (p 
     let s : Sees bs staying k v new = record {
       same_item = (refl, refl, refl);
       same_jobs = refl;
+      same_fast = refl;
       blocked = blocked_seen stand marks gone before ahead staying p.needs kn parts.0;
       met = met_seen stand marks gone before ahead staying p.needs kn parts.0;
       outcomes = λ job. sym (none_counts bs t old new lost own.counting job);
@@ -212,11 +244,11 @@ reset name floor stand bs t passes a gone marks n w before was ahead staying (p 
       first = ap (λ o. not (is_some o)) ea ∙ first_last ahead;
     } in
     let next = next_ahead bs new in
-    let k2 = carried floor k v in
-    right_visit name floor bs staying k v new (places_after bs next ps) (visits stand bs same (next_ahead bs old) ps) s
-    (reset name floor stand bs t k2.passes k2.ahead k2.gone k2.marks k2.reports k2.window (before ++ p.item ∷ []) (next_ahead bs old) next (next_staying staying (judge bs staying new)) ps
-    (known_next stand floor bs before staying k v new s kn own.fresh (ap is_some own.standing))
-    (ahead_next floor bs staying k v new s)
+    let k2 = carried bounds k v in
+    right_visit name bounds bs staying k v new (places_after bs next ps) (visits stand bs same (next_ahead bs old) ps) s
+    (reset name bounds stand bs t k2.passes k2.ahead k2.gone k2.marks k2.reports k2.window (before ++ p.item ∷ []) (next_ahead bs old) next (next_staying staying (judge bs staying new)) ps
+    (known_next stand bounds bs before staying k v new s kn own.fresh (ap is_some own.standing))
+    (ahead_next bounds bs staying k v new s)
     (in_more before p.item t tb)
     (stays_in (is_failing bs old) tw)
     (stays_out (is_failing bs new) other)

@@ -11,8 +11,8 @@ use Rattle.gate_types.specs.declared.records.Landing.{Landing}
 use Rattle.gate_types.specs.Names.{same_name}
 use Rattle.gate_types.specs.State.{Item, has_change}
 use Rattle.gate_types.specs.Line.{Place, same_entries, line, ran_on, landings_below, landed_entry, item_entry}
-use Rattle.gate_types.specs.Slot.{is_blocked, counts, outcomes_of}
-use Rattle.gate_walk.specs.Walk.{outcomes_among}
+use Rattle.gate_types.specs.Slot.{is_blocked, is_running, counts, is_cut, is_wanted, outcomes_of}
+use Rattle.gate_queue.specs.Outcomes.{outcomes_among}
 
 -- a live build of the item
 abbrev pub is_live_of : Place → Build → Bool
@@ -25,6 +25,44 @@ live_of bs p = filter (is_live_of p) bs
 -- each of them counts
 abbrev pub all_count : List Build → Place → Bool
 all_count bs p = list_all (λ b. not (is_live_of p b) || counts p b) bs
+
+-- each of them has ended
+abbrev pub all_ended : List Build → Place → Bool
+all_ended bs p = list_all (λ b. not (is_live_of p b) || not (is_running b.outcome)) bs
+
+-- where the item is cut, each of them has
+abbrev pub EndedIfCut : List Build → Place → Type 0
+EndedIfCut bs p = is_cut bs p ≡ true → all_ended bs p ≡ true
+
+-- where each of them is wanted, each counts
+pub wanted_all_count : (cs bs : List Build) (p : Place) → list_all (λ b. not (is_live_of p b) || is_wanted cs p b) bs ≡ true →
+    all_count bs p ≡ true
+wanted_all_count cs [] p h = refl
+wanted_all_count cs (b ∷ bs) p h =
+    let both = and_parts (not (is_live_of p b) || is_wanted cs p b) (list_all (λ x. not (is_live_of p x) || is_wanted cs p x) bs) h in
+    and_from (not (is_live_of p b) || counts p b) (all_count bs p) (less (is_live_of p b) (counts p b) (not (is_running b.outcome && is_cut cs p)) both.0)
+    (wanted_all_count cs bs p both.1)
+  where
+    less : (l x y : Bool) → not l || x && y ≡ true → not l || x ≡ true
+    less false x y k = refl
+    less true true y k = refl
+    less true false y k = k
+
+-- and where the item is cut, each has ended
+pub wanted_all_ended : (cs bs : List Build) (p : Place) → list_all (λ b. not (is_live_of p b) || is_wanted cs p b) bs ≡ true →
+    is_cut cs p ≡ true → all_ended bs p ≡ true
+wanted_all_ended cs [] p h u = refl
+wanted_all_ended cs (b ∷ bs) p h u =
+    let both = and_parts (not (is_live_of p b) || is_wanted cs p b) (list_all (λ x. not (is_live_of p x) || is_wanted cs p x) bs) h in
+    and_from (not (is_live_of p b) || not (is_running b.outcome)) (all_ended bs p)
+    (ends (is_live_of p b) (counts p b) (is_running b.outcome) (ap (λ t. not (is_live_of p b) || counts p b && not (is_running b.outcome && t)) (sym u) ∙ both.0))
+    (wanted_all_ended cs bs p both.1 u)
+  where
+    ends : (l x r : Bool) → not l || x && not (r && true) ≡ true → not l || not r ≡ true
+    ends false x r k = refl
+    ends true x false k = refl
+    ends true true true k = k
+    ends true false true k = k
 
 count_all : (l s n q : Bool) → not (l && s) || l && s && n && q ≡ true → l && s && n && q ≡ (l && s)
 count_all true true n q h = h

@@ -13,17 +13,19 @@ use Rattle.gate_types.specs.declared.edits.Edit.{Edit}
 use Rattle.gate_types.specs.declared.edits.Edit.TheVariants as edit
 use Rattle.gate_types.specs.State.{Item, has_change}
 use Rattle.gate_types.specs.Line.{Place}
-use Rattle.gate_types.specs.Slot.{is_blocked, are_met_by, outcomes_of, slot_of_outcomes, is_failed_slot, is_finished, is_running}
+use Rattle.gate_types.specs.Slot.{is_blocked, are_met_by, outcomes_of, slot_of_outcomes, is_failed_slot, is_finished, is_running, is_cut}
 use Rattle.gate_types.specs.Standing.{is_failing, are_finished, ahead_of}
 use Rattle.gate_types.specs.Sweep.{verdict_of}
 use Rattle.gate_types.specs.Rows.{row_of}
 use Rattle.gate_queue.specs.Edits.{stops, stop_edits}
-use Rattle.gate_walk.specs.Walk.{slot_among, SeenNeed, Seen, Mark, Carry, mark_of, is_fine, is_gone, is_blocked_by, are_met_without, still_counting, outcomes_among, fails, verdict_by, row_by, row_edits, stopped_by}
+use Rattle.gate_queue.specs.Outcomes.{outcomes_among}
+use Rattle.gate_walk.specs.Walk.{SeenNeed, Seen, Mark, Carry, mark_of, is_fine, is_gone, is_blocked_by, are_met_without, still_counting, fails, cuts, is_done_by, verdict_by, row_by, row_edits, stopped_by}
+use Rattle.gate_laws.proofs.Cuts.{finished_is}
 use Rattle.gate_walk.proofs.Slots.{live_of}
 
 -- whether each of its slots is finished
 abbrev pub is_done : Carry → Seen → Bool
-is_done k v = list_all (λ j. is_finished (slot_among (still_counting k v) j)) v.jobs
+is_done k v = is_done_by v.fast k.marks v.needs v.jobs (still_counting k v)
 
 -- a need as a visit sees it
 abbrev pub seen_need : (ℕ → Option Bool) → Need → SeenNeed
@@ -31,7 +33,7 @@ seen_need stand n = record { change = n.change; landed = n.landed; standing = st
 
 -- an item as a visit sees it: its row by an earlier place, all else by the place that it has now
 abbrev pub seen : (ℕ → Option Bool) → List Build → Place → Place → Seen
-seen stand bs old new = record { row = row_of bs old; needs = map (seen_need stand) new.needs; jobs = new.jobs; builds = live_of bs new }
+seen stand bs old new = record { row = row_of bs old; needs = map (seen_need stand) new.needs; jobs = new.jobs; fast = new.fast; builds = live_of bs new }
 
 -- what the walk knows of the items before is right: which of them are non-failing, and which of them stay
 pub record Known (stand : ℕ → Option Bool) (marks : List Mark) (gone : List ℕ) (before ahead staying : List Item) : Type 0 where
@@ -211,6 +213,7 @@ met_seen stand marks gone before ahead staying (n ∷ ns) k h =
 pub record Sees (bs : List Build) (staying : List Item) (k : Carry) (v : Seen) (p : Place) : Type 0 where
   pub same_item : (v.row.serial ≡ p.item.serial) × (v.row.change ≡ p.item.change) × (v.row.revision ≡ p.item.revision)
   pub same_jobs : v.jobs ≡ p.jobs
+  pub same_fast : v.fast ≡ p.fast
   pub blocked : is_blocked_by k.marks v.needs ≡ is_blocked p
   pub met : are_met_without k.gone v.needs ≡ are_met_by staying p.needs
   pub outcomes : (job : Job) → outcomes_among (still_counting k v) job ≡ outcomes_of bs p job
@@ -222,8 +225,14 @@ pub fails_seen : (bs : List Build) (staying : List Item) (k : Carry) (v : Seen) 
 fails_seen bs staying k v p s =
     λ i. s.blocked i || list_any (λ j. j.voting && is_failed_slot (slot_of_outcomes (s.outcomes j i))) (s.same_jobs i)
 
+pub cut_seen : (bs : List Build) (staying : List Item) (k : Carry) (v : Seen) (p : Place) → Sees bs staying k v p → cuts k v ≡ is_cut bs p
+cut_seen bs staying k v p s =
+    λ i. s.same_fast i && not (s.blocked i) && list_any (λ j. j.voting && is_failed_slot (slot_of_outcomes (s.outcomes j i))) (s.same_jobs i)
+
 done_seen : (bs : List Build) (staying : List Item) (k : Carry) (v : Seen) (p : Place) → Sees bs staying k v p → is_done k v ≡ are_finished bs p
-done_seen bs staying k v p s = λ i. list_all (λ j. is_finished (slot_of_outcomes (s.outcomes j i))) (s.same_jobs i)
+done_seen bs staying k v p s =
+    (λ i. cut_seen bs staying k v p s i || list_all (λ j. is_finished (slot_of_outcomes (s.outcomes j i))) (s.same_jobs i))
+    ∙ sym (finished_is bs p)
 
 pub verdict_seen : (bs : List Build) (staying : List Item) (k : Carry) (v : Seen) (p : Place) → Sees bs staying k v p → verdict_by k v ≡ verdict_of bs staying p
 verdict_seen bs staying k v p s =
@@ -235,12 +244,13 @@ row_seen bs staying k v p s = λ i. record { serial = s.same_item.0 i; change = 
 -- what a look at the whole queue makes of an item whose row is stored so
 abbrev pub edits_for : List ℕ → List Build → ℕ → List Item → Place → ItemRow → List Edit
 edits_for name bs n staying p i =
-    stop_edits bs p (is_some (verdict_of bs staying p)) ++ row_edits name n i (row_of bs p) (verdict_of bs staying p)
+    stop_edits bs p (is_some (verdict_of bs staying p) || is_cut bs p) ++ row_edits name n i (row_of bs p) (verdict_of bs staying p)
 
 -- its edits are these
 pub edits_seen : (name : List ℕ) (bs : List Build) (staying : List Item) (k : Carry) (v : Seen) (p : Place) → Sees bs staying k v p →
     map (λ b. edit.StopBuild b.number) (stopped_by k v) ++ row_edits name k.reports v.row (row_by k v) (verdict_by k v) ≡ edits_for name bs k.reports staying p v.row
 edits_seen name bs staying k v p s =
     let same = verdict_seen bs staying k v p s in
-    (λ i. map (λ b. edit.StopBuild b.number) (filter (λ b. k.resets || is_some (same i) && is_running b.outcome) v.builds) ++ row_edits name k.reports v.row (row_seen bs staying k v p s i) (same i))
-    ∙ (λ i. map (λ b. edit.StopBuild b.number) (s.stopping (is_some (verdict_of bs staying p)) i) ++ row_edits name k.reports v.row (row_of bs p) (verdict_of bs staying p))
+    let cut = cut_seen bs staying k v p s in
+    (λ i. map (λ b. edit.StopBuild b.number) (filter (λ b. k.resets || (is_some (same i) || cut i) && is_running b.outcome) v.builds) ++ row_edits name k.reports v.row (row_seen bs staying k v p s i) (same i))
+    ∙ (λ i. map (λ b. edit.StopBuild b.number) (s.stopping (is_some (verdict_of bs staying p) || is_cut bs p) i) ++ row_edits name k.reports v.row (row_of bs p) (verdict_of bs staying p))

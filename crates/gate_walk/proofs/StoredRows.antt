@@ -7,7 +7,7 @@ use Rattle.std.proofs.lemmas.List.Folds.{list_any-append}
 use Rattle.gate_types.specs.declared.records.Build.{Build}
 use Rattle.gate_types.specs.declared.records.Item.{Item as ItemRow}
 use Rattle.gate_types.specs.Settings.{Settings}
-use Rattle.gate_types.specs.State.{Item, State, has_change, project_of}
+use Rattle.gate_types.specs.State.{Item, State, has_change, plan_of}
 use Rattle.gate_types.specs.Line.{Place}
 use Rattle.gate_types.specs.Standing.{with_ahead, next_ahead, places_after, needs_of}
 use Rattle.gate_types.specs.Rows.{row_of}
@@ -35,6 +35,7 @@ restand old stand bs tail before ahead (p ∷ ps) h q =
     let rest = map (row_of bs) (places_after bs (next_ahead bs at) ps) ++ tail in (
       record {
         counting = q.0.counting;
+        ended = q.0.ended;
         stays = q.0.stays;
         standing = h p.item.change q.0.fresh ∙ ap (λ x. option_map (λ (y : ItemRow). y.failing) (cond x (Some (row_of bs at)) (find (λ y. y.change == p.item.change) rest))) (eq-eqb p.item.change p.item.change refl);
         fresh = q.0.fresh;
@@ -147,15 +148,15 @@ parted bs front p behind was r rb =
 
 -- ---- rows as visits see them
 
--- the needs and jobs that an item has now
+-- the needs and jobs that an item has now, and whether it is to fail fast
 abbrev pub AreNow : Settings → State → (Place → Place) → List Place → Type 0
 AreNow c t now [] = Unit {0}
-AreNow c t now (p ∷ ps) = (needs_of t p.item.change ≡ (now p).needs) × ((project_of c t p.item.change).jobs ≡ (now p).jobs) × ((now p).item.serial ≡ p.item.serial) × AreNow c t now ps
+AreNow c t now (p ∷ ps) = (needs_of t p.item.change ≡ (now p).needs) × ((plan_of t p.item.serial).jobs ≡ (now p).jobs) × ((plan_of t p.item.serial).fast ≡ (now p).fast) × ((now p).item.serial ≡ p.item.serial) × AreNow c t now ps
 
 pub rows_are_seen : (c : Settings) (t : State) (rows : List ItemRow) (now : Place → Place) (was : List Item) (ps : List Place) → AreNow c t now ps →
     map (row_seen c t rows) (map (row_of t.builds) (places_after t.builds was ps)) ≡ visits (standing_in rows) t.builds now was ps
 rows_are_seen c t rows now was [] h = refl
 rows_are_seen c t rows now was (p ∷ ps) h =
     let at = with_ahead was p in
-    λ k. (let one : Seen = record { row = row_of t.builds at; needs = map (seen_need (standing_in rows)) (h.0 k); jobs = h.1 k; builds = filter (λ b. b.live && b.serial == sym h.2 k) t.builds } in one)
-    ∷ rows_are_seen c t rows now (next_ahead t.builds at) ps h.3 k
+    λ k. (let one : Seen = record { row = row_of t.builds at; needs = map (seen_need (standing_in rows)) (h.0 k); jobs = h.1 k; fast = h.2 k; builds = filter (λ b. b.live && b.serial == sym h.3 k) t.builds } in one)
+    ∷ rows_are_seen c t rows now (next_ahead t.builds at) ps h.4 k

@@ -1,18 +1,19 @@
 -- What settling leaves of a touched queue, within the whole state.
-use Rattle.std.proofs.Common.{◌≡◌, ℕ, Bool, true, false, not, ◌&&◌, cond, is_some, List, [], ◌∷◌, map, inl, inr, refl, sym, ap, ◌∙◌, suc, true≢false, append-nil}
+use Rattle.std.proofs.Common.{◌≡◌, ℕ, Bool, true, false, not, ◌&&◌, cond, is_some, List, [], ◌∷◌, map, inl, inr, refl, sym, ap, ◌∙◌, subst, suc, true≢false, append-nil}
 use Rattle.std.specs.Prelude.{filter, flat_map}
 use Rattle.std.specs.List.{list_any}
 use Rattle.std.specs.List.Sorted.{IsStrictlyIncreasing}
 use Rattle.std.proofs.lemmas.Bool.{and_parts, not-true, false_from_ne_true}
 use Rattle.std.proofs.lemmas.List.Concat.{flat_map-cons}
 use Rattle.gate_types.specs.declared.records.Build.{Build}
+use Rattle.gate_types.specs.declared.records.Plan.{Plan}
 use Rattle.gate_types.specs.Names.{same_name}
 use Rattle.gate_types.specs.Settings.{Settings, are_distinct}
 use Rattle.gate_types.specs.State.{Item, Queue, State}
 use Rattle.gate_types.specs.Standing.{with_ahead, next_ahead, places_after, place_of, places}
 use Rattle.gate_types.specs.Rebase.{rebase, with_live, stays_live}
-use Rattle.gate_types.specs.Window.{floor_of}
-use Rattle.gate_types.specs.Sweep.{Judged, verdict_of, judge, judged, judged_after, next_staying, goes, without_runs, swept_queue, sweep}
+use Rattle.gate_types.specs.Window.{bounds_of}
+use Rattle.gate_types.specs.Sweep.{Judged, verdict_of, judge, judged, judged_after, next_staying, goes, without_runs, without_plans, swept_queue, sweep}
 use Rattle.gate_types.specs.Rows.{rows_of}
 use Rattle.gate_laws.specs.Touch.{queues_named, rebase_one, settle_one}
 use Rattle.gate_queue.specs.Settles.{rebased, verdicts, settled_rows}
@@ -20,6 +21,8 @@ use Rattle.gate_queue.specs.Whole.{rows_in, swept_of}
 use Rattle.gate_laws.proofs.Members.{In, to_map, none_from, filter_none}
 use Rattle.gate_laws.proofs.Alone.{same_name_is, same_name_of}
 use Rattle.gate_laws.proofs.AfterRebase.{judged_rebased}
+use Rattle.gate_laws.proofs.Swept.{items_left, staying_items, staying_not}
+use Rattle.gate_laws.proofs.Plans.{plan_stays, replanned}
 use Rattle.gate_queue.proofs.Ordered.{RiseFrom, Tells, place_serial, rises, ahead_rise}
 use Rattle.gate_laws.proofs.Stays.{stayers}
 use Rattle.gate_queue.proofs.Settled.{goes_tells, verdicts_rebased}
@@ -66,22 +69,28 @@ places_left c s q bs ahead staying (i ∷ is) leaves t =
 -- ---- where settling the whole is settling this queue, its rows are those of settling it by itself
 
 pub settled_within : (c : Settings) (t : State) (o : Queue) → In o t.queues → IsStrictlyIncreasing (map (λ i. i.serial) o.items) → queues_named o.name t ≡ o ∷ [] → sweep c (rebase c t) ≡ settle_one o.name c t →
-    settled_rows (floor_of c o) (map (place_of c t o) o.items) t.builds o ≡ rows_in c (sweep c (rebase c t)) (swept_of c t o)
+    settled_rows (bounds_of c o) (map (place_of c t o) o.items) t.builds o ≡ rows_in c (sweep c (rebase c t)) (swept_of c t o)
 settled_within c t o m r named alone =
     let ps = map (place_of c t o) o.items in
-    let floor = floor_of c o in
+    let bounds = bounds_of c o in
     let left_live = rebased ps t.builds in
     let js = verdicts ps left_live in
     let left = without_runs (goes js) left_live in
     let same_js : judged c (rebase c t) o ≡ js = judged_rebased c t o m ∙ sym (verdicts_rebased ps t.builds) in
     let own : flat_map (places c t) (queues_named o.name t) ≡ places c t o = ap (flat_map (places c t)) named ∙ flat_map-cons (places c t) o [] ∙ append-nil (places c t o) in
     let first = rebase_one o.name c t in
-    let lives : first.builds ≡ left_live = λ k. map (λ b. with_live (b.live && stays_live (own k) b) b) t.builds in
+    let lives : first.builds ≡ left_live = λ k. map (λ b. with_live (b.live && stays_live t.builds (own k) b) b) t.builds in
     let told_by : flat_map (judged c first) (queues_named o.name t) ≡ js =
     ap (flat_map (judged c first)) named ∙ flat_map-cons (judged c first) o [] ∙ append-nil (judged c first o) ∙ (λ k. judged_after (lives k) [] (places_after (lives k) [] ps)) in
     let u = sweep c (rebase c t) in
     let builds : u.builds ≡ left = ap (λ (x : State). x.builds) alone ∙ (λ k. without_runs (goes (told_by k)) (lives k)) in
     let told : Tells (goes js) js = goes_tells left_live 0 [] (places_after left_live [] ps) (ahead_rise left_live 0 [] ps (items_rise c t o o.items 0 (rises (λ (i : Item). i.serial) o.items r))) in
     let stay = places_left c t o left_live [] [] o.items (goes js) told in
-    sym ((λ k. rows_of (places_after (builds k) [] (map (place_of c t o) (map (λ j. j.item) (filter (λ j. not (is_some j.verdict)) (same_js k))))) (builds k) (swept_queue floor (same_js k) o))
-    ∙ (λ k. rows_of (places_after left [] (stay k)) left (swept_queue floor js o)))
+    let fewer : List Plan = without_plans (goes js) t.plans in
+    let plans : u.plans ≡ fewer = ap (λ (x : State). x.plans) alone ∙ (λ k. without_plans (goes (told_by k)) t.plans) in
+    let staying : List Item = map (λ j. j.item) (filter (λ j. not (is_some j.verdict)) js) in
+    let stayed : staying ≡ staying_items (goes js) o.items = items_left c t o left_live [] [] o.items (goes js) told in
+    let planned : map (place_of c (record t { plans = fewer }) o) staying ≡ map (place_of c t o) staying =
+    replanned c t fewer o staying (λ i n. plan_stays (goes js) t.plans i.serial (staying_not (goes js) o.items i (subst (In i) stayed n))) in
+    sym ((λ k. rows_of (places_after (builds k) [] (map (place_of c (record t { plans = plans k }) o) (map (λ j. j.item) (filter (λ j. not (is_some j.verdict)) (same_js k))))) (builds k) (swept_queue bounds (same_js k) o))
+    ∙ (λ k. rows_of (places_after left [] ((planned ∙ stay) k)) left (swept_queue bounds js o)))

@@ -5,6 +5,7 @@ use Rattle.std.specs.List.{AllPass}
 use Rattle.std.proofs.lemmas.Bool.{eq-eqb, lt-ltb, le-ltb, eqb-true}
 use Rattle.std.proofs.lemmas.List.{map-append}
 use Rattle.std.proofs.lemmas.List.Folds.{list_any-append}
+use Rattle.gate_types.specs.Window.{Bounds}
 use Rattle.gate_types.specs.declared.config.Job.{Job}
 use Rattle.gate_types.specs.declared.records.Build.{Build}
 use Rattle.gate_types.specs.declared.records.Item.{Item as ItemRow}
@@ -91,11 +92,11 @@ are_now c t s q o now [] h = tt
 are_now c t s q o now (i ∷ is) h =
     let d = place_of c s q i in
     let head : place_of c t o i ≡ now (place_of c s q i) = ap (first_of d) h in
-    (ap (λ (p : Place). p.needs) head, ap (λ (p : Place). p.jobs) head, sym (ap (λ (p : Place). p.item.serial) head), are_now c t s q o now is (ap rest_of h))
+    (ap (λ (p : Place). p.needs) head, ap (λ (p : Place). p.jobs) head, ap (λ (p : Place). p.fast) head, sym (ap (λ (p : Place). p.item.serial) head), are_now c t s q o now is (ap rest_of h))
 
 now_behind : (c : Settings) (t s : State) (q : Queue) (now : Place → Place) (is js : List Item) → AreNow c t now (map (place_of c s q) (is ++ js)) → AreNow c t now (map (place_of c s q) js)
 now_behind c t s q now [] js h = h
-now_behind c t s q now (i ∷ is) js h = now_behind c t s q now is js h.3
+now_behind c t s q now (i ∷ is) js h = now_behind c t s q now is js h.4
 
 map_id : (ps : List Place) → ps ≡ map same ps
 map_id [] = refl
@@ -112,15 +113,15 @@ same_serials (i ∷ is) [] g = absurd g
 same_serials (i ∷ is) (p ∷ ps) g = λ k. g.0 k ∷ same_serials is ps g.1 k
 
 -- what is right row by row is so at the stop, and between two visits
-walks : (floor : ℕ) (o : Queue) (rows : List ItemRow) (cs : List Build) (ps : List Place) (k : Carry) (see : ItemRow → Seen) (last : List ItemRow) → ((r : ItemRow) → (see r).row ≡ r) → Walked o.name floor o.window cs rows ps o.reports k (map see last) →
-    Walks floor o rows cs ps k see last
-walks floor o rows cs ps k see last back h = record {
+walks : (bounds : Bounds) (o : Queue) (rows : List ItemRow) (cs : List Build) (ps : List Place) (k : Carry) (see : ItemRow → Seen) (last : List ItemRow) → ((r : ItemRow) → (see r).row ≡ r) → Walked o.name bounds o.window cs rows ps o.reports k (map see last) →
+    Walks bounds o rows cs ps k see last
+walks bounds o rows cs ps k see last back h = record {
   rows_of_places = same_serials rows ps h.go;
   places_rise = increasing place_serial ps (rising_from place_serial 0 ps h.rise);
-  at_stop = walked_settles o.name floor o.window cs rows o.landings ps o.reports o.items k (map see last) h;
+  at_stop = walked_settles o.name bounds o.window cs rows o.landings ps o.reports o.items k (map see last) h;
   so_far = λ us vs xs ys e ep en.
-      walked_so_far o.name floor o.window cs rows o.landings ps o.reports o.items k (map see last) (map see us) (map see vs) xs ys h (ap (map see) e ∙ map-append see us vs) ep (en ∙ sym (seen_many vs))
-      ∙ ap (λ l. settled_to floor cs (places_after cs [] xs) l o) (rows_back see vs back);
+      walked_so_far o.name bounds o.window cs rows o.landings ps o.reports o.items k (map see last) (map see us) (map see vs) xs ys h (ap (map see) e ∙ map-append see us vs) ep (en ∙ sym (seen_many vs))
+      ∙ ap (λ l. settled_to bounds cs (places_after cs [] xs) l o) (rows_back see vs back);
 }
   where
     seen_many : (vs : List ItemRow) → length (map see vs) ≡ length vs
@@ -130,7 +131,7 @@ walks floor o rows cs ps k see last back h = record {
 -- ---- the item was taken out
 
 pub walk_after_leaving : WalkAfterLeaving
-walk_after_leaving c s t qs rs q o is js i floor sound rest eq ei left =
+walk_after_leaving c s t qs rs q o is js i bounds sound rest eq ei left =
     let calm = around c s qs rs q is js i sound rest eq ei in
     let place = place_of c s q in
     let bs = s.builds in
@@ -172,18 +173,18 @@ walk_after_leaving c s t qs rs q o is js i floor sound rest eq ei left =
     let out : Bool → TakenOut = λ f. record { change = i.change; failing = f; landed = false } in
     let places_are : front ++ behind ≡ map (place_of c t o) o.items = sym (ap (map (place_of c t o)) left.items ∙ left.places ∙ map-append place is js) in
     let goal : List ItemRow → Type 0 = λ rows. (let left_rows = without_row i.serial rows in
-    Walks floor o left_rows cs (map (place_of c t o) o.items) (start (Some (out (fails_at i.serial rows))) (ahead_at i.serial rows) (length o.reports) o.window) (row_seen c t left_rows) (rows_from i.serial left_rows)) in
+    Walks bounds o left_rows cs (map (place_of c t o) o.items) (start (Some (out (fails_at i.serial rows))) (ahead_at i.serial rows) (length o.reports) o.window) (row_seen c t left_rows) (rows_from i.serial left_rows)) in
     let k = carry_left bs front p (length o.reports) o.window in
     subst goal (sym rows_are)
-    (cast (λ j. Walks floor o (sym pt.left j) cs (map (place_of c t o) o.items) (start (Some (out (sym pt.fails j))) (sym pt.ahead j) (length o.reports) o.window) (row_seen c t (sym pt.left j)) (sym (ap (rows_from i.serial) pt.left ∙ pt.from_behind) j))
-    (walks floor o (xs ++ ys) cs (map (place_of c t o) o.items) k (row_seen c t (xs ++ ys)) ys (λ r. refl)
-    (cast (λ j. Walked o.name floor o.window cs (xs ++ ys) (places_are j) o.reports k (sym seen j)) (walk_left o.name floor o.window stand bs cs front p behind o.reports h))))
+    (cast (λ j. Walks bounds o (sym pt.left j) cs (map (place_of c t o) o.items) (start (Some (out (sym pt.fails j))) (sym pt.ahead j) (length o.reports) o.window) (row_seen c t (sym pt.left j)) (sym (ap (rows_from i.serial) pt.left ∙ pt.from_behind) j))
+    (walks bounds o (xs ++ ys) cs (map (place_of c t o) o.items) k (row_seen c t (xs ++ ys)) ys (λ r. refl)
+    (cast (λ j. Walked o.name bounds o.window cs (xs ++ ys) (places_are j) o.reports k (sym seen j)) (walk_left o.name bounds o.window stand bs cs front p behind o.reports h))))
 
 -- ---- a build of it ended
 
 now_same : (c : Settings) (s : State) (q : Queue) (e : Ending) (n : ℕ) (is : List Item) → AreNow c (end_build e n s) same (map (place_of c s q) is)
 now_same c s q e n [] = tt
-now_same c s q e n (i ∷ is) = (refl, refl, refl, now_same c s q e n is)
+now_same c s q e n (i ∷ is) = (refl, refl, refl, refl, now_same c s q e n is)
 
 place_there : (bs : List Build) (ahead : List Item) (front : List Place) (p : Place) (behind : List Place) → In (with_ahead (ahead_after bs ahead front) p) (places_after bs ahead (front ++ p ∷ behind))
 place_there bs ahead [] p behind = inl refl
@@ -193,7 +194,7 @@ contained : {X : Type 0} (xs : List X) (x : X) → Contains xs x → In x xs
 contained xs x h = All-contains (λ y. In y xs) xs x (all (λ y. In y xs) xs (λ y m. m)) h
 
 pub walk_after_build : WalkAfterBuild
-walk_after_build c s qs rs q is js i b e floor sound rest eq ei cb run own_build =
+walk_after_build c s qs rs q is js i b e bounds sound rest eq ei cb run own_build =
     let calm = around c s qs rs q is js i sound rest eq ei in
     let place = place_of c s q in
     let bs = s.builds in
@@ -233,12 +234,12 @@ walk_after_build c s qs rs q is js i b e floor sound rest eq ei cb run own_build
     } in
     let sb = still_quiet stand i.serial bs cs (before ++ i ∷ []) was behind elsewhere others.1 parts.1.1 in
     let seen : map (row_seen c t all) ys ≡ visits stand cs same was behind = ap (map (row_seen c t all)) (sym sb.rows) ∙ rows_are_seen c t all same was behind (now_same c s q e b.number js) in
-    let goal : List ItemRow → Type 0 = λ rows. Walks floor q rows cs (map place q.items) (start None (ahead_at i.serial rows) (length q.reports) q.window) (row_seen c t rows) (rows_from i.serial rows) in
+    let goal : List ItemRow → Type 0 = λ rows. Walks bounds q rows cs (map place q.items) (start None (ahead_at i.serial rows) (length q.reports) q.window) (row_seen c t rows) (rows_from i.serial rows) in
     let k = start None own.ahead (length q.reports) q.window in
     subst goal (sym rows_are)
-    (cast (λ j. Walks floor q all cs (map place q.items) (start None (sym pt.ahead j) (length q.reports) q.window) (row_seen c t all) (sym pt.from_own j))
-    (walks floor q all cs (map place q.items) k (row_seen c t all) (own ∷ ys) (λ r. refl)
-    (cast (λ j. Walked q.name floor q.window cs (rows_split bs [] front (p ∷ behind) j) (sym calm.split j) q.reports k (row_seen c t all own ∷ sym seen j)) (walk_standing q.name floor q.window stand bs cs front p behind q.reports h))))
+    (cast (λ j. Walks bounds q all cs (map place q.items) (start None (sym pt.ahead j) (length q.reports) q.window) (row_seen c t all) (sym pt.from_own j))
+    (walks bounds q all cs (map place q.items) k (row_seen c t all) (own ∷ ys) (λ r. refl)
+    (cast (λ j. Walked q.name bounds q.window cs (rows_split bs [] front (p ∷ behind) j) (sym calm.split j) q.reports k (row_seen c t all own ∷ sym seen j)) (walk_standing q.name bounds q.window stand bs cs front p behind q.reports h))))
 
 -- ---- it landed
 
@@ -274,7 +275,7 @@ behind_of c s q bs cs i n (j ∷ js) l r el o k =
     )
 
 pub walk_after_landing : WalkAfterLanding
-walk_after_landing c s t qs rs q o is js i floor sound rest eq ei left first passes =
+walk_after_landing c s t qs rs q o is js i bounds sound rest eq ei left first passes =
     let calm = around c s qs rs q is js i sound rest eq ei in
     let place = place_of c s q in
     let bs = s.builds in
@@ -326,9 +327,9 @@ walk_after_landing c s t qs rs q o is js i floor sound rest eq ei left first pas
     let places_are : map now front ++ map now behind ≡ map (place_of c t o) o.items =
     sym (ap (map (place_of c t o)) left.items ∙ left.places ∙ ap (map now) (map-append place is js) ∙ map-append now front behind) in
     let goal : List ItemRow → Type 0 = λ rows. (let left_rows = without_row i.serial rows in
-    Walks floor o left_rows cs (map (place_of c t o) o.items) (start (Some out) None (length o.reports) o.window) (row_seen c t left_rows) (rows_from i.serial left_rows)) in
+    Walks bounds o left_rows cs (map (place_of c t o) o.items) (start (Some out) None (length o.reports) o.window) (row_seen c t left_rows) (rows_from i.serial left_rows)) in
     let k = start (Some out) None (length o.reports) o.window in
     subst goal (sym rows_are)
-    (cast (λ j. Walks floor o (sym pt.left j) cs (map (place_of c t o) o.items) k (row_seen c t (sym pt.left j)) (sym (ap (rows_from i.serial) pt.left ∙ pt.from_behind) j))
-    (walks floor o (xs ++ ys) cs (map (place_of c t o) o.items) k (row_seen c t (xs ++ ys)) ys (λ r. refl)
-    (cast (λ j. Walked o.name floor o.window cs (xs ++ ys) (places_are j) o.reports k (sym seen j)) (walk_landed o.name floor o.window stand bs cs front p behind o.reports h))))
+    (cast (λ j. Walks bounds o (sym pt.left j) cs (map (place_of c t o) o.items) k (row_seen c t (sym pt.left j)) (sym (ap (rows_from i.serial) pt.left ∙ pt.from_behind) j))
+    (walks bounds o (xs ++ ys) cs (map (place_of c t o) o.items) k (row_seen c t (xs ++ ys)) ys (λ r. refl)
+    (cast (λ j. Walked o.name bounds o.window cs (xs ++ ys) (places_are j) o.reports k (sym seen j)) (walk_landed o.name bounds o.window stand bs cs front p behind o.reports h))))

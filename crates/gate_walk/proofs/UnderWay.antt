@@ -2,6 +2,7 @@
 use Rattle.std.proofs.Common.{◌≡◌, ℕ, suc, ◌+◌, ◌<◌, ◌≤◌, Bool, true, false, ◌&&◌, cond, Option, Some, None, List, [], ◌∷◌, ◌++◌, map, length, inl, inr, refl, sym, ap, ◌∙◌, subst, arith, append-nil, append_assoc, true≢false}
 use Rattle.std.specs.Prelude.{◌==◌, nat_lt, nat_le, filter, find, option_map, Result, Ok, Err, OnOk, IfOk}
 use Rattle.std.proofs.lemmas.Bool.{and_parts, ltb-true, lt-ltb, leb-true, le-leb}
+use Rattle.gate_types.specs.Window.{bounds_by, Bounds}
 use Rattle.gate_types.specs.declared.records.Item.{Item as ItemRow}
 use Rattle.gate_types.specs.declared.edits.Edit.{Edit}
 use Rattle.gate_types.specs.Standing.{places_after}
@@ -15,7 +16,7 @@ use Rattle.gate_walk.specs.declared.walk.Touched.{Touched}
 use Rattle.gate_walk.specs.TakenOut.{out_of}
 use Rattle.gate_walk.specs.declared.walk.Next.{Next as CodeNext}
 use Rattle.gate_walk.specs.Views.{next_of_code}
-use Rattle.gate_walk.specs.UnderWay.{Delivered, queue_after, floor_after, stale_rows, tables, places_of, tables_settled, tables_settled_below, begun, rows_seen, walk_by, next_by, row_wanted, AreWanted, HasVisited, IsBehind, tables_by, IsFor, Starts, GoesOn, Ends, Visits}
+use Rattle.gate_walk.specs.UnderWay.{Delivered, queue_after, bounds_after, stale_rows, tables, places_of, tables_settled, tables_settled_below, begun, rows_seen, walk_by, next_by, row_wanted, AreWanted, HasVisited, IsBehind, tables_by, IsFor, Starts, GoesOn, Ends, Visits}
 use Rattle.gate_laws.proofs.Members.{found}
 use Rattle.gate_queue.proofs.Ordered.{RiseFrom, row_serial, place_serial, rises}
 use Rattle.gate_walk.proofs.Parting.{none_under, all_onward, under, onward, cut, under_at, under_behind, rise_at, low_at, onward_onward, onward_many, found_first, none_found, find_in, AllFail, all_fail, parts_at}
@@ -40,7 +41,7 @@ rows_on x = onward seen_serial x.item.serial (rows_seen x)
 
 -- what is told of the first of them
 abbrev told_by : Delivered → List Seen → List Edit
-told_by x us = walk_from (queue_after x).name (floor_after x) (begun x) us
+told_by x us = walk_from (queue_after x).name (bounds_after x) (begun x) us
 
 under_seen : (x : Delivered) (p : ℕ) (rows : List ItemRow) → under seen_serial p (map (see x) rows) ≡ map (see x) (under row_serial p rows)
 under_seen x p [] = refl
@@ -100,7 +101,7 @@ settled_under x p l =
     onward_many place_serial p ps ∙ ap (λ ns. length (filter (λ n. nat_le p n) ns)) (sym w.rows_of_places) ∙ sym (onward_many row_serial p (stale_rows x)) ∙ ap length (sym rest) in
     ap (λ us. fold_edits (tables x) (told_by x us)) (ap (under seen_serial p) (onward_seen x i (stale_rows x)) ∙ under_seen x p last)
     ∙ w.so_far (under row_serial p last) (onward row_serial p last) (under place_serial p ps) (onward place_serial p ps) (cut row_serial p i last rise) (cut place_serial p 0 ps (rises place_serial ps w.places_rise)) many
-    ∙ ap (λ rows. settled_to (floor_after x) x.after.builds (places_after x.after.builds [] (under place_serial p ps)) rows (queue_after x)) rest
+    ∙ ap (λ rows. settled_to (bounds_after x) x.after.builds (places_after x.after.builds [] (under place_serial p ps)) rows (queue_after x)) rest
 
 -- all that is told settles all of it
 settled_all : (x : Delivered) → fold_edits (tables x) (told_by x (rows_on x)) ≡ tables_settled x
@@ -113,7 +114,7 @@ carry_by x vs = (walk_by x vs).carry
 abbrev edits_by : Delivered → List Seen → List Edit
 edits_by x vs = (walk_by x vs).told
 
--- the queue and its floor stay
+-- the queue and its bounds stay
 abbrev name_by : Delivered → List Seen → List ℕ
 name_by x vs = (walk_by x vs).name
 
@@ -121,59 +122,59 @@ name_same : (x : Delivered) (vs : List Seen) → name_by x vs ≡ (queue_after x
 name_same x [] = refl
 name_same x (v ∷ vs) = name_same x vs
 
-floor_same : (x : Delivered) (vs : List Seen) → (walk_by x vs).floor ≡ floor_after x
-floor_same x [] = refl
-floor_same x (v ∷ vs) = floor_same x vs
+bounds_same : (x : Delivered) (vs : List Seen) → (walk_by x vs).bounds ≡ bounds_after x
+bounds_same x [] = refl
+bounds_same x (v ∷ vs) = bounds_same x vs
 
-carry_next : (x : Delivered) (v : Seen) (vs : List Seen) → carry_by x (v ∷ vs) ≡ carried (floor_after x) (carry_by x vs) v
-carry_next x v vs = ap (λ f. carried f (carry_by x vs) v) (floor_same x vs)
+carry_next : (x : Delivered) (v : Seen) (vs : List Seen) → carry_by x (v ∷ vs) ≡ carried (bounds_after x) (carry_by x vs) v
+carry_next x v vs = ap (λ f. carried f (carry_by x vs) v) (bounds_same x vs)
 
-edits_next : (x : Delivered) (v : Seen) (vs : List Seen) → edits_by x (v ∷ vs) ≡ edits_by x vs ++ visit_edits (queue_after x).name (floor_after x) (carry_by x vs) v
-edits_next x v vs = λ k. edits_by x vs ++ visit_edits (name_same x vs k) (floor_same x vs k) (carry_by x vs) v
+edits_next : (x : Delivered) (v : Seen) (vs : List Seen) → edits_by x (v ∷ vs) ≡ edits_by x vs ++ visit_edits (queue_after x).name (bounds_after x) (carry_by x vs) v
+edits_next x v vs = λ k. edits_by x vs ++ visit_edits (name_same x vs k) (bounds_same x vs k) (carry_by x vs) v
 
 -- ---- the first rows of a walk, and more of them
 
 -- what is carried behind rows, the first of which is asked for whatever is carried
 abbrev carry_behind : Delivered → List Seen → Carry
 carry_behind x [] = begun x
-carry_behind x (u ∷ us) = carried_on (queue_after x).name (floor_after x) (carried (floor_after x) (begun x) u) us
+carry_behind x (u ∷ us) = carried_on (queue_after x).name (bounds_after x) (carried (bounds_after x) (begun x) u) us
 
-carried_more : (name : List ℕ) (floor : ℕ) (k : Carry) (us vs : List Seen) → carried_on name floor k (us ++ vs) ≡ carried_on name floor (carried_on name floor k us) vs
-carried_more name floor k [] vs = refl
-carried_more name floor k (u ∷ us) vs = carried_more name floor (cond (asks_for k u) (carried floor k u) k) us vs
+carried_more : (name : List ℕ) (bounds : Bounds) (k : Carry) (us vs : List Seen) → carried_on name bounds k (us ++ vs) ≡ carried_on name bounds (carried_on name bounds k us) vs
+carried_more name bounds k [] vs = refl
+carried_more name bounds k (u ∷ us) vs = carried_more name bounds (cond (asks_for k u) (carried bounds k u) k) us vs
 
-edits_more : (name : List ℕ) (floor : ℕ) (k : Carry) (us vs : List Seen) → walk_edits name floor k (us ++ vs) ≡ walk_edits name floor k us ++ walk_edits name floor (carried_on name floor k us) vs
-edits_more name floor k [] vs = refl
-edits_more name floor k (u ∷ us) vs = by_test (asks_for k u) (edits_more name floor (carried floor k u) us vs) (edits_more name floor k us vs)
+edits_more : (name : List ℕ) (bounds : Bounds) (k : Carry) (us vs : List Seen) → walk_edits name bounds k (us ++ vs) ≡ walk_edits name bounds k us ++ walk_edits name bounds (carried_on name bounds k us) vs
+edits_more name bounds k [] vs = refl
+edits_more name bounds k (u ∷ us) vs = by_test (asks_for k u) (edits_more name bounds (carried bounds k u) us vs) (edits_more name bounds k us vs)
   where
-    by_test : (t : Bool) → walk_edits name floor (carried floor k u) (us ++ vs) ≡ walk_edits name floor (carried floor k u) us ++ walk_edits name floor (carried_on name floor (carried floor k u) us) vs →
-        walk_edits name floor k (us ++ vs) ≡ walk_edits name floor k us ++ walk_edits name floor (carried_on name floor k us) vs →
-        cond t (visit_edits name floor k u ++ walk_edits name floor (carried floor k u) (us ++ vs)) (walk_edits name floor k (us ++ vs))
-        ≡ cond t (visit_edits name floor k u ++ walk_edits name floor (carried floor k u) us) (walk_edits name floor k us) ++ walk_edits name floor (carried_on name floor (cond t (carried floor k u) k) us) vs
-    by_test true a b = ap (λ l. visit_edits name floor k u ++ l) a ∙ sym (append_assoc (visit_edits name floor k u) (walk_edits name floor (carried floor k u) us) (walk_edits name floor (carried_on name floor (carried floor k u) us) vs))
+    by_test : (t : Bool) → walk_edits name bounds (carried bounds k u) (us ++ vs) ≡ walk_edits name bounds (carried bounds k u) us ++ walk_edits name bounds (carried_on name bounds (carried bounds k u) us) vs →
+        walk_edits name bounds k (us ++ vs) ≡ walk_edits name bounds k us ++ walk_edits name bounds (carried_on name bounds k us) vs →
+        cond t (visit_edits name bounds k u ++ walk_edits name bounds (carried bounds k u) (us ++ vs)) (walk_edits name bounds k (us ++ vs))
+        ≡ cond t (visit_edits name bounds k u ++ walk_edits name bounds (carried bounds k u) us) (walk_edits name bounds k us) ++ walk_edits name bounds (carried_on name bounds (cond t (carried bounds k u) k) us) vs
+    by_test true a b = ap (λ l. visit_edits name bounds k u ++ l) a ∙ sym (append_assoc (visit_edits name bounds k u) (walk_edits name bounds (carried bounds k u) us) (walk_edits name bounds (carried_on name bounds (carried bounds k u) us) vs))
     by_test false a b = b
 
 -- rows that aren't asked for change nothing
-unasked_carry : (name : List ℕ) (floor : ℕ) (k : Carry) (vs : List Seen) → AllFail (asks_for k) vs → carried_on name floor k vs ≡ k
-unasked_carry name floor k [] h = refl
-unasked_carry name floor k (v ∷ vs) h = ap (λ t. carried_on name floor (cond t (carried floor k v) k) vs) h.0 ∙ unasked_carry name floor k vs h.1
+unasked_carry : (name : List ℕ) (bounds : Bounds) (k : Carry) (vs : List Seen) → AllFail (asks_for k) vs → carried_on name bounds k vs ≡ k
+unasked_carry name bounds k [] h = refl
+unasked_carry name bounds k (v ∷ vs) h = ap (λ t. carried_on name bounds (cond t (carried bounds k v) k) vs) h.0 ∙ unasked_carry name bounds k vs h.1
 
-unasked_edits : (name : List ℕ) (floor : ℕ) (k : Carry) (vs : List Seen) → AllFail (asks_for k) vs → walk_edits name floor k vs ≡ []
-unasked_edits name floor k [] h = refl
-unasked_edits name floor k (v ∷ vs) h = ap (λ t. cond t (visit_edits name floor k v ++ walk_edits name floor (carried floor k v) vs) (walk_edits name floor k vs)) h.0 ∙ unasked_edits name floor k vs h.1
+unasked_edits : (name : List ℕ) (bounds : Bounds) (k : Carry) (vs : List Seen) → AllFail (asks_for k) vs → walk_edits name bounds k vs ≡ []
+unasked_edits name bounds k [] h = refl
+unasked_edits name bounds k (v ∷ vs) h = ap (λ t. cond t (visit_edits name bounds k v ++ walk_edits name bounds (carried bounds k v) vs) (walk_edits name bounds k vs)) h.0 ∙ unasked_edits name bounds k vs h.1
 
 -- the same behind rows of which the last is that of some visit
-carry_on : (x : Delivered) (us : List Seen) (u : Seen) (vs : List Seen) → carry_behind x ((us ++ u ∷ []) ++ vs) ≡ carried_on (queue_after x).name (floor_after x) (carry_behind x (us ++ u ∷ [])) vs
+carry_on : (x : Delivered) (us : List Seen) (u : Seen) (vs : List Seen) → carry_behind x ((us ++ u ∷ []) ++ vs) ≡ carried_on (queue_after x).name (bounds_after x) (carry_behind x (us ++ u ∷ [])) vs
 carry_on x [] u vs = refl
-carry_on x (y ∷ us) u vs = carried_more (queue_after x).name (floor_after x) (carried (floor_after x) (begun x) y) (us ++ u ∷ []) vs
+carry_on x (y ∷ us) u vs = carried_more (queue_after x).name (bounds_after x) (carried (bounds_after x) (begun x) y) (us ++ u ∷ []) vs
 
-told_on : (x : Delivered) (us : List Seen) (u : Seen) (vs : List Seen) → told_by x ((us ++ u ∷ []) ++ vs) ≡ told_by x (us ++ u ∷ []) ++ walk_edits (queue_after x).name (floor_after x) (carry_behind x (us ++ u ∷ [])) vs
-told_on x [] u vs = ap (λ l. l ++ walk_edits (queue_after x).name (floor_after x) (carried (floor_after x) (begun x) u) vs) (sym (append-nil (visit_edits (queue_after x).name (floor_after x) (begun x) u)))
+told_on : (x : Delivered) (us : List Seen) (u : Seen) (vs : List Seen) → told_by x ((us ++ u ∷ []) ++ vs) ≡ told_by x (us ++ u ∷ []) ++ walk_edits (queue_after x).name (bounds_after x) (carry_behind x (us ++ u ∷ [])) vs
+told_on x [] u vs = ap (λ l. l ++ walk_edits (queue_after x).name (bounds_after x) (carried (bounds_after x) (begun x) u) vs) (sym (append-nil (visit_edits (queue_after x).name (bounds_after x) (begun x) u)))
 told_on x (y ∷ us) u vs =
-    let k = carried (floor_after x) (begun x) y in
-    let first = visit_edits (queue_after x).name (floor_after x) (begun x) y in
-    ap (λ l. first ++ l) (edits_more (queue_after x).name (floor_after x) k (us ++ u ∷ []) vs)
-    ∙ sym (append_assoc first (walk_edits (queue_after x).name (floor_after x) k (us ++ u ∷ [])) (walk_edits (queue_after x).name (floor_after x) (carried_on (queue_after x).name (floor_after x) k (us ++ u ∷ [])) vs))
+    let k = carried (bounds_after x) (begun x) y in
+    let first = visit_edits (queue_after x).name (bounds_after x) (begun x) y in
+    ap (λ l. first ++ l) (edits_more (queue_after x).name (bounds_after x) k (us ++ u ∷ []) vs)
+    ∙ sym (append_assoc first (walk_edits (queue_after x).name (bounds_after x) k (us ++ u ∷ [])) (walk_edits (queue_after x).name (bounds_after x) (carried_on (queue_after x).name (bounds_after x) k (us ++ u ∷ [])) vs))
 
 -- a row behind a serial that isn't wanted isn't asked for
 unasked : (k : Carry) (n m : ℕ) (vs ws : List Seen) → n < m → RiseFrom seen_serial m (vs ++ ws) → AllFail (test_of k n) vs → AllFail (asks_for k) vs
@@ -242,12 +243,12 @@ rows_behind x u vs h =
 reaches_first : (x : Delivered) (v : Seen) → row_wanted x [] ≡ Some v → Reaches x [] v
 reaches_first x v e =
     let f = found_first (λ w. nat_le x.item.serial w.row.serial) (rows_seen x) v e in
-    record { front = []; behind = f.0; parts = f.1; tells = refl; carries_on = carry_next x v []; tells_on = edits_next x v [] ∙ sym (append-nil (visit_edits (queue_after x).name (floor_after x) (begun x) v)) }
+    record { front = []; behind = f.0; parts = f.1; tells = refl; carries_on = carry_next x v []; tells_on = edits_next x v [] ∙ sym (append-nil (visit_edits (queue_after x).name (bounds_after x) (begun x) v)) }
 
 reaches_next : (x : Delivered) (u : Seen) (vs : List Seen) (v : Seen) → Reached x (u ∷ vs) → row_wanted x (u ∷ vs) ≡ Some v → Reaches x (u ∷ vs) v
 reaches_next x u vs v h e =
     let name = (queue_after x).name in
-    let floor = floor_after x in
+    let bounds = bounds_after x in
     let k = carry_by x (u ∷ vs) in
     let n = u.row.serial in
     let b = rows_behind x u vs h in
@@ -258,23 +259,23 @@ reaches_next x u vs v h e =
     let none = unasked k n (suc n) zs (v ∷ at.behind) (omega arith) (subst (RiseFrom seen_serial (suc n)) at.parts b.rise) at.fail in
     let asked : asks_for k v ≡ true = (and_parts (nat_lt n v.row.serial) (asks_for k v) at.passes).1 in
     let carries : carry_behind x us ≡ k = sym (h.carries ∙ ap (carry_behind x) passed_is) in
-    let carry_front : carry_behind x (us ++ zs) ≡ k = carry_on x b.ahead u zs ∙ ap (λ c. carried_on name floor c zs) carries ∙ unasked_carry name floor k zs none in
+    let carry_front : carry_behind x (us ++ zs) ≡ k = carry_on x b.ahead u zs ∙ ap (λ c. carried_on name bounds c zs) carries ∙ unasked_carry name bounds k zs none in
     let told_front : told_by x (us ++ zs) ≡ told_by x us =
-    told_on x b.ahead u zs ∙ (λ j. told_by x us ++ walk_edits name floor (carries j) zs) ∙ ap (λ l. told_by x us ++ l) (unasked_edits name floor k zs none) ∙ append-nil (told_by x us) in
+    told_on x b.ahead u zs ∙ (λ j. told_by x us ++ walk_edits name bounds (carries j) zs) ∙ ap (λ l. told_by x us ++ l) (unasked_edits name bounds k zs none) ∙ append-nil (told_by x us) in
     let tells : edits_by x (u ∷ vs) ≡ told_by x (us ++ zs) = h.tells ∙ ap (told_by x) passed_is ∙ sym told_front in
-    let carry_zs : carried_on name floor k (zs ++ v ∷ []) ≡ carried floor k v =
-    carried_more name floor k zs (v ∷ []) ∙ ap (λ c. carried_on name floor c (v ∷ [])) (unasked_carry name floor k zs none) ∙ ap (λ t. cond t (carried floor k v) k) asked in
-    let told_zs : walk_edits name floor k (zs ++ v ∷ []) ≡ visit_edits name floor k v =
-    edits_more name floor k zs (v ∷ []) ∙ (λ j. unasked_edits name floor k zs none j ++ walk_edits name floor (unasked_carry name floor k zs none j) (v ∷ []))
-    ∙ ap (λ t. cond t (visit_edits name floor k v ++ []) []) asked ∙ append-nil (visit_edits name floor k v) in
+    let carry_zs : carried_on name bounds k (zs ++ v ∷ []) ≡ carried bounds k v =
+    carried_more name bounds k zs (v ∷ []) ∙ ap (λ c. carried_on name bounds c (v ∷ [])) (unasked_carry name bounds k zs none) ∙ ap (λ t. cond t (carried bounds k v) k) asked in
+    let told_zs : walk_edits name bounds k (zs ++ v ∷ []) ≡ visit_edits name bounds k v =
+    edits_more name bounds k zs (v ∷ []) ∙ (λ j. unasked_edits name bounds k zs none j ++ walk_edits name bounds (unasked_carry name bounds k zs none j) (v ∷ []))
+    ∙ ap (λ t. cond t (visit_edits name bounds k v ++ []) []) asked ∙ append-nil (visit_edits name bounds k v) in
     let grouped : (us ++ zs) ++ v ∷ [] ≡ us ++ (zs ++ v ∷ []) = append_assoc us zs (v ∷ []) in
     record {
       front = us ++ zs;
       behind = at.behind;
       parts = b.parts ∙ ap (λ l. us ++ l) at.parts ∙ sym (append_assoc us zs (v ∷ at.behind));
       tells = tells;
-      carries_on = carry_next x v (u ∷ vs) ∙ sym (ap (carry_behind x) grouped ∙ carry_on x b.ahead u (zs ++ v ∷ []) ∙ ap (λ c. carried_on name floor c (zs ++ v ∷ [])) carries ∙ carry_zs);
-      tells_on = edits_next x v (u ∷ vs) ∙ sym (ap (told_by x) grouped ∙ told_on x b.ahead u (zs ++ v ∷ []) ∙ (λ j. told_by x us ++ walk_edits name floor (carries j) (zs ++ v ∷ []))
+      carries_on = carry_next x v (u ∷ vs) ∙ sym (ap (carry_behind x) grouped ∙ carry_on x b.ahead u (zs ++ v ∷ []) ∙ ap (λ c. carried_on name bounds c (zs ++ v ∷ [])) carries ∙ carry_zs);
+      tells_on = edits_next x v (u ∷ vs) ∙ sym (ap (told_by x) grouped ∙ told_on x b.ahead u (zs ++ v ∷ []) ∙ (λ j. told_by x us ++ walk_edits name bounds (carries j) (zs ++ v ∷ []))
           ∙ (λ j. (sym (h.tells ∙ ap (told_by x) passed_is)) j ++ told_zs j));
     }
 
@@ -313,7 +314,7 @@ pub settled_at_end : (x : Delivered) (vs : List Seen) → AreWanted x vs → row
 settled_at_end x [] w e = ap (λ us. fold_edits (tables x) (told_by x us)) (sym (none_found (λ v. nat_le x.item.serial v.row.serial) (rows_seen x) e)) ∙ settled_all x
 settled_at_end x (u ∷ vs) w e =
     let name = (queue_after x).name in
-    let floor = floor_after x in
+    let bounds = bounds_after x in
     let h = reached x (u ∷ vs) w in
     let k = carry_by x (u ∷ vs) in
     let n = u.row.serial in
@@ -323,26 +324,26 @@ settled_at_end x (u ∷ vs) w e =
     let carries : carry_behind x us ≡ k = sym (h.carries ∙ ap (carry_behind x) passed_is) in
     let none = unasked k n (suc n) b.left [] (omega arith) (subst (RiseFrom seen_serial (suc n)) (sym (append-nil b.left)) b.rise) (all_fail (test_of k n) b.left (sym b.finds ∙ e)) in
     let told : told_by x (us ++ b.left) ≡ told_by x us =
-    told_on x b.ahead u b.left ∙ (λ j. told_by x us ++ walk_edits name floor (carries j) b.left) ∙ ap (λ l. told_by x us ++ l) (unasked_edits name floor k b.left none) ∙ append-nil (told_by x us) in
+    told_on x b.ahead u b.left ∙ (λ j. told_by x us ++ walk_edits name bounds (carries j) b.left) ∙ ap (λ l. told_by x us ++ l) (unasked_edits name bounds k b.left none) ∙ append-nil (told_by x us) in
     ap (fold_edits (tables x)) (h.tells ∙ ap (told_by x) passed_is ∙ sym told ∙ ap (told_by x) (sym b.parts)) ∙ settled_all x
 
 -- ---- the calls
 
 -- nothing has been visited, and nothing is settled but the items before the touched one, which stay as they are
 pub starts : (x : Delivered) (w : Walk) (queue : QueueFacts) (touched : Touched) →
-    w ≡ record { name = queue.settings.now.name; floor = queue.settings.now.floor; touched = touched.serial; told = []; carry = start (option_map out_of touched.out) touched.ahead queue.reports queue.window } →
+    w ≡ record { name = queue.settings.now.name; bounds = bounds_by queue.settings.now; touched = touched.serial; told = []; carry = start (option_map out_of touched.out) touched.ahead queue.reports queue.window } →
     IsFor x queue touched → Starts x w
 starts x w queue touched begins f =
     let i = x.item.serial in
     let none : under seen_serial i (rows_on x) ≡ [] = none_under seen_serial i i (rows_on x) (omega arith) (on_rise x) in
-    let is : w ≡ walk_by x [] = begins ∙ (λ k. record { name = f.name k; floor = f.floor k; touched = f.serial k; told = []; carry = f.begins k }) in
+    let is : w ≡ walk_by x [] = begins ∙ (λ k. record { name = f.name k; bounds = f.bounds k; touched = f.serial k; told = []; carry = f.begins k }) in
     record {
       visited = record { is = is; were_wanted = tt };
       settled = ap (fold_edits (tables x)) (ap (λ (z : Walk). z.told) is ∙ ap (told_by x) (sym none)) ∙ settled_under x i (omega arith);
     }
 
 -- the serials that are asked for rise
-is_behind : (x : Delivered) (vs : List Seen) (v : Seen) → row_wanted x vs ≡ Some v → IsBehind x vs v
+pub is_behind : (x : Delivered) (vs : List Seen) (v : Seen) → row_wanted x vs ≡ Some v → IsBehind x vs v
 is_behind x [] v e = leb-true x.item.serial v.row.serial (found (λ w. nat_le x.item.serial w.row.serial) (rows_seen x) v e).1
 is_behind x (u ∷ vs) v e =
     let k = carry_by x (u ∷ vs) in
@@ -375,11 +376,11 @@ goes_on x old new v vs next visits answers h e =
             let o = queue_after x in
             let k : old.carry ≡ begins o x.item build_ended rows = begun_after_build x ended old.carry (ap (λ (w : Walk). w.carry) h.is ∙ ap (carry_by x) none) in
             answers ∙ ap (λ (w : Walk). next_of w.carry v.row.serial) visits
-            ∙ ap (λ c. next_of (carried old.floor c v) v.row.serial) k
-            ∙ walk_stops.at_once old.floor (length o.reports) o.window (ahead_at x.item.serial rows) v (ap (λ c. fails c v) (sym k) ∙ mark) (ap (λ c. verdict_by c v) (sym k) ∙ stays);
+            ∙ ap (λ c. next_of (carried old.bounds c v) v.row.serial) k
+            ∙ walk_stops.at_once old.bounds (length o.reports) o.window (ahead_at x.item.serial rows) v (ap (λ c. fails c v) (sym k) ∙ mark) (ap (λ c. verdict_by c v) (sym k) ∙ stays);
         no_further = λ same mark fine.
             answers ∙ ap (λ (w : Walk). next_of w.carry v.row.serial) visits
-            ∙ walk_stops.not_further old.floor v.row.serial old.carry v same mark fine
+            ∙ walk_stops.not_further old.bounds v.row.serial old.carry v same mark fine
             ∙ ap (λ (w : Walk). cond (length w.carry.gone == 0) stop (need v.row.serial)) (sym visits);
       };
     }

@@ -3,6 +3,7 @@ use Rattle.std.proofs.Common.{◌≡◌, ℕ, suc, ◌<◌, ◌≤◌, Bool, tru
 use Rattle.std.specs.Prelude.{◌==◌, nat_le, filter, find}
 use Rattle.std.proofs.lemmas.Bool.{le-leb, leb-true, leb-false}
 use Rattle.std.proofs.lemmas.List.{length-append}
+use Rattle.gate_types.specs.Window.{Bounds}
 use Rattle.gate_types.specs.declared.records.Item.{Item as ItemRow}
 use Rattle.gate_types.specs.declared.records.Build.{Build}
 use Rattle.gate_types.specs.declared.edits.Edit.{Edit}
@@ -75,37 +76,37 @@ all_on n m (v ∷ vs) l r =
     (λ k. cond (le-leb n v.row.serial (omega arith) k) (v ∷ all_on n (suc v.row.serial) vs (omega arith) r.1 k) (all_on n (suc v.row.serial) vs (omega arith) r.1 k))
 
 -- the visits of a first row, if there is one, among these
-abbrev visits_of : List ℕ → ℕ → Carry → Option Seen → List Seen → List Edit
-visits_of name floor k o vs = elim o as (λ x. List Edit) [
+abbrev visits_of : List ℕ → Bounds → Carry → Option Seen → List Seen → List Edit
+visits_of name bounds k o vs = elim o as (λ x. List Edit) [
   | None ↦ []
-  | Some v ↦ visit_edits name floor k v ++ visits_from (length vs) name floor (next_of (carried floor k v) v.row.serial) (carried floor k v) vs
+  | Some v ↦ visit_edits name bounds k v ++ visits_from (length vs) name bounds (next_of (carried bounds k v) v.row.serial) (carried bounds k v) vs
 ]
 
-visits_on : (name : List ℕ) (floor n m : ℕ) (k : Carry) (us vs : List Seen) → AllBelow seen_serial n us → RiseFrom seen_serial m vs → visits_of name floor k (find (from_on n) vs) (us ++ vs) ≡ walk_from name floor k (filter (from_on n) vs)
-visits_on name floor n m k us [] b r = refl
-visits_on name floor n m k us (v ∷ vs) b r = by_test (from_on n v) refl (λ low. visits_on name floor n (suc v.row.serial) k (us ++ v ∷ []) vs (below_push n us v b low) r.1)
+visits_on : (name : List ℕ) (bounds : Bounds) (n m : ℕ) (k : Carry) (us vs : List Seen) → AllBelow seen_serial n us → RiseFrom seen_serial m vs → visits_of name bounds k (find (from_on n) vs) (us ++ vs) ≡ walk_from name bounds k (filter (from_on n) vs)
+visits_on name bounds n m k us [] b r = refl
+visits_on name bounds n m k us (v ∷ vs) b r = by_test (from_on n v) refl (λ low. visits_on name bounds n (suc v.row.serial) k (us ++ v ∷ []) vs (below_push n us v b low) r.1)
   where
-    first : n ≤ v.row.serial → visit_edits name floor k v ++ visits_from (length (us ++ v ∷ vs)) name floor (next_of (carried floor k v) v.row.serial) (carried floor k v) (us ++ v ∷ vs) ≡ visit_edits name floor k v ++ walk_edits name floor (carried floor k v) vs
+    first : n ≤ v.row.serial → visit_edits name bounds k v ++ visits_from (length (us ++ v ∷ vs)) name bounds (next_of (carried bounds k v) v.row.serial) (carried bounds k v) (us ++ v ∷ vs) ≡ visit_edits name bounds k v ++ walk_edits name bounds (carried bounds k v) vs
     first high =
-        let k2 = carried floor k v in
+        let k2 = carried bounds k v in
         let m2 = length (us ++ v ∷ vs) in
         let enough = length-append us (v ∷ vs) in
         let below = below_push (suc v.row.serial) us v (below_up n (suc v.row.serial) us (omega arith) b) (omega arith) in
-        ap (λ l. visit_edits name floor k v ++ l)
-        (ap (visits_from m2 name floor (next_of k2 v.row.serial) k2) (sym (append_assoc us (v ∷ []) vs))
-        ∙ visits_walk m2 name floor v.row.serial (suc v.row.serial) k2 (us ++ v ∷ []) vs (omega (arith, enough)) (omega arith) below r.1 (passed k2 v.row.serial (us ++ v ∷ []) below))
+        ap (λ l. visit_edits name bounds k v ++ l)
+        (ap (visits_from m2 name bounds (next_of k2 v.row.serial) k2) (sym (append_assoc us (v ∷ []) vs))
+        ∙ visits_walk m2 name bounds v.row.serial (suc v.row.serial) k2 (us ++ v ∷ []) vs (omega (arith, enough)) (omega arith) below r.1 (passed k2 v.row.serial (us ++ v ∷ []) below))
 
     below_it : nat_le n v.row.serial ≡ false → v.row.serial < n
     below_it e = leb-false n v.row.serial e
 
-    by_test : (t : Bool) → nat_le n v.row.serial ≡ t → (v.row.serial < n → visits_of name floor k (find (from_on n) vs) ((us ++ v ∷ []) ++ vs) ≡ walk_from name floor k (filter (from_on n) vs)) →
-        visits_of name floor k (cond t (Some v) (find (from_on n) vs)) (us ++ v ∷ vs) ≡ walk_from name floor k (cond t (v ∷ filter (from_on n) vs) (filter (from_on n) vs))
+    by_test : (t : Bool) → nat_le n v.row.serial ≡ t → (v.row.serial < n → visits_of name bounds k (find (from_on n) vs) ((us ++ v ∷ []) ++ vs) ≡ walk_from name bounds k (filter (from_on n) vs)) →
+        visits_of name bounds k (cond t (Some v) (find (from_on n) vs)) (us ++ v ∷ vs) ≡ walk_from name bounds k (cond t (v ∷ filter (from_on n) vs) (filter (from_on n) vs))
     by_test true e on =
         let high = leb-true n v.row.serial e in
-        first high ∙ ap (λ l. walk_from name floor k (v ∷ l)) (sym (all_on n (suc v.row.serial) vs (omega (arith, high)) r.1))
-    by_test false e on = ap (visits_of name floor k (find (from_on n) vs)) (sym (append_assoc us (v ∷ []) vs)) ∙ on (below_it e)
+        first high ∙ ap (λ l. walk_from name bounds k (v ∷ l)) (sym (all_on n (suc v.row.serial) vs (omega (arith, high)) r.1))
+    by_test false e on = ap (visits_of name bounds k (find (from_on n) vs)) (sym (append_assoc us (v ∷ []) vs)) ∙ on (below_it e)
 
-pub visited_is_walked : (c : Settings) (t : State) (name : List ℕ) (floor n : ℕ) (k : Carry) (rows : List ItemRow) → RiseFrom row_serial 0 rows →
-    visited name floor k n (map (row_seen c t rows) rows) ≡ walk_from name floor k (map (row_seen c t rows) (rows_from n rows))
-visited_is_walked c t name floor n k rows r =
-    visits_on name floor n 0 k [] (map (row_seen c t rows) rows) tt (seen_rise c t rows 0 rows r) ∙ ap (walk_from name floor k) (seen_from c t rows n rows)
+pub visited_is_walked : (c : Settings) (t : State) (name : List ℕ) (bounds : Bounds) (n : ℕ) (k : Carry) (rows : List ItemRow) → RiseFrom row_serial 0 rows →
+    visited name bounds k n (map (row_seen c t rows) rows) ≡ walk_from name bounds k (map (row_seen c t rows) (rows_from n rows))
+visited_is_walked c t name bounds n k rows r =
+    visits_on name bounds n 0 k [] (map (row_seen c t rows) rows) tt (seen_rise c t rows 0 rows r) ∙ ap (walk_from name bounds k) (seen_from c t rows n rows)

@@ -12,7 +12,7 @@ use Rattle.gate_types.specs.Settings.{Settings, are_sound}
 use Rattle.gate_types.specs.State.{Item, Queue, State}
 use Rattle.gate_types.specs.Standing.{place_of}
 use Rattle.gate_types.specs.Rebase.{rebase}
-use Rattle.gate_types.specs.Window.{floor_of}
+use Rattle.gate_types.specs.Window.{Bounds, bounds_of}
 use Rattle.gate_types.specs.Sweep.{sweep}
 use Rattle.gate_types.specs.Step.{accepted, raw_step, left_queue, landed_queue, shrunk_queue, build_of}
 use Rattle.gate_types.specs.Lawful.{IsLawful}
@@ -33,7 +33,7 @@ moved c (delivery.Revision n name r message) q i = left_queue verdict.Superseded
 moved c (delivery.Approved n r) q i = q
 moved c (delivery.Withdrawn n r) q i = left_queue verdict.Withdrawn i.change q
 moved c (delivery.Closed n r) q i = left_queue verdict.Closed i.change q
-moved c (delivery.Landed number) q i = landed_queue i (left_queue (verdict.Landed (length q.landings + 1)) i.change q)
+moved c (delivery.Landed number) q i = landed_queue c i (left_queue (verdict.Landed (length q.landings + 1)) i.change q)
 moved c (delivery.Refused number) q i = shrunk_queue c (left_queue verdict.Refused i.change q)
 moved c (delivery.Take worker) q i = q
 moved c (delivery.Result n e) q i = q
@@ -84,30 +84,30 @@ begins o i k rows = start (out_by k i rows) (ahead_at i.serial rows) (length o.r
 -- it begins at the touched item, or behind it where it was taken out; its rows are those stored before the delivery
 abbrev pub WalksFrom : Settings → State → State → Queue → Queue → Item → Touch → Type 0
 WalksFrom c s t q o i k = (let rows = stored c s q in let left = standing_rows k i rows in
-    Walks (floor_of c o) o left t.builds (map (place_of c t o) o.items) (begins o i k rows) (row_seen c t left)
+    Walks (bounds_of c o) o left t.builds (map (place_of c t o) o.items) (begins o i k rows) (row_seen c t left)
     (rows_from i.serial left))
 
 -- its edits, folded over the stored rows, are the queue's rows after a rebase and then a sweep of the whole state
 abbrev pub WalkSettles : Settings → State → State → Queue → Queue → Item → Touch → Type 0
 WalkSettles c s t q o i k = (let rows = stored c s q in let left = standing_rows k i rows in
     fold_edits (rows_with o left t.builds)
-    (walk_from o.name (floor_of c o) (begins o i k rows) (map (row_seen c t left) (rows_from i.serial left)))
+    (walk_from o.name (bounds_of c o) (begins o i k rows) (map (row_seen c t left) (rows_from i.serial left)))
     ≡ rows_in c (sweep c (rebase c t)) (swept_of c t o))
 
 -- the edits of the visits of a walk over a queue's rows: of the first row from a serial on, then of each row that is
 -- wanted, up to the stop
-abbrev pub visited : List ℕ → ℕ → Carry → ℕ → List Seen → List Edit
-visited name floor k n vs = elim (find (λ v. nat_le n v.row.serial) vs) [
+abbrev pub visited : List ℕ → Bounds → Carry → ℕ → List Seen → List Edit
+visited name bounds k n vs = elim (find (λ v. nat_le n v.row.serial) vs) [
   | None ↦ []
-  | Some v ↦ visit_edits name floor k v ++
-      visits_from (length vs) name floor (next_of (carried floor k v) v.row.serial) (carried floor k v) vs
+  | Some v ↦ visit_edits name bounds k v ++
+      visits_from (length vs) name bounds (next_of (carried bounds k v) v.row.serial) (carried bounds k v) vs
 ]
 
 -- the same of these edits
 abbrev pub VisitsSettle : Settings → State → State → Queue → Queue → Item → Touch → Type 0
 VisitsSettle c s t q o i k = (let rows = stored c s q in let left = standing_rows k i rows in
     fold_edits (rows_with o left t.builds)
-    (visited o.name (floor_of c o) (begins o i k rows) i.serial (map (row_seen c t left) left))
+    (visited o.name (bounds_of c o) (begins o i k rows) i.serial (map (row_seen c t left) left))
     ≡ rows_in c (sweep c (rebase c t)) (swept_of c t o))
 
 -- the queue of the touched item is there once the delivery is done, is there once all is settled, and its walk

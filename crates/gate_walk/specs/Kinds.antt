@@ -36,5 +36,5 @@ pub record ItemsLeave : Type 0 where
       (shrunk_queue c (left_queue verdict.Refused i.change q)) i (is ++ js)
   pub landed : (c : Settings) (s : State) (q : Queue) (is : List Item) (i : Item) (js : List Item) (n : ℕ) →
       IsIn c s q is i js →
-      HasLanded c s (with_landing n (record { queue = q; item = i }) s) q
-      (landed_queue i (left_queue (verdict.Landed n) i.change q)) i (is ++ js)
+      HasLanded c s (with_landing c n (record { queue = q; item = i }) s) q
+      (landed_queue c i (left_queue (verdict.Landed n) i.change q)) i (is ++ js)

@@ -1,16 +1,17 @@
 -- A walk leaves what settling leaves: of the queue of an item whose build was told of, or that was taken out.
 use Rattle.std.specs.Prelude.{ℕ, Bool, true, false, ◌&&◌, ◌||◌, not, ◌==◌, nat_le, ◌≡◌, if◌then◌else◌, List, [], ◌∷◌, ◌++◌, map, filter, length, Option, Some, None, option_map, option_and_then, find, is_some, All, Contains, fold, filter_map}
 use Rattle.std.specs.Option.{option_map_or}
-use Rattle.std.specs.List.{AllPass}
+use Rattle.std.specs.List.{AllPass, list_all}
 use Rattle.std.specs.List.Sorted.{IsStrictlyIncreasing}
+use Rattle.gate_types.specs.Window.{Bounds}
 use Rattle.gate_types.specs.declared.records.Item.{Item as ItemRow}
 use Rattle.gate_types.specs.declared.records.Need.{Need}
 use Rattle.gate_types.specs.declared.records.Build.{Build}
 use Rattle.gate_types.specs.declared.deliveries.Ending.{Ending}
 use Rattle.gate_types.specs.Settings.{Settings}
-use Rattle.gate_types.specs.State.{Item, Queue, State, project_of}
+use Rattle.gate_types.specs.State.{Item, Queue, State, plan_of}
 use Rattle.gate_types.specs.Line.{Place}
-use Rattle.gate_types.specs.Slot.{is_running}
+use Rattle.gate_types.specs.Slot.{is_running, is_wanted}
 use Rattle.gate_types.specs.Standing.{needs_of, all_places, place_of, places_after}
 use Rattle.gate_types.specs.Rebase.{with_live, stays_live}
 use Rattle.gate_types.specs.Sweep.{judged, judged_after, goes, next_window, report_of, without_runs}
@@ -18,13 +19,17 @@ use Rattle.gate_types.specs.Step.{end_build}
 use Rattle.gate_types.specs.Lawful.{IsSound}
 use Rattle.gate_types.specs.Rows.{Rows, item_rows, row_of, numbered, fold_edits}
 use Rattle.gate_queue.specs.Settles.{settled_rows}
-use Rattle.gate_queue.specs.Chooses.{live_builds_count}
 use Rattle.gate_walk.specs.Walk.{SeenNeed, Seen, Carry, walk_from}
 
--- no item goes, and each live build of an item counts: so it is in a settled state
+-- each live build of the item is wanted: it counts, and isn't still running for a cut item
+abbrev pub live_builds_are_wanted : List Build → Place → Bool
+live_builds_are_wanted builds p =
+    list_all (λ b. not (b.live && b.serial == p.item.serial) || is_wanted builds p b) builds
+
+-- no item goes, and each live build of an item is wanted: so it is in a settled state
 pub record IsCalm (c : Settings) (s : State) : Type 0 where
   pub stays : All (λ q. AllPass (λ j. not (is_some j.verdict)) (judged c s q)) s.queues
-  pub builds_count : AllPass (live_builds_count s.builds) (all_places c s)
+  pub builds_wanted : AllPass (live_builds_are_wanted s.builds) (all_places c s)
 
 -- where an item of the change stands by these rows, and whether its row says that it is failing
 abbrev pub standing_in : List ItemRow → ℕ → Option Bool
@@ -43,7 +48,8 @@ abbrev pub row_seen : Settings → State → List ItemRow → ItemRow → Seen
 row_seen c s rows r = record {
   row = r;
   needs = map (need_seen rows) (needs_of s r.change);
-  jobs = (project_of c s r.change).jobs;
+  jobs = (plan_of s r.serial).jobs;
+  fast = (plan_of s r.serial).fast;
   builds = live_under s.builds r.serial;
 }
 
@@ -118,42 +124,43 @@ place_behind i p = record {
   item = p.item;
   needs = map (need_behind i.change) p.needs;
   jobs = p.jobs;
+  fast = p.fast;
 }
 
 -- ---- what a walk does
 
 -- the rows of a queue settled as far as these places; the rows behind them, with their builds, are as they were
-abbrev pub settled_to : ℕ → List Build → List Place → List ItemRow → Queue → Rows
-settled_to floor builds ps behind q = (let js = judged_after builds [] ps in record {
+abbrev pub settled_to : Bounds → List Build → List Place → List ItemRow → Queue → Rows
+settled_to bounds builds ps behind q = (let js = judged_after builds [] ps in record {
   name = q.name;
-  window = fold (next_window floor) q.window js;
+  window = fold (next_window bounds) q.window js;
   items = map (row_of builds) (filter (λ p. not (goes js p.item.serial)) ps) ++ behind;
-  builds = without_runs (goes js) (map (λ b. with_live (b.live && stays_live ps b) b) builds);
+  builds = without_runs (goes js) (map (λ b. with_live (b.live && stays_live builds ps b) b) builds);
   reports = numbered 0 (q.reports ++ filter_map (λ j. option_map (λ v. report_of v j.item) j.verdict) js);
 })
 
 -- a walk over the last rows of a queue, each row of an item: at its end the queue is settled, and between two visits
 -- it is so far
-pub record Walks (floor : ℕ) (q : Queue) (rows : List ItemRow) (builds : List Build) (ps : List Place) (k : Carry)
+pub record Walks (bounds : Bounds) (q : Queue) (rows : List ItemRow) (builds : List Build) (ps : List Place) (k : Carry)
     (see : ItemRow → Seen) (last : List ItemRow) : Type 0 where
   pub rows_of_places : map (λ r. r.serial) rows ≡ map (λ p. p.item.serial) ps
   pub places_rise : IsStrictlyIncreasing (map (λ p. p.item.serial) ps)
-  pub at_stop : fold_edits (rows_with q rows builds) (walk_from q.name floor k (map see last))
-      ≡ settled_rows floor ps builds q
+  pub at_stop : fold_edits (rows_with q rows builds) (walk_from q.name bounds k (map see last))
+      ≡ settled_rows bounds ps builds q
   pub so_far : (us vs : List ItemRow) (xs ys : List Place) → last ≡ us ++ vs → ps ≡ xs ++ ys → length ys ≡ length vs →
-      fold_edits (rows_with q rows builds) (walk_from q.name floor k (map see us))
-      ≡ settled_to floor builds (places_after builds [] xs) vs q
+      fold_edits (rows_with q rows builds) (walk_from q.name bounds k (map see us))
+      ≡ settled_to bounds builds (places_after builds [] xs) vs q
 
 -- ---- the three laws
 
 -- a running build of an item has ended
 abbrev pub WalkAfterBuild : Type 0
 WalkAfterBuild = (c : Settings) (s : State) (qs rs : List Queue) (q : Queue) (is js : List Item) (i : Item)
-    (b : Build) (e : Ending) (floor : ℕ) →
+    (b : Build) (e : Ending) (bounds : Bounds) →
     IsSound c s → IsCalm c s → s.queues ≡ qs ++ q ∷ rs → q.items ≡ is ++ i ∷ js → Contains s.builds b →
     b.live && is_running b.outcome ≡ true → b.serial ≡ i.serial →
     (let t = end_build e b.number s in let rows = stored c s q in
-    Walks floor q rows t.builds (map (place_of c t q) q.items)
+    Walks bounds q rows t.builds (map (place_of c t q) q.items)
     (start None (ahead_at i.serial rows) (length q.reports) q.window) (row_seen c t rows) (rows_from i.serial rows))
 
 -- the item has left its queue: the other items stand as they stood, its running builds have stopped
@@ -165,12 +172,12 @@ pub record HasLeft (c : Settings) (s t : State) (q o : Queue) (i : Item) (others
 -- an item was taken out and didn't land
 abbrev pub WalkAfterLeaving : Type 0
 WalkAfterLeaving = (c : Settings) (s t : State) (qs rs : List Queue) (q o : Queue) (is js : List Item) (i : Item)
-    (floor : ℕ) →
+    (bounds : Bounds) →
     IsSound c s → IsCalm c s → s.queues ≡ qs ++ q ∷ rs → q.items ≡ is ++ i ∷ js → HasLeft c s t q o i (is ++ js) →
     (let rows = stored c s q in
     let left = without_row i.serial rows in
     let out : TakenOut = record { change = i.change; failing = fails_at i.serial rows; landed = false } in
-    Walks floor o left t.builds (map (place_of c t o) o.items)
+    Walks bounds o left t.builds (map (place_of c t o) o.items)
     (start (Some out) (ahead_at i.serial rows) (length o.reports) o.window) (row_seen c t left)
     (rows_from i.serial left))
 
@@ -183,10 +190,10 @@ pub record HasLanded (c : Settings) (s t : State) (q o : Queue) (i : Item) (othe
 -- the first non-failing item has landed
 abbrev pub WalkAfterLanding : Type 0
 WalkAfterLanding = (c : Settings) (s t : State) (qs rs : List Queue) (q o : Queue) (is js : List Item) (i : Item)
-    (floor : ℕ) →
+    (bounds : Bounds) →
     IsSound c s → IsCalm c s → s.queues ≡ qs ++ q ∷ rs → q.items ≡ is ++ i ∷ js → HasLanded c s t q o i (is ++ js) →
     ahead_at i.serial (stored c s q) ≡ None → fails_at i.serial (stored c s q) ≡ false →
     (let left = without_row i.serial (stored c s q) in
     let out : TakenOut = record { change = i.change; failing = false; landed = true } in
-    Walks floor o left t.builds (map (place_of c t o) o.items) (start (Some out) None (length o.reports) o.window)
+    Walks bounds o left t.builds (map (place_of c t o) o.items) (start (Some out) None (length o.reports) o.window)
     (row_seen c t left) (rows_from i.serial left))

@@ -8,7 +8,7 @@ use Rattle.gate_types.specs.State.{Item, Queue, State}
 use Rattle.gate_types.specs.Line.{Place}
 use Rattle.gate_types.specs.Standing.{place_of, places_after}
 use Rattle.gate_types.specs.Rebase.{rebase}
-use Rattle.gate_types.specs.Window.{floor_of}
+use Rattle.gate_types.specs.Window.{Bounds, bounds_by, bounds_of}
 use Rattle.gate_types.specs.Sweep.{sweep}
 use Rattle.gate_types.specs.Step.{accepted, raw_step}
 use Rattle.gate_types.specs.Lawful.{IsLawful}
@@ -51,8 +51,8 @@ pub record Delivered : Type 0 where
 abbrev pub queue_after : Delivered → Queue
 queue_after x = moved x.settings x.delivery x.queue x.item
 
-abbrev pub floor_after : Delivered → ℕ
-floor_after x = floor_of x.settings (queue_after x)
+abbrev pub bounds_after : Delivered → Bounds
+bounds_after x = bounds_of x.settings (queue_after x)
 
 -- the rows of its items, with the columns of before
 abbrev pub stale_rows : Delivered → List ItemRow
@@ -72,7 +72,7 @@ tables_settled x = rows_in x.settings (sweep x.settings (rebase x.settings x.aft
 
 -- its rows settled for the items below a serial, with their builds, reports and window, and as they are for all else
 abbrev pub tables_settled_below : Delivered → ℕ → Rows
-tables_settled_below x n = settled_to (floor_after x) x.after.builds
+tables_settled_below x n = settled_to (bounds_after x) x.after.builds
     (places_after x.after.builds [] (filter (λ p. nat_lt p.item.serial n) (places_of x)))
     (filter (λ r. nat_le n r.serial) (stale_rows x)) (queue_after x)
 
@@ -90,7 +90,7 @@ rows_seen x = map (row_seen x.settings x.after (stale_rows x)) (stale_rows x)
 abbrev pub walk_by : Delivered → List Seen → Walk
 walk_by x [] = record {
   name = (queue_after x).name;
-  floor = floor_after x;
+  bounds = bounds_after x;
   touched = x.item.serial;
   carry = begun x;
   told = [];
@@ -130,7 +130,7 @@ pub record Starts (x : Delivered) (w : Walk) : Type 0 where
 -- taken out
 pub record IsFor (x : Delivered) (queue : QueueFacts) (touched : Touched) : Type 0 where
   pub name : queue.settings.now.name ≡ (queue_after x).name
-  pub floor : queue.settings.now.floor ≡ floor_after x
+  pub bounds : bounds_by queue.settings.now ≡ bounds_after x
   pub serial : touched.serial ≡ x.item.serial
   pub begins : start (option_map out_of touched.out) touched.ahead queue.reports queue.window ≡ begun x
 

@@ -8,7 +8,7 @@ use Rattle.gate_walk.specs.Next.{Next, go, need, stop}
 
 -- what a visit is given
 abbrev pub seen_of : CodeSeen → Seen
-seen_of v = record { row = v.row; needs = v.needs.now; jobs = v.jobs.now; builds = v.builds.now }
+seen_of v = record { row = v.row; needs = v.needs.now; jobs = v.jobs.now; fast = v.fast; builds = v.builds.now }
 
 -- what a visit answers
 abbrev pub next_of_code : CodeNext → Next

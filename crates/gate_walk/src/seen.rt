@@ -1,16 +1,17 @@
 //! What a walk sees of a row, and what it makes of it.
-ghost use Rattle.std.specs.Prelude.{◌≡◌, ◌&&◌, ◌||◌, IfOk};
+ghost use Rattle.std.specs.Prelude.{◌≡◌, ◌&&◌, ◌||◌, not, IfOk};
 ghost use Rattle.std.specs.List.{list_any, list_all};
 ghost use Rattle.gate_types.specs.Slot as rules;
+ghost use Rattle.gate_queue.specs.Outcomes.{slot_among};
 ghost use Rattle.gate_walk.specs.Walk as walk;
 
 use gate_queue::judge::verdict_of;
-use gate_queue::outcomes::{is_failed, is_finished, slot_of_outcomes};
-use gate_queue::slots::{Marks, same_name};
+use gate_queue::outcomes::{is_failed, is_finished, slot_among};
+use gate_queue::slots::Marks;
 use gate_types::config::Job;
 use gate_types::names::NoMemory;
 use gate_types::numbers::ChangeNo;
-use gate_types::records::{Build, Outcome, Slot, Verdict};
+use gate_types::records::{Build, Verdict};
 use std::alloc::Global;
 use std::marker::Model;
 
@@ -110,54 +111,47 @@ pub(crate) fn are_met_without(gone: &[ChangeNo], needs: &[SeenNeed]) -> bool
     needs.iter().all(|n| n.landed || n.standing.is_some() && !is_gone(gone, n.change))
 }
 
-/// The outcomes of a job's builds.
-fn outcomes_among(alloc: Global, builds: &[Build], job: &Job) -> Result<Vec<Outcome>, NoMemory>
-    ensures { IfOk result (λ found. found.items ≡ walk.outcomes_among builds.now job.now) }
-{
-    let mut found: Vec<Outcome> = Vec::new(alloc);
-    for build in builds {
-        if same_name(&build.job, &job.name) {
-            found.push(build.outcome)?;
-        }
-    }
-    Ok(found)
-}
-
-fn slot_among(alloc: Global, builds: &[Build], job: &Job) -> Result<Slot, NoMemory>
-    ensures { IfOk result (λ slot. slot ≡ walk.slot_among builds.now job.now) }
-{
-    let outcomes = outcomes_among(alloc, builds, job)?;
-    Ok(slot_of_outcomes(&outcomes))
-}
-
 /// What a walk makes of an item.
 #[derive(Clone, Copy)]
 pub struct Judged {
     pub failing: bool,
+    pub cut: bool,
     pub verdict: Option<Verdict>,
 }
 
 /// What the jobs say by builds that all count.
 fn marks_among(alloc: Global, builds: &[Build], jobs: &[Job]) -> Result<Marks, NoMemory>
-    ensures failed { IfOk result (λ m. m.failed ≡
-        list_any (λ j. j.voting && rules.is_failed_slot (walk.slot_among builds.now j)) jobs.now) }
-    ensures finished { IfOk result (λ m. m.finished ≡
-        list_all (λ j. rules.is_finished (walk.slot_among builds.now j)) jobs.now) }
+    ensures failed { IfOk result (λ m. m.failed ≡ walk.has_failed_among jobs.now builds.now) }
+    ensures decided { IfOk result (λ m. m.decided ≡
+        list_all (λ j. rules.is_finished (slot_among builds.now j)) jobs.now) }
 {
     let mut failed = false;
-    let mut finished = true;
+    let mut decided = true;
     for job in jobs {
         let slot = slot_among(alloc, builds, job)?;
         failed = failed || job.voting && is_failed(slot);
-        finished = finished && is_finished(slot);
+        decided = decided && is_finished(slot);
     }
-    Ok(Marks { failed, finished })
+    Ok(Marks { failed, decided })
+}
+
+fn is_cut(fast: bool, blocked: bool, jobs: Marks) -> bool
+    ensures { result ≡ fast && not blocked && jobs.failed }
+{
+    fast && !blocked && jobs.failed
+}
+
+fn is_done(cut: bool, jobs: Marks) -> bool
+    ensures { result ≡ cut || jobs.decided }
+{
+    cut || jobs.decided
 }
 
 /// Judges an item that a visit sees, by the builds of it that count still.
 pub(crate) fn judge(
     alloc: Global,
     first: bool,
+    fast: bool,
     gone: &[ChangeNo],
     marks: &[Mark],
     needs: &[SeenNeed],
@@ -165,16 +159,19 @@ pub(crate) fn judge(
     counting: &[Build],
 ) -> Result<Judged, NoMemory>
     ensures failing { IfOk result (λ j. j.failing ≡ walk.fails_by marks.now needs.now jobs.now counting.now) }
+    ensures cut { IfOk result (λ j. j.cut ≡ walk.is_cut_by fast marks.now needs.now jobs.now counting.now) }
     ensures verdict { IfOk result (λ j. j.verdict ≡
-        walk.verdict_among first gone.now marks.now needs.now jobs.now counting.now) }
+        walk.verdict_among first fast gone.now marks.now needs.now jobs.now counting.now) }
 {
     let met = are_met_without(gone, needs);
     let blocked = is_blocked_by(marks, needs);
     let jobs = marks_among(alloc, counting, jobs)?;
     let failing = blocked || jobs.failed;
-    let failed = failing && !blocked && first && jobs.finished;
+    let cut = is_cut(fast, blocked, jobs);
+    let failed = failing && !blocked && first && is_done(cut, jobs);
     Ok(Judged {
         failing,
+        cut,
         verdict: verdict_of(met, failed),
     })
 }

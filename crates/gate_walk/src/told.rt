@@ -5,29 +5,30 @@ ghost use Rattle.gate_walk.specs.Walk as walk;
 
 use gate_queue::edits::{push_item, push_window};
 use gate_queue::settle::window_behind;
+use gate_types::config::WindowRule;
 use gate_types::edits::Edit;
 use gate_types::names::{Name, NoMemory};
 use gate_types::records::{Build, Item, Outcome, Verdict};
 use gate_types::sequence::Sequence;
 use std::alloc::Global;
 
-fn is_stopped(resets: bool, going: bool, build: &Build) -> bool
-    ensures { result ≡ (resets || going && rules.is_running build.now.outcome) }
+fn is_stopped(resets: bool, over: bool, build: &Build) -> bool
+    ensures { result ≡ (resets || over && rules.is_running build.now.outcome) }
 {
-    resets || going && matches!(build.outcome, Outcome::Running)
+    resets || over && matches!(build.outcome, Outcome::Running)
 }
 
-/// Stops the builds of an item: all of them, or the running ones where it goes.
+/// Stops the builds of an item: all of them, or the running ones where no more of it is to be run.
 fn push_stops(
     edits: &mut Sequence<Edit>,
     resets: bool,
-    going: bool,
+    over: bool,
     builds: &[Build],
 ) -> Result<(), NoMemory>
-    ensures { OnOk result (edits.new ≡ edits.old ++ walk.stops_of resets going builds.now) }
+    ensures { OnOk result (edits.new ≡ edits.old ++ walk.stops_of resets over builds.now) }
 {
     for build in builds {
-        if is_stopped(resets, going, build) {
+        if is_stopped(resets, over, build) {
             edits.push(Edit::StopBuild(build.number))?;
         }
     }
@@ -57,6 +58,7 @@ fn push_row(
 pub struct Beside {
     pub stored: Item,
     pub floor: u32,
+    pub rule: WindowRule,
     pub window: u32,
     pub reports: u64,
     pub resets: bool,
@@ -69,16 +71,18 @@ pub(crate) fn edits_of_visit(
     name: &Name,
     beside: Beside,
     row: Item,
+    cut: bool,
     verdict: Option<Verdict>,
     builds: &[Build],
 ) -> Result<Sequence<Edit>, NoMemory>
     ensures { IfOk result (λ edits. edits ≡
-        (walk.stops_of beside.resets (is_some verdict) builds.now
+        (walk.stops_of beside.resets (is_some verdict || cut) builds.now
         ++ walk.row_edits name.now beside.reports beside.stored row verdict)
-        ++ walk.window_edits_by name.now beside.floor beside.window verdict) }
+        ++ walk.window_edits_by name.now (record { floor = beside.floor; rule = beside.rule }) beside.window verdict) }
 {
     let mut edits = Sequence::new(alloc);
-    push_stops(&mut edits, beside.resets, verdict.is_some(), builds)?;
+    let over = verdict.is_some() || cut;
+    push_stops(&mut edits, beside.resets, over, builds)?;
     push_row(
         &mut edits,
         name,
@@ -87,7 +91,7 @@ pub(crate) fn edits_of_visit(
         row,
         verdict,
     )?;
-    let window = window_behind(beside.window, beside.floor, verdict);
+    let window = window_behind(beside.window, beside.floor, beside.rule, verdict);
     push_window(&mut edits, name, beside.window, window)?;
     Ok(edits)
 }

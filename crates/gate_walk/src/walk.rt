@@ -1,6 +1,7 @@
 //! The walk over the rows behind a touched item.
 ghost use Rattle.std.specs.Prelude.{◌≡◌, ◌≤◌, ◌+◌, ◌++◌, List, [], ◌∷◌, vec_len, Option, OnOk, OnErr, IfOk, not, is_some, if◌then◌else◌, option_map};
 ghost use Rattle.std.specs.Option.{option_map_or};
+ghost use Rattle.gate_types.specs.Window.{bounds_by};
 ghost use Rattle.gate_walk.specs.Walk as rules;
 ghost use Rattle.gate_walk.specs.Rescan as law;
 ghost use Rattle.gate_walk.specs.Next as next;
@@ -9,7 +10,7 @@ ghost use Rattle.gate_walk.specs.TakenOut.{out_of};
 use crate::seen::{Mark, SeenNeed, judge};
 use crate::told::{Beside, edits_of_visit};
 use gate_queue::settle::{reports_behind, window_behind};
-use gate_types::config::{Job, Queue};
+use gate_types::config::{Job, Queue, WindowRule};
 use gate_types::edits::Edit;
 use gate_types::names::{Name, NoMemory};
 use gate_types::numbers::{ChangeNo, Serial};
@@ -17,13 +18,14 @@ use gate_types::records::{Build, Item, Verdict};
 use std::alloc::Global;
 use std::marker::Model;
 
-/// What a visit is given: a row as it is stored, the needs of its change, the jobs of its project, its live
-/// builds.
+/// What a visit is given: a row as it is stored, the needs of its change, the jobs of its plan, whether one
+/// failure ends them all, its live builds.
 #[derive(Clone, Copy)]
 pub struct Seen<'a> {
     pub row: Item,
     pub needs: &'a [SeenNeed],
     pub jobs: &'a [Job],
+    pub fast: bool,
     pub builds: &'a [Build],
 }
 
@@ -68,6 +70,7 @@ pub enum Next {
 pub struct Walk {
     name: Name,
     floor: u32,
+    rule: WindowRule,
     window: u32,
     reports: u64,
     touched: Serial,
@@ -87,7 +90,7 @@ impl Model for Walk {
 
     ghost view = { λ w. record {
       name = w.name;
-      floor = w.floor;
+      bounds = record { floor = w.floor; rule = w.rule };
       touched = w.touched;
       told = w.edits.items;
       carry = record {
@@ -194,7 +197,7 @@ impl Walk {
     /// What a visit of this row comes to.
     fn told(&self, alloc: Global, seen: &Seen) -> Result<Told, NoMemory>
         ensures edits { IfOk result (λ t. t.edits.items ≡
-            rules.visit_edits self.now.name self.now.floor self.now.carry (seen_of seen.now)) }
+            rules.visit_edits self.now.name self.now.bounds self.now.carry (seen_of seen.now)) }
         ensures failing { IfOk result (λ t. t.failing ≡ rules.fails self.now.carry (seen_of seen.now)) }
         ensures verdict { IfOk result (λ t. t.verdict ≡ rules.verdict_by self.now.carry (seen_of seen.now)) }
     {
@@ -202,6 +205,7 @@ impl Walk {
         let judged = judge(
             alloc,
             !self.ahead.is_some(),
+            seen.fast,
             self.gone.as_slice(),
             self.marks.as_slice(),
             seen.needs,
@@ -218,11 +222,20 @@ impl Walk {
         let beside = Beside {
             stored: seen.row,
             floor: self.floor,
+            rule: self.rule,
             window: self.window,
             reports: self.reports,
             resets: self.resets,
         };
-        let edits = edits_of_visit(alloc, &self.name, beside, row, judged.verdict, seen.builds)?;
+        let edits = edits_of_visit(
+            alloc,
+            &self.name,
+            beside,
+            row,
+            judged.cut,
+            judged.verdict,
+            seen.builds,
+        )?;
         Ok(Told {
             edits: edits.into_vec(),
             failing: judged.failing,
@@ -265,7 +278,7 @@ impl Walk {
         ensures for_a_delivery { IfOk result (λ w. (x : Delivered) → IsFor x queue.entry touched → Starts x w) }
         ensures begun { IfOk result (λ w. w ≡ record {
           name = queue.entry.settings.now.name;
-          floor = queue.entry.settings.now.floor;
+          bounds = bounds_by queue.entry.settings.now;
           touched = touched.serial;
           told = [];
           carry = law.start (option_map out_of touched.out) touched.ahead queue.entry.reports queue.entry.window;
@@ -274,6 +287,7 @@ impl Walk {
         Ok(Walk {
             name: queue.settings.name.copy()?,
             floor: queue.settings.floor,
+            rule: queue.settings.rule,
             window: queue.window,
             reports: queue.reports,
             touched: touched.serial,
@@ -326,7 +340,7 @@ impl Walk {
         self.passes = self.passes && failing;
         self.ahead = ahead_behind(failing, self.ahead, seen.row.serial);
         self.reports = reports_behind(self.reports, verdict);
-        self.window = window_behind(self.window, self.floor, verdict);
+        self.window = window_behind(self.window, self.floor, self.rule, verdict);
         Ok(self.next(seen.row.serial))
     }
 

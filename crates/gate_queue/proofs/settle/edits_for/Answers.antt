@@ -1,4 +1,5 @@
 use Rattle.std.proofs.Common.{◌≡◌, ◌≤◌, ◌+◌, ◌∷◌, drop, get_or, arith, sym, ◌∙◌}
+use Rattle.gate_types.specs.Window.{bounds_by}
 use Rattle.gate_types.specs.Sweep.{verdict_of}
 use Rattle.gate_queue.specs.Facts.{places_by, place_by, place_behind}
 use Rattle.gate_queue.specs.Edits.{next_reports}
@@ -28,6 +29,6 @@ loop-index-preserved c =
       shared = c.in_ok-visit.ensures.shared;
       edits = edits_after_more c.args.facts.now.settings.now.name bs pass.reports now.reports pass.ahead.items now.ahead.items pass.staying.items now.staying.items (place_by ls item fact) rest _ pass.edits now.edits _
           here v.ahead v.staying v.edits v.reports c.loop-index.invariant.edits;
-      window = window_after_more bs c.args.facts.now.settings.now.floor pass.window now.window pass.ahead.items now.ahead.items pass.staying.items now.staying.items (place_by ls item fact) rest _ _
+      window = window_after_more bs (bounds_by c.args.facts.now.settings.now) pass.window now.window pass.ahead.items now.ahead.items pass.staying.items now.staying.items (place_by ls item fact) rest _ _
           here v.ahead v.staying v.window c.loop-index.invariant.window;
     }

@@ -1,6 +1,7 @@
 use Rattle.std.proofs.Common.{◌≡◌, ◌≤◌, ◌+◌, ◌++◌, true, drop, take, []}
 use Rattle.std.specs.Prelude.{nat_lt}
 use Rattle.std.specs.List.{list_all}
+use Rattle.gate_types.specs.Window.{bounds_by}
 use Rattle.gate_queue.specs.Facts.{places_by}
 use Rattle.gate_queue.specs.Edits.{edits_after, window_after}
 use Rattle.gate_queue.proofs.settle.edits_for.Given as goal
@@ -13,6 +14,6 @@ invariant-loop-index l = record {
       l.pass.edits ++ edits_after l.facts.settings.now.name l.builds l.pass.reports l.pass.ahead.items l.pass.staying.items (places_by l.facts.landings.now (drop l.index l.items) (drop l.index l.facts.items.now))
       ≡ edits_after l.facts.settings.now.name l.builds l.facts.reports [] [] (places_by l.facts.landings.now l.items l.facts.items.now);
   window :
-      window_after l.builds l.facts.settings.now.floor l.pass.window l.pass.ahead.items l.pass.staying.items (places_by l.facts.landings.now (drop l.index l.items) (drop l.index l.facts.items.now))
-      ≡ window_after l.builds l.facts.settings.now.floor l.facts.window [] [] (places_by l.facts.landings.now l.items l.facts.items.now);
+      window_after l.builds (bounds_by l.facts.settings.now) l.pass.window l.pass.ahead.items l.pass.staying.items (places_by l.facts.landings.now (drop l.index l.items) (drop l.index l.facts.items.now))
+      ≡ window_after l.builds (bounds_by l.facts.settings.now) l.facts.window [] [] (places_by l.facts.landings.now l.items l.facts.items.now);
 }

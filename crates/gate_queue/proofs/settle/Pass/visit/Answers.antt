@@ -1,4 +1,5 @@
 use Rattle.std.proofs.Common.{if◌then◌else◌, is_some, [], ◌∷◌, ◌++◌, ap, ◌∙◌}
+use Rattle.gate_types.specs.Window.{bounds_by}
 use Rattle.gate_types.specs.Standing.{is_failing}
 use Rattle.gate_types.specs.Sweep.{verdict_of}
 use Rattle.gate_queue.specs.Edits.{edits_at, window_behind, next_reports}
@@ -19,6 +20,6 @@ returns-clause-visited c =
       staying = c.in_ok-push_unless-2.ensures
           ∙ (λ k. if (c.is_some.ensures ∙ ap is_some verdict) k then old.staying.items else old.staying.items ++ c.of-bare.ensures k ∷ []);
       edits = ruling.edits ∙ (λ k. old.edits ++ edits_at facts.settings.now.name builds old.reports (c.deref-2.ensures.value k) (place k));
-      window = c.window_behind-self.ensures ∙ ap (window_behind facts.settings.now.floor old.window) verdict;
+      window = c.window_behind-self.ensures ∙ ap (window_behind (bounds_by facts.settings.now) old.window) verdict;
       reports = c.reports_behind-self.ensures.value ∙ ap (next_reports old.reports) verdict;
     }

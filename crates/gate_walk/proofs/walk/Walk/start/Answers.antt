@@ -1,3 +1,4 @@
+use Rattle.gate_types.specs.Window.{bounds_by}
 use Rattle.gate_walk.proofs.UnderWay.{starts}
 use Rattle.gate_walk.proofs.walk.Walk.start.Goals as goal
 
@@ -8,7 +9,7 @@ returns-clause-for_a_delivery c =
     λ x f. starts x _ queue touched
     (λ k. record {
       name = c.in_ok-copy.ensures k;
-      floor = queue.settings.now.floor;
+      bounds = bounds_by queue.settings.now;
       touched = touched.serial;
       told = c.new-2.ensures.items k;
       carry = record {
