@@ -8,6 +8,7 @@ pub mod TableLemmas
 pub mod ChangeLemmas
 pub mod LoopLemmas
 pub mod MemoryLemmas
+mod AdoptLemmas
 pub mod ReadLemmas
 pub mod ReadyLemmas
 pub mod Padding

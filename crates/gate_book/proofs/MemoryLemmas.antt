@@ -15,9 +15,11 @@ use Rattle.gate_book.specs.Builds.{HaveRoom}
 use Rattle.gate_book.specs.Changes as change
 use Rattle.gate_book.specs.Queues as queue
 use Rattle.gate_book.specs.Replies as reply
+use Rattle.gate_book.specs.Plans as plan
 use Rattle.gate_book.specs.Memory.{HasRoom, HasRoomBeside}
 use Rattle.gate_book.specs.declared.builds.BuildTable.{BuildTable}
 use Rattle.gate_book.specs.declared.changes.ChangeTable.{ChangeTable}
+use Rattle.gate_book.specs.declared.plans.PlanTable.{PlanTable}
 use Rattle.gate_book.specs.declared.replies.ReplyTable.{ReplyTable}
 use Rattle.gate_book.specs.declared.tables.MemTables.{MemTables}
 use Rattle.gate_book.proofs.BuildLemmas.{in_weaker}
@@ -97,6 +99,9 @@ queued_at test queues k t o l at e =
 pub changes_less : (n : ℕ) (t : ChangeTable) → change.HasRoom (suc n) t → change.HasRoom n t
 changes_less n t room = let r = room.rows in let p = room.places in let q = room.ready in record { rows = omega (arith, r); places = omega (arith, p); ready = omega (arith, q) }
 
+pub plans_less : (n : ℕ) (t : PlanTable) → plan.HasRoom (suc n) t → plan.HasRoom n t
+plans_less n t room = omega (arith, room)
+
 pub builds_less : (n : ℕ) (t : BuildTable) → HaveRoom (suc n) t → HaveRoom n t
 builds_less n t room = let r = room.rows in let q = room.live in record { rows = omega (arith, r); live = omega (arith, q) }
 
@@ -105,6 +110,9 @@ replies_less n t room = let r = room.rows in let q = room.places in record { row
 
 changes_one : (n : ℕ) (t : ChangeTable) → change.HasRoom (suc n) t → change.HasRoom 1 t
 changes_one n t room = let r = room.rows in let p = room.places in let q = room.ready in record { rows = omega (arith, r); places = omega (arith, p); ready = omega (arith, q) }
+
+plans_one : (n : ℕ) (t : PlanTable) → plan.HasRoom (suc n) t → plan.HasRoom 1 t
+plans_one n t room = omega (arith, room)
 
 builds_one : (n : ℕ) (t : BuildTable) → HaveRoom (suc n) t → HaveRoom 1 t
 builds_one n t room = let r = room.rows in let q = room.live in record { rows = omega (arith, r); live = omega (arith, q) }
@@ -119,6 +127,7 @@ queue_one n t room = let a = room.items in let b = room.entries in let d = room.
 pub beside_less : (n : ℕ) (t : MemTables) → HasRoomBeside (suc n) t → HasRoomBeside n t
 beside_less n t room = record {
   changes = changes_less n t.changes room.changes;
+  plans = plans_less n t.plans room.plans;
   builds = builds_less n t.builds room.builds;
   replies = replies_less n t.replies room.replies;
 }
@@ -129,6 +138,7 @@ room_one n t room = record {
   queues = in_weaker (queue.HasRoom (suc n)) (queue.HasRoom 1) (λ q r. queue_one n q r) t.queues.items room.queues;
   others = record {
     changes = changes_one n t.changes room.others.changes;
+    plans = plans_one n t.plans room.others.plans;
     builds = builds_one n t.builds room.others.builds;
     replies = replies_one n t.replies room.others.replies;
   };

@@ -1,5 +1,6 @@
 pub mod Sorted
 pub mod Pairs
+pub mod Plans
 pub mod Builds
 pub mod Changes
 pub mod Queues

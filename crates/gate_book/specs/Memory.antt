@@ -1,13 +1,16 @@
 -- How a book in memory keeps all tables.
-use Rattle.std.specs.Prelude.{ℕ, [], map}
+use Rattle.std.specs.Prelude.{◌≡◌, ⊤, ℕ, Bool, false, [], map}
 use Rattle.std.specs.List.{AllByRecursion}
-use Rattle.gate_types.specs.declared.config.Queue.{Queue as QueueSetting}
 use Rattle.gate_types.specs.Settings.{Settings}
 use Rattle.gate_types.specs.Counters.{Drawn}
 use Rattle.gate_types.specs.State.{start}
+use Rattle.gate_types.specs.AdoptedTables.{adopted_tables}
 use Rattle.gate_types.specs.Once.{Content}
-use Rattle.gate_types.specs.Tables.{QueueRows, Tables}
+use Rattle.gate_types.specs.declared.open_fault.OpenFault.{OpenFault}
+use Rattle.gate_types.specs.declared.open_fault.OpenFault.TheVariants as fault
+use Rattle.gate_types.specs.Tables.{Tables, tables}
 use Rattle.gate_book.specs.Builds.{AreKept, HaveRoom}
+use Rattle.gate_book.specs.Plans as plan
 use Rattle.gate_book.specs.Changes as change
 use Rattle.gate_book.specs.Queues as queue
 use Rattle.gate_book.specs.Replies as reply
@@ -18,19 +21,35 @@ use Rattle.gate_book.specs.declared.tables.MemTables.{MemTables}
 abbrev pub drawn_of : LastNumbers → Drawn
 drawn_of d = record { approval = d.approval; build = d.build; order = d.order }
 
--- what stands of a queue before its first change
-abbrev pub empty_rows : QueueSetting → QueueRows
-empty_rows q = record { name = q.name; window = q.window; items = []; landings = []; reports = [] }
-
 -- the content before the first delivery, with these numbers drawn
 abbrev pub start_with : Settings → Drawn → Content
 start_with c drawn = record { state = record (start c) { counters = drawn }; kept = [] }
+
+-- what a book in memory holds: the settings in force, and the tables
+pub record Held : Type 0 where
+  pub settings : Settings
+  pub tables : Tables
+
+-- where it holds a content under settings
+abbrev pub held : Settings → Content → Held
+held c x = record { settings = c; tables = tables c x }
+
+-- where it has taken other settings
+abbrev pub adopted : Settings → Held → Held
+adopted d m = record { settings = d; tables = adopted_tables m.settings d m.tables }
+
+-- why settings aren't taken, where they may be, and where they may not
+abbrev pub IsRefused : OpenFault → Bool → Type 0
+IsRefused fault.OtherSettings may = may ≡ false
+IsRefused fault.Unavailable may = ⊤
+IsRefused _ may = ⊥
 
 -- the tables that it keeps
 abbrev pub tables_of : MemTables → Tables
 tables_of t = record {
   changes = change.changes_of t.changes;
   queues = map queue.rows_of t.queues.items;
+  plans = t.plans.rows.items;
   builds = t.builds.rows.items;
   counters = drawn_of t.drawn;
   kept = t.replies.rows.items;
@@ -40,12 +59,14 @@ tables_of t = record {
 pub record IsKept (t : MemTables) : Type 0 where
   pub changes : change.IsKept t.changes
   pub queues : AllByRecursion queue.IsKept t.queues.items
+  pub plans : plan.IsKept t.plans
   pub builds : AreKept t.builds
   pub replies : reply.IsKept t.replies
 
--- room for n more changes, builds and deliveries
+-- room for n more changes, plans, builds and deliveries
 pub record HasRoomBeside (n : ℕ) (t : MemTables) : Type 0 where
   pub changes : change.HasRoom n t.changes
+  pub plans : plan.HasRoom n t.plans
   pub builds : HaveRoom n t.builds
   pub replies : reply.HasRoom n t.replies
 

@@ -5,6 +5,7 @@ use Rattle.std.specs.Option.{option_map_or}
 use Rattle.gate_types.specs.declared.records.Item.{Item as ItemRow}
 use Rattle.gate_types.specs.declared.records.Landing.{Landing}
 use Rattle.gate_types.specs.declared.records.Build.{Build}
+use Rattle.gate_types.specs.declared.records.Plan.{Plan}
 use Rattle.gate_types.specs.Names.{same_name}
 use Rattle.gate_types.specs.Settings.{Settings}
 use Rattle.gate_types.specs.State.{Queue, State, change_of}
@@ -66,6 +67,10 @@ last_below serial items = fold (λ last i. Some i) None (filter (λ i. nat_lt i.
 abbrev pub first_needing : State → ℕ → ℕ → List ItemRow → Option ItemRow
 first_needing s n serial items =
     find (λ i. nat_lt serial i.serial && list_any (λ m. m == n) (change_of s i.change).needs) items
+
+-- the plan of the item or the landing of a serial
+abbrev pub plan_at : State → ℕ → Option Plan
+plan_at s serial = find (λ p. p.serial == serial) s.plans
 
 -- the live builds of a serial, by number
 abbrev pub live_builds : State → ℕ → List Build

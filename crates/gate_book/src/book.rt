@@ -4,7 +4,7 @@ use crate::rows::{QueueSizes, QueuedItem};
 use gate_types::edits::Edit;
 use gate_types::names::Name;
 use gate_types::numbers::{BuildNo, ChangeNo, Serial};
-use gate_types::records::{Build, Change, Counters, Id, Item, Kept, Ready};
+use gate_types::records::{Build, Change, Counters, Id, Item, Kept, Plan, Ready};
 use gate_types::sequence::Sequence;
 use gate_types::tap::Tap;
 use std::io::Write;
@@ -118,6 +118,13 @@ pub trait Book {
         ensures found { OfHeld IsTrusted Holds self.old self.new (λ c x.
             read.Answers (read.first_needing x.state change above (read.items_in c x.state queue.now)) result) }
         ensures rises { IfOk result (λ found. IfSome found (λ i. above < i.serial)) }
+        ensures kept { IsKept IsTrusted Holds LeavesOneOf self.old self.new }
+        ensures fault { IfErr result MayFault };
+
+    /// The plan under a serial, of an item or of a landing.
+    fn plan(&mut self, serial: Serial) -> Result<Option<Plan>, BookFault>
+        ensures found { OfHeld IsTrusted Holds self.old self.new (λ c x.
+            read.Answers (read.plan_at x.state serial) result) }
         ensures kept { IsKept IsTrusted Holds LeavesOneOf self.old self.new }
         ensures fault { IfErr result MayFault };
 

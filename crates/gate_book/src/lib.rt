@@ -1,6 +1,7 @@
 //! What keeps a gate's content: the trait `Book`, and a book in memory.
 #![tactic(auto)]
 
+mod adopting;
 pub mod book;
 mod builds;
 mod changes;
@@ -8,6 +9,8 @@ pub mod fault;
 pub mod history;
 pub mod memory;
 mod pairs;
+pub mod planned;
+mod plans;
 mod queues;
 mod replies;
 pub mod rows;

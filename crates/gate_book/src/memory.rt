@@ -1,19 +1,22 @@
 //! A book in memory.
-ghost use Rattle.std.specs.Prelude.{◌≡◌, IfOk};
-ghost use Rattle.gate_types.specs.Once.{empty};
-ghost use Rattle.gate_types.specs.Tables.{tables};
-ghost use Rattle.gate_book.specs.Memory.{start_with};
+ghost use Rattle.std.specs.Prelude.{◌≡◌, true, IfErr, IfOk, OnErr, OnOk};
+ghost use Rattle.gate_types.specs.Once.{Content, empty};
+ghost use Rattle.gate_types.specs.Adopt.{may_adopt, adopted_content};
+ghost use Rattle.gate_types.specs.Settings.{Settings};
+ghost use Rattle.gate_book.specs.Memory.{IsRefused, adopted, held, start_with};
 
 use crate::book::Book;
 use crate::fault::{BookFault, HistoryFault};
 use crate::rows::{QueueSizes, QueuedItem};
 use crate::tables::MemTables;
 use crate::writing::write_history;
+use gate_types::adopting::may_adopt;
 use gate_types::config::Config;
 use gate_types::edits::Edit;
 use gate_types::names::{Name, NoMemory};
 use gate_types::numbers::{BuildNo, ChangeNo, Serial};
-use gate_types::records::{Build, Change, Counters, Id, Item, Kept, Ready};
+use gate_types::open_fault::OpenFault;
+use gate_types::records::{Build, Change, Counters, Id, Item, Kept, Plan, Ready};
 use gate_types::sequence::Sequence;
 use gate_types::tap::Tap;
 use std::alloc::Global;
@@ -25,17 +28,19 @@ use std::marker::Model;
 #[derive(Drop)]
 pub struct MemBook {
     alloc: Global,
+    // The settings in force: those that come are compared with them.
+    config: Config,
     tables: MemTables,
 }
 
 impl Model for MemBook {
-    ghost use Rattle.gate_types.specs.Tables.{Tables};
+    ghost use Rattle.gate_book.specs.Memory.{Held};
 
-    ghost Value = { Tables };
+    ghost Value = { Held };
 
     ghost use Rattle.gate_book.specs.Memory.{tables_of, IsKept};
 
-    ghost view = { λ m. tables_of m.tables };
+    ghost view = { λ m. record { settings = m.config; tables = tables_of m.tables } };
 
     ghost invariant = { λ m. IsKept m.tables };
 }
@@ -54,7 +59,7 @@ fn copies(alloc: Global, edits: &[Edit]) -> Result<Vec<Edit>, NoMemory>
 impl MemBook {
     /// The book of a gate that has seen no delivery.
     pub fn new(alloc: Global, config: &Config) -> Result<MemBook, NoMemory>
-        ensures { IfOk result (λ book. book ≡ tables config.now (empty config.now)) }
+        ensures { IfOk result (λ book. book ≡ held config.now (empty config.now)) }
     {
         let counters = Counters {
             approval: 0,
@@ -70,19 +75,49 @@ impl MemBook {
         config: &Config,
         counters: Counters,
     ) -> Result<MemBook, NoMemory>
-        ensures { IfOk result (λ book. book ≡ tables config.now (start_with config.now counters)) }
+        ensures { IfOk result (λ book. book ≡ held config.now (start_with config.now counters)) }
     {
         let tables = MemTables::new(alloc, config, counters)?;
-        Ok(MemBook { alloc, tables })
+        let config = config.copy()?;
+        Ok(MemBook {
+            alloc,
+            config,
+            tables,
+        })
+    }
+
+    /// Takes other settings in place of those in force, all or none: every queue of these must be in them, and every
+    /// project with the same queue, else `OtherSettings`. `Unavailable` where memory is refused.
+    pub fn adopt(&mut self, config: &Config) -> Result<(), OpenFault>
+        ensures adopted { OnOk result ((may_adopt self.old.settings config.now ≡ true) ×
+            (self.new ≡ adopted config.now self.old)) }
+        ensures holds { (c : Settings) (x : Content) → self.old ≡ held c x →
+            OnOk result (self.new ≡ held config.now (adopted_content c config.now x)) }
+        ensures refused { OnErr result (self.new ≡ self.old) }
+        ensures fault { IfErr result (λ f. IsRefused f (may_adopt self.old.settings config.now)) }
+    {
+        if !may_adopt(&self.config, config) {
+            return Err(OpenFault::OtherSettings);
+        }
+        let Ok(copy) = config.copy() else {
+            return Err(OpenFault::Unavailable);
+        };
+        match self.tables.adopt(self.alloc, &self.config, config) {
+            Ok(()) => {
+                self.config = copy;
+                Ok(())
+            }
+            Err(_) => Err(OpenFault::Unavailable),
+        }
     }
 }
 
 impl Book for MemBook {
     ghost use Rattle.std.specs.Prelude.{◌≡◌};
-    ghost use Rattle.gate_types.specs.Tables.{tables};
+    ghost use Rattle.gate_book.specs.Memory.{held};
     ghost use Rattle.gate_book.specs.declared.fault.BookFault.TheVariants as fault;
 
-    ghost Holds = { λ m c x. m ≡ tables c x };
+    ghost Holds = { λ m c x. m ≡ held c x };
 
     ghost IsTrusted = { λ _. Unit {0} };
 
@@ -139,6 +174,10 @@ impl Book for MemBook {
         above: u64,
     ) -> Result<Option<Item>, BookFault> {
         Ok(self.tables.needing(queue, change, above))
+    }
+
+    fn plan(&mut self, serial: Serial) -> Result<Option<Plan>, BookFault> {
+        Ok(self.tables.plan(serial)?)
     }
 
     fn live_builds(&mut self, serial: Serial) -> Result<Sequence<Build>, BookFault> {

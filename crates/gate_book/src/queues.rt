@@ -249,6 +249,23 @@ impl QueueTable {
         self.name.as_str() == name
     }
 
+    pub(crate) fn window(&self) -> u32
+        ensures { result ≡ (rows_of self.now).window }
+    {
+        self.window
+    }
+
+    /// The same queue with another window.
+    pub(crate) fn resized(self, window: u32) -> QueueTable
+        requires { IsKept self }
+        ensures rows { rows_of result ≡ record (rows_of self) { window = window } }
+        ensures kept { IsKept result }
+    {
+        let mut queue = self;
+        queue.window = window;
+        queue
+    }
+
     pub(crate) fn sizes(&self) -> QueueSizes
         ensures { result ≡ sizes_of_rows (rows_of self.now) }
     {

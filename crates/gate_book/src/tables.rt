@@ -1,5 +1,5 @@
 //! All tables of a book in memory.
-ghost use Rattle.std.specs.Prelude.{◌≡◌, ◌==◌, ℕ, suc, [], length, find, filter, map, option_map, IfOk, OnOk, IfSome};
+ghost use Rattle.std.specs.Prelude.{◌≡◌, ◌==◌, ℕ, suc, [], length, find, filter, map, option_map, IfOk, OnErr, OnOk, IfSome};
 ghost use Rattle.std.specs.List.{AllByRecursion};
 ghost use Rattle.std.specs.Option.{option_copied, option_map_or};
 ghost use Rattle.gate_types.specs.Names.{same_name};
@@ -10,10 +10,13 @@ ghost use Rattle.gate_book.specs.Queues as queue;
 ghost use Rattle.gate_book.specs.Builds.{is_live_of};
 ghost use Rattle.gate_book.specs.Reads as read;
 ghost use Rattle.gate_book.specs.TableReads.{change_in, sizes_of_rows, rows_named, items_named, is_needing_in, first_needing_in, all_queued, landings_below, LandingsRise, within};
-ghost use Rattle.gate_book.specs.Memory.{tables_of, IsKept, HasRoom, HasRoomBeside, empty_rows, drawn_of, start_with};
+ghost use Rattle.gate_types.specs.AdoptedTables.{adopted_tables, empty_rows};
+ghost use Rattle.gate_book.specs.Memory.{tables_of, IsKept, HasRoom, HasRoomBeside, drawn_of, start_with};
 
+use crate::adopting::adopt_queues;
 use crate::builds::BuildTable;
 use crate::changes::ChangeTable;
+use crate::plans::PlanTable;
 use crate::queues::QueueTable;
 use crate::replies::ReplyTable;
 use crate::rows::{QueueSizes, QueuedItem};
@@ -21,7 +24,7 @@ use gate_types::config::{Config, Queue};
 use gate_types::edits::{Counter, Edit};
 use gate_types::names::{Name, NoMemory};
 use gate_types::numbers::{BuildNo, ChangeNo, Serial};
-use gate_types::records::{Build, Change, Counters, Id, Item, Kept, Ready};
+use gate_types::records::{Build, Change, Counters, Id, Item, Kept, Plan, Ready};
 use gate_types::rows::ChangeRow;
 use gate_types::sequence::Sequence;
 use std::alloc::{AllocError, Global};
@@ -42,6 +45,7 @@ struct LastNumbers {
 pub struct MemTables {
     changes: ChangeTable,
     queues: Vec<QueueTable>,
+    plans: PlanTable,
     builds: BuildTable,
     drawn: LastNumbers,
     replies: ReplyTable,
@@ -178,10 +182,35 @@ impl MemTables {
         Ok(MemTables {
             changes: ChangeTable::new(alloc),
             queues: empty_queues(alloc, config.queues.as_slice())?,
+            plans: PlanTable::new(alloc),
             builds: BuildTable::new(alloc),
             drawn: drawn_by(counters),
             replies: ReplyTable::new(alloc),
         })
+    }
+
+    /// Other settings taken in place of the kept ones: their queues in their order, each that is there under its new
+    /// window. The tables stay where memory is refused.
+    pub(crate) fn adopt(
+        &mut self,
+        alloc: Global,
+        kept: &Config,
+        config: &Config,
+    ) -> Result<(), NoMemory>
+        requires { IsKept self.old }
+        ensures ok { OnOk result (tables_of self.new ≡ adopted_tables kept.now config.now (tables_of self.old)) }
+        ensures err { OnErr result (self.new ≡ self.old) }
+        ensures kept { IsKept self.new }
+    {
+        let mut queues = empty_queues(alloc, config.queues.as_slice())?;
+        adopt_queues(
+            kept,
+            config.queues.as_slice(),
+            &mut self.queues,
+            &mut queues,
+        );
+        self.queues = queues;
+        Ok(())
     }
 
     /// Makes room for `n` edits. The tables stay, whatever the result.
@@ -193,6 +222,7 @@ impl MemTables {
     {
         self.changes.make_room(n)?;
         make_queues_room(&mut self.queues, n)?;
+        self.plans.make_room(n)?;
         self.builds.make_room(n)?;
         self.replies.make_room(n)?;
         Ok(())
@@ -224,6 +254,8 @@ impl MemTables {
             Edit::PutChange { change, approval } => {
                 self.changes.put(ChangeRow { change, approval })
             }
+            Edit::DropItem(serial) => self.plans.remove(serial),
+            Edit::PutPlan(plan) => self.plans.put(plan),
             Edit::PutBuild(build) => self.builds.put(build),
             Edit::SetOutcome { build, outcome } => self.builds.set_outcome(build, outcome),
             Edit::StopBuild(build) => self.builds.stop(build),
@@ -367,6 +399,13 @@ impl MemTables {
             Some(queue) => first_needing(queue.item_rows(), &self.changes, change, above).copied(),
             None => None,
         }
+    }
+
+    pub(crate) fn plan(&self, serial: Serial) -> Result<Option<Plan>, NoMemory>
+        requires { IsKept self.now }
+        ensures { IfOk result (λ found. found ≡ find (λ p. p.serial == serial) (tables_of self.now).plans) }
+    {
+        self.plans.get(serial)
     }
 
     pub(crate) fn live_builds(

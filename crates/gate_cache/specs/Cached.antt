@@ -15,6 +15,7 @@ pub record Agrees (k : Cache) (c : Settings) (x : Content) : Type 0 where
   pub queue : IfSome k.queue (λ told. told.1 ≡ option_map read.sizes_of (read.queue_named x.state told.0))
   pub reports : IfSome k.reports (λ told. told.1 ≡ read.reports_in x.state told.0)
   pub queued : IfSome k.queued (λ told. told.1 ≡ read.queued_of c x.state told.0)
+  pub plan : IfSome k.plan (λ told. told.1 ≡ read.plan_at x.state told.0)
   pub live_builds : IfSome k.live_builds (λ told. told.1 ≡ read.live_builds x.state told.0)
   pub ready : IfSome k.ready (λ found. found ≡ x.state.ready)
   pub counters : IfSome k.counters (λ found. found ≡ x.state.counters)

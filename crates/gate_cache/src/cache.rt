@@ -9,7 +9,7 @@ ghost use Rattle.gate_cache.specs.Cached.{Agrees};
 use gate_book::rows::{QueueSizes, QueuedItem};
 use gate_types::names::{Name, NoMemory};
 use gate_types::numbers::{ChangeNo, Serial};
-use gate_types::records::{Build, Change, Counters, Ready};
+use gate_types::records::{Build, Change, Counters, Plan, Ready};
 use gate_types::sequence::Sequence;
 use std::alloc::Global;
 
@@ -22,6 +22,7 @@ pub struct Cache {
     pub(crate) queue: Option<(Name, Option<QueueSizes>)>,
     pub(crate) reports: Option<(Name, u64)>,
     pub(crate) queued: Option<(ChangeNo, Option<QueuedItem>)>,
+    pub(crate) plan: Option<(Serial, Option<Plan>)>,
     pub(crate) live_builds: Option<(Serial, Sequence<Build>)>,
     pub(crate) ready: Option<Sequence<Ready>>,
     pub(crate) counters: Option<Counters>,
@@ -58,6 +59,15 @@ fn copy_of_queued(queued: &Option<QueuedItem>) -> Result<Option<QueuedItem>, NoM
     }
 }
 
+fn copy_of_plan(plan: &Option<Plan>) -> Result<Option<Plan>, NoMemory>
+    ensures { IfOk result (λ copy. copy ≡ plan.now) }
+{
+    match plan {
+        Some(plan) => Ok(Some(plan.copy()?)),
+        None => Ok(None),
+    }
+}
+
 fn copy_of_builds(alloc: Global, builds: &[Build]) -> Result<Sequence<Build>, NoMemory>
     ensures { IfOk result (λ copy. copy ≡ builds.now) }
 {
@@ -79,6 +89,7 @@ impl Cache {
             queue: None,
             reports: None,
             queued: None,
+            plan: None,
             live_builds: None,
             ready: None,
             counters: None,
@@ -176,6 +187,27 @@ impl Cache {
     {
         if let Ok(copy) = copy_of_queued(found) {
             self.queued = Some((change, copy));
+        }
+    }
+
+    /// The plan under this serial, where that is kept.
+    pub(crate) fn plan(&self, serial: Serial) -> Option<Option<Plan>>
+        ensures { IfSome result (λ found. (c : Settings) (x : Content) → Agrees self.now c x →
+            found ≡ read.plan_at x.state serial) }
+    {
+        match &self.plan {
+            Some((asked, found)) if *asked == serial => copy_of_plan(found).ok(),
+            _ => None,
+        }
+    }
+
+    /// Keeps the plan under a serial, where memory allows.
+    pub(crate) fn keep_plan(&mut self, serial: Serial, found: &Option<Plan>)
+        ensures { (c : Settings) (x : Content) → found.now ≡ read.plan_at x.state serial → Agrees self.old c x →
+            Agrees self.new c x }
+    {
+        if let Ok(copy) = copy_of_plan(found) {
+            self.plan = Some((serial, copy));
         }
     }
 

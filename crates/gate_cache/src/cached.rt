@@ -11,7 +11,7 @@ use gate_book::rows::{QueueSizes, QueuedItem};
 use gate_types::edits::Edit;
 use gate_types::names::Name;
 use gate_types::numbers::{BuildNo, ChangeNo, Serial};
-use gate_types::records::{Build, Change, Counters, Id, Item, Kept, Ready};
+use gate_types::records::{Build, Change, Counters, Id, Item, Kept, Plan, Ready};
 use gate_types::sequence::Sequence;
 use gate_types::tap::Tap;
 use std::alloc::Global;
@@ -133,6 +133,15 @@ impl<B: Book> Book for CachedBook<B> {
         above: u64,
     ) -> Result<Option<Item>, BookFault> {
         self.book.needing(queue, change, above)
+    }
+
+    fn plan(&mut self, serial: Serial) -> Result<Option<Plan>, BookFault> {
+        if let Some(found) = self.cache.plan(serial) {
+            return Ok(found);
+        }
+        let found = self.book.plan(serial)?;
+        self.cache.keep_plan(serial, &found);
+        Ok(found)
     }
 
     fn live_builds(&mut self, serial: Serial) -> Result<Sequence<Build>, BookFault> {

@@ -1,7 +1,7 @@
 use Rattle.std.proofs.Common.{◌≡◌, map, take}
 use Rattle.std.specs.List.{AllByRecursion}
 use Rattle.gate_book.specs.Queues as queue
-use Rattle.gate_book.specs.Memory.{empty_rows}
+use Rattle.gate_types.specs.AdoptedTables.{empty_rows}
 use Rattle.gate_book.proofs.tables.empty_queues.Given as goal
 
 abbrev pub invariant-loop-setting : goal.invariant-loop-setting

@@ -2,8 +2,9 @@ use Rattle.std.proofs.Common.{◌∙◌, ap}
 use Rattle.gate_types.specs.Tables.{Tables}
 use Rattle.gate_book.specs.TableReads.{change_in}
 use Rattle.gate_book.proofs.ReadLemmas.{change_is}
+use Rattle.gate_book.specs.Memory.{Held}
 use Rattle.gate_book.proofs.memory.MemBookBook.change.Goals as goal
 
 pub returns-clause-found : goal.returns-clause-found
 returns-clause-found c _ s x held lawful =
-    c.in_ok-change.ensures ∙ ap (λ (t : Tables). change_in t.changes c.args.number) (c.self.view_is ∙ held) ∙ change_is s x c.args.number
+    c.in_ok-change.ensures ∙ ap (λ (t : Tables). change_in t.changes c.args.number) (ap (λ (m : Held). m.tables) (c.self.view_is ∙ held)) ∙ change_is s x c.args.number

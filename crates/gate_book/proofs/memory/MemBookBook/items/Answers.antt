@@ -2,8 +2,9 @@ use Rattle.std.proofs.Common.{◌∙◌, ap}
 use Rattle.gate_types.specs.Tables.{Tables}
 use Rattle.gate_book.specs.TableReads.{items_named}
 use Rattle.gate_book.proofs.ReadLemmas.{items_are}
+use Rattle.gate_book.specs.Memory.{Held}
 use Rattle.gate_book.proofs.memory.MemBookBook.items.Goals as goal
 
 pub returns-clause-found : goal.returns-clause-found
 returns-clause-found c _ s x held lawful =
-    c.in_ok-items.ensures ∙ ap (λ (t : Tables). items_named t.queues c.args.queue.now) (c.self.view_is ∙ held) ∙ items_are s x c.args.queue.now
+    c.in_ok-items.ensures ∙ ap (λ (t : Tables). items_named t.queues c.args.queue.now) (ap (λ (m : Held). m.tables) (c.self.view_is ∙ held)) ∙ items_are s x c.args.queue.now

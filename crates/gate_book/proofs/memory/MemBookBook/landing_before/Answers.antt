@@ -4,11 +4,12 @@ use Rattle.std.specs.Option.{option_map_or}
 use Rattle.gate_types.specs.Tables.{Tables, tables}
 use Rattle.gate_book.specs.TableReads.{rows_named, landings_below, LandingsRise}
 use Rattle.gate_book.proofs.ReadLemmas.{landings_are, landings_all_rise}
+use Rattle.gate_book.specs.Memory.{Held}
 use Rattle.gate_book.proofs.memory.MemBookBook.landing_before.Goals as goal
 
 pub returns-clause-found : goal.returns-clause-found
 returns-clause-found c _ s x held lawful =
-    let same = c.self.view_is ∙ held in
+    let same = (ap (λ (m : Held). m.tables) (c.self.view_is ∙ held)) in
     let rise : AllByRecursion LandingsRise (tables s x).queues = landings_all_rise s x lawful.lawful.sound.landings_rise in
     c.landing_before.ensures (rw (ap (λ (t : Tables). t.queues) same) rise)
     ∙ ap (λ (t : Tables). option_map_or (landings_below c.args.serial) (rows_named t.queues c.args.queue.now) 0) same

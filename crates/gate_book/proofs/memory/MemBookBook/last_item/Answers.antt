@@ -7,11 +7,12 @@ use Rattle.gate_book.specs.Reads as read
 use Rattle.gate_book.specs.TableReads.{items_named}
 use Rattle.gate_book.specs.Memory.{tables_of}
 use Rattle.gate_book.proofs.ReadLemmas.{items_are, last_passes, weaker_if}
+use Rattle.gate_book.specs.Memory.{Held}
 use Rattle.gate_book.proofs.memory.MemBookBook.last_item.Goals as goal
 
 pub returns-clause-found : goal.returns-clause-found
 returns-clause-found c _ s x held lawful =
-    c.last_item.ensures ∙ ap (read.last_below c.args.below) (ap (λ (t : Tables). items_named t.queues c.args.queue.now) (c.self.view_is ∙ held) ∙ items_are s x c.args.queue.now)
+    c.last_item.ensures ∙ ap (read.last_below c.args.below) (ap (λ (t : Tables). items_named t.queues c.args.queue.now) (ap (λ (m : Held). m.tables) (c.self.view_is ∙ held)) ∙ items_are s x c.args.queue.now)
 
 pub returns-clause-falls : goal.returns-clause-falls
 returns-clause-falls c =

@@ -7,11 +7,12 @@ use Rattle.gate_book.specs.Reads as read
 use Rattle.gate_book.specs.TableReads.{items_named}
 use Rattle.gate_book.specs.Memory.{tables_of}
 use Rattle.gate_book.proofs.ReadLemmas.{items_are, found_passes, weaker_if}
+use Rattle.gate_book.specs.Memory.{Held}
 use Rattle.gate_book.proofs.memory.MemBookBook.next_item.Goals as goal
 
 pub returns-clause-found : goal.returns-clause-found
 returns-clause-found c _ s x held lawful =
-    c.next_item.ensures ∙ ap (read.first_above c.args.above) (ap (λ (t : Tables). items_named t.queues c.args.queue.now) (c.self.view_is ∙ held) ∙ items_are s x c.args.queue.now)
+    c.next_item.ensures ∙ ap (read.first_above c.args.above) (ap (λ (t : Tables). items_named t.queues c.args.queue.now) (ap (λ (m : Held). m.tables) (c.self.view_is ∙ held)) ∙ items_are s x c.args.queue.now)
 
 pub returns-clause-rises : goal.returns-clause-rises
 returns-clause-rises c =

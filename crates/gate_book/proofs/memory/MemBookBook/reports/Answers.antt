@@ -3,8 +3,9 @@ use Rattle.std.specs.Option.{option_map_or}
 use Rattle.gate_types.specs.Tables.{Tables}
 use Rattle.gate_book.specs.TableReads.{rows_named}
 use Rattle.gate_book.proofs.ReadLemmas.{reports_are}
+use Rattle.gate_book.specs.Memory.{Held}
 use Rattle.gate_book.proofs.memory.MemBookBook.reports.Goals as goal
 
 pub returns-clause-found : goal.returns-clause-found
 returns-clause-found c _ s x held lawful =
-    c.reports.ensures ∙ ap (λ (t : Tables). option_map_or (λ r. length r.reports) (rows_named t.queues c.args.queue.now) 0) (c.self.view_is ∙ held) ∙ reports_are s x c.args.queue.now
+    c.reports.ensures ∙ ap (λ (t : Tables). option_map_or (λ r. length r.reports) (rows_named t.queues c.args.queue.now) 0) (ap (λ (m : Held). m.tables) (c.self.view_is ∙ held)) ∙ reports_are s x c.args.queue.now
