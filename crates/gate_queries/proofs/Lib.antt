@@ -6,9 +6,10 @@ mod ChangeReads
 mod ChangeTexts
 mod CountReads
 mod CounterReads
-mod DecodeLemmas
+pub mod DecodeLemmas
 mod DeliveryReads
 mod ExistsLemmas
+pub mod FirstReads
 mod GreatestLemmas
 mod HistoryLemmas
 mod ItemReads
@@ -19,11 +20,13 @@ mod ListedReads
 mod NameLemmas
 mod NeedingReads
 mod NextReads
+mod PlanReads
+mod PlanTexts
 mod QueueReads
 mod QueueTexts
-mod ReadLemmas
+pub mod ReadLemmas
 mod ReadyReads
 mod ReportReads
 mod ShownLemmas
 mod SortedLemmas
-mod StayLemmas
+pub mod StayLemmas

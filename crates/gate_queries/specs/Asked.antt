@@ -1,17 +1,20 @@
 -- What each read says of what the tables hold; of the items of a queue it is `items_of`.
-use Rattle.std.specs.Prelude.{ℕ, ◌&&◌, ◌==◌, ◌<◌, nat_lt, if◌then◌else◌, List, [], ◌∷◌, map, filter, find, fold, flat_map, length, Option, option_map, AllPairs, IsPermutation}
+use Rattle.std.specs.Prelude.{ℕ, ◌&&◌, ◌==◌, ◌<◌, nat_lt, if◌then◌else◌, Bool, List, [], ◌∷◌, map, filter, find, fold, flat_map, length, Option, Some, None, option_map, AllPairs, IsPermutation}
+use Rattle.std.specs.List.{list_any}
 use Rattle.std.specs.Option.{option_map_or}
 use Rattle.gate_types.specs.Names.{same_name}
+use Rattle.gate_types.specs.declared.config.Job.{Job}
 use Rattle.gate_types.specs.declared.records.Build.{Build}
 use Rattle.gate_types.specs.declared.records.Change.{Change}
 use Rattle.gate_types.specs.declared.records.Item.{Item}
+use Rattle.gate_types.specs.declared.records.Plan.{Plan}
 use Rattle.gate_types.specs.declared.records.Ready.{Ready}
 use Rattle.gate_types.specs.declared.rows.ChangeRow.{ChangeRow}
 use Rattle.gate_types.specs.declared.rows.LandingRow.{LandingRow}
 use Rattle.gate_types.specs.declared.rows.ReportRow.{ReportRow}
 use Rattle.gate_book.specs.declared.rows.QueueSizes.{QueueSizes}
 use Rattle.gate_book.specs.declared.rows.QueuedItem.{QueuedItem}
-use Rattle.gate_schema.specs.Rows.{ItemRow, QueueRow, Stored, build_key, change_key, item_key}
+use Rattle.gate_schema.specs.Rows.{ItemRow, JobRow, QueueRow, Stored, build_key, change_key, item_key}
 use Rattle.gate_schema.specs.Shown.{needs_it}
 use Rattle.gate_rows.specs.Tells.{items_of, landings_of, reports_of}
 
@@ -33,6 +36,25 @@ queued_of b n = option_map queued (find (λ (r : ItemRow). r.item.change == n) b
 abbrev pub first_needing : Stored → List ℕ → ℕ → ℕ → Option Item
 first_needing b name n serial =
     find (λ (i : Item). nat_lt serial i.serial && needs_it b.needs n i.change) (items_of name b.items)
+
+-- ---- plans
+
+-- the jobs under a serial, in their order
+abbrev pub jobs_of : Stored → ℕ → List Job
+jobs_of b n = map (λ (x : JobRow). x.job) (filter (λ (x : JobRow). x.serial == n) b.jobs)
+
+-- the item of a serial fails fast
+abbrev pub is_fast : Stored → ℕ → Bool
+is_fast b n = list_any (λ m. m == n) b.fast
+
+-- the plan of these jobs; none of no jobs
+abbrev pub plan_with : ℕ → Bool → List Job → Option Plan
+plan_with n fast [] = None
+plan_with n fast (j ∷ js) = Some (record { serial = n; jobs = j ∷ js; fast = fast })
+
+-- the plan under a serial
+abbrev pub plan_at : Stored → ℕ → Option Plan
+plan_at b n = plan_with n (is_fast b n) (jobs_of b n)
 
 -- ---- changes
 

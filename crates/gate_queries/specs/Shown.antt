@@ -2,9 +2,11 @@
 use Rattle.std.specs.Prelude.{ℕ, pos, [], ◌∷◌}
 use Rattle.sqlite.specs.Order.{Row}
 use Rattle.sqlite.specs.declared.types.Value.TheVariants.{Int, Text as Words}
+use Rattle.gate_types.specs.declared.config.Job.{Job}
 use Rattle.gate_types.specs.declared.records.Change.{Change}
 use Rattle.gate_types.specs.declared.records.Kept.{Kept}
 use Rattle.gate_types.specs.declared.records.Ready.{Ready}
+use Rattle.gate_schema.specs.Rows.{bit}
 use Rattle.gate_schema.specs.Words.{stage_word}
 
 -- a change that is ready
@@ -18,6 +20,10 @@ number_shown n = Int (pos n) ∷ []
 -- a change, without its number and its needs
 abbrev pub change_shown : Change → Row
 change_shown k = Words k.project ∷ Int (pos k.revision) ∷ Words (stage_word k.stage) ∷ []
+
+-- a job
+abbrev pub job_shown : Job → Row
+job_shown j = Words j.name ∷ Int (pos (bit j.voting)) ∷ []
 
 -- a kept delivery, without its id
 abbrev pub kept_shown : Kept → Row

@@ -83,7 +83,7 @@ pub(crate) fn bytes_in(row: &Row, at: usize) -> Result<Vec<u8>, BookFault>
 }
 
 /// A serial; `Damaged` where the column holds none in range.
-pub(crate) fn serial_in(row: &Row, at: usize) -> Result<Serial, BookFault>
+pub fn serial_in(row: &Row, at: usize) -> Result<Serial, BookFault>
     ensures ok { (n : _) → column row.now at ≡ Int (pos n) → IfOk result (λ x. x ≡ n) }
     ensures err { (n : _) → column row.now at ≡ Int (pos n) → is_drawn_number n ≡ true → OnErr result ⊥ }
 {
@@ -109,7 +109,7 @@ pub(crate) fn serial_if_any_in(row: &Row, at: usize) -> Result<Option<Serial>, B
 }
 
 /// The number of a change; `Damaged` where the column holds none in range.
-pub(crate) fn change_in(row: &Row, at: usize) -> Result<ChangeNo, BookFault>
+pub fn change_in(row: &Row, at: usize) -> Result<ChangeNo, BookFault>
     ensures ok { (n : _) → column row.now at ≡ Int (pos n) → IfOk result (λ x. x ≡ n) }
     ensures err { (n : _) → column row.now at ≡ Int (pos n) → is_change_number n ≡ true → OnErr result ⊥ }
 {

@@ -44,7 +44,9 @@ fn first_window(rows: &[Row]) -> Result<Option<u32>, BookFault>
 }
 
 /// The window of a queue, if there is such a queue.
-fn window<S: Alter>(conn: &mut Connection<S>, queue: &Name) -> Result<Option<u32>, BookFault>
+///
+/// `NoMemory` where memory is refused, `Store` where the query fails, `Damaged` where the window is over 1,000.
+pub fn window<S: Alter>(conn: &mut Connection<S>, queue: &Name) -> Result<Option<u32>, BookFault>
     ensures found { Tells (state S.Store conn.old) (state S.Store conn.new) result (λ b.
         option_map (λ (q : QueueRow). q.window) (find (λ (q : QueueRow). same_name q.name queue.now) b.queues)) }
     ensures opened { Opened (state S.Store conn.old) (state S.Store conn.new) result }

@@ -1,5 +1,5 @@
 -- What is told of a change and its needs, where it is put.
-use Rattle.std.proofs.Common.{◌≡◌, ◌≤◌, ◌<◌, ◌⊎◌, inl, inr, ℕ, suc, List, [], ◌∷◌, ◌++◌, filter, Bool, true, false, not, cond, eqb, Some, Option, refl, sym, ap, ◌∙◌, arith, append-nil}
+use Rattle.std.proofs.Common.{◌≡◌, ℕ, suc, List, [], ◌∷◌, ◌++◌, filter, Bool, true, false, not, cond, eqb, Some, Option, refl, sym, ap, ◌∙◌, arith, append-nil}
 use Rattle.std.specs.Option.{option_map_or}
 use Rattle.std.specs.Prelude.{find}
 use Rattle.std.proofs.lemmas.Bool.Decides.{nat_tests}
@@ -11,37 +11,8 @@ use Rattle.gate_types.specs.declared.rows.ChangeRow.{ChangeRow}
 use Rattle.gate_schema.specs.Edits.{after_edit, change_with, need_rows}
 use Rattle.gate_schema.specs.Rows.{NeedRow, Stored, change_key}
 use Rattle.gate_rows.specs.Tells.{IsInOrder, Tells, needs_in}
-use Rattle.gate_rows.proofs.PutLemmas.{below_or, put_after, put_before, put_first, put_is}
+use Rattle.gate_rows.proofs.PutLemmas.{filter-append, find_put, put_is}
 use Rattle.gate_rows.proofs.TellsLemmas.{queues_stay}
-
--- ---- what is found at a number after a put
-
-module _ {X : Type 0} (key : X → ℕ) (n : ℕ) (x : X) where
-  abbrev at : List X → Option X
-  at rows = find (λ y. eqb (key y) n) rows
-
-  find_put : (ys : List X) → at (put_by key x ys) ≡ cond (eqb (key x) n) (Some x) (at ys)
-  find_put [] = refl
-  find_put (y ∷ ys) = by_order (below_or (key x) (key y)) (below_or (key y) (key x)) (find_put ys)
-    where
-      turned : (a c : Bool) → (a ≡ true → c ≡ false) → cond a (Some y) (cond c (Some x) (at ys)) ≡ cond c (Some x) (cond a (Some y) (at ys))
-      turned true c h = ap (λ k. cond k (Some x) (Some y)) (sym (h refl))
-      turned false c h = refl
-
-      skips : (c : Bool) → cond c (Some x) (at ys) ≡ cond c (Some x) (cond c (Some y) (at ys))
-      skips true = refl
-      skips false = refl
-
-      by_order : ((key x < key y) ⊎ (key y ≤ key x)) → ((key y < key x) ⊎ (key x ≤ key y)) → at (put_by key x ys) ≡ cond (eqb (key x) n) (Some x) (at ys)
-          → at (put_by key x (y ∷ ys)) ≡ cond (eqb (key x) n) (Some x) (at (y ∷ ys))
-      by_order (inl less) other more = ap at (put_before key x y ys less)
-      by_order (inr low) (inl less) more =
-          ap at (put_after key x y ys less) ∙ ap (λ o. cond (eqb (key y) n) (Some y) o) more
-          ∙ turned (eqb (key y) n) (eqb (key x) n) (λ e. grind (arith, nat_tests))
-      by_order (inr low) (inr high) more =
-          let same : key x ≡ key y = omega arith in
-          ap at (put_first key x y ys same) ∙ skips (eqb (key x) n)
-          ∙ ap (λ k. cond (eqb (key x) n) (Some x) (cond (eqb k n) (Some y) (at ys))) same
 
 -- ---- needs
 
@@ -72,12 +43,6 @@ needs_of_one k n m (x ∷ xs) =
     ap (λ l. cond (eqb k n) (first ∷ l) l) (needs_of_one k n (suc m) xs)
     ∙ elim (eqb k n) as (λ c. cond c (first ∷ cond c rest []) (cond c rest []) ≡ cond c (first ∷ rest) []) [ true ↦ refl | false ↦ refl ]
 
-filter-append : {X : Type 0} (p : X → Bool) (xs ys : List X) → filter p (xs ++ ys) ≡ filter p xs ++ filter p ys
-filter-append p [] ys = refl
-filter-append p (x ∷ xs) ys =
-    ap (λ l. cond (p x) (x ∷ l) l) (filter-append p xs ys)
-    ∙ elim (p x) as (λ c. cond c (x ∷ (filter p xs ++ filter p ys)) (filter p xs ++ filter p ys) ≡ cond c (x ∷ filter p xs) (filter p xs) ++ filter p ys) [ true ↦ refl | false ↦ refl ]
-
 pub tells_change : (k : Change) (a : Option ℕ) (b : Stored) (t : Tables) → IsInOrder b → Tells b t → Tells (after_edit (edit.PutChange k a) b) (edited_tables t (edit.PutChange k a))
 tells_change k a b t order h =
     let x : ChangeRow = change_with k a in
@@ -94,6 +59,7 @@ tells_change k a b t order h =
       counters_are = h.counters_are;
       builds_are = h.builds_are;
       kept_are = h.kept_are;
+      plans_are = h.plans_are;
     }
   where
     go : (n : ℕ) (c : Bool) → eqb k.number n ≡ c

@@ -1,5 +1,5 @@
 -- What an INSERT that ends well says of the rows that were there.
-use Rattle.std.proofs.Common.{◌≡◌, ℕ, pos, List, [], ◌∷◌, map, filter, Bool, true, false, not, cond, ◌&&◌, eqb, Ok, refl, sym, ap, subst, ◌∙◌, arith, is_eq}
+use Rattle.std.proofs.Common.{◌≡◌, ◌<◌, ℕ, zero, suc, pos, List, [], ◌∷◌, map, filter, take, Bool, true, false, not, cond, ◌&&◌, eqb, Ok, refl, sym, ap, subst, ◌∙◌, arith, append-nil, is_eq}
 use Rattle.std.specs.List.{AllByRecursion, list_any}
 use Rattle.std.proofs.lemmas.Bool.{and_parts, not-true, or_parts}
 use Rattle.std.proofs.lemmas.Bool.Decides.{nat_tests}
@@ -16,15 +16,19 @@ use Rattle.sqlite.proofs.Callers.{runs_as, statement_of}
 use Rattle.sqlite_catalog.specs.Listing.{IsSound}
 use Rattle.sqlite_trees.specs.Tree.{rowid}
 use Rattle.gate_types.specs.Names.{same_name}
-use Rattle.gate_schema.specs.Rows.{AreNamed, IsReady, ItemRow, QueueLanding, QueueReport, Stands, Stored, item_key, item_row, landing_columns, report_columns}
+use Rattle.gate_types.specs.declared.config.Job.{Job}
+use Rattle.gate_schema.specs.Rows.{AreNamed, Changes, IsReady, ItemRow, JobRow, QueueLanding, QueueReport, Stands, Stored, item_key, item_row, job_columns, landing_columns, report_columns}
+use Rattle.gate_schema.specs.Edits.{add_jobs, job_rows}
 use Rattle.gate_schema.specs.Schema.{gate_schema, item_at}
 use Rattle.gate_schema.proofs.ItemTable.{add_item_is, add_item_sql, add_item_terms, item_params}
+use Rattle.gate_schema.proofs.JobTable.{add_job_is, add_job_sql, add_job_terms, adds_job}
 use Rattle.gate_schema.proofs.LandingTable.{add_landing_is, add_landing_sql, add_landing_terms, adds_landing}
 use Rattle.gate_schema.proofs.ReportTable.{add_report_is, add_report_sql, add_report_terms, adds_report}
 use Rattle.gate_schema.proofs.RowLemmas.{cast_int, cast_null, cast_or_null}
 use Rattle.gate_schema.proofs.ValueLemmas.{value_cmp-pos}
 use Rattle.gate_schema.proofs.WriteLemmas.{inserts}
-use Rattle.gate_rows.proofs.UniqueLemmas.{landing_place_free, report_place_free}
+use Rattle.gate_rows.specs.Tells.{IsFree}
+use Rattle.gate_rows.proofs.UniqueLemmas.{job_place_free, landing_place_free, report_place_free}
 
 -- ---- items
 
@@ -89,3 +93,21 @@ report_free x old new count ready h b named stands =
     let w = runs_as add_report_sql (report_columns x) old new gate_schema ready.schema_is (Insert 8 (Values add_report_terms 8)) add_report_is.0 add_report_is.1 count h.0 in
     let made = adds_report x old new count ready h in
     report_place_free new.now.trees b.reports x (subst (λ s. IsSound s new.now.trees) made.ready.schema_is w.sound) (made.stands b named stands).report
+
+-- ---- jobs
+
+-- an INSERT of a job finds its place free
+pub job_free : (x : JobRow) (old new : State) (count : ℕ) → IsReady old → ExecutesInside 0 add_job_sql (job_columns x) old new (Ok count)
+    → (b : Stored) → AreNamed b → Stands old.now.trees b → IsFree x.serial x.place b
+job_free x old new count ready h b named stands =
+    let w = runs_as add_job_sql (job_columns x) old new gate_schema ready.schema_is (Insert 10 (Values add_job_terms 5)) add_job_is.0 add_job_is.1 count h.0 in
+    let made = adds_job x old new count ready h in
+    job_place_free new.now.trees b.jobs x (subst (λ s. IsSound s new.now.trees) made.ready.schema_is w.sound) (made.stands b named stands).job
+
+-- so the first of some jobs, added one after another, finds its place free
+pub first_free : (first old : State) (n i : ℕ) (jobs : List Job) → Changes first old (add_jobs (job_rows n 0 (take i jobs)))
+    → ((b : Stored) → AreNamed b → Stands first.now.trees b → 0 < i → IsFree n 0 b) → ((b : Stored) → AreNamed b → Stands old.now.trees b → IsFree n i b)
+    → (b : Stored) → AreNamed b → Stands first.now.trees b → IsFree n 0 b
+first_free first old n zero jobs change was free b named stands =
+    subst (AllByRecursion (λ (y : JobRow). (eqb y.serial n && eqb y.place 0) ≡ false)) (append-nil b.jobs) (free (add_jobs [] b) (change.named b named) (change.stands b named stands))
+first_free first old n (suc i) jobs change was free b named stands = was b named stands (omega arith)

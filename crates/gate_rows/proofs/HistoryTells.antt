@@ -86,6 +86,7 @@ tells_landing name n l b t fits h =
       needs_are = h.needs_are;
       builds_are = h.builds_are;
       kept_are = h.kept_are;
+      plans_are = h.plans_are;
     }
 
 pub tells_report : (name : List ℕ) (n : ℕ) (r : Report) (b : Stored) (t : Tables) → Fits (edit.PutReport name n r) b → Tells b t
@@ -110,4 +111,5 @@ tells_report name n r b t fits h =
       needs_are = h.needs_are;
       builds_are = h.builds_are;
       kept_are = h.kept_are;
+      plans_are = h.plans_are;
     }

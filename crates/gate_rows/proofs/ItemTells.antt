@@ -145,4 +145,5 @@ tells_item name i b t order fits h =
       needs_are = h.needs_are;
       builds_are = h.builds_are;
       kept_are = h.kept_are;
+      plans_are = h.plans_are;
     }

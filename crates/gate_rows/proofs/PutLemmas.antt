@@ -1,6 +1,7 @@
 -- A row put by its key, as SQL does it and as the gate's tables do.
-use Rattle.std.proofs.Common.{◌≡◌, ◌≤◌, ◌<◌, ◌<ℤ◌, ◌⊎◌, inl, inr, ℕ, pos, List, [], ◌∷◌, filter, Bool, true, false, not, cond, eqb, ltb, refl, sym, ap, ◌∙◌, arith, int_cmp, Less, Greater, IsPermutation}
+use Rattle.std.proofs.Common.{◌≡◌, ◌≤◌, ◌<◌, ◌<ℤ◌, ◌⊎◌, inl, inr, ℕ, pos, List, [], ◌∷◌, ◌++◌, filter, Option, Some, Bool, true, false, not, cond, eqb, ltb, refl, sym, ap, ◌∙◌, arith, int_cmp, Less, Greater, IsPermutation}
 use Rattle.std.specs.List.{AllByRecursion}
+use Rattle.std.specs.Prelude.{find}
 use Rattle.std.specs.Ordering.{match_ordering}
 use Rattle.std.proofs.lemmas.Bool.Decides.{nat_tests}
 use Rattle.std.proofs.lemmas.Int.{ints}
@@ -112,3 +113,40 @@ module _ {X : Type 0} (key : X → ℕ) where
       let none : ltb (key x) (key y) ≡ false = grind (arith, nat_tests) in
       ap (λ c. cond c (x ∷ ys) (cond (ltb (key x) (key y)) (x ∷ y ∷ ys) (y ∷ put_by key x ys))) no
       ∙ ap (λ c. cond c (x ∷ y ∷ ys) (y ∷ put_by key x ys)) none
+
+-- ---- what is found at a number after a put
+
+module _ {X : Type 0} (key : X → ℕ) (n : ℕ) (x : X) where
+  abbrev at : List X → Option X
+  at rows = find (λ y. eqb (key y) n) rows
+
+  pub find_put : (ys : List X) → at (put_by key x ys) ≡ cond (eqb (key x) n) (Some x) (at ys)
+  find_put [] = refl
+  find_put (y ∷ ys) = by_order (below_or (key x) (key y)) (below_or (key y) (key x)) (find_put ys)
+    where
+      turned : (a c : Bool) → (a ≡ true → c ≡ false) → cond a (Some y) (cond c (Some x) (at ys)) ≡ cond c (Some x) (cond a (Some y) (at ys))
+      turned true c h = ap (λ k. cond k (Some x) (Some y)) (sym (h refl))
+      turned false c h = refl
+
+      skips : (c : Bool) → cond c (Some x) (at ys) ≡ cond c (Some x) (cond c (Some y) (at ys))
+      skips true = refl
+      skips false = refl
+
+      by_order : ((key x < key y) ⊎ (key y ≤ key x)) → ((key y < key x) ⊎ (key x ≤ key y)) → at (put_by key x ys) ≡ cond (eqb (key x) n) (Some x) (at ys)
+          → at (put_by key x (y ∷ ys)) ≡ cond (eqb (key x) n) (Some x) (at (y ∷ ys))
+      by_order (inl less) other more = ap at (put_before key x y ys less)
+      by_order (inr low) (inl less) more =
+          ap at (put_after key x y ys less) ∙ ap (λ o. cond (eqb (key y) n) (Some y) o) more
+          ∙ turned (eqb (key y) n) (eqb (key x) n) (λ e. grind (arith, nat_tests))
+      by_order (inr low) (inr high) more =
+          let same : key x ≡ key y = omega arith in
+          ap at (put_first key x y ys same) ∙ skips (eqb (key x) n)
+          ∙ ap (λ k. cond (eqb (key x) n) (Some x) (cond (eqb k n) (Some y) (at ys))) same
+
+-- ---- two lists one behind the other
+
+pub filter-append : {X : Type 0} (p : X → Bool) (xs ys : List X) → filter p (xs ++ ys) ≡ filter p xs ++ filter p ys
+filter-append p [] ys = refl
+filter-append p (x ∷ xs) ys =
+    ap (λ l. cond (p x) (x ∷ l) l) (filter-append p xs ys)
+    ∙ elim (p x) as (λ c. cond c (x ∷ (filter p xs ++ filter p ys)) (filter p xs ++ filter p ys) ≡ cond c (x ∷ filter p xs) (filter p xs) ++ filter p ys) [ true ↦ refl | false ↦ refl ]

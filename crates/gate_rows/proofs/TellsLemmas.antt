@@ -18,6 +18,7 @@ use Rattle.gate_schema.specs.Edits.{after_edit, with_window}
 use Rattle.gate_schema.specs.Rows.{QueueRow, ItemRow, QueueLanding, QueueReport, Stored, build_key, item_key}
 use Rattle.gate_rows.specs.Tells.{IsInOrder, Tells, TellsQueues, items_of, landings_of, reports_of, of_queue, placed}
 use Rattle.gate_rows.proofs.PutLemmas.{put_is}
+use Rattle.gate_rows.proofs.PlanLemmas.{plans_without}
 
 -- ---- the queues
 
@@ -87,12 +88,14 @@ tells_counter k n b t h = record {
   needs_are = h.needs_are;
   builds_are = h.builds_are;
   kept_are = h.kept_are;
+  plans_are = h.plans_are;
 }
 
 pub tells_kept : (k : Kept) (b : Stored) (t : Tables) → Tells b t → Tells (after_edit (edit.Keep k) b) (edited_tables t (edit.Keep k))
 tells_kept k b t h = record {
   queues_are = queues_stay (edited_queue (edit.Keep k)) (λ q. refl) (λ q. refl) (λ q. refl) (λ q. refl) (λ q. refl) _ _ _ _ _ h.queues_are;
   kept_are = ap (λ l. l ++ k ∷ []) h.kept_are;
+  plans_are = h.plans_are;
   counters_are = h.counters_are;
   changes_are = h.changes_are;
   needs_are = h.needs_are;
@@ -107,6 +110,7 @@ tells_outcome n o b t h = record {
   changes_are = h.changes_are;
   needs_are = h.needs_are;
   kept_are = h.kept_are;
+  plans_are = h.plans_are;
 }
 
 pub tells_stop : (n : ℕ) (b : Stored) (t : Tables) → Tells b t → Tells (after_edit (edit.StopBuild n) b) (edited_tables t (edit.StopBuild n))
@@ -117,6 +121,7 @@ tells_stop n b t h = record {
   changes_are = h.changes_are;
   needs_are = h.needs_are;
   kept_are = h.kept_are;
+  plans_are = h.plans_are;
 }
 
 pub tells_build : (x : Build) (b : Stored) (t : Tables) → IsInOrder b → Tells b t → Tells (after_edit (edit.PutBuild x) b) (edited_tables t (edit.PutBuild x))
@@ -127,6 +132,7 @@ tells_build x b t order h = record {
   changes_are = h.changes_are;
   needs_are = h.needs_are;
   kept_are = h.kept_are;
+  plans_are = h.plans_are;
 }
 
 -- ---- windows, and items taken out
@@ -146,6 +152,7 @@ tells_window name w b t h =
       needs_are = h.needs_are;
       builds_are = h.builds_are;
       kept_are = h.kept_are;
+      plans_are = h.plans_are;
     }
 
 items_without : (name : List ℕ) (n : ℕ) (rows : List ItemRow)
@@ -177,4 +184,5 @@ tells_drop n b t h =
       needs_are = h.needs_are;
       builds_are = h.builds_are;
       kept_are = h.kept_are;
+      plans_are = plans_without n b t.plans h.plans_are;
     }

@@ -21,8 +21,8 @@ use Rattle.sqlite_trees.specs.Tree.{IsAscending, rowid}
 use Rattle.sqlite_trees.specs.View.{is_int}
 use Rattle.sqlite_value.specs.Keys.{first_key, plain}
 use Rattle.gate_types.specs.Names.{same_name}
-use Rattle.gate_schema.specs.Rows.{AreNamed, IsListed, IsNumbered, QueueLanding, QueueReport, QueueRow, Stands, Stored, landing_columns, queue_columns, report_columns}
-use Rattle.gate_schema.specs.Schema.{gate_schema, landing_at, queue_at, report_at}
+use Rattle.gate_schema.specs.Rows.{AreNamed, IsListed, IsNumbered, JobRow, QueueLanding, QueueReport, QueueRow, Stands, Stored, job_columns, landing_columns, queue_columns, report_columns}
+use Rattle.gate_schema.specs.Schema.{gate_schema, item_job_at, landing_at, queue_at, report_at}
 use Rattle.gate_schema.proofs.DeleteLemmas.{is_its}
 use Rattle.gate_schema.proofs.RowLemmas.{behind}
 use Rattle.gate_schema.proofs.ValueLemmas.{equal_numbers, equal_texts}
@@ -176,3 +176,29 @@ pub report_place_free : (db : Trees) (rs : List QueueReport) (x : QueueReport) �
     → AllByRecursion (λ (y : QueueReport). (same_name y.queue x.queue && eqb y.row.place x.row.place) ≡ false) rs
 report_place_free db rs x sound listed =
     place_free (λ (r : QueueReport). r.queue) (λ (r : QueueReport). r.row.place) (λ (r : QueueReport). drop 2 (report_columns r)) (db 18) rs x listed (reports_clear db sound)
+
+-- ---- jobs
+
+abbrev same_job : JobRow → JobRow → Bool
+same_job x y = eqb x.serial y.serial && eqb x.place y.place
+
+-- SQL's equality of keys of a serial and a place is that of both
+jobs_agree : (u v : Row) (x y : JobRow) → drop 1 u ≡ job_columns x → drop 1 v ≡ job_columns y → agree plain (1 ∷ 2 ∷ []) u (1 ∷ 2 ∷ []) v ≡ same_job x y
+unfolding first_key
+jobs_agree u v x y is its =
+    behind (λ u. agree plain (1 ∷ 2 ∷ []) u (1 ∷ 2 ∷ []) v) u _ _ _
+    (λ w. behind (λ v. agree plain (1 ∷ 2 ∷ []) (w ∷ job_columns x) (1 ∷ 2 ∷ []) v) v _ _ _
+    (λ z. ap₂ ◌&&◌ (equal_numbers x.serial y.serial) (and_true _ ∙ equal_numbers x.place y.place)) its) is
+
+-- no two rows of jobs have one key
+jobs_clear : (db : Trees) → IsSound gate_schema db → AllByRecursion (λ r. clashes plain (1 ∷ 2 ∷ []) (db 26) r ≡ false) (db 26)
+jobs_clear db sound =
+    all_weaker _ _ (λ (r : Row) (h : passes Unique gate_schema db (item_job_at 26) r ≡ true). not-true _ (and_parts _ _ h).0) (db 26)
+    (sound.obeys.rules Unique).1.1.1.1.1.1.1.1.1.1.0
+
+-- no job stood at the place of one that was added
+pub job_place_free : (db : Trees) (js : List JobRow) (x : JobRow) → IsSound gate_schema db → IsListed job_columns (db 26) (js ++ x ∷ [])
+    → AllByRecursion (λ (y : JobRow). (eqb y.serial x.serial && eqb y.place x.place) ≡ false) js
+job_place_free db js x sound listed =
+    unlike_last same_job x js (λ a b. ap₂ ◌&&◌ (equal_turned a.serial b.serial) (equal_turned a.place b.place))
+    (listed_apart job_columns (1 ∷ 2 ∷ []) same_job jobs_agree (db 26) (js ++ x ∷ []) listed.columns_are listed.numbered (jobs_clear db sound))

@@ -8,14 +8,16 @@ ghost use Rattle.gate_rows.specs.Writes.{Found, Keeps, LeavesNothing, Makes};
 use crate::builds::{put_build, set_outcome, stop_build};
 use crate::changes::put_change;
 use crate::history::{keep, put_landing, put_report};
-use crate::items::{drop_item, put_item};
+use crate::items::put_item;
 use crate::numbers::{set_counter, set_window};
+use crate::plans::{drop_planned, put_plan};
 use gate_types::edits::Edit;
 use sqlite::{Alter, Error, Transaction};
 use std::alloc::Global;
 
-/// Makes an edit. Any Err is of the store, of memory, of a number that no column can hold, or of a row
-/// whose key is taken: a landing, a report or a delivery that is there, or an item of another queue.
+/// Makes an edit. Any Err is of the store, of memory, of a number that no column can hold, of a plan without
+/// jobs, or of a row whose key is taken: a landing, a report, a plan or a delivery that is there, or an item of
+/// another queue.
 pub fn apply_one<S: Alter>(
     alloc: Global,
     tx: &mut Transaction<'_, S>,
@@ -31,7 +33,8 @@ pub fn apply_one<S: Alter>(
     match edit {
         Edit::PutChange { change, approval } => put_change(tx, change, *approval),
         Edit::PutItem { queue, item } => put_item(tx, queue, item),
-        Edit::DropItem(serial) => drop_item(tx, *serial),
+        Edit::DropItem(serial) => drop_planned(tx, *serial),
+        Edit::PutPlan(plan) => put_plan(tx, plan),
         Edit::PutLanding {
             queue,
             place,

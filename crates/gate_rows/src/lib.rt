@@ -9,6 +9,7 @@ mod history;
 mod items;
 pub mod laws;
 mod numbers;
+mod plans;
 pub mod values;
 mod words;
 

@@ -17,3 +17,5 @@ pub mod BuildTable
 pub mod LandingTable
 pub mod ReportTable
 pub mod DeliveryTable
+pub mod JobTable
+pub mod FastTable

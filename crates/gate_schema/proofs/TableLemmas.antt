@@ -39,6 +39,8 @@ pub record Others (t : ℕ) (db : Trees) (b : Stored) : Type 0 where
   pub landing : eqb 14 t ≡ false → IsListed rows.landing_columns (db 14) b.landings
   pub report : eqb 18 t ≡ false → IsListed rows.report_columns (db 18) b.reports
   pub delivery : eqb 21 t ≡ false → IsListed rows.kept_columns (db 21) b.kept
+  pub job : eqb 26 t ≡ false → IsListed rows.job_columns (db 26) b.jobs
+  pub fast : eqb 28 t ≡ false → IsKeyed rows.fast_key rows.fast_row (db 28) b.fast
 
 pub others_stay : (old new : State) (edit : Edit) (t : ℕ) (b : Stored) → Edits gate_schema old new edit → edit.table.tree ≡ t → eqb catalog_tree t ≡ false → Stands old.now.trees b → Others t new.now.trees b
 others_stay old new edit t b made is far stands =
@@ -47,7 +49,7 @@ others_stay old new edit t b made is far stands =
     let same = made.applies.tables in
     let no : (n : ℕ) → eqb n t ≡ false → n ≢ edit.table.tree = λ n e f. apart n t e (f ∙ is) in
     let catalog : next catalog_tree ≡ db catalog_tree = made.applies.others catalog_tree (no catalog_tree far)
-    (apart 1 catalog_tree refl, (apart 3 catalog_tree refl, (apart 5 catalog_tree refl, (apart 6 catalog_tree refl, (apart 8 catalog_tree refl, (apart 10 catalog_tree refl, (apart 12 catalog_tree refl, (apart 15 catalog_tree refl, (apart 16 catalog_tree refl, (apart 17 catalog_tree refl, (apart 19 catalog_tree refl, (apart 20 catalog_tree refl, (apart 22 catalog_tree refl, (apart 23 catalog_tree refl, (apart 24 catalog_tree refl, (apart 25 catalog_tree refl, tt)))))))))))))))) in
+    (apart 1 catalog_tree refl, (apart 3 catalog_tree refl, (apart 5 catalog_tree refl, (apart 6 catalog_tree refl, (apart 8 catalog_tree refl, (apart 10 catalog_tree refl, (apart 12 catalog_tree refl, (apart 15 catalog_tree refl, (apart 16 catalog_tree refl, (apart 17 catalog_tree refl, (apart 19 catalog_tree refl, (apart 20 catalog_tree refl, (apart 22 catalog_tree refl, (apart 23 catalog_tree refl, (apart 24 catalog_tree refl, (apart 25 catalog_tree refl, (apart 27 catalog_tree refl, tt))))))))))))))))) in
     record {
       listed = subst (λ rs. Lists rs gate_schema) (sym catalog) stands.listed;
       meta = λ e. subst (IsFixed (rows.meta_columns b.settings)) (sym (same.0 (no 0 e))) stands.meta;
@@ -60,34 +62,42 @@ others_stay old new edit t b made is far stands =
       landing = λ e. subst (λ rs. IsListed rows.landing_columns rs b.landings) (sym (same.1.1.1.1.1.1.1.0 (no 14 e))) stands.landing;
       report = λ e. subst (λ rs. IsListed rows.report_columns rs b.reports) (sym (same.1.1.1.1.1.1.1.1.0 (no 18 e))) stands.report;
       delivery = λ e. subst (λ rs. IsListed rows.kept_columns rs b.kept) (sym (same.1.1.1.1.1.1.1.1.1.0 (no 21 e))) stands.delivery;
+      job = λ e. subst (λ rs. IsListed rows.job_columns rs b.jobs) (sym (same.1.1.1.1.1.1.1.1.1.1.0 (no 26 e))) stands.job;
+      fast = λ e. subst (λ rs. IsKeyed rows.fast_key rows.fast_row rs b.fast) (sym (same.1.1.1.1.1.1.1.1.1.1.1.0 (no 28 e))) stands.fast;
     }
 
 pub with_counters : (db : Trees) (b : Stored) (x : Rattle.gate_types.specs.Counters.Drawn) → Others 2 db b → IsFixed (rows.counter_columns x) (db 2) → Stands db (record b { counters = x })
-with_counters db b x o h = record { listed = o.listed; meta = o.meta refl; counter = h; queue = o.queue refl; change = o.change refl; need = o.need refl; item = o.item refl; build = o.build refl; landing = o.landing refl; report = o.report refl; delivery = o.delivery refl }
+with_counters db b x o h = record { listed = o.listed; meta = o.meta refl; counter = h; queue = o.queue refl; change = o.change refl; need = o.need refl; item = o.item refl; build = o.build refl; landing = o.landing refl; report = o.report refl; delivery = o.delivery refl; job = o.job refl; fast = o.fast refl }
 
 pub with_queues : (db : Trees) (b : Stored) (x : List rows.QueueRow) → Others 4 db b → IsListed rows.queue_columns (db 4) x → Stands db (record b { queues = x })
-with_queues db b x o h = record { listed = o.listed; meta = o.meta refl; counter = o.counter refl; queue = h; change = o.change refl; need = o.need refl; item = o.item refl; build = o.build refl; landing = o.landing refl; report = o.report refl; delivery = o.delivery refl }
+with_queues db b x o h = record { listed = o.listed; meta = o.meta refl; counter = o.counter refl; queue = h; change = o.change refl; need = o.need refl; item = o.item refl; build = o.build refl; landing = o.landing refl; report = o.report refl; delivery = o.delivery refl; job = o.job refl; fast = o.fast refl }
 
 pub with_changes : (db : Trees) (b : Stored) (x : List ChangeRow) → Others 7 db b → IsKeyed rows.change_key rows.change_row (db 7) x → Stands db (record b { changes = x })
-with_changes db b x o h = record { listed = o.listed; meta = o.meta refl; counter = o.counter refl; queue = o.queue refl; change = h; need = o.need refl; item = o.item refl; build = o.build refl; landing = o.landing refl; report = o.report refl; delivery = o.delivery refl }
+with_changes db b x o h = record { listed = o.listed; meta = o.meta refl; counter = o.counter refl; queue = o.queue refl; change = h; need = o.need refl; item = o.item refl; build = o.build refl; landing = o.landing refl; report = o.report refl; delivery = o.delivery refl; job = o.job refl; fast = o.fast refl }
 
 pub with_needs : (db : Trees) (b : Stored) (x : List rows.NeedRow) → Others 9 db b → IsListed rows.need_columns (db 9) x → Stands db (record b { needs = x })
-with_needs db b x o h = record { listed = o.listed; meta = o.meta refl; counter = o.counter refl; queue = o.queue refl; change = o.change refl; need = h; item = o.item refl; build = o.build refl; landing = o.landing refl; report = o.report refl; delivery = o.delivery refl }
+with_needs db b x o h = record { listed = o.listed; meta = o.meta refl; counter = o.counter refl; queue = o.queue refl; change = o.change refl; need = h; item = o.item refl; build = o.build refl; landing = o.landing refl; report = o.report refl; delivery = o.delivery refl; job = o.job refl; fast = o.fast refl }
 
 pub with_items : (db : Trees) (b : Stored) (x : List rows.ItemRow) → Others 11 db b → IsKeyed rows.item_key rows.item_row (db 11) x → Stands db (record b { items = x })
-with_items db b x o h = record { listed = o.listed; meta = o.meta refl; counter = o.counter refl; queue = o.queue refl; change = o.change refl; need = o.need refl; item = h; build = o.build refl; landing = o.landing refl; report = o.report refl; delivery = o.delivery refl }
+with_items db b x o h = record { listed = o.listed; meta = o.meta refl; counter = o.counter refl; queue = o.queue refl; change = o.change refl; need = o.need refl; item = h; build = o.build refl; landing = o.landing refl; report = o.report refl; delivery = o.delivery refl; job = o.job refl; fast = o.fast refl }
 
 pub with_builds : (db : Trees) (b : Stored) (x : List Build) → Others 13 db b → IsKeyed rows.build_key rows.build_row (db 13) x → Stands db (record b { builds = x })
-with_builds db b x o h = record { listed = o.listed; meta = o.meta refl; counter = o.counter refl; queue = o.queue refl; change = o.change refl; need = o.need refl; item = o.item refl; build = h; landing = o.landing refl; report = o.report refl; delivery = o.delivery refl }
+with_builds db b x o h = record { listed = o.listed; meta = o.meta refl; counter = o.counter refl; queue = o.queue refl; change = o.change refl; need = o.need refl; item = o.item refl; build = h; landing = o.landing refl; report = o.report refl; delivery = o.delivery refl; job = o.job refl; fast = o.fast refl }
 
 pub with_landings : (db : Trees) (b : Stored) (x : List rows.QueueLanding) → Others 14 db b → IsListed rows.landing_columns (db 14) x → Stands db (record b { landings = x })
-with_landings db b x o h = record { listed = o.listed; meta = o.meta refl; counter = o.counter refl; queue = o.queue refl; change = o.change refl; need = o.need refl; item = o.item refl; build = o.build refl; landing = h; report = o.report refl; delivery = o.delivery refl }
+with_landings db b x o h = record { listed = o.listed; meta = o.meta refl; counter = o.counter refl; queue = o.queue refl; change = o.change refl; need = o.need refl; item = o.item refl; build = o.build refl; landing = h; report = o.report refl; delivery = o.delivery refl; job = o.job refl; fast = o.fast refl }
 
 pub with_reports : (db : Trees) (b : Stored) (x : List rows.QueueReport) → Others 18 db b → IsListed rows.report_columns (db 18) x → Stands db (record b { reports = x })
-with_reports db b x o h = record { listed = o.listed; meta = o.meta refl; counter = o.counter refl; queue = o.queue refl; change = o.change refl; need = o.need refl; item = o.item refl; build = o.build refl; landing = o.landing refl; report = h; delivery = o.delivery refl }
+with_reports db b x o h = record { listed = o.listed; meta = o.meta refl; counter = o.counter refl; queue = o.queue refl; change = o.change refl; need = o.need refl; item = o.item refl; build = o.build refl; landing = o.landing refl; report = h; delivery = o.delivery refl; job = o.job refl; fast = o.fast refl }
 
 pub with_kept : (db : Trees) (b : Stored) (x : List Kept) → Others 21 db b → IsListed rows.kept_columns (db 21) x → Stands db (record b { kept = x })
-with_kept db b x o h = record { listed = o.listed; meta = o.meta refl; counter = o.counter refl; queue = o.queue refl; change = o.change refl; need = o.need refl; item = o.item refl; build = o.build refl; landing = o.landing refl; report = o.report refl; delivery = h }
+with_kept db b x o h = record { listed = o.listed; meta = o.meta refl; counter = o.counter refl; queue = o.queue refl; change = o.change refl; need = o.need refl; item = o.item refl; build = o.build refl; landing = o.landing refl; report = o.report refl; delivery = h; job = o.job refl; fast = o.fast refl }
+
+pub with_jobs : (db : Trees) (b : Stored) (x : List rows.JobRow) → Others 26 db b → IsListed rows.job_columns (db 26) x → Stands db (record b { jobs = x })
+with_jobs db b x o h = record { listed = o.listed; meta = o.meta refl; counter = o.counter refl; queue = o.queue refl; change = o.change refl; need = o.need refl; item = o.item refl; build = o.build refl; landing = o.landing refl; report = o.report refl; delivery = o.delivery refl; job = h; fast = o.fast refl }
+
+pub with_fast : (db : Trees) (b : Stored) (x : List ℕ) → Others 28 db b → IsKeyed rows.fast_key rows.fast_row (db 28) x → Stands db (record b { fast = x })
+with_fast db b x o h = record { listed = o.listed; meta = o.meta refl; counter = o.counter refl; queue = o.queue refl; change = o.change refl; need = o.need refl; item = o.item refl; build = o.build refl; landing = o.landing refl; report = o.report refl; delivery = o.delivery refl; job = o.job refl; fast = h }
 
 -- ---- a row more
 

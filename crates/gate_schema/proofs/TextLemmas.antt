@@ -3,7 +3,7 @@ use Rattle.std.proofs.Common.{refl, codes, [], ◌∷◌, inl, inr}
 use Rattle.sqlite.specs.Listing.{understood}
 use Rattle.sqlite_tied.specs.Compute.{everything}
 use Rattle.gate_schema.specs.Made.{MakesTableOf, MakesIndexOf, Leads}
-use Rattle.gate_schema.specs.Schema.{gate_schema, gate_texts, schema_with, index_at, meta_text, counter_text, queue_text, change_text, need_text, item_text, build_text, landing_text, report_text, delivery_text, need_needed_text, item_queue_text, build_serial_text, meta_at, counter_at, queue_at, change_at, need_at, item_at, build_at, landing_at, report_at, delivery_at}
+use Rattle.gate_schema.specs.Schema.{gate_schema, gate_texts, schema_with, index_at, meta_text, counter_text, queue_text, change_text, change_approval_text, need_text, item_text, build_text, landing_text, report_text, delivery_text, need_needed_text, item_queue_text, build_serial_text, item_job_text, item_fast_text, meta_at, counter_at, queue_at, change_at, need_at, item_at, build_at, landing_at, report_at, delivery_at, item_job_at, item_fast_at}
 
 meta_makes : MakesTableOf meta_text (schema_with 0 0) (schema_with 1 1)
 unfolding understood everything Rattle.sqlite_schema.specs.Names.same_name
@@ -17,9 +17,13 @@ queue_makes : MakesTableOf queue_text (schema_with 2 2) (schema_with 3 4)
 unfolding understood everything Rattle.sqlite_schema.specs.Names.same_name
 queue_makes = record { table = queue_at 0; plain = (refl, refl, refl, refl); defined = refl; uncounted = refl; is = refl }
 
-change_makes : MakesTableOf change_text (schema_with 3 4) (schema_with 4 5)
+change_makes : MakesTableOf change_text (schema_with 3 4) (schema_with 4 4)
 unfolding understood everything Rattle.sqlite_schema.specs.Names.same_name
 change_makes = record { table = change_at 0; plain = (refl, refl, refl, refl); defined = refl; uncounted = refl; is = refl }
+
+change_approval_makes : MakesIndexOf change_approval_text (schema_with 4 4) (schema_with 4 5)
+unfolding understood everything Rattle.sqlite_schema.specs.Names.same_name
+change_approval_makes = record { at = 3; table = change_at 7; index = index_at (codes "change_approval") 0 7 (5 ∷ []); plain = (refl, refl, refl, refl); found = refl; defined = refl; is = refl }
 
 need_makes : MakesTableOf need_text (schema_with 4 5) (schema_with 5 6)
 unfolding understood everything Rattle.sqlite_schema.specs.Names.same_name
@@ -57,6 +61,14 @@ build_serial_makes : MakesIndexOf build_serial_text (schema_with 10 15) (schema_
 unfolding understood everything Rattle.sqlite_schema.specs.Names.same_name
 build_serial_makes = record { at = 6; table = build_at 13; index = index_at (codes "build_serial") 0 13 (3 ∷ []); plain = (refl, refl, refl, refl); found = refl; defined = refl; is = refl }
 
+pub item_job_makes : MakesTableOf item_job_text (schema_with 10 16) (schema_with 11 17)
+unfolding understood everything Rattle.sqlite_schema.specs.Names.same_name
+item_job_makes = record { table = item_job_at 0; plain = (refl, refl, refl, refl); defined = refl; uncounted = refl; is = refl }
+
+pub item_fast_makes : MakesTableOf item_fast_text (schema_with 11 17) (schema_with 12 17)
+unfolding understood everything Rattle.sqlite_schema.specs.Names.same_name
+item_fast_makes = record { table = item_fast_at 0; plain = (refl, refl, refl, refl); defined = refl; uncounted = refl; is = refl }
+
 pub all_made : Leads gate_texts (schema_with 0 0) gate_schema
 all_made = (
   schema_with 1 1,
@@ -68,33 +80,41 @@ all_made = (
       schema_with 3 4,
       inl queue_makes,
       (
-        schema_with 4 5,
+        schema_with 4 4,
         inl change_makes,
         (
-          schema_with 5 6,
-          inl need_makes,
+          schema_with 4 5,
+          inr change_approval_makes,
           (
-            schema_with 6 7,
-            inl item_makes,
+            schema_with 5 6,
+            inl need_makes,
             (
-              schema_with 7 7,
-              inl build_makes,
+              schema_with 6 7,
+              inl item_makes,
               (
-                schema_with 8 10,
-                inl landing_makes,
+                schema_with 7 7,
+                inl build_makes,
                 (
-                  schema_with 9 12,
-                  inl report_makes,
+                  schema_with 8 10,
+                  inl landing_makes,
                   (
-                    schema_with 10 13,
-                    inl delivery_makes,
+                    schema_with 9 12,
+                    inl report_makes,
                     (
-                      schema_with 10 14,
-                      inr need_needed_makes,
+                      schema_with 10 13,
+                      inl delivery_makes,
                       (
-                        schema_with 10 15,
-                        inr item_queue_makes,
-                        (schema_with 10 16, inr build_serial_makes, refl),
+                        schema_with 10 14,
+                        inr need_needed_makes,
+                        (
+                          schema_with 10 15,
+                          inr item_queue_makes,
+                          (
+                            schema_with 10 16,
+                            inr build_serial_makes,
+                            (schema_with 11 17, inl item_job_makes, (schema_with 12 17, inl item_fast_makes, refl)),
+                          ),
+                        ),
                       ),
                     ),
                   ),

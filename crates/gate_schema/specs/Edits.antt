@@ -1,10 +1,11 @@
 -- What the statements, and the edits that are made of them, make of what the tables hold.
-use Rattle.std.specs.Prelude.{ℕ, suc, pos, false, not, ◌==◌, ◌&&◌, if◌then◌else◌, List, [], ◌∷◌, ◌++◌, map, filter, fold, Option}
+use Rattle.std.specs.Prelude.{ℕ, suc, pos, Bool, true, false, not, ◌==◌, ◌&&◌, if◌then◌else◌, List, [], ◌∷◌, ◌++◌, map, filter, fold, Option}
 use Rattle.sqlite_keyed.specs.Keyed.{insert_by}
 use Rattle.gate_types.specs.Names.{same_name}
 use Rattle.gate_types.specs.Rebase.{with_live}
 use Rattle.gate_types.specs.Rows.{with_outcome, change_build}
 use Rattle.gate_types.specs.Tables.{set_counter}
+use Rattle.gate_types.specs.declared.config.Job.{Job}
 use Rattle.gate_types.specs.declared.edits.Counter.{Counter}
 use Rattle.gate_types.specs.declared.edits.Edit.{Edit}
 use Rattle.gate_types.specs.declared.edits.Edit.TheVariants as edit
@@ -13,10 +14,11 @@ use Rattle.gate_types.specs.declared.records.Item.{Item}
 use Rattle.gate_types.specs.declared.records.Kept.{Kept}
 use Rattle.gate_types.specs.declared.records.Landing.{Landing}
 use Rattle.gate_types.specs.declared.records.Outcome.{Outcome}
+use Rattle.gate_types.specs.declared.records.Plan.{Plan}
 use Rattle.gate_types.specs.declared.records.Report.{Report}
 use Rattle.gate_types.specs.declared.records.Change.{Change}
 use Rattle.gate_types.specs.declared.rows.ChangeRow.{ChangeRow}
-use Rattle.gate_schema.specs.Rows.{Stored, QueueRow, ItemRow, NeedRow, QueueLanding, QueueReport, item_key, change_key, build_key}
+use Rattle.gate_schema.specs.Rows.{Stored, QueueRow, ItemRow, NeedRow, JobRow, QueueLanding, QueueReport, item_key, change_key, build_key, fast_key}
 
 -- ---- one statement each
 
@@ -32,6 +34,26 @@ drop_item n b = record b { items = filter (λ y. not (item_key y == n)) b.items 
 -- an item added at its serial
 abbrev pub add_item : ItemRow → Stored → Stored
 add_item x b = record b { items = insert_by (λ y. pos (item_key y)) b.items x }
+
+-- the jobs under a serial taken out
+abbrev pub drop_jobs : ℕ → Stored → Stored
+drop_jobs n b = record b { jobs = filter (λ y. not (y.serial == n)) b.jobs }
+
+-- jobs added at the end
+abbrev pub add_jobs : List JobRow → Stored → Stored
+add_jobs xs b = record b { jobs = b.jobs ++ xs }
+
+-- the mark that the item of a serial fails fast taken out
+abbrev pub drop_fast : ℕ → Stored → Stored
+drop_fast n b = record b { fast = filter (λ y. not (fast_key y == n)) b.fast }
+
+-- the mark added, where it fails fast
+abbrev pub mark_fast : Bool → ℕ → Stored → Stored
+mark_fast fast n b = record b { fast = if fast then insert_by (λ y. pos (fast_key y)) b.fast n else b.fast }
+
+-- the mark added
+abbrev pub add_fast : ℕ → Stored → Stored
+add_fast n b = mark_fast true n b
 
 -- a change taken out, its needs left
 abbrev pub drop_change : ℕ → Stored → Stored
@@ -97,6 +119,11 @@ abbrev pub need_rows : ℕ → ℕ → List ℕ → List NeedRow
 need_rows number n [] = []
 need_rows number n (x ∷ xs) = (record { change = number; place = n; needed = x }) ∷ need_rows number (suc n) xs
 
+-- the jobs of a plan, by their places from n on
+abbrev pub job_rows : ℕ → ℕ → List Job → List JobRow
+job_rows serial n [] = []
+job_rows serial n (j ∷ js) = (record { serial = serial; place = n; job = j }) ∷ job_rows serial (suc n) js
+
 -- the row of an item of a queue
 abbrev pub item_in : List ℕ → Item → ItemRow
 item_in name i = record { queue = name; item = i }
@@ -119,11 +146,20 @@ put_change k a b =
     add_needs (need_rows k.number 0 k.needs)
     (drop_needs k.number (add_change (change_with k a) (drop_change k.number b)))
 
+-- the plan under a serial taken out
+abbrev pub drop_plan : ℕ → Stored → Stored
+drop_plan n b = drop_fast n (drop_jobs n b)
+
+-- a plan's jobs, and its mark, where there is none under its serial
+abbrev pub add_plan : Plan → Stored → Stored
+add_plan p b = mark_fast p.fast p.serial (add_jobs (job_rows p.serial 0 p.jobs) b)
+
 -- what the tables hold after an edit
 abbrev pub after_edit : Edit → Stored → Stored
 after_edit (edit.PutChange k a) b = put_change k a b
 after_edit (edit.PutItem name i) b = add_item (item_in name i) (drop_item_of i.serial name b)
-after_edit (edit.DropItem n) b = drop_item n b
+after_edit (edit.DropItem n) b = drop_plan n (drop_item n b)
+after_edit (edit.PutPlan p) b = add_plan p b
 after_edit (edit.PutLanding name n l) b = add_landing (landing_in name n l) b
 after_edit (edit.PutReport name n r) b = add_report (report_in name n r) b
 after_edit (edit.PutBuild x) b = add_build x (drop_build x.number b)

@@ -14,6 +14,7 @@ use Rattle.sqlite_trees.specs.Tree.{IsTable, rowid}
 use Rattle.sqlite_trees.specs.View.{is_int}
 use Rattle.gate_types.specs.Counters.{Drawn}
 use Rattle.gate_types.specs.Names.{same_name}
+use Rattle.gate_types.specs.declared.config.Job.{Job}
 use Rattle.gate_types.specs.declared.records.Build.{Build}
 use Rattle.gate_types.specs.declared.records.Item.{Item}
 use Rattle.gate_types.specs.declared.records.Kept.{Kept}
@@ -52,6 +53,12 @@ pub record QueueReport : Type 0 where
   pub queue : List ℕ
   pub row : ReportRow
 
+-- a job of the plan under a serial, and its place in the plan, from 0
+pub record JobRow : Type 0 where
+  pub serial : ℕ
+  pub place : ℕ
+  pub job : Job
+
 -- all that the tables hold: a list a table
 pub record Stored : Type 0 where
   pub settings : List ℕ
@@ -64,6 +71,8 @@ pub record Stored : Type 0 where
   pub landings : List QueueLanding
   pub reports : List QueueReport
   pub kept : List Kept
+  pub jobs : List JobRow
+  pub fast : List ℕ
 
 -- ---- their keys, where the key is the rowid
 
@@ -75,6 +84,10 @@ item_key i = i.item.serial
 
 abbrev pub build_key : Build → ℕ
 build_key b = b.number
+
+-- the serial of an item that fails fast
+abbrev pub fast_key : ℕ → ℕ
+fast_key n = n
 
 -- ---- their columns; a row with a key has its rowid in front, and NULL in the key's column
 
@@ -90,7 +103,7 @@ pair_of_words key value = Words key ∷ Words value ∷ []
 
 abbrev pub meta_columns : List ℕ → List Row
 meta_columns settings =
-    pair_of_words (codes "format") (codes "gate") ∷ pair_of_words (codes "schema") (codes "1") ∷
+    pair_of_words (codes "format") (codes "gate") ∷ pair_of_words (codes "schema") (codes "2") ∷
     pair_of_words (codes "settings") settings ∷ []
 
 -- a word and a number, as in `counter`
@@ -138,6 +151,12 @@ report_columns r =
 abbrev pub kept_columns : Kept → Row
 kept_columns k = Octets k.id.0 ∷ Words k.said ∷ Words k.reply ∷ []
 
+abbrev pub job_columns : JobRow → Row
+job_columns j = Int (pos j.serial) ∷ Int (pos j.place) ∷ Words j.job.name ∷ Int (pos (bit j.job.voting)) ∷ []
+
+abbrev pub fast_row : ℕ → Row
+fast_row n = Int (pos n) ∷ Null ∷ []
+
 -- ---- tables and lists
 
 -- the rowids are numbers that rise
@@ -172,6 +191,8 @@ pub record Stands (db : Trees) (b : Stored) : Type 0 where
   pub landing : IsListed landing_columns (db 14) b.landings
   pub report : IsListed report_columns (db 18) b.reports
   pub delivery : IsListed kept_columns (db 21) b.kept
+  pub job : IsListed job_columns (db 26) b.jobs
+  pub fast : IsKeyed fast_key fast_row (db 28) b.fast
 
 -- ---- within a transaction
 

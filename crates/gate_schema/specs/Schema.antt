@@ -1,4 +1,4 @@
--- The ten tables and three indexes, as SQL reads their texts.
+-- The twelve tables and four indexes, as SQL reads their texts.
 use Rattle.std.specs.Prelude.{true, false, [], ◌∷◌, Some, None, codes, List, ℕ, pos, Bool, Option, take}
 use Rattle.sqlite.specs.Collation.TheVariants.{Binary}
 use Rattle.sqlite.specs.Kind.{Kind}
@@ -108,9 +108,10 @@ queue_at tree =
     column_of (codes "win") Integer true ∷ [])
     None (1 ∷ []) ((1 ∷ []) ∷ (2 ∷ []) ∷ []) (plain ∷ plain ∷ []) []
 
--- the changes
+-- the changes. That approvals differ is a law of the gate, and no key of this table: nearly all are NULL, and a unique
+-- key would walk all of these at each change written, and at each when the file is opened
 abbrev pub change_text : List ℕ
-change_text = codes "CREATE TABLE change (num INTEGER PRIMARY KEY, project TEXT NOT NULL, revision INTEGER NOT NULL, state TEXT NOT NULL CHECK(state IN ('open','landed','closed')), approval INTEGER UNIQUE) STRICT"
+change_text = codes "CREATE TABLE change (num INTEGER PRIMARY KEY, project TEXT NOT NULL, revision INTEGER NOT NULL, state TEXT NOT NULL CHECK(state IN ('open','landed','closed')), approval INTEGER) STRICT"
 
 abbrev pub change_at : ℕ → Table
 change_at tree =
@@ -118,7 +119,7 @@ change_at tree =
     (column_of (codes "num") Integer false ∷ column_of (codes "project") Text true ∷
     column_of (codes "revision") Integer true ∷ column_of (codes "state") Text true ∷
     column_of (codes "approval") Integer false ∷ [])
-    (Some 0) (0 ∷ []) ((5 ∷ []) ∷ []) (plain ∷ [])
+    (Some 0) (0 ∷ []) [] []
     (among (col 1 4) (words (codes "open")) (words (codes "landed")) (words (codes "closed")) ∷ [])
 
 -- what changes need
@@ -196,7 +197,31 @@ delivery_at tree =
     column_of (codes "reply") Text true ∷ [])
     None (1 ∷ []) ((1 ∷ []) ∷ []) (plain ∷ []) []
 
+-- the jobs of items and landings
+abbrev pub item_job_text : List ℕ
+item_job_text = codes "CREATE TABLE item_job (serial INTEGER NOT NULL, place INTEGER NOT NULL, name TEXT NOT NULL, voting INTEGER NOT NULL CHECK(voting IN (0,1)), PRIMARY KEY(serial, place)) STRICT"
+
+abbrev pub item_job_at : ℕ → Table
+item_job_at tree =
+    table_of (codes "item_job") tree
+    (column_of (codes "serial") Integer true ∷ column_of (codes "place") Integer true ∷
+    column_of (codes "name") Text true ∷ column_of (codes "voting") Integer true ∷ [])
+    None (1 ∷ 2 ∷ []) ((1 ∷ 2 ∷ []) ∷ []) (plain ∷ []) (zero_one (col 1 4) ∷ [])
+
+-- the items that fail fast
+abbrev pub item_fast_text : List ℕ
+item_fast_text = codes "CREATE TABLE item_fast (serial INTEGER PRIMARY KEY) STRICT"
+
+abbrev pub item_fast_at : ℕ → Table
+item_fast_at tree =
+    table_of (codes "item_fast") tree (column_of (codes "serial") Integer false ∷ [])
+    (Some 0) (0 ∷ []) [] [] []
+
 -- ---- the indexes
+
+-- made right behind its table
+abbrev pub change_approval_text : List ℕ
+change_approval_text = codes "CREATE INDEX change_approval ON change(approval)"
 
 abbrev pub need_needed_text : List ℕ
 need_needed_text = codes "CREATE INDEX need_needed ON need(needed)"
@@ -209,11 +234,12 @@ build_serial_text = codes "CREATE INDEX build_serial ON build(serial)"
 
 -- ---- the schema
 
--- the tables, each with the tree of its rows; the trees between are of its unique keys
+-- the tables, each with the tree of its rows; the trees between are of its unique keys, and of the indexes. The last
+-- two were made behind these, so that a file has the same trees whether it began with them or got them later
 abbrev pub gate_tables : List Table
 gate_tables =
     meta_at 0 ∷ counter_at 2 ∷ queue_at 4 ∷ change_at 7 ∷ need_at 9 ∷ item_at 11 ∷ build_at 13 ∷ landing_at 14 ∷
-    report_at 18 ∷ delivery_at 21 ∷ []
+    report_at 18 ∷ delivery_at 21 ∷ item_job_at 26 ∷ item_fast_at 28 ∷ []
 
 abbrev pub gate_indexes : List Index
 gate_indexes =
@@ -221,7 +247,7 @@ gate_indexes =
     unique_at (codes "sqlite_autoindex_counter_1") 3 2 (1 ∷ []) ∷
     unique_at (codes "sqlite_autoindex_queue_1") 5 4 (1 ∷ []) ∷
     unique_at (codes "sqlite_autoindex_queue_2") 6 4 (2 ∷ []) ∷
-    unique_at (codes "sqlite_autoindex_change_1") 8 7 (5 ∷ []) ∷
+    index_at (codes "change_approval") 8 7 (5 ∷ []) ∷
     unique_at (codes "sqlite_autoindex_need_1") 10 9 (1 ∷ 2 ∷ []) ∷
     unique_at (codes "sqlite_autoindex_item_1") 12 11 (3 ∷ []) ∷
     unique_at (codes "sqlite_autoindex_landing_1") 15 14 (3 ∷ []) ∷
@@ -233,6 +259,7 @@ gate_indexes =
     index_at (codes "need_needed") 23 9 (3 ∷ []) ∷
     index_at (codes "item_queue") 24 11 (2 ∷ 0 ∷ []) ∷
     index_at (codes "build_serial") 25 13 (3 ∷ []) ∷
+    unique_at (codes "sqlite_autoindex_item_job_1") 27 26 (1 ∷ 2 ∷ []) ∷
     []
 
 -- the schema with the first tables, and as many indexes
@@ -245,5 +272,6 @@ gate_schema = record { tables = gate_tables; indexes = gate_indexes; views = [] 
 -- the texts that make it, in turn
 abbrev pub gate_texts : List (List ℕ)
 gate_texts =
-    meta_text ∷ counter_text ∷ queue_text ∷ change_text ∷ need_text ∷ item_text ∷ build_text ∷ landing_text ∷
-    report_text ∷ delivery_text ∷ need_needed_text ∷ item_queue_text ∷ build_serial_text ∷ []
+    meta_text ∷ counter_text ∷ queue_text ∷ change_text ∷ change_approval_text ∷ need_text ∷ item_text ∷ build_text ∷
+    landing_text ∷ report_text ∷ delivery_text ∷ need_needed_text ∷ item_queue_text ∷ build_serial_text ∷
+    item_job_text ∷ item_fast_text ∷ []

@@ -1,8 +1,9 @@
 -- What edits make of tables that stand for a content, one after another.
-use Rattle.std.proofs.Common.{◌≡◌, ◌≢◌, ◌<◌, ◌+◌, ℕ, suc, List, [], ◌∷◌, ◌++◌, inl, inr, map, take, length, get_or, true, false, IsTrue, Result, Ok, Err, cond, ◌||◌, refl, sym, ap, subst, ◌∙◌, arith}
+use Rattle.std.proofs.Common.{◌≡◌, ◌≢◌, ◌<◌, ◌+◌, ℕ, suc, List, [], ◌∷◌, ◌++◌, inl, inr, map, take, length, get_or, true, false, true≢false, IsTrue, Result, Ok, Err, cond, ◌||◌, refl, sym, ap, subst, ◌∙◌, arith}
 use Rattle.std.specs.Prelude.{IfErr, OnErr, OnOk}
 use Rattle.std.specs.List.{list_any}
 use Rattle.std.proofs.lemmas.Bool.{and_parts}
+use Rattle.std.proofs.lemmas.List.Elements.{recursion_from_All}
 use Rattle.std.proofs.lemmas.List.Folds.{list_all_more}
 use Rattle.std.proofs.lemmas.List.Sums.{fold_more}
 use Rattle.std.proofs.lemmas.Result.{on_err_weaker, on_ok_weaker}
@@ -13,32 +14,31 @@ use Rattle.sqlite.specs.Tree.{Trees}
 use Rattle.sqlite.proofs.Callers.{survives_begin}
 use Rattle.sqlite.proofs.StateLemmas.{survives_then}
 use Rattle.sqlite_catalog.specs.Listing.{IsSound}
-use Rattle.sqlite_keyed.proofs.ListLemmas.{map-map}
+use Rattle.sqlite_keyed.proofs.ListLemmas.{all_weaker, map-map}
 use Rattle.sqlite_trees.specs.declared.store.Store.{Ghosts}
 use Rattle.gate_types.specs.Forms.{IsLawfulContent}
 use Rattle.gate_types.specs.Names.{same_name}
 use Rattle.gate_types.specs.Once.{Content}
-use Rattle.gate_types.specs.Settings.{Settings}
+use Rattle.gate_types.specs.Settings.{Settings, are_sound_jobs}
 use Rattle.gate_types.specs.Tables.{Leads, QueueRows, Tables, edited_tables, fold_all, tables}
+use Rattle.gate_types.specs.declared.config.Job.{Job}
 use Rattle.gate_types.specs.declared.edits.Edit.{Edit}
 use Rattle.gate_types.specs.declared.edits.Edit.TheVariants as edit
+use Rattle.gate_types.specs.declared.records.Plan.{Plan}
 use Rattle.gate_schema.specs.Edits.{after_edit, after_edits, with_window}
 use Rattle.gate_schema.specs.Rows.{AreNamed, Changes, IsReady, QueueRow, Stands, Stored}
-use Rattle.gate_rows.specs.Tells.{FitsBeside, IsInOrder, IsTold, NamesQueue, StandsFor, Tells, placed}
+use Rattle.gate_rows.specs.Tells.{FitsBeside, HaveJobs, IsInOrder, IsTold, NamesQueue, StandsFor, Tells, placed}
+use Rattle.gate_rows.proofs.PlanTells.{jobs_stay}
 use Rattle.gate_rows.proofs.ThenLemmas.{changes_same, changes_then}
 use Rattle.gate_rows.proofs.UniqueLemmas.{are_named}
 use Rattle.gate_queries.specs.Finds.{Stays}
 use Rattle.gate_book.specs.Kept.{IsApplied}
 use Rattle.gate_book.specs.declared.fault.BookFault.{BookFault}
 use Rattle.gate_book.specs.declared.fault.BookFault.TheVariants as fault
-use Rattle.gate_sql.specs.Applies.{CanLead, IsLed, LeavesOrStands, OfLawful, Settles, Turns, are_known, is_among, is_known}
+use Rattle.gate_sql.specs.Applies.{CanLead, IsLed, LeavesOrStands, OfLawful, Settles, Steps, Turns, are_known, is_among, is_known, names_in}
 use Rattle.gate_sql.specs.Held.{HoldsFor, IsShownFor, ShowsFor, StandsForOne, queue_names}
 
 -- ---- the names of the queues
-
--- the names of the queues that the tables hold
-abbrev pub names_in : Stored → List (List ℕ)
-names_in b = map (λ (q : QueueRow). q.name) b.queues
 
 -- a window set leaves the names
 window_keeps : (name : List ℕ) (w : ℕ) (qs : List QueueRow)
@@ -53,6 +53,7 @@ edit_keeps_names : (e : Edit) (b : Stored) → names_in (after_edit e b) ≡ nam
 edit_keeps_names (edit.PutChange k a) b = refl
 edit_keeps_names (edit.PutItem name i) b = refl
 edit_keeps_names (edit.DropItem n) b = refl
+edit_keeps_names (edit.PutPlan p) b = refl
 edit_keeps_names (edit.PutLanding name n l) b = refl
 edit_keeps_names (edit.PutReport name n r) b = refl
 edit_keeps_names (edit.PutBuild x) b = refl
@@ -86,6 +87,7 @@ edit_keeps_settings : (e : Edit) (b : Stored) → (after_edit e b).settings ≡ 
 edit_keeps_settings (edit.PutChange k a) b = refl
 edit_keeps_settings (edit.PutItem name i) b = refl
 edit_keeps_settings (edit.DropItem n) b = refl
+edit_keeps_settings (edit.PutPlan p) b = refl
 edit_keeps_settings (edit.PutLanding name n l) b = refl
 edit_keeps_settings (edit.PutReport name n r) b = refl
 edit_keeps_settings (edit.PutBuild x) b = refl
@@ -96,27 +98,23 @@ edit_keeps_settings (edit.SetCounter k n) b = refl
 edit_keeps_settings (edit.Keep k) b = refl
 
 -- and so do all edits
-edits_keep_settings : (edits : List Edit) (b : Stored) → (after_edits edits b).settings ≡ b.settings
+pub edits_keep_settings : (edits : List Edit) (b : Stored) → (after_edits edits b).settings ≡ b.settings
 edits_keep_settings [] b = refl
 edits_keep_settings (e ∷ es) b = edits_keep_settings es (after_edit e b) ∙ edit_keeps_settings e b
 
 -- ---- one edit after another
 
--- edits of queues that are there change what the tables hold, and tell what they held
-pub record Steps (old new : State) (edits : List Edit) : Type 0 where
-  pub changes : Changes old new (after_edits edits)
-  pub told : (b : Stored) (t : Tables) → AreNamed b → Stands old.now.trees b → are_known (names_in b) edits ≡ true → Tells b t → Tells (after_edits edits b) (fold_all t edits)
-
 -- no edit is made
 pub no_steps : (s : State) → IsReady s → Steps s s []
 no_steps s ready = record {
   changes = record { ready = ready; named = λ b named. named; stands = λ b named stands. stands };
-  told = λ b t named stands known tells. tells;
+  planned = λ b t named stands have. have;
+  told = λ b t named stands known have tells. tells;
 }
 
 -- tables that stand for something have rows that rise by their keys
 stands_in_order : (s : State) (b : Stored) → Stands s.now.trees b → IsInOrder b
-stands_in_order s b stands = record { changes = stands.change.in_order; items = stands.item.in_order; builds = stands.build.in_order }
+stands_in_order s b stands = record { changes = stands.change.in_order; items = stands.item.in_order; builds = stands.build.in_order; fast = stands.fast.in_order }
 
 -- one edit more
 pub steps_more : ((e : Edit) → IsTold e) → (first old new : State) (edits : List Edit) (i : ℕ) (e : Edit) → i < length edits → e ≡ get_or edits i e
@@ -124,18 +122,22 @@ pub steps_more : ((e : Edit) → IsTold e) → (first old new : State) (edits : 
 steps_more law first old new edits i e within is steps change beside =
     let after : (b : Stored) → after_edit e (after_edits (take i edits) b) ≡ after_edits (take (i + 1) edits) b =
     λ b. ap (λ d. after_edit d (after_edits (take i edits) b)) is ∙ sym (fold_more (λ c d. after_edit d c) b edits i e within) in
+    let folded : (t : Tables) → edited_tables (fold_all t (take i edits)) e ≡ fold_all t (take (i + 1) edits) =
+    λ t. ap (edited_tables (fold_all t (take i edits))) is ∙ sym (fold_more edited_tables t edits i e within) in
+    let fits : (b : Stored) → AreNamed b → Stands first.now.trees b → FitsBeside e (after_edits (take i edits) b) =
+    λ b named stands. beside (after_edits (take i edits) b) (steps.changes.named b named) (steps.changes.stands b named stands) in
     record {
       changes = changes_same first new _ _ after (changes_then first old new (after_edits (take i edits)) (after_edit e) steps.changes change);
-      told = λ b t named stands known tells.
+      planned = λ b t named stands have.
+          subst (λ (u : Tables). HaveJobs u.plans) (folded t)
+          (jobs_stay e (after_edits (take i edits) b) (fold_all t (take i edits)) (fits b named stands) (steps.planned b t named stands have));
+      told = λ b t named stands known have tells.
           let c = after_edits (take i edits) b in
           let parts = and_parts _ _ (sym (list_all_more (is_known (names_in b)) edits i e within) ∙ known) in
           let mine : is_known (names_in c) e ≡ true = ap (λ names. is_known names e) (edits_keep_names (take i edits) b) ∙ ap (is_known (names_in b)) is ∙ parts.1 in
           let held = steps.changes.stands b named stands in
-          let beside_it = beside c (steps.changes.named b named) held in
-          let next = law e c (fold_all t (take i edits)) (stands_in_order old c held) (names_queue e c mine, beside_it) (steps.told b t named stands parts.0 tells) in
-          let folded : edited_tables (fold_all t (take i edits)) e ≡ fold_all t (take (i + 1) edits) =
-          ap (edited_tables (fold_all t (take i edits))) is ∙ sym (fold_more edited_tables t edits i e within) in
-          subst (Tells (after_edits (take (i + 1) edits) b)) folded (subst (λ d. Tells d (edited_tables (fold_all t (take i edits)) e)) (after b) next);
+          let next = law e c (fold_all t (take i edits)) (stands_in_order old c held) (names_queue e c mine, fits b named stands) (steps.planned b t named stands have) (steps.told b t named stands parts.0 have tells) in
+          subst (Tells (after_edits (take (i + 1) edits) b)) (folded t) (subst (λ d. Tells d (edited_tables (fold_all t (take i edits)) e)) (after b) next);
     }
 
 -- ---- from a content to the one that the edits lead to
@@ -159,7 +161,7 @@ steps_turn old new edits steps = record {
         stored = after_edits edits b;
         stands = steps.changes.stands b named can.stands.stands;
         settings = edits_keep_settings edits b ∙ can.stands.settings;
-        tells = subst (Tells (after_edits edits b)) can.led.leads (steps.told b (tables c x) named can.stands.stands known can.stands.tells);
+        tells = subst (Tells (after_edits edits b)) can.led.leads (steps.told b (tables c x) named can.stands.stands known can.led.planned can.stands.tells);
       };
 }
 
@@ -191,11 +193,17 @@ can_lead s c x edits y live up shown led = record { sound = subst (λ t. IsSound
 pub same_tables : (db : Trees) (c : Settings) (x y : Content) → tables c x ≡ tables c y → StandsFor db c x → StandsFor db c y
 same_tables db c x y same h = record { stored = h.stored; stands = h.stands; settings = h.settings; tells = subst (Tells h.stored) same h.tells }
 
--- a lawful content has the queues of the settings
+-- sound jobs are some
+some_sound : (jobs : List Job) → are_sound_jobs jobs ≡ true → 0 < length jobs
+some_sound [] sound = absurd (true≢false (sym sound))
+some_sound (j ∷ js) sound = omega arith
+
+-- a lawful content has the queues of the settings, and its plans have jobs
 pub led_by : (names : List (List ℕ)) (c : Settings) (x : Content) (edits : List Edit) (y : Content) → names ≡ queue_names c → IsLawfulContent c x → are_known names edits ≡ true → Leads c x edits y
     → IsLed c x edits y
 led_by names c x edits y same lawful known leads = record {
   queues_are_set = lawful.lawful.sound.queues_are_set;
+  planned = all_weaker _ _ (λ (p : Plan) sound. some_sound p.jobs sound) x.state.plans (recursion_from_All _ x.state.plans lawful.lawful.sound.planned.sound);
   known = subst (λ n. are_known n edits ≡ true) same known;
   leads = leads;
 }

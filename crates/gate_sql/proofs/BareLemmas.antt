@@ -18,7 +18,7 @@ use Rattle.gate_sql.specs.Making.{IsBare}
 use Rattle.gate_sql.proofs.MakeLemmas.{makes_table, makes_index}
 
 -- what a plain text is, part by part
-plain_parts : (r : Result Compiled CompileError) (command : Command) (sql : List ℕ) → IsPlainly r command sql → (command_of r ≡ command) × IsPlain r × (statement_of sql r ≡ sql)
+pub plain_parts : (r : Result Compiled CompileError) (command : Command) (sql : List ℕ) → IsPlainly r command sql → (command_of r ≡ command) × IsPlain r × (statement_of sql r ≡ sql)
 plain_parts (Ok c) command sql h = (h.0, (h.1, h.2), h.3)
 plain_parts (Err e) command sql h = absurd h
 

@@ -46,6 +46,7 @@ tells_empty c = record {
   needs_are = λ n. refl;
   builds_are = refl;
   kept_are = refl;
+  plans_are = record { jobs_are = λ n. refl; fast_are = λ n. refl };
 }
 
 -- tables that hold the first rows stand for the empty gate

@@ -29,13 +29,13 @@ use Rattle.gate_sql.specs.Making.{IsBare, HasMeta, IsFilled, first_stored, with_
 
 -- what writes the rows of `meta`
 abbrev pub fill_meta_sql : List ℕ
-fill_meta_sql = codes "INSERT INTO meta (k, v) VALUES ('format', 'gate'), ('schema', '1'), ('settings', ?1)"
+fill_meta_sql = codes "INSERT INTO meta (k, v) VALUES ('format', 'gate'), ('schema', '2'), ('settings', ?1)"
 
 -- its terms, row by row
 abbrev pub fill_meta_terms : List Term
 fill_meta_terms =
     lit Null ∷ lit (Words (codes "format")) ∷ lit (Words (codes "gate")) ∷ lit Null ∷ lit (Words (codes "schema")) ∷
-    lit (Words (codes "1")) ∷ lit Null ∷ lit (Words (codes "settings")) ∷ col 0 0 ∷ []
+    lit (Words (codes "2")) ∷ lit Null ∷ lit (Words (codes "settings")) ∷ col 0 0 ∷ []
 
 -- it inserts three rows of them
 pub fill_meta_is : Is fill_meta_sql (Insert 0 (Values fill_meta_terms 3))
@@ -83,7 +83,7 @@ unfolding value_cmp everything lib.Ieee.is_nan lib.Ieee.lt
 three_fixed a b c = record { columns_are = refl; numbered = (((refl, (refl, tt)), ((refl, tt), (tt, tt))), (refl, (refl, (refl, tt)))) }
 
 -- a sound database lists its schema
-sound_lists : (schema : Schema) (s : State) → s.now.schema ≡ schema → IsDatabase s.now → Lists (s.now.trees catalog_tree) schema
+pub sound_lists : (schema : Schema) (s : State) → s.now.schema ≡ schema → IsDatabase s.now → Lists (s.now.trees catalog_tree) schema
 sound_lists schema s is sound = subst (λ x. Lists (s.now.trees catalog_tree) x) is sound.lists
 
 -- The rows of `meta` are written.
@@ -93,7 +93,7 @@ fills_meta settings old new count bare h =
     let w = runs_as fill_meta_sql params old new gate_schema bare.schema_is (Insert 0 (Values fill_meta_terms 3)) fill_meta_is.0 fill_meta_is.1 count h.0 in
     let e = inserts gate_schema (λ _ _ _. refl) old new bare.schema_is 0 (meta_at 0) refl (statement_of fill_meta_sql (understood gate_schema fill_meta_sql)) params count refl (Values fill_meta_terms 3) w in
     let a = pair_of_words (codes "format") (codes "gate") in
-    let b = pair_of_words (codes "schema") (codes "1") in
+    let b = pair_of_words (codes "schema") (codes "2") in
     let c = pair_of_words (codes "settings") settings in
     let rows : e.0 ≡ (Null ∷ a) ∷ (Null ∷ b) ∷ (Null ∷ c) ∷ [] = e.1.1 in
     let stored : (k v : List ℕ) → cast_row (meta_at 0) (Null ∷ Words k ∷ Words v ∷ []) ≡ Null ∷ Words k ∷ Words v ∷ [] = λ k v. rw cast_null in
@@ -101,7 +101,7 @@ fills_meta settings old new count bare h =
     e.2.applies.rows ∙ ap (λ rs. edited old.now.trees (edit_of old.now.trees (meta_at 0) [] Chosen 0 rs)) rows
     ∙ ap (λ db. put_all db (numbered Chosen db (cast_row (meta_at 0) (Null ∷ a) ∷ cast_row (meta_at 0) (Null ∷ b) ∷ cast_row (meta_at 0) (Null ∷ c) ∷ []))) bare.empty.0
     ∙ ap (λ r. put_all [] (numbered Chosen [] (r ∷ cast_row (meta_at 0) (Null ∷ b) ∷ cast_row (meta_at 0) (Null ∷ c) ∷ []))) (stored (codes "format") (codes "gate"))
-    ∙ ap (λ r. put_all [] (numbered Chosen [] ((Null ∷ a) ∷ r ∷ cast_row (meta_at 0) (Null ∷ c) ∷ []))) (stored (codes "schema") (codes "1"))
+    ∙ ap (λ r. put_all [] (numbered Chosen [] ((Null ∷ a) ∷ r ∷ cast_row (meta_at 0) (Null ∷ c) ∷ []))) (stored (codes "schema") (codes "2"))
     ∙ ap (λ r. put_all [] (numbered Chosen [] ((Null ∷ a) ∷ (Null ∷ b) ∷ r ∷ []))) (stored (codes "settings") settings)
     ∙ three a b c in
     let t = e.2.applies.tables in
@@ -120,7 +120,7 @@ fills_meta settings old new count bare h =
               still 9 t.1.1.1.1.0 refl bare.empty.1.1.1.1.0,
               (
                 still 11 t.1.1.1.1.1.0 refl bare.empty.1.1.1.1.1.0,
-                (still 13 t.1.1.1.1.1.1.0 refl bare.empty.1.1.1.1.1.1.0, (still 14 t.1.1.1.1.1.1.1.0 refl bare.empty.1.1.1.1.1.1.1.0, (still 18 t.1.1.1.1.1.1.1.1.0 refl bare.empty.1.1.1.1.1.1.1.1.0, (still 21 t.1.1.1.1.1.1.1.1.1.0 refl bare.empty.1.1.1.1.1.1.1.1.1.0, tt)))),
+                (still 13 t.1.1.1.1.1.1.0 refl bare.empty.1.1.1.1.1.1.0, (still 14 t.1.1.1.1.1.1.1.0 refl bare.empty.1.1.1.1.1.1.1.0, (still 18 t.1.1.1.1.1.1.1.1.0 refl bare.empty.1.1.1.1.1.1.1.1.0, (still 21 t.1.1.1.1.1.1.1.1.1.0 refl bare.empty.1.1.1.1.1.1.1.1.1.0, (still 26 t.1.1.1.1.1.1.1.1.1.1.0 refl bare.empty.1.1.1.1.1.1.1.1.1.1.0, (still 28 t.1.1.1.1.1.1.1.1.1.1.1.0 refl bare.empty.1.1.1.1.1.1.1.1.1.1.1.0, tt)))))),
               ),
             ),
           ),
@@ -129,11 +129,11 @@ fills_meta settings old new count bare h =
     }
 
 -- a table with no row
-none_listed : {X : Type 0} (columns : X → Row) (rs : List Row) → rs ≡ [] → IsListed columns rs []
+pub none_listed : {X : Type 0} (columns : X → Row) (rs : List Row) → rs ≡ [] → IsListed columns rs []
 none_listed columns rs none = subst (λ l. IsListed columns l []) (sym none) (record { columns_are = refl; numbered = (tt, tt) })
 
 -- the same, by a key
-none_keyed : {X : Type 0} (key : X → ℕ) (row : X → Row) (rs : List Row) → rs ≡ [] → IsKeyed key row rs []
+pub none_keyed : {X : Type 0} (key : X → ℕ) (row : X → Row) (rs : List Row) → rs ≡ [] → IsKeyed key row rs []
 none_keyed key row rs none = record { rows_are = none; in_order = tt }
 
 -- The counters are written: the file of a gate with no queue.
@@ -171,6 +171,8 @@ fills_counter settings old new count had h =
         landing = none_listed _ _ (still 14 t.1.1.1.1.1.1.1.0 refl x.1.1.1.1.1.1.0);
         report = none_listed _ _ (still 18 t.1.1.1.1.1.1.1.1.0 refl x.1.1.1.1.1.1.1.0);
         delivery = none_listed _ _ (still 21 t.1.1.1.1.1.1.1.1.1.0 refl x.1.1.1.1.1.1.1.1.0);
+        job = none_listed _ _ (still 26 t.1.1.1.1.1.1.1.1.1.1.0 refl x.1.1.1.1.1.1.1.1.1.0);
+        fast = none_keyed _ _ _ (still 28 t.1.1.1.1.1.1.1.1.1.1.1.0 refl x.1.1.1.1.1.1.1.1.1.1.0);
       };
     }
 

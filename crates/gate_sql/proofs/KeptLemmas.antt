@@ -1,15 +1,14 @@
 -- What a book over a file keeps while it only reads.
-use Rattle.std.proofs.Common.{◌≡◌, ◌∙◌, ◌⊎◌, inl, inr, List, sym, ap, subst, IsTrue}
-use Rattle.std.specs.Prelude.{ℕ, ◌++◌, [], ◌∷◌}
+use Rattle.std.proofs.Common.{◌≡◌, ◌∙◌, inl, inr, List, sym, ap, subst}
+use Rattle.std.specs.Prelude.{ℕ}
 use Rattle.sqlite.specs.State.{HasCleanDisk, State, Survives}
-use Rattle.sqlite.specs.Tree.{Trees}
 use Rattle.gate_types.specs.Once.{Content}
 use Rattle.gate_types.specs.Settings.{Settings}
 use Rattle.gate_book.specs.Kept.{IsKept}
 use Rattle.gate_rows.specs.Tells.{StandsFor}
 use Rattle.gate_queries.specs.Finds.{Stays}
 use Rattle.gate_queries.specs.Reads.{IsOnlyRead, IsOnSchema}
-use Rattle.gate_sql.specs.Held.{HoldsFor, IsShownFor, LeavesFor, ShowsFor, StandsForOne}
+use Rattle.gate_sql.specs.Held.{HoldsFor, LeavesFor, ShowsFor}
 
 -- what shows a content is on the gate's schema
 on_schema : {s : State} {c : Settings} {x : Content} → ShowsFor s c x → IsOnSchema s

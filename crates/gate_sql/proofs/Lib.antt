@@ -3,6 +3,8 @@ mod BareLemmas
 mod FillLemmas
 mod QueueLemmas
 mod EmptyLemmas
+mod AdoptTables
+mod AdoptLemmas
 pub mod told
 pub mod ReadLemmas
 pub mod KeptLemmas
@@ -10,7 +12,12 @@ mod SchemaLemmas
 mod FailLemmas
 mod MetaLemmas
 mod JudgeLemmas
+mod OpenLemmas
 mod AgainLemmas
 pub mod ApplyLemmas
 mod LeaveLemmas
+mod UpgradeLemmas
+pub mod MigrateLemmas
+mod PlanningLemmas
+mod FirstTells
 mod HistoryLemmas

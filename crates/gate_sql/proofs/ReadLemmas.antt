@@ -1,6 +1,6 @@
 -- From what a query says of the tables to what a book's read says of a content.
-use Rattle.std.proofs.Common.{arith, ◌≡◌, ◌≢◌, ◌∙◌, true, false, ℕ, Bool, List, [], Result, Ok, Err, refl, sym, true≢false, ap, subst, IsTrue}
-use Rattle.std.specs.Prelude.{AllPairs, OnOk, MatchResult}
+use Rattle.std.proofs.Common.{arith, ◌≡◌, ◌≢◌, ◌∙◌, true, false, ℕ, Bool, List, [], Result, Ok, Err, refl, sym, true≢false}
+use Rattle.std.specs.Prelude.{AllPairs}
 use Rattle.std.specs.List.{AllPass}
 use Rattle.sqlite.specs.State.{HasCleanDisk, State}
 use Rattle.gate_types.specs.Forms.{IsLawfulContent, is_kept_in_form}
@@ -14,11 +14,11 @@ use Rattle.gate_book.specs.declared.fault.BookFault.{BookFault}
 use Rattle.gate_book.specs.declared.fault.BookFault.TheVariants as fault
 use Rattle.gate_schema.specs.Rows.{ItemRow, Stored}
 use Rattle.gate_rows.specs.Tells as rows
-use Rattle.gate_queries.specs.Reads.{IsShown, Opened, Reads, Shows, Tells}
-use Rattle.gate_queries.specs.Whole.{IsWhole, is_build_row_in_form, is_change_row_in_form, is_item_row_in_form}
+use Rattle.gate_queries.specs.Reads.{Opened, Reads, Shows, Tells}
+use Rattle.gate_queries.specs.Whole.{IsWhole, is_build_row_in_form, is_change_row_in_form, is_item_row_in_form, is_job_row_in_form}
 use Rattle.gate_laws.proofs.Alone.{names_differ}
 use Rattle.gate_sql.specs.Answers.{IsAnsweredBy}
-use Rattle.gate_sql.specs.Held.{HoldsFor, IsShownFor, ShowsFor}
+use Rattle.gate_sql.specs.Held.{HoldsFor, IsShownFor}
 use Rattle.gate_sql.proofs.told.Names.{queues_are_named}
 use Rattle.gate_sql.proofs.told.Reads.{reads_are_told}
 use Rattle.gate_sql.proofs.told.Whole.{rows_are_whole}
@@ -38,6 +38,8 @@ no_rows = record {
   landings = [];
   reports = [];
   kept = [];
+  jobs = [];
+  fast = [];
 }
 
 -- of no values all is so, and of any two
@@ -59,6 +61,8 @@ no_rows_whole = record {
   changes_differ = none_pair (λ (r s : ItemRow). r.item.change ≢ s.item.change);
   items_are_few = λ name. omega arith;
   builds = none_pass is_build_row_in_form;
+  jobs = none_pass is_job_row_in_form;
+  jobs_are_placed = λ n. refl;
   kept = none_pass is_kept_in_form;
   ids_differ = none_pair (λ (k l : Kept). k.id ≢ l.id);
 }

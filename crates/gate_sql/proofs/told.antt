@@ -6,6 +6,7 @@ pub mod Names
 pub mod ItemReads
 pub mod QueueReads
 pub mod ChangeReads
+pub mod PlanReads
 pub mod Reads
 -- the form of the rows
 pub mod ItemForms

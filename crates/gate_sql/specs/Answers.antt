@@ -27,6 +27,8 @@ pub record IsAnsweredBy (b : Stored) (c : Settings) (x : Content) : Type 0 where
   pub ready : (found : List Ready) → file.AreReady b found → found ≡ x.state.ready
   -- the build of a number
   pub build : (n : ℕ) → file.build_of b n ≡ build_of x.state n
+  -- the plan under a serial
+  pub plan : (serial : ℕ) → file.plan_at b serial ≡ content.plan_at x.state serial
   -- the live builds of a serial
   pub live_builds : (serial : ℕ) → file.live_builds b serial ≡ content.live_builds x.state serial
   -- the window of a queue, and how many items and landings it has

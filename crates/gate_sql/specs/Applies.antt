@@ -9,12 +9,13 @@ use Rattle.gate_types.specs.Names.{same_name}
 use Rattle.gate_types.specs.Once.{Content}
 use Rattle.gate_types.specs.Settings.{Settings}
 use Rattle.gate_types.specs.State.{Queue}
-use Rattle.gate_types.specs.Tables.{Leads}
+use Rattle.gate_types.specs.Tables.{Leads, Tables, fold_all}
 use Rattle.gate_types.specs.declared.edits.Edit.{Edit}
 use Rattle.gate_types.specs.declared.edits.Edit.TheVariants as edit
-use Rattle.gate_schema.specs.Rows.{IsReady}
+use Rattle.gate_schema.specs.Edits.{after_edits}
+use Rattle.gate_schema.specs.Rows.{AreNamed, Changes, IsReady, QueueRow, Stands, Stored}
 use Rattle.gate_schema.specs.Schema.{gate_schema}
-use Rattle.gate_rows.specs.Tells.{StandsFor}
+use Rattle.gate_rows.specs.Tells.{HaveJobs, StandsFor, Tells}
 use Rattle.gate_sql.specs.Held.{ShowsFor, queue_names}
 
 -- ---- the queues that edits name
@@ -37,9 +38,10 @@ are_known names edits = list_all (is_known names) edits
 
 -- ---- what the edits lead to
 
--- a content has the queues of the settings, and edits of these queues lead to another
+-- a content has the queues of the settings, and its plans have jobs; edits of these queues lead to another
 pub record IsLed (c : Settings) (x : Content) (edits : List Edit) (y : Content) : Type 0 where
   pub queues_are_set : map (λ (q : Queue). q.name) x.state.queues ≡ queue_names c
+  pub planned : HaveJobs x.state.plans
   pub known : are_known (queue_names c) edits ≡ true
   pub leads : Leads c x edits y
 
@@ -53,6 +55,20 @@ pub record CanLead (db : Trees) (c : Settings) (x : Content) (edits : List Edit)
 pub record Turns (old new : State) (edits : List Edit) : Type 0 where
   pub ready : IsReady new
   pub stands : (c : Settings) (x y : Content) → CanLead old.now.trees c x edits y → StandsFor new.now.trees c y
+
+-- the names of the queues that the tables hold
+abbrev pub names_in : Stored → List (List ℕ)
+names_in b = map (λ (q : QueueRow). q.name) b.queues
+
+-- edits of queues that are there change what the tables hold, and tell what they held, where plans have jobs; they
+-- leave no plan without
+pub record Steps (old new : State) (edits : List Edit) : Type 0 where
+  pub changes : Changes old new (after_edits edits)
+  pub planned : (b : Stored) (t : Tables) → AreNamed b → Stands old.now.trees b →
+      HaveJobs t.plans → HaveJobs (fold_all t edits).plans
+  pub told : (b : Stored) (t : Tables) → AreNamed b → Stands old.now.trees b →
+      are_known (names_in b) edits ≡ true → HaveJobs t.plans → Tells b t →
+      Tells (after_edits edits b) (fold_all t edits)
 
 -- ---- what a call leaves
 

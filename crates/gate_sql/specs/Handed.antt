@@ -4,7 +4,7 @@ use Rattle.sqlite.specs.Held.{Held, state}
 use Rattle.sqlite.specs.State.{State}
 use Rattle.sqlite_trees.specs.declared.store.Store.{Ghosts}
 use Rattle.gate_sql.specs.declared.book.SqlBook.{SqlBook}
-use Rattle.gate_sql.specs.declared.open_fault.OpenFault.{OpenFault}
+use Rattle.gate_types.specs.declared.open_fault.OpenFault.{OpenFault}
 
 -- the fault, if there is one
 abbrev pub answered : {B C : Type 0} → Result B (OpenFault × C) → Option OpenFault

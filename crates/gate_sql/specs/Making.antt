@@ -34,11 +34,17 @@ first_stored settings queues = record {
   landings = [];
   reports = [];
   kept = [];
+  jobs = [];
+  fast = [];
 }
 
 -- a queue's row added at the end
 abbrev pub with_queue : QueueRow → Stored → Stored
 with_queue q b = record b { queues = b.queues ++ q ∷ [] }
+
+-- these rows in place of those of the queues
+abbrev pub with_rows : List QueueRow → Stored → Stored
+with_rows rows b = record b { queues = rows }
 
 -- ---- within the transaction
 

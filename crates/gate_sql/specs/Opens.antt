@@ -1,15 +1,19 @@
 -- Why a file isn't opened, or made.
-use Rattle.std.specs.Prelude.{◌≡◌, ◌≢◌, ◌⊎◌, ⊤, ℕ, List, [], ◌∷◌, codes, Bool, true, false, Option, Some, None}
+use Rattle.std.specs.Prelude.{◌≡◌, ◌≢◌, ◌⊎◌, ⊤, if◌then◌else◌, ℕ, List, [], ◌∷◌, codes, Bool, true, false, Option, Some, None, Result, Ok, Err}
 use Rattle.std.specs.List.{list_any}
 use Rattle.sqlite.specs.Schema.{Schema}
 use Rattle.sqlite.specs.Tree.{Trees}
 use Rattle.sqlite.specs.Table.{Table}
 use Rattle.sqlite_schema.specs.declared.schema.Index.{Index}
 use Rattle.sqlite_catalog.specs.Change.{is_used}
+use Rattle.gate_types.specs.Adopt.{may_adopt}
+use Rattle.gate_types.specs.Settings.{Settings}
+use Rattle.gate_types.specs.SettingsText.{settings_text}
+use Rattle.gate_settings.specs.Told.{Tells}
 use Rattle.gate_schema.specs.Rows.{IsFixed, pair_of_words}
 use Rattle.gate_schema.specs.Schema.{meta_at}
-use Rattle.gate_sql.specs.declared.open_fault.OpenFault.{OpenFault}
-use Rattle.gate_sql.specs.declared.open_fault.OpenFault.TheVariants as fault
+use Rattle.gate_types.specs.declared.open_fault.OpenFault.{OpenFault}
+use Rattle.gate_types.specs.declared.open_fault.OpenFault.TheVariants as fault
 
 -- ---- opening
 
@@ -23,13 +27,17 @@ IsMeta db version settings = IsFixed (
     pair_of_words (codes "format") (codes "gate") ∷ pair_of_words (codes "schema") version ∷
     pair_of_words (codes "settings") settings ∷ []) (db 0)
 
--- no fault, or which one, of a file of this version that keeps these settings, opened with others
-abbrev pub IsJudged : Option OpenFault → List ℕ → List ℕ → List ℕ → Type 0
-IsJudged None version kept settings = (version ≡ codes "1") × (kept ≡ settings)
-IsJudged (Some fault.WrongFile) version kept settings = ⊥
-IsJudged (Some fault.OtherSchema) version kept settings = version ≢ codes "1"
-IsJudged (Some fault.OtherSettings) version kept settings = (version ≡ codes "1") × (kept ≢ settings)
-IsJudged (Some fault.Unavailable) version kept settings = ⊤
+-- the kept text is that of these settings, or of some in whose place they may be taken
+abbrev pub MayOpen : List ℕ → Settings → Type 0
+MayOpen kept d = (kept ≡ settings_text d) ⊎ ((c : Settings) × Tells kept c × (may_adopt c d ≡ true))
+
+-- no fault, or which one, of a file of this version that keeps settings of this text, opened with these
+abbrev pub IsJudged : Option OpenFault → List ℕ → List ℕ → Settings → Type 0
+IsJudged None version kept d = (version ≡ codes "2") × MayOpen kept d
+IsJudged (Some fault.WrongFile) version kept d = ⊥
+IsJudged (Some fault.OtherSchema) version kept d = version ≢ codes "2"
+IsJudged (Some fault.OtherSettings) version kept d = (version ≡ codes "2") × (MayOpen kept d → ⊥)
+IsJudged (Some fault.Unavailable) version kept d = ⊤
 
 -- ---- making
 
@@ -37,8 +45,8 @@ IsJudged (Some fault.Unavailable) version kept settings = ⊤
 abbrev pub gate_names : List (List ℕ)
 gate_names =
     codes "meta" ∷ codes "counter" ∷ codes "queue" ∷ codes "change" ∷ codes "need" ∷ codes "item" ∷ codes "build" ∷
-    codes "landing" ∷ codes "report" ∷ codes "delivery" ∷ codes "need_needed" ∷ codes "item_queue" ∷
-    codes "build_serial" ∷ []
+    codes "landing" ∷ codes "report" ∷ codes "delivery" ∷ codes "change_approval" ∷ codes "need_needed" ∷
+    codes "item_queue" ∷ codes "build_serial" ∷ codes "item_job" ∷ codes "item_fast" ∷ []
 
 -- a table, an index or a view has one of these names
 abbrev pub is_taken : Schema → Bool
@@ -51,3 +59,28 @@ IsMade (Some fault.WrongFile) taken inside = taken ≡ true
 IsMade (Some fault.OtherSchema) taken inside = ⊥
 IsMade (Some fault.OtherSettings) taken inside = ⊥
 IsMade (Some fault.Unavailable) taken inside = (taken ≡ false) ⊎ (inside ≡ true)
+
+-- ---- migrating
+
+-- a file of this version that keeps these settings, asked with others, is of schema 1 and to be migrated, or of
+-- schema 2 already, or why neither
+abbrev pub IsStanding : Result Bool OpenFault → List ℕ → List ℕ → List ℕ → Type 0
+IsStanding (Ok true) version kept settings = (version ≡ codes "1") × (kept ≡ settings)
+IsStanding (Ok false) version kept settings = version ≡ codes "2"
+IsStanding (Err fault.WrongFile) version kept settings = ⊥
+IsStanding (Err fault.OtherSchema) version kept settings = (version ≢ codes "1") × (version ≢ codes "2")
+IsStanding (Err fault.OtherSettings) version kept settings = (version ≡ codes "1") × (kept ≢ settings)
+IsStanding (Err fault.Unavailable) version kept settings = ⊤
+
+-- the names of the two tables that schema 2 adds
+abbrev pub new_names : List (List ℕ)
+new_names = codes "item_job" ∷ codes "item_fast" ∷ []
+
+-- a table, an index or a view has one of them
+abbrev pub is_newly_taken : Schema → Bool
+is_newly_taken schema = list_any (is_used schema) new_names
+
+-- why a file isn't migrated: a name that is taken comes before other settings
+abbrev pub fault_before : Bool → OpenFault → OpenFault
+fault_before taken fault.OtherSettings = if taken then fault.WrongFile else fault.OtherSettings
+fault_before taken f = f

@@ -1,5 +1,5 @@
 -- What reading `meta` shows, and why it fails.
-use Rattle.std.specs.Prelude.{◌≡◌, ◌≢◌, ◌⊎◌, ⊤, ℕ, List, [], ◌∷◌, codes, Bool, true, false, Err, Option, Some, None, map, IsPermutation}
+use Rattle.std.specs.Prelude.{◌≡◌, ◌≢◌, ◌⊎◌, ⊤, ℕ, List, [], ◌∷◌, codes, Bool, true, false, Ok, Err, Option, Some, None, Result, map, IsPermutation}
 use Rattle.sqlite.specs.Effect.{Database}
 use Rattle.sqlite.specs.Listing.{understood}
 use Rattle.sqlite.specs.Order.{Row}
@@ -14,9 +14,13 @@ use Rattle.sqlite_schema.specs.declared.schema.Index.{Index}
 use Rattle.sqlite_value.specs.Order.{column}
 use Rattle.gate_queries.specs.Finds.{Finds}
 use Rattle.gate_schema.specs.Rows.{pair_of_words}
-use Rattle.gate_sql.specs.Opens.{with_meta}
-use Rattle.gate_sql.specs.declared.open_fault.OpenFault.{OpenFault}
-use Rattle.gate_sql.specs.declared.open_fault.OpenFault.TheVariants as fault
+use Rattle.gate_types.specs.Adopt.{may_adopt}
+use Rattle.gate_types.specs.Settings.{Settings}
+use Rattle.gate_types.specs.SettingsText.{settings_text}
+use Rattle.gate_settings.specs.Told.{Tells}
+use Rattle.gate_sql.specs.Opens.{IsJudged, MayOpen, with_meta}
+use Rattle.gate_types.specs.declared.open_fault.OpenFault.{OpenFault}
+use Rattle.gate_types.specs.declared.open_fault.OpenFault.TheVariants as fault
 
 -- the query that reads it
 abbrev pub meta_sql : List ℕ
@@ -37,15 +41,47 @@ abbrev pub HoldsMeta : Trees → List ℕ → List ℕ → Type 0
 HoldsMeta db version settings =
     IsPermutation (map (λ (r : Row). column r 1 ∷ column r 2 ∷ []) (db 0)) (meta_rows version settings)
 
--- where `Are v k` says that the file is of version v and keeps settings k: it opens with these settings only if it is
--- of our version and keeps them; a fault blames the version, or the settings, only where they are others
-abbrev pub IsTold : Option OpenFault → (List ℕ → List ℕ → Type 0) → List ℕ → Type 0
-IsTold None Are settings = Are (codes "1") settings
-IsTold (Some fault.WrongFile) Are settings = ⊤
-IsTold (Some fault.OtherSchema) Are settings =
-    (version : List ℕ) × (kept : List ℕ) × (version ≢ codes "1") × Are version kept
-IsTold (Some fault.OtherSettings) Are settings = (kept : List ℕ) × (kept ≢ settings) × Are (codes "1") kept
-IsTold (Some fault.Unavailable) Are settings = ⊤
+-- where `Are v k` says that the file is of version v and keeps settings of text k: it opens with these settings only
+-- if it is of our version and keeps them, or some in whose place they may be taken; a fault blames the version, or the
+-- settings, only where they are others, and these not such
+abbrev pub IsTold : Option OpenFault → (List ℕ → List ℕ → Type 0) → Settings → Type 0
+IsTold None Are d = (kept : List ℕ) × MayOpen kept d × Are (codes "2") kept
+IsTold (Some fault.WrongFile) Are d = ⊤
+IsTold (Some fault.OtherSchema) Are d =
+    (version : List ℕ) × (kept : List ℕ) × (version ≢ codes "2") × Are version kept
+IsTold (Some fault.OtherSettings) Are d = (kept : List ℕ) × (MayOpen kept d → ⊥) × Are (codes "2") kept
+IsTold (Some fault.Unavailable) Are d = ⊤
+
+-- the fault that was met, if one was
+abbrev pub met : {X : Type 0} → Result X OpenFault → Option OpenFault
+met (Ok x) = None
+met (Err f) = Some f
+
+-- what is found of a file of this version that keeps settings of this text: that it keeps these, or others in whose
+-- place they may be taken, or why it isn't opened
+abbrev pub IsFound : Result (Option Settings) OpenFault → List ℕ → List ℕ → Settings → Type 0
+IsFound (Ok None) version kept d = (version ≡ codes "2") × (kept ≡ settings_text d)
+IsFound (Ok (Some c)) version kept d =
+    (version ≡ codes "2") × (kept ≢ settings_text d) × Tells kept c × (may_adopt c d ≡ true)
+IsFound (Err f) version kept d = IsJudged (Some f) version kept d
+
+-- and where `Are v k` says of which version it is, and which settings it keeps
+abbrev pub IsFoundOf : Result (Option Settings) OpenFault → (List ℕ → List ℕ → Type 0) → Settings → Type 0
+IsFoundOf (Ok None) Are d = Are (codes "2") (settings_text d)
+IsFoundOf (Ok (Some c)) Are d =
+    (kept : List ℕ) × (kept ≢ settings_text d) × Tells kept c × (may_adopt c d ≡ true) × Are (codes "2") kept
+IsFoundOf (Err f) Are d = IsTold (Some f) Are d
+
+-- what is found of a kept text that is another
+abbrev pub IsMet : Result Settings OpenFault → List ℕ → Settings → Type 0
+IsMet (Ok c) kept d = Tells kept c × (may_adopt c d ≡ true)
+IsMet (Err fault.OtherSettings) kept d = (c : Settings) → Tells kept c → may_adopt c d ≡ true → ⊥
+IsMet (Err f) kept d = f ≡ fault.Unavailable
+
+-- it isn't so that the file keeps other settings in whose place these may be taken
+abbrev pub HasNoneToAdopt : Database → Settings → Type 0
+HasNoneToAdopt db d = (kept : List ℕ) (c : Settings) → ShowsMeta db (codes "2") kept → kept ≢ settings_text d →
+    Tells kept c → may_adopt c d ≡ true → ⊥
 
 -- there is no `meta` to read: no such table, or none with these columns
 abbrev pub HasNoMeta : Schema → Type 0

@@ -10,7 +10,7 @@ ghost use Rattle.gate_schema.specs.Schema.{gate_schema};
 ghost use Rattle.gate_rows.specs.Tells.{StandsFor};
 ghost use Rattle.gate_rows.specs.Writes.{Keeps, LeavesNothing};
 ghost use Rattle.gate_queries.specs.Finds.{Stays};
-ghost use Rattle.gate_sql.specs.Applies.{CanLead, LeavesOrStands, OfLawful, OfLed, Settles, Turns, are_known, is_among, is_known};
+ghost use Rattle.gate_sql.specs.Applies.{CanLead, LeavesOrStands, OfLawful, OfLed, Settles, Steps, Turns, are_known, is_among, is_known};
 ghost use Rattle.gate_sql.specs.Held.{IsShownFor, ShowsFor};
 
 use gate_book::fault::BookFault;
@@ -66,6 +66,8 @@ pub(crate) fn apply_all<S: Alter>(
     ensures same_reference { tx.new.conn.ghost_name ≡ tx.old.conn.ghost_name }
     ensures turns { HasCleanDisk (state S.Store tx.new.conn.now) → IsReady (state S.Store tx.old.conn.now) →
         OnOk result (Turns (state S.Store tx.old.conn.now) (state S.Store tx.new.conn.now) edits.now) }
+    ensures steps { HasCleanDisk (state S.Store tx.new.conn.now) → IsReady (state S.Store tx.old.conn.now) →
+        OnOk result (Steps (state S.Store tx.old.conn.now) (state S.Store tx.new.conn.now) edits.now) }
     ensures kept { Keeps (state S.Store tx.old.conn.now) (state S.Store tx.new.conn.now) }
     ensures crash { LeavesNothing (state S.Store tx.old.conn.now) (state S.Store tx.new.conn.now) }
 {

@@ -19,15 +19,15 @@ ghost use Rattle.gate_sql.specs.Opens.{IsMade, is_taken};
 use crate::book::{SqlBook, texts_of};
 use crate::filling::write_first;
 use crate::making::make_tables;
-use crate::open_fault::OpenFault;
 use gate_types::config::{Config, Queue};
+use gate_types::open_fault::OpenFault;
 use sqlite::{Alter, Connection, Error};
 use sqlite_catalog::layout::is_used;
 use sqlite_schema::schema::Schema;
 use std::alloc::Global;
 
 /// Whether a table, an index or a view has one of these names.
-fn is_any_used(schema: &Schema, names: &[&str]) -> bool
+pub(crate) fn is_any_used(schema: &Schema, names: &[&str]) -> bool
     ensures { result ≡ list_any (λ x. has_name schema.now x.now) names.now }
 {
     names.iter().any(|name| is_used(schema, name.as_bytes()))
@@ -50,9 +50,12 @@ fn has_names(schema: &Schema) -> bool
             "landing",
             "report",
             "delivery",
+            "change_approval",
             "need_needed",
             "item_queue",
             "build_serial",
+            "item_job",
+            "item_fast",
         ],
     )
 }

@@ -6,7 +6,7 @@ ghost use Rattle.sqlite.specs.declared.types.Value.TheVariants.{Int};
 ghost use Rattle.gate_rows.specs.Writes.{LeavesNothing};
 ghost use Rattle.gate_schema.specs.Schema.{gate_schema};
 ghost use Rattle.gate_sql.specs.Making.{HasMeta, IsBare, IsFilled, IsInside, KeepsInside, Turns};
-ghost use Rattle.gate_sql.specs.Making.{first_stored, queue_row, queue_rows, with_queue};
+ghost use Rattle.gate_sql.specs.Making.{first_stored, queue_row, queue_rows, with_queue, with_rows};
 
 use gate_types::config::Queue;
 use sqlite::types::{ToSql, ValueRef};
@@ -22,7 +22,7 @@ fn fill_meta<S: Alter>(tx: &mut Transaction<'_, S>, settings: &str) -> Result<()
     ensures crash { LeavesNothing (state S.Store tx.old.conn.now) (state S.Store tx.new.conn.now) }
 {
     tx.execute(
-        "INSERT INTO meta (k, v) VALUES ('format', 'gate'), ('schema', '1'), ('settings', ?1)",
+        "INSERT INTO meta (k, v) VALUES ('format', 'gate'), ('schema', '2'), ('settings', ?1)",
         &[settings.to_sql()],
     )?;
     Ok(())
@@ -77,11 +77,14 @@ fn add_queue<S: Alter>(
     Ok(())
 }
 
-/// The rows of the queues, by their places from 0.
-fn add_queues<S: Alter>(tx: &mut Transaction<'_, S>, queues: &[Queue]) -> Result<(), Error>
+/// The rows of the queues, by their places from 0, where there are none.
+pub(crate) fn add_queues<S: Alter>(
+    tx: &mut Transaction<'_, S>,
+    queues: &[Queue],
+) -> Result<(), Error>
     ensures same_reference { tx.new.conn.ghost_name ≡ tx.old.conn.ghost_name }
-    ensures made { (settings : _) → Turns (state S.Store tx.old.conn.now) (state S.Store tx.new.conn.now) result
-        (IsFilled (first_stored settings [])) (IsFilled (first_stored settings (queue_rows 0 queues.now))) }
+    ensures made { (b : _) → Turns (state S.Store tx.old.conn.now) (state S.Store tx.new.conn.now) result
+        (IsFilled (with_rows [] b)) (IsFilled (with_rows (queue_rows 0 queues.now) b)) }
     ensures inside { Turns (state S.Store tx.old.conn.now) (state S.Store tx.new.conn.now) result IsInside IsInside }
     ensures kept { KeepsInside (state S.Store tx.old.conn.now) (state S.Store tx.new.conn.now) }
     ensures crash { LeavesNothing (state S.Store tx.old.conn.now) (state S.Store tx.new.conn.now) }

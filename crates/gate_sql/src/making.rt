@@ -53,7 +53,8 @@ pub(crate) fn make_tables<S: Alter>(tx: &mut Transaction<'_, S>) -> Result<(), E
             "CREATE TABLE meta (k TEXT PRIMARY KEY NOT NULL, v TEXT NOT NULL) STRICT",
             "CREATE TABLE counter (name TEXT PRIMARY KEY NOT NULL, drawn INTEGER NOT NULL CHECK(drawn >= 0)) STRICT",
             "CREATE TABLE queue (name TEXT PRIMARY KEY NOT NULL, place INTEGER NOT NULL UNIQUE, win INTEGER NOT NULL) STRICT",
-            "CREATE TABLE change (num INTEGER PRIMARY KEY, project TEXT NOT NULL, revision INTEGER NOT NULL, state TEXT NOT NULL CHECK(state IN ('open','landed','closed')), approval INTEGER UNIQUE) STRICT",
+            "CREATE TABLE change (num INTEGER PRIMARY KEY, project TEXT NOT NULL, revision INTEGER NOT NULL, state TEXT NOT NULL CHECK(state IN ('open','landed','closed')), approval INTEGER) STRICT",
+            "CREATE INDEX change_approval ON change(approval)",
             "CREATE TABLE need (change INTEGER NOT NULL, place INTEGER NOT NULL, needed INTEGER NOT NULL, PRIMARY KEY(change, place)) STRICT",
             "CREATE TABLE item (serial INTEGER PRIMARY KEY, queue TEXT NOT NULL, change INTEGER NOT NULL UNIQUE, revision INTEGER NOT NULL, ahead INTEGER, failing INTEGER NOT NULL CHECK(failing IN (0,1))) STRICT",
             "CREATE TABLE build (num INTEGER PRIMARY KEY, queue TEXT NOT NULL, serial INTEGER NOT NULL, change INTEGER NOT NULL, revision INTEGER NOT NULL, job TEXT NOT NULL, base INTEGER NOT NULL, ahead TEXT NOT NULL, outcome TEXT NOT NULL CHECK(outcome IN ('running','success','failure','lost')), live INTEGER NOT NULL CHECK(live IN (0,1))) STRICT",
@@ -63,6 +64,8 @@ pub(crate) fn make_tables<S: Alter>(tx: &mut Transaction<'_, S>) -> Result<(), E
             "CREATE INDEX need_needed ON need(needed)",
             "CREATE INDEX item_queue ON item(queue, serial)",
             "CREATE INDEX build_serial ON build(serial)",
+            "CREATE TABLE item_job (serial INTEGER NOT NULL, place INTEGER NOT NULL, name TEXT NOT NULL, voting INTEGER NOT NULL CHECK(voting IN (0,1)), PRIMARY KEY(serial, place)) STRICT",
+            "CREATE TABLE item_fast (serial INTEGER PRIMARY KEY) STRICT",
         ],
     )
 }

@@ -7,7 +7,7 @@ use gate_book::rows::{QueueSizes, QueuedItem};
 use gate_types::edits::Edit;
 use gate_types::names::Name;
 use gate_types::numbers::{BuildNo, ChangeNo, Serial};
-use gate_types::records::{Build, Change, Counters, Id, Item, Kept, Ready};
+use gate_types::records::{Build, Change, Counters, Id, Item, Kept, Plan, Ready};
 use gate_types::sequence::Sequence;
 use gate_types::tap::Tap;
 use sqlite::Alter;
@@ -76,6 +76,10 @@ impl<S: Alter> Book for SqlBook<S> {
         above: u64,
     ) -> Result<Option<Item>, BookFault> {
         gate_queries::needing(&mut self.conn, queue, change, above)
+    }
+
+    fn plan(&mut self, serial: Serial) -> Result<Option<Plan>, BookFault> {
+        gate_queries::plan(&mut self.conn, serial)
     }
 
     fn live_builds(&mut self, serial: Serial) -> Result<Sequence<Build>, BookFault> {

@@ -17,7 +17,7 @@ use Rattle.gate_sql.specs.Held.{queue_names}
 use Rattle.gate_sql.proofs.told.Items.{names_placed}
 
 -- of names that differ, at most one is a name
-named_once : (names : List (List ℕ)) → are_distinct names ≡ true → (name : List ℕ) →
+pub named_once : (names : List (List ℕ)) → are_distinct names ≡ true → (name : List ℕ) →
     length (filter (λ n. same_name n name) names) ≤ 1
 named_once [] differ name = omega arith
 named_once (n ∷ ns) differ name = by_name (same_name n name) refl (named_once ns both.1 name)
@@ -44,7 +44,7 @@ named_once (n ∷ ns) differ name = by_name (same_name n name) refl (named_once 
     by_name false e rest = rest
 
 -- as many queues have a name as it stands among their names
-count_names : {X : Type 0} (name_of : X → List ℕ) (name : List ℕ) (xs : List X) →
+pub count_names : {X : Type 0} (name_of : X → List ℕ) (name : List ℕ) (xs : List X) →
     length (filter (λ x. same_name (name_of x) name) xs) ≡ length (filter (λ n. same_name n name) (map name_of xs))
 count_names name_of name [] = refl
 count_names {X = X} name_of name (x ∷ xs) = by_name (same_name (name_of x) name) (count_names name_of name xs)

@@ -12,6 +12,7 @@ use Rattle.gate_sql.specs.Answers.{IsAnsweredBy}
 use Rattle.gate_sql.proofs.told.ChangeReads.{change_is, ready_is}
 use Rattle.gate_sql.proofs.told.ItemReads.{item_is, needing_is, queued_is}
 use Rattle.gate_sql.proofs.told.Items.{items_are}
+use Rattle.gate_sql.proofs.told.PlanReads.{plan_is}
 use Rattle.gate_sql.proofs.told.QueueReads.{landing_before_is, queue_is, reports_are}
 
 -- all of them
@@ -25,6 +26,7 @@ reads_are_told {c = c} {x = x} {b = b} lawful named told = record {
   change = change_is c x b told;
   ready = ready_is c x b told lawful;
   build = λ n. ap (find (λ (y : Build). build_key y == n)) told.builds_are;
+  plan = plan_is c x b lawful told;
   live_builds = λ serial. ap (filter (λ (y : Build). y.live && y.serial == serial)) told.builds_are;
   queue = queue_is c x b told;
   reports = reports_are c x b told;

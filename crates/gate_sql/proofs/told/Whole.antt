@@ -12,6 +12,7 @@ use Rattle.gate_rows.specs.Tells.{Tells, TellsNeeds}
 use Rattle.gate_queries.specs.Whole.{IsWhole}
 use Rattle.gate_sql.proofs.told.ChangeReads.{approvals_of_rows}
 use Rattle.gate_sql.proofs.told.ItemForms.{changes_differ, items_are_few, items_in_form}
+use Rattle.gate_sql.proofs.told.PlanReads.{jobs_are_placed, jobs_in_form}
 use Rattle.gate_sql.proofs.told.RowForms.{builds_in_form, changes_in_form, windows_in_form}
 
 -- all of it
@@ -26,6 +27,8 @@ rows_are_whole {c = c} {x = x} {b = b} lawful told = record {
   changes_differ = changes_differ c x b lawful told;
   items_are_few = items_are_few c x b lawful told;
   builds = builds_in_form c x b lawful told;
+  jobs = jobs_in_form c x b lawful told;
+  jobs_are_placed = jobs_are_placed c x b told;
   kept = subst (AllPass is_kept_in_form) (sym told.kept_are) lawful.in_form.kept;
   ids_differ = subst (AllPairs (λ (k l : Kept). k.id ≢ l.id)) (sym told.kept_are) lawful.in_form.ids_differ;
 }

@@ -4,7 +4,8 @@ use Rattle.sqlite.specs.Held.{state}
 use Rattle.sqlite.specs.State.{HasCleanDisk}
 use Rattle.sqlite.proofs.StateLemmas.{survives_then}
 use Rattle.gate_rows.proofs.ThenLemmas.{kept_then}
-use Rattle.gate_sql.proofs.ApplyLemmas.{Steps, steps_more, steps_turn}
+use Rattle.gate_sql.specs.Applies.{Steps}
+use Rattle.gate_sql.proofs.ApplyLemmas.{steps_more, steps_turn}
 use Rattle.gate_sql.proofs.applying.apply_all.Goals as goal
 
 pub loop-edit-preserved : goal.loop-edit-preserved
@@ -32,3 +33,10 @@ returns-clause-turns g c clean ready =
     let new = state g.S.Store c.loop-edit.tx.conn.now in
     let ended : length c.args.edits.now ≤ c.loop-edit.edit-index = omega arith in
     steps_turn old new c.args.edits.now (subst (Steps old new) (take_all c.loop-edit.edit-index c.args.edits.now ended) (c.loop-edit.invariant.steps clean ready))
+
+pub returns-clause-steps : goal.returns-clause-steps
+returns-clause-steps g c clean ready =
+    let old = state g.S.Store c.args.tx.now.conn.now in
+    let new = state g.S.Store c.loop-edit.tx.conn.now in
+    let ended : length c.args.edits.now ≤ c.loop-edit.edit-index = omega arith in
+    subst (Steps old new) (take_all c.loop-edit.edit-index c.args.edits.now ended) (c.loop-edit.invariant.steps clean ready)

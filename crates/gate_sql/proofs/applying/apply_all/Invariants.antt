@@ -3,7 +3,7 @@ use Rattle.sqlite.specs.Held.{state}
 use Rattle.sqlite.specs.State.{HasCleanDisk}
 use Rattle.gate_schema.specs.Rows.{IsReady}
 use Rattle.gate_rows.specs.Writes.{Keeps, LeavesNothing}
-use Rattle.gate_sql.proofs.ApplyLemmas.{Steps}
+use Rattle.gate_sql.specs.Applies.{Steps}
 use Rattle.gate_sql.proofs.applying.apply_all.Given as goal
 
 abbrev pub invariant-loop-edit : goal.invariant-loop-edit

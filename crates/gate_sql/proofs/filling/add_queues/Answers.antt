@@ -3,7 +3,7 @@ use Rattle.std.proofs.lemmas.List.{take_all}
 use Rattle.sqlite.specs.State.{HasCleanDisk}
 use Rattle.sqlite.specs.Held.{state}
 use Rattle.sqlite.proofs.StateLemmas.{survives_then}
-use Rattle.gate_sql.specs.Making.{IsFilled, first_stored, queue_rows}
+use Rattle.gate_sql.specs.Making.{IsFilled, queue_rows, with_rows}
 use Rattle.gate_sql.proofs.BareLemmas.{kept_then, survives_itself}
 use Rattle.gate_sql.proofs.QueueLemmas.{rows_more}
 use Rattle.gate_sql.proofs.filling.add_queues.Goals as goal
@@ -11,7 +11,7 @@ use Rattle.gate_sql.proofs.filling.add_queues.Goals as goal
 pub loop-place-init : goal.loop-place-init
 loop-place-init g c = record {
   same_reference = refl;
-  made = λ settings clean had. had;
+  made = λ b clean had. had;
   inside = λ clean inside. inside;
   kept = λ clean inside. record { was_open = λ up. up; committed = λ up. refl };
   crash = survives_itself (state g.S.Store c.args.tx.now.conn.now);
@@ -25,9 +25,9 @@ loop-place-preserved g c =
     let was = c.loop-place.invariant in
     record {
       same_reference = c.add_queue.ensures.same_reference ∙ was.same_reference;
-      made = λ settings clean had.
-          let before = was.made settings (omega (arith, c.add_queue.ensures.crash.clean)) had in
-          subst (λ qs. IsFilled (first_stored settings qs) new) (rows_more c.loop-place.place c.args.queues.now c.index-queues-place.result (omega arith) c.index-queues-place.is)
+      made = λ b clean had.
+          let before = was.made b (omega (arith, c.add_queue.ensures.crash.clean)) had in
+          subst (λ qs. IsFilled (with_rows qs b) new) (rows_more c.loop-place.place c.args.queues.now c.index-queues-place.result (omega arith) c.index-queues-place.is)
           (c.in_ok-add_queue.ensures.made _ clean before);
       inside = λ clean inside.
           let early : HasCleanDisk old = omega (arith, c.add_queue.ensures.crash.clean) in
@@ -39,6 +39,6 @@ loop-place-preserved g c =
     }
 
 pub returns-clause-made : goal.returns-clause-made
-returns-clause-made g c settings clean had =
-    subst (λ qs. IsFilled (first_stored settings (queue_rows 0 qs)) (state g.S.Store c.loop-place.tx.conn.now))
-    (take_all c.loop-place.place c.args.queues.now (omega arith)) (c.loop-place.invariant.made settings clean had)
+returns-clause-made g c b clean had =
+    subst (λ qs. IsFilled (with_rows (queue_rows 0 qs) b) (state g.S.Store c.loop-place.tx.conn.now))
+    (take_all c.loop-place.place c.args.queues.now (omega arith)) (c.loop-place.invariant.made b clean had)

@@ -1,8 +1,9 @@
-use Rattle.std.proofs.Common.{◌≡◌, ℕ, List, [], take}
+use Rattle.std.proofs.Common.{◌≡◌, [], take}
 use Rattle.sqlite.specs.State.{HasCleanDisk}
 use Rattle.sqlite.specs.Held.{state}
 use Rattle.gate_rows.specs.Writes.{LeavesNothing}
-use Rattle.gate_sql.specs.Making.{IsFilled, IsInside, KeepsInside, first_stored, queue_rows}
+use Rattle.gate_schema.specs.Rows.{Stored}
+use Rattle.gate_sql.specs.Making.{IsFilled, IsInside, KeepsInside, queue_rows, with_rows}
 use Rattle.gate_sql.proofs.filling.add_queues.Given as goal
 
 abbrev pub invariant-loop-place : goal.invariant-loop-place
@@ -11,8 +12,8 @@ invariant-loop-place g l =
     let new = state g.S.Store l.tx.conn.now in
     record {
       same_reference : l.tx.conn.ghost_name ≡ l.fn.tx.conn.ghost_name;
-      made : (settings : List ℕ) → HasCleanDisk new → IsFilled (first_stored settings []) old →
-          IsFilled (first_stored settings (queue_rows 0 (take l.place l.queues))) new;
+      made : (b : Stored) → HasCleanDisk new → IsFilled (with_rows [] b) old →
+          IsFilled (with_rows (queue_rows 0 (take l.place l.queues)) b) new;
       inside : HasCleanDisk new → IsInside old → IsInside new;
       kept : KeepsInside old new;
       crash : LeavesNothing old new;

@@ -1,4 +1,4 @@
-use Rattle.std.proofs.Common.{refl, ◌≡◌}
+use Rattle.std.proofs.Common.{refl}
 use Rattle.sqlite.specs.Held.{state}
 use Rattle.gate_sql.proofs.ApplyLemmas.{applied}
 use Rattle.gate_sql.proofs.reads.SqlBookBook.apply.Goals as goal

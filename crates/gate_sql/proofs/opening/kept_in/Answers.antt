@@ -6,20 +6,20 @@ use Rattle.sqlite.specs.Listing.{understood}
 use Rattle.gate_queries.specs.Finds.{Finds}
 use Rattle.gate_schema.proofs.QueryLemmas.{shown_keeps}
 use Rattle.gate_sql.specs.Reading.{ShowsMeta, meta_sql}
-use Rattle.gate_sql.proofs.JudgeLemmas.{if_none, told_so}
+use Rattle.gate_sql.proofs.JudgeLemmas.{found_so, on_ok_any}
 use Rattle.gate_sql.proofs.LeaveLemmas.{meta_stays}
 use Rattle.gate_sql.proofs.MetaLemmas.{meta_is, meta_shows, meta_unavailable, none_shown, shown_finds}
-use Rattle.gate_sql.proofs.opening.fault_in.Goals as goal
+use Rattle.gate_sql.proofs.opening.kept_in.Goals as goal
 
 pub returns-in-Ok-clause-judged : goal.returns-in-Ok-clause-judged
-returns-in-Ok-clause-judged g c clean tables indexes version kept has meta =
-    c.judge.ensures.judged version kept (c.as_slice.ensures.value ∙ meta_shows _ _ tables indexes version kept _ has meta (c.in-Ok.ensures.shown clean))
+returns-in-Ok-clause-judged g c text clean tables indexes version kept has meta =
+    c.judge.ensures.judged text version kept (c.as_slice.ensures.value ∙ meta_shows _ _ tables indexes version kept _ has meta (c.in-Ok.ensures.shown clean))
 
 pub returns-in-Ok-clause-told : goal.returns-in-Ok-clause-told
-returns-in-Ok-clause-told g c clean =
+returns-in-Ok-clause-told g c text clean =
     let old = state g.S.Store c.args.conn.now in
     let found = shown_finds meta_sql [] old _ _ (c.in-Ok.ensures.shown clean) in
-    told_so c.judge.result _ (ShowsMeta old.now) c.args.settings.now (λ version kept is. subst (Finds meta_sql [] old.now) (sym c.as_slice.ensures.value ∙ is) found) c.judge.ensures.told
+    found_so c.judge.result _ (ShowsMeta old.now) c.args.config.now (λ version kept is. subst (Finds meta_sql [] old.now) (sym c.as_slice.ensures.value ∙ is) found) (c.judge.ensures.told text)
 
 pub returns-in-Ok-clause-unread : goal.returns-in-Ok-clause-unread
 returns-in-Ok-clause-unread g c clean none = absurd (none_shown _ _ _ none (c.in-Ok.ensures.shown clean))
@@ -30,7 +30,7 @@ returns-in-Ok-clause-same g c clean tables indexes has =
     let plain : IsPlain (understood old.now.schema meta_sql) = subst (λ s. IsPlain (understood s meta_sql)) (sym has) (meta_is tables indexes).1 in
     let same = shown_keeps meta_sql [] old _ _ plain (c.in-Ok.ensures.shown clean) in
     let outside : c.is_autocommit.result ≡ true = grind (arith, common_steps) in
-    if_none c.judge.result _ (same, c.is_autocommit.ensures.settled outside same.0.was_open)
+    on_ok_any c.judge.result _ (same, c.is_autocommit.ensures.settled outside same.0.was_open)
 
 pub returns-in-Ok-clause-stays : goal.returns-in-Ok-clause-stays
 returns-in-Ok-clause-stays g c clean known =
@@ -38,7 +38,7 @@ returns-in-Ok-clause-stays g c clean known =
     meta_stays (λ rows. rows.items) c.read_meta.result (state g.S.Store c.args.conn.now) _ (c.is_autocommit.ensures.settled outside) known (c.read_meta.ensures.shown clean) (c.read_meta.ensures.err clean)
 
 pub returns-in-Err-clause-judged : goal.returns-in-Err-clause-judged
-returns-in-Err-clause-judged g c clean tables indexes version kept has meta = rw (c.fault_of.ensures.unavailable (meta_unavailable _ _ tables indexes _ has (c.in-Err.ensures.err clean))) tt
+returns-in-Err-clause-judged g c text clean tables indexes version kept has meta = rw (c.fault_of.ensures.unavailable (meta_unavailable _ _ tables indexes _ has (c.in-Err.ensures.err clean))) tt
 
 pub returns-in-Err-clause-stays : goal.returns-in-Err-clause-stays
 returns-in-Err-clause-stays g c clean known =
