@@ -9,6 +9,7 @@ use Rattle.gate_types.specs.declared.config.Project.{Project}
 use Rattle.gate_types.specs.declared.records.Change.{Change}
 use Rattle.gate_types.specs.declared.records.Item.{Item as ItemRow}
 use Rattle.gate_types.specs.declared.records.Need.{Need}
+use Rattle.gate_types.specs.declared.records.Plan.{Plan}
 use Rattle.gate_types.specs.declared.records.Ready.{Ready}
 use Rattle.gate_types.specs.declared.records.Stage.TheVariants as stage
 use Rattle.gate_types.specs.Names.{same_name, is_name}
@@ -22,7 +23,7 @@ use Rattle.gate_types.specs.State.{Item, Queue, State, has_change, change_of, kn
 use Rattle.gate_types.specs.Slot.{are_met_by}
 use Rattle.gate_types.specs.Standing.{needs_of, with_ahead, place_of, places_after, next_ahead}
 use Rattle.gate_types.specs.Rows.{row_of, item_rows}
-use Rattle.gate_types.specs.Admit.{may_enter, entered, admit_one, admit}
+use Rattle.gate_types.specs.Admit.{may_enter, next_plan, entered, admit_one, admit}
 use Rattle.gate_book.specs.Reads.{queue_named, items_in}
 use Rattle.gate_admission.specs.Known.{IsQueue, known_or_closed, need_of, has_room, has_place}
 use Rattle.gate_admission.specs.Enters.{item_in}
@@ -129,7 +130,7 @@ pub no_project : (c : Settings) (s : State) (r : Ready) → AreNamed s →
     find (λ p. same_name p.name (change_of s r.change).project) c.projects ≡ None → may_enter c s r ≡ false
 no_project c s r a e =
     may_is c s r a ∙ ap (λ (o : Option Project). has_place s
-    (unwrap_or o (record { name = []; queue = []; jobs = [] })).queue (needs_of s r.change)) e
+    (unwrap_or o (record { name = []; queue = []; jobs = []; fail_fast = false })).queue (needs_of s r.change)) e
     ∙ none_empty (λ q. nat_lt (length q.items) 1000 && are_met_by q.items (needs_of s r.change)) s.queues a.not_empty
 
 pub in_project : (c : Settings) (s : State) (r : Ready) (p : Project) → AreNamed s →
@@ -137,7 +138,7 @@ pub in_project : (c : Settings) (s : State) (r : Ready) (p : Project) → AreNam
     may_enter c s r ≡ has_place s p.queue (needs_of s r.change)
 in_project c s r p a e =
     may_is c s r a ∙ ap (λ (o : Option Project). has_place s
-    (unwrap_or o (record { name = []; queue = []; jobs = [] })).queue (needs_of s r.change)) e
+    (unwrap_or o (record { name = []; queue = []; jobs = []; fail_fast = false })).queue (needs_of s r.change)) e
 
 and_first : (a b : Bool) → a && b ≡ true → a ≡ true
 and_first true b e = refl
@@ -174,7 +175,18 @@ pub queue_is : (c : Settings) (s : State) (n : ℕ) (p : Project) →
     find (λ (q : Project). same_name q.name (change_of s n).project) c.projects ≡ Some p →
     p.queue ≡ (project_of c s n).queue
 queue_is c s n p e =
-    sym (ap (λ (o : Option Project). (unwrap_or o (record { name = []; queue = []; jobs = [] })).queue) e)
+    sym (ap (λ (o : Option Project).
+    (unwrap_or o (record { name = []; queue = []; jobs = []; fail_fast = false })).queue) e)
+
+-- the plan of what enters, by that project
+pub plan_is : (c : Settings) (s : State) (n : ℕ) (p : Project) →
+    find (λ (q : Project). same_name q.name (change_of s n).project) c.projects ≡ Some p → (serial : ℕ) →
+    serial ≡ s.counters.order + 1 → (plan : Plan) →
+    plan ≡ record { serial = serial; jobs = p.jobs; fast = p.fail_fast } → plan ≡ next_plan c s n
+plan_is c s n p e serial at plan made =
+    let project : p ≡ project_of c s n =
+    sym (ap (λ (o : Option Project). unwrap_or o (record { name = []; queue = []; jobs = []; fail_fast = false })) e) in
+    made ∙ (λ i. record { serial = at i; jobs = (project i).jobs; fast = (project i).fail_fast })
 
 -- ---- what is known of a change
 

@@ -8,6 +8,7 @@ use Rattle.std.proofs.lemmas.List.Concat.{flat_map-cons}
 use Rattle.gate_types.specs.declared.records.Build.{Build}
 use Rattle.gate_types.specs.declared.records.Change.{Change}
 use Rattle.gate_types.specs.declared.records.Item.{Item as ItemRow}
+use Rattle.gate_types.specs.declared.records.Plan.{Plan}
 use Rattle.gate_types.specs.declared.records.Ready.{Ready}
 use Rattle.gate_types.specs.declared.rows.ChangeRow.{ChangeRow}
 use Rattle.gate_types.specs.declared.edits.Edit.{Edit}
@@ -15,10 +16,10 @@ use Rattle.gate_types.specs.declared.edits.Edit.TheVariants as edit
 use Rattle.gate_types.specs.declared.edits.Counter.TheVariants as counter
 use Rattle.gate_types.specs.Names.{same_name}
 use Rattle.gate_types.specs.Settings.{Settings, are_sound}
-use Rattle.gate_types.specs.State.{Queue, State, put_by, known_change, project_of}
+use Rattle.gate_types.specs.State.{Item, Queue, State, put_by, known_change, project_of}
 use Rattle.gate_types.specs.Once.{Content}
 use Rattle.gate_types.specs.Rows.{item_rows}
-use Rattle.gate_types.specs.Admit.{may_enter, with_item, next_item, entered}
+use Rattle.gate_types.specs.Admit.{may_enter, with_item, next_item, next_plan, entered}
 use Rattle.gate_types.specs.Lawful.{IsSound, serials_of, drawn_serials}
 use Rattle.gate_types.specs.Tables.{Tables, QueueRows, tables, queue_rows, change_row, approval_of, edited_queue, edited_tables, fold_all}
 use Rattle.gate_book.specs.Reads.{queue_named}
@@ -26,6 +27,7 @@ use Rattle.gate_laws.proofs.Members.{In, every, all, found, map_map, map_same, t
 use Rattle.gate_laws.proofs.Rising.{Rising, rising}
 use Rattle.gate_laws.proofs.Counts.{times, times-append, distinct_to}
 use Rattle.gate_laws.proofs.Alone.{changes_once, item_changes, name_alone, same_name_is, same_name_of}
+use Rattle.gate_laws.proofs.Drawn.{item_drawn}
 use Rattle.gate_laws.proofs.AdmitIsSound.{one_sound}
 use Rattle.gate_admission.specs.Led.{IsLed}
 use Rattle.gate_admission.specs.Seen.{ready_without}
@@ -33,7 +35,7 @@ use Rattle.gate_admission.specs.Enters.{entering_row, entering_edits}
 use Rattle.gate_admission.proofs.Rows.{find_dropped}
 use Rattle.gate_admission.proofs.QueueItems.{serial_of}
 use Rattle.gate_admission.proofs.Standing.{row_drawn, queue_in}
-use Rattle.gate_admission.proofs.EnteringRow.{CanBeEntered, enters_behind}
+use Rattle.gate_admission.proofs.EnteringRow.{CanBeEntered, enters_behind, others_stay}
 
 -- ---- changes
 
@@ -134,8 +136,16 @@ times_part n f (p ∷ ps) q m =
     (λ (k : In q ps). let rest = times_part n f ps q k in omega (arith, sum, rest))
     m
 
+-- the next serial is of no item
+next_undrawn : (c : Settings) (s : State) (q : Queue) → IsSound c s → In q s.queues → (i : Item) → In i q.items →
+    s.counters.order + 1 == i.serial ≡ false
+next_undrawn c s q sound m i mi =
+    let low = item_drawn c s sound q m i mi in
+    ne_eqb (s.counters.order + 1) i.serial (λ e. omega (arith, low, e))
+
 can_be_entered : (c : Settings) (s : State) (q : Queue) → IsSound c s → In q s.queues → CanBeEntered s q
 can_be_entered c s q sound m = record {
+  undrawn = next_undrawn c s q sound m;
   no_build = all (λ (b : Build). not (b.serial == s.counters.order + 1) ≡ true) s.builds
       (λ b k. let low = build_drawn c s sound b k in
       ap not (ne_eqb b.serial (s.counters.order + 1) (λ e. omega (arith, low, e))));
@@ -178,7 +188,7 @@ queue_enters c v r name q p row sound led there named row_is own name_is = by_na
     by_name false e =
         let at : same_name name p.name ≡ false = not_turned (same_name name p.name) refl in
         ap (λ rows. queue_rows rows p) (ap (λ b. cond b (put_by (λ (j : ItemRow). j.serial) row (item_rows c v p))
-        (item_rows c v p)) at)
+        (item_rows c v p)) at ∙ sym (others_stay c v p r (next_undrawn c v p led own)))
         ∙ ap (λ b. let t = cond b (with_item (next_item v r.change) p) p in
         queue_rows (item_rows c (entered c v r) t) t)
         (sym (ap (same_name p.name) (sym name_is) ∙ e))
@@ -195,19 +205,21 @@ fold_append t (e ∷ es) b = fold_append (edited_tables t e) es b
 
 pub entering_leads : (c : Settings) (x : Content) (edits : List Edit) (v : State) (r : Ready) (k : Change)
     (name : List ℕ)
-    (q : Queue) (row : ItemRow) → are_sound c ≡ true → IsLed c x edits v → find (may_enter c v) v.ready ≡ Some r →
+    (q : Queue) (row : ItemRow) (plan : Plan) → are_sound c ≡ true → IsLed c x edits v →
+    find (may_enter c v) v.ready ≡ Some r →
     known_change v r.change ≡ Some k → name ≡ (project_of c v r.change).queue → queue_named v name ≡ Some q →
-    row ≡ entering_row v (item_rows c v q) r.change →
-    IsLed c x (edits ++ entering_edits name k row) (entered c v r)
-entering_leads c x edits v r k name q row sound led first known name_is named row_is = record {
+    row ≡ entering_row v (item_rows c v q) r.change → plan ≡ next_plan c v r.change →
+    IsLed c x (edits ++ entering_edits name k row plan) (entered c v r)
+entering_leads c x edits v r k name q row plan sound led first known name_is named row_is plan_is = record {
   sound = subst (IsSound c) (ap (λ (o : Option Ready). option_map_or (entered c v) o v) first)
       (one_sound c v sound led.sound);
-  leads = fold_append (tables c x) edits (entering_edits name k row)
-      ∙ ap (λ (t : Tables). fold_all t (entering_edits name k row)) led.leads
+  leads = fold_append (tables c x) edits (entering_edits name k row plan)
+      ∙ ap (λ (t : Tables). fold_all t (entering_edits name k row plan)) led.leads
       ∙ (λ i. record {
         changes = changes_enter r.change v.ready k v.changes
             (rising (λ (j : Change). j.number) v.changes led.sound.changes_rise) known i;
         queues = queues i;
+        plans = put_by (λ (p : Plan). p.serial) (plan_is i) v.plans;
         builds = v.builds;
         counters = record v.counters { order = serial i };
         kept = x.kept;
@@ -230,10 +242,13 @@ entering_leads c x edits v r k name q row sound led first known name_is named ro
     after p = queue_rows (item_rows c (entered c v r) p) p
 
     queues : map (edited_queue (edit.SetCounter counter.Order row.serial))
-        (map (edited_queue (edit.PutChange k None)) (map (edited_queue (edit.PutItem name row)) (map rows v.queues)))
+        (map (edited_queue (edit.PutChange k None)) (map (edited_queue (edit.PutPlan plan))
+        (map (edited_queue (edit.PutItem name row)) (map rows v.queues))))
         ≡ map after (map next v.queues)
     queues =
         map_map (edited_queue (edit.SetCounter counter.Order row.serial)) (edited_queue (edit.PutChange k None))
+        (map (edited_queue (edit.PutPlan plan)) (map (edited_queue (edit.PutItem name row)) (map rows v.queues)))
+        ∙ map_map (λ (p : QueueRows). p) (edited_queue (edit.PutPlan plan))
         (map (edited_queue (edit.PutItem name row)) (map rows v.queues))
         ∙ map_map (λ (p : QueueRows). p) (edited_queue (edit.PutItem name row)) (map rows v.queues)
         ∙ map_map (edited_queue (edit.PutItem name row)) rows v.queues

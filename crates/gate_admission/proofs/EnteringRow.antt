@@ -8,17 +8,20 @@ use Rattle.std.proofs.lemmas.List.Elements.{All-head, All-tail}
 use Rattle.gate_types.specs.declared.records.Item.{Item as ItemRow}
 use Rattle.gate_types.specs.declared.records.Build.{Build}
 use Rattle.gate_types.specs.declared.records.Need.{Need}
+use Rattle.gate_types.specs.declared.records.Plan.{Plan}
 use Rattle.gate_types.specs.declared.config.Job.{Job}
 use Rattle.gate_types.specs.Names.{same_name}
 use Rattle.gate_types.specs.Settings.{Settings}
-use Rattle.gate_types.specs.State.{Item, Queue, State, has_change}
+use Rattle.gate_types.specs.State.{Item, Queue, State, put_by, has_change}
 use Rattle.gate_types.specs.Line.{Place, same_entries, line, ran_on}
-use Rattle.gate_types.specs.Slot.{is_blocked, are_met_by, counts, slot_of, outcomes_of, slot_of_outcomes, is_failed_slot}
+use Rattle.gate_types.specs.Slot.{is_blocked, are_met_by, counts, raw_slot_of, outcomes_of, slot_of_outcomes, is_failed_slot}
 use Rattle.gate_types.specs.Standing.{is_failing, places, places_after, place_of, with_ahead, next_ahead, needs_of}
 use Rattle.gate_types.specs.declared.records.Ready.{Ready}
-use Rattle.gate_types.specs.Admit.{next_item, with_item, entered}
+use Rattle.gate_types.specs.Admit.{next_item, next_plan, with_item, entered}
 use Rattle.gate_types.specs.Rows.{row_of, item_rows}
 use Rattle.gate_types.specs.Lawful.{IsDistinct}
+use Rattle.gate_laws.proofs.Members.{In}
+use Rattle.gate_laws.proofs.Plans.{plan_kept, replanned}
 use Rattle.gate_admission.specs.Enters.{item_in, is_met_by_rows, ahead_after, ahead_behind, entering_row}
 
 -- ---- what is ahead behind some places
@@ -214,12 +217,12 @@ no_outcomes (b ∷ bs) p job h =
     ∙ no_outcomes bs p job (All-tail (λ (b : Build). not (b.serial == p.item.serial) ≡ true) b bs h)
 
 none_failed : (bs : List Build) (p : Place) (jobs : List Job) → AllPass (λ b. not (b.serial == p.item.serial)) bs →
-    list_any (λ j. j.voting && is_failed_slot (slot_of bs p j)) jobs ≡ false
+    list_any (λ j. j.voting && is_failed_slot (raw_slot_of bs p j)) jobs ≡ false
 none_failed bs p [] h = refl
 none_failed bs p (j ∷ jobs) h =
     ap (λ os. j.voting && is_failed_slot (slot_of_outcomes os) || list_any
-    (λ j. j.voting && is_failed_slot (slot_of bs p j)) jobs) (no_outcomes bs p j h)
-    ∙ ap (λ t. t || list_any (λ j. j.voting && is_failed_slot (slot_of bs p j)) jobs) (and_false j.voting)
+    (λ j. j.voting && is_failed_slot (raw_slot_of bs p j)) jobs) (no_outcomes bs p j h)
+    ∙ ap (λ t. t || list_any (λ j. j.voting && is_failed_slot (raw_slot_of bs p j)) jobs) (and_false j.voting)
     ∙ none_failed bs p jobs h
 
 fails_blocked : (bs : List Build) (p : Place) → AllPass (λ b. not (b.serial == p.item.serial)) bs →
@@ -253,15 +256,18 @@ row_parts i a b f g e h = λ k. row_with i (e k) (h k)
 pub record CanBeEntered (s : State) (q : Queue) : Type 0 where
   pub no_build : AllPass (λ b. not (b.serial == s.counters.order + 1)) s.builds
   pub differ : IsDistinct (map (λ i. i.change) q.items)
+  pub undrawn : (i : Item) → In i q.items → s.counters.order + 1 == i.serial ≡ false
 
-entering_is : (c : Settings) (s : State) (q : Queue) (n : ℕ) → CanBeEntered s q →
+-- its place has the jobs of its plan; they don't matter, since it has no build
+entering_is : (c : Settings) (s : State) (q : Queue) (r : Ready) → CanBeEntered s q →
     row_of s.builds (with_ahead (ahead_end s.builds [] (map (place_of c s q) q.items))
-    (place_of c s q (next_item s n))) ≡ entering_row s (item_rows c s q) n
-entering_is c s q n h =
+    (place_of c (entered c s r) q (next_item s r.change))) ≡ entering_row s (item_rows c s q) r.change
+entering_is c s q r h =
+    let n = r.change in
     let ps = map (place_of c s q) q.items in
     let all = ahead_end s.builds [] ps in
     let rows = item_rows c s q in
-    let x = with_ahead all (place_of c s q (next_item s n)) in
+    let x = with_ahead all (place_of c (entered c s r) q (next_item s n)) in
     let ahead : last_of all ≡ ahead_behind rows = ahead_by_rows s.builds [] ps ∙ end_is rows in
     let met : are_met_by all (needs_of s n) ≡ list_all (is_met_by_rows rows) (needs_of s n) =
     ap (λ (f : Need → Bool). list_all f (needs_of s n))
@@ -272,17 +278,29 @@ entering_is c s q n h =
     row_parts (next_item s n) (last_of all) (ahead_behind rows) (is_failing s.builds x)
     (not (list_all (is_met_by_rows rows) (needs_of s n))) ahead failing
 
+-- the places of the items that stand there stay
+places_stay : (c : Settings) (s : State) (q : Queue) (r : Ready) →
+    ((i : Item) → In i q.items → s.counters.order + 1 == i.serial ≡ false) →
+    map (place_of c (entered c s r) q) q.items ≡ map (place_of c s q) q.items
+places_stay c s q r h =
+    replanned c s (put_by (λ (p : Plan). p.serial) (next_plan c s r.change) s.plans) q q.items
+    (λ i m. plan_kept (next_plan c s r.change) s.plans i.serial (h i m))
+
 pub enters_behind : (c : Settings) (s : State) (q : Queue) (r : Ready) → CanBeEntered s q →
     item_rows c (entered c s r) (with_item (next_item s r.change) q) ≡
     item_rows c s q ++ entering_row s (item_rows c s q) r.change ∷ []
 enters_behind c s q r h =
     let i = next_item s r.change in
-    ap (λ (ps : List Place). map (row_of s.builds) (places_after s.builds [] ps)) (map_push (place_of c s q) q.items i)
-    ∙ ap (map (row_of s.builds)) (places_push s.builds [] (map (place_of c s q) q.items) (place_of c s q i))
+    let t = entered c s r in
+    ap (λ (ps : List Place). map (row_of s.builds) (places_after s.builds [] ps)) (map_push (place_of c t q) q.items i
+    ∙ ap (λ (ps : List Place). ps ++ place_of c t q i ∷ []) (places_stay c s q r h.undrawn))
+    ∙ ap (map (row_of s.builds)) (places_push s.builds [] (map (place_of c s q) q.items) (place_of c t q i))
     ∙ map_push (row_of s.builds) (places c s q)
-    (with_ahead (ahead_end s.builds [] (map (place_of c s q) q.items)) (place_of c s q i))
-    ∙ ap (λ (row : ItemRow). item_rows c s q ++ row ∷ []) (entering_is c s q r.change h)
+    (with_ahead (ahead_end s.builds [] (map (place_of c s q) q.items)) (place_of c t q i))
+    ∙ ap (λ (row : ItemRow). item_rows c s q ++ row ∷ []) (entering_is c s q r h)
 
 pub others_stay : (c : Settings) (s : State) (q : Queue) (r : Ready) →
+    ((i : Item) → In i q.items → s.counters.order + 1 == i.serial ≡ false) →
     item_rows c (entered c s r) q ≡ item_rows c s q
-others_stay c s q r = refl
+others_stay c s q r h =
+    ap (λ (ps : List Place). map (row_of s.builds) (places_after s.builds [] ps)) (places_stay c s q r h)

@@ -32,6 +32,7 @@ rising_after name rows (e ∷ es) r = rising_after name (edited_items name rows 
         by_name false = r
     step (edit.DropItem k) = rising_filter serial_of (λ j. not (j.serial == k)) rows r
     step (edit.PutChange k a) = r
+    step (edit.PutPlan k) = r
     step (edit.PutLanding q p l) = r
     step (edit.PutReport q p l) = r
     step (edit.PutBuild b) = r
@@ -93,6 +94,7 @@ from_step name rows (edit.PutItem q i) r m = by_name (same_name q name) refl m
     by_name false e n = inl n
 from_step name rows (edit.DropItem k) r m = inl (from_filter (λ j. not (j.serial == k)) rows r m).0
 from_step name rows (edit.PutChange k a) r m = inl m
+from_step name rows (edit.PutPlan k) r m = inl m
 from_step name rows (edit.PutLanding q p l) r m = inl m
 from_step name rows (edit.PutReport q p l) r m = inl m
 from_step name rows (edit.PutBuild b) r m = inl m

@@ -238,6 +238,7 @@ ready_all rows rs (edit.PutChange k a ∷ es) h =
     (ready_step rows rs k a h)
 ready_all rows rs (edit.PutItem q i ∷ es) h = ready_all rows rs es h
 ready_all rows rs (edit.DropItem k ∷ es) h = ready_all rows rs es h
+ready_all rows rs (edit.PutPlan k ∷ es) h = ready_all rows rs es h
 ready_all rows rs (edit.PutLanding q p l ∷ es) h = ready_all rows rs es h
 ready_all rows rs (edit.PutReport q p l ∷ es) h = ready_all rows rs es h
 ready_all rows rs (edit.PutBuild b ∷ es) h = ready_all rows rs es h

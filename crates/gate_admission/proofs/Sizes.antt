@@ -73,6 +73,7 @@ size_step name rows (edit.PutItem q i) r = by_name (same_name q name)
     by_name false = refl
 size_step name rows (edit.DropItem k) r = omega (arith, length_drop k rows r)
 size_step name rows (edit.PutChange k a) r = refl
+size_step name rows (edit.PutPlan k) r = refl
 size_step name rows (edit.PutLanding q p l) r = refl
 size_step name rows (edit.PutReport q p l) r = refl
 size_step name rows (edit.PutBuild b) r = refl

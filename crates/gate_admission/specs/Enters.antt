@@ -4,6 +4,7 @@ use Rattle.std.specs.List.{list_all}
 use Rattle.std.specs.Option.{option_map_or}
 use Rattle.gate_types.specs.declared.records.Item.{Item as ItemRow}
 use Rattle.gate_types.specs.declared.records.Need.{Need}
+use Rattle.gate_types.specs.declared.records.Plan.{Plan}
 use Rattle.gate_types.specs.declared.records.Change.{Change}
 use Rattle.gate_types.specs.declared.edits.Edit.{Edit}
 use Rattle.gate_types.specs.declared.edits.Edit.TheVariants as edit
@@ -41,7 +42,7 @@ entering_row s rows n = record {
   failing = not (list_all (is_met_by_rows rows) (needs_of s n));
 }
 
--- the edits of a change that enters a queue with this row
-abbrev pub entering_edits : List ℕ → Change → ItemRow → List Edit
-entering_edits name k row =
-    edit.PutItem name row ∷ edit.PutChange k None ∷ edit.SetCounter counter.Order row.serial ∷ []
+-- the edits of a change that enters a queue with this row and this plan
+abbrev pub entering_edits : List ℕ → Change → ItemRow → Plan → List Edit
+entering_edits name k row plan =
+    edit.PutItem name row ∷ edit.PutPlan plan ∷ edit.PutChange k None ∷ edit.SetCounter counter.Order row.serial ∷ []

@@ -22,7 +22,7 @@ use gate_types::config::Config;
 use gate_types::edits::{Counter, Edit};
 use gate_types::names::{Name, NoMemory};
 use gate_types::numbers::Serial;
-use gate_types::records::{Change, Item, Need, Ready};
+use gate_types::records::{Change, Item, Need, Plan, Ready};
 use std::alloc::Global;
 
 /// Whether a need has landed or is an item of a queue.
@@ -223,11 +223,13 @@ fn with_entering(
     queue: Name,
     change: Change,
     row: Item,
+    plan: Plan,
 ) -> Result<Vec<Edit>, NoMemory>
-    ensures { IfOk result (λ all. all.items ≡ edits.items ++ entering_edits queue change row) }
+    ensures { IfOk result (λ all. all.items ≡ edits.items ++ entering_edits queue change row plan) }
 {
     let Item { serial, .. } = row;
     let edits = with_edit(edits, Edit::PutItem { queue, item: row })?;
+    let edits = with_edit(edits, Edit::PutPlan(plan))?;
     let edits = with_edit(
         edits,
         Edit::PutChange {
@@ -277,5 +279,7 @@ pub(crate) fn enter<B: Book>(
         needs.as_slice(),
         serial,
     )?;
-    Ok(with_entering(edits, project.queue.copy()?, change, row)?)
+    let queue = project.queue.copy()?;
+    let plan = Plan::of_project(project, serial)?;
+    Ok(with_entering(edits, queue, change, row, plan)?)
 }

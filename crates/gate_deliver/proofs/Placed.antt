@@ -149,7 +149,7 @@ told_place c s a h n row e = by_row row ∙ ap reply_by_serial (ap (option_map (
 pub told_nowhere : (c : Settings) (s : State) → are_sound c ≡ true → IsSound c s → (n : ℕ) → AreNamed s →
     find (λ p. same_name p.name (change_of s n).project) c.projects ≡ None → reply.Waiting ≡ approval_reply n s
 told_nowhere c s a h n named e =
-    let none : (project_of c s n).queue ≡ [] = ap (λ (o : Option Project). (unwrap_or o (record { name = []; queue = []; jobs = [] })).queue) e in
+    let none : (project_of c s n).queue ≡ [] = ap (λ (o : Option Project). (unwrap_or o (record { name = []; queue = []; jobs = []; fail_fast = false })).queue) e in
     sym (ap (λ o. option_map_or (λ (i : Item). reply.Queued i.serial) o reply.Waiting)
     (placed_nowhere c s a h n (ap (queue_named s) none ∙ by_queue (queue_named s []) refl)))
   where

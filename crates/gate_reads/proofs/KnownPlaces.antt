@@ -1,5 +1,5 @@
 -- What is known of the place of a row.
-use Rattle.std.proofs.Common.{◌≡◌, ℕ, ◌+◌, true, false, not, ◌||◌, Option, Some, None, List, [], ◌∷◌, map, refl, sym, ap, ◌∙◌, subst}
+use Rattle.std.proofs.Common.{◌≡◌, ℕ, ◌+◌, true, false, not, ◌&&◌, ◌||◌, Option, Some, None, List, [], ◌∷◌, map, refl, sym, ap, ◌∙◌, subst}
 use Rattle.std.specs.Prelude.{◌==◌, filter, find, length, nat_lt, option_map, slice_get, unwrap_or}
 use Rattle.std.specs.Option.{option_map_or}
 use Rattle.std.specs.List.{list_any, list_all}
@@ -9,11 +9,12 @@ use Rattle.gate_types.specs.declared.records.Change.{Change}
 use Rattle.gate_types.specs.declared.records.Entry.{Entry}
 use Rattle.gate_types.specs.declared.records.Item.{Item as ItemRow}
 use Rattle.gate_types.specs.declared.records.Need.{Need}
+use Rattle.gate_types.specs.declared.records.Plan.{Plan}
 use Rattle.gate_types.specs.declared.records.Stage.TheVariants as stage
 use Rattle.gate_types.specs.Settings.{Settings}
-use Rattle.gate_types.specs.State.{Item, Queue, State, known_change, project_of, has_change}
+use Rattle.gate_types.specs.State.{Item, Queue, State, known_change, plan_of, has_change}
 use Rattle.gate_types.specs.Line.{Place, item_entry, landings_below}
-use Rattle.gate_types.specs.Slot.{are_met_by, is_blocked, is_waiting_slot}
+use Rattle.gate_types.specs.Slot.{are_met_by, is_blocked, is_cut, is_waiting_slot}
 use Rattle.gate_types.specs.Standing.{needs_of, places, all_places}
 use Rattle.gate_types.specs.Choice.{build_for, builds_for}
 use Rattle.gate_types.specs.Rows.{row_of}
@@ -22,12 +23,12 @@ use Rattle.gate_types.specs.Names.{same_name}
 use Rattle.gate_laws.proofs.Members.{In, contains_in, found, from_flat, to_flat}
 use Rattle.gate_laws.proofs.Alone.{same_name_is}
 use Rattle.gate_laws.proofs.Places.{item_of_place}
-use Rattle.gate_reads.specs.Known.{known_or_closed, need_of, jobs_named}
+use Rattle.gate_reads.specs.Known.{known_or_closed, need_of}
 use Rattle.gate_book.specs.Reads.{queue_named, landings_in, landings_before, live_builds}
 use Rattle.gate_reads.specs.NextBuild.{with_number}
-use Rattle.gate_reads.specs.Jobs.{slot_among}
+use Rattle.gate_queue.specs.Outcomes.{slot_among}
 use Rattle.gate_reads.specs.Places.{IsBehind, are_met_among, build_on}
-use Rattle.gate_reads.proofs.OwnBuilds.{all_count, blocked_none, first_due}
+use Rattle.gate_reads.proofs.OwnBuilds.{all_count, blocked_none, cut_none, cut_is, first_due}
 
 -- ---- a place of a queue
 
@@ -35,12 +36,13 @@ pub record PlaceFacts (c : Settings) (s : State) (q : Queue) (p : Place) : Type 
   pub item : In p.item q.items
   pub landings : p.landings ≡ q.landings
   pub needs : p.needs ≡ needs_of s p.item.change
-  pub jobs : p.jobs ≡ (project_of c s p.item.change).jobs
+  pub jobs : p.jobs ≡ (plan_of s p.item.serial).jobs
+  pub fast : p.fast ≡ (plan_of s p.item.serial).fast
 
 pub place_facts : (c : Settings) (s : State) (q : Queue) (p : Place) → In p (places c s q) → PlaceFacts c s q p
 place_facts c s q p m =
     let x = item_of_place c s q p m in
-    subst (PlaceFacts c s q) x.3 (record { item = x.2; landings = refl; needs = refl; jobs = refl })
+    subst (PlaceFacts c s q) x.3 (record { item = x.2; landings = refl; needs = refl; jobs = refl; fast = refl })
 
 pub there_too : (c : Settings) (s : State) (name : List ℕ) (q : Queue) (p : Place) → queue_named s name ≡ Some q →
     In p (places c s q) → In p (all_places c s)
@@ -50,17 +52,6 @@ pub named_is : (s : State) (name : List ℕ) (q : Queue) → queue_named s name 
 named_is s name q e = same_name_is q.name name (found (λ r. same_name r.name name) s.queues q e).1
 
 -- ---- what is known of its change
-
-jobs_are : (c : Settings) (s : State) (n : ℕ) (known : Option Change) → known ≡ known_change s n →
-    jobs_named c (known_or_closed known).project ≡ (project_of c s n).jobs
-jobs_are c s n known e =
-    ap (λ (o : Option Change). jobs_named c (known_or_closed o).project) e
-    ∙ ap (jobs_named c) (by_known (known_change s n))
-  where
-    by_known : (o : Option Change) → (known_or_closed o).project
-        ≡ (unwrap_or o (record { number = n; project = []; revision = 0; stage = stage.Closed; needs = [] })).project
-    by_known None = refl
-    by_known (Some k) = refl
 
 needs_are : (s : State) (n : ℕ) (known : Option Change) → known ≡ known_change s n →
     map (need_of s) (known_or_closed known).needs ≡ needs_of s n
@@ -73,13 +64,28 @@ needs_are s n known e =
     by_known None = refl
     by_known (Some k) = refl
 
-pub jobs_at : (c : Settings) (s : State) (p : Place) (row : ItemRow) (known : Option Change) (jobs : List Job) →
-    In p (all_places c s) → row ≡ row_of s.builds p → known ≡ known_change s row.change →
-    jobs ≡ jobs_named c (known_or_closed known).project → jobs ≡ p.jobs
-jobs_at c s p row known jobs m r k e =
+-- its jobs, by the plan under its serial
+pub jobs_at : (c : Settings) (s : State) (p : Place) (row : ItemRow) (plan : Plan) → In p (all_places c s) →
+    row ≡ row_of s.builds p → plan ≡ plan_of s row.serial → plan.jobs ≡ p.jobs
+jobs_at c s p row plan m r e =
     let x = from_flat (places c s) s.queues p m in
-    e ∙ jobs_are c s row.change known k ∙ ap (λ (i : ItemRow). (project_of c s i.change).jobs) r
+    ap (λ (y : Plan). y.jobs) e ∙ ap (λ (i : ItemRow). (plan_of s i.serial).jobs) r
     ∙ sym (place_facts c s x.0 p x.2).jobs
+
+-- and whether it is to fail fast
+pub fast_at : (c : Settings) (s : State) (p : Place) (row : ItemRow) (plan : Plan) → In p (all_places c s) →
+    row ≡ row_of s.builds p → plan ≡ plan_of s row.serial → plan.fast ≡ p.fast
+fast_at c s p row plan m r e =
+    let x = from_flat (places c s) s.queues p m in
+    ap (λ (y : Plan). y.fast) e ∙ ap (λ (i : ItemRow). (plan_of s i.serial).fast) r
+    ∙ sym (place_facts c s x.0 p x.2).fast
+
+-- so whether it is cut, where it isn't blocked
+pub cut_at : (c : Settings) (s : State) (p : Place) (row : ItemRow) (plan : Plan) → In p (all_places c s) →
+    row ≡ row_of s.builds p → plan ≡ plan_of s row.serial → is_blocked p ≡ false →
+    plan.fast && row.failing ≡ is_cut s.builds p
+cut_at c s p row plan m r e unblocked =
+    (λ k. fast_at c s p row plan m r e k && (r k).failing) ∙ cut_is s.builds p unblocked
 
 pub needs_at : (c : Settings) (s : State) (q : Queue) (p : Place) (row : ItemRow) (known : Option Change)
     (needs : List Need) → In p (places c s q) → row ≡ row_of s.builds p → known ≡ known_change s row.change →
@@ -113,19 +119,33 @@ none_due {c} {s} {name} {ahead} {row} {q} {p} at known needs k n e =
     blocked_none s q p
     (sym (blocked_is p ahead needs at.ahead_is (needs_at c s q p row known needs there at.row_is k n)) ∙ ap not e)
 
+-- nor where it is cut
+pub none_cut : {c : Settings} {s : State} {name : List ℕ} {ahead : List Entry} {row : ItemRow} {q : Queue} {p : Place} →
+    IsBehind c s name ahead row q p → (known : Option Change) (needs : List Need) (plan : Plan) →
+    known ≡ known_change s row.change → needs ≡ map (need_of s) (known_or_closed known).needs →
+    plan ≡ plan_of s row.serial → are_met_among ahead needs ≡ true → plan.fast && row.failing ≡ true →
+    slice_get (builds_for s q p) 0 ≡ None
+none_cut {c} {s} {name} {ahead} {row} {q} {p} at known needs plan k n o e cut =
+    let there = contains_in (places c s q) p at.there in
+    let here = there_too c s name q p at.queue_is there in
+    let unblocked = sym (blocked_is p ahead needs at.ahead_is (needs_at c s q p row known needs there at.row_is k n)) ∙ ap not e in
+    cut_none s q p (sym (cut_at c s p row plan here at.row_is o unblocked) ∙ cut)
+
 -- that of its first waiting job, where all are met
 pub first_is : {c : Settings} {s : State} {name : List ℕ} {ahead : List Entry} {row : ItemRow} {q : Queue} {p : Place} →
     IsLawful c s → IsBehind c s name ahead row q p → (known : Option Change) (needs : List Need) (builds : List Build)
-    (jobs : List Job) → known ≡ known_change s row.change → needs ≡ map (need_of s) (known_or_closed known).needs →
-    builds ≡ live_builds s row.serial → jobs ≡ jobs_named c (known_or_closed known).project →
-    are_met_among ahead needs ≡ true → slice_get (builds_for s q p) 0
+    (plan : Plan) (jobs : List Job) → known ≡ known_change s row.change →
+    needs ≡ map (need_of s) (known_or_closed known).needs → builds ≡ live_builds s row.serial →
+    plan ≡ plan_of s row.serial → jobs ≡ plan.jobs →
+    are_met_among ahead needs ≡ true → plan.fast && row.failing ≡ false → slice_get (builds_for s q p) 0
     ≡ option_map (build_for (s.counters.build + 1) q p) (find (λ j. is_waiting_slot (slot_among builds j)) jobs)
-first_is {c} {s} {name} {ahead} {row} {q} {p} lawful at known needs builds jobs k n b j e =
+first_is {c} {s} {name} {ahead} {row} {q} {p} lawful at known needs builds plan jobs k n b o j e u =
     let there = contains_in (places c s q) p at.there in
     let here = there_too c s name q p at.queue_is there in
+    let unblocked = sym (blocked_is p ahead needs at.ahead_is (needs_at c s q p row known needs there at.row_is k n)) ∙ ap not e in
     first_due s q p builds jobs (b ∙ ap (λ (r : ItemRow). live_builds s r.serial) at.row_is)
-    (jobs_at c s p row known jobs here at.row_is k j) (all_count c s lawful p here)
-    (sym (blocked_is p ahead needs at.ahead_is (needs_at c s q p row known needs there at.row_is k n)) ∙ ap not e)
+    (j ∙ jobs_at c s p row plan here at.row_is o) (all_count c s lawful p here) unblocked
+    (sym (cut_at c s p row plan here at.row_is o unblocked) ∙ u)
 
 -- and so it is the build of that job
 pub built_is : {c : Settings} {s : State} {name : List ℕ} {ahead : List Entry} {row : ItemRow} {q : Queue} {p : Place} →

@@ -1,11 +1,8 @@
 -- What is known of a change, and what follows from it.
-use Rattle.std.specs.Prelude.{ℕ, List, [], Option, unwrap_or, find}
-use Rattle.gate_types.specs.declared.config.Job.{Job}
+use Rattle.std.specs.Prelude.{ℕ, [], Option, unwrap_or}
 use Rattle.gate_types.specs.declared.records.Change.{Change}
 use Rattle.gate_types.specs.declared.records.Need.{Need}
 use Rattle.gate_types.specs.declared.records.Stage.TheVariants as stage
-use Rattle.gate_types.specs.Names.{same_name}
-use Rattle.gate_types.specs.Settings.{Settings}
 use Rattle.gate_types.specs.State.{State, change_of, is_landed}
 
 -- a change that is known, or a closed one of no project
@@ -15,8 +12,3 @@ known_or_closed k = unwrap_or k (record { number = 0; project = []; revision = 0
 -- a need, with whether it has landed
 abbrev pub need_of : State → ℕ → Need
 need_of s n = record { change = n; landed = is_landed (change_of s n) }
-
--- the jobs of the project of a name
-abbrev pub jobs_named : Settings → List ℕ → List Job
-jobs_named c name =
-    (unwrap_or (find (λ p. same_name p.name name) c.projects) (record { name = []; queue = []; jobs = [] })).jobs

@@ -1,5 +1,5 @@
 //! The build that is due of one item.
-ghost use Rattle.std.specs.Prelude.{◌≡◌, ◌==◌, IfOk, IfErr, option_map, slice_get};
+ghost use Rattle.std.specs.Prelude.{◌≡◌, ◌&&◌, ◌==◌, IfOk, IfErr, option_map, slice_get};
 ghost use Rattle.std.specs.List.{list_any};
 ghost use Rattle.gate_types.specs.State.{Queue};
 ghost use Rattle.gate_types.specs.Line.{Place};
@@ -11,13 +11,14 @@ ghost use Rattle.gate_reads.specs.NextBuild.{with_number};
 ghost use Rattle.gate_reads.specs.Places.{IsBehind, are_met_among, build_on};
 
 use crate::jobs::first_waiting;
-use crate::known::{jobs_of, needs_of};
+use crate::known::needs_of;
 use gate_book::book::Book;
 use gate_book::fault::BookFault;
+use gate_book::planned::plan_of;
 use gate_types::config::{Config, Job};
 use gate_types::names::Name;
 use gate_types::numbers::{BuildNo, ChangeNo};
-use gate_types::records::{Build, Entry, Item, Need, Outcome};
+use gate_types::records::{Build, Entry, Item, Need, Outcome, Plan};
 use gate_types::sequence::Sequence;
 use std::alloc::Global;
 
@@ -69,7 +70,14 @@ fn build_on<B: Book>(
     })
 }
 
-/// The build of the first waiting job of an item with these changes ahead, unless it is blocked.
+/// Whether an item that isn't blocked is cut: it fails, and is to fail fast.
+fn is_cut(plan: &Plan, item: &Item) -> bool
+    ensures { result ≡ plan.now.fast && item.now.failing }
+{
+    plan.fast && item.failing
+}
+
+/// The build of the first waiting job of an item with these changes ahead, unless it is blocked or cut.
 pub(crate) fn build_of_item<B: Book>(
     alloc: Global,
     book: &mut B,
@@ -90,8 +98,12 @@ pub(crate) fn build_of_item<B: Book>(
     if !are_met_among(ahead.as_slice(), &needs) {
         return Ok(None);
     }
+    let plan = plan_of(alloc, book, item.serial)?;
+    if is_cut(&plan, item) {
+        return Ok(None);
+    }
     let builds = book.live_builds(item.serial)?;
-    match first_waiting(alloc, builds.as_slice(), jobs_of(config, &known))? {
+    match first_waiting(alloc, builds.as_slice(), plan.jobs.as_slice())? {
         Some(job) => Ok(Some(build_on(book, queue, number, ahead, item, job)?)),
         None => Ok(None),
     }

@@ -1,41 +1,14 @@
 //! What the jobs of an item have come to, by its live builds.
 ghost use Rattle.std.specs.Prelude.{◌≡◌, find, option_copied, IfOk};
 ghost use Rattle.std.specs.List.{list_all};
-ghost use Rattle.gate_types.specs.Names.{same_name};
 ghost use Rattle.gate_types.specs.Slot.{is_waiting_slot, is_finished};
-ghost use Rattle.gate_reads.specs.Jobs.{outcomes_among, slot_among};
+ghost use Rattle.gate_queue.specs.Outcomes.{slot_among};
 
-use gate_queue::outcomes::{is_finished, slot_of_outcomes};
+use gate_queue::outcomes::{is_finished, slot_among};
 use gate_types::config::Job;
 use gate_types::names::NoMemory;
-use gate_types::records::{Build, Outcome, Slot};
+use gate_types::records::{Build, Slot};
 use std::alloc::Global;
-
-fn is_of(build: &Build, job: &Job) -> bool
-    ensures { result ≡ same_name build.now.job job.now.name }
-{
-    build.job.as_str() == job.name.as_str()
-}
-
-fn outcomes_among(alloc: Global, builds: &[Build], job: &Job) -> Result<Vec<Outcome>, NoMemory>
-    ensures { IfOk result (λ found. found.items ≡ outcomes_among builds.now job.now) }
-{
-    let mut found = Vec::new(alloc);
-    for build in builds {
-        if is_of(build, job) {
-            found.push(build.outcome)?;
-        }
-    }
-    Ok(found)
-}
-
-/// What a job has come to, by the live builds of its item.
-pub fn slot_among(alloc: Global, builds: &[Build], job: &Job) -> Result<Slot, NoMemory>
-    ensures { IfOk result (λ slot. slot ≡ slot_among builds.now job.now) }
-{
-    let outcomes = outcomes_among(alloc, builds, job)?;
-    Ok(slot_of_outcomes(&outcomes))
-}
 
 fn is_waiting(slot: Slot) -> bool
     ensures { result ≡ is_waiting_slot slot }

@@ -1,6 +1,5 @@
-//! What is known of a change: its needs, each with whether it has landed, and the jobs of its project.
-ghost use Rattle.std.specs.Prelude.{◌≡◌, ◌++◌, ◌∷◌, [], IfOk, IfErr, map, find, option_copied};
-ghost use Rattle.gate_types.specs.Names.{same_name};
+//! What is known of a change: its needs, each with whether it has landed.
+ghost use Rattle.std.specs.Prelude.{◌≡◌, ◌++◌, ◌∷◌, [], IfOk, IfErr, map};
 ghost use Rattle.gate_types.specs.State.{is_landed};
 ghost use Rattle.gate_book.specs.Faults.{MayAnswer};
 ghost use Rattle.gate_book.specs.Kept.{OfHeld, IsKept};
@@ -8,7 +7,6 @@ ghost use Rattle.gate_reads.specs.Known as known;
 
 use gate_book::book::Book;
 use gate_book::fault::BookFault;
-use gate_types::config::{Config, Job, Project};
 use gate_types::names::NoMemory;
 use gate_types::numbers::ChangeNo;
 use gate_types::records::{Change, Need, Stage};
@@ -20,35 +18,6 @@ fn is_landed(change: &Option<Change>) -> bool
     match change {
         Some(change) => matches!(change.stage, Stage::Landed),
         None => false,
-    }
-}
-
-fn project_named<'c>(config: &'c Config, name: &str) -> Option<&'c Project>
-    ensures { option_copied result ≡ find (λ p. same_name p.name name.now) config.now.projects }
-{
-    config
-        .projects
-        .as_slice()
-        .iter()
-        .find(|project| project.name.as_str() == name)
-}
-
-fn jobs_named<'c>(config: &'c Config, name: &str) -> &'c [Job]
-    ensures { result.now ≡ known.jobs_named config.now name.now }
-{
-    match project_named(config, name) {
-        Some(project) => project.jobs.as_slice(),
-        None => &[],
-    }
-}
-
-/// The jobs of a change's project; none where the change isn't known.
-pub fn jobs_of<'c>(config: &'c Config, change: &Option<Change>) -> &'c [Job]
-    ensures { result.now ≡ known.jobs_named config.now (known.known_or_closed change.now).project }
-{
-    match change {
-        Some(change) => jobs_named(config, change.project.as_str()),
-        None => jobs_named(config, ""),
     }
 }
 

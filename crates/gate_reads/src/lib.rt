@@ -3,7 +3,7 @@
 #![tactic(auto)]
 
 pub mod due;
-pub mod jobs;
+mod jobs;
 pub mod known;
 pub mod next_build;
 pub mod orders;

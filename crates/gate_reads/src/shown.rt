@@ -1,5 +1,5 @@
 //! Whether the order of an item is shown.
-ghost use Rattle.std.specs.Prelude.{◌≡◌, IfOk, IfErr};
+ghost use Rattle.std.specs.Prelude.{◌≡◌, false, IfOk, IfErr};
 ghost use Rattle.gate_types.specs.Line.{Place};
 ghost use Rattle.gate_types.specs.Standing.{are_finished};
 ghost use Rattle.gate_book.specs.Faults.{MayAnswer};
@@ -7,14 +7,14 @@ ghost use Rattle.gate_book.specs.Kept.{OfHeldUnder, IsKept};
 ghost use Rattle.gate_reads.specs.Places.{IsAt, is_shown};
 
 use crate::jobs;
-use crate::known::jobs_of;
 use gate_book::book::Book;
 use gate_book::fault::BookFault;
+use gate_book::planned::plan_of;
 use gate_types::config::Config;
 use gate_types::records::Item;
 use std::alloc::Global;
 
-/// Whether each job of an item has ended.
+/// Whether each job of an item that isn't failing has ended.
 pub(crate) fn have_jobs_ended<B: Book>(
     alloc: Global,
     book: &mut B,
@@ -22,14 +22,14 @@ pub(crate) fn have_jobs_ended<B: Book>(
     item: &Item,
 ) -> Result<bool, BookFault>
     ensures found { OfHeldUnder B.IsTrusted B.Holds book.old book.new config.now (λ x. (p : Place) →
-        IsAt config.now x.state item.now p → IfOk result (λ ended. ended ≡ are_finished x.state.builds p)) }
+        IsAt config.now x.state item.now p → item.now.failing ≡ false →
+        IfOk result (λ ended. ended ≡ are_finished x.state.builds p)) }
     ensures kept { IsKept B.IsTrusted B.Holds B.LeavesOneOf book.old book.new }
     ensures fault { IfErr result (MayAnswer B.MayFault) }
 {
-    let known = book.change(item.change)?;
+    let plan = plan_of(alloc, book, item.serial)?;
     let builds = book.live_builds(item.serial)?;
-    let jobs = jobs_of(config, &known);
-    Ok(jobs::have_ended(alloc, builds.as_slice(), jobs)?)
+    Ok(jobs::have_ended(alloc, builds.as_slice(), plan.jobs.as_slice())?)
 }
 
 /// Whether the order of an item is shown: its row tells whether it fails and whether something is ahead of it.

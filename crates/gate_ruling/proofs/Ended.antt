@@ -125,6 +125,7 @@ ended_moves x n e =
     by_parts x (edit.SetOutcome n (outcome_of_ending e) ∷ []) (end_build e n x.state) (record {
       changes = refl;
       queues = λ columns. refl;
+      plans = refl;
       builds = refl;
       counters = refl;
       kept = refl;

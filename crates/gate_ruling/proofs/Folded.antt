@@ -6,7 +6,7 @@ use Rattle.gate_types.specs.declared.records.Build.{Build}
 use Rattle.gate_types.specs.declared.edits.Edit.{Edit}
 use Rattle.gate_types.specs.State.{Queue, State}
 use Rattle.gate_types.specs.Once.{Content}
-use Rattle.gate_types.specs.Tables.{Tables, QueueRows, change_row, queue_rows, edited_changes, edited_queue, edited_build_rows, edited_counters, edited_kept, edited_tables, fold_all}
+use Rattle.gate_types.specs.Tables.{Tables, QueueRows, change_row, queue_rows, edited_changes, edited_queue, edited_plans, edited_build_rows, edited_counters, edited_kept, edited_tables, fold_all}
 use Rattle.gate_laws.proofs.Members.{map_map}
 use Rattle.gate_raw.specs.Moves.{Columns, row_by, tables_by, in_state, Moves}
 
@@ -19,6 +19,7 @@ moves_on x t u first more f g = λ columns.
 pub all_parts : (t : Tables) (es : List Edit) → fold_all t es ≡ record {
   changes = fold edited_changes t.changes es;
   queues = map (λ q. fold (λ r e. edited_queue e r) q es) t.queues;
+  plans = fold edited_plans t.plans es;
   builds = fold edited_build_rows t.builds es;
   counters = fold edited_counters t.counters es;
   kept = fold edited_kept t.kept es;
@@ -29,6 +30,7 @@ all_parts t (e ∷ es) =
     ∙ (λ i. record {
       changes = fold edited_changes t.changes (e ∷ es);
       queues = map_map (λ (q : QueueRows). fold (λ r d. edited_queue d r) q es) (edited_queue e) t.queues i;
+      plans = fold edited_plans t.plans (e ∷ es);
       builds = fold edited_build_rows t.builds (e ∷ es);
       counters = fold edited_counters t.counters (e ∷ es);
       kept = fold edited_kept t.kept (e ∷ es);
@@ -47,6 +49,7 @@ pub record Parts (x : Content) (edits : List Edit) (t : State) : Type 0 where
   pub changes : fold edited_changes (map (change_row x.state.ready) x.state.changes) edits ≡
       map (change_row t.ready) t.changes
   pub queues : (columns : ℕ → Columns) → map (shown_after columns edits) x.state.queues ≡ map (shown columns) t.queues
+  pub plans : fold edited_plans x.state.plans edits ≡ t.plans
   pub builds : fold edited_build_rows x.state.builds edits ≡ t.builds
   pub counters : fold edited_counters x.state.counters edits ≡ t.counters
   pub kept : fold edited_kept x.kept edits ≡ x.kept
@@ -58,6 +61,7 @@ by_parts x edits t p = λ columns.
       changes = p.changes i;
       queues = (map_map (λ (q : QueueRows). fold (λ r e. edited_queue e r) q edits) (shown columns) x.state.queues
           ∙ p.queues columns) i;
+      plans = p.plans i;
       builds = p.builds i;
       counters = p.counters i;
       kept = p.kept i;

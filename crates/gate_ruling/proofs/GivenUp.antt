@@ -11,6 +11,7 @@ use Rattle.gate_types.specs.Settings.{Settings}
 use Rattle.gate_types.specs.State.{Item, Queue, State, has_change, is_queued}
 use Rattle.gate_types.specs.Slot.{is_running}
 use Rattle.gate_types.specs.Rebase.{with_live}
+use Rattle.gate_types.specs.Sweep.{without_plans}
 use Rattle.gate_types.specs.Rows.{item_of}
 use Rattle.gate_types.specs.Step.{left_queue, leave}
 use Rattle.gate_types.specs.Once.{Content}
@@ -19,6 +20,7 @@ use Rattle.gate_book.specs.declared.rows.QueuedItem.{QueuedItem}
 use Rattle.gate_laws.specs.Touch.{queue_of_change, touched_by}
 use Rattle.gate_laws.proofs.Tests.{and_true, not_and_false}
 use Rattle.gate_laws.proofs.Members.{In, map_same, none_from, none_to}
+use Rattle.gate_laws.proofs.Plans.{plans_all_stay}
 use Rattle.gate_laws.proofs.LeaveIsSound.{leaving}
 use Rattle.gate_laws.proofs.LeaveTouches.{left_same}
 use Rattle.gate_walk.specs.Delivery.{is_on}
@@ -32,7 +34,7 @@ use Rattle.gate_ruling.specs.Leaving.{touched_of}
 
 -- a change in no queue leaves nothing
 pub leaves_nothing : (v : Verdict) (n : ℕ) (s : State) → is_queued s n ≡ false → leave v n s ≡ s
-leaves_nothing v n s h = λ k. record s { queues = queues k; builds = builds k }
+leaves_nothing v n s h = λ k. record s { queues = queues k; plans = plans k; builds = builds k }
   where
     away : (q : Queue) → In q s.queues → has_change q.items n ≡ false
     away = none_from (λ q. has_change q.items n) s.queues h
@@ -49,6 +51,9 @@ leaves_nothing v n s h = λ k. record s { queues = queues k; builds = builds k }
         none_to (λ q. list_any (λ i. i.change == n && i.serial == serial) q.items) s.queues (λ q m.
         none_to (λ i. i.change == n && i.serial == serial) q.items (λ i mi.
         and_first (i.change == n) (i.serial == serial) (none_from (λ i. i.change == n) q.items (away q m) i mi)))
+
+    plans : without_plans (leaving n s) s.plans ≡ s.plans
+    plans = plans_all_stay s.plans (leaving n s) nobody
 
     builds : map (λ b. with_live (b.live && not (is_running b.outcome && leaving n s b.serial)) b) s.builds ≡ s.builds
     builds =

@@ -14,11 +14,11 @@ use Rattle.gate_types.specs.Names.{same_name}
 use Rattle.gate_types.specs.Settings.{Settings, are_sound}
 use Rattle.gate_types.specs.State.{Item, Queue, State, put_by}
 use Rattle.gate_types.specs.Slot.{is_running}
-use Rattle.gate_types.specs.Sweep.{report_of}
-use Rattle.gate_types.specs.Step.{left_queue, leave}
+use Rattle.gate_types.specs.Sweep.{report_of, without_plans}
+use Rattle.gate_types.specs.Step.{left_queue, is_of_change, leave}
 use Rattle.gate_types.specs.Rows.{item_of, numbered}
 use Rattle.gate_types.specs.Once.{Content}
-use Rattle.gate_types.specs.Tables.{change_row, edited_changes, edited_counters, edited_kept, edited_queue}
+use Rattle.gate_types.specs.Tables.{change_row, edited_changes, edited_counters, edited_kept, edited_plans, edited_queue}
 use Rattle.gate_types.specs.Lawful.{IsSound}
 use Rattle.gate_types.specs.Forms.{IsLawfulContent}
 use Rattle.gate_book.specs.Reads.{items_in, reports_in, live_builds}
@@ -26,6 +26,7 @@ use Rattle.gate_book.specs.declared.rows.QueuedItem.{QueuedItem}
 use Rattle.gate_laws.proofs.Members.{In, every, map_same, map_map, filter_same, filter_none}
 use Rattle.gate_laws.proofs.Rising.{Rising, rising}
 use Rattle.gate_laws.proofs.Alone.{serial_alone, change_alone, name_alone, same_name_is, same_name_of}
+use Rattle.gate_walk.proofs.Leaving.{one_leaves}
 use Rattle.gate_raw.specs.Moves.{Columns, row_by, in_state, Moves}
 use Rattle.gate_ruling.specs.Leaving.{stop_of, out_of_queue}
 use Rattle.gate_ruling.proofs.Folded.{shown, shown_after, by_parts, leave_it, moves_on}
@@ -162,18 +163,23 @@ queue_left c s k v settings sound h columns q mq =
 
 -- ---- all tables
 
+-- the item left its queue, and its builds go on
+abbrev unqueued : Verdict → ℕ → State → State
+unqueued v n s = record s { queues = map (left_queue v n) s.queues; plans = without_plans (is_of_change n s) s.plans }
+
 out : (c : Settings) (x : Content) (k : QueuedItem) (v : Verdict) → are_sound c ≡ true → IsSound c x.state →
     (h : Stored c x.state k.queue k.item) →
-    Moves x (out_of_queue k (length h.queue.reports + 1) v)
-    (record x.state { queues = map (left_queue v k.item.change) x.state.queues })
+    Moves x (out_of_queue k (length h.queue.reports + 1) v) (unqueued v k.item.change x.state)
 out c x k v settings sound h =
     let edits = out_of_queue k (length h.queue.reports + 1) v in
-    by_parts x edits (record x.state { queues = map (left_queue v k.item.change) x.state.queues }) (record {
+    by_parts x edits (unqueued v k.item.change x.state) (record {
       changes = refl;
       queues = λ columns.
           map_same (shown_after columns edits) (λ q. shown columns (left_queue v k.item.change q)) x.state.queues
           (queue_left c x.state k v settings sound h columns)
           ∙ sym (map_map (shown columns) (left_queue v k.item.change) x.state.queues);
+      plans = λ i. without_plans (λ n. sym (one_leaves c x.state sound h.queue (item_of k.item) k.item.change h.there
+          h.item refl n) i) x.state.plans;
       builds = refl;
       counters = refl;
       kept = refl;
@@ -181,16 +187,17 @@ out c x k v settings sound h =
 
 stops : (c : Settings) (x : Content) (k : QueuedItem) (v : Verdict) → IsSound c x.state →
     Stored c x.state k.queue k.item →
-    Moves (in_state x (record x.state { queues = map (left_queue v k.item.change) x.state.queues }))
+    Moves (in_state x (unqueued v k.item.change x.state))
     (map stop_of (filter (λ b. is_running b.outcome) (live_builds x.state k.item.serial)))
     (leave v k.item.change x.state)
 stops c x k v sound h =
-    let t = record x.state { queues = map (left_queue v k.item.change) x.state.queues } in
+    let t = unqueued v k.item.change x.state in
     let runs = filter (λ (b : Build). is_running b.outcome) (live_builds x.state k.item.serial) in
     by_parts (in_state x t) (map stop_of runs) (leave v k.item.change x.state) (record {
       changes = leave_it edited_changes stop_of (map (change_row t.ready) t.changes) (λ b. refl) runs;
       queues = λ columns. map_same (shown_after columns (map stop_of runs)) (shown columns) t.queues
           (λ q m. leave_it (λ r e. edited_queue e r) stop_of (shown columns q) (λ b. refl) runs);
+      plans = leave_it edited_plans stop_of t.plans (λ b. refl) runs;
       builds = stopped c x.state k.queue k.item sound h;
       counters = leave_it edited_counters stop_of t.counters (λ b. refl) runs;
       kept = leave_it edited_kept stop_of x.kept (λ b. refl) runs;
@@ -202,7 +209,7 @@ leaves : (c : Settings) (x : Content) (k : QueuedItem) (v : Verdict) → are_sou
     ++ map stop_of (filter (λ b. is_running b.outcome) (live_builds x.state k.item.serial)))
     (leave v k.item.change x.state)
 leaves c x k v settings sound h =
-    moves_on x (record x.state { queues = map (left_queue v k.item.change) x.state.queues })
+    moves_on x (unqueued v k.item.change x.state)
     (leave v k.item.change x.state) (out_of_queue k (length h.queue.reports + 1) v)
     (map stop_of (filter (λ b. is_running b.outcome) (live_builds x.state k.item.serial)))
     (out c x k v settings sound h) (stops c x k v sound h)

@@ -1,11 +1,12 @@
 -- A shown order, by the row of its item: what it touches, and what its queue becomes.
 use Rattle.std.proofs.Common.{◌≡◌, ℕ, suc, ◌+◌, Bool, true, false, not, cond, Option, Some, None, List, [], ◌∷◌, ◌++◌, map, filter, length, refl, sym, ap, ◌∙◌, subst, arith, true≢false}
-use Rattle.std.specs.Prelude.{◌==◌, nat_lt, find, option_map, unwrap_or}
+use Rattle.std.specs.Prelude.{◌==◌, nat_lt, option_map, unwrap_or}
 use Rattle.std.specs.Option.{option_map_or}
 use Rattle.std.proofs.lemmas.Bool.{ne_eqb, le-ltb, eqb-true, false_from_ne_true}
 use Rattle.gate_types.specs.declared.records.Change.{Change}
 use Rattle.gate_types.specs.declared.records.Ready.{Ready}
 use Rattle.gate_types.specs.declared.records.Landing.{Landing}
+use Rattle.gate_types.specs.declared.records.Plan.{Plan}
 use Rattle.gate_types.specs.declared.records.Stage.TheVariants as stage
 use Rattle.gate_types.specs.declared.records.Verdict.{Verdict}
 use Rattle.gate_types.specs.declared.records.Verdict.TheVariants as verdict
@@ -17,12 +18,12 @@ use Rattle.gate_types.specs.declared.deliveries.Reply.TheVariants as reply
 use Rattle.gate_types.specs.declared.deliveries.Refusal.TheVariants as refusal
 use Rattle.gate_types.specs.Names.{same_name}
 use Rattle.gate_types.specs.Settings.{Settings, are_sound}
-use Rattle.gate_types.specs.State.{Item, Queue, State, put_by, put_change, change_queue, known_change}
-use Rattle.gate_types.specs.Window.{grow, shrink, floor_of}
+use Rattle.gate_types.specs.State.{Item, Queue, State, put_by, put_change, put_plan, change_queue, known_change}
+use Rattle.gate_types.specs.Window.{grow, shrink, bounds_of}
 use Rattle.gate_types.specs.Admit.{without_ready}
 use Rattle.gate_types.specs.SubmitOrder.{Order, shown_order, orders}
 use Rattle.gate_types.specs.Rows.{item_of}
-use Rattle.gate_types.specs.Step.{left_queue, leave, landed_queue, shrunk_queue, with_landing, with_stage, raw_landed, raw_refused, accepted, refused}
+use Rattle.gate_types.specs.Step.{left_queue, leave, landed_queue, landed_plan, shrunk_queue, with_landing, with_stage, raw_landed, raw_refused, accepted, refused}
 use Rattle.gate_types.specs.Once.{Content}
 use Rattle.gate_types.specs.Tables.{numbered_landings}
 use Rattle.gate_types.specs.Lawful.{IsSound}
@@ -36,6 +37,7 @@ use Rattle.gate_raw.specs.declared.touched.Event.TheVariants as event
 use Rattle.gate_reads.specs.Orders.{IsRowOf, TellsShown}
 use Rattle.gate_queue.specs.Edits.{window_edits}
 use Rattle.gate_ruling.specs.Landing.{landing_of, landing_edits}
+use Rattle.gate_ruling.specs.Windows.{bounds_named}
 use Rattle.gate_ruling.proofs.Folded.{shown, shown_after, by_parts}
 use Rattle.gate_ruling.proofs.Stored.{Stored}
 use Rattle.gate_ruling.proofs.Withdrawn.{known_number}
@@ -148,7 +150,7 @@ refused_raw c s number k h =
 -- its window is set, where it isn't so small already
 pub shrinks : (c : Settings) (x : Content) (k : QueuedItem) → are_sound c ≡ true → IsSound c x.state →
     (h : Stored c x.state k.queue k.item) → (w : ℕ) →
-    w ≡ shrink h.queue.window (option_map_or (λ r. r.floor) (find (λ r. same_name r.name k.queue) c.queues) 1) →
+    w ≡ shrink h.queue.window (bounds_named c k.queue).floor (bounds_named c k.queue).rule →
     Moves (in_state x (leave verdict.Refused k.item.change x.state)) (window_edits k.queue h.queue.window w)
     (change_queue k.queue (shrunk_queue c) (leave verdict.Refused k.item.change x.state))
 shrinks c x k settings sound h w is = by_test (h.queue.window == w) refl
@@ -159,9 +161,9 @@ shrinks c x k settings sound h w is = by_test (h.queue.window == w) refl
     left : Queue
     left = left_queue verdict.Refused k.item.change h.queue
 
-    window : w ≡ shrink h.queue.window (floor_of c left)
+    window : w ≡ shrink h.queue.window (bounds_of c left).floor (bounds_of c left).rule
     window =
-        is ∙ ap (λ m. shrink h.queue.window (option_map_or (λ r. r.floor) (find (λ r. same_name r.name m) c.queues) 1))
+        is ∙ ap (λ m. shrink h.queue.window (bounds_named c m).floor (bounds_named c m).rule)
         (sym (same_name_is h.queue.name k.queue h.named))
 
     by_test : (b : Bool) → (h.queue.window == w) ≡ b →
@@ -171,6 +173,7 @@ shrinks c x k settings sound h w is = by_test (h.queue.window == w) refl
       queues = λ columns. one_changed c x.state k verdict.Refused settings sound h columns [] (shrunk_queue c)
           (ap (λ u. record (shown columns left) { window = u }) (eqb-true h.queue.window w e ∙ window))
           (λ q apart. refl);
+      plans = refl;
       builds = refl;
       counters = refl;
       kept = refl;
@@ -184,6 +187,7 @@ shrinks c x k settings sound h w is = by_test (h.queue.window == w) refl
               (turned h.queue.name k.queue true h.named)
               ∙ ap (λ u. record (shown columns left) { window = u }) window)
               (λ q apart. ap (λ b. record (shown columns q) { window = cond b w q.window }) apart);
+          plans = refl;
           builds = refl;
           counters = refl;
           kept = refl;
@@ -217,10 +221,10 @@ last_row q l place at =
 -- and its window is set, where it grows
 pub lands : (c : Settings) (x : Content) (k : QueuedItem) → are_sound c ≡ true → IsSound c x.state →
     (h : Stored c x.state k.queue k.item) → (place w : ℕ) → place ≡ length h.queue.landings + 1 →
-    w ≡ grow h.queue.window →
+    w ≡ grow h.queue.window (bounds_named c k.queue).rule →
     Moves (in_state x (leave (verdict.Landed place) k.item.change x.state))
     (landing_edits k place h.queue.window w)
-    (change_queue k.queue (landed_queue (item_of k.item)) (leave (verdict.Landed place) k.item.change x.state))
+    (change_queue k.queue (landed_queue c (item_of k.item)) (leave (verdict.Landed place) k.item.change x.state))
 lands c x k settings sound h place w at is = by_test (h.queue.window == w) refl
   where
     t : State
@@ -230,7 +234,10 @@ lands c x k settings sound h place w at is = by_test (h.queue.window == w) refl
     left = left_queue (verdict.Landed place) k.item.change h.queue
 
     f : Queue → Queue
-    f = landed_queue (item_of k.item)
+    f = landed_queue c (item_of k.item)
+
+    window : w ≡ grow h.queue.window (bounds_of c left).rule
+    window = is ∙ ap (λ m. grow h.queue.window (bounds_named c m).rule) (sym (same_name_is h.queue.name k.queue h.named))
 
     put : Edit
     put = edit.PutLanding k.queue place (landing_of k.item)
@@ -254,11 +261,12 @@ lands c x k settings sound h place w at is = by_test (h.queue.window == w) refl
           }) there
           ∙ (λ i. record (shown columns left) {
             landings = rows i;
-            window = (eqb-true h.queue.window w e ∙ is) i;
+            window = (eqb-true h.queue.window w e ∙ window) i;
           }))
           (λ q apart. ap (λ b. record (shown columns q) {
             landings = cond b (new (numbered_landings 0 q.landings)) (numbered_landings 0 q.landings);
           }) apart);
+      plans = refl;
       builds = refl;
       counters = refl;
       kept = refl;
@@ -272,26 +280,39 @@ lands c x k settings sound h place w at is = by_test (h.queue.window == w) refl
                 landings = cond b (new (numbered_landings 0 h.queue.landings)) (numbered_landings 0 h.queue.landings);
                 window = cond b w h.queue.window;
               }) there
-              ∙ (λ i. record (shown columns left) { landings = rows i; window = is i }))
+              ∙ (λ i. record (shown columns left) { landings = rows i; window = window i }))
               (λ q apart. ap (λ b. record (shown columns q) {
                 landings = cond b (new (numbered_landings 0 q.landings)) (numbered_landings 0 q.landings);
                 window = cond b w q.window;
               }) apart);
+          plans = refl;
           builds = refl;
           counters = refl;
           kept = refl;
         })
 
+-- a plan is put
+pub plan_put : (x : Content) (s : State) (p : Plan) → Moves (in_state x s) (edit.PutPlan p ∷ []) (put_plan p s)
+plan_put x s p = by_parts (in_state x s) (edit.PutPlan p ∷ []) (put_plan p s) (record {
+  changes = refl;
+  queues = λ columns. refl;
+  plans = refl;
+  builds = refl;
+  counters = refl;
+  kept = refl;
+})
+
 -- the state that `landed` leaves
-abbrev pub landed_state : QueuedItem → ℕ → Change → State → State
-landed_state k place known s =
+abbrev pub landed_state : Settings → QueuedItem → ℕ → Change → State → State
+landed_state c k place known s =
     put_change (record known { stage = stage.Landed }) (without_ready known.number
-    (change_queue k.queue (landed_queue (item_of k.item)) (leave (verdict.Landed place) k.item.change s)))
+    (put_plan (landed_plan s k.item.serial)
+    (change_queue k.queue (landed_queue c (item_of k.item)) (leave (verdict.Landed place) k.item.change s))))
 
 pub landed_raw : (c : Settings) (s : State) (number : ℕ) (k : QueuedItem) (known : Change) → IsSound c s →
     (o : HasOrder c s number k) → (h : Stored c s k.queue k.item) → h.queue ≡ o.order.queue →
     known_change s k.item.change ≡ Some known → (place : ℕ) → place ≡ length h.queue.landings + 1 →
-    raw_landed c s number ≡ accepted (reply.Landed place) (landed_state k place known s)
+    raw_landed c s number ≡ accepted (reply.Landed place) (landed_state c k place known s)
 landed_raw c s number k known sound o h same is place at =
     let n = k.item.change in
     let unknown : Change = record { number = n; project = []; revision = 0; stage = stage.Closed; needs = [] } in
@@ -303,10 +324,12 @@ landed_raw c s number k known sound o h same is place at =
     let count : length o.order.queue.landings + 1 ≡ place =
     ap (λ (q : Queue). length q.landings + 1) (sym same) ∙ sym at in
     ap (λ y. option_map_or (λ (o : Order). accepted (reply.Landed (length o.queue.landings + 1))
-    (with_landing (length o.queue.landings + 1) o s)) y (refused refusal.NoOrder)) o.shown
+    (with_landing c (length o.queue.landings + 1) o s)) y (refused refusal.NoOrder)) o.shown
     ∙ (λ i. accepted (reply.Landed (count i)) (with_stage stage.Landed (sym o.row.item i).change
-    (change_queue (sym o.row.queue i) (landed_queue (sym o.row.item i))
-    (leave (verdict.Landed (count i)) (sym o.row.item i).change s))))
+    (put_plan (landed_plan s (sym o.row.item i).serial)
+    (change_queue (sym o.row.queue i) (landed_queue c (sym o.row.item i))
+    (leave (verdict.Landed (count i)) (sym o.row.item i).change s)))))
     ∙ (λ i. accepted (reply.Landed place) (record (put_change
     (record (unwrap_or (is i) unknown) { stage = stage.Landed })
-    (change_queue k.queue (landed_queue (item_of k.item)) (leave (verdict.Landed place) n s))) { ready = ready i }))
+    (put_plan (landed_plan s k.item.serial)
+    (change_queue k.queue (landed_queue c (item_of k.item)) (leave (verdict.Landed place) n s)))) { ready = ready i }))

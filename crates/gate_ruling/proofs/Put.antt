@@ -169,6 +169,7 @@ put_moves x s k a ready rises own others =
     (record {
       changes = rows_put s.ready ready k a own others s.changes (rising number_of s.changes rises);
       queues = λ columns. refl;
+      plans = refl;
       builds = refl;
       counters = refl;
       kept = refl;
@@ -201,6 +202,7 @@ ready_moves x n k rises known h a e =
           (rising number_of s.changes rises)
           ∙ ap (map (change_row ready)) (put_known s n k rises known);
       queues = λ columns. refl;
+      plans = refl;
       builds = refl;
       counters = λ i. record s.counters { approval = e i };
       kept = refl;

@@ -69,6 +69,7 @@ taken_moves c x b sound h =
     by_parts x (edit.PutBuild b ∷ edit.SetCounter counter.Build b.number ∷ []) (with_build b s) (record {
       changes = refl;
       queues = λ columns. refl;
+      plans = refl;
       builds = put_behind b s.builds (λ y m.
           let top = leb-true y.number s.counters.build
           (every (λ z. nat_le z.number s.counters.build ≡ true) s.builds sound.builds_are_drawn y m) in

@@ -1,4 +1,5 @@
 pub mod Faults
 pub mod Leaving
 pub mod Landing
+pub mod Windows
 pub mod Approving

@@ -7,3 +7,4 @@ mod kinds;
 mod leaving;
 mod numbers;
 pub mod raw;
+mod windows;

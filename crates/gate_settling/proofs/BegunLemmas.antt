@@ -11,9 +11,9 @@ use Rattle.gate_types.specs.declared.records.Report.{Report}
 use Rattle.gate_types.specs.declared.deliveries.Delivery.{Delivery}
 use Rattle.gate_types.specs.declared.deliveries.Delivery.TheVariants as delivery
 use Rattle.gate_types.specs.Names.{same_name}
-use Rattle.gate_types.specs.Settings.{Settings}
+use Rattle.gate_types.specs.Settings.{default_rule, Settings}
 use Rattle.gate_types.specs.State.{Item, Queue, State}
-use Rattle.gate_types.specs.Window.{floor_of}
+use Rattle.gate_types.specs.Window.{Bounds, bounds_by, bounds_of}
 use Rattle.gate_types.specs.Lawful.{serials_of}
 use Rattle.gate_types.specs.Rows.{item_of, item_rows}
 use Rattle.gate_types.specs.Once.{Content}
@@ -145,7 +145,7 @@ out_is d i rows e row ev same fails =
 pub is_for : {c : Settings} {x : Content} {k : TouchedItem} (h : Touching c x k) (facts : QueueFacts)
     (touched : Touched) →
     find (λ (q : QueueSetting). same_name q.name k.queue) c.queues ≡ Some facts.settings.now →
-    facts.window ≡ window_now k.event facts.settings.now.floor h.queue.window →
+    facts.window ≡ window_now k.event (bounds_by facts.settings.now) h.queue.window →
     facts.reports ≡ reports_now k.event (length h.queue.reports) → touched.serial ≡ k.item.serial →
     touched.ahead ≡ k.item.ahead → option_map out_of touched.out ≡ taken_out k → IsFor (delivered h) facts touched
 is_for {c = c} {x = x} {k = k} h facts touched set window reports serial ahead out =
@@ -154,21 +154,21 @@ is_for {c = c} {x = x} {k = k} h facts touched set window reports serial ahead o
     let i = item_of k.item in
     let rows = item_rows c x.state h.queue in
     let row = touched_row h in
-    let floor_set : QueueSetting → ℕ = λ r. r.floor in
+    let unset : Bounds = record { floor = 1; rule = default_rule } in
     let there = found (λ (q : QueueSetting). same_name q.name k.queue) c.queues facts.settings.now set in
     let named : o.name ≡ k.queue = l.name ∙ h.named in
-    let floor : facts.settings.now.floor ≡ floor_of c o =
-    sym (ap (λ n. option_map_or floor_set (find (λ (r : QueueSetting). same_name r.name n) c.queues) 1) named
-    ∙ ap (λ f. option_map_or floor_set f 1) set) in
+    let bounds : bounds_by facts.settings.now ≡ bounds_of c o =
+    sym (ap (λ n. option_map_or bounds_by (find (λ (r : QueueSetting). same_name r.name n) c.queues) unset) named
+    ∙ ap (λ f. option_map_or bounds_by f unset) set) in
     let fails = ap (λ f. option_map_or (λ (r : ItemRow). r.failing) f false) row in
     let was = ap (option_and_then (λ (r : ItemRow). r.ahead)) row in
     let outs = out ∙ sym (out_is h.delivery i rows k.event k.item h.event refl fails) in
     let aheads = ahead ∙ sym was in
     let many = reports ∙ sym l.reports in
-    let windows = window ∙ ap (λ n. window_now k.event n h.queue.window) floor ∙ sym l.window in
+    let windows = window ∙ ap (λ n. window_now k.event n h.queue.window) bounds ∙ sym l.window in
     record {
       name = same_name_is facts.settings.now.name k.queue there.1 ∙ sym named;
-      floor = floor;
+      bounds = bounds;
       serial = serial;
       begins = λ t. start (outs t) (aheads t) (many t) (windows t);
     }

@@ -86,9 +86,9 @@ refused_leaves c s n q is i js h on =
 landed_leaves : (c : Settings) (s : State) (n : ℕ) (q : Queue) (is : List Item) (i : Item) (js : List Item) →
     IsIn c s q is i js → i.serial == n ≡ true → OnReply s (Leaves c s (delivery.Landed n) q is i js) (raw_landed c s n)
 landed_leaves c s n q is i js h on =
-    let o = landed_queue i (left_queue (verdict.Landed (length q.landings + 1)) i.change q) in
+    let o = landed_queue c i (left_queue (verdict.Landed (length q.landings + 1)) i.change q) in
     landed_reply (Leaves c s (delivery.Landed n) q is i js) c s n
-    (λ x e. subst (λ (y : Order). HasLanded c s (landed_state y s) q o i (is ++ js))
+    (λ x e. subst (λ (y : Order). HasLanded c s (landed_state c y s) q o i (is ++ js))
     (sym (order_is c s n x h.sound e q i (queue_in h) (item_in h) on))
     (items_leave.landed c s q is i js (length q.landings + 1) h))
 

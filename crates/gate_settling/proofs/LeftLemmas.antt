@@ -14,12 +14,12 @@ use Rattle.gate_types.specs.declared.deliveries.Delivery.{Delivery}
 use Rattle.gate_types.specs.declared.deliveries.Delivery.TheVariants as delivery
 use Rattle.gate_types.specs.declared.deliveries.Ending.{Ending}
 use Rattle.gate_types.specs.Settings.{Settings}
-use Rattle.gate_types.specs.State.{Item, Queue, State, project_of}
+use Rattle.gate_types.specs.State.{Item, Queue, State, plan_of}
 use Rattle.gate_types.specs.Line.{Place}
 use Rattle.gate_types.specs.Standing.{needs_of, place_of}
 use Rattle.gate_types.specs.Sweep.{report_of, without_runs}
 use Rattle.gate_types.specs.Step.{left_queue, end_build}
-use Rattle.gate_types.specs.Window.{grow, floor_of}
+use Rattle.gate_types.specs.Window.{grow, bounds_of}
 use Rattle.gate_types.specs.Rows.{item_of, item_rows}
 use Rattle.gate_laws.specs.Touch.{has_serial}
 use Rattle.gate_walk.specs.Rescan.{HasLeft, HasLanded, live_under, place_behind, without_row}
@@ -52,11 +52,12 @@ pub record Left (c : Settings) (s t : State) (k : Touch) (q o : Queue) (i : Item
   pub rows : standing_rows k i (item_rows c s q) ≡ map (row_by (columns_of c s)) o.items
   pub fewer : (j : Item) → In j o.items → In j q.items
   pub needs : (j : Item) → In j o.items → needs_of t j.change ≡ map (need_after e i.change) (needs_of s j.change)
-  pub jobs : (j : Item) → In j o.items → (project_of c t j.change).jobs ≡ (project_of c s j.change).jobs
+  pub jobs : (j : Item) → In j o.items → (plan_of t j.serial).jobs ≡ (plan_of s j.serial).jobs
+  pub fast : (j : Item) → In j o.items → (plan_of t j.serial).fast ≡ (plan_of s j.serial).fast
   pub builds : (j : Item) → In j o.items →
       live_under t.builds j.serial ≡ map (build_now e) (live_under s.builds j.serial)
   pub reports : length o.reports ≡ reports_now e (length q.reports)
-  pub window : o.window ≡ window_now e (floor_of c o) q.window
+  pub window : o.window ≡ window_now e (bounds_of c o) q.window
   pub name : o.name ≡ q.name
 
 -- ---- the item apart
@@ -171,7 +172,7 @@ needs_same e n h (m ∷ ms) = λ k. record {
 -- it didn't land
 left_out : (c : Settings) (s t : State) (q o : Queue) (is : List Item) (i : Item) (js : List Item) (v : Verdict) →
     IsIn c s q is i js → HasLeft c s t q o i (is ++ js) →
-    length o.reports ≡ length q.reports + 1 → o.window ≡ window_now (event.Left v) (floor_of c o) q.window →
+    length o.reports ≡ length q.reports + 1 → o.window ≡ window_now (event.Left v) (bounds_of c o) q.window →
     o.name ≡ q.name → Left c s t item_left q o i (event.Left v)
 left_out c s t q o is i js v h l reports window name =
     let inside : (j : Item) → In j o.items → In j (is ++ js) = λ j m. subst (In j) l.items m in
@@ -182,6 +183,7 @@ left_out c s t q o is i js v h l reports window name =
       needs = λ j m. ap (λ (p : Place). p.needs) (place j (inside j m))
           ∙ needs_same (event.Left v) i.change refl (needs_of s j.change);
       jobs = λ j m. ap (λ (p : Place). p.jobs) (place j (inside j m));
+      fast = λ j m. ap (λ (p : Place). p.fast) (place j (inside j m));
       builds = λ j m. builds_out c s t q is i js h l.builds j (inside j m)
           ∙ sym (map-id (live_under s.builds j.serial));
       reports = reports;
@@ -192,7 +194,7 @@ left_out c s t q o is i js v h l reports window name =
 -- it landed
 landed_out : (c : Settings) (s t : State) (q o : Queue) (is : List Item) (i : Item) (js : List Item) →
     IsIn c s q is i js → HasLanded c s t q o i (is ++ js) →
-    length o.reports ≡ length q.reports + 1 → o.window ≡ grow q.window → o.name ≡ q.name →
+    length o.reports ≡ length q.reports + 1 → o.window ≡ grow q.window (bounds_of c o).rule → o.name ≡ q.name →
     Left c s t item_landed q o i event.Landed
 landed_out c s t q o is i js h l reports window name =
     let inside : (j : Item) → In j o.items → In j (is ++ js) = λ j m. subst (In j) l.items m in
@@ -203,6 +205,7 @@ landed_out c s t q o is i js h l reports window name =
       fewer = λ j m. others_in q is i js h.items j (inside j m);
       needs = λ j m. ap (λ (p : Place). p.needs) (place j (inside j m));
       jobs = λ j m. ap (λ (p : Place). p.jobs) (place j (inside j m));
+      fast = λ j m. ap (λ (p : Place). p.fast) (place j (inside j m));
       builds = λ j m. builds_out c s t q is i js h l.builds j (inside j m)
           ∙ sym (map-id (live_under s.builds j.serial));
       reports = reports;
@@ -227,6 +230,7 @@ ended_left c s t q is i js n e h same =
       fewer = λ j m. m;
       needs = λ j m. needs_same (event.Ended n e) i.change refl (needs_of s j.change);
       jobs = λ j m. refl;
+      fast = λ j m. refl;
       builds = λ j m. live_ended e n j.serial s.builds;
       reports = refl;
       window = refl;

@@ -14,6 +14,8 @@ pub mod SeenLemmas
 -- the row that a walk wants
 pub mod WantedLemmas
 pub mod KeptLemmas
+-- the plans that a walk's edits drop
+pub mod DroppedPlans
 -- what a walk's edits settle
 pub mod WalkLemmas
 -- what a walk begins with

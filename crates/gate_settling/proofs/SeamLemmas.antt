@@ -13,11 +13,11 @@ use Rattle.gate_types.specs.declared.edits.Edit.TheVariants as edit
 use Rattle.gate_types.specs.Names.{same_name}
 use Rattle.gate_types.specs.Settings.{Settings}
 use Rattle.gate_types.specs.State.{Item, Queue, State}
-use Rattle.gate_types.specs.Window.{floor_of}
+use Rattle.gate_types.specs.Window.{bounds_of}
 use Rattle.gate_types.specs.Sweep.{judged, swept_queue}
 use Rattle.gate_types.specs.Rows.{Rows, edited, edited_items, edited_builds, edited_reports, edited_window, fold_edits, item_rows}
 use Rattle.gate_types.specs.Once.{Content}
-use Rattle.gate_types.specs.Tables.{QueueRows, Tables, tables, queue_rows, edited_changes, edited_queue, edited_landings, edited_build_rows, edited_counters, edited_kept, edited_tables, fold_all, Leads}
+use Rattle.gate_types.specs.Tables.{QueueRows, Tables, tables, queue_rows, edited_changes, edited_queue, edited_landings, edited_plans, edited_build_rows, edited_counters, edited_kept, edited_tables, fold_all, Leads}
 use Rattle.gate_laws.specs.Touch.{has_serial, rebase_one, settle_one}
 use Rattle.gate_queue.specs.Whole.{swept_of, rows_in}
 use Rattle.gate_walk.specs.Rescan.{rows_with}
@@ -32,6 +32,7 @@ use Rattle.gate_settling.proofs.ColumnLemmas.{HasColumns}
 all_parts : (t : Tables) (es : List Edit) → fold_all t es ≡ record {
   changes = fold edited_changes t.changes es;
   queues = map (λ q. fold (λ r e. edited_queue e r) q es) t.queues;
+  plans = fold edited_plans t.plans es;
   builds = fold edited_build_rows t.builds es;
   counters = fold edited_counters t.counters es;
   kept = fold edited_kept t.kept es;
@@ -42,6 +43,7 @@ all_parts t (e ∷ es) =
     ∙ (λ i. record {
       changes = fold edited_changes t.changes (e ∷ es);
       queues = map_map (λ (q : QueueRows). fold (λ r d. edited_queue d r) q es) (edited_queue e) t.queues i;
+      plans = fold edited_plans t.plans (e ∷ es);
       builds = fold edited_build_rows t.builds (e ∷ es);
       counters = fold edited_counters t.counters (e ∷ es);
       kept = fold edited_kept t.kept (e ∷ es);
@@ -162,6 +164,7 @@ other_stays o qs name cols apart (edit.PutReport queue n r) h = rw (off queue na
 other_stays o qs name cols apart (edit.StopBuild n) h = refl
 other_stays o qs name cols apart (edit.SetWindow queue w) h = rw (off queue name o.name h apart) refl
 other_stays o qs name cols apart (edit.PutChange k a) h = absurd (true≢false (sym h))
+other_stays o qs name cols apart (edit.PutPlan p) h = absurd (true≢false (sym h))
 other_stays o qs name cols apart (edit.PutLanding queue n l) h = absurd (true≢false (sym h))
 other_stays o qs name cols apart (edit.PutBuild b) h = absurd (true≢false (sym h))
 other_stays o qs name cols apart (edit.SetOutcome n u) h = absurd (true≢false (sym h))
@@ -180,6 +183,7 @@ own_tail o qs name es h = weaker es h
     fewer (edit.StopBuild n) k = k
     fewer (edit.SetWindow queue w) k = k
     fewer (edit.PutChange j a) k = absurd (true≢false (sym k))
+    fewer (edit.PutPlan p) k = absurd (true≢false (sym k))
     fewer (edit.PutLanding queue n l) k = absurd (true≢false (sym k))
     fewer (edit.PutBuild b) k = absurd (true≢false (sym k))
     fewer (edit.SetOutcome n u) k = absurd (true≢false (sym k))
@@ -192,9 +196,9 @@ own_tail o qs name es h = weaker es h
 -- ---- queues
 
 -- what a rebase and a sweep of one queue alone make of each queue
-abbrev one_of : Settings → State → List ℕ → Queue → Queue
+abbrev pub one_of : Settings → State → List ℕ → Queue → Queue
 one_of c t name q =
-    cond (same_name q.name name) (swept_queue (floor_of c q) (judged c (rebase_one name c t) q) q) q
+    cond (same_name q.name name) (swept_queue (bounds_of c q) (judged c (rebase_one name c t) q) q) q
 
 -- the edits settle the rows of the queue of this name, by these columns
 abbrev pub SettlesRows : Settings → State → List ℕ → (ℕ → Columns) → List Edit → Queue → Type 0
@@ -255,7 +259,7 @@ queues_done c t cols name es (q ∷ qs) all rows stay alone =
         edited_by cols es q ≡ settled_by c t q
     here true e a = own_done c t cols name es q qs (own_tail q qs name es all) (rows q (inl refl) e)
     here false e a = other_done c t cols name es q qs all e
-        (a ∙ ap (λ b. cond b (swept_queue (floor_of c q) (judged c (rebase_one name c t) q) q) q) e)
+        (a ∙ ap (λ b. cond b (swept_queue (bounds_of c q) (judged c (rebase_one name c t) q) q) q) e)
         (stay q (inl refl) e)
 
 -- ---- all tables
@@ -266,6 +270,7 @@ pub record SettlesOne (c : Settings) (x : Content) (t : State) (name : List ℕ)
   pub own : AllPass (is_own t.queues name) edits
   pub rows : (q : Queue) → In q t.queues → SettlesRows c t name (columns_of c x.state) edits q
   pub others : (q : Queue) → In q t.queues → OthersStay c t name (columns_of c x.state) q
+  pub plans : fold edited_plans t.plans edits ≡ (swept c t).plans
   pub builds : fold (edited_builds name) t.builds edits ≡ (swept c t).builds
 
 pub settled_queue_leads : (c : Settings) (x : Content) (t : State) (name : List ℕ) (raw edits : List Edit) →
@@ -290,6 +295,7 @@ settled_queue_leads c x t name raw edits found moves k =
     ∙ (λ i. record {
       changes = changes i;
       queues = queues i;
+      plans = k.plans i;
       builds = builds i;
       counters = counters i;
       kept = kept i;

@@ -1,16 +1,14 @@
 -- A row as it is read by key, with what the delivery makes of it, is the row as a visit is to see it.
 use Rattle.std.proofs.Common.{◌≡◌, ℕ, Bool, true, false, ◌&&◌, ◌||◌, cond, Option, Some, None, List, [], map, refl, sym, ap, ◌∙◌, subst, true≢false}
 use Rattle.std.specs.Prelude.{◌==◌, find, option_map, unwrap_or}
-use Rattle.std.specs.Option.{option_map_or}
 use Rattle.std.proofs.lemmas.Bool.{and_parts, and_from, eqb-true}
-use Rattle.gate_types.specs.declared.config.Project.{Project}
 use Rattle.gate_types.specs.declared.records.Change.{Change}
 use Rattle.gate_types.specs.declared.records.Item.{Item as ItemRow}
 use Rattle.gate_types.specs.declared.records.Need.{Need}
 use Rattle.gate_types.specs.declared.records.Stage.TheVariants as stage
 use Rattle.gate_types.specs.Names.{same_name}
 use Rattle.gate_types.specs.Settings.{Settings}
-use Rattle.gate_types.specs.State.{Item, Queue, State, known_change, change_of, is_landed, project_of}
+use Rattle.gate_types.specs.State.{Item, Queue, State, known_change, change_of, is_landed}
 use Rattle.gate_types.specs.Standing.{needs_of}
 use Rattle.gate_types.specs.Rows.{item_of, item_rows}
 use Rattle.gate_types.specs.Once.{Content}
@@ -24,7 +22,7 @@ use Rattle.gate_raw.specs.declared.touched.TouchedItem.{TouchedItem}
 use Rattle.gate_laws.proofs.Members.{In, from_map, to_map, map_map, map_same, from_flat, to_flat, found, not_found}
 use Rattle.gate_laws.proofs.Alone.{change_alone, name_alone, same_name_of, same_name_is}
 use Rattle.gate_settling.specs.Touching.{Touching, delivered, sees}
-use Rattle.gate_settling.specs.Rows.{has_landed, is_landed_known, stands_still, standing_by, need_now, needs_known, project_known, jobs_named, row_now}
+use Rattle.gate_settling.specs.Rows.{has_landed, is_landed_known, stands_still, standing_by, need_now, needs_known, row_now}
 use Rattle.gate_settling.proofs.ColumnLemmas.{columns_found, found_alone}
 use Rattle.gate_settling.proofs.LeftLemmas.{need_after, left}
 use Rattle.gate_settling.proofs.StandingLemmas.{queue_there, stands, stale_in, in_stale}
@@ -42,23 +40,8 @@ landed_is : (n : ℕ) (known : Option Change) → is_landed (unwrap_or known (cl
 landed_is n None = refl
 landed_is n (Some j) = refl
 
-project_is : (n : ℕ) (known : Option Change) → (unwrap_or known (closed n)).project ≡ project_known known
-project_is n None = refl
-project_is n (Some j) = refl
-
 pub needs_of_change : (s : State) (n : ℕ) → (change_of s n).needs ≡ needs_known (known_change s n)
 needs_of_change s n = needs_are n (known_change s n)
-
-jobs_are : (c : Settings) (s : State) (n : ℕ) →
-    (project_of c s n).jobs ≡ jobs_named c (project_known (known_change s n))
-jobs_are c s n =
-    by_first (find (λ p. same_name p.name (change_of s n).project) c.projects)
-    ∙ ap (jobs_named c) (project_is n (known_change s n))
-  where
-    by_first : (f : Option Project) → (unwrap_or f (record { name = []; queue = []; jobs = [] })).jobs
-        ≡ option_map_or (λ (p : Project). p.jobs) f []
-    by_first None = refl
-    by_first (Some p) = refl
 
 -- ---- where a needed item stands
 
@@ -186,9 +169,10 @@ item_seen {c = c} {x = x} {k = k} h j m =
     ∙ sym (map_map (λ n. need_seen rows (after n)) as_need (change_of s j.change).needs)
     ∙ sym (map_map (need_seen rows) after (needs_of s j.change))
     ∙ ap (map (need_seen rows)) (sym (l.needs j m)) in
-    let jobs = sym (l.jobs j m ∙ jobs_are c s j.change) in
+    let jobs = sym (l.jobs j m) in
+    let fast = sym (l.fast j m) in
     let builds = sym (l.builds j m) in
-    λ t. record { row = row_by (columns_of c s) j; needs = needs t; jobs = jobs t; builds = builds t }
+    λ t. record { row = row_by (columns_of c s) j; needs = needs t; jobs = jobs t; fast = fast t; builds = builds t }
 
 pub seen_now : {c : Settings} {x : Content} {k : TouchedItem} (h : Touching c x k) (r : ItemRow) →
     In r (stale_rows (delivered h)) → row_now c x.state k r ≡ sees h r

@@ -2,16 +2,15 @@
 use Rattle.std.specs.Prelude.{ℕ, Bool, true, false, ◌&&◌, ◌||◌, not, ◌==◌, nat_lt, ◌≡◌, ◌<◌, ◌+◌, ◌-◌, if◌then◌else◌, List, [], map, Option, Some, None, find}
 use Rattle.std.specs.List.{list_any}
 use Rattle.std.specs.Option.{option_map_or}
-use Rattle.gate_types.specs.declared.config.Job.{Job}
 use Rattle.gate_types.specs.declared.records.Change.{Change}
 use Rattle.gate_types.specs.declared.records.Item.{Item as ItemRow}
 use Rattle.gate_types.specs.declared.records.Build.{Build}
 use Rattle.gate_types.specs.declared.records.Verdict.TheVariants as verdict
 use Rattle.gate_types.specs.Names.{same_name}
 use Rattle.gate_types.specs.Settings.{Settings}
-use Rattle.gate_types.specs.State.{State, known_change, change_of, is_landed}
+use Rattle.gate_types.specs.State.{State, known_change, change_of, is_landed, plan_of}
 use Rattle.gate_types.specs.Step.{with_ending}
-use Rattle.gate_types.specs.Window.{grow, shrink}
+use Rattle.gate_types.specs.Window.{Bounds, grow, shrink}
 use Rattle.gate_walk.specs.declared.walk.Next.{Next}
 use Rattle.gate_walk.specs.declared.walk.Next.TheVariants as next
 use Rattle.gate_walk.specs.Walk.{SeenNeed, Seen}
@@ -46,10 +45,10 @@ abbrev pub reports_now : Event → ℕ → ℕ
 reports_now e n = if is_out e then n + 1 else n
 
 -- its window: a landing grows it, a refusal shrinks it
-abbrev pub window_now : Event → ℕ → ℕ → ℕ
-window_now event.Landed floor w = grow w
-window_now (event.Left verdict.Refused) floor w = shrink w floor
-window_now _ floor w = w
+abbrev pub window_now : Event → Bounds → ℕ → ℕ
+window_now event.Landed bounds w = grow w bounds.rule
+window_now (event.Left verdict.Refused) bounds w = shrink w bounds.floor bounds.rule
+window_now _ bounds w = w
 
 -- ---- a row
 
@@ -79,14 +78,6 @@ need_now c s k n =
 abbrev pub needs_known : Option Change → List ℕ
 needs_known known = option_map_or (λ j. j.needs) known []
 
--- its project, none where it isn't known
-abbrev pub project_known : Option Change → List ℕ
-project_known known = option_map_or (λ j. j.project) known []
-
--- the jobs of a project
-abbrev pub jobs_named : Settings → List ℕ → List Job
-jobs_named c name = option_map_or (λ p. p.jobs) (find (λ p. same_name p.name name) c.projects) []
-
 -- a build: the one that ended has its outcome
 abbrev pub build_now : Event → Build → Build
 build_now (event.Ended n e) b = if b.number == n then with_ending e b else b
@@ -97,7 +88,8 @@ abbrev pub row_now : Settings → State → TouchedItem → ItemRow → Seen
 row_now c s k r = record {
   row = r;
   needs = map (need_now c s k) (needs_known (known_change s r.change));
-  jobs = jobs_named c (project_known (known_change s r.change));
+  jobs = (plan_of s r.serial).jobs;
+  fast = (plan_of s r.serial).fast;
   builds = map (build_now k.event) (live_builds s r.serial);
 }
 

@@ -1,6 +1,7 @@
 //! A walk before its first visit.
 ghost use Rattle.std.specs.Prelude.{◌≡◌, find, option_copied, option_map, IfOk, MatchOption, IfErr};
 ghost use Rattle.gate_types.specs.Names.{same_name};
+ghost use Rattle.gate_types.specs.Window.{bounds_by};
 ghost use Rattle.gate_walk.specs.TakenOut.{out_of};
 ghost use Rattle.gate_walk.specs.UnderWay.{Starts};
 ghost use Rattle.gate_book.specs.Kept.{OfHeldUnder, IsKept};
@@ -31,12 +32,12 @@ fn queue_named<'c>(config: &'c Config, name: &Name) -> Option<&'c Queue>
 }
 
 /// The window of the touched queue once the delivery is done.
-fn window_now(event: Event, floor: u32, window: u32) -> u32
-    ensures { result ≡ rows.window_now event floor window }
+fn window_now(event: Event, settings: &Queue, window: u32) -> u32
+    ensures { result ≡ rows.window_now event (bounds_by settings.now) window }
 {
     match event {
-        Event::Landed => grow(window),
-        Event::Left(Verdict::Refused) => shrink(window, floor),
+        Event::Landed => grow(window, settings.rule),
+        Event::Left(Verdict::Refused) => shrink(window, settings.floor, settings.rule),
         _ => window,
     }
 }
@@ -97,7 +98,7 @@ pub(crate) fn begun<B: Book>(
     };
     let facts = QueueFacts {
         settings,
-        window: window_now(touched.event, settings.floor, sizes.window),
+        window: window_now(touched.event, settings, sizes.window),
         reports,
     };
     Ok(Some(Walk::start(alloc, facts, starting_point(touched))?))

@@ -1,7 +1,6 @@
 //! What a visit is given of a row: as it is stored, with what the delivery makes of it.
-ghost use Rattle.std.specs.Prelude.{◌≡◌, ◌++◌, ◌∷◌, [], IfOk, map, find, option_copied, IfErr};
-ghost use Rattle.gate_types.specs.Names.{same_name};
-ghost use Rattle.gate_types.specs.State.{known_change};
+ghost use Rattle.std.specs.Prelude.{◌≡◌, ◌++◌, ◌∷◌, [], IfOk, map, IfErr};
+ghost use Rattle.gate_types.specs.State.{known_change, plan_of};
 ghost use Rattle.gate_types.specs.Step.{outcome_of_ending};
 ghost use Rattle.gate_book.specs.Kept.{OfHeld, IsKept};
 ghost use Rattle.gate_book.specs.Reads as read;
@@ -10,14 +9,14 @@ ghost use Rattle.gate_book.specs.Faults.{MayAnswer};
 
 use gate_book::book::Book;
 use gate_book::fault::BookFault;
+use gate_book::planned::plan_of;
 use gate_book::rows::QueuedItem;
 use gate_queue::slots::same_name;
 use gate_raw::touched::{Event, TouchedItem};
-use gate_types::config::{Config, Job, Project};
 use gate_types::deliveries::Ending;
 use gate_types::names::NoMemory;
 use gate_types::numbers::{ChangeNo, Serial};
-use gate_types::records::{Build, Change, Outcome, Stage};
+use gate_types::records::{Build, Change, Outcome, Plan, Stage};
 use gate_walk::seen::SeenNeed;
 use std::alloc::Global;
 
@@ -132,35 +131,6 @@ fn needs_known(known: &Option<Change>) -> &[ChangeNo]
     }
 }
 
-fn project_named<'c>(config: &'c Config, name: &str) -> Option<&'c Project>
-    ensures { option_copied result ≡ find (λ p. same_name p.name name.now) config.now.projects }
-{
-    config
-        .projects
-        .as_slice()
-        .iter()
-        .find(|project| project.name.as_str() == name)
-}
-
-fn jobs_named<'c>(config: &'c Config, name: &str) -> &'c [Job]
-    ensures { result.now ≡ rows.jobs_named config.now name.now }
-{
-    match project_named(config, name) {
-        Some(project) => project.jobs.as_slice(),
-        None => &[],
-    }
-}
-
-/// The jobs of a change's project; where it isn't known, those of a project without a name.
-fn jobs_known<'c>(config: &'c Config, known: &Option<Change>) -> &'c [Job]
-    ensures { result.now ≡ rows.jobs_named config.now (rows.project_known known.now) }
-{
-    match known {
-        Some(change) => jobs_named(config, change.project.as_str()),
-        None => jobs_named(config, ""),
-    }
-}
-
 fn outcome_of(ending: Ending) -> Outcome
     ensures { result ≡ outcome_of_ending ending }
 {
@@ -229,25 +199,24 @@ fn builds_now<B: Book>(
 
 /// What stands beside a row.
 #[derive(Drop)]
-pub struct RowFacts<'c> {
+pub struct RowFacts {
     pub needs: Vec<SeenNeed>,
-    pub jobs: &'c [Job],
+    pub plan: Plan,
     pub builds: Vec<Build>,
 }
 
 /// What stands beside the row of a change and a serial in the touched queue.
-pub(crate) fn facts_now<'c, B: Book>(
+pub(crate) fn facts_now<B: Book>(
     alloc: Global,
     book: &mut B,
-    config: &'c Config,
     touched: &TouchedItem,
     change: ChangeNo,
     serial: Serial,
-) -> Result<RowFacts<'c>, BookFault>
+) -> Result<RowFacts, BookFault>
     ensures needs { OfHeld B.IsTrusted B.Holds book.old book.new (λ c x. IfOk result (λ f.
         f.needs.items ≡ map (rows.need_now c x.state touched.now) (rows.needs_known (known_change x.state change)))) }
-    ensures jobs { OfHeld B.IsTrusted B.Holds book.old book.new (λ c x. IfOk result (λ f.
-        f.jobs.now ≡ rows.jobs_named config.now (rows.project_known (known_change x.state change)))) }
+    ensures plan { OfHeld B.IsTrusted B.Holds book.old book.new (λ c x. IfOk result (λ f.
+        f.plan ≡ plan_of x.state serial)) }
     ensures builds { OfHeld B.IsTrusted B.Holds book.old book.new (λ c x. IfOk result (λ f.
         f.builds.items ≡ map (rows.build_now touched.now.event) (read.live_builds x.state serial))) }
     ensures kept { IsKept B.IsTrusted B.Holds B.LeavesOneOf book.old book.new }
@@ -255,10 +224,11 @@ pub(crate) fn facts_now<'c, B: Book>(
 {
     let known = book.change(change)?;
     let needs = needs_now(alloc, book, touched, needs_known(&known))?;
+    let plan = plan_of(alloc, book, serial)?;
     let builds = builds_now(alloc, book, touched.event, serial)?;
     Ok(RowFacts {
         needs,
-        jobs: jobs_known(config, &known),
+        plan,
         builds,
     })
 }

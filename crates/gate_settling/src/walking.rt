@@ -34,11 +34,12 @@ fn visited<B: Book>(
     ensures kept { IsKept B.IsTrusted B.Holds B.LeavesOneOf book.old book.new }
     ensures fault { IfErr result (MayAnswer B.MayFault) }
 {
-    let facts = facts_now(alloc, book, config, touched, row.change, row.serial)?;
+    let facts = facts_now(alloc, book, touched, row.change, row.serial)?;
     let seen = Seen {
         row,
         needs: facts.needs.as_slice(),
-        jobs: facts.jobs,
+        jobs: facts.plan.jobs.as_slice(),
+        fast: facts.plan.fast,
         builds: facts.builds.as_slice(),
     };
     Ok(walk.visit(alloc, Some(&seen))?)

@@ -1,5 +1,5 @@
 -- Going along a queue, line by line.
-use Rattle.std.proofs.Common.{◌≡◌, ℕ, Bool, not, Option, Some, None, List, [], ◌∷◌, ◌++◌, map, refl, sym, ap, ◌∙◌, subst}
+use Rattle.std.proofs.Common.{◌≡◌, ℕ, Bool, true, false, not, ◌&&◌, ◌||◌, cond, Option, Some, None, List, [], ◌∷◌, ◌++◌, map, refl, sym, ap, ◌∙◌, subst}
 use Rattle.std.specs.Prelude.{flat_map, decimal, unwrap_or}
 use Rattle.gate_types.specs.declared.config.Job.{Job}
 use Rattle.gate_types.specs.declared.records.Build.{Build}
@@ -7,10 +7,12 @@ use Rattle.gate_types.specs.declared.records.Change.{Change}
 use Rattle.gate_types.specs.declared.records.Entry.{Entry}
 use Rattle.gate_types.specs.declared.records.Item.{Item as ItemRow}
 use Rattle.gate_types.specs.declared.records.Need.{Need}
+use Rattle.gate_types.specs.declared.records.Plan.{Plan}
 use Rattle.gate_types.specs.declared.records.Stage.TheVariants as stage
 use Rattle.gate_types.specs.Settings.{Settings}
-use Rattle.gate_types.specs.State.{Item, Queue, State, known_change, change_of}
+use Rattle.gate_types.specs.State.{Item, Queue, State, known_change, change_of, plan_of}
 use Rattle.gate_types.specs.Line.{Place, item_entry}
+use Rattle.gate_types.specs.Slot.{is_blocked, has_failure, cut_slot}
 use Rattle.gate_types.specs.Standing.{next_ahead, places}
 use Rattle.gate_types.specs.Columns.{right, left, row, number_or_dash}
 use Rattle.gate_types.specs.Status.{slot_word, item_row}
@@ -18,12 +20,12 @@ use Rattle.gate_types.specs.Rows.{item_rows}
 use Rattle.gate_types.specs.Lawful.{IsLawful}
 use Rattle.gate_laws.proofs.Members.{contains_in, in_contains}
 use Rattle.gate_book.specs.Reads.{queue_named, first_above, live_builds}
-use Rattle.gate_reads.specs.Known.{known_or_closed, need_of, jobs_named}
+use Rattle.gate_reads.specs.Known.{known_or_closed, need_of}
 use Rattle.gate_reads.specs.Places.{IsBehind, are_met_among}
 use Rattle.gate_reads.proofs.Walking.{IsLeft, IsNext, places_from, step_along, end_along}
 use Rattle.gate_reads.proofs.Trying.{place_next, with_row, longer_is}
 use Rattle.gate_reads.proofs.OwnBuilds.{all_count, slots_are}
-use Rattle.gate_reads.proofs.KnownPlaces.{there_too, jobs_at, needs_at, blocked_is}
+use Rattle.gate_reads.proofs.KnownPlaces.{there_too, jobs_at, fast_at, needs_at, blocked_is}
 use Rattle.gate_texts.specs.Lines.{standing_word, item_line}
 use Rattle.gate_texts.proofs.Pieces.{one_more, all_there}
 
@@ -87,21 +89,30 @@ shown_next {c} {s} {q} {text = text} h n serial longer line new es ea el et = re
 -- the line of an item, by what a book tells
 pub item_told : {c : Settings} {s : State} {name : List ℕ} {ahead : List Entry} {i : ItemRow} {q : Queue} {p : Place} →
     IsLawful c s → IsBehind c s name ahead i q p → (known : Option Change) (needs : List Need) (builds : List Build)
-    (jobs : List Job) (blocked : Bool) → known ≡ known_change s i.change →
+    (plan : Plan) (jobs : List Job) (blocked cut : Bool) → known ≡ known_change s i.change →
     needs ≡ map (need_of s) (known_or_closed known).needs → builds ≡ live_builds s i.serial →
-    jobs ≡ jobs_named c (known_or_closed known).project → blocked ≡ not (are_met_among ahead needs) →
-    item_line i blocked builds jobs ≡ item_row s.builds p
-item_told {c} {s} {name} {ahead} {i} {q} {p} lawful at known needs builds jobs blocked k n b j m =
+    plan ≡ plan_of s i.serial → jobs ≡ plan.jobs → blocked ≡ not (are_met_among ahead needs) →
+    cut ≡ plan.fast && not blocked && i.failing → item_line i blocked cut builds jobs ≡ item_row s.builds p
+item_told {c} {s} {name} {ahead} {i} {q} {p} lawful at known needs builds plan jobs blocked cut k n b o j m u =
     let there = contains_in (places c s q) p at.there in
     let here = there_too c s name q p at.queue_is there in
     let own = b ∙ ap (λ (r : ItemRow). live_builds s r.serial) at.row_is in
-    let jobs_are = jobs_at c s p i known jobs here at.row_is k j in
+    let jobs_are = j ∙ jobs_at c s p i plan here at.row_is o in
     let stands = m ∙ blocked_is p ahead needs at.ahead_is (needs_at c s q p i known needs there at.row_is k n) in
+    let cuts = u ∙ (λ d. fast_at c s p i plan here at.row_is o d && not (stands d) && (at.row_is d).failing)
+    ∙ cut_by p.fast (is_blocked p) (has_failure s.builds p) in
     λ d. row (
     right 6 (decimal (at.row_is d).serial) ∷ right 9 (decimal (at.row_is d).change) ∷
     right 4 (decimal (at.row_is d).revision) ∷ right 6 (number_or_dash (at.row_is d).ahead) ∷
     left 7 (standing_word (stands d) (at.row_is d).failing) ∷
-    map (λ h. h.name ++ 61 ∷ slot_word (slots_are s p builds h own (all_count c s lawful p here) d)) (jobs_are d))
+    map (λ h. h.name ++ 61 ∷ slot_word (cond (cuts d)
+    (cut_slot (slots_are s p builds h own (all_count c s lawful p here) d))
+    (slots_are s p builds h own (all_count c s lawful p here) d))) (jobs_are d))
+  where
+    cut_by : (f b h : Bool) → f && not b && (b || h) ≡ f && not b && h
+    cut_by true true h = refl
+    cut_by true false h = refl
+    cut_by false b h = refl
 
 -- the revision of a change, by what is known of it
 pub revision_told : (s : State) (n : ℕ) (known : Option Change) → known ≡ known_change s n →

@@ -4,12 +4,14 @@ use Rattle.gate_types.specs.declared.config.Job.{Job}
 use Rattle.gate_types.specs.declared.records.Build.{Build}
 use Rattle.gate_types.specs.declared.records.Item.{Item as ItemRow}
 use Rattle.gate_types.specs.Columns.{right, left, row, number_or_dash}
+use Rattle.gate_types.specs.Slot.{cut_slot}
 use Rattle.gate_types.specs.Status.{slot_word}
-use Rattle.gate_reads.specs.Jobs.{slot_among}
+use Rattle.gate_queue.specs.Outcomes.{slot_among}
 
--- as `unit=success`, by the live builds of the item
-abbrev pub job_column : List Build → Job → List ℕ
-job_column builds j = j.name ++ 61 ∷ slot_word (slot_among builds j)
+-- as `unit=success`, by the live builds of the item, and whether it is cut
+abbrev pub job_column : Bool → List Build → Job → List ℕ
+job_column cut builds j =
+    j.name ++ 61 ∷ slot_word (if cut then cut_slot (slot_among builds j) else slot_among builds j)
 
 -- how an item stands
 abbrev pub standing_word : Bool → Bool → List ℕ
@@ -17,10 +19,10 @@ standing_word blocked failing =
     if blocked then codes "blocked" else (if failing then codes "failing" else codes "ok")
 
 -- serial, change, revision, ahead, standing, jobs
-abbrev pub item_line : ItemRow → Bool → List Build → List Job → List ℕ
-item_line i blocked builds jobs = row (
+abbrev pub item_line : ItemRow → Bool → Bool → List Build → List Job → List ℕ
+item_line i blocked cut builds jobs = row (
     right 6 (decimal i.serial) ∷ right 9 (decimal i.change) ∷ right 4 (decimal i.revision) ∷
-    right 6 (number_or_dash i.ahead) ∷ left 7 (standing_word blocked i.failing) ∷ map (job_column builds) jobs)
+    right 6 (number_or_dash i.ahead) ∷ left 7 (standing_word blocked i.failing) ∷ map (job_column cut builds) jobs)
 
 -- the line of a queue, with its window and how many landings it has
 abbrev pub queue_line : List ℕ → ℕ → ℕ → List ℕ

@@ -4,7 +4,7 @@ ghost use Rattle.gate_types.specs.Columns.{right, left, number_or_dash};
 ghost use Rattle.gate_types.specs.Status.{slot_word};
 ghost use Rattle.gate_texts.specs.Lines as line;
 
-use gate_reads::jobs::slot_among;
+use gate_queue::outcomes::{slot_among, slot_where};
 use gate_types::config::Job;
 use gate_types::names::NoMemory;
 use gate_types::numbers::{ChangeNo, Serial};
@@ -82,44 +82,46 @@ fn slot_word(slot: Slot) -> &'static str
         Slot::Running => "running",
         Slot::Success => "success",
         Slot::Failure => "failure",
+        Slot::Skipped => "skipped",
     }
 }
 
 /// A job behind a space.
-fn job_text(alloc: Global, builds: &[Build], job: &Job) -> Result<String, NoMemory>
-    ensures { IfOk result (λ s. string_bytes s ≡ 32 ∷ line.job_column builds.now job.now) }
+fn job_text(alloc: Global, cut: bool, builds: &[Build], job: &Job) -> Result<String, NoMemory>
+    ensures { IfOk result (λ s. string_bytes s ≡ 32 ∷ line.job_column cut builds.now job.now) }
 {
     let name = job.name.as_str();
-    let slot = slot_word(slot_among(alloc, builds, job)?);
+    let slot = slot_word(slot_where(cut, slot_among(alloc, builds, job)?));
     format!(in alloc; " {name}={slot}")
 }
 
 /// The jobs of an item, each behind a space.
-fn jobs_text(alloc: Global, builds: &[Build], jobs: &[Job]) -> Result<String, NoMemory>
-    ensures { IfOk result (λ s. string_bytes s ≡ flat_map (λ j. 32 ∷ line.job_column builds.now j) jobs.now) }
+fn jobs_text(alloc: Global, cut: bool, builds: &[Build], jobs: &[Job]) -> Result<String, NoMemory>
+    ensures { IfOk result (λ s. string_bytes s ≡ flat_map (λ j. 32 ∷ line.job_column cut builds.now j) jobs.now) }
 {
     let mut text = String::new(alloc);
     for job in jobs {
-        let column = job_text(alloc, builds, job)?;
+        let column = job_text(alloc, cut, builds, job)?;
         text.push_str(column.as_str())?;
     }
     Ok(text)
 }
 
-/// The line of an item, its live builds and its jobs known.
+/// The line of an item; whether it is cut, its live builds and its jobs known.
 pub(crate) fn item_line(
     alloc: Global,
     item: &Item,
     blocked: bool,
+    cut: bool,
     builds: &[Build],
     jobs: &[Job],
 ) -> Result<String, NoMemory>
-    ensures { IfOk result (λ s. string_bytes s ≡ line.item_line item.now blocked builds.now jobs.now) }
+    ensures { IfOk result (λ s. string_bytes s ≡ line.item_line item.now blocked cut builds.now jobs.now) }
 {
     let numbers = numbers_text(alloc, item)?;
     let ahead = ahead_text(alloc, item.ahead)?;
     let standing = standing_text(blocked, item.failing);
-    let jobs = jobs_text(alloc, builds, jobs)?;
+    let jobs = jobs_text(alloc, cut, builds, jobs)?;
     let text = format!(in alloc; "{numbers} {ahead} {standing}{jobs}\n")?;
     Ok(text)
 }

@@ -1,5 +1,5 @@
 //! The status text.
-ghost use Rattle.std.specs.Prelude.{◌≡◌, ℕ, List, Some, IfOk, IfErr, string_bytes, flat_map};
+ghost use Rattle.std.specs.Prelude.{◌≡◌, ◌&&◌, not, ℕ, List, Some, IfOk, IfErr, string_bytes, flat_map};
 ghost use Rattle.gate_types.specs.State.{Queue};
 ghost use Rattle.gate_types.specs.Line.{Place};
 ghost use Rattle.gate_types.specs.Standing.{places};
@@ -13,8 +13,9 @@ ghost use Rattle.gate_reads.specs.Places.{IsBehind};
 use crate::lines::{item_line, queue_line, waiting_line};
 use gate_book::book::Book;
 use gate_book::fault::BookFault;
+use gate_book::planned::plan_of;
 use gate_reads::due::are_met_among;
-use gate_reads::known::{jobs_of, needs_of};
+use gate_reads::known::needs_of;
 use gate_reads::next_build::push_unless_failing;
 use gate_types::config::Config;
 use gate_types::names::{Name, Text};
@@ -22,6 +23,13 @@ use gate_types::numbers::ChangeNo;
 use gate_types::records::{Change, Entry, Item, Ready};
 use gate_types::sequence::Sequence;
 use std::alloc::Global;
+
+/// Whether an item is cut: it fails by its jobs, and is to fail fast.
+fn is_cut(fast: bool, blocked: bool, failing: bool) -> bool
+    ensures { result ≡ fast && not blocked && failing }
+{
+    fast && !blocked && failing
+}
 
 /// The line of an item with these changes ahead.
 fn item_text<B: Book>(
@@ -39,10 +47,12 @@ fn item_text<B: Book>(
 {
     let known = book.change(item.change)?;
     let needs = needs_of(alloc, book, &known)?;
+    let plan = plan_of(alloc, book, item.serial)?;
     let builds = book.live_builds(item.serial)?;
     let blocked = !are_met_among(ahead, &needs);
-    let jobs = jobs_of(config, &known);
-    Ok(item_line(alloc, item, blocked, builds.as_slice(), jobs)?)
+    let cut = is_cut(plan.fast, blocked, item.failing);
+    let jobs = plan.jobs.as_slice();
+    Ok(item_line(alloc, item, blocked, cut, builds.as_slice(), jobs)?)
 }
 
 /// The lines of the items of a queue, gone through one after another.

@@ -2,6 +2,7 @@
 ghost use Rattle.std.specs.Prelude.{◌≡◌, ◌++◌, IfOk, IfErr};
 ghost use Rattle.gate_types.specs.declared.deliveries.Delivery.TheVariants as delivery;
 ghost use Rattle.gate_types.specs.State.{known_change};
+ghost use Rattle.gate_types.specs.Step.{landed_plan};
 ghost use Rattle.gate_book.specs.Faults.{MayAnswer};
 ghost use Rattle.gate_book.specs.Kept.{OfHeld, OfHeldUnder, IsKept};
 ghost use Rattle.gate_raw.specs.Raw.{IsRaw};
@@ -11,10 +12,11 @@ ghost use Rattle.gate_ruling.specs.Faults.{MayRule};
 use crate::changing::put_anew;
 use crate::edits::{with_edit, with_window};
 use crate::leaving::{leaving, touched};
+use crate::windows::grown;
 use gate_book::book::Book;
 use gate_book::fault::BookFault;
+use gate_book::planned::plan_of;
 use gate_book::rows::QueuedItem;
-use gate_queue::window::grow;
 use gate_raw::raw::{Moved, Raw, Said};
 use gate_raw::touched::Event;
 use gate_reads::orders::shown_order;
@@ -23,7 +25,7 @@ use gate_types::deliveries::{Refusal, Reply};
 use gate_types::edits::Edit;
 use gate_types::names::NoMemory;
 use gate_types::numbers::Serial;
-use gate_types::records::{Change, Landing, Stage, Verdict};
+use gate_types::records::{Change, Landing, Plan, Stage, Verdict};
 use std::alloc::Global;
 
 /// The item's landing at a place of its queue, and the window that follows the old one.
@@ -51,6 +53,22 @@ fn with_landing(
     with_window(with_edit(edits, landed)?, &queued.queue, old, window)
 }
 
+/// What a landing keeps of the plan of an item: its jobs.
+fn landed_plan<B: Book>(alloc: Global, book: &mut B, queued: &QueuedItem) -> Result<Plan, BookFault>
+    ensures found { OfHeld B.IsTrusted B.Holds book.old book.new (λ c x.
+        IfOk result (λ plan. plan ≡ landed_plan x.state queued.now.item.serial)) }
+    ensures kept { IsKept B.IsTrusted B.Holds B.LeavesOneOf book.old book.new }
+    ensures fault { IfErr result (MayAnswer B.MayFault) }
+{
+    let serial = queued.item.serial;
+    let plan = plan_of(alloc, book, serial)?;
+    Ok(Plan {
+        serial,
+        fast: false,
+        ..plan
+    })
+}
+
 /// The change of an item.
 fn change_of<B: Book>(book: &mut B, queued: &QueuedItem) -> Result<Option<Change>, BookFault>
     ensures found { OfHeld B.IsTrusted B.Holds book.old book.new (λ c x.
@@ -61,7 +79,7 @@ fn change_of<B: Book>(book: &mut B, queued: &QueuedItem) -> Result<Option<Change
     book.change(queued.item.change)
 }
 
-/// The item of a shown order leaves its queue as the last of the landings, and the window grows.
+/// The item of a shown order leaves its queue as the last of the landings, which keeps its jobs, and the window grows.
 pub(crate) fn landed<B: Book>(
     alloc: Global,
     book: &mut B,
@@ -85,9 +103,12 @@ pub(crate) fn landed<B: Book>(
     let Some(sizes) = book.queue(&queued.queue)? else {
         return Err(BookFault::Damaged);
     };
+    let plan = landed_plan(alloc, book, &queued)?;
     let place = sizes.landings.saturating_add(1);
     let edits = leaving(alloc, book, config, &queued, Verdict::Landed(place))?;
-    let edits = with_landing(edits, &queued, place, sizes.window, grow(sizes.window))?;
+    let window = grown(config, queued.queue.as_str(), sizes.window);
+    let edits = with_landing(edits, &queued, place, sizes.window, window)?;
+    let edits = with_edit(edits, Edit::PutPlan(plan))?;
     let edits = put_anew(
         edits,
         Change {

@@ -1,7 +1,5 @@
 //! `refused`: the forge did not land an order.
-ghost use Rattle.std.specs.Prelude.{◌≡◌, find, option_copied, IfOk, IfErr};
-ghost use Rattle.std.specs.Option.{option_map_or};
-ghost use Rattle.gate_types.specs.Names.{same_name};
+ghost use Rattle.std.specs.Prelude.{IfOk, IfErr};
 ghost use Rattle.gate_types.specs.declared.deliveries.Delivery.TheVariants as delivery;
 ghost use Rattle.gate_book.specs.Faults.{MayAnswer};
 ghost use Rattle.gate_book.specs.Kept.{OfHeldUnder, IsKept};
@@ -10,37 +8,17 @@ ghost use Rattle.gate_ruling.specs.Faults.{MayRule};
 
 use crate::edits::with_window;
 use crate::leaving::{leaving, touched};
+use crate::windows::shrunk;
 use gate_book::book::Book;
 use gate_book::fault::BookFault;
-use gate_queue::window::shrink;
 use gate_raw::raw::{Moved, Raw, Said};
 use gate_raw::touched::Event;
 use gate_reads::orders::shown_order;
-use gate_types::config::{Config, Queue};
+use gate_types::config::Config;
 use gate_types::deliveries::{Refusal, Reply};
 use gate_types::numbers::Serial;
 use gate_types::records::Verdict;
 use std::alloc::Global;
-
-fn setting_of<'c>(config: &'c Config, name: &str) -> Option<&'c Queue>
-    ensures { option_copied result ≡ find (λ q. same_name q.name name.now) config.now.queues }
-{
-    config
-        .queues
-        .as_slice()
-        .iter()
-        .find(|setting| setting.name.as_str() == name)
-}
-
-/// The floor of the window of a queue of the settings.
-fn floor_of(config: &Config, name: &str) -> u32
-    ensures { result ≡ option_map_or (λ q. q.floor) (find (λ q. same_name q.name name.now) config.now.queues) 1 }
-{
-    match setting_of(config, name) {
-        Some(setting) => setting.floor,
-        None => 1,
-    }
-}
 
 /// The item of a shown order leaves its queue, and the window shrinks.
 pub(crate) fn refused<B: Book>(
@@ -64,7 +42,7 @@ pub(crate) fn refused<B: Book>(
         return Err(BookFault::Damaged);
     };
     let edits = leaving(alloc, book, config, &queued, Verdict::Refused)?;
-    let window = shrink(sizes.window, floor_of(config, queued.queue.as_str()));
+    let window = shrunk(config, queued.queue.as_str(), sizes.window);
     Ok(Raw::Moved(Moved {
         said: Said::Now(Reply::Removed),
         edits: with_window(edits, &queued.queue, sizes.window, window)?,

@@ -12,7 +12,7 @@ use Rattle.gate_laws.proofs.Members.{found, every}
 use Rattle.gate_admission.specs.Led.{IsLed}
 use Rattle.gate_admission.specs.Enters.{entering_row, entering_edits}
 use Rattle.gate_admission.proofs.ReadyList.{open_known, number_is}
-use Rattle.gate_admission.proofs.Admitted.{are_named, no_project, in_project, project_is, needs_are, place_there, queue_is}
+use Rattle.gate_admission.proofs.Admitted.{are_named, no_project, in_project, project_is, needs_are, place_there, queue_is, plan_is}
 use Rattle.gate_admission.proofs.EnteringEdits.{entering_leads}
 use Rattle.gate_admission.proofs.entering.enter.Goals as goal
 
@@ -67,13 +67,14 @@ returns-clause-led g c = λ trusted x holds lawful v led first serial.
     ∙ needs_are v n c.in_ok-known.known told ∙ ap (needs_of v) (sym number) in
     let row = c.in_ok-row.ensures.found trusted s x last lawful v so_far3 (ap (known_change v) number ∙ known) needs
     queue serial in
-    let copied = c.in_ok-copy.ensures in
+    let copied = c.in_ok-queue.ensures in
     let row_is = row
     ∙ ap (λ o. entering_row v (option_map_or (item_rows s v) o []) k.number) queue.named
     ∙ ap (λ m. entering_row v (item_rows s v queue.queue) m) number in
     subst (λ es. IsLed s x es (entered s v c.args.ready))
-    (sym (c.in_ok-with_entering.ensures ∙ ap (λ name. c.args.edits.items ++ entering_edits name k c.in_ok-row.row)
-    copied))
+    (sym (c.in_ok-with_entering.ensures
+    ∙ ap (λ name. c.args.edits.items ++ entering_edits name k c.in_ok-row.row c.in_ok-plan.plan) copied))
     (entering_leads s x c.args.edits.items v c.args.ready k c.in-Some.project.now.queue queue.queue c.in_ok-row.row
-    sound led first known
-    (queue_is s v n c.in-Some.project.now project) queue.named row_is)
+    c.in_ok-plan.plan sound led first known
+    (queue_is s v n c.in-Some.project.now project) queue.named row_is
+    (plan_is s v n c.in-Some.project.now project c.args.serial serial c.in_ok-plan.plan c.in_ok-plan.ensures))

@@ -28,7 +28,7 @@ returns-then-not-item-clause-found g c trusted x holds lawful =
     (c.loop-item.invariant.passed start x holds lawful queue.0 queue.1)
     (ap (first_above c.loop-item.above) (sym (rows_are config s name queue.0 queue.1)) ∙ some) c.if-not-item.true in
     let ended = c.in_ok-ended.ensures.found trusted x (c.in_ok-item.ensures.kept.holds_on before _ x held) lawful
-    here.place (at_here config s name queue.0 row queue.1 here) in
+    here.place (at_here config s name queue.0 row queue.1 here) c.if-not-item.true in
     subst (λ found. TellsOrder config s name found (order_in config s name)) (sym c.then_some.ensures)
     (tells_here config s name queue.0 row c.in_ok-ended.ended queue.1 here ended)
 

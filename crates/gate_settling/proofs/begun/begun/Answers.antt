@@ -1,6 +1,7 @@
 use Rattle.std.proofs.Common.{◌≡◌, ◌∙◌, ◌+◌, cond, sym, ap, arith}
 use Rattle.std.specs.Prelude.{option_copied}
 use Rattle.std.proofs.lemmas.Option.{same_Some, none-some}
+use Rattle.gate_types.specs.Window.{bounds_by}
 use Rattle.gate_book.specs.Reads.{sizes_of}
 use Rattle.gate_book.specs.declared.rows.QueueSizes.{QueueSizes}
 use Rattle.gate_settling.specs.Touching.{delivered}
@@ -43,6 +44,6 @@ returns-clause-begun g c trusted x holds lawful h =
     ] in
     let set = sym c.queue_named.ensures ∙ ap option_copied c.in-Some.is in
     c.in_ok-start.ensures.for_a_delivery (delivered h) (is_for h _ _ set
-    (c.window_now.ensures ∙ ap (λ (z : QueueSizes). window_now k.event c.in-Some.settings.now.floor z.window) sizes)
+    (c.window_now.ensures ∙ ap (λ (z : QueueSizes). window_now k.event (bounds_by c.in-Some.settings.now) z.window) sizes)
     (reports ∙ ap (reports_now k.event) many) c.starting_point.ensures.serial c.starting_point.ensures.ahead
     c.starting_point.ensures.out)

@@ -13,4 +13,4 @@ returns c =
     ++ (32 ∷ (c.standing_text-standing.ensures k ++ (c.in_ok-jobs.ensures k ++ 10 ∷ []))))))
     ∙ sym (item_joined (right 6 (decimal i.serial)) (right 9 (decimal i.change)) (right 4 (decimal i.revision))
     (right 6 (number_or_dash i.ahead)) (left 7 (standing_word c.args.blocked i.failing))
-    (job_column c.args.builds.now) c.args.jobs.now)
+    (job_column c.args.cut c.args.builds.now) c.args.jobs.now)

@@ -4,4 +4,4 @@ use Rattle.gate_texts.specs.Lines.{job_column}
 use Rattle.gate_texts.proofs.lines.jobs_text.Given as goal
 
 abbrev pub invariant-loop-job : goal.invariant-loop-job
-invariant-loop-job l = string_bytes l.text ≡ flat_map (λ j. 32 ∷ job_column l.builds j) (take l.job-index l.jobs)
+invariant-loop-job l = string_bytes l.text ≡ flat_map (λ j. 32 ∷ job_column l.cut l.builds j) (take l.job-index l.jobs)

@@ -1,24 +1,27 @@
-use Rattle.std.proofs.Common.{◌≡◌, ◌∙◌, ◌+◌, ◌++◌, length, Some, true, refl, sym, ap, subst, arith, rules}
+use Rattle.std.proofs.Common.{◌≡◌, ◌∙◌, ◌+◌, ◌++◌, ◌∷◌, [], length, Some, true, refl, sym, ap, subst, arith, rules}
 use Rattle.std.specs.Prelude.{option_map}
 use Rattle.std.specs.Option.{option_map_or}
 use Rattle.gate_types.specs.declared.deliveries.Delivery.TheVariants as delivery
+use Rattle.gate_types.specs.declared.records.Plan.{Plan}
 use Rattle.gate_types.specs.declared.records.Verdict.TheVariants as verdict
+use Rattle.gate_types.specs.declared.edits.Edit.TheVariants as edit
 use Rattle.gate_types.specs.Settings.{are_sound}
-use Rattle.gate_types.specs.State.{change_queue, known_change}
+use Rattle.gate_types.specs.State.{change_queue, put_plan, known_change}
 use Rattle.gate_types.specs.SubmitOrder.{shown_order}
 use Rattle.gate_types.specs.Window.{grow}
 use Rattle.gate_types.specs.Rows.{item_of}
-use Rattle.gate_types.specs.Step.{leave, landed_queue}
+use Rattle.gate_types.specs.Step.{leave, landed_queue, landed_plan}
 use Rattle.gate_book.specs.Reads.{sizes_of}
 use Rattle.gate_book.specs.declared.rows.QueueSizes.{QueueSizes}
 use Rattle.gate_raw.specs.Moves.{Moves}
 use Rattle.gate_raw.specs.Touches.{Touches}
 use Rattle.gate_reads.specs.Orders.{TellsShown}
 use Rattle.gate_ruling.specs.Landing.{landing_edits}
+use Rattle.gate_ruling.specs.Windows.{bounds_named}
 use Rattle.gate_ruling.proofs.Few.{few_landings}
 use Rattle.gate_ruling.proofs.Folded.{moves_on}
 use Rattle.gate_ruling.proofs.Stored.{stored}
-use Rattle.gate_ruling.proofs.Ordered.{has_order, same_queue, landed_touches, landed_state, landed_raw, lands}
+use Rattle.gate_ruling.proofs.Ordered.{has_order, same_queue, landed_touches, landed_state, landed_raw, lands, plan_put}
 use Rattle.gate_ruling.proofs.Missing.{change_there, sizes_there}
 use Rattle.gate_ruling.proofs.kinds.landed.landed.Goals as goal
 
@@ -31,12 +34,14 @@ returns-clause-raw g c trusted x holds lawful =
     let d = delivery.Landed number in
     let settings : are_sound s ≡ true = search rules in
     let sound = lawful.lawful.sound in
-    let three = c.in_ok-edits.ensures.kept.trusted_before trusted in
+    let four = c.in_ok-edits.ensures.kept.trusted_before trusted in
+    let three = c.in_ok-plan.ensures.kept.trusted_before four in
     let two = c.in_ok-sizes.ensures.kept.trusted_before three in
     let one = c.in_ok-known.ensures.kept.trusted_before two in
     let at_one = c.in_ok-queued.ensures.kept.holds_on one _ x holds in
     let at_two = c.in_ok-known.ensures.kept.holds_on two _ x at_one in
     let at_three = c.in_ok-sizes.ensures.kept.holds_on three _ x at_two in
+    let at_four = c.in_ok-plan.ensures.kept.holds_on four _ x at_three in
     let o = has_order s x.state number k
     (subst (λ y. TellsShown s x.state y (shown_order s x.state number)) c.in-Some.is
     (c.in_ok-queued.ensures.found one x holds lawful)) in
@@ -51,22 +56,30 @@ returns-clause-raw g c trusted x holds lawful =
     let plus = c.saturating_add-place.ensures in
     let place = c.saturating_add-place.result in
     let at : place ≡ length h.queue.landings + 1 = omega (arith, count, few, plus) in
-    let window = c.grow.ensures ∙ ap (λ (z : QueueSizes). grow z.window) sizes in
+    let window = c.grown-window.ensures
+    ∙ (λ i. grow (sizes i).window (bounds_named s (c.as_str.ensures.value i)).rule) in
     let t = leave (verdict.Landed place) k.item.change x.state in
-    let u = change_queue k.queue (landed_queue (item_of k.item)) t in
+    let u = change_queue k.queue (landed_queue s (item_of k.item)) t in
     let edits = c.in_ok-edits-2.ensures
-    ∙ ap (λ (z : QueueSizes). c.in_ok-edits.edits.items ++ landing_edits k place z.window c.grow.result) sizes in
-    let moves = subst (λ es. Moves x es u) (sym edits)
-    (moves_on x t u c.in_ok-edits.edits.items (landing_edits k place h.queue.window c.grow.result)
-    (c.in_ok-edits.ensures.moves trusted x at_three lawful o.row.stored)
-    (lands s x k settings sound h place c.grow.result at window)) in
+    ∙ ap (λ (z : QueueSizes). c.in_ok-edits.edits.items ++ landing_edits k place z.window c.grown-window.result) sizes in
+    let landing = subst (λ es. Moves x es u) (sym edits)
+    (moves_on x t u c.in_ok-edits.edits.items (landing_edits k place h.queue.window c.grown-window.result)
+    (c.in_ok-edits.ensures.moves trusted x at_four lawful o.row.stored)
+    (lands s x k settings sound h place c.grown-window.result at window)) in
+    let plan = landed_plan x.state k.item.serial in
+    let planned = c.in_ok-edits-3.ensures
+    ∙ ap (λ (p : Plan). c.in_ok-edits-2.edits.items ++ edit.PutPlan p ∷ [])
+    (c.in_ok-plan.ensures.found four s x at_three lawful) in
+    let moves = subst (λ es. Moves x es (put_plan plan u)) (sym planned)
+    (moves_on x u (put_plan plan u) c.in_ok-edits-2.edits.items (edit.PutPlan plan ∷ []) landing
+    (plan_put x u plan)) in
     record {
-      after = landed_state k place known x.state;
+      after = landed_state s k place known x.state;
       accepted = landed_raw s x.state number k known sound o h
           (same_queue s x.state number k settings sound o h) is place at;
       acts = refl;
       touches = subst (λ y. Touches s x.state d (Some y)) (sym c.touched.ensures) (landed_touches s x.state number k o);
-      moves = c.in_ok-edits-3.ensures x u sound.changes_rise moves;
+      moves = c.in_ok-edits-4.ensures x (put_plan plan u) sound.changes_rise moves;
       unplaced = tt;
     }
 

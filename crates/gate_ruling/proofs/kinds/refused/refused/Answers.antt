@@ -1,9 +1,8 @@
 use Rattle.std.proofs.Common.{◌≡◌, ◌∙◌, ◌++◌, Some, true, refl, sym, ap, subst, rules}
-use Rattle.std.specs.Prelude.{find, option_map}
+use Rattle.std.specs.Prelude.{option_map}
 use Rattle.std.specs.Option.{option_map_or}
 use Rattle.gate_types.specs.declared.deliveries.Delivery.TheVariants as delivery
 use Rattle.gate_types.specs.declared.records.Verdict.TheVariants as verdict
-use Rattle.gate_types.specs.Names.{same_name}
 use Rattle.gate_types.specs.Settings.{are_sound}
 use Rattle.gate_types.specs.State.{change_queue}
 use Rattle.gate_types.specs.SubmitOrder.{shown_order}
@@ -15,6 +14,7 @@ use Rattle.gate_queue.specs.Edits.{window_edits}
 use Rattle.gate_raw.specs.Moves.{Moves}
 use Rattle.gate_raw.specs.Touches.{Touches}
 use Rattle.gate_reads.specs.Orders.{TellsShown}
+use Rattle.gate_ruling.specs.Windows.{bounds_named}
 use Rattle.gate_ruling.proofs.Folded.{moves_on}
 use Rattle.gate_ruling.proofs.Stored.{stored}
 use Rattle.gate_ruling.proofs.Ordered.{has_order, refused_touches, refused_raw, shrinks}
@@ -40,13 +40,12 @@ returns-clause-raw g c trusted x holds lawful =
     let sizes : c.in-Some-2.sizes ≡ sizes_of h.queue =
     ap (λ y. option_map_or (λ (z : QueueSizes). z) y (sizes_of h.queue))
     (sym c.in-Some-2.is ∙ c.in_ok-sizes.ensures.found two s x at_one lawful ∙ ap (option_map sizes_of) h.first) in
-    let floor = c.floor_of.ensures
-    ∙ ap (λ n. option_map_or (λ r. r.floor) (find (λ r. same_name r.name n) s.queues) 1) c.as_str.ensures.value in
-    let window = c.shrink-window.ensures ∙ (λ i. shrink (sizes i).window (floor i)) in
+    let window = c.shrunk-window.ensures ∙ (λ i.
+    shrink (sizes i).window (bounds_named s (c.as_str.ensures.value i)).floor (bounds_named s (c.as_str.ensures.value i)).rule) in
     let t = leave verdict.Refused k.item.change x.state in
     let u = change_queue k.queue (shrunk_queue s) t in
     let edits = c.in_ok-with_window.ensures
-    ∙ ap (λ (z : QueueSizes). c.in_ok-edits.edits.items ++ window_edits k.queue z.window c.shrink-window.result) sizes in
+    ∙ ap (λ (z : QueueSizes). c.in_ok-edits.edits.items ++ window_edits k.queue z.window c.shrunk-window.result) sizes in
     record {
       after = u;
       accepted = refused_raw s x.state number k o;
@@ -54,9 +53,9 @@ returns-clause-raw g c trusted x holds lawful =
       touches = subst (λ y. Touches s x.state d (Some y)) (sym c.touched.ensures)
           (refused_touches s x.state number k o);
       moves = subst (λ es. Moves x es u) (sym edits)
-          (moves_on x t u c.in_ok-edits.edits.items (window_edits k.queue h.queue.window c.shrink-window.result)
+          (moves_on x t u c.in_ok-edits.edits.items (window_edits k.queue h.queue.window c.shrunk-window.result)
           (c.in_ok-edits.ensures.moves trusted x at_two lawful o.row.stored)
-          (shrinks s x k settings sound h c.shrink-window.result window));
+          (shrinks s x k settings sound h c.shrunk-window.result window));
       unplaced = tt;
     }
 
