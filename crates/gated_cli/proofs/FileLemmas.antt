@@ -1,7 +1,8 @@
 -- From a gate over a book of tables to a conversation over a file.
-use Rattle.std.proofs.Common.{refl, ◌≡◌, ◌≢◌, ◌∙◌, sym, subst, Bool, List, Option, ℕ}
-use Rattle.std.specs.Prelude.{Err, IfErr, IsErrOf, None, Ok, OnErr, OnOk, Result}
+use Rattle.std.proofs.Common.{refl, ◌≡◌, ◌≢◌, ◌∙◌, inl, inr, sym, subst, true, Bool, List, Option, ℕ}
+use Rattle.std.specs.Prelude.{Err, IfErr, IsErrOf, IsTrue, None, Ok, OnErr, OnOk, Result}
 use Rattle.sqlite.specs.State.{HasCleanDisk, State}
+use Rattle.gate_types.specs.Adopt.{may_adopt, adopted_content}
 use Rattle.gate_types.specs.Forms.{IsLawfulContent}
 use Rattle.gate_types.specs.Once.{Content}
 use Rattle.gate_types.specs.Settings.{Settings}
@@ -11,11 +12,13 @@ use Rattle.gate_core.specs.declared.fault.IoFault.{IoFault}
 use Rattle.gate_core.specs.declared.fault.IoFault.TheVariants as io
 use Rattle.gate_cache.specs.Cached.{HoldsBelow, Agrees}
 use Rattle.gate_cache.specs.declared.cached.CachedBook.{CachedBook}
+use Rattle.gate_rows.specs.Tells.{StandsFor}
+use Rattle.gate_sql.specs.Adopts.{IsKept}
 use Rattle.gate_sql.specs.Held.{ShowsFor}
 use Rattle.gated_cli.specs.Doing.{Announces, Delivers, Streams}
 use Rattle.gated_cli.specs.Ending.{AnnouncementIsCut, DeliveryEnds, DeliveryIsCut, DeliveryStops, IsOfFile, IsOfMaking, IsOfServing, ServingEnds}
 use Rattle.gated_cli.specs.Faults.{of_replay}
-use Rattle.gated_cli.specs.OverFile.{GoesOver, IsFileOf, IsOfServingOver, file_fault}
+use Rattle.gated_cli.specs.OverFile.{GoesOver, IsOfServingOver, OpensTo, StaysLawful, file_fault}
 use Rattle.gated_cli.specs.declared.run.fault.Fault.{Fault}
 use Rattle.gated_cli.specs.declared.run.fault.Fault.TheVariants as fault
 
@@ -42,18 +45,52 @@ of_memory io.Write g is none unread unwritten = absurd (unwritten is)
 of_memory io.NoMemory g is none unread unwritten = (refl, subst IsOfFile (sym is) tt)
 of_memory io.Store g is none unread unwritten = absurd (none refl)
 
+-- none of them is one of the file
+pub no_replay_fault : (f : IoFault) (g : Fault) → g ≡ of_replay f → file_fault {T = Unit {0}} (Err g) ≡ None
+no_replay_fault io.Read g is = subst (λ h. file_fault {T = Unit {0}} (Err h) ≡ None) (sym is) refl
+no_replay_fault io.Write g is = subst (λ h. file_fault {T = Unit {0}} (Err h) ≡ None) (sym is) refl
+no_replay_fault io.NoMemory g is = subst (λ h. file_fault {T = Unit {0}} (Err h) ≡ None) (sym is) refl
+no_replay_fault io.Store g is = subst (λ h. file_fault {T = Unit {0}} (Err h) ≡ None) (sym is) refl
+
+-- what follows from each of them
+pub of_each : {U : Type 0} (X : Type 0) (f : IoFault) → (IsErrOf {T = U} (Err f) io.Read → X) → (IsErrOf {T = U} (Err f) io.Write → X) →
+    (IsErrOf {T = U} (Err f) io.NoMemory → X) → (IsErrOf {T = U} (Err f) io.Store → ⊥) → X
+of_each X io.Read read write memory none = read refl
+of_each X io.Write read write memory none = write refl
+of_each X io.NoMemory read write memory none = memory refl
+of_each X io.Store read write memory none = absurd (none refl)
+
 -- ---- the gate over the file
+
+-- its settings are those that the file is opened with
+settings_are : (s : State) (c : Settings) (g : Gated) → OpensTo s c g → g.settings ≡ c
+settings_are s c g (inl file) = file.settings
+settings_are s c g (inr other) = other.settings
+
+-- its content is lawful
+is_lawful : (s : State) (c : Settings) (g : Gated) → StaysLawful c → OpensTo s c g → IsLawfulContent c g.content
+is_lawful s c g stays (inl file) = file.lawful
+is_lawful s c g stays (inr other) =
+    subst (λ x. IsLawfulContent c x) (sym other.becomes) (stays other.kept other.before other.keeps.sound other.may other.keeps.lawful)
+
+-- and what holds both of what the tables stand for and of what it becomes holds of it
+pub opens_to : (Holds : Content → Type 0) (s : State) (c : Settings) (g : Gated) →
+    (IsTrue s.is_open → (x : Content) → StandsFor s.now.trees c x → Holds x) →
+    (IsTrue s.is_open → (k : Settings) (x : Content) → IsKept s.now.trees k x → may_adopt k c ≡ true → Holds (adopted_content k c x)) →
+    OpensTo s c g → Holds g.content
+opens_to Holds s c g opens adopts (inl file) = opens file.up g.content file.stands
+opens_to Holds s c g opens adopts (inr other) = subst Holds (sym other.becomes) (adopts other.up other.kept other.before other.keeps other.may)
 
 -- what a gate over the book passes to, its file passes to, where a book that holds a content shows it
 pub goes_over : {B : Type 0} (at : B → State) (holds : B → Settings → Content → Type 0) →
     ((b : B) (k : Settings) (x : Content) → holds b k x → ShowsFor (at b) k x) → (before : State) (c d : Settings) (old new : B)
-    (P : Gated → Gated → Type 0) → d ≡ c → (HasCleanDisk (at old) → (g : Gated) → IsFileOf before c g → holds old c g.content) →
+    (P : Gated → Gated → Type 0) → d ≡ c → StaysLawful c → (HasCleanDisk (at old) → (g : Gated) → OpensTo before c g → holds old c g.content) →
     (HasCleanDisk (at new) → HasCleanDisk (at old)) → Passes (λ b. HasCleanDisk (at b)) holds d old new P → GoesOver before (at new) c P
-goes_over at holds shows before c d old new P is opens clean passes up g file =
+goes_over at holds shows before c d old new P is stays opens clean passes up g file =
     let over : IsOver holds d old g = record {
-      settings = file.settings ∙ sym is;
+      settings = settings_are before c g file ∙ sym is;
       held = subst (λ k. holds old k g.content) (sym is) (opens (clean up) g file);
-      lawful = subst (λ k. IsLawfulContent k g.content) (sym is) file.lawful;
+      lawful = subst (λ k. IsLawfulContent k g.content) (sym is) (is_lawful before c g stays file);
     } in
     let went = passes up g over in (
       went.0,
@@ -68,13 +105,13 @@ goes_over at holds shows before c d old new P is opens clean passes up g file =
 -- and so where the gate is over a book that keeps answers of that one, none of them yet
 pub goes_over_cached : {B : Type 0} (at : B → State) (holds : B → Settings → Content → Type 0) →
     ((b : B) (k : Settings) (x : Content) → holds b k x → ShowsFor (at b) k x) → (before : State) (c d : Settings) (book : B)
-    (made old new : CachedBook B) (P : Gated → Gated → Type 0) → d ≡ c → made.book ≡ book →
+    (made old new : CachedBook B) (P : Gated → Gated → Type 0) → d ≡ c → StaysLawful c → made.book ≡ book →
     ((k : Settings) (x : Content) → Agrees made.cache k x) → old ≡ made →
-    (HasCleanDisk (at book) → (g : Gated) → IsFileOf before c g → holds book c g.content) →
+    (HasCleanDisk (at book) → (g : Gated) → OpensTo before c g → holds book c g.content) →
     (HasCleanDisk (at new.book) → HasCleanDisk (at old.book)) →
     Passes (λ r. HasCleanDisk (at r.book)) (λ r k x. HoldsBelow holds r k x) d old new P → GoesOver before (at new.book) c P
-goes_over_cached at holds shows before c d book made old new P is over agrees same opens clean passes =
-    goes_over (λ r. at r.book) (λ r k x. HoldsBelow holds r k x) (λ r k x held. shows r.book k x held.below) before c d old new P is
+goes_over_cached at holds shows before c d book made old new P is stays over agrees same opens clean passes =
+    goes_over (λ r. at r.book) (λ r k x. HoldsBelow holds r k x) (λ r k x held. shows r.book k x held.below) before c d old new P is stays
     (λ was g file. subst (λ r. HoldsBelow holds r c g.content) (sym same) record {
       below = subst (λ b. holds b c g.content) (sym over)
           (opens (subst (λ b. HasCleanDisk (at b)) over (subst (λ r. HasCleanDisk (at r.book)) same was)) g file);

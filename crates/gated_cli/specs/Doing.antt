@@ -8,7 +8,9 @@ use Rattle.gate_types.specs.Tap.{inside, has_failed}
 use Rattle.gate_types.specs.declared.tap.Tap.{Tap}
 use Rattle.gate_config.specs.Reading.{said_by}
 use Rattle.gated_command.specs.declared.command.Cmd.{Cmd}
-use Rattle.gated_command.specs.declared.command.Cmd.TheVariants.{Check, Init, Replay, Deliver, Status, History, Serve}
+use Rattle.gated_command.specs.declared.command.Cmd.TheVariants.{Check, Init, Replay, Deliver, Status, History, Serve, Migrate}
+use Rattle.gate_sql.specs.declared.migrating.Migrated.{Migrated}
+use Rattle.gate_sql.specs.declared.migrating.Migrated.TheVariants as migrated
 use Rattle.gate_core.specs.Gated.{Gated, opened}
 use Rattle.gate_core.specs.Lines.{lines_of}
 use Rattle.gate_core.specs.Replies.{Replayed}
@@ -109,6 +111,17 @@ pub record Announces (asked : ℕ) (before after : Streams) : Type 0 where
   pub unread : after.left ≡ before.left
   pub written : Appends before.held after.held (listening_line port)
 
+-- what is told of a file that is migrated
+abbrev pub migrated_text : Migrated → List ℕ
+migrated_text migrated.Done = codes "migrated 1 2"
+migrated_text migrated.Already = codes "schema 2"
+
+-- the input is left alone, and the output grows by what is told of a file, and an LF
+pub record Migrates (before after : Streams) : Type 0 where
+  pub done : Migrated
+  pub unread : after.left ≡ before.left
+  pub written : Appends before.held after.held (migrated_text done ++ 10 ∷ [])
+
 -- what a command that is done has read and written; what it made of a file no stream tells
 abbrev pub Does : Cmd → Streams → Streams → Type 0
 Does (Check settings) before after = Checks before after
@@ -118,3 +131,4 @@ Does (Deliver settings file) before after = Delivers before after
 Does (Status settings file) before after = Prints before after
 Does (History settings file queue) before after = Looks before after
 Does (Serve settings file port count) before after = Announces port before after
+Does (Migrate settings file) before after = Migrates before after

@@ -10,9 +10,10 @@ use Rattle.gate_core.specs.Gated.{Gated, opened}
 use Rattle.gate_core.specs.Lines.{whole_lines, ReadFor}
 use Rattle.gate_core.specs.Replies.{Replayed, Cut}
 use Rattle.gated_cli.specs.Doing.{Streams, Answers, Delivers, HasSettings, settings_limit, status_of, check_text}
-use Rattle.gated_cli.specs.Doing.{Announces, IsPortFor, Looks, Prints, listening_line}
+use Rattle.gated_cli.specs.Doing.{Announces, IsPortFor, Looks, Prints, listening_line, migrated_text}
+use Rattle.gate_sql.specs.declared.migrating.Migrated.{Migrated}
 use Rattle.gated_command.specs.declared.command.Cmd.{Cmd}
-use Rattle.gated_command.specs.declared.command.Cmd.TheVariants.{Check, Init, Replay, Deliver, Status, History, Serve}
+use Rattle.gated_command.specs.declared.command.Cmd.TheVariants.{Check, Init, Replay, Deliver, Status, History, Serve, Migrate}
 use Rattle.gated_cli.specs.declared.run.fault.Fault.{Fault}
 use Rattle.gated_cli.specs.declared.run.fault.Fault.TheVariants as fault
 
@@ -170,6 +171,18 @@ abbrev pub IsOfMaking : Fault → Type 0
 IsOfMaking fault.Store = ⊤
 IsOfMaking f = IsEarly f
 
+-- the output failed within what is told of a file that is migrated
+pub record MigrationIsCut (before after : Streams) : Type 0 where
+  pub done : Migrated
+  pub unread : after.left ≡ before.left
+  pub failed : after.output_failed ≡ true
+  pub written : WritesFront before.held after.held (migrated_text done ++ 10 ∷ [])
+
+-- how migrating a file ends with a fault; nothing is told where the file can't be closed
+abbrev pub MigrationEnds : Fault → Streams → Streams → Type 0
+MigrationEnds fault.Write before after = MigrationIsCut before after
+MigrationEnds fault before after = IsOfMaking fault × (after ≡ before)
+
 -- how a command ends with a fault
 abbrev pub EndsBy : Fault → Cmd → Streams → Streams → Type 0
 EndsBy fault (Check settings) before after = CheckEnds fault before after
@@ -179,6 +192,7 @@ EndsBy fault (Replay settings status) before after = ReplayEnds status fault bef
 EndsBy fault (Status settings file) before after = StatusEnds fault before after
 EndsBy fault (History settings file queue) before after = HistoryEnds fault before after
 EndsBy fault (Serve settings file port count) before after = ServingEnds port fault before after
+EndsBy fault (Migrate settings file) before after = MigrationEnds fault before after
 
 -- the whole text is written, or a beginning where the writer has failed
 abbrev pub Tells : {E : Type 0} → (E → Option (List ℕ)) → Tap E → Tap E → List ℕ → Type 0

@@ -7,8 +7,8 @@ use Rattle.gate_book.specs.declared.fault.HistoryFault.{HistoryFault}
 use Rattle.gate_book.specs.declared.fault.HistoryFault.TheVariants as history
 use Rattle.gate_core.specs.declared.fault.IoFault.{IoFault}
 use Rattle.gate_core.specs.declared.fault.IoFault.TheVariants as io
-use Rattle.gate_sql.specs.declared.open_fault.OpenFault.{OpenFault}
-use Rattle.gate_sql.specs.declared.open_fault.OpenFault.TheVariants as file
+use Rattle.gate_types.specs.declared.open_fault.OpenFault.{OpenFault}
+use Rattle.gate_types.specs.declared.open_fault.OpenFault.TheVariants as file
 use Rattle.gated_cli.specs.declared.run.fault.Fault.{Fault}
 use Rattle.gated_cli.specs.declared.run.fault.Fault.TheVariants as fault
 

@@ -1,11 +1,14 @@
 -- What a conversation over a file comes to.
-use Rattle.std.specs.Prelude.{IsTrue, ⊤, ◌≡◌, Option, Some, None, Result, Err}
+use Rattle.std.specs.Prelude.{IsTrue, ⊤, ◌≡◌, ◌⊎◌, true, Option, Some, None, Result, Err}
 use Rattle.sqlite.specs.State.{HasCleanDisk, State}
+use Rattle.gate_types.specs.Adopt.{may_adopt, adopted_content}
 use Rattle.gate_types.specs.Forms.{IsLawfulContent}
-use Rattle.gate_types.specs.Settings.{Settings}
+use Rattle.gate_types.specs.Once.{Content}
+use Rattle.gate_types.specs.Settings.{Settings, are_sound}
 use Rattle.gate_rows.specs.Tells.{StandsFor}
+use Rattle.gate_sql.specs.Adopts.{IsKept}
 use Rattle.gate_sql.specs.Held.{ShowsFor}
-use Rattle.gate_sql.specs.declared.open_fault.OpenFault.{OpenFault}
+use Rattle.gate_types.specs.declared.open_fault.OpenFault.{OpenFault}
 use Rattle.gate_core.specs.Gated.{Gated}
 use Rattle.gated_cli.specs.Ending.{IsOfServing}
 use Rattle.gated_cli.specs.declared.run.fault.Fault.{Fault}
@@ -18,17 +21,36 @@ pub record IsFileOf (s : State) (c : Settings) (g : Gated) : Type 0 where
   pub stands : StandsFor s.now.trees c g.content
   pub lawful : IsLawfulContent c g.content
 
+-- they keep a lawful content under settings in whose place these may be taken, and this is the gate that it becomes
+pub record IsAdoptedOf (s : State) (c : Settings) (g : Gated) : Type 0 where
+  pub settings : g.settings ≡ c
+  pub up : IsTrue s.is_open
+  pub kept : Settings
+  pub before : Content
+  pub keeps : IsKept s.now.trees kept before
+  pub may : may_adopt kept c ≡ true
+  pub becomes : g.content ≡ adopted_content kept c before
+
+-- the gate over which an open file is opened with these settings
+abbrev pub OpensTo : State → Settings → Gated → Type 0
+OpensTo s c g = IsFileOf s c g ⊎ IsAdoptedOf s c g
+
 -- while the file answers at all, its tables stand for the lawful content of this gate
 pub record ShowsGate (s : State) (c : Settings) (g : Gated) : Type 0 where
   pub settings : g.settings ≡ c
   pub shows : ShowsFor s c g.content
   pub lawful : IsLawfulContent c g.content
 
--- a call leads from the gate that the tables stood for to one that they stand for then, if the disk has returned what
--- was written as the call ends
+-- a call leads from the gate over which the file is opened to one that the tables stand for then, if the disk has
+-- returned what was written as the call ends
 abbrev pub GoesOver : State → State → Settings → (Gated → Gated → Type 0) → Type 0
 GoesOver old new c P =
-    HasCleanDisk new → (g : Gated) → IsFileOf old c g → (after : Gated) × ShowsGate new c after × P g after
+    HasCleanDisk new → (g : Gated) → OpensTo old c g → (after : Gated) × ShowsGate new c after × P g after
+
+-- a lawful content stays lawful where these settings are taken
+abbrev pub StaysLawful : Settings → Type 0
+StaysLawful d = (c : Settings) (x : Content) → are_sound c ≡ true → may_adopt c d ≡ true → IsLawfulContent c x →
+    IsLawfulContent d (adopted_content c d x)
 
 -- why the file wasn't opened, if it wasn't
 abbrev pub file_fault : {T : Type 0} → Result T Fault → Option OpenFault

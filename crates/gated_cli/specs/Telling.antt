@@ -6,7 +6,7 @@ use Rattle.gate_http.specs.Connections.{AreTold, fault_lines}
 use Rattle.gated_cli.specs.Ending.{Tells}
 use Rattle.gated_cli.specs.Faults.{line_of}
 use Rattle.gated_command.specs.declared.command.Cmd.{Cmd}
-use Rattle.gated_command.specs.declared.command.Cmd.TheVariants.{Check, Init, Replay, Deliver, Status, History, Serve}
+use Rattle.gated_command.specs.declared.command.Cmd.TheVariants.{Check, Init, Replay, Deliver, Status, History, Serve, Migrate}
 use Rattle.gated_cli.specs.declared.run.fault.Fault.{Fault}
 
 -- at most so many faults of connections are told, by a line each; a writer that failed took a beginning
@@ -22,6 +22,7 @@ ToldBy held (Deliver settings file) old new = new ≡ old
 ToldBy held (Status settings file) old new = new ≡ old
 ToldBy held (History settings file queue) old new = new ≡ old
 ToldBy held (Serve settings file port count) old new = TellsUpTo held count old new
+ToldBy held (Migrate settings file) old new = new ≡ old
 
 -- what a command that ended with a fault has told: the fault's line, behind the faults of connections for a server
 abbrev pub TellsBy : {E : Type 0} → (E → Option (List ℕ)) → Fault → Cmd → Tap E → Tap E → Type 0
@@ -33,3 +34,4 @@ TellsBy held fault (Status settings file) old new = Tells held old new (line_of 
 TellsBy held fault (History settings file queue) old new = Tells held old new (line_of fault)
 TellsBy held fault (Serve settings file port count) old new = (faults : List IoFault) × (length faults ≤ count)
     × Tells held old new (fault_lines faults ++ line_of fault)
+TellsBy held fault (Migrate settings file) old new = Tells held old new (line_of fault)

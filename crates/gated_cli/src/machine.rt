@@ -2,8 +2,9 @@
 ghost use Rattle.std.specs.Prelude.{◌≡◌, IfErr, OnErr, OnOk};
 
 use crate::run::{Fault, over_file};
-use gate_sql::open_fault::OpenFault;
+use gate_sql::migrating::Migrated;
 use gate_types::config::Config;
+use gate_types::open_fault::OpenFault;
 use gate_types::tap::Tap;
 use sqlite::{Alter, Connection, File, FileStore};
 use std::fs;
@@ -87,6 +88,11 @@ pub trait GateFiles {
             (beside W.contents left failed output.old) (beside W.contents left failed output.new)) }
         ensures err { IfErr result (λ fault. (left : Option (List ℕ)) → (failed : Bool) → ServingEnds port fault
             (beside W.contents left failed output.old) (beside W.contents left failed output.new)) };
+
+    /// Makes a file of schema 1 one of schema 2. `File` where the file isn't there or can't be opened, and as for
+    /// `gate_sql::migrating::migrate`; `Store` where it can't be closed.
+    fn migrate(&self, file: &str, config: &Config) -> Result<Migrated, Fault>
+        ensures { IfErr result IsOfMaking };
 }
 
 impl<S: Alter + Drop, M: Databases<Database = Connection<S>> + Net + AllocGlobal> GateFiles for M {
@@ -144,12 +150,21 @@ impl<S: Alter + Drop, M: Databases<Database = Connection<S>> + Net + AllocGlobal
         let (conn, done) = over_file::serve(self, conn, config, port, count, output, errors);
         closed(self.close(conn), done)
     }
+
+    fn migrate(&self, file: &str, config: &Config) -> Result<Migrated, Fault> {
+        let conn = self.present(file)?;
+        let (conn, done) = over_file::migrate(self.alloc(), conn, config);
+        let closing = self.close(conn);
+        let migrated = done?;
+        closing?;
+        Ok(migrated)
+    }
 }
 
 /// The databases of a machine, by the paths of their files.
 pub trait Databases {
     ghost use Rattle.std.specs.Prelude.{◌≡◌, IfErr};
-    ghost use Rattle.gate_sql.specs.declared.open_fault.OpenFault.{OpenFault};
+    ghost use Rattle.gate_types.specs.declared.open_fault.OpenFault.{OpenFault};
 
     /// An open database.
     type Database;

@@ -1,8 +1,8 @@
 //! Does what a command line asks for.
 ghost use Rattle.std.specs.Prelude.{◌≡◌, ◌⊎◌, ◌≤◌, ℕ, List, Option, Bool, OnOk, IfOk, IfErr, length, false, true};
 ghost use Rattle.gate_types.specs.Tap.{has_failed};
-ghost use Rattle.gated_cli.specs.Doing.{Does, Announces, Checks, Delivers, Looks, Prints, Replays, HasSettings, beside, streams, settings_limit};
-ghost use Rattle.gated_cli.specs.Ending.{EndsBy, CheckEnds, DeliveryEnds, HistoryEnds, ReplayEnds, ServingEnds, StatusEnds, IsEarly, IsOfMaking, Tells};
+ghost use Rattle.gated_cli.specs.Doing.{Does, Announces, Checks, Delivers, Looks, Migrates, Prints, Replays, HasSettings, beside, streams, settings_limit, migrated_text};
+ghost use Rattle.gated_cli.specs.Ending.{EndsBy, CheckEnds, DeliveryEnds, HistoryEnds, MigrationEnds, ReplayEnds, ServingEnds, StatusEnds, IsEarly, IsOfMaking, Tells};
 ghost use Rattle.gated_cli.specs.Faults.{line_of};
 ghost use Rattle.gated_cli.specs.InMemory.{IsGate};
 ghost use Rattle.gated_cli.specs.Telling.{ToldBy, TellsBy, TellsUpTo};
@@ -24,6 +24,7 @@ use gate_core::replay::replay;
 use gate_laws::forms::empty_is_in_form;
 use gate_laws::runs::start_is_lawful;
 use gate_laws::typed::settings_are_in_form;
+use gate_sql::migrating::Migrated;
 use gate_types::config::Config;
 use gate_types::names::NoMemory;
 use gate_types::tap::{Failed, Tap};
@@ -134,6 +135,7 @@ fn perform<F: Files + GateFiles + AllocGlobal, R: Read, W: Write, E: Write>(
             port,
             count,
         } => served(rt, settings, file, port, count, output, errors)?,
+        Cmd::Migrate { settings, file } => migrated(rt, settings, file, output)?,
     }
     Ok(())
 }
@@ -276,6 +278,34 @@ fn served<F: Files + GateFiles + AllocGlobal, W: Write, E: Write>(
 {
     let config = settings_of(rt, settings)?;
     rt.serve(file, config, port, count, output, errors)
+}
+
+/// Makes a file of schema 1 one of schema 2, and tells which it was.
+fn migrated<F: Files + GateFiles + AllocGlobal, W: Write>(
+    rt: &F,
+    settings: &str,
+    file: &str,
+    output: &mut Tap<W>,
+) -> Result<(), Fault>
+    requires { has_failed output.old ≡ false }
+    ensures ok { OnOk result ((left : Option (List ℕ)) → (failed : Bool) → Migrates
+        (beside W.contents left failed output.old) (beside W.contents left failed output.new)) }
+    ensures err { IfErr result (λ fault. (left : Option (List ℕ)) → (failed : Bool) → MigrationEnds fault
+        (beside W.contents left failed output.old) (beside W.contents left failed output.new)) }
+{
+    let config = settings_of(rt, settings)?;
+    let done = rt.migrate(file, &config)?;
+    output.write_line(migrated_text(done))?;
+    Ok(())
+}
+
+fn migrated_text(done: Migrated) -> &'static str
+    ensures { result.now ≡ migrated_text done }
+{
+    match done {
+        Migrated::Done => "migrated 1 2",
+        Migrated::Already => "schema 2",
+    }
 }
 
 fn settings_of<F: Files + GateFiles + AllocGlobal>(rt: &F, path: &str) -> Result<Config, Fault>

@@ -15,7 +15,7 @@ use Rattle.clap.specs.declared.builder.action.ArgAction.TheVariants.{SetTrue}
 use Rattle.clap.specs.declared.builder.value_parser.ValueParser.TheVariants.{Unsigned}
 use Rattle.clap.specs.ValueTests.{is_unsigned_in}
 use Rattle.gated_command.specs.declared.command.Cmd.{Cmd}
-use Rattle.gated_command.specs.declared.command.Cmd.TheVariants.{Check, Init, Replay, Deliver, Status, History, Serve}
+use Rattle.gated_command.specs.declared.command.Cmd.TheVariants.{Check, Init, Replay, Deliver, Status, History, Serve, Migrate}
 
 -- the command, none of whose options goes for its subcommands too
 abbrev pub IsCommand : App → Command → Type 0
@@ -87,6 +87,10 @@ abbrev pub serve : App
 serve = with_rule (with_rule (over_file (codes "serve"))
     (number_rule (codes "port") 0 most_port)) (number_rule (codes "count") 1 most_count)
 
+-- `migrate SETTINGS FILE`
+abbrev pub migrate : App
+migrate = over_file (codes "migrate")
+
 -- the program's name, before any command
 abbrev pub bare : App
 bare = new_app (codes "gated")
@@ -94,8 +98,8 @@ bare = new_app (codes "gated")
 -- the program's command line, where a command has to be given
 abbrev pub gated : App
 gated = with_subcommand (with_subcommand (with_subcommand (with_subcommand (with_subcommand (with_subcommand
-    (with_subcommand (record bare { top = record bare.top { subcommand_required = true } })
-    check.top) init.top) replay.top) deliver.top) status.top) history.top) serve.top
+    (with_subcommand (with_subcommand (record bare { top = record bare.top { subcommand_required = true } })
+    check.top) init.top) replay.top) deliver.top) status.top) history.top) serve.top) migrate.top
 
 -- what a command line says
 pub data Said : Type 0 where
@@ -106,6 +110,7 @@ pub data Said : Type 0 where
   showing_of : Text × Text → Said
   history_of : Text × Text → Text → Said
   serve_of : Text × Text → ℕ → ℕ → Said
+  migrate_of : Text × Text → Said
 
 abbrev pub said : Option Cmd → Option Said
 said None = None
@@ -116,6 +121,7 @@ said (Some (Deliver settings file)) = Some (deliver_of (settings.now, file.now))
 said (Some (Status settings file)) = Some (showing_of (settings.now, file.now))
 said (Some (History settings file queue)) = Some (history_of (settings.now, file.now) queue.now)
 said (Some (Serve settings file port count)) = Some (serve_of (settings.now, file.now) port count)
+said (Some (Migrate settings file)) = Some (migrate_of (settings.now, file.now))
 
 -- a flag was given
 abbrev pub is_set : Option Text → Bool
@@ -157,7 +163,8 @@ said_of (name, rows) =
     if bytes_eq name (codes "deliver") then option_map deliver_of (files_of rows) else (
     if bytes_eq name (codes "status") then option_map showing_of (files_of rows) else (
     if bytes_eq name (codes "history") then told_of rows else (
-    if bytes_eq name (codes "serve") then served_of rows else None))))))
+    if bytes_eq name (codes "serve") then served_of rows else (
+    if bytes_eq name (codes "migrate") then option_map migrate_of (files_of rows) else None)))))))
 
 abbrev pub says : Option Cmd → Option (Text × List Row) → Type 0
 says cmd rows = said cmd ≡ option_and_then said_of rows

@@ -2,7 +2,7 @@
 ghost use Rattle.std.specs.Prelude.{◌≡◌, ◌≤◌, codes, IfOk, IfSome, IfErr, map, is_some, true, false, option_map, option_and_then};
 ghost use Rattle.clap.specs.Words.{App, app_of, rule_of, with_subcommand, subcommand_rows_of, rows_of, found_of, first_of};
 ghost use Rattle.clap.specs.Words.{kind_of, takes};
-ghost use Rattle.gated_command.specs.CommandLine.{gated, check, init, replay, deliver, status, over_file, history, serve};
+ghost use Rattle.gated_command.specs.CommandLine.{gated, check, init, replay, deliver, status, over_file, history, serve, migrate};
 ghost use Rattle.gated_command.specs.CommandLine.{settings_rule, file_rule, queue_rule, status_rule};
 ghost use Rattle.gated_command.specs.CommandLine.{number_rule, most_port, most_count, is_set, said, says, said_of, number_in};
 ghost use Rattle.gated_command.specs.CommandLine.{asked, files_of, Names, IsCommand, IsExplained};
@@ -61,6 +61,11 @@ pub enum Cmd<'a> {
         port: u16,
         count: u64,
     },
+    /// Makes a file of schema 1 one of schema 2.
+    Migrate {
+        settings: &'a str,
+        file: &'a str,
+    },
 }
 
 /// Why a command line asks for nothing to be done: it is refused, or it asks for help. It prints
@@ -100,7 +105,8 @@ fn app<'a>(alloc: Global) -> Result<Command<'a>, AllocError>
     let whole = with(whole, deliver(alloc));
     let whole = with(whole, status(alloc));
     let whole = with(whole, history(alloc));
-    with(whole, serve(alloc))
+    let whole = with(whole, serve(alloc));
+    with(whole, migrate(alloc))
 }
 
 /// The commands of `whole` and then this one, if memory was there for all.
@@ -290,6 +296,16 @@ fn serve<'a>(alloc: Global) -> Result<Command<'a>, AllocError>
     .arg(count(alloc))
 }
 
+fn migrate<'a>(alloc: Global) -> Result<Command<'a>, AllocError>
+    ensures { IfOk result (IsCommand migrate) }
+{
+    over_file(
+        alloc,
+        "migrate",
+        "Makes FILE, which a `gated` of schema 1 made, one of schema 2. Run it once, with the settings that FILE keeps.",
+    )
+}
+
 fn read<'a>(matches: &ArgMatches<'a>) -> Option<Cmd<'a>>
     ensures { says result (subcommand_rows_of matches.now) }
 {
@@ -316,6 +332,8 @@ fn entered<'a>(name: &str, inner: &ArgMatches<'a>) -> Option<Cmd<'a>>
         telling(inner)
     } else if name == "serve" {
         serving(inner)
+    } else if name == "migrate" {
+        migrating(inner)
     } else {
         None
     }
@@ -387,6 +405,13 @@ fn serving<'a>(inner: &ArgMatches<'a>) -> Option<Cmd<'a>>
         port: port as u16,
         count,
     })
+}
+
+fn migrating<'a>(inner: &ArgMatches<'a>) -> Option<Cmd<'a>>
+    ensures { said result ≡ said_of (codes "migrate", rows_of (found_of inner.now)) }
+{
+    let (settings, file) = files(inner)?;
+    Some(Cmd::Migrate { settings, file })
 }
 
 /// The settings file, and the gate's file.

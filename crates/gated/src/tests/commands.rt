@@ -136,6 +136,15 @@ Usage: gated check <SETTINGS>
 For more information, try '--help'.
 = 2
 unread
+$ gated migrate a < no delivery
+|error: the following required arguments were not provided:
+  <FILE>
+
+Usage: gated migrate <SETTINGS> <FILE>
+
+For more information, try '--help'.
+= 2
+unread
 $ gated replay a b < no delivery
 |error: unexpected argument 'b' found
 
@@ -150,8 +159,17 @@ $ gated --help < no delivery
 ...
 |= 0
 unread
+$ gated --help < no delivery
+...  migrate  Makes FILE, which a `gated` of schema 1 made, one of schema 2...
+|= 0
+unread
 $ gated check --help < no delivery
 ...Usage: gated check <SETTINGS>
+...
+|= 0
+unread
+$ gated help migrate < no delivery
+...Usage: gated migrate <SETTINGS> <FILE>
 ...
 |= 0
 unread
@@ -196,6 +214,10 @@ $ gated status run_starved.toml run_starved.gate < no delivery
 = 1
 unread
 $ gated history run_starved.toml run_starved.gate core < no delivery
+|gated: I3 no-memory
+= 1
+unread
+$ gated migrate run_starved.toml run_starved.gate < no delivery
 |gated: I3 no-memory
 = 1
 unread

@@ -52,26 +52,127 @@ $ gated deliver no_folder.toml no_folder/gate < revision
 = 1
 unread
 $ clear no_folder.toml no_folder/gate no_folder/gate-wal
-# other settings are refused
-$ clear others.toml others.gate others.gate-wal
-$ write others.toml < one queue
-$ gated init others.toml others.gate
-|= 0
-$ write others.toml < two queues
-$ gated deliver others.toml others.gate < revision
-|gated: O3 other-settings
-= 1
-unread
-$ write others.toml < one queue
-$ gated deliver others.toml others.gate < revision
-{"reply":"recorded"}
-|= 0
-$ clear others.toml others.gate others.gate-wal
 "#;
 
 #[test]
 fn a_gate_is_made_and_delivered_to(rt: HostRuntime) {
     plays(&rt, &Machine::new(&rt), DELIVERED);
+}
+
+const ADOPTED: &str =
+    r#"# settings with a queue more are taken, and an item keeps the jobs that it came with
+$ clear others.toml others.gate others.gate-wal
+$ write others.toml < one queue
+$ gated init others.toml others.gate
+|= 0
+$ gated deliver others.toml others.gate < revision
+{"reply":"recorded"}
+|= 0
+$ gated deliver others.toml others.gate < approved
+{"order":1,"reply":"queued"}
+|= 0
+$ write others.toml < two queues
+$ gated deliver others.toml others.gate < approved
+{"order":1,"reply":"queued"}
+|= 0
+$ gated status others.toml others.gate
+queue core window 2 landed 0
+     1       101    1      - ok      unit=waiting
+queue web window 2 landed 0
+end
+|= 0
+# settings without a kept project are refused, and the file opens as before with its own
+$ write others.toml < no site
+$ gated deliver others.toml others.gate < day
+|gated: O3 other-settings
+= 1
+unread
+$ gated status others.toml others.gate
+|gated: O3 other-settings
+= 1
+$ write others.toml < two queues
+$ gated status others.toml others.gate
+queue core window 2 landed 0
+     1       101    1      - ok      unit=waiting
+queue web window 2 landed 0
+end
+|= 0
+$ clear others.toml others.gate others.gate-wal
+"#;
+
+#[test]
+fn other_settings_are_taken_or_refused(rt: HostRuntime) {
+    plays(&rt, &Machine::new(&rt), ADOPTED);
+}
+
+const MIGRATED: &str =
+    r#"# a file of schema 1 is made one of schema 2, with its own settings alone, and the gate stays
+$ clear migrating.toml migrating.gate migrating.gate-wal
+$ write migrating.toml < one queue
+$ sql migrating.gate < schema 1
+$ gated status migrating.toml migrating.gate
+|gated: O2 other-schema
+= 1
+$ write migrating.toml < two queues
+$ gated migrate migrating.toml migrating.gate
+|gated: O3 other-settings
+= 1
+$ write migrating.toml < one queue
+$ gated migrate migrating.toml migrating.gate < approved
+migrated 1 2
+|= 0
+unread
+$ gated status migrating.toml migrating.gate
+queue core window 2 landed 0
+     1       101    1      - ok      unit=waiting
+end
+|= 0
+$ gated deliver migrating.toml migrating.gate < approved
+{"order":1,"reply":"queued"}
+|= 0
+$ clear migrating.toml migrating.gate migrating.gate-wal
+"#;
+
+#[test]
+fn a_file_of_schema_1_is_migrated(rt: HostRuntime) {
+    plays(&rt, &Machine::new(&rt), MIGRATED);
+}
+
+const LEFT: &str = "\
+# where no file is, a migration leaves none behind, and one that is no gate's is told
+$ clear left.toml left.gate left.gate-wal
+$ write left.toml < one queue
+$ gated migrate left.toml left.gate
+|gated: O4 unavailable
+= 1
+$ look left.gate
+missing
+$ write left.gate < nothing
+$ gated migrate left.toml left.gate
+|gated: O1 wrong-file
+= 1
+# a file of schema 2 is left as it is, whatever the settings
+$ clear left.gate left.gate-wal
+$ gated init left.toml left.gate
+|= 0
+$ write left.toml < two queues
+$ gated migrate left.toml left.gate
+schema 2
+|= 0
+$ gated migrate left.toml left.gate > 7
+schema |gated: I2 write
+= 1
+$ write left.toml < one queue
+$ gated status left.toml left.gate
+queue core window 2 landed 0
+end
+|= 0
+$ clear left.toml left.gate left.gate-wal
+";
+
+#[test]
+fn a_migration_leaves_other_files(rt: HostRuntime) {
+    plays(&rt, &Machine::new(&rt), LEFT);
 }
 
 const SHOWN: &str =

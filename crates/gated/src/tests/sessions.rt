@@ -4,6 +4,7 @@ use crate::tests::streams::{Input, Output};
 use crate::tests::texts::text_of;
 use gate_types::tap::Tap;
 use gated_cli::program::program;
+use sqlite::Connection;
 use std::fs;
 use std::process::Abort;
 
@@ -109,6 +110,15 @@ fn write(rt: &impl Abort, machine: &Machine<'_>, line: &str) {
     fs::write(machine.host, file, text).expect(rt, line);
 }
 
+/// Runs the statements of a text over a database, which is made where it isn't there.
+fn run_sql(rt: &impl Abort, machine: &Machine<'_>, line: &str) {
+    let (file, name) = line.split_once(" < ").expect(rt, line);
+    let text = text_of(name).expect(rt, name);
+    let mut conn = Connection::open(machine.host, file).expect(rt, line);
+    assert!(rt; conn.execute_batch(text).is_ok(), "{line}");
+    assert!(rt; conn.close().is_ok(), "{line}");
+}
+
 /// Writes one comment of so many bytes into a file.
 fn fill(rt: &(impl Abort + AllocGlobal), machine: &Machine<'_>, line: &str) {
     let (file, size) = line.split_once(' ').expect(rt, line);
@@ -140,6 +150,7 @@ fn goes_on(rt: &(impl Abort + AllocGlobal), machine: &Machine<'_>, title: &str, 
         "gated" => return runs(rt, machine, title, line, wanted),
         "look" => has_come(rt, presence(machine, rest), wanted, title, line),
         "write" => write(rt, machine, rest),
+        "sql" => run_sql(rt, machine, rest),
         "fill" => fill(rt, machine, rest),
         "clear" => clear(machine, rest),
         _ => panic!(rt; "{title}: no such command: {line}"),
@@ -151,7 +162,8 @@ fn goes_on(rt: &(impl Abort + AllocGlobal), machine: &Machine<'_>, title: &str, 
 /// - `gated WORDS < TEXT > ROOM 2> ROOM` shows what the program writes: its output, a bar and its errors, then its
 ///   status, and whether the input was read. Where no stream is named it is empty, and has room for all. `...` before
 ///   what is wanted stands for any text, and so it does once more in the middle;
-/// - `write FILE < TEXT` writes a text of a name, `fill FILE SIZE` a comment of so many bytes;
+/// - `write FILE < TEXT` writes a text of a name, `fill FILE SIZE` a comment of so many bytes, and `sql FILE < TEXT`
+///   runs the statements of a text;
 /// - `clear FILES` removes files, and `look FILE` tells whether one is there.
 fn plays_scene(rt: &(impl Abort + AllocGlobal), machine: &Machine<'_>, scene: &str) {
     let (title, lines) = scene.split_once("\n$ ").expect(rt, scene);

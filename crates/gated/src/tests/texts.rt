@@ -51,7 +51,37 @@ queue = "web"
 name = "unit"
 "#;
 
-/// The same with a floor above the window of the first queue.
+/// The same without the project of the second queue.
+const NO_SITE: &str = r#"[forge]
+base = "https://forge/c/"
+
+[[queue]]
+name = "core"
+window = 2
+floor = 1
+
+[[queue]]
+name = "web"
+window = 2
+floor = 1
+
+[[project]]
+name = "lib"
+queue = "core"
+[[project.job]]
+name = "unit"
+[[project.job]]
+name = "docs"
+voting = false
+
+[[project]]
+name = "app"
+queue = "core"
+[[project.job]]
+name = "unit"
+"#;
+
+/// `TWO_QUEUES` with a floor above the window of the first queue.
 const HIGH_FLOOR: &str = r#"[forge]
 base = "https://forge/c/"
 
@@ -121,6 +151,40 @@ const DAY: &str =
 const EVENING: &str =
     "{\"id\":\"0a000000-0000-4000-8000-000000000010\",\"kind\":\"result\",\"build\":2,\"outcome\":\"success\"}\n";
 
+/// Makes a file of schema 1 with the settings of `ONE_QUEUE`, which was given `REVISION` and `APPROVED`.
+const SCHEMA_1: &str = r#"CREATE TABLE meta (k TEXT PRIMARY KEY NOT NULL, v TEXT NOT NULL) STRICT;
+CREATE TABLE counter (name TEXT PRIMARY KEY NOT NULL, drawn INTEGER NOT NULL CHECK(drawn >= 0)) STRICT;
+CREATE TABLE queue (name TEXT PRIMARY KEY NOT NULL, place INTEGER NOT NULL UNIQUE, win INTEGER NOT NULL) STRICT;
+CREATE TABLE change (num INTEGER PRIMARY KEY, project TEXT NOT NULL, revision INTEGER NOT NULL,
+    state TEXT NOT NULL CHECK(state IN ('open','landed','closed')), approval INTEGER) STRICT;
+CREATE INDEX change_approval ON change(approval);
+CREATE TABLE need (change INTEGER NOT NULL, place INTEGER NOT NULL, needed INTEGER NOT NULL,
+    PRIMARY KEY(change, place)) STRICT;
+CREATE TABLE item (serial INTEGER PRIMARY KEY, queue TEXT NOT NULL, change INTEGER NOT NULL UNIQUE,
+    revision INTEGER NOT NULL, ahead INTEGER, failing INTEGER NOT NULL CHECK(failing IN (0,1))) STRICT;
+CREATE TABLE build (num INTEGER PRIMARY KEY, queue TEXT NOT NULL, serial INTEGER NOT NULL,
+    change INTEGER NOT NULL, revision INTEGER NOT NULL, job TEXT NOT NULL, base INTEGER NOT NULL,
+    ahead TEXT NOT NULL, outcome TEXT NOT NULL CHECK(outcome IN ('running','success','failure','lost')),
+    live INTEGER NOT NULL CHECK(live IN (0,1))) STRICT;
+CREATE TABLE landing (queue TEXT NOT NULL, n INTEGER NOT NULL, serial INTEGER NOT NULL UNIQUE,
+    change INTEGER NOT NULL UNIQUE, revision INTEGER NOT NULL, PRIMARY KEY(queue, n)) STRICT;
+CREATE TABLE report (queue TEXT NOT NULL, place INTEGER NOT NULL, serial INTEGER NOT NULL UNIQUE,
+    change INTEGER NOT NULL, revision INTEGER NOT NULL, verdict TEXT NOT NULL, n INTEGER,
+    PRIMARY KEY(queue, place)) STRICT;
+CREATE TABLE delivery (id BLOB PRIMARY KEY NOT NULL, said TEXT NOT NULL, reply TEXT NOT NULL) STRICT;
+CREATE INDEX need_needed ON need(needed);
+CREATE INDEX item_queue ON item(queue, serial);
+CREATE INDEX build_serial ON build(serial);
+INSERT INTO meta VALUES ('format', 'gate'), ('schema', '1');
+INSERT INTO meta VALUES ('settings', '{"base":"https://forge/c/","projects":[{"jobs":[{"name":"unit","voting":true}],"name":"lib","queue":"core"}],"queues":[{"floor":1,"name":"core","window":2}]}');
+INSERT INTO counter VALUES ('approval', 1), ('build', 0), ('order', 1);
+INSERT INTO queue VALUES ('core', 0, 2);
+INSERT INTO change VALUES (101, 'lib', 1, 'open', NULL);
+INSERT INTO item VALUES (1, 'core', 101, 1, NULL, 0);
+INSERT INTO delivery VALUES (x'0a000000000040008000000000000001', '{"change":101,"kind":"revision","message":"","project":"lib","revision":1}', '{"reply":"recorded"}');
+INSERT INTO delivery VALUES (x'0a000000000040008000000000000002', '{"change":101,"kind":"approved","revision":1}', '{"order":1,"reply":"queued"}');
+"#;
+
 /// The text of a name.
 pub fn text_of(name: &str) -> Option<&'static str> {
     match name {
@@ -129,6 +193,8 @@ pub fn text_of(name: &str) -> Option<&'static str> {
         "no gate" => Some("ten bytes\n"),
         "one queue" => Some(ONE_QUEUE),
         "two queues" => Some(TWO_QUEUES),
+        "no site" => Some(NO_SITE),
+        "schema 1" => Some(SCHEMA_1),
         "high floor" => Some(HIGH_FLOOR),
         "no delivery" => Some("no delivery\n"),
         "approval" => Some(APPROVAL),

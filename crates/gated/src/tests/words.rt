@@ -34,6 +34,8 @@ gated replay --status gate.toml -> Replay { settings: "gate.toml", status: true 
 # status and history name their files
 gated status gate.toml gate.db -> Status { settings: "gate.toml", file: "gate.db" }
 gated history gate.toml gate.db core -> History { settings: "gate.toml", file: "gate.db", queue: "core" }
+# migrate names its settings and its file
+gated migrate gate.toml gate.db -> Migrate { settings: "gate.toml", file: "gate.db" }
 # serve names its port and its count
 gated serve a b --port 0 --count 1 -> Serve { settings: "a", file: "b", port: 0, count: 1 }
 gated serve a b --port 8080 --count 30 -> Serve { settings: "a", file: "b", port: 8080, count: 30 }
@@ -58,11 +60,14 @@ gated --status replay a -> UnknownArgument 2
 gated status a -> MissingRequiredArgument 2
 gated status a b c -> UnknownArgument 2
 gated history a b -> MissingRequiredArgument 2
+gated migrate a -> MissingRequiredArgument 2
+gated migrate a b c -> UnknownArgument 2
 # help is no fault
 gated --help -> DisplayHelp 0
 gated check --help -> DisplayHelp 0
 gated replay -h -> DisplayHelp 0
 gated help replay -> DisplayHelp 0
+gated migrate --help -> DisplayHelp 0
 "#;
 
 #[test]

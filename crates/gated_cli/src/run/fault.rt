@@ -6,7 +6,7 @@ use gate_book::fault::HistoryFault;
 use gate_config::ConfigFault;
 use gate_core::fault::IoFault;
 use gate_http::connections::NotListening;
-use gate_sql::open_fault::OpenFault;
+use gate_types::open_fault::OpenFault;
 use gate_types::tap::Failed;
 use std::alloc::AllocError;
 

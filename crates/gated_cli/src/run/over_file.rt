@@ -1,20 +1,28 @@
 //! The gate over a file.
-ghost use Rattle.std.specs.Prelude.{◌≡◌, ◌≢◌, ℕ, Bool, List, Option, None, OnOk, OnErr, IfErr, IsErrOf, true, false, length};
+ghost use Rattle.std.specs.Prelude.{◌≡◌, ◌≢◌, ℕ, Bool, List, Option, None, true, false, length, map};
+ghost use Rattle.std.specs.Prelude.{OnOk, OnErr, IfErr, IfSome, IsErrOf, IsTrue, MatchResult};
 ghost use Rattle.sqlite.specs.Held.{state};
 ghost use Rattle.sqlite.specs.State.{HasCleanDisk};
-ghost use Rattle.gate_types.specs.Once.{empty};
-ghost use Rattle.gate_types.specs.SettingsText.{settings_text};
+ghost use Rattle.gate_types.specs.Migrate.{migrated_content};
+ghost use Rattle.gate_types.specs.Once.{Content, empty};
+ghost use Rattle.gate_types.specs.Settings.{Settings};
+ghost use Rattle.gate_types.specs.State.{Queue as GateQueue};
 ghost use Rattle.gate_types.specs.Tap.{inside, has_failed, Gave, IsReadOut, Took};
 ghost use Rattle.gate_core.specs.Lines.{whole_lines, lines_of, ReadFor};
 ghost use Rattle.gate_core.specs.Replies.{Replayed, Cut};
 ghost use Rattle.gate_queries.specs.Finds.{Stays};
 ghost use Rattle.gate_schema.specs.Schema.{schema_with};
-ghost use Rattle.gate_sql.specs.Held.{ShowsFor};
+ghost use Rattle.gate_rows.specs.Tells.{StandsFor};
+ghost use Rattle.gate_sql.specs.Adopts.{CanBeLeft};
+ghost use Rattle.gate_sql.specs.Applies.{LeavesOrStands};
+ghost use Rattle.gate_sql.specs.Held.{IsShownFor, ShowsFor, queue_names};
 ghost use Rattle.gate_sql.specs.Opens.{IsJudged, IsMeta, with_meta};
+ghost use Rattle.gate_sql.specs.Reading.{KnowsMeta};
+ghost use Rattle.gate_sql.specs.Upgrade.{StandsForFirst};
 ghost use Rattle.gate_http.specs.Connections.{IsCalled};
 ghost use Rattle.gated_cli.specs.Doing.{Announces, beside};
 ghost use Rattle.gated_cli.specs.Ending.{IsOfFile, ServingEnds};
-ghost use Rattle.gated_cli.specs.OverFile.{GoesOver, IsOfServingOver, file_fault};
+ghost use Rattle.gated_cli.specs.OverFile.{GoesOver, IsOfServingOver, StaysLawful, file_fault};
 ghost use Rattle.gated_cli.specs.Showing.{WritesStatus, StopsStatus, WritesHistory, StopsHistory};
 ghost use Rattle.gated_cli.specs.Telling.{TellsUpTo};
 
@@ -24,8 +32,12 @@ use crate::run::showing::{write_history, write_status};
 use gate_cache::cached::CachedBook;
 use gate_core::gate::Gate;
 use gate_core::replay::replay;
+use gate_laws::adoption::adopted_content_is_lawful;
+use gate_laws::typed::settings_are_in_form;
 use gate_sql::book::SqlBook;
+use gate_sql::migrating::Migrated;
 use gate_types::config::Config;
+use gate_types::open_fault::OpenFault;
 use gate_types::tap::Tap;
 use sqlite::{Alter, Connection};
 use std::alloc::Global;
@@ -50,8 +62,44 @@ pub fn make<S: Alter + Drop>(
     }
 }
 
-/// Answers each line of the input over the gate that the tables stand for, as `replay` does, and hands the connection
-/// back.
+/// Makes tables of schema 1 ones of schema 2, and hands the connection back.
+pub fn migrate<S: Alter + Drop>(
+    alloc: Global,
+    conn: Connection<S>,
+    config: &Config,
+) -> (Connection<S>, Result<Migrated, Fault>)
+    ensures done { HasCleanDisk (state S.Store result.0) → IsTrue (state S.Store conn).is_open → (x : Content) →
+        StandsForFirst (state S.Store conn).now.trees config.now x →
+        map (λ (q : GateQueue). q.name) x.state.queues ≡ queue_names config.now → MatchResult result.1
+        (λ m. (m ≡ Migrated.Done) × IsShownFor (state S.Store result.0) config.now (migrated_content config.now x))
+        (λ f. (f ≡ Fault.File OpenFault.Unavailable) × Stays (state S.Store conn) (state S.Store result.0)) }
+    ensures already { HasCleanDisk (state S.Store result.0) → IsTrue (state S.Store conn).is_open →
+        (c : Settings) (x : Content) → StandsFor (state S.Store conn).now.trees c x → MatchResult result.1
+        (λ m. (m ≡ Migrated.Already) × Stays (state S.Store conn) (state S.Store result.0))
+        (λ f. (f ≡ Fault.File OpenFault.Unavailable) × Stays (state S.Store conn) (state S.Store result.0)) }
+    ensures crash { HasCleanDisk (state S.Store result.0) → IsTrue (state S.Store conn).is_open → (x : Content) →
+        StandsForFirst (state S.Store conn).now.trees config.now x →
+        map (λ (q : GateQueue). q.name) x.state.queues ≡ queue_names config.now →
+        LeavesOrStands (state S.Store conn) (state S.Store result.0) config.now (migrated_content config.now x) }
+    ensures fault { IfErr result.1 IsOfFile }
+{
+    let mut conn = conn;
+    match gate_sql::migrating::migrate(alloc, &mut conn, config) {
+        Ok(done) => (conn, Ok(done)),
+        Err(fault) => (conn, Err(Fault::File(fault))),
+    }
+}
+
+/// A lawful content stays lawful where these settings are taken.
+fn stays_lawful(config: &Config)
+    ensures { StaysLawful config.now }
+{
+    let _settings = &config.base;
+    settings_are_in_form(config);
+    adopted_content_is_lawful();
+}
+
+/// Answers each line of the input over the gate of the file, as `replay` does, and hands the connection back.
 pub fn deliver<S: Alter + Drop, R: Read, W: Write>(
     alloc: Global,
     conn: Connection<S>,
@@ -78,6 +126,14 @@ pub fn deliver<S: Alter + Drop, R: Read, W: Write>(
         × (done : ℕ) × ReadFor (R.remaining (inside input.old)) (R.remaining (inside input.new)) lines done
         × GoesOver (state S.Store conn) (state S.Store result.0) config
         (λ g after. (cut : Cut g lines text after) × (length cut.done ≡ done)) }
+    // whether the file is opened is decided by the file alone
+    ensures judged { (tables : _) (indexes : _) (version kept : _) →
+        (state S.Store conn).now.schema ≡ with_meta tables indexes →
+        IsMeta (state S.Store conn).now.trees version kept → HasCleanDisk (state S.Store result.0) →
+        IsJudged (file_fault result.1) version kept config }
+    ensures none { KnowsMeta (state S.Store conn).now.schema → CanBeLeft (state S.Store conn).now config →
+        HasCleanDisk (state S.Store result.0) →
+        IfSome (file_fault result.1) (λ _. Stays (state S.Store conn) (state S.Store result.0)) }
     ensures fault { IfErr result.1 (λ f. f ≢ Fault.Read → f ≢ Fault.Write →
         IsOfFile f × (input.new ≡ input.old) × (output.new ≡ output.old)) }
     ensures unfailed { OnOk result.1 (has_failed output.new ≡ false) }
@@ -86,6 +142,7 @@ pub fn deliver<S: Alter + Drop, R: Read, W: Write>(
     ensures writer_failed { IsErrOf result.1 Fault.Write →
         (has_failed input.new ≡ false) × (has_failed output.new ≡ true) }
 {
+    stays_lawful(&config);
     let book = match SqlBook::open(alloc, conn, &config) {
         Ok(book) => book,
         Err((fault, conn)) => return (conn, Err(Fault::File(fault))),
@@ -99,7 +156,7 @@ pub fn deliver<S: Alter + Drop, R: Read, W: Write>(
     }
 }
 
-/// Prints the status text of the gate that the tables stand for, and hands the connection back.
+/// Prints the status text of the gate of the file, and hands the connection back.
 pub fn status<S: Alter + Drop, W: Write>(
     alloc: Global,
     conn: Connection<S>,
@@ -114,11 +171,15 @@ pub fn status<S: Alter + Drop, W: Write>(
     ensures judged { (tables : _) (indexes : _) (version kept : _) →
         (state S.Store conn).now.schema ≡ with_meta tables indexes →
         IsMeta (state S.Store conn).now.trees version kept → HasCleanDisk (state S.Store result.0) →
-        IsJudged (file_fault result.1) version kept (settings_text config) }
+        IsJudged (file_fault result.1) version kept config }
+    ensures none { KnowsMeta (state S.Store conn).now.schema → CanBeLeft (state S.Store conn).now config →
+        HasCleanDisk (state S.Store result.0) →
+        IfSome (file_fault result.1) (λ _. Stays (state S.Store conn) (state S.Store result.0)) }
     ensures ok { OnOk result.1 ((has_failed output.new ≡ false)
         × (text : List ℕ) × Took W.contents output.old output.new text) }
     ensures err { IfErr result.1 (StopsStatus W.contents output.old output.new) }
 {
+    stays_lawful(&config);
     let book = match SqlBook::open(alloc, conn, &config) {
         Ok(book) => book,
         Err((fault, conn)) => return (conn, Err(Fault::File(fault))),
@@ -128,7 +189,7 @@ pub fn status<S: Alter + Drop, W: Write>(
     (gate.into_book().into_conn(), done)
 }
 
-/// Prints the history text of a queue of the gate that the tables stand for, and hands the connection back.
+/// Prints the history text of a queue of the gate of the file, and hands the connection back.
 pub fn history<S: Alter + Drop, W: Write>(
     alloc: Global,
     conn: Connection<S>,
@@ -144,10 +205,14 @@ pub fn history<S: Alter + Drop, W: Write>(
     ensures judged { (tables : _) (indexes : _) (version kept : _) →
         (state S.Store conn).now.schema ≡ with_meta tables indexes →
         IsMeta (state S.Store conn).now.trees version kept → HasCleanDisk (state S.Store result.0) →
-        IsJudged (file_fault result.1) version kept (settings_text config) }
+        IsJudged (file_fault result.1) version kept config }
+    ensures none { KnowsMeta (state S.Store conn).now.schema → CanBeLeft (state S.Store conn).now config →
+        HasCleanDisk (state S.Store result.0) →
+        IfSome (file_fault result.1) (λ _. Stays (state S.Store conn) (state S.Store result.0)) }
     ensures ok { OnOk result.1 (has_failed output.new ≡ false) }
     ensures err { IfErr result.1 (StopsHistory output.old output.new) }
 {
+    stays_lawful(&config);
     let book = match SqlBook::open(alloc, conn, &config) {
         Ok(book) => book,
         Err((fault, conn)) => return (conn, Err(Fault::File(fault))),
@@ -157,8 +222,8 @@ pub fn history<S: Alter + Drop, W: Write>(
     (gate.into_book().into_conn(), done)
 }
 
-/// Serves so many connections at this port of loopback over the gate that the tables stand for, once the line that
-/// names the port is printed, and hands the connection back. The gate is opened before the port is bound.
+/// Serves so many connections at this port of loopback over the gate of the file, once the line that names the port is
+/// printed, and hands the connection back. The gate is opened before the port is bound.
 pub fn serve<M: Net + AllocGlobal, S: Alter + Drop, W: Write, E: Write>(
     rt: &M,
     conn: Connection<S>,
@@ -177,7 +242,10 @@ pub fn serve<M: Net + AllocGlobal, S: Alter + Drop, W: Write, E: Write>(
     ensures judged { (tables : _) (indexes : _) (version kept : _) →
         (state S.Store conn).now.schema ≡ with_meta tables indexes →
         IsMeta (state S.Store conn).now.trees version kept → HasCleanDisk (state S.Store result.0) →
-        IsJudged (file_fault result.1) version kept (settings_text config) }
+        IsJudged (file_fault result.1) version kept config }
+    ensures none { KnowsMeta (state S.Store conn).now.schema → CanBeLeft (state S.Store conn).now config →
+        HasCleanDisk (state S.Store result.0) →
+        IfSome (file_fault result.1) (λ _. Stays (state S.Store conn) (state S.Store result.0)) }
     ensures told { TellsUpTo E.contents count errors.old errors.new }
     ensures ok { OnOk result.1 ((left : Option (List ℕ)) → (failed : Bool) → Announces port
         (beside W.contents left failed output.old) (beside W.contents left failed output.new)) }
@@ -185,6 +253,7 @@ pub fn serve<M: Net + AllocGlobal, S: Alter + Drop, W: Write, E: Write>(
         × ((left : Option (List ℕ)) → (failed : Bool) → ServingEnds port fault
         (beside W.contents left failed output.old) (beside W.contents left failed output.new))) }
 {
+    stays_lawful(&config);
     let book = match SqlBook::open(rt.alloc(), conn, &config) {
         Ok(book) => book,
         Err((fault, conn)) => return (conn, Err(Fault::File(fault))),

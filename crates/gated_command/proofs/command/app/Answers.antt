@@ -19,4 +19,5 @@ returns c =
     let delivering = c.with-whole-4.ensures _ _ replaying c.deliver.ensures in
     let showing = c.with-whole-5.ensures _ _ delivering c.status.ensures in
     let telling = c.with-whole-6.ensures _ _ showing c.history.ensures in
-    c.with.ensures _ _ telling c.serve.ensures
+    let serving = c.with-whole-7.ensures _ _ telling c.serve.ensures in
+    c.with.ensures _ _ serving c.migrate.ensures

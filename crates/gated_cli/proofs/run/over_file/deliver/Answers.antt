@@ -1,12 +1,15 @@
 use Rattle.std.proofs.Common.{◌≡◌, ◌∙◌, ap, subst, sym}
-use Rattle.std.specs.Prelude.{length}
+use Rattle.std.specs.Prelude.{IfSome, length}
 use Rattle.sqlite.specs.Held.{state}
+use Rattle.sqlite.specs.State.{HasCleanDisk}
 use Rattle.gate_core.specs.Gated.{Gated}
 use Rattle.gate_core.specs.Lines.{lines_of, whole_lines}
 use Rattle.gate_core.specs.Replies.{Cut, Replayed}
+use Rattle.gate_queries.specs.Finds.{Stays}
 use Rattle.gate_sql.specs.Held.{HoldsFor}
+use Rattle.gate_sql.specs.Opens.{IsJudged}
 use Rattle.gated_cli.specs.OverFile.{GoesOver}
-use Rattle.gated_cli.proofs.FileLemmas.{goes_over_cached, of_memory, of_read, of_write}
+use Rattle.gated_cli.proofs.FileLemmas.{goes_over_cached, no_replay_fault, of_each, of_memory, of_read, of_write, opens_to}
 use Rattle.gated_cli.proofs.run.over_file.deliver.Goals as goal
 
 pub returns-in-Ok-done-clause-ok : goal.returns-in-Ok-done-clause-ok
@@ -14,20 +17,50 @@ returns-in-Ok-done-clause-ok g c =
     let h = c.in-Ok-done.ensures.ok in
     let last = c.into_conn-conn.ensures ∙ ap (λ book. book.conn) (c.into_book-2.ensures ∙ ap (λ cached. cached.book) c.into_book.ensures) in
     let P : Gated → Gated → Type 0 = λ gate after. Replayed gate (lines_of h.0) h.3 after in
+    let opened = state g.S.Store c.in-Ok.book.conn in
     let over = goes_over_cached (λ book. state g.S.Store book.conn) (λ book k x. HoldsFor (state g.S.Store book.conn) book.queues.items k x) (λ book k x held. held.shows)
     (state g.S.Store c.args.conn) c.args.config c.new-gate.result.config c.in-Ok.book c.new.result c.new-gate.result.book c.replay-done.new.gate.book P
-    c.new-gate.ensures.config c.new.ensures.book c.new.ensures.agrees c.new-gate.ensures.book (λ clean gate file. c.in-Ok.ensures.opens file.up gate.content file.stands clean)
+    c.new-gate.ensures.config c.stays_lawful.ensures c.new.ensures.book c.new.ensures.agrees c.new-gate.ensures.book
+    (λ clean gate file. opens_to (λ x. HasCleanDisk opened → HoldsFor opened c.in-Ok.book.queues.items c.args.config x) (state g.S.Store c.args.conn) c.args.config gate c.in-Ok.ensures.opens c.in-Ok.ensures.adopts file clean)
     h.5.trusted_before h.5.passes in
     (h.0, h.1, h.2, h.3, h.4, subst (λ conn. GoesOver (state g.S.Store c.args.conn) (state g.S.Store conn) c.args.config P) (sym last) over)
+
+pub returns-in-Ok-done-clause-judged : goal.returns-in-Ok-done-clause-judged
+returns-in-Ok-done-clause-judged g c tables indexes version kept schema meta clean =
+    let last = c.into_conn-conn.ensures ∙ ap (λ book. book.conn) (c.into_book-2.ensures ∙ ap (λ cached. cached.book) c.into_book.ensures) in
+    let before = c.in-Ok-done.ensures.ok.5.trusted_before (subst (λ conn. HasCleanDisk (state g.S.Store conn)) last clean) in
+    let opened = subst (λ book. HasCleanDisk (state g.S.Store book.conn)) c.new.ensures.book
+    (subst (λ cached. HasCleanDisk (state g.S.Store cached.book.conn)) c.new-gate.ensures.book before) in
+    c.in-Ok.ensures.judged tables indexes version kept schema meta opened
+
+pub returns-in-Err-done-clause-judged : goal.returns-in-Err-done-clause-judged
+returns-in-Err-done-clause-judged g c tables indexes version kept schema meta clean =
+    let last = c.into_conn-conn.ensures ∙ ap (λ book. book.conn) (c.into_book-2.ensures ∙ ap (λ cached. cached.book) c.into_book.ensures) in
+    let said = c.in-Err-done.ensures in
+    let after = subst (λ conn. HasCleanDisk (state g.S.Store conn)) last clean in
+    let before = of_each (HasCleanDisk (state g.S.Store c.new-gate.result.book.book.conn)) c.in-Err-done.fault
+    (λ e. (said.read e).4.trusted_before after) (λ e. (said.write e).5.trusted_before after)
+    (λ e. subst (λ gate. HasCleanDisk (state g.S.Store gate.book.book.conn)) (said.memory e).0 after) said.store in
+    let opened = subst (λ book. HasCleanDisk (state g.S.Store book.conn)) c.new.ensures.book
+    (subst (λ cached. HasCleanDisk (state g.S.Store cached.book.conn)) c.new-gate.ensures.book before) in
+    subst (λ f. IsJudged f version kept c.args.config) (sym (no_replay_fault c.in-Err-done.fault c.from.result c.from.ensures))
+    (c.in-Ok.ensures.judged tables indexes version kept schema meta opened)
+
+pub returns-in-Err-done-clause-none : goal.returns-in-Err-done-clause-none
+returns-in-Err-done-clause-none g c known can clean =
+    subst (λ f. IfSome f (λ _. Stays (state g.S.Store c.args.conn) (state g.S.Store c.into_conn-conn.result)))
+    (sym (no_replay_fault c.in-Err-done.fault c.from.result c.from.ensures)) tt
 
 pub returns-in-Err-done-clause-read : goal.returns-in-Err-done-clause-read
 returns-in-Err-done-clause-read g c e =
     let h = c.in-Err-done.ensures.read (of_read c.in-Err-done.fault c.from.result c.from.ensures e) in
     let last = c.into_conn-conn.ensures ∙ ap (λ book. book.conn) (c.into_book-2.ensures ∙ ap (λ cached. cached.book) c.into_book.ensures) in
     let P : Gated → Gated → Type 0 = λ gate after. Replayed gate (whole_lines h.0) h.2 after in
+    let opened = state g.S.Store c.in-Ok.book.conn in
     let over = goes_over_cached (λ book. state g.S.Store book.conn) (λ book k x. HoldsFor (state g.S.Store book.conn) book.queues.items k x) (λ book k x held. held.shows)
     (state g.S.Store c.args.conn) c.args.config c.new-gate.result.config c.in-Ok.book c.new.result c.new-gate.result.book c.replay-done.new.gate.book P
-    c.new-gate.ensures.config c.new.ensures.book c.new.ensures.agrees c.new-gate.ensures.book (λ clean gate file. c.in-Ok.ensures.opens file.up gate.content file.stands clean)
+    c.new-gate.ensures.config c.stays_lawful.ensures c.new.ensures.book c.new.ensures.agrees c.new-gate.ensures.book
+    (λ clean gate file. opens_to (λ x. HasCleanDisk opened → HoldsFor opened c.in-Ok.book.queues.items c.args.config x) (state g.S.Store c.args.conn) c.args.config gate c.in-Ok.ensures.opens c.in-Ok.ensures.adopts file clean)
     h.4.trusted_before h.4.passes in
     (h.0, h.1, h.2, h.3, subst (λ conn. GoesOver (state g.S.Store c.args.conn) (state g.S.Store conn) c.args.config P) (sym last) over)
 
@@ -36,9 +69,11 @@ returns-in-Err-done-clause-write g c e =
     let h = c.in-Err-done.ensures.write (of_write c.in-Err-done.fault c.from.result c.from.ensures e) in
     let last = c.into_conn-conn.ensures ∙ ap (λ book. book.conn) (c.into_book-2.ensures ∙ ap (λ cached. cached.book) c.into_book.ensures) in
     let P : Gated → Gated → Type 0 = λ gate after. (cut : Cut gate h.0 h.1 after) × (length cut.done ≡ h.3) in
+    let opened = state g.S.Store c.in-Ok.book.conn in
     let over = goes_over_cached (λ book. state g.S.Store book.conn) (λ book k x. HoldsFor (state g.S.Store book.conn) book.queues.items k x) (λ book k x held. held.shows)
     (state g.S.Store c.args.conn) c.args.config c.new-gate.result.config c.in-Ok.book c.new.result c.new-gate.result.book c.replay-done.new.gate.book P
-    c.new-gate.ensures.config c.new.ensures.book c.new.ensures.agrees c.new-gate.ensures.book (λ clean gate file. c.in-Ok.ensures.opens file.up gate.content file.stands clean)
+    c.new-gate.ensures.config c.stays_lawful.ensures c.new.ensures.book c.new.ensures.agrees c.new-gate.ensures.book
+    (λ clean gate file. opens_to (λ x. HasCleanDisk opened → HoldsFor opened c.in-Ok.book.queues.items c.args.config x) (state g.S.Store c.args.conn) c.args.config gate c.in-Ok.ensures.opens c.in-Ok.ensures.adopts file clean)
     h.5.trusted_before h.5.passes in
     (h.0, h.1, h.2, h.3, h.4, subst (λ conn. GoesOver (state g.S.Store c.args.conn) (state g.S.Store conn) c.args.config P) (sym last) over)
 

@@ -1,12 +1,13 @@
 use Rattle.std.proofs.Common.{◌∙◌, ap, refl, subst, sym}
+use Rattle.std.specs.Prelude.{IfSome}
 use Rattle.sqlite.specs.Held.{state}
 use Rattle.sqlite.specs.State.{HasCleanDisk}
 use Rattle.gate_http.specs.Connections.{IsCalled}
-use Rattle.gate_types.specs.SettingsText.{settings_text}
+use Rattle.gate_queries.specs.Finds.{Stays}
 use Rattle.gate_sql.specs.Held.{HoldsFor}
 use Rattle.gate_sql.specs.Opens.{IsJudged}
 use Rattle.gated_cli.specs.OverFile.{GoesOver}
-use Rattle.gated_cli.proofs.FileLemmas.{goes_over_cached, no_file_fault, serving_over_file}
+use Rattle.gated_cli.proofs.FileLemmas.{goes_over_cached, no_file_fault, opens_to, serving_over_file}
 use Rattle.gated_cli.proofs.TalkLemmas.{none_so_far}
 use Rattle.gated_cli.proofs.run.over_file.serve.Goals as goal
 
@@ -14,9 +15,11 @@ pub returns-clause-gate : goal.returns-clause-gate
 returns-clause-gate g c unfaulted =
     let went = c.serve-done.ensures.gate in
     let last = c.into_conn.ensures ∙ ap (λ book. book.conn) (c.into_book-2.ensures ∙ ap (λ cached. cached.book) c.into_book.ensures) in
+    let opened = state g.S.Store c.in-Ok.book.conn in
     let over = goes_over_cached (λ book. state g.S.Store book.conn) (λ book k x. HoldsFor (state g.S.Store book.conn) book.queues.items k x) (λ book k x held. held.shows)
     (state g.S.Store c.args.conn) c.args.config c.new-gate.result.config c.in-Ok.book c.new.result c.new-gate.result.book c.serve-done.new.gate.book (IsCalled c.args.count)
-    c.new-gate.ensures.config c.new.ensures.book c.new.ensures.agrees c.new-gate.ensures.book (λ clean gate file. c.in-Ok.ensures.opens file.up gate.content file.stands clean)
+    c.new-gate.ensures.config c.stays_lawful.ensures c.new.ensures.book c.new.ensures.agrees c.new-gate.ensures.book
+    (λ clean gate file. opens_to (λ x. HasCleanDisk opened → HoldsFor opened c.in-Ok.book.queues.items c.args.config x) (state g.S.Store c.args.conn) c.args.config gate c.in-Ok.ensures.opens c.in-Ok.ensures.adopts file clean)
     went.trusted_before went.passes in
     subst (λ conn. GoesOver (state g.S.Store c.args.conn) (state g.S.Store conn) c.args.config (IsCalled c.args.count)) (sym last) over
 
@@ -26,8 +29,13 @@ returns-clause-judged g c tables indexes version kept schema meta clean =
     let served = subst (λ conn. HasCleanDisk (state g.S.Store conn)) last clean in
     let opened = subst (λ book. HasCleanDisk (state g.S.Store book.conn)) c.new.ensures.book
     (subst (λ cached. HasCleanDisk (state g.S.Store cached.book.conn)) c.new-gate.ensures.book (c.serve-done.ensures.gate.trusted_before served)) in
-    subst (λ f. IsJudged f version kept (settings_text c.args.config)) (sym (no_file_fault _ c.serve-done.result c.serve-done.ensures.err))
+    subst (λ f. IsJudged f version kept c.args.config) (sym (no_file_fault _ c.serve-done.result c.serve-done.ensures.err))
     (c.in-Ok.ensures.judged tables indexes version kept schema meta opened)
+
+pub returns-clause-none : goal.returns-clause-none
+returns-clause-none g c known can clean =
+    subst (λ f. IfSome f (λ _. Stays (state g.S.Store c.args.conn) (state g.S.Store c.into_conn.result)))
+    (sym (no_file_fault _ c.serve-done.result c.serve-done.ensures.err)) tt
 
 pub returns-clause-err : goal.returns-clause-err
 returns-clause-err g c = serving_over_file _ c.serve-done.result c.serve-done.ensures.err
