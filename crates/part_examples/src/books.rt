@@ -1,6 +1,8 @@
 //! A book in memory, and one that keeps answers over it.
+mod adopting;
 mod asked;
 mod cached;
 mod counting;
 mod memory;
 mod scene;
+mod starved;

@@ -2,7 +2,11 @@
 #![tactic(auto)]
 
 #[cfg(test)]
+mod adopting;
+#[cfg(test)]
 mod beginnings;
+#[cfg(test)]
+mod chapters;
 #[cfg(test)]
 mod claims;
 #[cfg(test)]
@@ -13,6 +17,8 @@ mod counters;
 mod dependents;
 #[cfg(test)]
 mod failures;
+#[cfg(test)]
+mod fast;
 #[cfg(test)]
 mod faults;
 #[cfg(test)]
@@ -28,6 +34,8 @@ mod needs;
 #[cfg(test)]
 mod orders;
 #[cfg(test)]
+mod paces;
+#[cfg(test)]
 mod queues;
 #[cfg(test)]
 mod refusals;
@@ -39,6 +47,8 @@ mod repeats;
 mod rulings;
 #[cfg(test)]
 mod scenes;
+#[cfg(test)]
+mod settings;
 #[cfg(test)]
 mod standing;
 #[cfg(test)]

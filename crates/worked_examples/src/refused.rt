@@ -1,9 +1,14 @@
 //! Memory is refused once, wherever it may be.
 use crate::claims::{holds, is};
 use crate::scenes::gate_in_memory;
+use crate::settings::config;
+use crate::talks::goes_on;
 use gate_book::book::Book;
+use gate_book::memory::MemBook;
 use gate_core::gate::Gate;
 use gate_core::replay::replay;
+use gate_types::config::Config;
+use gate_types::open_fault::OpenFault;
 use gate_types::tap::Tap;
 use std::alloc::Global;
 use std::process::Abort;
@@ -125,4 +130,63 @@ fn refusals<B: Book>(rt: &(impl Abort + AllocGlobal), gate: &mut Gate<B>) -> u32
 fn a_refusal_of_memory_changes_nothing(rt: HostRuntime) {
     let mut gate = gate_in_memory(&rt, "core 2 1", "");
     assert!(rt; refusals(&rt, &mut gate) < 2);
+}
+
+/// With these the queue of the book has another window, and stands behind a new one.
+const OTHERS: &str = "core 5 2 behind web, docs votes";
+
+const ADOPTED: &str = "queue web window 2 landed 0
+queue core window 5 landed 0
+     1       101    1      - ok      unit=running docs=running
+     2       102    1      1 ok      unit=running
+end
+";
+
+/// Whether the book takes the settings: where it doesn't, memory was refused.
+fn takes(rt: &impl Abort, book: &mut MemBook, other: &Config) -> bool {
+    match book.adopt(other) {
+        Ok(()) => true,
+        Err(fault) => {
+            holds(rt, fault == OpenFault::Unavailable, "other settings");
+            false
+        }
+    }
+}
+
+/// The gate with other settings. Where memory is refused its status is as it was, and it takes them when they come
+/// again.
+fn adopted(
+    rt: &(impl Abort + AllocGlobal),
+    gate: Gate<MemBook>,
+    other: Config,
+    before: &str,
+) -> Gate<MemBook> {
+    let Gate {
+        config: kept,
+        mut book,
+    } = gate;
+    if takes(rt, &mut book, &other) {
+        return Gate::new(other, book);
+    }
+    let mut gate = Gate::new(kept, book);
+    is(rt, shown(rt, &mut gate).as_str(), before, "as it was");
+    let mut book = gate.into_book();
+    holds(rt, takes(rt, &mut book, &other), "settings that come again");
+    Gate::new(other, book)
+}
+
+/// Passes whichever one allocation is refused as the settings are taken, and behind that.
+#[test]
+fn a_refusal_of_memory_leaves_the_settings_of_a_book(rt: HostRuntime) {
+    let mut gate = gate_in_memory(&rt, "core 2 1", "");
+    goes_on(&rt, &mut gate, "two taken", "tells two taken");
+    let before = shown(&rt, &mut gate);
+    let other = config(&rt, OTHERS);
+    let mut gate = adopted(&rt, gate, other, before.as_str());
+    is(
+        &rt,
+        shown(&rt, &mut gate).as_str(),
+        ADOPTED,
+        "other settings",
+    );
 }

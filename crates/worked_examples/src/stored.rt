@@ -1,8 +1,16 @@
-//! A gate's file: its tables made and read, closed and opened again, and stopped at each write.
+//! A gate's file: its tables made and read, closed and opened again, with other settings too, and stopped at each write.
+mod adopting;
+mod days;
 mod disks;
-mod files;
+pub mod files;
+mod first_schema;
 mod histories;
+mod makings;
 mod memory;
+mod migrating;
 mod openings;
+mod plans;
+mod rows;
 mod stops;
 mod tables;
+mod work;

@@ -10,7 +10,7 @@ use gate_core::gate::Gate;
 use gate_types::edits::Edit;
 use gate_types::names::Name;
 use gate_types::numbers::{BuildNo, ChangeNo, Serial};
-use gate_types::records::{Build, Change, Counters, Id, Item, Kept, Ready};
+use gate_types::records::{Build, Change, Counters, Id, Item, Kept, Plan, Ready};
 use gate_types::sequence::Sequence;
 use gate_types::tap::Tap;
 use std::io::Write;
@@ -86,6 +86,10 @@ impl Book for Watched {
     ) -> Result<Option<Item>, BookFault> {
         self.asked = u32::MAX;
         self.book.needing(queue, change, above)
+    }
+
+    fn plan(&mut self, serial: Serial) -> Result<Option<Plan>, BookFault> {
+        self.book.plan(serial)
     }
 
     fn live_builds(&mut self, serial: Serial) -> Result<Sequence<Build>, BookFault> {

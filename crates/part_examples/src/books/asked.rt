@@ -1,9 +1,10 @@
 //! What a book answers, compared with what it has to answer.
 use crate::books::scene::{change_no, id, name, serial_no};
+use crate::claims::is;
 use gate_book::book::Book;
 use gate_book::rows::QueueSizes;
 use gate_types::numbers::ChangeNo;
-use gate_types::records::{Counters, Item, Ready};
+use gate_types::records::{Counters, Item, Plan, Ready};
 use std::process::Abort;
 
 pub fn queue_is<B: Book>(
@@ -120,6 +121,33 @@ pub fn not_known<B: Book>(rt: &impl Abort, book: &mut B, change: u64) {
     assert!(rt;
         matches!(&book.change(change_no(rt, change)), Ok(None)),
         "{change}"
+    );
+}
+
+/// A plan's jobs, those that don't vote behind a `-`, and whether it fails fast.
+fn plan_text(rt: &(impl Abort + AllocGlobal), plan: &Plan) -> String {
+    let mut text = String::new(rt.alloc());
+    for job in plan.jobs.as_slice() {
+        let (mark, name) = (if job.voting { "" } else { "-" }, job.name.as_str());
+        write!(text, "{mark}{name} ").expect(rt, "memory");
+    }
+    let end = if plan.fast { "fast" } else { "slow" };
+    text.push_str(end).expect(rt, "memory");
+    text
+}
+
+/// Under a serial stands this plan.
+pub fn plan_is<B: Book>(rt: &(impl Abort + AllocGlobal), book: &mut B, serial: u64, wanted: &str) {
+    let found = book.plan(serial_no(rt, serial)).expect(rt, "a plan");
+    let plan = found.expect(rt, "a plan");
+    assert_eq!(rt; plan.serial.get(), serial);
+    is(rt, plan_text(rt, &plan).as_str(), wanted, "a plan");
+}
+
+pub fn no_plan<B: Book>(rt: &impl Abort, book: &mut B, serial: u64) {
+    assert!(rt;
+        matches!(&book.plan(serial_no(rt, serial)), Ok(None)),
+        "{serial}"
     );
 }
 

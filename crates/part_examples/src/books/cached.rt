@@ -1,7 +1,7 @@
 //! A book that keeps answers: what is asked for again is not read again, until the next delivery or edits.
 use crate::books::asked::{
-    counters_are, live_builds, needs_are, not_known, not_queued, queue_is, queued_is, ready_are,
-    reply_is, reports_are,
+    counters_are, live_builds, needs_are, no_plan, not_known, not_queued, plan_is, queue_is,
+    queued_is, ready_are, reply_is, reports_are,
 };
 use crate::books::counting::Counting;
 use crate::books::scene::{apply, change_no, first_book, item, later_edits};
@@ -38,7 +38,7 @@ const DRAWN: Counters = Counters {
 };
 
 /// Asks for the queue, its reports, the ready list and the counters; for a change and the one that it
-/// needs, its item, and the live builds of another one.
+/// needs, its item, and the plan and the live builds of another one.
 fn all_is_told<B: Book>(rt: &(impl Abort + AllocGlobal), book: &mut B) {
     let first = Ready {
         approval: 7,
@@ -51,6 +51,7 @@ fn all_is_told<B: Book>(rt: &(impl Abort + AllocGlobal), book: &mut B) {
     needs_are(rt, book, 102, [change_no(rt, 101)].as_slice());
     needs_are(rt, book, 101, &[]);
     queued_is(rt, book, 102, item(rt, 4, 102));
+    plan_is(rt, book, 2, "unit -docs fast");
     live_builds(rt, book, 2, 2);
 }
 
@@ -59,7 +60,7 @@ fn what_is_asked_for_again_is_read_once(rt: HostRuntime) {
     let mut book = cached(&rt);
     all_is_told(&rt, &mut book);
     all_is_told(&rt, &mut book);
-    reads_are(&rt, book, 8);
+    reads_are(&rt, book, 9);
 }
 
 fn others_are_told<B: Book>(rt: &(impl Abort + AllocGlobal), book: &mut B) {
@@ -67,6 +68,9 @@ fn others_are_told<B: Book>(rt: &(impl Abort + AllocGlobal), book: &mut B) {
     reports_are(rt, book, "web", 0);
     not_known(rt, book, 104);
     not_queued(rt, book, 103);
+    no_plan(rt, book, 3);
+    no_plan(rt, book, 3);
+    plan_is(rt, book, 4, "unit slow");
     live_builds(rt, book, 4, 0);
 }
 
@@ -75,7 +79,7 @@ fn another_one_is_read(rt: HostRuntime) {
     let mut book = cached(&rt);
     all_is_told(&rt, &mut book);
     others_are_told(&rt, &mut book);
-    reads_are(&rt, book, 13);
+    reads_are(&rt, book, 16);
 }
 
 #[test]
@@ -84,7 +88,7 @@ fn the_next_delivery_reads_anew(rt: HostRuntime) {
     all_is_told(&rt, &mut book);
     reply_is(&rt, &mut book, 9, "first");
     all_is_told(&rt, &mut book);
-    reads_are(&rt, book, 17);
+    reads_are(&rt, book, 19);
 }
 
 fn later_is_told<B: Book>(rt: &(impl Abort + AllocGlobal), book: &mut B) {
@@ -94,6 +98,7 @@ fn later_is_told<B: Book>(rt: &(impl Abort + AllocGlobal), book: &mut B) {
     let sizes = QueueSizes { items: 1, ..SIZES };
     queue_is(rt, book, "core", Some(sizes));
     not_queued(rt, book, 101);
+    no_plan(rt, book, 2);
     live_builds(rt, book, 2, 1);
 }
 

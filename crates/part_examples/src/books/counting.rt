@@ -5,7 +5,7 @@ use gate_book::rows::{QueueSizes, QueuedItem};
 use gate_types::edits::Edit;
 use gate_types::names::Name;
 use gate_types::numbers::{BuildNo, ChangeNo, Serial};
-use gate_types::records::{Build, Change, Counters, Id, Item, Kept, Ready};
+use gate_types::records::{Build, Change, Counters, Id, Item, Kept, Plan, Ready};
 use gate_types::sequence::Sequence;
 use gate_types::tap::Tap;
 use std::io::Write;
@@ -86,6 +86,11 @@ impl<B: Book> Book for Counting<B> {
     ) -> Result<Option<Item>, BookFault> {
         self.reads = self.reads.saturating_add(1);
         self.book.needing(queue, change, above)
+    }
+
+    fn plan(&mut self, serial: Serial) -> Result<Option<Plan>, BookFault> {
+        self.reads = self.reads.saturating_add(1);
+        self.book.plan(serial)
     }
 
     fn live_builds(&mut self, serial: Serial) -> Result<Sequence<Build>, BookFault> {

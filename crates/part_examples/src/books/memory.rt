@@ -1,17 +1,18 @@
 //! A book in memory, changed and read back.
 use crate::books::asked::{
     counters_are, item_is, items_are, landings_before, last_item_is, live_builds, needing_is,
-    needs_are, next_item_is, no_reply, not_known, not_queued, queue_is, queued_is, ready_are,
-    reply_is, reports_are,
+    needs_are, next_item_is, no_plan, no_reply, not_known, not_queued, plan_is, queue_is,
+    queued_is, ready_are, reply_is, reports_are,
 };
 use crate::books::scene::{
-    apply, book_of, build_no, change_no, first_book, item, keep, later_edits, put_report,
+    apply, book_of, build_no, change_no, first_book, item, keep, later_edits, put_plan, put_report,
     serial_no, settings,
 };
 use gate_book::book::Book;
 use gate_book::fault::HistoryFault;
 use gate_book::memory::MemBook;
 use gate_book::rows::QueueSizes;
+use gate_types::edits::Edit;
 use gate_types::records::{Counters, Outcome, Ready, Verdict};
 use gate_types::tap::Tap;
 use std::io;
@@ -29,6 +30,7 @@ fn is_empty<B: Book>(rt: &(impl Abort + AllocGlobal), book: &mut B, drawn: Count
     queue_is(rt, book, "other", None);
     reports_are(rt, book, "core", 0);
     no_reply(rt, book, 9);
+    no_plan(rt, book, 2);
     not_known(rt, book, 101);
 }
 
@@ -62,7 +64,7 @@ fn queues_are_read_back(rt: HostRuntime) {
     queues_are_told(&rt, &mut book);
 }
 
-fn items_are_told<B: Book>(rt: &(impl Abort + AllocGlobal), book: &mut B) {
+pub fn items_are_told<B: Book>(rt: &(impl Abort + AllocGlobal), book: &mut B) {
     items_are(rt, book, [item(rt, 2, 101), item(rt, 4, 102)].as_slice());
     item_is(rt, book, 4, Some(item(rt, 4, 102)));
     item_is(rt, book, 3, None);
@@ -79,7 +81,7 @@ fn items_are_read_back(rt: HostRuntime) {
     items_are_told(&rt, &mut book);
 }
 
-fn changes_and_builds_are_told<B: Book>(rt: &(impl Abort + AllocGlobal), book: &mut B) {
+pub fn changes_and_builds_are_told<B: Book>(rt: &(impl Abort + AllocGlobal), book: &mut B) {
     needs_are(rt, book, 102, [change_no(rt, 101)].as_slice());
     let ready = Ready {
         approval: 7,
@@ -102,6 +104,40 @@ fn changes_and_builds_are_read_back(rt: HostRuntime) {
     changes_and_builds_are_told(&rt, &mut book);
 }
 
+/// Of the items and of the landing, and no others.
+pub fn plans_are_told<B: Book>(rt: &(impl Abort + AllocGlobal), book: &mut B) {
+    plan_is(rt, book, 1, "-docs unit slow");
+    plan_is(rt, book, 2, "unit -docs fast");
+    plan_is(rt, book, 4, "unit slow");
+    no_plan(rt, book, 3);
+    no_plan(rt, book, 5);
+}
+
+#[test]
+fn plans_are_read_back(rt: HostRuntime) {
+    let mut book = first_book(&rt);
+    plans_are_told(&rt, &mut book);
+}
+
+/// Item 2 lands, and keeps its jobs alone; what item 4 was admitted with is told anew.
+fn plans_are_put_anew<B: Book>(rt: &(impl Abort + AllocGlobal), book: &mut B) {
+    let edits = [
+        Edit::DropItem(serial_no(rt, 2)),
+        put_plan(rt, 2, "unit -docs", false),
+        put_plan(rt, 4, "-docs site", true),
+    ];
+    apply(rt, book, &edits);
+    plan_is(rt, book, 1, "-docs unit slow");
+    plan_is(rt, book, 2, "unit -docs slow");
+    plan_is(rt, book, 4, "-docs site fast");
+}
+
+#[test]
+fn a_plan_is_put_in_place_of_another(rt: HostRuntime) {
+    let mut book = first_book(&rt);
+    plans_are_put_anew(&rt, &mut book);
+}
+
 /// Build 1 of item 2 is no longer live, and the other one has failed.
 fn builds_are_told<B: Book>(rt: &impl Abort, book: &mut B) {
     let live = book.live_builds(serial_no(rt, 2)).expect(rt, "builds");
@@ -116,6 +152,8 @@ fn later_edits_are_told<B: Book>(rt: &(impl Abort + AllocGlobal), book: &mut B) 
     apply(rt, book, edits.as_slice());
     item_is(rt, book, 2, None);
     not_queued(rt, book, 101);
+    no_plan(rt, book, 2);
+    plan_is(rt, book, 4, "unit slow");
     builds_are_told(rt, book);
     ready_are(rt, book, &[]);
     reply_is(rt, book, 10, "later");

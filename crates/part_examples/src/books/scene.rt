@@ -1,14 +1,15 @@
 //! What the tests share: a book with a little of each kind in it.
-ghost use Rattle.std.specs.Prelude.{◌≡◌, [], ◌∷◌, true};
+ghost use Rattle.std.specs.Prelude.{◌≡◌, [], ◌∷◌, true, false};
+ghost use Rattle.gate_types.specs.Settings.{default_rule};
 
 use gate_book::book::Book;
 use gate_book::memory::MemBook;
-use gate_types::config::{Config, Job, Project, Queue};
+use gate_types::config::{Config, Job, Project, Queue, WindowRule};
 use gate_types::edits::{Counter, Edit};
 use gate_types::names::{Base, Name, PathName, Text};
 use gate_types::numbers::{BuildNo, ChangeNo, Revision, Serial};
 use gate_types::records::{
-    Build, Change, Id, Item, Kept, Landing, Outcome, Report, Stage, Verdict,
+    Build, Change, Id, Item, Kept, Landing, Outcome, Plan, Report, Stage, Verdict,
 };
 use gate_types::sequence::Sequence;
 use std::process::Abort;
@@ -44,13 +45,14 @@ pub fn first_revision(rt: &impl Abort) -> Revision {
 }
 
 pub fn queues(rt: &(impl Abort + AllocGlobal), core: Name) -> Sequence<Queue>
-    ensures { result ≡ record { name = core; window = 10; floor = 1 } ∷ [] }
+    ensures { result ≡ record { name = core; window = 10; floor = 1; rule = default_rule } ∷ [] }
 {
     let mut queues = Sequence::new(rt.alloc());
     let queue = Queue {
         name: core,
         window: 10,
         floor: 1,
+        rule: WindowRule::default(),
     };
     queues.push(queue).expect(rt, "memory");
     queues
@@ -74,12 +76,21 @@ pub fn projects(
     queue: Name,
     unit: Name,
 ) -> Sequence<Project>
-    ensures { result
-        ≡ record { name = name; queue = queue; jobs = record { name = unit; voting = true } ∷ [] } ∷ [] }
+    ensures { result ≡ record {
+      name = name;
+      queue = queue;
+      jobs = record { name = unit; voting = true } ∷ [];
+      fail_fast = false;
+    } ∷ [] }
 {
     let mut projects = Sequence::new(rt.alloc());
     let jobs = jobs(rt, unit);
-    let project = Project { name, queue, jobs };
+    let project = Project {
+        name,
+        queue,
+        jobs,
+        fail_fast: false,
+    };
     projects.push(project).expect(rt, "memory");
     projects
 }
@@ -166,6 +177,25 @@ pub fn put_item(rt: &(impl Abort + AllocGlobal), serial: u64, number: u64) -> Ed
     }
 }
 
+/// The jobs of some names, those that don't vote behind a `-`.
+fn jobs_of(rt: &(impl Abort + AllocGlobal), names: &str) -> Sequence<Job> {
+    let mut jobs = Sequence::new(rt.alloc());
+    for word in names.split_whitespace() {
+        let voting = !word.starts_with('-');
+        let name = name(rt, word.strip_prefix('-').unwrap_or(word));
+        jobs.push(Job { name, voting }).expect(rt, "memory");
+    }
+    jobs
+}
+
+pub fn put_plan(rt: &(impl Abort + AllocGlobal), serial: u64, jobs: &str, fast: bool) -> Edit {
+    Edit::PutPlan(Plan {
+        serial: serial_no(rt, serial),
+        jobs: jobs_of(rt, jobs),
+        fast,
+    })
+}
+
 pub fn put_landing(rt: &(impl Abort + AllocGlobal)) -> Edit {
     Edit::PutLanding {
         queue: name(rt, "core"),
@@ -235,7 +265,7 @@ fn push(rt: &impl Abort, edits: &mut Vec<Edit>, edit: Edit) {
     edits.push(edit).expect(rt, "memory");
 }
 
-/// Changes 101, 102 (which needs 101) and 103 (approved); items 2 and 4; a landing, a report and
+/// Changes 101, 102 (which needs 101) and 103 (approved); items 2, which fails fast, and 4; a landing, a report and
 /// two builds of item 2.
 pub fn first_edits(rt: &(impl Abort + AllocGlobal)) -> Vec<Edit> {
     let mut edits = Vec::new(rt.alloc());
@@ -244,7 +274,10 @@ pub fn first_edits(rt: &(impl Abort + AllocGlobal)) -> Vec<Edit> {
     push(rt, &mut edits, put_change(rt, 102, Some(101), None));
     push(rt, &mut edits, put_item(rt, 4, 102));
     push(rt, &mut edits, put_item(rt, 2, 101));
+    push(rt, &mut edits, put_plan(rt, 4, "unit", false));
+    push(rt, &mut edits, put_plan(rt, 2, "unit -docs", true));
     push(rt, &mut edits, put_landing(rt));
+    push(rt, &mut edits, put_plan(rt, 1, "-docs unit", false));
     push(
         rt,
         &mut edits,

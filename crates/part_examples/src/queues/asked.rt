@@ -30,6 +30,7 @@ impl Board {
             let one = ItemFacts {
                 needs: &row.needs,
                 jobs: &row.jobs,
+                fast: row.fast,
             };
             facts.push(one).expect(rt, "memory");
         }
@@ -59,6 +60,7 @@ impl Board {
         for row in self.rows.iter() {
             let one = ItemJobs {
                 jobs: &row.jobs,
+                fast: row.fast,
                 blocked: is_blocked(&self.rows, &row.needs),
             };
             jobs.push(one).expect(rt, "memory");

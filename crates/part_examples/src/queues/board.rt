@@ -1,10 +1,10 @@
 //! A queue whose rows are changed by deliveries and by edits.
 use crate::queues::told::{tell_edit, tell_item};
 use crate::queues::words::{
-    build, jobs, landing, name, needs, number, outcome, serial, size, word,
+    build, landing, name, needs, number, outcome, plan, rule, serial, size, word,
 };
 use gate_queue::window::grow;
-use gate_types::config::{Job, Queue};
+use gate_types::config::{Job, Queue, WindowRule};
 use gate_types::edits::Edit;
 use gate_types::numbers::{ChangeNo, Serial};
 use gate_types::records::{Build, Item, Landing, Need, Outcome};
@@ -12,12 +12,13 @@ use gate_walk::walk::{TakenOut, Touched};
 use std::process::Abort;
 use std::str::SplitWhitespace;
 
-/// An item's stored row, with the needs of its change and the jobs of its project.
+/// An item's stored row, with the needs of its change, the jobs of its project, and whether it fails fast.
 #[derive(Drop)]
 pub struct Row {
     pub item: Item,
     pub needs: Vec<Need>,
     pub jobs: Vec<Job>,
+    pub fast: bool,
 }
 
 /// The queue `core`: its settings, its window, how many reports it has made, what has landed, its items and the live
@@ -98,6 +99,7 @@ impl Board {
                 name: name(rt, "core"),
                 window: 2,
                 floor: 1,
+                rule: WindowRule::default(),
             },
             window: 2,
             reports: 0,
@@ -130,7 +132,7 @@ impl Board {
     /// Adds an item behind the others: its serial, its change, its project and its needs.
     fn admit(&mut self, rt: &(impl Abort + AllocGlobal), words: &mut SplitWhitespace) {
         let item = landing(rt, words);
-        let jobs = jobs(rt, word(rt, words));
+        let (jobs, fast) = plan(rt, word(rt, words));
         let needs = needs(rt, words);
         let item = Item {
             serial: item.serial,
@@ -140,7 +142,12 @@ impl Board {
             failing: is_blocked(&self.rows, &needs),
         };
         self.rows
-            .push(Row { item, needs, jobs })
+            .push(Row {
+                item,
+                needs,
+                jobs,
+                fast,
+            })
             .expect(rt, "memory");
     }
 
@@ -185,7 +192,7 @@ impl Board {
         let (serial, change) = (landed.serial, landed.change);
         self.landings.push(landed).expect(rt, "memory");
         meet(&mut self.rows, change);
-        self.window = grow(self.window);
+        self.window = grow(self.window, self.settings.rule);
         self.leave(serial, true)
     }
 
@@ -195,6 +202,7 @@ impl Board {
         let mut touched = None;
         match word(rt, &mut words) {
             "queue" => self.begin(rt, &mut words),
+            "rule" => self.settings.rule = rule(rt, &mut words),
             "landed" => self
                 .landings
                 .push(landing(rt, &mut words))

@@ -1,4 +1,4 @@
-//! Small queues, with the build that is due in each worked out by hand from the rules; and the window at its ends.
+//! Small queues, with the build that is due in each worked out by hand from the rules.
 use crate::queues::scenes::scenes_hold;
 
 const SCENES: &str = "# an empty queue has no build due
@@ -66,26 +66,6 @@ item 1000 job 0
 item 1000 job 0
 > choose 999
 none
-# a window grows by one up to 1000
-> grow 1
-2
-> grow 999
-1000
-> grow 1000
-1000
-> grow 0
-0
-# a window shrinks by half down to its floor
-> shrink 20 3
-10
-> shrink 3 1
-1
-> shrink 5 3
-3
-> shrink 1 1
-1
-> shrink 0 3
-0
 ";
 
 #[test]

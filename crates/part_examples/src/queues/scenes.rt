@@ -87,11 +87,12 @@ fn answer(rt: &(impl Abort + AllocGlobal), board: &mut Board, line: &str, told: 
         "settle" => tell_edits(rt, told, &board.settle(rt)),
         "choose" => choose(rt, board, size(rt, &mut words), told),
         "grow" => {
-            let window = grow(size(rt, &mut words));
+            let window = grow(size(rt, &mut words), board.settings.rule);
             write!(told, "{window}\n").expect(rt, "memory");
         }
         "shrink" => {
-            let window = shrink(size(rt, &mut words), size(rt, &mut words));
+            let (window, floor) = (size(rt, &mut words), size(rt, &mut words));
+            let window = shrink(window, floor, board.settings.rule);
             write!(told, "{window}\n").expect(rt, "memory");
         }
         _ => deliver(rt, board, line, told),

@@ -47,6 +47,7 @@ impl Board {
             row: row.item,
             needs: &needs,
             jobs: &row.jobs,
+            fast: row.fast,
             builds: &builds,
         };
         visit(rt, walk, Some(&seen))

@@ -1,5 +1,5 @@
 //! What the next words of a line say. Words that say no such thing end the test.
-use gate_types::config::Job;
+use gate_types::config::{Job, Pace, WindowRule};
 use gate_types::names::Name;
 use gate_types::numbers::{BuildNo, ChangeNo, Revision, Serial};
 use gate_types::records::{Build, Entry, Landing, Need, Outcome};
@@ -56,16 +56,43 @@ fn push_job(rt: &(impl Abort + AllocGlobal), jobs: &mut Vec<Job>, text: &str, vo
     jobs.push(Job { name, voting }).expect(rt, "memory");
 }
 
-/// The jobs of a project: `app` has `unit`, and `lib` also `docs`, which doesn't vote.
-pub fn jobs(rt: &(impl Abort + AllocGlobal), project: &str) -> Vec<Job> {
+/// The jobs of a project: `app` has `unit`, `web` also `docs`, and so has `lib`, where that doesn't vote.
+fn jobs(rt: &(impl Abort + AllocGlobal), project: &str) -> Vec<Job> {
     let mut jobs = Vec::new(rt.alloc());
     push_job(rt, &mut jobs, "unit", true);
-    if project == "lib" {
-        push_job(rt, &mut jobs, "docs", false);
-    } else {
-        assert!(rt; project == "app", "{project}");
+    match project {
+        "app" => {}
+        "web" => push_job(rt, &mut jobs, "docs", true),
+        "lib" => push_job(rt, &mut jobs, "docs", false),
+        _ => panic!(rt; "no project: {project}"),
     }
     jobs
+}
+
+/// The jobs of a project, and whether its items fail fast: those of one with a `!` behind its name do.
+pub fn plan(rt: &(impl Abort + AllocGlobal), project: &str) -> (Vec<Job>, bool) {
+    match project.strip_suffix('!') {
+        Some(project) => (jobs(rt, project), true),
+        None => (jobs(rt, project), false),
+    }
+}
+
+fn pace(rt: &impl Abort, words: &mut SplitWhitespace) -> Pace {
+    match word(rt, words) {
+        "linear" => Pace::Linear,
+        "exponential" => Pace::Exponential,
+        word => panic!(rt; "no pace: {word}"),
+    }
+}
+
+/// How a window grows and by how much, and how it shrinks.
+pub fn rule(rt: &impl Abort, words: &mut SplitWhitespace) -> WindowRule {
+    WindowRule {
+        increase: pace(rt, words),
+        increase_by: size(rt, words),
+        decrease: pace(rt, words),
+        decrease_by: size(rt, words),
+    }
 }
 
 /// The needs to the end of the line, those that have landed with a `+`.

@@ -5,7 +5,7 @@ use gate_book::rows::{QueueSizes, QueuedItem};
 use gate_types::edits::Edit;
 use gate_types::names::Name;
 use gate_types::numbers::{BuildNo, ChangeNo, Serial};
-use gate_types::records::{Build, Change, Counters, Id, Item, Kept, Ready};
+use gate_types::records::{Build, Change, Counters, Id, Item, Kept, Plan, Ready};
 use gate_types::sequence::Sequence;
 use gate_types::tap::Tap;
 use std::io::Write;
@@ -72,6 +72,10 @@ impl<B: Book> Book for Torn<B> {
         above: u64,
     ) -> Result<Option<Item>, BookFault> {
         self.0.needing(queue, change, above)
+    }
+
+    fn plan(&mut self, serial: Serial) -> Result<Option<Plan>, BookFault> {
+        self.0.plan(serial)
     }
 
     fn live_builds(&mut self, serial: Serial) -> Result<Sequence<Build>, BookFault> {

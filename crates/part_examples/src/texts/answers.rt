@@ -1,6 +1,7 @@
 //! What is answered to a text, as a text: none where memory was refused, or where there is no such way to ask.
 use crate::texts::replied::replied;
 use gate_config::{ConfigFault, read};
+use gate_settings::{TextFault, read_text};
 use gate_types::canonical::canonical;
 use gate_types::config::Config;
 use gate_types::deliveries::Refusal;
@@ -65,6 +66,15 @@ fn read_settings(alloc: Global, file: &[u8], is_whole: bool) -> Option<String> {
     }
 }
 
+/// The settings that a kept text tells, by their text, or that it tells none.
+fn read_kept(alloc: Global, text: &[u8]) -> Option<String> {
+    match read_text(alloc, text) {
+        Ok(config) => config.text(alloc).ok(),
+        Err(TextFault::NotSettings) => "no settings".to_string(alloc).ok(),
+        Err(TextFault::NoMemory) => None,
+    }
+}
+
 fn numbers(alloc: Global, changes: &[ChangeNo]) -> Option<String> {
     let mut numbers = Vec::new(alloc);
     for change in changes {
@@ -90,6 +100,7 @@ pub fn answer(alloc: Global, way: &str, asked: &[u8]) -> Option<String> {
         "id" => identified(alloc, asked),
         "settings" => read_settings(alloc, asked, true),
         "fault" => read_settings(alloc, asked, false),
+        "kept" => read_kept(alloc, asked),
         "needs" => needed(alloc, asked),
         "reply" => replied(alloc, asked),
         _ => None,

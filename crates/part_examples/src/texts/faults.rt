@@ -78,6 +78,41 @@ fault <forge><queue>project = [{name = 'p', queue = 'q', job = []}]¶ -> 9 no-vo
 fault <forge><queue>project = [{name = 'p', queue = 'q', job = [{name = 'j', voting = false}]}]¶ -> 9 no-voting-job
 fault <forge><queue>project = [{name = 'p', queue = 'q', job = [{name = 'j', voting = false}, {name = 'k', voting = true}]}]¶ -> sound
 fault <forge><queue>project = []¶ -> 10 limit
+# a fault of a queue's rule
+fault <forge>queue = [{name = 'q', increase = 'fast'}]¶<project> -> 8 bad-window
+fault <forge>queue = [{name = 'q', increase = ''}]¶<project> -> 8 bad-window
+fault <forge>queue = [{name = 'q', increase = 'Linear'}]¶<project> -> 8 bad-window
+fault <forge>queue = [{name = 'q', decrease = 'half'}]¶<project> -> 8 bad-window
+fault <forge>queue = [{name = 'q', decrease = 'linear '}]¶<project> -> 8 bad-window
+fault <forge>queue = [{name = 'q', increase = 'exponential', increase_by = 2, decrease = 'linear', decrease_by = 5}]¶<project> -> sound
+fault <forge>queue = [{name = 'q', increase = 'linear', increase_by = 1, decrease = 'exponential', decrease_by = 2}]¶<project> -> sound
+fault <forge>queue = [{name = 'q', increase = 5}]¶<project> -> 3 wrong-kind
+fault <forge>queue = [{name = 'q', decrease = true}]¶<project> -> 3 wrong-kind
+fault <forge>queue = [{name = 'q', increase_by = '1'}]¶<project> -> 3 wrong-kind
+fault <forge>queue = [{name = 'q', decrease_by = '2'}]¶<project> -> 3 wrong-kind
+fault <forge>queue = [{name = 'q', decrease_by = 2.0}]¶<project> -> 3 wrong-kind
+fault <forge>queue = [{name = 'q', increase_by = 0}]¶<project> -> 8 bad-window
+fault <forge>queue = [{name = 'q', increase_by = 1}]¶<project> -> sound
+fault <forge>queue = [{name = 'q', increase_by = 1000}]¶<project> -> sound
+fault <forge>queue = [{name = 'q', increase_by = 1001}]¶<project> -> 8 bad-window
+fault <forge>queue = [{name = 'q', increase_by = -1}]¶<project> -> 8 bad-window
+fault <forge>queue = [{name = 'q', decrease_by = 0}]¶<project> -> 8 bad-window
+fault <forge>queue = [{name = 'q', decrease_by = 1}]¶<project> -> sound
+fault <forge>queue = [{name = 'q', decrease_by = 1000}]¶<project> -> sound
+fault <forge>queue = [{name = 'q', decrease_by = 1001}]¶<project> -> 8 bad-window
+fault <forge>queue = [{name = 'q', decrease_by = 9223372036854775807}]¶<project> -> 8 bad-window
+fault <forge>queue = [{name = 'q', increase-by = 1}]¶<project> -> 4 unknown-member
+fault <forge>queue = [{name = 'q', fail_fast = true}]¶<project> -> 4 unknown-member
+fault <forge>queue = [{name = 'q', increase = 'fast', decrease_by = '2'}]¶<project> -> 3 wrong-kind
+fault <forge>queue = [{name = 'q', increase = 'fast'}]¶project = [{name = 'p', queue = 'r', job = [{name = 'j'}]}]¶ -> 7 unknown-queue
+fault <forge>queue = [{name = 'q', increase_by = 0}]¶project = [{name = 'p', queue = 'q'}]¶ -> 8 bad-window
+# a fault of failing fast
+fault <forge><queue>project = [{name = 'p', queue = 'q', fail_fast = true, job = [{name = 'j'}]}]¶ -> sound
+fault <forge><queue>project = [{name = 'p', queue = 'q', fail_fast = false, job = [{name = 'j'}]}]¶ -> sound
+fault <forge><queue>project = [{name = 'p', queue = 'q', fail_fast = 1, job = [{name = 'j'}]}]¶ -> 3 wrong-kind
+fault <forge><queue>project = [{name = 'p', queue = 'q', fail_fast = 'true', job = [{name = 'j'}]}]¶ -> 3 wrong-kind
+fault <forge><queue>project = [{name = 'p', queue = 'q', job = [{name = 'j', fail_fast = true}]}]¶ -> 4 unknown-member
+fault <forge><queue>project = [{name = 'p', queue = 'q', increase_by = 1, job = [{name = 'j'}]}]¶ -> 4 unknown-member
 # of several faults the least is answered
 fault forge = {base = 'b'}¶queue = []¶project = []¶ -> 10 limit
 fault forge = {}¶queue = 'q'¶project = 'p'¶ -> 2 missing-member

@@ -114,6 +114,147 @@ forge = {base = 'b'}
 queue = [{name = 'q'}]
 project = [{name = 'p', queue = 'q', job = [{name = 'j'}]}]
 -> {"base":"b","projects":[{"jobs":[{"name":"j","voting":true}],"name":"p","queue":"q"}],"queues":[{"floor":3,"name":"q","window":20}]}
+# a file says a rule and fail_fast
+settings
+forge = {base = 'b'}
+queue = [{name = 'core', increase = 'exponential', increase_by = 2, decrease = 'linear', decrease_by = 5}]
+project = [{name = 'p', queue = 'core', fail_fast = true, job = [{name = 'j'}]}]
+-> {"base":"b","projects":[{"fail_fast":true,"jobs":[{"name":"j","voting":true}],"name":"p","queue":"core"}],"queues":[{"decrease":"linear","decrease_by":5,"floor":3,"increase":"exponential","increase_by":2,"name":"core","window":20}]}
+# only what isn't the default of a rule is told
+settings
+forge = {base = 'b'}
+queue = [{name = 'a', decrease = 'linear'}, {name = 'b', decrease_by = 3}, {name = 'c', increase = 'exponential'}, {name = 'd', increase_by = 2}, {name = 'e', decrease = 'exponential', decrease_by = 2, increase = 'linear', increase_by = 1}]
+project = [{name = 'p', queue = 'a', fail_fast = false, job = [{name = 'j'}]}]
+-> {"base":"b","projects":[{"jobs":[{"name":"j","voting":true}],"name":"p","queue":"a"}],"queues":[{"decrease":"linear","floor":3,"name":"a","window":20},{"decrease_by":3,"floor":3,"name":"b","window":20},{"floor":3,"increase":"exponential","name":"c","window":20},{"floor":3,"increase_by":2,"name":"d","window":20},{"floor":3,"name":"e","window":20}]}
+# kept settings
+kept
+{"base":"https://forge/c/","projects":[{"jobs":[{"name":"unit","voting":true},{"name":"docs","voting":false}],"name":"lib","queue":"core"},{"jobs":[{"name":"unit","voting":true}],"name":"app","queue":"core"},{"jobs":[{"name":"unit","voting":true}],"name":"site","queue":"web"}],"queues":[{"floor":1,"name":"core","window":2},{"floor":1,"name":"web","window":2}]}
+-> {"base":"https://forge/c/","projects":[{"jobs":[{"name":"unit","voting":true},{"name":"docs","voting":false}],"name":"lib","queue":"core"},{"jobs":[{"name":"unit","voting":true}],"name":"app","queue":"core"},{"jobs":[{"name":"unit","voting":true}],"name":"site","queue":"web"}],"queues":[{"floor":1,"name":"core","window":2},{"floor":1,"name":"web","window":2}]}
+# the least kept settings
+kept
+{"base":"b","projects":[{"jobs":[{"name":"j","voting":true}],"name":"p","queue":"q"}],"queues":[{"floor":3,"name":"q","window":20}]}
+-> {"base":"b","projects":[{"jobs":[{"name":"j","voting":true}],"name":"p","queue":"q"}],"queues":[{"floor":3,"name":"q","window":20}]}
+# large kept settings
+kept
+{"base":"\"\\!~/[]{},:","projects":[{"jobs":[{"name":"unit","voting":true},{"name":"0","voting":false},{"name":"a.b_c-d","voting":true},{"name":"Z","voting":false}],"name":"team/lib","queue":"a"},{"jobs":[{"name":"x","voting":true}],"name":"9/8/7","queue":"z.z"},{"jobs":[{"name":"unit","voting":true},{"name":"0","voting":false},{"name":"a.b_c-d","voting":true},{"name":"Z","voting":false}],"name":"p","queue":"a"},{"jobs":[{"name":"x","voting":true}],"name":"q_-.","queue":"0"},{"jobs":[{"name":"unit","voting":true},{"name":"0","voting":false},{"name":"a.b_c-d","voting":true},{"name":"Z","voting":false}],"name":"P","queue":"z.z"}],"queues":[{"floor":1,"name":"z.z","window":0},{"floor":1000,"name":"a","window":1000},{"floor":999,"name":"0","window":1000}]}
+-> {"base":"\"\\!~/[]{},:","projects":[{"jobs":[{"name":"unit","voting":true},{"name":"0","voting":false},{"name":"a.b_c-d","voting":true},{"name":"Z","voting":false}],"name":"team/lib","queue":"a"},{"jobs":[{"name":"x","voting":true}],"name":"9/8/7","queue":"z.z"},{"jobs":[{"name":"unit","voting":true},{"name":"0","voting":false},{"name":"a.b_c-d","voting":true},{"name":"Z","voting":false}],"name":"p","queue":"a"},{"jobs":[{"name":"x","voting":true}],"name":"q_-.","queue":"0"},{"jobs":[{"name":"unit","voting":true},{"name":"0","voting":false},{"name":"a.b_c-d","voting":true},{"name":"Z","voting":false}],"name":"P","queue":"z.z"}],"queues":[{"floor":1,"name":"z.z","window":0},{"floor":1000,"name":"a","window":1000},{"floor":999,"name":"0","window":1000}]}
+# a space in a kept text
+kept
+{"base":"b", "projects":[{"jobs":[{"name":"j","voting":true}],"name":"p","queue":"q"}],"queues":[{"floor":3,"name":"q","window":20}]}
+-> no settings
+# a line end behind a kept text
+kept
+{"base":"b","projects":[{"jobs":[{"name":"j","voting":true}],"name":"p","queue":"q"}],"queues":[{"floor":3,"name":"q","window":20}]}
+
+-> no settings
+# a kept text that is cut
+kept
+{"base":"b","projects":[{"jobs":[{"name":"j","voting":true}],"name":"p","queue":"q"}],"queues":[{"floor":3,"name":"q","window":20}]
+-> no settings
+# no kept text
+kept
+
+-> no settings
+# members of a kept queue in another order
+kept
+{"base":"b","projects":[{"jobs":[{"name":"j","voting":true}],"name":"p","queue":"q"}],"queues":[{"name":"q","floor":3,"window":20}]}
+-> no settings
+# members of kept settings in another order
+kept
+{"queues":[{"floor":3,"name":"q","window":20}],"base":"b","projects":[{"jobs":[{"name":"j","voting":true}],"name":"p","queue":"q"}]}
+-> no settings
+# a member more in a kept text
+kept
+{"base":"b","projects":[{"jobs":[{"name":"j","voting":true}],"name":"p","queue":"q"}],"queues":[{"floor":3,"name":"q","window":20,"x":1}]}
+-> no settings
+# a double member in a kept text
+kept
+{"base":"b","base":"b","projects":[{"jobs":[{"name":"j","voting":true}],"name":"p","queue":"q"}],"queues":[{"floor":3,"name":"q","window":20}]}
+-> no settings
+# a kept number with a point
+kept
+{"base":"b","projects":[{"jobs":[{"name":"j","voting":true}],"name":"p","queue":"q"}],"queues":[{"floor":3,"name":"q","window":20.0}]}
+-> no settings
+# a kept window of 1,001
+kept
+{"base":"b","projects":[{"jobs":[{"name":"j","voting":true}],"name":"p","queue":"q"}],"queues":[{"floor":3,"name":"q","window":1001}]}
+-> no settings
+# a kept window below its floor
+kept
+{"base":"b","projects":[{"jobs":[{"name":"j","voting":true}],"name":"p","queue":"q"}],"queues":[{"floor":3,"name":"q","window":2}]}
+-> no settings
+# a kept text that escapes a letter
+kept
+{"base":"\u0062","projects":[{"jobs":[{"name":"j","voting":true}],"name":"p","queue":"q"}],"queues":[{"floor":3,"name":"q","window":20}]}
+-> no settings
+# a kept project without its queue
+kept
+{"base":"b","projects":[{"jobs":[{"name":"j","voting":true}],"name":"p","queue":"r"}],"queues":[{"floor":3,"name":"q","window":20}]}
+-> no settings
+# kept queues of one name
+kept
+{"base":"b","projects":[{"jobs":[{"name":"j","voting":true}],"name":"p","queue":"q"}],"queues":[{"floor":3,"name":"q","window":20},{"floor":3,"name":"q","window":20}]}
+-> no settings
+# kept jobs of which none votes
+kept
+{"base":"b","projects":[{"jobs":[{"name":"j","voting":false}],"name":"p","queue":"q"}],"queues":[{"floor":3,"name":"q","window":20}]}
+-> no settings
+# a kept truth value as a number
+kept
+{"base":"b","projects":[{"jobs":[{"name":"j","voting":1}],"name":"p","queue":"q"}],"queues":[{"floor":3,"name":"q","window":20}]}
+-> no settings
+# kept settings without projects
+kept
+{"base":"b","projects":[],"queues":[{"floor":3,"name":"q","window":20}]}
+-> no settings
+# a kept name with a space
+kept
+{"base":"b","projects":[{"jobs":[{"name":"j","voting":true}],"name":"p p","queue":"q"}],"queues":[{"floor":3,"name":"q","window":20}]}
+-> no settings
+# a kept rule and fail_fast
+kept
+{"base":"b","projects":[{"fail_fast":true,"jobs":[{"name":"j","voting":true}],"name":"p","queue":"core"}],"queues":[{"decrease":"linear","decrease_by":5,"floor":3,"increase":"exponential","increase_by":2,"name":"core","window":20}]}
+-> {"base":"b","projects":[{"fail_fast":true,"jobs":[{"name":"j","voting":true}],"name":"p","queue":"core"}],"queues":[{"decrease":"linear","decrease_by":5,"floor":3,"increase":"exponential","increase_by":2,"name":"core","window":20}]}
+# a kept factor alone
+kept
+{"base":"b","projects":[{"jobs":[{"name":"j","voting":true}],"name":"p","queue":"q"}],"queues":[{"decrease_by":1000,"floor":3,"name":"q","window":20}]}
+-> {"base":"b","projects":[{"jobs":[{"name":"j","voting":true}],"name":"p","queue":"q"}],"queues":[{"decrease_by":1000,"floor":3,"name":"q","window":20}]}
+# another one
+kept
+{"base":"b","projects":[{"jobs":[{"name":"j","voting":true}],"name":"p","queue":"q"}],"queues":[{"floor":3,"increase_by":1000,"name":"q","window":20}]}
+-> {"base":"b","projects":[{"jobs":[{"name":"j","voting":true}],"name":"p","queue":"q"}],"queues":[{"floor":3,"increase_by":1000,"name":"q","window":20}]}
+# kept rules, each with one part that isn't the default
+kept
+{"base":"b","projects":[{"jobs":[{"name":"j","voting":true}],"name":"p","queue":"a"}],"queues":[{"decrease":"linear","floor":3,"name":"a","window":20},{"decrease_by":3,"floor":3,"name":"b","window":20},{"floor":3,"increase":"exponential","name":"c","window":20},{"floor":3,"increase_by":2,"name":"d","window":20},{"floor":3,"name":"e","window":20}]}
+-> {"base":"b","projects":[{"jobs":[{"name":"j","voting":true}],"name":"p","queue":"a"}],"queues":[{"decrease":"linear","floor":3,"name":"a","window":20},{"decrease_by":3,"floor":3,"name":"b","window":20},{"floor":3,"increase":"exponential","name":"c","window":20},{"floor":3,"increase_by":2,"name":"d","window":20},{"floor":3,"name":"e","window":20}]}
+# a kept default written out
+kept
+{"base":"b","projects":[{"jobs":[{"name":"j","voting":true}],"name":"p","queue":"q"}],"queues":[{"decrease":"exponential","floor":3,"name":"q","window":20}]}
+-> no settings
+# a kept default number written out
+kept
+{"base":"b","projects":[{"jobs":[{"name":"j","voting":true}],"name":"p","queue":"q"}],"queues":[{"floor":3,"increase_by":1,"name":"q","window":20}]}
+-> no settings
+# a kept fail_fast that is false
+kept
+{"base":"b","projects":[{"fail_fast":false,"jobs":[{"name":"j","voting":true}],"name":"p","queue":"q"}],"queues":[{"floor":3,"name":"q","window":20}]}
+-> no settings
+# a kept pace of another word
+kept
+{"base":"b","projects":[{"fail_fast":true,"jobs":[{"name":"j","voting":true}],"name":"p","queue":"core"}],"queues":[{"decrease":"fast","decrease_by":5,"floor":3,"increase":"exponential","increase_by":2,"name":"core","window":20}]}
+-> no settings
+# a kept factor of 0
+kept
+{"base":"b","projects":[{"fail_fast":true,"jobs":[{"name":"j","voting":true}],"name":"p","queue":"core"}],"queues":[{"decrease":"linear","decrease_by":0,"floor":3,"increase":"exponential","increase_by":2,"name":"core","window":20}]}
+-> no settings
+# a kept factor of 1,001
+kept
+{"base":"b","projects":[{"fail_fast":true,"jobs":[{"name":"j","voting":true}],"name":"p","queue":"core"}],"queues":[{"decrease":"linear","decrease_by":1001,"floor":3,"increase":"exponential","increase_by":2,"name":"core","window":20}]}
+-> no settings
+# a kept factor as a text
+kept
+{"base":"b","projects":[{"fail_fast":true,"jobs":[{"name":"j","voting":true}],"name":"p","queue":"core"}],"queues":[{"decrease":"linear","decrease_by":"5","floor":3,"increase":"exponential","increase_by":2,"name":"core","window":20}]}
+-> no settings
 # a sound file
 fault
 

@@ -1,6 +1,6 @@
 //! Files on disks in memory that fail after so many calls.
 use sqlite::{Connection, FileStore, Files, Options};
-use sqlite_disk::{Disk, Fuse, Memory};
+use sqlite_disk::{Crash, Disk, Fuse, Memory};
 use std::alloc::Global;
 use std::process::Abort;
 
@@ -114,4 +114,35 @@ impl Disks for InMemory {
     fn left(&self, conn: Connection<FileStore<Fuse<Memory>>>) -> Files<Fuse<Memory>> {
         conn.into_store().close()
     }
+}
+
+/// How files are opened: the log's salts come from this number.
+pub fn options() -> Options {
+    Options::new(7)
+}
+
+/// The database of these files.
+pub fn opened<D: Disks>(
+    rt: &(impl Abort + AllocGlobal),
+    disks: &D,
+    files: Files<Fuse<Memory>>,
+) -> D::Database {
+    disks
+        .connected(files, options())
+        .ok()
+        .expect(rt, "open files")
+}
+
+/// The files of a database that is closed without a stop.
+pub fn closed<D: Disks>(rt: &impl Abort, disks: &D, conn: D::Database) -> Files<Fuse<Memory>> {
+    let (is_whole, files) = disks.closed(conn);
+    assert!(rt; is_whole, "the files aren't closed");
+    files
+}
+
+/// The files after a crash, which loses all that wasn't synced.
+pub fn crashed(mut files: Files<Fuse<Memory>>) -> Files<Fuse<Memory>> {
+    files.log.crash();
+    files.db.crash();
+    files
 }

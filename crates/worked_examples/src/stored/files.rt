@@ -1,60 +1,27 @@
-//! What all tests share: settings, gates over a file's tables, and what they are told.
+//! What all tests share: gates over a file's tables, and what they are told. Settings are said by the words of
+//! `settings`.
 use crate::claims::is;
+use crate::settings::config;
 use gate_book::book::Book;
 use gate_cache::cached::CachedBook;
-use gate_config::read;
 use gate_core::fault::IoFault;
 use gate_core::gate::Gate;
 use gate_core::replay::replay;
 use gate_sql::book::SqlBook;
-use gate_sql::open_fault::OpenFault;
+use gate_types::open_fault::OpenFault;
 use gate_types::tap::Tap;
 use sqlite::{Alter, Connection};
 use std::alloc::Global;
 use std::process::Abort;
 
-/// The queues `core`, with the projects `lib` and `app`, and `web`, with `site`.
-pub const SETTINGS: &str = r#"
-[forge]
-base = "https://forge/c/"
-
-[[queue]]
-name = "core"
-window = 2
-floor = 1
-
-[[queue]]
-name = "web"
-window = 2
-floor = 1
-
-[[project]]
-name = "lib"
-queue = "core"
-[[project.job]]
-name = "unit"
-[[project.job]]
-name = "docs"
-voting = false
-
-[[project]]
-name = "app"
-queue = "core"
-[[project.job]]
-name = "unit"
-
-[[project]]
-name = "site"
-queue = "web"
-[[project.job]]
-name = "unit"
-"#;
+/// The settings of most files.
+pub const SETTINGS: &str = "core 2 1 and web";
 
 /// A gate over a file, as the program makes it.
 pub type FileGate<S> = Gate<CachedBook<SqlBook<S>>>;
 
 /// Why there is no book over a file's tables, if there is none, and the file's connection.
-pub fn parts<S: Alter + Drop>(
+fn parts<S: Alter + Drop>(
     made: Result<SqlBook<S>, (OpenFault, Connection<S>)>,
 ) -> (Option<OpenFault>, Connection<S>) {
     match made {
@@ -63,13 +30,46 @@ pub fn parts<S: Alter + Drop>(
     }
 }
 
+/// What came of a file, as a line says it.
+pub fn outcome(fault: Option<OpenFault>) -> &'static str {
+    match fault {
+        None => "done",
+        Some(OpenFault::WrongFile) => "WrongFile",
+        Some(OpenFault::OtherSchema) => "OtherSchema",
+        Some(OpenFault::OtherSettings) => "OtherSettings",
+        Some(OpenFault::Unavailable) => "Unavailable",
+    }
+}
+
 /// Makes the tables of a new gate in a file: why they aren't made, if they aren't, and the connection.
-pub fn created<S: Alter + Drop>(
+pub fn created_under<S: Alter + Drop>(
     rt: &(impl Abort + AllocGlobal),
     conn: Connection<S>,
+    words: &str,
 ) -> (Option<OpenFault>, Connection<S>) {
-    let config = read(rt.alloc(), SETTINGS.as_bytes()).expect(rt, "settings");
+    let config = config(rt, words);
     parts(SqlBook::create(rt.alloc(), conn, &config))
+}
+
+/// Opens a file with these settings: why it isn't opened, if it isn't, and the connection.
+pub fn opened_under<S: Alter + Drop>(
+    rt: &(impl Abort + AllocGlobal),
+    conn: Connection<S>,
+    words: &str,
+) -> (Option<OpenFault>, Connection<S>) {
+    let config = config(rt, words);
+    parts(SqlBook::open(rt.alloc(), conn, &config))
+}
+
+/// A file with the tables of a new gate under these settings.
+pub fn made_under<S: Alter + Drop>(
+    rt: &(impl Abort + AllocGlobal),
+    conn: Connection<S>,
+    words: &str,
+) -> Connection<S> {
+    let (fault, conn) = created_under(rt, conn, words);
+    assert!(rt; fault.is_none(), "no tables are made");
+    conn
 }
 
 /// A file with the tables of a new gate.
@@ -77,18 +77,16 @@ pub fn new_file<S: Alter + Drop>(
     rt: &(impl Abort + AllocGlobal),
     conn: Connection<S>,
 ) -> Connection<S> {
-    let (fault, conn) = created(rt, conn);
-    assert!(rt; fault.is_none(), "no tables are made");
-    conn
+    made_under(rt, conn, SETTINGS)
 }
 
 /// The gate in a file under these settings, or why there is none, with the connection.
 pub fn gate_under<S: Alter + Drop>(
     rt: &(impl Abort + AllocGlobal),
     conn: Connection<S>,
-    settings: &str,
+    words: &str,
 ) -> Result<FileGate<S>, (OpenFault, Connection<S>)> {
-    let config = read(rt.alloc(), settings.as_bytes()).expect(rt, "settings");
+    let config = config(rt, words);
     let book = SqlBook::open(rt.alloc(), conn, &config)?;
     Ok(Gate::new(config, CachedBook::new(rt.alloc(), book)))
 }

@@ -1,7 +1,10 @@
 //! Disks in memory that stop at each of their calls in turn.
+use crate::stored::adopting::each_stop_of_adopting;
+use crate::stored::days::each_stop_of_the_day;
 use crate::stored::disks::{Disks, InMemory};
 use crate::stored::histories::all_stops;
-use crate::stored::stops::{all_stops_of_making, each_stop_of_the_day};
+use crate::stored::makings::all_stops_of_making;
+use crate::stored::migrating::each_stop_of_migrating;
 use sqlite::{Alter, Connection};
 use std::process::Abort;
 
@@ -11,6 +14,8 @@ enum Stopped {
     Deliveries,
     Making,
     Histories,
+    Adopting,
+    Migrating,
 }
 
 fn stops_over<S: Alter + Drop, D: Disks<Database = Connection<S>>>(
@@ -22,6 +27,8 @@ fn stops_over<S: Alter + Drop, D: Disks<Database = Connection<S>>>(
         Stopped::Deliveries => each_stop_of_the_day(rt, disks),
         Stopped::Making => all_stops_of_making(rt, disks),
         Stopped::Histories => all_stops(rt, disks),
+        Stopped::Adopting => each_stop_of_adopting(rt, disks),
+        Stopped::Migrating => each_stop_of_migrating(rt, disks),
     }
 }
 
@@ -44,4 +51,14 @@ fn a_stop_leaves_no_table_or_an_empty_gate(rt: HostRuntime) {
 #[test]
 fn a_history_is_refused_breaks_off_or_is_whole(rt: HostRuntime) {
     stops(&rt, Stopped::Histories);
+}
+
+#[test]
+fn a_stop_leaves_the_settings_before_or_after(rt: HostRuntime) {
+    stops(&rt, Stopped::Adopting);
+}
+
+#[test]
+fn a_stop_leaves_the_tables_of_schema_1_or_2(rt: HostRuntime) {
+    stops(&rt, Stopped::Migrating);
 }

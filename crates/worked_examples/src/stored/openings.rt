@@ -1,7 +1,7 @@
 //! A file that is opened again, and what isn't opened.
-use crate::stored::files::{SETTINGS, created, gate_in, gate_under, new_file, tells_over};
+use crate::stored::files::{SETTINGS, created_under, gate_in, gate_under, new_file, tells_over};
 use crate::stored::tables::empty;
-use gate_sql::open_fault::OpenFault;
+use gate_types::open_fault::OpenFault;
 use sqlite::{Alter, Connection, params};
 use std::process::Abort;
 
@@ -71,10 +71,10 @@ fn a_gate_goes_on_in_a_file_that_is_opened_again(rt: HostRuntime) {
 fn is_refused<S: Alter + Drop>(
     rt: &(impl Abort + AllocGlobal),
     conn: Connection<S>,
-    settings: &str,
+    words: &str,
     wanted: OpenFault,
 ) -> Connection<S> {
-    match gate_under(rt, conn, settings) {
+    match gate_under(rt, conn, words) {
         Ok(_) => panic!(rt; "the file is opened"),
         Err((fault, conn)) => {
             assert!(rt; fault == wanted);
@@ -83,31 +83,24 @@ fn is_refused<S: Alter + Drop>(
     }
 }
 
-/// A new file is made once, and opened under its settings alone.
-fn keeps_its_gate<S: Alter + Drop>(
-    rt: &(impl Abort + AllocGlobal),
-    conn: Connection<S>,
-    other: &str,
-) {
-    let (fault, conn) = created(rt, one_waits(rt, conn));
+/// A new file is made once, and isn't opened by a gate that lacks one of its queues.
+fn keeps_its_gate<S: Alter + Drop>(rt: &(impl Abort + AllocGlobal), conn: Connection<S>) {
+    let (fault, conn) = created_under(rt, one_waits(rt, conn), SETTINGS);
     assert!(rt; fault == Some(OpenFault::WrongFile));
-    let conn = is_refused(rt, conn, other, OpenFault::OtherSettings);
+    let conn = is_refused(rt, conn, "core 2 1", OpenFault::OtherSettings);
     still_waits(rt, conn);
 }
 
 /// What is refused leaves the gate in the file as before.
 #[test]
-fn a_file_is_made_once_and_opened_under_its_settings(rt: HostRuntime) {
-    let other = SETTINGS
-        .replacen(rt.alloc(), "floor = 1", "floor = 2", 1)
-        .expect(&rt, "memory");
-    keeps_its_gate(&rt, empty(&rt), other.as_str());
+fn a_file_is_made_once_and_keeps_its_queues(rt: HostRuntime) {
+    keeps_its_gate(&rt, empty(&rt));
 }
 
 /// A file whose tables are of another version isn't opened, nor one that lacks a row of `meta`.
 fn needs_its_meta<S: Alter + Drop>(rt: &(impl Abort + AllocGlobal), conn: Connection<S>) {
     let mut conn = one_waits(rt, conn);
-    for version in ["2", "7"] {
+    for version in ["1", "7"] {
         conn.execute(
             "UPDATE meta SET v = ?1 WHERE k = 'schema'",
             params![version],

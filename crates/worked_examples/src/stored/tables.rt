@@ -1,74 +1,30 @@
 //! A book over the tables of a file in memory: settings, and what becomes of the file, line by line.
 //!
-//! `create: done` makes a file's tables and `open: done` opens them; a fault stands by its name, as in
-//! `open other: OtherSettings`, which opens them under other settings. `run DELETE FROM meta` runs a statement, and
+//! `create: done` makes a file's tables, `open: done` opens them, and `migrate: done` makes those of schema 1 ones of
+//! schema 2; `migrate: already` finds that they are. A fault stands by its name, as in `open as core 2 1: OtherSettings`,
+//! which opens them under other settings. `run DELETE FROM meta` runs a statement, and
 //! `2 is SELECT count(*) FROM queue` is a query with the number that it gives.
 mod histories;
 mod openings;
 
 use crate::claims::{holds, is};
-use crate::stored::files::parts;
-use gate_config::read;
-use gate_sql::book::SqlBook;
-use gate_sql::open_fault::OpenFault;
-use gate_types::config::Config;
+use crate::settings::config;
+use crate::stored::files::{SETTINGS, created_under, opened_under, outcome};
+use gate_sql::{Migrated, migrate};
 use sqlite::{Alter, Connection, Error, MemStore};
 use std::process::Abort;
 
-/// `core` tests two items at once and has the project `lib`, `web` sets no bound.
-const QUEUES: &str = r#"
-[[queue]]
-name = "core"
-window = 2
-floor = 1
-
-[[queue]]
-name = "web"
-window = 0
-floor = 1
-
-[[project]]
-name = "lib"
-queue = "core"
-[[project.job]]
-name = "unit"
-"#;
-
-pub const FORGE: &str = "https://forge/c/";
-
-const OTHER: &str = "https://other/c/";
-
-/// Settings with this address of the forge.
-pub fn settings(rt: &(impl Abort + AllocGlobal), base: &str) -> Config {
-    let text = format!(in rt.alloc(); "[forge]\nbase = \"{base}\"\n{QUEUES}").expect(rt, "memory");
-    read(rt.alloc(), text.as_bytes()).expect(rt, "settings")
-}
-
-fn create<S: Alter + Drop>(
+/// Migrates a file, and says what came of it.
+fn migrated<S: Alter>(
     rt: &(impl Abort + AllocGlobal),
-    conn: Connection<S>,
-) -> (Option<OpenFault>, Connection<S>) {
-    let config = settings(rt, FORGE);
-    parts(SqlBook::create(rt.alloc(), conn, &config))
-}
-
-fn open<S: Alter + Drop>(
-    rt: &(impl Abort + AllocGlobal),
-    conn: Connection<S>,
-    base: &str,
-) -> (Option<OpenFault>, Connection<S>) {
-    let config = settings(rt, base);
-    parts(SqlBook::open(rt.alloc(), conn, &config))
-}
-
-/// What came of a file, as a line says it.
-fn outcome(fault: Option<OpenFault>) -> &'static str {
-    match fault {
-        None => "done",
-        Some(OpenFault::WrongFile) => "WrongFile",
-        Some(OpenFault::OtherSchema) => "OtherSchema",
-        Some(OpenFault::OtherSettings) => "OtherSettings",
-        Some(OpenFault::Unavailable) => "Unavailable",
+    conn: &mut Connection<S>,
+    words: &str,
+) -> &'static str {
+    let config = config(rt, words);
+    match migrate(rt.alloc(), conn, &config) {
+        Ok(Migrated::Done) => "done",
+        Ok(Migrated::Already) => "already",
+        Err(fault) => outcome(Some(fault)),
     }
 }
 
@@ -92,20 +48,34 @@ fn gives<S: Alter>(conn: &mut Connection<S>, sql: &str, wanted: &str) -> bool {
     }
 }
 
-/// The line is so where it makes or opens tables; the connection is given back.
-fn is_opened<S: Alter + Drop>(
+/// Makes, opens or migrates tables, and says what came of it; the connection is given back.
+fn goes<S: Alter + Drop>(
+    rt: &(impl Abort + AllocGlobal),
+    mut conn: Connection<S>,
+    verb: &str,
+    words: &str,
+) -> (&'static str, Connection<S>) {
+    if verb == "migrate" {
+        return (migrated(rt, &mut conn, words), conn);
+    }
+    let (fault, conn) = match verb {
+        "create" => created_under(rt, conn, words),
+        "open" => opened_under(rt, conn, words),
+        _ => panic!(rt; "nothing to do with a file: {verb}"),
+    };
+    (outcome(fault), conn)
+}
+
+/// The line is so where it makes, opens or migrates tables; the connection is given back.
+fn is_done<S: Alter + Drop>(
     rt: &(impl Abort + AllocGlobal),
     conn: Connection<S>,
     line: &str,
 ) -> Connection<S> {
-    let (verb, wanted) = line.split_once(": ").expect(rt, "a line");
-    let (fault, conn) = match verb {
-        "create" => create(rt, conn),
-        "open" => open(rt, conn, FORGE),
-        "open other" => open(rt, conn, OTHER),
-        _ => panic!(rt; "no line: {line}"),
-    };
-    is(rt, outcome(fault), wanted, line);
+    let (verb, wanted) = line.split_once(": ").expect(rt, line);
+    let (verb, words) = verb.split_once(" as ").unwrap_or((verb, SETTINGS));
+    let (came, conn) = goes(rt, conn, verb, words);
+    is(rt, came, wanted, line);
     conn
 }
 
@@ -122,7 +92,7 @@ fn is_so<S: Alter + Drop>(
         holds(rt, gives(&mut conn, sql, wanted), line);
         conn
     } else {
-        is_opened(rt, conn, line)
+        is_done(rt, conn, line)
     }
 }
 

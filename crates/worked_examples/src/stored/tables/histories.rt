@@ -1,6 +1,8 @@
 //! Histories of queues, from files in memory.
 use crate::claims::{holds, is};
-use crate::stored::tables::{FORGE, after, empty, settings};
+use crate::settings::config;
+use crate::stored::files::SETTINGS;
+use crate::stored::tables::{after, empty};
 use gate_book::book::Book;
 use gate_book::fault::HistoryFault;
 use gate_sql::book::SqlBook;
@@ -100,7 +102,7 @@ fn has_histories<S: Alter + Drop>(
     conn: Connection<S>,
     lines: &str,
 ) {
-    let config = settings(rt, FORGE);
+    let config = config(rt, SETTINGS);
     let mut book = SqlBook::open(rt.alloc(), conn, &config)
         .ok()
         .expect(rt, "a book");

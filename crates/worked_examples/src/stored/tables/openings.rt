@@ -1,5 +1,7 @@
 //! Files in memory made, opened and refused.
-use crate::stored::tables::{FORGE, after, empty, settings};
+use crate::settings::config;
+use crate::stored::files::SETTINGS;
+use crate::stored::tables::{after, empty};
 use gate_sql::book::SqlBook;
 use sqlite::{Connection, MemStore};
 use std::process::Abort;
@@ -9,10 +11,10 @@ fn goes(rt: &(impl Abort + AllocGlobal), lines: &str) {
     let _ = after(rt, empty(rt), lines);
 }
 
-const REOPENED: &str = "create: done
-open: done
-2 is SELECT win FROM queue WHERE name = 'core' AND place = 0
-0 is SELECT win FROM queue WHERE name = 'web' AND place = 1
+const REOPENED: &str = "create as core 0 1 and web: done
+open as core 0 1 and web: done
+0 is SELECT win FROM queue WHERE name = 'core' AND place = 0
+2 is SELECT win FROM queue WHERE name = 'web' AND place = 1
 2 is SELECT count(*) FROM queue
 0 is SELECT sum(drawn) FROM counter";
 
@@ -35,13 +37,22 @@ fn a_file_with_a_view_of_our_name_is_refused(rt: HostRuntime) {
     goes(&rt, VIEW_OF_OUR_NAME);
 }
 
+const OTHER_SETTINGS: &str = "create: done
+open as core 2 1: OtherSettings
+open as core 2 1 and web, without site: OtherSettings
+open as core 2 1 and web, site in core: OtherSettings
+open: done";
+
+/// They lack a queue or a project that the file keeps, or have a project of it in another queue.
 #[test]
-fn other_settings_are_refused(rt: HostRuntime) {
-    goes(&rt, "create: done\nopen other: OtherSettings\nopen: done");
+fn settings_that_lack_what_is_kept_are_refused(rt: HostRuntime) {
+    goes(&rt, OTHER_SETTINGS);
 }
 
 const ANOTHER_VERSION: &str = "create: done
-run UPDATE meta SET v = '2' WHERE k = 'schema'
+run UPDATE meta SET v = '1' WHERE k = 'schema'
+open: OtherSchema
+run UPDATE meta SET v = '3' WHERE k = 'schema'
 open: OtherSchema";
 
 #[test]
@@ -66,7 +77,7 @@ fn a_transaction_under_way_is_refused(rt: HostRuntime) {
 
 /// Whether the store of a file opens again.
 fn store_opens(rt: &(impl Abort + AllocGlobal), conn: Connection<MemStore>) -> bool {
-    let config = settings(rt, FORGE);
+    let config = config(rt, SETTINGS);
     let store = conn.into_store();
     SqlBook::open_store(rt.alloc(), store, &config).is_ok()
 }
