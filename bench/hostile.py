@@ -274,6 +274,10 @@ FAULTY = [
     ("window = 4\n", "window = 1001\n", "C8"),
     ("floor = 1", "floor = 0", "C8"),
     ("window = 4\n", "window = -1\n", "C8"),
+    ("window = 4\n", 'window = 4\nincrease = "fast"\n', "C8"),
+    ("window = 4\n", "window = 4\ndecrease_by = 1001\n", "C8"),
+    ("window = 4\n", 'window = 4\nincrease_by = "2"\n', "C3"),
+    ('queue = "web"\n', 'queue = "web"\nfail_fast = 1\n', "C3"),
     ('name = "site"\nqueue = "web"\n[[project.job]]\nname = "unit"', 'name = "site"\nqueue = "web"', "C9"),
 ]
 

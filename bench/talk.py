@@ -19,10 +19,13 @@ floor = 1
 name = "web"
 window = 2
 floor = 1
+increase = "exponential"
+increase_by = 2
 
 [[project]]
 name = "lib"
 queue = "core"
+fail_fast = true
 [[project.job]]
 name = "unit"
 [[project.job]]
@@ -44,7 +47,8 @@ name = "unit"
 
 PROJECTS = ["lib", "app", "site"]
 
-TABLES = ["meta", "counter", "queue", "change", "need", "item", "build", "landing", "report", "delivery"]
+TABLES = ["meta", "counter", "queue", "change", "need", "item", "build", "landing", "report", "delivery", "item_job",
+          "item_fast"]
 
 KINDS = ["revision", "approved", "withdrawn", "closed", "landed", "refused", "take", "result"]
 

@@ -8,7 +8,8 @@ import subprocess
 import sys
 import time
 
-TABLES = ["meta", "counter", "queue", "change", "need", "item", "build", "landing", "report", "delivery"]
+TABLES = ["meta", "counter", "queue", "change", "need", "item", "build", "landing", "report", "delivery",
+          "item_job", "item_fast"]
 
 
 def rows(path):

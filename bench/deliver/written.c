@@ -62,8 +62,8 @@ static void id(sqlite3_stmt *s, int at, const char *hex)
     sqlite3_bind_blob(s, at, bytes, 16, SQLITE_TRANSIENT);
 }
 
-static sqlite3_stmt *put_change, *drop_needs, *put_need, *put_item, *drop_item, *put_landing, *put_report, *put_build,
-    *set_outcome, *stop_build, *set_window, *set_counter, *keep;
+static sqlite3_stmt *put_change, *drop_needs, *put_need, *put_item, *drop_item, *drop_jobs, *drop_fast, *put_job,
+    *put_fast, *put_landing, *put_report, *put_build, *set_outcome, *stop_build, *set_window, *set_counter, *keep;
 
 static void prepare_all(void)
 {
@@ -72,6 +72,10 @@ static void prepare_all(void)
     put_need = prepared("INSERT INTO need (change, place, needed) VALUES (?,?,?)");
     put_item = prepared("INSERT OR REPLACE INTO item (serial, queue, change, revision, ahead, failing) VALUES (?,?,?,?,?,?)");
     drop_item = prepared("DELETE FROM item WHERE serial = ?");
+    drop_jobs = prepared("DELETE FROM item_job WHERE serial = ?");
+    drop_fast = prepared("DELETE FROM item_fast WHERE serial = ?");
+    put_job = prepared("INSERT INTO item_job (serial, place, name, voting) VALUES (?,?,?,?)");
+    put_fast = prepared("INSERT INTO item_fast (serial) VALUES (?)");
     put_landing = prepared("INSERT INTO landing (queue, n, serial, change, revision) VALUES (?,?,?,?,?)");
     put_report = prepared("INSERT INTO report (queue, place, serial, change, revision, verdict, n) VALUES (?,?,?,?,?,?,?)");
     put_build = prepared("INSERT OR REPLACE INTO build (num, queue, serial, change, revision, job, base, ahead, outcome, live)"
@@ -97,6 +101,31 @@ static void change(char **f)
     }
 }
 
+static void drop(const char *serial)
+{
+    sqlite3_stmt *statements[] = {drop_item, drop_jobs, drop_fast};
+    for (int i = 0; i < 3; i++) {
+        number(statements[i], 1, serial);
+        done(statements[i]);
+    }
+}
+
+static void plan(char **f)
+{
+    int place = 0;
+    for (char *job = strtok(f[3], ","); job; job = strtok(NULL, ",")) {
+        char *vote = strchr(job, ':');
+        *vote = 0;
+        number(put_job, 1, f[1]), sqlite3_bind_int(put_job, 2, place++), word(put_job, 3, job);
+        number(put_job, 4, vote + 1);
+        done(put_job);
+    }
+    if (strcmp(f[2], "1") == 0) {
+        number(put_fast, 1, f[1]);
+        done(put_fast);
+    }
+}
+
 static void edit(char **f)
 {
     if (strcmp(f[0], "change") == 0) {
@@ -106,8 +135,9 @@ static void edit(char **f)
         number_or_null(put_item, 5, f[5]), number(put_item, 6, f[6]);
         done(put_item);
     } else if (strcmp(f[0], "drop") == 0) {
-        number(drop_item, 1, f[1]);
-        done(drop_item);
+        drop(f[1]);
+    } else if (strcmp(f[0], "plan") == 0) {
+        plan(f);
     } else if (strcmp(f[0], "landing") == 0) {
         word(put_landing, 1, f[1]);
         for (int i = 2; i <= 5; i++)
