@@ -1,13 +1,24 @@
 #!/bin/sh
 # Plays the day of deliveries.jsonl over HTTP, and prints what comes: a line an answer, then the status text. What has to
-# be printed stands in expected.txt.
+# be printed stands in expected.txt. GATED is the program, by default the one that `rt run` leaves.
 set -eu
 top=$(cd "$(dirname "$0")/.." && pwd)
-. "$top/bench/program.sh"
+program=${GATED:-$top/crates/gated/out/gated}
 settings=$top/examples/settings.toml
 day=$top/examples/deliveries.jsonl
+if [ ! -x "$program" ]; then
+    echo "no program at $program: name one by GATED, or run" \
+        "(cd crates/gated && rt run -- replay ../../examples/settings.toml </dev/null) at the top of the repository" >&2
+    exit 1
+fi
 work=$(mktemp -d)
-trap 'rm -rf "$work"' EXIT
+server=
+finish() {
+    [ -z "$server" ] || kill "$server" 2> /dev/null || true
+    rm -rf "$work"
+}
+trap finish EXIT
+trap 'exit 1' INT TERM HUP
 
 "$program" init "$settings" "$work/gate"
 
@@ -16,7 +27,6 @@ count=$(($(wc -l < "$day") + 1))
 mkfifo "$work/says"
 "$program" serve "$settings" "$work/gate" --port 0 --count "$count" > "$work/says" &
 server=$!
-trap 'kill "$server" 2> /dev/null || true; rm -rf "$work"' EXIT
 read -r _ address < "$work/says"
 
 while read -r line; do
@@ -29,3 +39,4 @@ while read -r line; do
 done < "$day"
 curl -s "http://$address/status"
 wait "$server"
+server=

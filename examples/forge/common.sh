@@ -1,26 +1,30 @@
-# What the forge, its lander and its workers share. FORGE is the folder in which they all live.
-: "${FORGE:?the folder of the forge}"
+# What the forge, its lander and its workers share. FORGE is the folder in which they all live, FORGE_SETTINGS the
+# settings of the gate.
+: "${FORGE:?the folder of the forge}" "${FORGE_SETTINGS:?the settings of the gate}"
 export GIT_AUTHOR_NAME=forge GIT_AUTHOR_EMAIL=forge@localhost
 export GIT_COMMITTER_NAME=forge GIT_COMMITTER_EMAIL=forge@localhost
 
-# Which projects stand in a queue, as the settings have it.
+# Which projects stand in a queue, or in any, by the settings.
 projects_of() {
-  case $1 in
-    core) echo lib app ;;
-    web) echo site ;;
-  esac
+  awk -F '"' -v queue="${1-}" '
+    /^\[/ { table = $0 }
+    table == "[[project]]" && /^name/ { name = $2 }
+    table == "[[project]]" && /^queue/ && (queue == "" || $2 == queue) { print name }' "$FORGE_SETTINGS"
 }
 
-# An id for the one delivery of its kind that speaks of this number, so that whoever sends it again, after a crash too,
-# sends it under the same id.
+# An id for the one delivery of its kind that speaks of this number, and of this revision if it names one, so that
+# whoever sends it again, after a crash too, sends it under the same id.
 id_of() {
+  local kind number
   case $1 in
-    revision) printf '00000001-0000-4000-8000-%012d' "$2" ;;
-    approved) printf '00000002-0000-4000-8000-%012d' "$2" ;;
-    landed) printf '00000003-0000-4000-8000-%012d' "$2" ;;
-    refused) printf '00000004-0000-4000-8000-%012d' "$2" ;;
-    result) printf '00000005-0000-4000-8000-%012d' "$2" ;;
+    revision) kind=1 ;;
+    approved) kind=2 ;;
+    landed) kind=3 ;;
+    refused) kind=4 ;;
+    result) kind=5 ;;
   esac
+  number=$(printf '%016x' "$2")
+  printf '0000000%d-%04d-%s-8000-%s' "$kind" "${3-0}" "${number:0:4}" "${number:4}"
 }
 
 # Posts a delivery at a door, again until an answer has come whole, and prints it. 503 is sent again too.
@@ -48,7 +52,11 @@ member() {
   sed -n "s/.*\"$2\":\"\{0,1\}\([^,\"}]*\).*/\1/p" <<<"$1"
 }
 
-# A text as JSON.
+# A text as JSON, by whichever of the two is there.
 quoted() {
-  printf '"%s"' "$(tr '\t' ' ' | sed 's/\\/\\\\/g; s/"/\\"/g' | awk 'NR > 1 { printf "\\n" } { printf "%s", $0 }')"
+  if command -v jq >/dev/null; then
+    jq --raw-input --slurp .
+  else
+    python3 -c 'import json, sys; print(json.dumps(sys.stdin.buffer.read().decode("utf-8", "replace")))'
+  fi
 }

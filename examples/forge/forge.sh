@@ -1,5 +1,5 @@
 #!/usr/bin/env bash
-# Makes three bare repositories, each with a first commit on `main`, which `base` keeps, and the hook that tells the gate.
+# Makes three bare repositories, each with a first commit on `main`, which `base` keeps, and the hooks.
 set -eu
 FORGE_SCRIPTS=$(cd "$(dirname "$0")" && pwd)
 . "$FORGE_SCRIPTS/common.sh"
@@ -17,7 +17,7 @@ make() {
   git -C "$seed" commit --quiet --message "Begin"
   git clone --quiet --bare "$seed" "$bare"
   git -C "$bare" branch base main
-  cp "$FORGE_SCRIPTS/update" "$bare/hooks/update"
+  cp "$FORGE_SCRIPTS/update" "$FORGE_SCRIPTS/post-receive" "$bare/hooks"
 }
 
 # `unit` of lib: no number is above 100. `docs`: each is said in words. `unit` of app: what it uses is a number of lib.

@@ -1,6 +1,6 @@
 #!/usr/bin/env bash
-# Lands what the gate orders: merges the change into its branch, pushes it, and says so; or says that it can't be merged.
-# It may be killed at any moment and started again: what it has pushed is told the next time round.
+# Lands what the gate orders: merges the change into its branch, pushes it, and says so; or says that it can't be
+# merged. It may be killed at any moment and started again: what it has pushed is told the next time round.
 set -eu
 . "$(dirname "$0")/common.sh"
 export FORGE_LANDER=yes
@@ -38,7 +38,8 @@ land() {
   clone=$(clone_of "$project")
   landings_of "$clone" | grep -q " $queue $order $change\$" && return
   git -C "$clone" checkout --quiet --detach refs/remotes/origin/main
-  if git -C "$clone" merge --quiet --no-ff --message "Land $change by order $order of $queue" "refs/changes/${change/,//}" >/dev/null; then
+  if git -C "$clone" merge --quiet --no-ff --message "Land $change by order $order of $queue" \
+    "refs/changes/${change/,//}" >/dev/null; then
     git -C "$clone" push --quiet origin HEAD:refs/heads/main
   else
     git -C "$clone" merge --abort
@@ -48,7 +49,7 @@ land() {
 }
 
 while :; do
-  for project in lib app site; do
+  for project in $(projects_of); do
     tell "$project"
   done
   { page orders; echo; } | sed 's/},{/}\n{/g' | while read -r order; do

@@ -11,7 +11,10 @@ mkdir -p "$room/trees"
 project_of() {
   local project
   for project in $(projects_of "$1"); do
-    git -C "$FORGE/repos/$project.git" rev-parse --quiet --verify "refs/changes/$2" >/dev/null && echo "$project" && return
+    if git -C "$FORGE/repos/$project.git" rev-parse --quiet --verify "refs/changes/$2" >/dev/null; then
+      echo "$project"
+      return
+    fi
   done
 }
 
@@ -50,14 +53,29 @@ put() {
   return 1
 }
 
+# Asks for a build while its job runs, as a process, and ends that once nobody wants the build any more.
+watch() {
+  while sleep 1; do
+    case $(page "builds/$1") in
+      *'"live":false'*) kill "$2" && return ;;
+    esac
+  done
+}
+
 # Makes the trees of a build and runs its job.
 run() {
-  local queue=$1 after=$2 ahead=$3 change=$4 job=$5 each
+  local number=$1 queue=$2 after=$3 ahead=$4 change=$5 job=$6 each process watcher status=0
   begin "$queue" "$after"
   for each in $ahead $change; do
     put "$queue" "${each/,//}" || return
   done
-  (cd "$room/trees/$(project_of "$queue" "${change/,//}")" && sh "$job.sh")
+  (cd "$room/trees/$(project_of "$queue" "${change/,//}")" && exec sh "$job.sh") &
+  process=$!
+  watch "$number" "$process" &
+  watcher=$!
+  wait "$process" || status=$?
+  kill "$watcher" 2>/dev/null || true
+  return "$status"
 }
 
 # Takes what the reply to `take` says, and reports it. What was run on is noted beside.
@@ -66,20 +84,22 @@ build() {
   number=$(member "$reply" build) queue=$(member "$reply" queue) job=$(member "$reply" job)
   change=$(member "$reply" change),$(member "$reply" revision)
   echo "$number" >"$room/build"
-  run "$queue" "$(member "$reply" after)" \
+  run "$number" "$queue" "$(member "$reply" after)" \
     "$(sed -n 's/.*"ahead":\[\(.*\)\],"build".*/\1/p' <<<"$reply" | grep -o '[0-9][0-9]*,[0-9][0-9]*' || true)" \
     "$change" "$job" && outcome=success
   project=$(project_of "$queue" "${change/,//}")
   tree=$(git -C "$room/trees/$project" rev-parse 'HEAD^{tree}')
   echo "$number $project $change $job $outcome $tree" >>"$FORGE/builds"
-  reply=$(post worker "{\"id\":\"$(id_of result "$number")\",\"kind\":\"result\",\"build\":$number,\"outcome\":\"$outcome\"}")
+  reply=$(post worker \
+    "{\"id\":\"$(id_of result "$number")\",\"kind\":\"result\",\"build\":$number,\"outcome\":\"$outcome\"}")
   echo "$name: build $number, $job of $change: $outcome, $reply"
   rm "$room/build"
 }
 
 if [ -s "$room/build" ]; then
   left=$(cat "$room/build")
-  reply=$(post worker "{\"id\":\"$(cat /proc/sys/kernel/random/uuid)\",\"kind\":\"result\",\"build\":$left,\"outcome\":\"lost\"}")
+  reply=$(post worker \
+    "{\"id\":\"$(cat /proc/sys/kernel/random/uuid)\",\"kind\":\"result\",\"build\":$left,\"outcome\":\"lost\"}")
   echo "$name: build $left was left behind: lost, $reply"
   rm "$room/build"
 fi

@@ -1,0 +1,108 @@
+# What a day on this machine needs: parts that are started, stopped and waited for, and a look at what git has in the
+# end. GATED is the program, by default the one that `rt run` leaves.
+FORGE_SCRIPTS=$(cd "$(dirname "${BASH_SOURCE[0]}")" && pwd)
+GATED=${GATED:-$(cd "$FORGE_SCRIPTS/../.." && pwd)/crates/gated/out/gated}
+if [ ! -x "$GATED" ]; then
+  echo "no program at $GATED: name one by GATED, or run" \
+    "(cd crates/gated && rt run -- replay ../../examples/settings.toml </dev/null) at the top of the repository" >&2
+  exit 1
+fi
+FORGE=$(mktemp -d)
+export FORGE FORGE_SCRIPTS FORGE_SETTINGS
+. "$FORGE_SCRIPTS/common.sh"
+declare -A running=()
+
+# Starts a part of the forge as a group of processes of its own, which `stop` ends as a power cut would.
+start() {
+  local part=$1
+  shift
+  setsid "$@" >>"$FORGE/$part.log" 2>&1 &
+  running[$part]=$!
+}
+
+stop() {
+  kill -9 -- "-${running[$1]}" 2>/dev/null || true
+  wait "${running[$1]}" 2>/dev/null || true
+  unset "running[$1]"
+}
+
+finish() {
+  local status=$? part
+  for part in "${!running[@]}"; do
+    stop "$part"
+  done
+  [ "$status" -eq 0 ] && rm -rf "$FORGE" || echo "what was left lies in $FORGE" >&2
+}
+trap finish EXIT
+trap 'exit 1' INT TERM HUP
+
+fail() {
+  echo "differs: $*" >&2
+  exit 1
+}
+
+# Waits until a command succeeds.
+await() {
+  until "$@" >/dev/null 2>&1; do
+    [ "$SECONDS" -lt 110 ] || fail "waited too long for: $*"
+    sleep 0.1
+  done
+}
+
+start_gate() {
+  : >"$FORGE/gate.log"
+  start gate "$GATED" serve "$FORGE_SETTINGS" "$FORGE/day.gate" --port 0 --count 1000000000
+  await grep -q '^listening' "$FORGE/gate.log"
+  sed -n 's/^listening 127.0.0.1://p' "$FORGE/gate.log" >"$FORGE/port.new"
+  mv "$FORGE/port.new" "$FORGE/port"
+}
+
+# Nothing stands in a queue, and nothing waits.
+is_quiet() {
+  [ -z "$(page status | grep -v '^queue \|^end$')" ]
+}
+
+has_landed() {
+  git -C "$FORGE/repos/$1.git" rev-parse --quiet --verify "refs/landings/$2"
+}
+
+# The landings of a queue as git has them, by the names that the lander gave them: place, change and revision.
+landings_by_git() {
+  local project
+  for project in $(projects_of "$1"); do
+    git -C "$FORGE/repos/$project.git" for-each-ref --format='%(refname:lstrip=3) %(subject)' "refs/landings/$1"
+  done | sort -n | sed 's/^\([0-9]*\) Land \([^ ]*\) by order .*$/\1 \2/'
+}
+
+# The branch of a project is its first commit and then the landings that bear names, in their order.
+check_branch() {
+  local project=$1 queue=$2 branch names
+  branch=$(git -C "$FORGE/repos/$project.git" log --first-parent --reverse --format=%H base..main)
+  names=$(git -C "$FORGE/repos/$project.git" for-each-ref --format='%(refname:lstrip=3) %(objectname)' \
+    "refs/landings/$queue" | sort -n | cut -d ' ' -f 2)
+  [ "$branch" = "$names" ] || fail "the branch of $project isn't its landings"
+}
+
+# Each voting job passed on the tree that a landing left.
+check_trees() {
+  local project=$1 queue=$2 commit change tree
+  git -C "$FORGE/repos/$project.git" for-each-ref --format='%(objectname) %(subject)' "refs/landings/$queue" |
+    while read -r commit _ change _; do
+      tree=$(git -C "$FORGE/repos/$project.git" rev-parse "$commit^{tree}")
+      grep -q "^[0-9]* $project $change unit success $tree\$" "$FORGE/builds" ||
+        fail "$change landed on a tree that passed no unit job"
+    done
+}
+
+# What became of the changes of a queue: its landings in order, and what left without landing.
+check_queue() {
+  local queue=$1 landed=$2 left=$3 history
+  history=$(page "history/$queue")
+  [ "$(awk '$5 == "landed" { print $6, $3 "," $4 }' <<<"$history" | sort -n)" = "$(landings_by_git "$queue")" ] ||
+    fail "the gate and git tell other landings of $queue"
+  [ "$(awk '$5 == "landed" { print $3 }' <<<"$history" | sort -n | tr '\n' ' ')" = "$landed " ] ||
+    fail "not $landed landed in $queue"
+  [ "$(awk 'NF == 6 && $5 != "landed" { print $3, $5 }' <<<"$history" | sort -n | tr '\n' ' ')" = "$left " ] ||
+    fail "not $left left $queue"
+  printf '%s\n' "$history"
+}
