@@ -100,9 +100,9 @@ check_queue() {
   history=$(page "history/$queue")
   [ "$(awk '$5 == "landed" { print $6, $3 "," $4 }' <<<"$history" | sort -n)" = "$(landings_by_git "$queue")" ] ||
     fail "the gate and git tell other landings of $queue"
-  [ "$(awk '$5 == "landed" { print $3 }' <<<"$history" | sort -n | tr '\n' ' ')" = "$landed " ] ||
+  [ "$(awk '$5 == "landed" { print $3 }' <<<"$history" | sort -n | tr '\n' ' ')" = "${landed:+$landed }" ] ||
     fail "not $landed landed in $queue"
-  [ "$(awk 'NF == 6 && $5 != "landed" { print $3, $5 }' <<<"$history" | sort -n | tr '\n' ' ')" = "$left " ] ||
+  [ "$(awk 'NF == 6 && $5 != "landed" { print $3, $5 }' <<<"$history" | sort -n | tr '\n' ' ')" = "${left:+$left }" ] ||
     fail "not $left left $queue"
   printf '%s\n' "$history"
 }
