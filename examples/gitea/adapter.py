@@ -8,6 +8,7 @@ earlier hash stays at its last revision: a webhook that comes late looks the sam
 """
 import hashlib
 import hmac
+import http.client
 import http.server
 import json
 import os
@@ -17,8 +18,6 @@ import subprocess
 import sys
 import threading
 import time
-import urllib.error
-import urllib.request
 import uuid
 
 FOOTER = re.compile(r"^depends-on:[ \t]*(.*?)[ \t\r]*$", re.IGNORECASE | re.MULTILINE)
@@ -50,7 +49,7 @@ def needs_of(tables, text):
             print("names no pull request:", address)
             continue
         lines.append(f"Depends-On: {os.environ['BASE']}{change_of(tables, named[1], int(named[2]))}")
-    return "\n".join(lines)
+    return "\n".join(list(dict.fromkeys(lines))[:33])  # with 33 the gate refuses them
 
 
 def keep(tables, **said):
@@ -71,7 +70,7 @@ def revise(tables, change, project, pull):
     folder = os.path.join(os.environ["REPOSITORIES"], project + ".git")
     subprocess.run(["git", "-C", folder, "update-ref", f"refs/changes/{change}/{next_one}", head], check=True)
     keep(tables, kind="revision", change=change, project=project, revision=next_one,
-         message=pull["title"] + "\n\n" + needs)
+         message=pull["title"][:200] + "\n\n" + needs)
 
 
 def take(tables, event, hook):
@@ -113,17 +112,16 @@ def send(tables, lock):
 
 
 def post(delivery):
-    """The answer to a delivery, or nothing where none came whole, or it is 503."""
+    """The gate's answer to a delivery, or nothing where none came whole, or the gate is unavailable."""
     try:
         with open(os.environ["GATE_PORT"], encoding="ascii") as port:
-            address = f"http://127.0.0.1:{port.read().strip()}/forge"
-        said = urllib.request.urlopen(address, delivery.encode(), 10).read().decode()
-    except urllib.error.HTTPError as refused:
-        said = refused.read().decode() if refused.code != 503 else None
-    except (OSError, http.server.http.client.HTTPException):
-        said = None
+            gate = http.client.HTTPConnection("127.0.0.1", int(port.read()), timeout=10)
+        gate.request("POST", "/forge", delivery.encode())
+        said = gate.getresponse().read().decode()
+    except (OSError, ValueError, http.client.HTTPException):
+        return None
     print(delivery, said)
-    return said
+    return said if '"reply"' in said or '"code"' in said and '"E15"' not in said else None
 
 
 class Hook(http.server.BaseHTTPRequestHandler):
