@@ -102,7 +102,7 @@ await was_told '"kind": "approved", "change": 4' '"queued"'
 await is_quiet
 push acme/lib 2 'Add three' three=3
 hook gitea pull_request lib-2-closed-by-nobody 403
-hook gitea pull_request_sync lib-2-synchronized
+hook gitea pull_request lib-2-synchronized
 hook gitea pull_request_approved lib-2-approved-again
 await has_landed acme/lib core/3
 
