@@ -1,5 +1,5 @@
 -- What a file of schema 1 that stands for a content tells of it.
-use Rattle.std.proofs.Common.{◌≡◌, ◌∙◌, ◌≤◌, ℕ, Bool, true, false, not, cond, List, [], ◌∷◌, map, length, Option, Some, find, filter, ap, refl, sym, subst, IsPermutation, inl, inr}
+use Rattle.std.proofs.Common.{◌≡◌, ◌∙◌, ◌≤◌, true, false, not, cond, List, [], ◌∷◌, map, length, Option, Some, find, filter, ap, refl, sym, subst, IsPermutation, inl, inr}
 use Rattle.std.specs.Option.{option_map_or}
 use Rattle.std.specs.List.{list_any}
 use Rattle.std.proofs.lemmas.Bool.{and_parts, not-true}
@@ -21,13 +21,7 @@ use Rattle.gate_queries.specs.First.{ShowsFirst, first_schema}
 use Rattle.gate_laws.proofs.Alone.{names_differ, same_name_of}
 use Rattle.gate_laws.proofs.Members.{In, all, none_from, to_map}
 use Rattle.gate_sql.specs.Held.{queue_names}
-use Rattle.std.specs.Prelude.{Err, MatchResult, Ok, Result, bytes_eq, codes}
-use Rattle.std.proofs.Common.{true≢false}
-use Rattle.gate_queries.specs.Finds.{Stays}
-use Rattle.gate_queries.proofs.StayLemmas.{stays_then}
-use Rattle.gate_sql.specs.Opens.{IsStanding, is_newly_taken}
-use Rattle.gate_types.specs.declared.open_fault.OpenFault.{OpenFault}
-use Rattle.gate_types.specs.declared.open_fault.OpenFault.TheVariants as fault
+use Rattle.gate_sql.specs.Opens.{is_newly_taken}
 use Rattle.gate_sql.specs.Migrates.{CanMigrate, TellsQueue, TellsState, pair_of_item, pair_of_row, puts}
 use Rattle.gate_sql.specs.Upgrade.{CanUpgrade, tables_before, without_plans}
 use Rattle.gate_sql.proofs.MigrateLemmas.{first_plans, puts_known}
@@ -117,36 +111,3 @@ still_can old new c x is can = record {
 pub names_free : is_newly_taken first_schema ≡ false
 unfolding Rattle.sqlite_schema.specs.Names.same_name
 names_free = refl
-
--- ---- which version a file is of
-
-two_not_one : codes "2" ≡ codes "1" → ⊥
-two_not_one h = let e : false ≡ true = ap (λ l. bytes_eq l (codes "1")) h in true≢false (sym e)
-
--- a file of schema 2 isn't of schema 1
-pub not_first : (t : Bool) (kept settings : List ℕ) → t ≡ true → IsStanding (Ok t) (codes "2") kept settings → ⊥
-not_first t kept settings is h = two_not_one (subst (λ t. IsStanding (Ok t) (codes "2") kept settings) is h).0
-
--- and the other way round
-pub not_second : (t : Bool) (kept settings : List ℕ) → t ≡ false → IsStanding (Ok t) (codes "1") kept settings → ⊥
-not_second t kept settings is h = two_not_one (sym (subst (λ t. IsStanding (Ok t) (codes "1") kept settings) is h))
-
--- a file of schema 1 and of these settings isn't refused
-pub first_fails : (f : OpenFault) (kept settings : List ℕ) → kept ≡ settings → IsStanding (Err f) (codes "1") kept settings → f ≡ fault.Unavailable
-first_fails fault.WrongFile kept settings same h = absurd h
-first_fails fault.OtherSchema kept settings same h = absurd (h.0 refl)
-first_fails fault.OtherSettings kept settings same h = absurd (h.1 same)
-first_fails fault.Unavailable kept settings same h = refl
-
--- nor is one of schema 2
-pub second_fails : (f : OpenFault) (kept settings : List ℕ) → IsStanding (Err f) (codes "2") kept settings → f ≡ fault.Unavailable
-second_fails fault.WrongFile kept settings h = absurd h
-second_fails fault.OtherSchema kept settings h = absurd (h.1 refl)
-second_fails fault.OtherSettings kept settings h = absurd (two_not_one h.0)
-second_fails fault.Unavailable kept settings h = refl
-
--- what a later call leaves as it was, both do
-pub finishes_from : {T : Type 0} (P : T → Type 0) (old mid new : SqlState) (r : Result T OpenFault) → Stays old mid → MatchResult r P (λ f. (f ≡ fault.Unavailable) × Stays mid new)
-    → MatchResult r P (λ f. (f ≡ fault.Unavailable) × Stays old new)
-finishes_from P old mid new (Ok m) first h = h
-finishes_from P old mid new (Err f) first h = (h.0, stays_then old mid new first h.1)

@@ -49,7 +49,7 @@ pair_for row first key (Some t) two p same q =
     subst (λ k. row ≡ pair_of_words k t.now) ((bytes_eq-Decides first key).0 same) (pair_is row first t.now two p q.1)
 
 -- rows that are three
-three_are : (rows : List Row) (a b c : Row) → length rows ≡ 3 → a ≡ slice_index_or rows 0 a → b ≡ slice_index_or rows 1 b → c ≡ slice_index_or rows 2 c → rows ≡ a ∷ b ∷ c ∷ []
+pub three_are : (rows : List Row) (a b c : Row) → length rows ≡ 3 → a ≡ slice_index_or rows 0 a → b ≡ slice_index_or rows 1 b → c ≡ slice_index_or rows 2 c → rows ≡ a ∷ b ∷ c ∷ []
 three_are [] a b c three p q r = absurd cc
 three_are (x ∷ []) a b c three p q r = absurd (omega (arith, three))
 three_are (x ∷ y ∷ []) a b c three p q r = absurd (omega (arith, three))

@@ -12,6 +12,7 @@ mod SchemaLemmas
 mod FailLemmas
 mod MetaLemmas
 mod JudgeLemmas
+mod StandingLemmas
 mod OpenLemmas
 mod AgainLemmas
 pub mod ApplyLemmas

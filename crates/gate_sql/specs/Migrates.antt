@@ -1,10 +1,12 @@
 -- The plans that a file of schema 1 gets, and what is read of it for them.
-use Rattle.std.specs.Prelude.{◌≡◌, ◌&&◌, ℕ, Bool, List, map, MatchResult, Result}
+use Rattle.std.specs.Prelude.{◌≡◌, ◌⊎◌, ◌&&◌, ℕ, Bool, true, List, codes, map, MatchResult, Result}
 use Rattle.std.specs.List.{AllByRecursion}
+use Rattle.sqlite.specs.Effect.{Database}
 use Rattle.sqlite.specs.State.{State as SqlState}
 use Rattle.gate_types.specs.Migrate.{migrated_content}
 use Rattle.gate_types.specs.Once.{Content}
 use Rattle.gate_types.specs.Settings.{Settings}
+use Rattle.gate_types.specs.SettingsText.{settings_text}
 use Rattle.gate_types.specs.State.{Item, Queue, State, project_of}
 use Rattle.gate_types.specs.Tables.{change_row}
 use Rattle.gate_types.specs.declared.config.Queue.{Queue as QueueSetting}
@@ -14,11 +16,15 @@ use Rattle.gate_types.specs.declared.records.Item.{Item as ItemRow}
 use Rattle.gate_types.specs.declared.records.Landing.{Landing}
 use Rattle.gate_types.specs.declared.records.Plan.{Plan}
 use Rattle.gate_rows.specs.Tells.{items_of}
+use Rattle.gate_rows.specs.Writes.{LeavesNothing}
 use Rattle.gate_schema.specs.Rows.{Stored}
 use Rattle.gate_queries.specs.First.{HoldsLandings, first_schema}
 use Rattle.gate_queries.specs.Finds.{Stays}
 use Rattle.gate_sql.specs.Held.{IsShownFor, queue_names}
+use Rattle.gate_sql.specs.Opens.{is_newly_taken}
+use Rattle.gate_sql.specs.Reading.{ShowsMeta}
 use Rattle.gate_sql.specs.Upgrade.{StandsForFirst}
+use Rattle.gate_sql.specs.declared.migrating.Migrated.{Migrated}
 use Rattle.gate_types.specs.declared.open_fault.OpenFault.{OpenFault}
 use Rattle.gate_types.specs.declared.open_fault.OpenFault.TheVariants as fault
 
@@ -63,6 +69,15 @@ pub record CanMigrate (s : SqlState) (c : Settings) (x : Content) : Type 0 where
 
 -- the file stands for what the content becomes; or memory, the disk or its size failed, or two plans would have one
 -- serial, and it is as it was
-abbrev pub Carries : SqlState → SqlState → Settings → Content → Result (Unit {0}) OpenFault → Type 0
+abbrev pub Carries : SqlState → SqlState → Settings → Content → Result Migrated OpenFault → Type 0
 Carries old new c x result =
     MatchResult result (λ _. IsShownFor new c (migrated_content c x)) (λ f. (f ≡ fault.Unavailable) × Stays old new)
+
+-- it isn't a file of schema 1 with these settings whose new names are free
+abbrev pub HasNoneToMigrate : Database → Settings → Type 0
+HasNoneToMigrate db d = (is_newly_taken db.schema ≡ true) ⊎ (ShowsMeta db (codes "1") (settings_text d) → ⊥)
+
+-- nothing is made of it: what is shown stays, and a crash leaves what it left before
+pub record IsLeft (old new : SqlState) : Type 0 where
+  pub stays : Stays old new
+  pub crash : LeavesNothing old new

@@ -14,6 +14,8 @@ use Rattle.gate_schema.specs.Rows.{IsFixed, pair_of_words}
 use Rattle.gate_schema.specs.Schema.{meta_at}
 use Rattle.gate_types.specs.declared.open_fault.OpenFault.{OpenFault}
 use Rattle.gate_types.specs.declared.open_fault.OpenFault.TheVariants as fault
+use Rattle.gate_sql.specs.declared.migrating.Migrated.{Migrated}
+use Rattle.gate_sql.specs.declared.migrating.Migrated.TheVariants as migrated
 
 -- ---- opening
 
@@ -79,6 +81,18 @@ new_names = codes "item_job" ∷ codes "item_fast" ∷ []
 -- a table, an index or a view has one of them
 abbrev pub is_newly_taken : Schema → Bool
 is_newly_taken schema = list_any (is_used schema) new_names
+
+-- what is answered of a file of this version that keeps settings of this text, asked with these, where one of the new
+-- names is taken or not
+abbrev pub IsMigrated : Result Migrated OpenFault → Bool → List ℕ → List ℕ → Settings → Type 0
+IsMigrated (Ok migrated.Done) taken version kept d =
+    (version ≡ codes "1") × (taken ≡ false) × (kept ≡ settings_text d)
+IsMigrated (Ok migrated.Already) taken version kept d = version ≡ codes "2"
+IsMigrated (Err fault.WrongFile) taken version kept d = (version ≡ codes "1") × (taken ≡ true)
+IsMigrated (Err fault.OtherSchema) taken version kept d = (version ≢ codes "1") × (version ≢ codes "2")
+IsMigrated (Err fault.OtherSettings) taken version kept d =
+    (version ≡ codes "1") × (taken ≡ false) × (kept ≢ settings_text d)
+IsMigrated (Err fault.Unavailable) taken version kept d = ⊤
 
 -- why a file isn't migrated: a name that is taken comes before other settings
 abbrev pub fault_before : Bool → OpenFault → OpenFault

@@ -18,7 +18,8 @@ use Rattle.gate_types.specs.Adopt.{may_adopt}
 use Rattle.gate_types.specs.Settings.{Settings}
 use Rattle.gate_types.specs.SettingsText.{settings_text}
 use Rattle.gate_settings.specs.Told.{Tells}
-use Rattle.gate_sql.specs.Opens.{IsJudged, MayOpen, with_meta}
+use Rattle.gate_sql.specs.Opens.{IsJudged, IsMigrated, IsStanding, MayOpen, with_meta}
+use Rattle.gate_sql.specs.declared.migrating.Migrated.{Migrated}
 use Rattle.gate_types.specs.declared.open_fault.OpenFault.{OpenFault}
 use Rattle.gate_types.specs.declared.open_fault.OpenFault.TheVariants as fault
 
@@ -77,6 +78,21 @@ abbrev pub IsMet : Result Settings OpenFault → List ℕ → Settings → Type 
 IsMet (Ok c) kept d = Tells kept c × (may_adopt c d ≡ true)
 IsMet (Err fault.OtherSettings) kept d = (c : Settings) → Tells kept c → may_adopt c d ≡ true → ⊥
 IsMet (Err f) kept d = f ≡ fault.Unavailable
+
+-- where `Are v k` says that the file is of version v and keeps settings of text k: how it stands is told only where it is
+-- so
+abbrev pub IsStandingOf : Result Bool OpenFault → (List ℕ → List ℕ → Type 0) → List ℕ → Type 0
+IsStandingOf (Err fault.WrongFile) Are settings = ⊤
+IsStandingOf (Err fault.Unavailable) Are settings = ⊤
+IsStandingOf result Are settings =
+    (version : List ℕ) × (kept : List ℕ) × IsStanding result version kept settings × Are version kept
+
+-- and so what is answered to who wants it migrated
+abbrev pub IsMigratedOf : Result Migrated OpenFault → Bool → (List ℕ → List ℕ → Type 0) → Settings → Type 0
+IsMigratedOf (Err fault.WrongFile) taken Are d = ⊤
+IsMigratedOf (Err fault.Unavailable) taken Are d = ⊤
+IsMigratedOf result taken Are d =
+    (version : List ℕ) × (kept : List ℕ) × IsMigrated result taken version kept d × Are version kept
 
 -- it isn't so that the file keeps other settings in whose place these may be taken
 abbrev pub HasNoneToAdopt : Database → Settings → Type 0

@@ -1,11 +1,12 @@
 //! A gate's file of schema 1 made one of schema 2.
-ghost use Rattle.std.specs.Prelude.{◌≡◌, ◌⊎◌, false, map, IsTrue, MatchResult, OnOk};
+ghost use Rattle.std.specs.Prelude.{◌≡◌, ◌⊎◌, codes, false, map, IfErr, IsTrue, MatchResult, OnOk};
 ghost use Rattle.sqlite.specs.Held.{state};
 ghost use Rattle.sqlite.specs.State.{HasCleanDisk, IsUnchanged};
 ghost use Rattle.sqlite.specs.Tree.{Trees};
 ghost use Rattle.gate_types.specs.Migrate.{migrated_content};
 ghost use Rattle.gate_types.specs.Once.{Content};
 ghost use Rattle.gate_types.specs.Settings.{Settings};
+ghost use Rattle.gate_types.specs.SettingsText.{settings_text};
 ghost use Rattle.gate_types.specs.State.{Queue as GateQueue};
 ghost use Rattle.gate_rows.specs.Tells.{StandsFor};
 ghost use Rattle.gate_rows.specs.Writes.{LeavesNothing};
@@ -13,9 +14,10 @@ ghost use Rattle.gate_queries.specs.Finds.{Stays};
 ghost use Rattle.gate_sql.specs.Applies.{LeavesOrStands};
 ghost use Rattle.gate_sql.specs.Held.{IsShownFor, queue_names};
 ghost use Rattle.gate_sql.specs.Upgrade.{StandsForFirst};
-ghost use Rattle.gate_sql.specs.Migrates.{CanMigrate, Carries};
-ghost use Rattle.gate_sql.specs.Opens.{IsMeta, IsStanding, fault_before, is_newly_taken, with_meta};
-ghost use Rattle.gate_sql.specs.Reading.{KnowsMeta, meta_rows};
+ghost use Rattle.gate_sql.specs.Making.{IsSettled};
+ghost use Rattle.gate_sql.specs.Migrates.{CanMigrate, Carries, HasNoneToMigrate, IsLeft};
+ghost use Rattle.gate_sql.specs.Opens.{IsMeta, IsMigrated, IsStanding, fault_before, is_newly_taken, with_meta};
+ghost use Rattle.gate_sql.specs.Reading.{HasNoMeta, IsMigratedOf, IsStandingOf, IsUnread, KnowsMeta, ShowsMeta, met, meta_rows};
 
 use crate::creating::is_any_used;
 use crate::opening::{fault_of, is_text, read_meta, value_for};
@@ -53,8 +55,9 @@ fn judge_version(version: &[u8], kept: &[u8], settings: &str) -> Result<bool, Op
 
 /// The same of a file with these rows in `meta`.
 fn judge_rows(rows: &[Row], settings: &str) -> Result<bool, OpenFault>
-    ensures { (version kept : _) → rows.now ≡ meta_rows version kept →
+    ensures judged { (version kept : _) → rows.now ≡ meta_rows version kept →
         IsStanding result version kept settings.now }
+    ensures told { IsStandingOf result (λ version kept. rows.now ≡ meta_rows version kept) settings.now }
 {
     let [first, second, third] = rows else {
         return Err(OpenFault::WrongFile);
@@ -79,6 +82,10 @@ fn standing_in<S: Alter>(conn: &mut Connection<S>, settings: &str) -> Result<boo
     ensures judged { HasCleanDisk (state S.Store conn.new) → (tables : _) (indexes : _) (version kept : _) →
         (state S.Store conn.old).now.schema ≡ with_meta tables indexes →
         IsMeta (state S.Store conn.old).now.trees version kept → IsStanding result version kept settings.now }
+    ensures told { HasCleanDisk (state S.Store conn.new) →
+        IsStandingOf result (ShowsMeta (state S.Store conn.old).now) settings.now }
+    ensures unread { HasCleanDisk (state S.Store conn.new) → HasNoMeta (state S.Store conn.old).now.schema →
+        IsUnread (met result) }
     ensures same { HasCleanDisk (state S.Store conn.new) → (tables : _) (indexes : _) →
         (state S.Store conn.old).now.schema ≡ with_meta tables indexes →
         OnOk result (IsUnchanged (state S.Store conn.old) (state S.Store conn.new)) }
@@ -102,10 +109,12 @@ fn carry_out<S: Alter>(
     alloc: Global,
     conn: &mut Connection<S>,
     config: &Config,
-) -> Result<(), OpenFault>
+) -> Result<Migrated, OpenFault>
     ensures done { HasCleanDisk (state S.Store conn.new) → IsTrue (state S.Store conn.old).is_open → (x : Content) →
         CanMigrate (state S.Store conn.old) config.now x →
         Carries (state S.Store conn.old) (state S.Store conn.new) config.now x result }
+    ensures answer { MatchResult result (λ m. m ≡ Migrated.Done) (λ f. f ≡ OpenFault.Unavailable) }
+    ensures settled { HasCleanDisk (state S.Store conn.new) → OnOk result (IsSettled (state S.Store conn.new)) }
     ensures crash { HasCleanDisk (state S.Store conn.new) → IsTrue (state S.Store conn.old).is_open → (x : Content) →
         CanMigrate (state S.Store conn.old) config.now x →
         LeavesOrStands (state S.Store conn.old) (state S.Store conn.new) config.now
@@ -120,7 +129,7 @@ fn carry_out<S: Alter>(
         return Err(OpenFault::Unavailable);
     }
     match upgrade_if_open(alloc, conn, &edits) {
-        Ok(()) => Ok(()),
+        Ok(()) => Ok(Migrated::Done),
         Err(_) => Err(OpenFault::Unavailable),
     }
 }
@@ -133,10 +142,9 @@ fn has_new_names(schema: &Schema) -> bool
 }
 
 /// Why a file isn't migrated: a name that is taken comes before other settings.
-fn fault_before(schema: &Schema, fault: OpenFault) -> OpenFault
-    ensures { result ≡ fault_before (is_newly_taken schema.now) fault }
+fn fault_before(taken: bool, fault: OpenFault) -> OpenFault
+    ensures { result ≡ fault_before taken fault }
 {
-    let taken = has_new_names(schema);
     match fault {
         OpenFault::OtherSettings => {
             if taken {
@@ -148,31 +156,6 @@ fn fault_before(schema: &Schema, fault: OpenFault) -> OpenFault
         OpenFault::WrongFile => OpenFault::WrongFile,
         OpenFault::OtherSchema => OpenFault::OtherSchema,
         OpenFault::Unavailable => OpenFault::Unavailable,
-    }
-}
-
-/// Carries a file of schema 1 over, where the new names are free.
-fn migrate_first<S: Alter>(
-    alloc: Global,
-    conn: &mut Connection<S>,
-    config: &Config,
-) -> Result<Migrated, OpenFault>
-    ensures done { HasCleanDisk (state S.Store conn.new) → IsTrue (state S.Store conn.old).is_open → (x : Content) →
-        CanMigrate (state S.Store conn.old) config.now x → MatchResult result
-        (λ m. (m ≡ Migrated.Done) × IsShownFor (state S.Store conn.new) config.now (migrated_content config.now x))
-        (λ f. (f ≡ OpenFault.Unavailable) × Stays (state S.Store conn.old) (state S.Store conn.new)) }
-    ensures crash { HasCleanDisk (state S.Store conn.new) → IsTrue (state S.Store conn.old).is_open → (x : Content) →
-        CanMigrate (state S.Store conn.old) config.now x →
-        LeavesOrStands (state S.Store conn.old) (state S.Store conn.new) config.now
-        (migrated_content config.now x) }
-    ensures clean { HasCleanDisk (state S.Store conn.new) → HasCleanDisk (state S.Store conn.old) }
-{
-    if has_new_names(conn.schema()) {
-        return Err(OpenFault::WrongFile);
-    }
-    match carry_out(alloc, conn, config) {
-        Ok(()) => Ok(Migrated::Done),
-        Err(fault) => Err(fault),
     }
 }
 
@@ -192,10 +175,28 @@ pub fn migrate<S: Alter>(
         map (λ (q : GateQueue). q.name) x.state.queues ≡ queue_names config.now → MatchResult result
         (λ m. (m ≡ Migrated.Done) × IsShownFor (state S.Store conn.new) config.now (migrated_content config.now x))
         (λ f. (f ≡ OpenFault.Unavailable) × Stays (state S.Store conn.old) (state S.Store conn.new)) }
+    ensures settled { HasCleanDisk (state S.Store conn.new) → IsTrue (state S.Store conn.old).is_open → (x : Content) →
+        StandsForFirst (state S.Store conn.old).now.trees config.now x →
+        map (λ (q : GateQueue). q.name) x.state.queues ≡ queue_names config.now →
+        OnOk result ((db : Trees) → S.Store.recovers conn.new.store db →
+        StandsFor db config.now (migrated_content config.now x)) }
     ensures already { HasCleanDisk (state S.Store conn.new) → IsTrue (state S.Store conn.old).is_open →
         (c : Settings) (x : Content) → StandsFor (state S.Store conn.old).now.trees c x → MatchResult result
-        (λ m. (m ≡ Migrated.Already) × Stays (state S.Store conn.old) (state S.Store conn.new))
-        (λ f. (f ≡ OpenFault.Unavailable) × Stays (state S.Store conn.old) (state S.Store conn.new)) }
+        (λ m. m ≡ Migrated.Already) (λ f. f ≡ OpenFault.Unavailable)
+        × IsLeft (state S.Store conn.old) (state S.Store conn.new) }
+    // whether it is migrated is decided by the file alone
+    ensures judged { HasCleanDisk (state S.Store conn.new) → (tables : _) (indexes : _) (version kept : _) →
+        (state S.Store conn.old).now.schema ≡ with_meta tables indexes →
+        IsMeta (state S.Store conn.old).now.trees version kept →
+        IsMigrated result (is_newly_taken (state S.Store conn.old).now.schema) version kept config.now }
+    ensures told { HasCleanDisk (state S.Store conn.new) →
+        IsMigratedOf result (is_newly_taken (state S.Store conn.old).now.schema)
+        (ShowsMeta (state S.Store conn.old).now) config.now }
+    ensures unread { HasCleanDisk (state S.Store conn.new) → HasNoMeta (state S.Store conn.old).now.schema →
+        IsUnread (met result) }
+    ensures none { HasCleanDisk (state S.Store conn.new) → KnowsMeta (state S.Store conn.old).now.schema →
+        HasNoneToMigrate (state S.Store conn.old).now config.now →
+        IsLeft (state S.Store conn.old) (state S.Store conn.new) }
     ensures crash { HasCleanDisk (state S.Store conn.new) → IsTrue (state S.Store conn.old).is_open → (x : Content) →
         StandsForFirst (state S.Store conn.old).now.trees config.now x →
         map (λ (q : GateQueue). q.name) x.state.queues ≡ queue_names config.now →
@@ -207,10 +208,16 @@ pub fn migrate<S: Alter>(
         return Err(OpenFault::Unavailable);
     };
     // It tells that the schema is the one that the tables list.
-    let _ = conn.schema();
+    let taken = has_new_names(conn.schema());
     match standing_in(conn, settings.as_str()) {
-        Ok(true) => migrate_first(alloc, conn, config),
+        Ok(true) => {
+            if taken {
+                Err(OpenFault::WrongFile)
+            } else {
+                carry_out(alloc, conn, config)
+            }
+        }
         Ok(false) => Ok(Migrated::Already),
-        Err(fault) => Err(fault_before(conn.schema(), fault)),
+        Err(fault) => Err(fault_before(taken, fault)),
     }
 }

@@ -128,6 +128,7 @@ pub(crate) fn upgrade_if_open<S: Alter>(
         (IsTrue (state S.Store conn.old).is_open → CanUpgrade (state S.Store conn.old) b edits.now t) →
         OnOk result (((state S.Store conn.new).now.schema ≡ gate_schema) ×
         HasUpgraded (state S.Store conn.new).now.trees b edits.now t) }
+    ensures settled { HasCleanDisk (state S.Store conn.new) → OnOk result (IsSettled (state S.Store conn.new)) }
     ensures none { HasCleanDisk (state S.Store conn.new) → (b : _) (t : _) →
         (IsTrue (state S.Store conn.old).is_open → CanUpgrade (state S.Store conn.old) b edits.now t) →
         OnErr result (Stays (state S.Store conn.old) (state S.Store conn.new)) }

@@ -1,5 +1,5 @@
 -- What a conversation over a file comes to.
-use Rattle.std.specs.Prelude.{IsTrue, ⊤, ◌≡◌, ◌⊎◌, true, Option, Some, None, Result, Err}
+use Rattle.std.specs.Prelude.{IsTrue, ⊤, ◌≡◌, ◌⊎◌, true, Option, Some, None, Result, Ok, Err}
 use Rattle.sqlite.specs.State.{HasCleanDisk, State}
 use Rattle.gate_types.specs.Adopt.{may_adopt, adopted_content}
 use Rattle.gate_types.specs.Forms.{IsLawfulContent}
@@ -9,6 +9,7 @@ use Rattle.gate_rows.specs.Tells.{StandsFor}
 use Rattle.gate_sql.specs.Adopts.{IsKept}
 use Rattle.gate_sql.specs.Held.{ShowsFor}
 use Rattle.gate_types.specs.declared.open_fault.OpenFault.{OpenFault}
+use Rattle.gate_types.specs.declared.open_fault.OpenFault.TheVariants as open_fault
 use Rattle.gate_core.specs.Gated.{Gated}
 use Rattle.gated_cli.specs.Ending.{IsOfServing}
 use Rattle.gated_cli.specs.declared.run.fault.Fault.{Fault}
@@ -56,6 +57,12 @@ StaysLawful d = (c : Settings) (x : Content) → are_sound c ≡ true → may_ad
 abbrev pub file_fault : {T : Type 0} → Result T Fault → Option OpenFault
 file_fault (Err (fault.File f)) = Some f
 file_fault _ = None
+
+-- what is answered of the file: that it is done, or why not
+abbrev pub file_answer : {T : Type 0} → Result T Fault → Result T OpenFault
+file_answer (Ok x) = Ok x
+file_answer (Err (fault.File f)) = Err f
+file_answer (Err f) = Err open_fault.Unavailable
 
 -- a fault of serving over a file: of the file, or as over a gate
 abbrev pub IsOfServingOver : Fault → Type 0

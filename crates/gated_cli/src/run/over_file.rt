@@ -3,6 +3,7 @@ ghost use Rattle.std.specs.Prelude.{◌≡◌, ◌≢◌, ℕ, Bool, List, Optio
 ghost use Rattle.std.specs.Prelude.{OnOk, OnErr, IfErr, IfSome, IsErrOf, IsTrue, MatchResult};
 ghost use Rattle.sqlite.specs.Held.{state};
 ghost use Rattle.sqlite.specs.State.{HasCleanDisk};
+ghost use Rattle.sqlite.specs.Tree.{Trees};
 ghost use Rattle.gate_types.specs.Migrate.{migrated_content};
 ghost use Rattle.gate_types.specs.Once.{Content, empty};
 ghost use Rattle.gate_types.specs.Settings.{Settings};
@@ -16,13 +17,14 @@ ghost use Rattle.gate_rows.specs.Tells.{StandsFor};
 ghost use Rattle.gate_sql.specs.Adopts.{CanBeLeft};
 ghost use Rattle.gate_sql.specs.Applies.{LeavesOrStands};
 ghost use Rattle.gate_sql.specs.Held.{IsShownFor, ShowsFor, queue_names};
-ghost use Rattle.gate_sql.specs.Opens.{IsJudged, IsMeta, with_meta};
+ghost use Rattle.gate_sql.specs.Migrates.{HasNoneToMigrate, IsLeft};
+ghost use Rattle.gate_sql.specs.Opens.{IsJudged, IsMeta, IsMigrated, is_newly_taken, with_meta};
 ghost use Rattle.gate_sql.specs.Reading.{KnowsMeta};
 ghost use Rattle.gate_sql.specs.Upgrade.{StandsForFirst};
 ghost use Rattle.gate_http.specs.Connections.{IsCalled};
 ghost use Rattle.gated_cli.specs.Doing.{Announces, beside};
 ghost use Rattle.gated_cli.specs.Ending.{IsOfFile, ServingEnds};
-ghost use Rattle.gated_cli.specs.OverFile.{GoesOver, IsOfServingOver, StaysLawful, file_fault};
+ghost use Rattle.gated_cli.specs.OverFile.{GoesOver, IsOfServingOver, StaysLawful, file_answer, file_fault};
 ghost use Rattle.gated_cli.specs.Showing.{WritesStatus, StopsStatus, WritesHistory, StopsHistory};
 ghost use Rattle.gated_cli.specs.Telling.{TellsUpTo};
 
@@ -73,10 +75,23 @@ pub fn migrate<S: Alter + Drop>(
         map (λ (q : GateQueue). q.name) x.state.queues ≡ queue_names config.now → MatchResult result.1
         (λ m. (m ≡ Migrated.Done) × IsShownFor (state S.Store result.0) config.now (migrated_content config.now x))
         (λ f. (f ≡ Fault.File OpenFault.Unavailable) × Stays (state S.Store conn) (state S.Store result.0)) }
+    ensures settled { HasCleanDisk (state S.Store result.0) → IsTrue (state S.Store conn).is_open → (x : Content) →
+        StandsForFirst (state S.Store conn).now.trees config.now x →
+        map (λ (q : GateQueue). q.name) x.state.queues ≡ queue_names config.now →
+        OnOk result.1 ((db : Trees) → S.Store.recovers result.0.store db →
+        StandsFor db config.now (migrated_content config.now x)) }
     ensures already { HasCleanDisk (state S.Store result.0) → IsTrue (state S.Store conn).is_open →
         (c : Settings) (x : Content) → StandsFor (state S.Store conn).now.trees c x → MatchResult result.1
-        (λ m. (m ≡ Migrated.Already) × Stays (state S.Store conn) (state S.Store result.0))
-        (λ f. (f ≡ Fault.File OpenFault.Unavailable) × Stays (state S.Store conn) (state S.Store result.0)) }
+        (λ m. m ≡ Migrated.Already) (λ f. f ≡ Fault.File OpenFault.Unavailable)
+        × IsLeft (state S.Store conn) (state S.Store result.0) }
+    // whether the file is migrated is decided by the file alone
+    ensures judged { HasCleanDisk (state S.Store result.0) → (tables : _) (indexes : _) (version kept : _) →
+        (state S.Store conn).now.schema ≡ with_meta tables indexes →
+        IsMeta (state S.Store conn).now.trees version kept →
+        IsMigrated (file_answer result.1) (is_newly_taken (state S.Store conn).now.schema) version kept config.now }
+    ensures none { HasCleanDisk (state S.Store result.0) → KnowsMeta (state S.Store conn).now.schema →
+        HasNoneToMigrate (state S.Store conn).now config.now →
+        IsLeft (state S.Store conn) (state S.Store result.0) }
     ensures crash { HasCleanDisk (state S.Store result.0) → IsTrue (state S.Store conn).is_open → (x : Content) →
         StandsForFirst (state S.Store conn).now.trees config.now x →
         map (λ (q : GateQueue). q.name) x.state.queues ≡ queue_names config.now →

@@ -4,15 +4,26 @@ use Rattle.sqlite.specs.Given.{IsPlain}
 use Rattle.sqlite.specs.Held.{state}
 use Rattle.sqlite.specs.Listing.{understood}
 use Rattle.gate_schema.proofs.QueryLemmas.{shown_keeps}
-use Rattle.gate_sql.specs.Reading.{meta_sql}
+use Rattle.gate_queries.specs.Finds.{Finds}
+use Rattle.gate_sql.specs.Reading.{ShowsMeta, meta_sql}
 use Rattle.gate_sql.proofs.JudgeLemmas.{on_ok_any}
 use Rattle.gate_sql.proofs.LeaveLemmas.{meta_stays}
-use Rattle.gate_sql.proofs.MetaLemmas.{meta_is, meta_shows, meta_unavailable}
+use Rattle.gate_sql.proofs.MetaLemmas.{meta_is, meta_shows, meta_unavailable, none_shown, shown_finds}
+use Rattle.gate_sql.proofs.StandingLemmas.{standing_so}
 use Rattle.gate_sql.proofs.migrating.standing_in.Goals as goal
 
 pub returns-in-Ok-clause-judged : goal.returns-in-Ok-clause-judged
 returns-in-Ok-clause-judged g c clean tables indexes version kept has meta =
-    c.judge_rows.ensures version kept (c.as_slice.ensures.value ∙ meta_shows _ _ tables indexes version kept _ has meta (c.in-Ok.ensures.shown clean))
+    c.judge_rows.ensures.judged version kept (c.as_slice.ensures.value ∙ meta_shows _ _ tables indexes version kept _ has meta (c.in-Ok.ensures.shown clean))
+
+pub returns-in-Ok-clause-told : goal.returns-in-Ok-clause-told
+returns-in-Ok-clause-told g c clean =
+    let old = state g.S.Store c.args.conn.now in
+    let found = shown_finds meta_sql [] old _ _ (c.in-Ok.ensures.shown clean) in
+    standing_so c.judge_rows.result _ (ShowsMeta old.now) c.args.settings.now (λ version kept is. subst (Finds meta_sql [] old.now) (sym c.as_slice.ensures.value ∙ is) found) c.judge_rows.ensures.told
+
+pub returns-in-Ok-clause-unread : goal.returns-in-Ok-clause-unread
+returns-in-Ok-clause-unread g c clean none = absurd (none_shown _ _ _ none (c.in-Ok.ensures.shown clean))
 
 pub returns-in-Ok-clause-same : goal.returns-in-Ok-clause-same
 returns-in-Ok-clause-same g c clean tables indexes has =
