@@ -3,19 +3,34 @@ use crate::chapters::goes_on_over;
 use crate::claims::is;
 use crate::stored::disks::{Disks, Stop, closed, empty_files, opened};
 use crate::stored::files::{SETTINGS, made_under};
-use crate::stored::first_schema::{ROWS, TABLES};
+use crate::stored::first_schema::{
+    CHANGES, CHANGES_WITH_INDEX, FAST_ROWS, LONG_ROWS, ROWS, TABLES_BEFORE, TABLES_BEHIND,
+};
 use crate::stored::rows::rows_in;
 use crate::stored::stops::{does_or_leaves, each_stop_of};
 use crate::stored::tables::{after, empty};
 use crate::stored::work::Work;
 use sqlite::{Alter, Connection, Files};
 use sqlite_disk::{Fuse, Memory};
+use std::alloc::{AllocError, Global};
 use std::process::Abort;
+
+/// A file of schema 1 with these rows, whose table of changes is made by these lines.
+fn first_with<S: Alter + Drop>(
+    rt: &(impl Abort + AllocGlobal),
+    conn: Connection<S>,
+    changes: &str,
+    rows: &str,
+) -> Connection<S> {
+    let conn = after(rt, conn, TABLES_BEFORE);
+    let conn = after(rt, conn, changes);
+    let conn = after(rt, conn, TABLES_BEHIND);
+    after(rt, conn, rows)
+}
 
 /// A file of schema 1 with a gate that has landed a change.
 fn first<S: Alter + Drop>(rt: &(impl Abort + AllocGlobal), conn: Connection<S>) -> Connection<S> {
-    let conn = after(rt, conn, TABLES);
-    after(rt, conn, ROWS)
+    first_with(rt, conn, CHANGES, ROWS)
 }
 
 /// These lines are so of such a file.
@@ -135,12 +150,14 @@ tells first failed
 > {"id":"0c000000-0000-4000-8000-000000000002","kind":"landed","order":2}
 < {"n":1,"reply":"landed"}"#;
 
-/// All rows of a file that is migrated.
+/// All rows of a file that is migrated, whose table of changes was made by these lines.
 fn rows_of_migrated<S: Alter + Drop>(
     rt: &(impl Abort + AllocGlobal),
     conn: Connection<S>,
+    changes: &str,
 ) -> String {
-    let mut conn = after(rt, first(rt, conn), "migrate: done");
+    let conn = first_with(rt, conn, changes, ROWS);
+    let mut conn = after(rt, conn, "migrate: done");
     rows_in(rt, &mut conn)
 }
 
@@ -159,7 +176,7 @@ fn without_names<'a>(rt: &impl Abort, rows: &'a str) -> &'a str {
 
 #[test]
 fn a_migrated_file_has_the_rows_of_one_that_was_made(rt: HostRuntime) {
-    let migrated = rows_of_migrated(&rt, empty(&rt));
+    let migrated = rows_of_migrated(&rt, empty(&rt), CHANGES);
     let made = rows_of_made(&rt, empty(&rt));
     is(
         &rt,
@@ -167,6 +184,131 @@ fn a_migrated_file_has_the_rows_of_one_that_was_made(rt: HostRuntime) {
         without_names(&rt, made.as_str()),
         "all rows",
     );
+}
+
+#[test]
+fn a_migrated_file_with_an_index_of_approvals_is_as_one_that_was_made(rt: HostRuntime) {
+    let migrated = rows_of_migrated(&rt, empty(&rt), CHANGES_WITH_INDEX);
+    let made = rows_of_made(&rt, empty(&rt));
+    is(
+        &rt,
+        migrated.as_str(),
+        made.as_str(),
+        "all tables, indexes and rows",
+    );
+}
+
+/// An item of a project that fails fast is marked, and no landing.
+const FAST: &str = "migrate: OtherSettings
+migrate as core 2 1 and web, lib fails fast: done
+2 is SELECT count(*) FROM item_fast
+1 is SELECT count(*) FROM item_fast WHERE serial = 3
+1 is SELECT count(*) FROM item_fast WHERE serial = 5
+8 is SELECT count(*) FROM item_job
+2 is SELECT count(*) FROM item_job WHERE serial = 1
+1 is SELECT count(*) FROM item_job WHERE serial = 2
+2 is SELECT count(*) FROM item_job WHERE serial = 3
+1 is SELECT count(*) FROM item_job WHERE serial = 4
+2 is SELECT count(*) FROM item_job WHERE serial = 5";
+
+/// One failed job of the item ends the other.
+const FAST_GOES_ON: &str = r#"status
+queue core window 4 landed 2
+     3       103    1      - ok      unit=running docs=running
+     4       104    1      3 ok      unit=waiting
+     5       105    1      4 ok      unit=waiting docs=waiting
+queue web window 2 landed 0
+end
+
+> {"id":"0c000000-0000-4000-8000-000000000001","kind":"result","build":4,"outcome":"failure"}
+< {"reply":"noted"}
+> {"id":"0c000000-0000-4000-8000-000000000002","kind":"result","build":5,"outcome":"success"}
+< {"reply":"stale"}
+
+status
+queue core window 2 landed 2
+     4       104    1      - ok      unit=waiting
+     5       105    1      4 ok      unit=waiting docs=waiting
+queue web window 2 landed 0
+end"#;
+
+fn fails_fast<S: Alter + Drop>(rt: &(impl Abort + AllocGlobal), conn: Connection<S>) {
+    let conn = first_with(rt, conn, CHANGES, FAST_ROWS);
+    let conn = after(rt, conn, FAST);
+    let words = "core 2 1 and web, lib fails fast";
+    let _ = goes_on_over(rt, conn, words, "a fast project", FAST_GOES_ON);
+}
+
+#[test]
+fn queued_items_of_a_migrated_file_fail_fast(rt: HostRuntime) {
+    fails_fast(&rt, empty(&rt));
+}
+
+/// The lines that write the rows of 1,000 landings. Builds on two jobs have shown each.
+fn landings(alloc: Global) -> Result<String, AllocError> {
+    let mut lines = String::new(alloc);
+    for base in 0..1000u32 {
+        let n = base.saturating_add(1);
+        write!(
+            lines,
+            "run INSERT INTO change VALUES ({n}, 'lib', 1, 'landed', NULL)\n\
+             run INSERT INTO build VALUES ({n}, 'core', {n}, {n}, 1, 'unit', {base}, '[]', 'success', 1)\n\
+             run INSERT INTO build VALUES (100{n:04}, 'core', {n}, {n}, 1, 'docs', {base}, '[]', 'success', 1)\n\
+             run INSERT INTO landing VALUES ('core', {n}, {n}, {n}, 1)\n\
+             run INSERT INTO report VALUES ('core', {n}, {n}, {n}, 1, 'landed', {n})\n"
+        )?;
+    }
+    Ok(lines)
+}
+
+/// The change in the middle has another project. Each landing gets the jobs of its own.
+const LONG: &str = "run UPDATE change SET project = 'app' WHERE num = 500
+run DELETE FROM build WHERE serial = 500 AND job = 'docs'
+open: OtherSchema
+migrate: done
+open: done
+1999 is SELECT count(*) FROM item_job
+2 is SELECT count(*) FROM item_job WHERE serial = 1
+1 is SELECT count(*) FROM item_job WHERE serial = 1 AND place = 0 AND name = 'unit' AND voting = 1
+1 is SELECT count(*) FROM item_job WHERE serial = 1 AND place = 1 AND name = 'docs' AND voting = 0
+1 is SELECT count(*) FROM item_job WHERE serial = 500
+1 is SELECT count(*) FROM item_job WHERE serial = 500 AND place = 0 AND name = 'unit' AND voting = 1
+2 is SELECT count(*) FROM item_job WHERE serial = 1000
+1 is SELECT count(*) FROM item_job WHERE serial = 1000 AND place = 0 AND name = 'unit' AND voting = 1
+1 is SELECT count(*) FROM item_job WHERE serial = 1000 AND place = 1 AND name = 'docs' AND voting = 0
+0 is SELECT count(*) FROM item_fast";
+
+const LONG_GOES_ON: &str = r#"status
+queue core window 1000 landed 1000
+queue web window 2 landed 0
+end
+
+> {"id":"0c000000-0000-4000-8000-000000000001","kind":"revision","change":1001,"project":"app","revision":1,"message":"Depends-On: https://forge/c/1000"}
+< {"reply":"recorded"}
+> {"id":"0c000000-0000-4000-8000-000000000002","kind":"approved","change":1001,"revision":1}
+< {"order":1001,"reply":"queued"}
+
+status
+queue core window 1000 landed 1000
+  1001      1001    1      - ok      unit=waiting
+queue web window 2 landed 0
+end"#;
+
+/// A file of schema 1 with 1,000 landings.
+fn long<S: Alter + Drop>(rt: &(impl Abort + AllocGlobal), conn: Connection<S>) -> Connection<S> {
+    let lines = landings(rt.alloc()).expect(rt, "memory");
+    let conn = first_with(rt, conn, CHANGES, LONG_ROWS);
+    after(rt, conn, lines.as_str())
+}
+
+fn a_long_history_goes_on<S: Alter + Drop>(rt: &(impl Abort + AllocGlobal), conn: Connection<S>) {
+    let conn = after(rt, long(rt, conn), LONG);
+    let _ = goes_on_over(rt, conn, SETTINGS, "a thousand landings", LONG_GOES_ON);
+}
+
+#[test]
+fn a_thousand_landings_are_migrated(rt: HostRuntime) {
+    a_long_history_goes_on(&rt, empty(&rt));
 }
 
 /// The files of such a gate, closed, and all its rows.
