@@ -35,7 +35,7 @@ WAITING = [known(101, "lib"), known(102, "app", needs(101)), approved(102)]
 QUEUED = [known(101, "lib"), known(102, "app"), known(103, "lib"), *map(approved, (101, 102, 103)), *took(3)]
 SHOWN = [known(101, "lib"), known(102, "app"), *map(approved, (101, 102)), *took(3)]
 SHOWN += [ended(1, "success"), ended(2, "success")]
-TWO = [known(101, "lib"), known(102, "app", needs(101)), *map(approved, (101, 102)), *took(3), ended(1, "failure")]
+TWO = [known(101, "lib"), known(102, "app", needs(101)), *map(approved, (101, 102)), *took(3)]
 THREE = [known(101, "lib"), known(102, "app"), known(103, "lib"), known(104, "app", needs(102))]
 THREE += [*map(approved, (101, 102, 103, 104)), *took(6), ended(3, "failure"), *took(2)]
 THREE += [ended(1, "success"), ended(2, "success")]
@@ -57,7 +57,7 @@ DELIVERIES = {
     "refused": (SHOWN, {"kind": "refused", "order": 1}, b'{"reply":"removed"}'),
     "take": (QUEUED, {"kind": "take", "worker": "w2"}, BUILD),
     "result": (QUEUED, ended(1, "failure"), b'{"reply":"noted"}'),
-    "result, two items leave": (TWO, ended(2, "success"), b'{"reply":"noted"}'),
+    "result, two items leave": (TWO, ended(1, "failure"), b'{"reply":"noted"}'),
     "landed, three items leave": (THREE, {"kind": "landed", "order": 1}, b'{"n":1,"reply":"landed"}'),
 }
 
