@@ -1,15 +1,17 @@
 #!/bin/sh
-# Refuses memory at each place of some calls, one place a run: of a delivery of each kind and two that let more than one
-# item leave, over a book in memory and over tables; of a conversation, a request, a history, reading settings, making
-# and opening a gate's file, and a walk's visit. Each answers that memory is wanting, leaves all as it was, and gives its
-# answer when it is made again; or gives its answer at once. PLACES is how many places of each call but the histories are
-# tried at most, by default all; CASES names some of the cases, by their numbers in bench/refused/sweep.py.
+# Refuses memory at each place of some calls, one place a run: of a delivery of each kind, two that let more than one
+# item leave and two that cut an item, over a book in memory and over tables; of a conversation, a request, a history,
+# reading settings, making a gate's file, opening it with its settings and with others, migrating one of schema 1, and
+# two visits of a walk. Each answers that memory is wanting, leaves all as it was, and gives its answer when it is made
+# again; or gives its answer at once. PLACES is how many places of each call but the histories are tried at most, by
+# default all; CASES names some of the cases, by their numbers in bench/refused/sweep.py.
 set -eu
 . "$(dirname "$0")/scratch.sh"
 LIBRARIES=sqlite
-scratch "$top/bench/refused" gate_types gate_laws gate_config gate_queue gate_walk gate_wire gate_book gate_raw \
-    gate_reads gate_settling gate_admission gate_ruling gate_deliver gate_texts gate_core gate_schema gate_rows \
-    gate_queries gate_sql gate_http
+scratch "$top/bench/refused" gate_types gate_laws gate_config gate_settings gate_queue gate_walk gate_wire gate_book \
+    gate_raw gate_reads gate_settling gate_admission gate_ruling gate_deliver gate_texts gate_core gate_schema \
+    gate_rows gate_queries gate_sql gate_http
+cp "$top/crates/worked_examples/src/stored/first_schema.rt" "$work/crates/timed/src"
 cp "$top/HANDLES" "$work"
 last=$(python3 -B "$top/bench/refused/sweep.py" last)
 

@@ -12,15 +12,17 @@ most behind it. What a folder's runs told is in FOLDER.told, and how they ended 
 import os
 import sys
 
-LAST = 30_000
+LAST = 60_000
 
 KINDS = ["revision", "approved", "withdrawn", "closed", "landed", "refused", "take", "result"]
 
 CALLS = KINDS + ["result, two items leave", "landed, three items leave", "a conversation", "a request", "a history"]
+CALLS += ["result, an item is cut", "result, a cut item leaves"]
 
 NAMES = {number: f"{call}, in memory" for number, call in enumerate(CALLS)}
 NAMES |= {100 + number: f"{call}, over tables" for number, call in enumerate(CALLS)}
 NAMES |= {200: "settings are read", 201: "a file is made", 202: "a file is opened", 203: "a walk visits a row"}
+NAMES |= {204: "a file takes other settings", 205: "a file of schema 1 is migrated", 206: "a walk visits a cut row"}
 
 
 def is_history(case):
