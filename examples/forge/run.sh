@@ -70,6 +70,7 @@ propose site 205 'Add a title' title=Gate
 approve 201 101 102 103 104 105 202 203 204
 
 await lose_a_worker 103
+touch "$FORGE/goes-on"
 await has_landed lib core/1
 stop gate
 start_gate

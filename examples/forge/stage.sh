@@ -41,10 +41,10 @@ fail() {
   exit 1
 }
 
-# Waits until a command succeeds.
+# Waits until a command succeeds, as long as PATIENCE says, in seconds of the whole day.
 await() {
   until "$@" >/dev/null 2>&1; do
-    [ "$SECONDS" -lt 110 ] || fail "waited too long for: $*"
+    [ "$SECONDS" -lt "${PATIENCE:-110}" ] || fail "waited too long for: $*"
     sleep 0.1
   done
 }
