@@ -20,9 +20,11 @@ make() {
   cp "$FORGE_SCRIPTS/update" "$FORGE_SCRIPTS/post-receive" "$bare/hooks"
 }
 
-# `unit` of lib: no number is above 100; a slow one waits until it may go on. `docs`: each is said in words. `unit` of app: what it uses is a number of lib.
+# `unit` of lib: no number is above 100; a slow one waits until it may go on. `docs`: each is said in words. `unit` of app:
+# what it uses is a number of lib.
 make lib numbers/1=one numbers/2=two \
-  unit.sh='[ ! -e slow ] || until [ -e "$FORGE/goes-on" ]; do sleep 0.1; done; [ "$(ls numbers | sort -n | tail -n 1)" -le 100 ]' \
+  unit.sh='[ ! -e slow ] || until [ -e "$FORGE/goes-on" ]; do sleep 0.1; done
+[ "$(ls numbers | sort -n | tail -n 1)" -le 100 ]' \
   docs.sh='[ -z "$(grep -L . numbers/*)" ]'
 make app uses/1=once unit.sh='for use in uses/*; do [ -e "../lib/numbers/${use##*/}" ] || exit 1; done'
 make site page=Welcome unit.sh='grep -q . page'
