@@ -30,27 +30,31 @@ no_plan n = record { serial = n; jobs = []; fast = false }
 
 -- ---- plans that go
 
--- a serial that doesn't leave isn't one that does
-other : (leaves : ℕ → Bool) (m n : ℕ) → leaves n ≡ false → leaves m ≡ true → (t : Bool) → m == n ≡ t → t ≡ false
-other leaves m n e l true k = absurd (true≢false (sym l ∙ ap leaves (eqb-true m n k) ∙ e))
-other leaves m n e l false k = refl
-
-find_stays : (leaves : ℕ → Bool) (ps : List Plan) (n : ℕ) → leaves n ≡ false →
+find_left : (leaves : ℕ → Bool) (ps : List Plan) (n : ℕ) →
+    ((p : Plan) → In p ps → p.serial == n ≡ true → leaves p.serial ≡ false) →
     find (is_under n) (without_plans leaves ps) ≡ find (is_under n) ps
-find_stays leaves [] n e = refl
-find_stays leaves (p ∷ ps) n e = by_test (leaves p.serial) refl (find_stays leaves ps n e)
+find_left leaves [] n h = refl
+find_left leaves (p ∷ ps) n h =
+    by_test (leaves p.serial) refl (p.serial == n) refl (find_left leaves ps n (λ q m. h q (inr m)))
   where
-    by_test : (t : Bool) → leaves p.serial ≡ t →
+    by_test : (t : Bool) → leaves p.serial ≡ t → (u : Bool) → p.serial == n ≡ u →
         find (is_under n) (without_plans leaves ps) ≡ find (is_under n) ps →
         find (is_under n) (cond (not t) (p ∷ without_plans leaves ps) (without_plans leaves ps))
-        ≡ cond (p.serial == n) (Some p) (find (is_under n) ps)
-    by_test true l h = h
-        ∙ sym (ap (λ t. cond t (Some p) (find (is_under n) ps)) (other leaves p.serial n e l (p.serial == n) refl))
-    by_test false l h = ap (λ o. cond (p.serial == n) (Some p) o) h
+        ≡ cond u (Some p) (find (is_under n) ps)
+    by_test true l true k ih = absurd (true≢false (sym l ∙ h p (inl refl) k))
+    by_test true l false k ih = ih
+    by_test false l u k ih = λ i. cond (k i) (Some p) (ih i)
 
+-- what is found under a serial stays, where no plan of it goes
+pub plan_left : (leaves : ℕ → Bool) (ps : List Plan) (n : ℕ) →
+    ((p : Plan) → In p ps → p.serial == n ≡ true → leaves p.serial ≡ false) →
+    plan_in (without_plans leaves ps) n ≡ plan_in ps n
+plan_left leaves ps n h = ap (λ o. unwrap_or o (no_plan n)) (find_left leaves ps n h)
+
+-- so it does where the serial doesn't leave
 pub plan_stays : (leaves : ℕ → Bool) (ps : List Plan) (n : ℕ) → leaves n ≡ false →
     plan_in (without_plans leaves ps) n ≡ plan_in ps n
-plan_stays leaves ps n e = ap (λ o. unwrap_or o (no_plan n)) (find_stays leaves ps n e)
+plan_stays leaves ps n e = plan_left leaves ps n (λ p m k. ap leaves (eqb-true p.serial n k) ∙ e)
 
 -- where none goes
 pub plans_all_stay : (ps : List Plan) (leaves : ℕ → Bool) → ((n : ℕ) → leaves n ≡ false) → without_plans leaves ps ≡ ps

@@ -9,13 +9,14 @@ use Rattle.std.proofs.lemmas.List.Concat.{flat_map-cons}
 use Rattle.std.proofs.lemmas.Grind.{flat_map-append}
 use Rattle.gate_queue.specs.Settles.{rebased, verdicts, swept_rows}
 use Rattle.gate_laws.specs.Touch.{has_serial}
-use Rattle.gate_queue.specs.Whole.{picked, is_picked_rightly, swept_of, EachQueueIsSettledByItself}
+use Rattle.gate_queue.specs.Whole.{picked, is_picked_rightly, is_planned_apart, swept_of, EachQueueIsSettledByItself}
 use Rattle.gate_queue.proofs.Ordered.{Tells, rises, ahead_rise}
 use Rattle.gate_queue.proofs.Keeps.{rows_alike}
 use Rattle.gate_queue.proofs.Settled.{goes_tells, verdicts_rebased}
 use Rattle.gate_queue.proofs.LawLemmas.{items_rise}
 use Rattle.gate_types.specs.declared.config.Job.{Job}
 use Rattle.gate_types.specs.declared.records.Build.{Build}
+use Rattle.gate_types.specs.declared.records.Plan.{Plan}
 use Rattle.gate_types.specs.Names.{same_name}
 use Rattle.gate_types.specs.Settings.{Settings}
 use Rattle.gate_types.specs.State.{Item, Queue, State}
@@ -27,14 +28,14 @@ use Rattle.gate_types.specs.Window.{bounds_of}
 use Rattle.gate_types.specs.Sweep.{Judged, judged, judged_after, goes, without_runs, sweep, next_window, report_of}
 use Rattle.gate_types.specs.Rows.{row_of, numbered}
 use Rattle.gate_laws.proofs.Tests.{implied}
-use Rattle.gate_laws.proofs.Members.{In, every, to_right, map_same, from_filter}
+use Rattle.gate_laws.proofs.Members.{In, every, any_to, to_right, map_same, from_filter}
 use Rattle.gate_laws.proofs.Alike.{StandsAlike, alike_slots, places_alike, verdicts_alike, live_alike}
 use Rattle.gate_laws.proofs.Keeps.{keeps, map-cond}
 use Rattle.gate_laws.proofs.Outcomes.{counted_live}
 use Rattle.gate_laws.proofs.Stays.{stayers}
 use Rattle.gate_laws.proofs.AfterRebase.{judged_rebased}
 use Rattle.gate_laws.proofs.Swept.{items_left, place-staying, staying_items, staying_not}
-use Rattle.gate_laws.proofs.Plans.{plan_stays, same_place}
+use Rattle.gate_laws.proofs.Plans.{plan_left, same_place}
 use Rattle.gate_laws.proofs.OneQueue.{none_there, none_wanted}
 use Rattle.gate_laws.proofs.OtherQueuesStay.{none_goes_there}
 
@@ -237,10 +238,13 @@ each_queue_is_settled_by_itself c s before after q pick e r apart h =
     let own_item = subst (In i) kept_items m in
     let mine = (from_filter (λ (j : Item). not (goes (judged c (rebase c s) q) j.serial)) q.items i own_item).0 in
     same_place c s (sweep c (rebase c s)) q (swept_of c s q) i refl refl
-    (plan_stays leaves s.plans i.serial
-    (goes_same c (rebase c s) before after q i.serial e
-    (not-true (list_any (λ o. has_serial o.items i.serial) (before ++ after))
-    (every (λ (j : Item). not (list_any (λ o. has_serial o.items j.serial) (before ++ after)) ≡ true) q.items apart i mine))
+    (plan_left leaves s.plans i.serial (λ p m k.
+    let there = any_to (λ (j : Item). j.serial == p.serial) q.items i mine (eq-eqb i.serial p.serial (sym (eqb-true p.serial i.serial k))) in
+    let other = list_any (λ o. has_serial o.items p.serial) (before ++ after) in
+    goes_same c (rebase c s) before after q p.serial e
+    (not-true other (implied (has_serial q.items p.serial) (not other)
+    (every (λ (r : Plan). is_planned_apart (before ++ after) q r ≡ true) s.plans apart p m) there))
+    ∙ ap (goes (judged c (rebase c s) q)) (eqb-true p.serial i.serial k)
     ∙ staying_not (goes (judged c (rebase c s) q)) q.items i own_item))) in
     let items : map (row_of left) (places c (sweep c (rebase c s)) (swept_of c s q)) ≡ map (row_of (without_runs (goes js) (rebased ps own))) (places_after (without_runs (goes js) (rebased ps own)) [] stay) =
     ap (λ (l : List Place). map (row_of left) (places_after left [] l)) (plans ∙ staying)

@@ -3,6 +3,7 @@ use Rattle.std.specs.Prelude.{ℕ, Bool, ◌&&◌, ◌||◌, not, ◌≡◌, Lis
 use Rattle.std.specs.List.{AllPass, list_any}
 use Rattle.std.specs.List.Sorted.{IsStrictlyIncreasing}
 use Rattle.gate_types.specs.declared.records.Build.{Build}
+use Rattle.gate_types.specs.declared.records.Plan.{Plan}
 use Rattle.gate_types.specs.Settings.{Settings}
 use Rattle.gate_types.specs.State.{Queue, State}
 use Rattle.gate_types.specs.Standing.{place_of, places}
@@ -35,14 +36,16 @@ rows_in c s q = rows_of (places c s q) s.builds q
 abbrev pub picked_rows : Settings → State → (ℕ → Bool) → Queue → Rows
 picked_rows c s pick q = record (rows_in c s q) { builds = picked pick s.builds }
 
--- no other queue has the serial of an item of this one
-abbrev pub IsApart : List Queue → Queue → Type 0
-IsApart others q = AllPass (λ i. not (list_any (λ o. has_serial o.items i.serial) others)) q.items
+-- a plan of one of the queue's items is of no other queue's item
+abbrev pub is_planned_apart : List Queue → Queue → Plan → Bool
+is_planned_apart others q p =
+    not (has_serial q.items p.serial) || not (list_any (λ o. has_serial o.items p.serial) others)
 
 -- the rows of a queue in the state after a rebase and then a sweep are those that settling the queue by itself leaves
 abbrev pub EachQueueIsSettledByItself : Type 0
 EachQueueIsSettledByItself = (c : Settings) (s : State) (before after : List Queue) (q : Queue) (pick : ℕ → Bool) →
     s.queues ≡ before ++ q ∷ after → IsStrictlyIncreasing (map (λ i. i.serial) q.items) →
-    IsApart (before ++ after) q → AllPass (is_picked_rightly pick (before ++ after) q) s.builds →
+    AllPass (is_planned_apart (before ++ after) q) s.plans →
+    AllPass (is_picked_rightly pick (before ++ after) q) s.builds →
     picked_rows c (sweep c (rebase c s)) pick (swept_of c s q)
     ≡ settled_rows (bounds_of c q) (map (place_of c s q) q.items) (picked pick s.builds) q

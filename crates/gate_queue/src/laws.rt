@@ -26,7 +26,8 @@ pub fn one_sweep_is_one_by_one()
 {}
 
 /// The rows of a queue, after a rebase and then a sweep of the whole state, are those that settling the
-/// queue by itself leaves, given all live builds of its items and no build of another queue's.
+/// queue by itself leaves, given all live builds of its items and no build of another queue's, where no plan is of an
+/// item of this queue and of one of another.
 pub fn each_queue_is_settled_by_itself()
     ensures { EachQueueIsSettledByItself }
 {}

@@ -1,28 +1,19 @@
 -- What reading `meta` leaves.
-use Rattle.std.proofs.Common.{◌≡◌, ◌⊎◌, [], IsTrue, List, ℕ, Err, Ok, Result, inl, inr, subst, sym, ◌∙◌}
+use Rattle.std.proofs.Common.{◌≡◌, ◌⊎◌, [], IsTrue, List, Err, Ok, Result, inl, inr, subst, sym, ◌∙◌}
 use Rattle.std.specs.Prelude.{IfErr, IfOk}
 use Rattle.sqlite.specs.Clock.{timed}
 use Rattle.sqlite.specs.Listing.{understood}
 use Rattle.sqlite.specs.Order.{Row}
-use Rattle.sqlite.specs.State.{CommitsShowing, FailsToQuery, FailsToShow, IsNotRun, IsUnchanged, Shown, State, Survives}
+use Rattle.sqlite.specs.State.{CommitsShowing, FailsToQuery, FailsToShow, Shown, State, Survives}
 use Rattle.sqlite.specs.Tree.{Trees}
 use Rattle.sqlite.specs.declared.error.Error.{Error}
 use Rattle.sqlite.proofs.Callers.{IsPlain}
 use Rattle.sqlite.proofs.StateLemmas.{survives_weaker}
 use Rattle.gate_queries.specs.Finds.{Stays}
+use Rattle.gate_queries.proofs.StayLemmas.{not_run_stays, unchanged_stays}
 use Rattle.gate_schema.proofs.QueryLemmas.{reads_survive, shown_keeps}
 use Rattle.gate_sql.specs.Reading.{HasNoMeta, KnowsMeta, meta_sql}
 use Rattle.gate_sql.proofs.MetaLemmas.{meta_is, none_shown}
-
--- where nothing changes, what is shown stays
-unchanged_stays : (old new : State) → IsUnchanged old new → Stays old new
-unchanged_stays old new h = record { was_open = λ _. h.0.was_open; now_is = λ _. h.0.now_is }
-
--- and where a text isn't run
-not_run_stays : (sql : List ℕ) (params : Row) (old new : State) (e : Error) → (IsTrue old.is_open → old.now ≡ old.committed) → IsNotRun old new sql params e → Stays old new
-unfolding IsNotRun
-not_run_stays sql params old new e settled (inl h) = unchanged_stays old new h.1
-not_run_stays sql params old new e settled (inr h) = record { was_open = h.3.was_open; now_is = λ up. (h.3.undone up).0 ∙ sym (settled (h.3.was_open up)) }
 
 -- the text of a schema that has a `meta` in front is plain
 plain_meta : (s : State) → KnowsMeta s.now.schema → IsPlain (understood s.now.schema meta_sql) ⊎ HasNoMeta s.now.schema

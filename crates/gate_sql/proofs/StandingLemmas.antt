@@ -18,9 +18,9 @@ use Rattle.gate_queries.specs.Finds.{Stays}
 use Rattle.gate_queries.proofs.StayLemmas.{stays_then}
 use Rattle.gate_sql.specs.Held.{IsShownFor}
 use Rattle.gate_sql.specs.Making.{IsSettled}
-use Rattle.gate_sql.specs.Migrates.{Carries, HasNoneToMigrate}
-use Rattle.gate_sql.specs.Opens.{IsMigrated, IsStanding, fault_before, is_newly_taken}
-use Rattle.gate_sql.specs.Reading.{IsMigratedOf, IsStandingOf, IsUnread, ShowsMeta, meta_rows}
+use Rattle.gate_sql.specs.Migrates.{Carries}
+use Rattle.gate_sql.specs.Opens.{IsMigrated, IsStanding, fault_before}
+use Rattle.gate_sql.specs.Reading.{IsMigratedOf, IsStandingOf, IsUnread, meta_rows}
 use Rattle.gate_sql.specs.declared.migrating.Migrated.{Migrated}
 use Rattle.gate_sql.specs.declared.migrating.Migrated.TheVariants as migrated
 use Rattle.gate_sql.proofs.JudgeLemmas.{three_are}
@@ -86,12 +86,6 @@ second_fails fault.Unavailable kept settings h = refl
 first_is : (t : Bool) (version kept settings : List ℕ) → t ≡ true → IsStanding (Ok t) version kept settings → (version ≡ codes "1") × (kept ≡ settings)
 first_is t version kept settings is h = subst (λ u. IsStanding (Ok u) version kept settings) is h
 
--- so it shows them
-pub first_shows : (t : Bool) (Are : List ℕ → List ℕ → Type 0) (settings : List ℕ) → t ≡ true → IsStandingOf (Ok t) Are settings → Are (codes "1") settings
-first_shows t Are settings is h =
-    let both = first_is t h.0 h.1 settings is h.2 in
-    subst (λ v. Are v settings) both.0 (subst (λ k. Are h.0 k) both.1 h.3)
-
 -- where a new name is taken it is refused
 pub taken_judged : (t : Bool) (taken : Bool) (version kept : List ℕ) (d : Settings) → t ≡ true → taken ≡ true → IsStanding (Ok t) version kept (settings_text d) → IsMigrated (Err fault.WrongFile) taken version kept d
 taken_judged t taken version kept d is took h = ((first_is t version kept (settings_text d) is h).0, took)
@@ -115,11 +109,6 @@ carried_told t (Err fault.WrongFile) taken Are d is free answer h = tt
 carried_told t (Err fault.OtherSchema) taken Are d is free answer h = absurd cc
 carried_told t (Err fault.OtherSettings) taken Are d is free answer h = absurd cc
 carried_told t (Err fault.Unavailable) taken Are d is free answer h = tt
-
--- a file that is to be migrated isn't one of which nothing is made
-pub none_carried : (t : Bool) (db : Database) (d : Settings) → t ≡ true → is_newly_taken db.schema ≡ false → IsStandingOf (Ok t) (ShowsMeta db) (settings_text d) → HasNoneToMigrate db d → ⊥
-none_carried t db d is free h (inl took) = true≢false (sym took ∙ free)
-none_carried t db d is free h (inr none) = none (first_shows t (ShowsMeta db) (settings_text d) is h)
 
 -- ---- one of schema 2
 
