@@ -8,6 +8,7 @@ with a fault before it has read anything, a line or a request is answered `unava
 answered so, or never, has changed nothing, and when it is told again it gets its answer, and leaves the rows that it
 leaves with ample memory.
 """
+import os
 import re
 import sys
 
@@ -19,11 +20,26 @@ UNAVAILABLE = refusal("E15")
 
 BEFORE = "before any line"
 
-COMMANDS = ["check", "replay", "init", "deliver", "serve"]
+COMMANDS = ["check", "replay", "init", "deliver", "serve", "migrate"]
 
 MORE = ["status", "history"]
 
 NOT_SHUT = "done, but the file was not closed"
+
+EARLIER = os.path.join(os.path.dirname(os.path.abspath(__file__)), "earlier")
+
+OTHERS = """
+[[queue]]
+name = "docs"
+window = 3
+floor = 1
+
+[[project]]
+name = "book"
+queue = "docs"
+[[project.job]]
+name = "unit"
+"""
 
 STORE = b"gated: I7 store\n"
 
@@ -112,6 +128,64 @@ class Init(Case):
             return None
         again = self.gate.program.run(["init", self.gate.settings, file])
         return "told" if again.is_done(b"") and files.rows(file) == self.wanted_rows else None
+
+
+class Taken(Case):
+    """A command that gives a file other tables or settings: all or none, and all when it is asked again."""
+
+    wanted = "told, and all as before"
+    # what a fault behind that comes to, where the command goes on
+    behind = None
+
+    def __init__(self, gate, folder, start):
+        """Over copies of this file."""
+        self.gate = gate
+        self.start = start
+        self.before = gate.files.whole(start)
+        copy(start, f"{folder}/file")
+        assert self.is_taken(folder)
+        self.after = gate.files.whole(f"{folder}/file")
+        assert self.after != self.before
+
+    def is_taken(self, folder):
+        return self.ask(folder, None).is_done(self.ample)
+
+    def run(self, folder, place):
+        copy(self.start, f"{folder}/file")
+        return self.ask(folder, place)
+
+    def judge(self, folder, done):
+        left = self.gate.files.whole(f"{folder}/file")
+        if done.is_done(self.ample):
+            return AMPLE if left == self.after else None
+        if (done.status, done.output, done.errors) == (1, self.ample, STORE):
+            return NOT_SHUT if left == self.after else None
+        if not done.is_early():
+            return None
+        word = self.wanted if left == self.before else self.behind if left == self.after else None
+        is_taken = word and self.is_taken(folder) and self.gate.files.whole(f"{folder}/file") == self.after
+        return word if is_taken else None
+
+
+class Migrate(Taken):
+    """A file of schema 1 that an earlier program made."""
+
+    name = "migrate"
+    ample = b"migrated 1 2\n"
+
+    def ask(self, folder, place):
+        return self.gate.program.run(["migrate", f"{EARLIER}/settings.toml", f"{folder}/file"], b"", place)
+
+
+class Adopt(Taken):
+    """A file of three items takes a queue more, and another window."""
+
+    name = "deliver, other settings"
+    behind = "told, with the settings taken"
+    ample = b""
+
+    def ask(self, folder, place):
+        return self.gate.program.run(["deliver", self.gate.others, f"{folder}/file"], b"", place)
 
 
 class OverFile(Case):
@@ -284,8 +358,11 @@ class Gate:
         self.program = program
         self.files = Files()
         self.settings = f"{folder}/settings.toml"
+        self.others = f"{folder}/others.toml"
         with open(self.settings, "w") as kept:
             kept.write(SETTINGS)
+        with open(self.others, "w") as kept:
+            kept.write(SETTINGS.replace("window = 4", "window = 5") + OTHERS)
         self.empty, self.left = f"{folder}/empty", f"{folder}/left"
         assert program.run(["init", self.settings, self.empty]).is_done(b"")
         self.make(self.left, LEAVING)
@@ -317,6 +394,11 @@ def cases(gate, folder, command):
     elif command == "deliver":
         for name in DELIVERIES:
             yield Deliver(gate, folder, name)
+        gate.make(f"{folder}/queued", told("take")[0])
+        yield Adopt(gate, folder, f"{folder}/queued")
+    elif command == "migrate":
+        copy(f"{EARLIER}/gate.db", f"{folder}/earlier")
+        yield Migrate(gate, folder, f"{folder}/earlier")
     elif command == "serve":
         yield Post(gate, folder)
         yield GetHistory(gate)
@@ -336,4 +418,5 @@ def main():
     print("ok")
 
 
-main()
+if __name__ == "__main__":
+    main()

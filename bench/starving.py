@@ -122,6 +122,10 @@ class Files:
     def tables(self, file):
         return self.read(file, tables_in)
 
+    def whole(self, file):
+        """All tables and indexes, and the rows, whatever the schema."""
+        return self.read(file, whole_in)
+
     def read(self, file, reader):
         copy(file, f"{file}.read")
         bytes_of = hashlib.sha256()
@@ -143,6 +147,14 @@ def tables_in(path):
     names = file.execute("SELECT name FROM sqlite_master").fetchall()
     file.close()
     return names
+
+
+def whole_in(path):
+    file = sqlite3.connect(path)
+    listed = file.execute("SELECT type, name, sql FROM sqlite_master ORDER BY name").fetchall()
+    rows = {name: sorted(file.execute(f"SELECT * FROM {name}"), key=repr) for kind, name, _ in listed if kind == "table"}
+    file.close()
+    return listed, rows
 
 
 class Case:
