@@ -152,7 +152,8 @@ def tables_in(path):
 def whole_in(path):
     file = sqlite3.connect(path)
     listed = file.execute("SELECT type, name, sql FROM sqlite_master ORDER BY name").fetchall()
-    rows = {name: sorted(file.execute(f"SELECT * FROM {name}"), key=repr) for kind, name, _ in listed if kind == "table"}
+    names = [name for kind, name, _ in listed if kind == "table"]
+    rows = {name: sorted(file.execute(f"SELECT * FROM {name}"), key=repr) for name in names}
     file.close()
     return listed, rows
 
