@@ -15,7 +15,6 @@ use Rattle.sqlite.specs.State.{State}
 use Rattle.sqlite.specs.Term.{Term, col}
 use Rattle.sqlite.specs.declared.types.Value.TheVariants.{Int, Text as Words}
 use Rattle.sqlite.proofs.Callers.{command_of}
-use Rattle.sqlite.proofs.StateLemmas.{survives_then}
 use Rattle.sqlite_keyed.proofs.ListLemmas.{ascending-map, ascending_weaker, map-map, slice_get-filter}
 use Rattle.sqlite_keyed.proofs.SortLemmas.{sorted_unique}
 use Rattle.sqlite_resolve.specs.declared.compiled.Compiled.{Compiled}
@@ -37,11 +36,10 @@ use Rattle.gate_schema.proofs.QueryLemmas.{kept_is, over_table, passes}
 use Rattle.gate_schema.proofs.Statements.{key_is, no_limit}
 use Rattle.gate_schema.proofs.ValueLemmas.{equal_numbers, equal_texts}
 use Rattle.gate_queries.specs.Finds.{Finds, IsPlainQuery, Stays}
-use Rattle.gate_queries.specs.First.{HoldsLandings, IsOn, IsProjectOf, OnlyReadsOn, ShowsFirst, first_schema, name_shown, pair_shown}
+use Rattle.gate_queries.specs.First.{HoldsLandings, IsProjectOf, ShowsFirst, first_schema, name_shown, pair_shown}
 use Rattle.gate_queries.specs.Shown.{number_shown}
 use Rattle.gate_queries.proofs.KeyedReads.{finds_few, finds_rising, one_at, rises, rising}
 use Rattle.gate_queries.proofs.ListedReads.{kept_shown, told_behind}
-use Rattle.gate_queries.proofs.StayLemmas.{stays_then}
 
 -- ---- a text as a query of schema 1
 
@@ -168,22 +166,6 @@ project_shown s b n rows row shown finds one at =
         → slice_get rs 0 ≡ find (λ (r : ChangeRow). eqb (change_key r) n) b.changes → (name : List ℕ) × (row ≡ name_shown name) × IsProjectOf b.changes n name
     go [] rows are one at first = absurd (let none = ap length are in omega (arith, one, none))
     go (r ∷ rs) rows are one at first = (r.change.project, at ∙ ap (λ l. get_or l 0 row) are, ap (option_map (λ (r : ChangeRow). r.change.project)) (sym first))
-
--- ---- reads in turn
-
-stays_on : (t : Schema) (old new : State) → Stays old new → IsOn t old → IsOn t new
-stays_on t old new stays on up = ap (λ d. d.schema) (stays.now_is up) ∙ on (stays.was_open up)
-
-pub only_reads_then : (t : Schema) (a b c : State) → OnlyReadsOn t a b → OnlyReadsOn t b c → OnlyReadsOn t a c
-only_reads_then t a b c p q = record {
-  clean = λ up. p.clean (q.clean up);
-  stays = λ up on.
-      let first = p.stays (q.clean up) on in
-      stays_then a b c first (q.stays up (stays_on t a b first on));
-  crash = λ up on.
-      let first = p.stays (q.clean up) on in
-      survives_then a b c (λ _. ⊥) (λ _. ⊥) (λ _. ⊥) (λ _ _ none. none) (λ _ _ none. none) (p.crash (q.clean up) on) (q.crash up (stays_on t a b first on));
-}
 
 -- what a file of schema 1 shows, it shows after a read
 pub first_still : (old new : State) (b : Stored) → Stays old new → (IsTrue old.is_open → ShowsFirst old b) → IsTrue new.is_open → ShowsFirst new b

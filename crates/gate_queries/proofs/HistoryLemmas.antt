@@ -26,10 +26,11 @@ use Rattle.gate_book.specs.declared.fault.HistoryFault.{HistoryFault}
 use Rattle.gate_book.specs.declared.fault.HistoryFault.TheVariants as fault
 use Rattle.gate_schema.specs.Rows.{Stands, Stored}
 use Rattle.gate_schema.specs.Schema.{gate_schema}
-use Rattle.gate_queries.specs.Finds.{Finds}
+use Rattle.gate_queries.specs.Finds.{Finds, OnlyReads}
 use Rattle.gate_queries.specs.History.{CutsHead, GaveRows, HoldsReports, LeavesReports, OfReports, ReadsOn, WritesHead, WritesPart, WritesReports, history_sql, lines_from, report_shown, reports_text}
 use Rattle.gate_queries.specs.Reads.{IsShown}
 use Rattle.gate_queries.proofs.ReportReads.{history_asks, history_names, history_query, reports_found}
+use Rattle.gate_queries.proofs.SilentLemmas.{plain_only_reads}
 use Rattle.gate_queries.proofs.StayLemmas.{shown_finds}
 
 -- ---- rows that are given
@@ -290,6 +291,10 @@ written_front held old new front line f stops cut = cuts_late held old new (fron
 -- the query's text is plain on the gate's schema
 pub history_plain : (t : Schema) → t ≡ gate_schema → IsPlain (understood t history_sql)
 history_plain t is = subst (λ (t : Schema). IsPlain (understood t history_sql)) (sym is) history_asks.0.1
+
+-- and only reads, whatever the tables are
+pub history_reads : OnlyReads history_sql
+history_reads = plain_only_reads gate_schema history_sql history_asks.0.1
 
 -- what shows the same holds the same
 shown_at : (first start : State) (b : Stored) → start.now ≡ first.now → IsShown first b → IsShown start b

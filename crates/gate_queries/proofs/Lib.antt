@@ -28,5 +28,6 @@ pub mod ReadLemmas
 mod ReadyReads
 mod ReportReads
 mod ShownLemmas
+pub mod SilentLemmas
 mod SortedLemmas
 pub mod StayLemmas

@@ -7,7 +7,7 @@ use Rattle.sqlite.specs.Order.{Row}
 use Rattle.sqlite.specs.Program.{overlay}
 use Rattle.sqlite.specs.Query.{Query, IsAnswer}
 use Rattle.sqlite.specs.Schema.{Schema}
-use Rattle.sqlite.specs.State.{State}
+use Rattle.sqlite.specs.State.{HasCleanDisk, State, Survives}
 use Rattle.sqlite.proofs.Callers.{command_of}
 use Rattle.sqlite.proofs.StateLemmas.{survives_then}
 use Rattle.sqlite_resolve.specs.declared.compiled.Compiled.{Compiled}
@@ -18,26 +18,27 @@ use Rattle.gate_book.specs.declared.fault.BookFault.TheVariants as fault
 use Rattle.gate_schema.specs.Rows.{Stands, Stored}
 use Rattle.gate_schema.specs.Schema.{gate_schema}
 use Rattle.gate_schema.proofs.Statements.{Asks}
-use Rattle.gate_queries.specs.Finds.{Finds, IsPlainQuery, Stays}
-use Rattle.gate_queries.specs.Reads.{IsOnlyRead, IsOnSchema, IsShown}
+use Rattle.gate_queries.specs.Finds.{Finds, IsPlainQuery, OnlyReads, Stays}
+use Rattle.gate_queries.specs.Reads.{IsOnlyRead, IsShown}
+use Rattle.gate_queries.proofs.SilentLemmas.{plain_only_reads}
 use Rattle.gate_queries.proofs.StayLemmas.{stays_then}
 
 -- ---- what a call leaves
 
--- what stays is on the gate's schema still
-pub stays_on : (old new : State) → Stays old new → IsOnSchema old → IsOnSchema new
-stays_on old new stays on up = ap (λ d. d.schema) (stays.now_is up) ∙ on (stays.was_open up)
+-- a query of a text that is plain under some tables is a read
+pub plain_read : (schema : Schema) (sql : List ℕ) (old new : State) → IsPlain (understood schema sql) → (HasCleanDisk new → HasCleanDisk old) →
+    (HasCleanDisk new → OnlyReads sql → Stays old new) → (HasCleanDisk new → OnlyReads sql → Survives old new (λ _. ⊥)) → IsOnlyRead old new
+plain_read schema sql old new plain before stays crash =
+    let reads = plain_only_reads schema sql plain in
+    record { clean = before; stays = λ up. stays up reads; crash = λ up. crash up reads }
 
 -- two reads in turn are a read
 pub only_read_then : (a b c : State) → IsOnlyRead a b → IsOnlyRead b c → IsOnlyRead a c
 only_read_then a b c p q = record {
   clean = λ up. p.clean (q.clean up);
-  stays = λ up on.
-      let first = p.stays (q.clean up) on in
-      stays_then a b c first (q.stays up (stays_on a b first on));
-  crash = λ up on.
-      let first = p.stays (q.clean up) on in
-      survives_then a b c (λ _. ⊥) (λ _. ⊥) (λ _. ⊥) (λ _ _ none. none) (λ _ _ none. none) (p.crash (q.clean up) on) (q.crash up (stays_on a b first on));
+  stays = λ up. stays_then a b c (p.stays (q.clean up)) (q.stays up);
+  crash = λ up.
+      survives_then a b c (λ _. ⊥) (λ _. ⊥) (λ _. ⊥) (λ _ _ none. none) (λ _ _ none. none) (p.crash (q.clean up)) (q.crash up);
 }
 
 -- what a connection shows, it shows after a read

@@ -1,12 +1,12 @@
 -- What one query of a connection says.
-use Rattle.std.specs.Prelude.{◌≡◌, ℕ, List, [], false, IsTrue, None, Result, Ok, Err}
+use Rattle.std.specs.Prelude.{◌≡◌, ⊤, ℕ, List, [], false, IsTrue, None, Result, Ok, Err}
 use Rattle.sqlite.specs.Order.{Row}
 use Rattle.sqlite.specs.Query.{Query, IsAnswer}
 use Rattle.sqlite.specs.Program.{overlay}
 use Rattle.sqlite.specs.Command.TheVariants.{Select}
 use Rattle.sqlite.specs.Effect.{Database}
-use Rattle.sqlite.specs.Given.{IsPlain}
 use Rattle.sqlite.specs.Listing.{understood, reads_listing}
+use Rattle.sqlite.specs.Schema.{Schema}
 use Rattle.sqlite.specs.State.{State}
 use Rattle.sqlite_resolve.specs.declared.compiled.Compiled.{Compiled}
 use Rattle.sqlite_resolve.specs.declared.error.CompileError.{CompileError}
@@ -23,9 +23,14 @@ Finds sql params db rows =
     (q : Query) (names : List (List ℕ)) → IsPlainQuery (understood db.schema sql) q names →
     reads_listing db.schema sql ≡ false → IsAnswer q (overlay db.trees []) params rows
 
--- it writes nothing
-abbrev pub OnlyReads : State → List ℕ → Type 0
-OnlyReads s sql = IsTrue s.is_open → IsPlain (understood s.now.schema sql)
+-- it has no RETURNING, where it is a statement at all
+abbrev pub IsSilent : Result Compiled CompileError → Type 0
+IsSilent (Ok c) = c.returning ≡ None
+IsSilent (Err e) = ⊤
+
+-- whatever the tables are, a query of the text writes nothing
+abbrev pub OnlyReads : List ℕ → Type 0
+OnlyReads sql = (schema : Schema) → IsSilent (understood schema sql)
 
 -- what it shows is as it was, unless it is shut
 pub record Stays (old new : State) : Type 0 where

@@ -2,7 +2,7 @@
 use Rattle.std.specs.Prelude.{◌≡◌, ◌==◌, ℕ, pos, IsTrue, List, [], ◌∷◌, Some, find, option_map, IsPermutation}
 use Rattle.sqlite.specs.Order.{Row}
 use Rattle.sqlite.specs.Schema.{Schema}
-use Rattle.sqlite.specs.State.{HasCleanDisk, State, Survives}
+use Rattle.sqlite.specs.State.{State}
 use Rattle.sqlite.specs.declared.types.Value.TheVariants.{Int, Text as Words}
 use Rattle.gate_types.specs.Tables.{numbered_landings}
 use Rattle.gate_types.specs.declared.records.Landing.{Landing}
@@ -10,7 +10,6 @@ use Rattle.gate_types.specs.declared.rows.ChangeRow.{ChangeRow}
 use Rattle.gate_rows.specs.Tells.{landings_of}
 use Rattle.gate_schema.specs.Rows.{IsKeyed, IsListed, Stored, change_key, change_row, item_key, item_row, landing_columns}
 use Rattle.gate_schema.specs.Schema.{schema_with}
-use Rattle.gate_queries.specs.Finds.{Stays}
 
 -- the tables and indexes of schema 1: all but the last two tables
 abbrev pub first_schema : Schema
@@ -26,16 +25,6 @@ pub record ShowsFirst (s : State) (b : Stored) : Type 0 where
 -- while the connection answers at all, it shows these
 abbrev pub IsFirstOf : State → Stored → Type 0
 IsFirstOf s b = IsTrue s.is_open → ShowsFirst s b
-
--- a connection that answers is on this schema
-abbrev pub IsOn : Schema → State → Type 0
-IsOn t s = IsTrue s.is_open → s.now.schema ≡ t
-
--- a call has only read, on this schema: what the connection shows stays, and a crash leaves what it left before
-pub record OnlyReadsOn (t : Schema) (old new : State) : Type 0 where
-  pub clean : HasCleanDisk new → HasCleanDisk old
-  pub stays : HasCleanDisk new → IsOn t old → Stays old new
-  pub crash : HasCleanDisk new → IsOn t old → Survives old new (λ _. ⊥)
 
 -- two numbers of a row
 abbrev pub pair_shown : ℕ → ℕ → Row

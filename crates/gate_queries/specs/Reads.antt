@@ -8,10 +8,6 @@ use Rattle.gate_schema.specs.Schema.{gate_schema}
 use Rattle.gate_queries.specs.Finds.{Stays}
 use Rattle.gate_queries.specs.Whole.{IsWhole}
 
--- a connection that answers is on the gate's schema
-abbrev pub IsOnSchema : State → Type 0
-IsOnSchema s = IsTrue s.is_open → s.now.schema ≡ gate_schema
-
 -- the connection is on the gate's schema, and its tables hold this
 pub record IsShown (s : State) (b : Stored) : Type 0 where
   pub schema_is : s.now.schema ≡ gate_schema
@@ -36,8 +32,9 @@ Tells old new result value = Reads old new result (λ b found. found ≡ value b
 abbrev pub Opened : {T : Type 0} → State → State → Result T BookFault → Type 0
 Opened old new result = HasCleanDisk new → OnOk result (IsTrue old.is_open)
 
--- the call has only read: what the connection shows stays, and a crash leaves what it left before
+-- the call has only read, whatever the tables are: what the connection shows stays, and a crash leaves what it left
+-- before
 pub record IsOnlyRead (old new : State) : Type 0 where
   pub clean : HasCleanDisk new → HasCleanDisk old
-  pub stays : HasCleanDisk new → IsOnSchema old → Stays old new
-  pub crash : HasCleanDisk new → IsOnSchema old → Survives old new (λ _. ⊥)
+  pub stays : HasCleanDisk new → Stays old new
+  pub crash : HasCleanDisk new → Survives old new (λ _. ⊥)

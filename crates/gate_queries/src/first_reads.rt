@@ -10,7 +10,8 @@ ghost use Rattle.gate_types.specs.declared.records.Landing.{Landing};
 ghost use Rattle.gate_rows.specs.Tells.{items_of};
 ghost use Rattle.gate_schema.specs.Rows.{Stored};
 ghost use Rattle.gate_queries.specs.Finds.{Finds};
-ghost use Rattle.gate_queries.specs.First.{HoldsLandings, IsFirstOf, IsProjectOf, OnlyReadsOn, first_schema, pair_shown};
+ghost use Rattle.gate_queries.specs.First.{HoldsLandings, IsFirstOf, IsProjectOf, first_schema, pair_shown};
+ghost use Rattle.gate_queries.specs.Reads.{IsOnlyRead};
 
 use crate::columns::path_name_in;
 use crate::fault::book_fault;
@@ -33,7 +34,7 @@ fn read_first<S: Alter>(
         Finds sql.now (bound params.now) (state S.Store conn.old).now rows.items) }
     ensures fault { IfErr result (λ f. f ≢ BookFault.Damaged) }
     ensures only_reads { IsPlain (understood first_schema sql.now) →
-        OnlyReadsOn first_schema (state S.Store conn.old) (state S.Store conn.new) }
+        IsOnlyRead (state S.Store conn.old) (state S.Store conn.new) }
 {
     if !conn.is_autocommit() {
         return Err(BookFault::Store);
@@ -49,7 +50,7 @@ pub fn item_pairs<S: Alter>(conn: &mut Connection<S>, queue: &Name) -> Result<Ve
     ensures found { HasCleanDisk (state S.Store conn.new) → (b : Stored) → IsFirstOf (state S.Store conn.old) b →
         IfOk result (λ rows. rows.items
         ≡ map (λ (i : Item). pair_shown i.serial i.change) (items_of queue.now b.items)) }
-    ensures only_reads { OnlyReadsOn first_schema (state S.Store conn.old) (state S.Store conn.new) }
+    ensures only_reads { IsOnlyRead (state S.Store conn.old) (state S.Store conn.new) }
 {
     read_first(
         conn,
@@ -66,7 +67,7 @@ pub fn landing_pairs<S: Alter>(
     ensures found { HasCleanDisk (state S.Store conn.new) → (b : Stored) → IsFirstOf (state S.Store conn.old) b →
         (ls : List Landing) → HoldsLandings b queue.now ls →
         IfOk result (λ rows. rows.items ≡ map (λ (l : Landing). pair_shown l.serial l.change) ls) }
-    ensures only_reads { OnlyReadsOn first_schema (state S.Store conn.old) (state S.Store conn.new) }
+    ensures only_reads { IsOnlyRead (state S.Store conn.old) (state S.Store conn.new) }
 {
     read_first(
         conn,
@@ -82,7 +83,7 @@ pub fn project_name<S: Alter>(
 ) -> Result<PathName, BookFault>
     ensures found { HasCleanDisk (state S.Store conn.new) → (b : Stored) → IsFirstOf (state S.Store conn.old) b →
         IfOk result (IsProjectOf b.changes number) }
-    ensures only_reads { OnlyReadsOn first_schema (state S.Store conn.old) (state S.Store conn.new) }
+    ensures only_reads { IsOnlyRead (state S.Store conn.old) (state S.Store conn.new) }
 {
     let rows = read_first(
         conn,

@@ -38,10 +38,10 @@ pub(crate) fn read_all<S: Alter>(
     ensures finds { HasCleanDisk (state S.Store conn.new) → IfOk result (λ rows.
         IsTrue (state S.Store conn.old).is_open ×
         Finds sql.now (bound params.now) (state S.Store conn.old).now rows.items) }
-    ensures stays { HasCleanDisk (state S.Store conn.new) → OnlyReads (state S.Store conn.old) sql.now →
+    ensures stays { HasCleanDisk (state S.Store conn.new) → OnlyReads sql.now →
         Stays (state S.Store conn.old) (state S.Store conn.new) }
     ensures mode { conn.new.in_transaction ≡ false }
-    ensures crash { HasCleanDisk (state S.Store conn.new) → OnlyReads (state S.Store conn.old) sql.now →
+    ensures crash { HasCleanDisk (state S.Store conn.new) → OnlyReads sql.now →
         Survives (state S.Store conn.old) (state S.Store conn.new) (λ _. ⊥) }
     ensures clean { HasCleanDisk (state S.Store conn.new) → HasCleanDisk (state S.Store conn.old) }
 {

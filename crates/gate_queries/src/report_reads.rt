@@ -168,9 +168,9 @@ fn write_queried<S: Alter, W: Write>(
     ensures found { HasCleanDisk (state S.Store conn.new) →
         WritesReports (state S.Store conn.old) queue.now front.now W.contents w.old w.new result }
     ensures stops { Stops w.old w.new result }
-    ensures stays { HasCleanDisk (state S.Store conn.new) → OnlyReads (state S.Store conn.old) history_sql →
+    ensures stays { HasCleanDisk (state S.Store conn.new) → OnlyReads history_sql →
         Stays (state S.Store conn.old) (state S.Store conn.new) }
-    ensures crash { HasCleanDisk (state S.Store conn.new) → OnlyReads (state S.Store conn.old) history_sql →
+    ensures crash { HasCleanDisk (state S.Store conn.new) → OnlyReads history_sql →
         Survives (state S.Store conn.old) (state S.Store conn.new) (λ _. ⊥) }
     ensures clean { HasCleanDisk (state S.Store conn.new) → HasCleanDisk (state S.Store conn.old) }
 {

@@ -7,12 +7,8 @@ use Rattle.gate_types.specs.Settings.{Settings}
 use Rattle.gate_book.specs.Kept.{IsKept}
 use Rattle.gate_rows.specs.Tells.{StandsFor}
 use Rattle.gate_queries.specs.Finds.{Stays}
-use Rattle.gate_queries.specs.Reads.{IsOnlyRead, IsOnSchema}
+use Rattle.gate_queries.specs.Reads.{IsOnlyRead}
 use Rattle.gate_sql.specs.Held.{HoldsFor, LeavesFor, ShowsFor}
-
--- what shows a content is on the gate's schema
-on_schema : {s : State} {c : Settings} {x : Content} → ShowsFor s c x → IsOnSchema s
-on_schema shows up = (shows up).schema_is
 
 -- what stays shows it still
 shows_still : {old new : State} {c : Settings} {x : Content} → Stays old new → ShowsFor old c x → ShowsFor new c x
@@ -37,7 +33,7 @@ kept_by state_of names_of old new same reads = record {
   holds_on = λ clean c x held. record {
     sound = held.sound;
     names_are = same ∙ held.names_are;
-    shows = shows_still (reads.stays clean (on_schema held.shows)) held.shows;
+    shows = shows_still (reads.stays clean) held.shows;
   };
-  leaves_on = λ clean c x held ys was. leaves_still (state_of old) (state_of new) c ys (reads.crash clean (on_schema held.shows)) clean was;
+  leaves_on = λ clean c x held ys was. leaves_still (state_of old) (state_of new) c ys (reads.crash clean) clean was;
 }

@@ -16,7 +16,6 @@ mod StandingLemmas
 mod OpenLemmas
 mod AgainLemmas
 pub mod ApplyLemmas
-mod LeaveLemmas
 mod UpgradeLemmas
 pub mod MigrateLemmas
 mod PlanningLemmas

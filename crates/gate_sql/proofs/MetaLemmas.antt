@@ -1,13 +1,14 @@
 -- What reading `meta` shows.
-use Rattle.std.proofs.Common.{◌≡◌, ℕ, List, [], ◌∷◌, map, filter, drop, IsTrue, Ok, Err, Result, refl, sym, ap, subst, ◌∙◌, codes, IsPermutation, Less, false, true}
+use Rattle.std.proofs.Common.{◌≡◌, ℕ, List, [], ◌∷◌, map, filter, drop, IsTrue, refl, sym, ap, subst, ◌∙◌, codes, IsPermutation, Less, false, true}
 use Rattle.std.proofs.lemmas.List.Sorted.{IsPermutation-map, IsPermutation-refl, IsPermutation-sym, IsPermutation-trans}
+use Rattle.sqlite.specs.Clock.{timed}
 use Rattle.sqlite.specs.Collation.TheVariants.{Binary}
 use Rattle.sqlite.specs.Effect.{Database}
-use Rattle.sqlite.specs.Listing.{understood, reads_listing}
+use Rattle.sqlite.specs.Listing.{IsSourceOf, understood, reads_listing}
 use Rattle.sqlite.specs.Order.{Row, value_cmp}
 use Rattle.sqlite.specs.Program.{overlay}
 use Rattle.sqlite.specs.Query.{Query, Output, IsAnswer, output, output_cmp, page}
-use Rattle.sqlite.specs.State.{State, Shown, FailsToQuery}
+use Rattle.sqlite.specs.State.{State, Shown, ShowsRows, FailsToQuery}
 use Rattle.sqlite.specs.Table.{Table}
 use Rattle.sqlite.specs.Term.{Term, col}
 use Rattle.sqlite.specs.declared.error.Error.{Error}
@@ -15,9 +16,8 @@ use Rattle.sqlite.specs.declared.types.Value.{Value}
 use Rattle.sqlite.specs.declared.types.Value.TheVariants.{Null, Text as Words}
 use Rattle.sqlite.proofs.Callers.{IsPlain, command_of, reads_as}
 use Rattle.sqlite_keyed.proofs.SortLemmas.{sorted_unique}
-use Rattle.sqlite_resolve.specs.declared.compiled.Compiled.{Compiled}
-use Rattle.sqlite_resolve.specs.declared.error.CompileError.{CompileError}
 use Rattle.sqlite_schema.specs.declared.schema.Index.{Index}
+use Rattle.sqlite_schema.specs.declared.schema.View.{View}
 use Rattle.sqlite_sql.proofs.QueryLemmas.{output_cmp_total}
 use Rattle.sqlite_tied.specs.Compute.{everything}
 use Rattle.sqlite_trees.specs.Tree.{IsAscending}
@@ -26,11 +26,12 @@ use Rattle.sqlite_value.proofs.OrderLemmas.{value_cmp-Text}
 use Rattle.sqlite_value.specs.Keys.{ascending}
 use Rattle.sqlite_value.specs.Order.{column}
 use Rattle.sqlite_value.specs.declared.keys.Key.{Key}
-use Rattle.gate_queries.specs.Finds.{Finds, IsPlainQuery}
+use Rattle.gate_queries.specs.Finds.{Finds, IsPlainQuery, IsSilent, OnlyReads}
+use Rattle.gate_queries.proofs.SilentLemmas.{plain_only_reads}
 use Rattle.gate_schema.proofs.QueryLemmas.{over_table, passes, kept_is}
 use Rattle.gate_schema.proofs.Statements.{no_limit}
 use Rattle.gate_sql.specs.Opens.{IsMeta, with_meta}
-use Rattle.gate_sql.specs.Reading.{HasNoMeta, HoldsMeta, ShowsMeta, is_unavailable, meta_rows, meta_sql}
+use Rattle.gate_sql.specs.Reading.{HasNoMeta, HoldsMeta, ShowsMeta, Yields, is_unavailable, meta_rows, meta_sql}
 use Rattle.gate_sql.proofs.FailLemmas.{Fits, never_over, query_unavailable, selects}
 
 -- ---- what the text means
@@ -52,26 +53,30 @@ abbrev meta_names : List (List ℕ)
 meta_names = codes "k" ∷ codes "v" ∷ []
 
 -- whatever tables and indexes come behind `meta`
-pub meta_is : (tables : List Table) (indexes : List Index) → (command_of (understood (with_meta tables indexes) meta_sql) ≡ selects meta_query meta_names) × IsPlain (understood (with_meta tables indexes) meta_sql) × (reads_listing (with_meta tables indexes) meta_sql ≡ false)
+pub meta_is : (tables : List Table) (indexes : List Index) (views : List View) → (command_of (understood (with_meta tables indexes views) meta_sql) ≡ selects meta_query meta_names) × IsPlain (understood (with_meta tables indexes views) meta_sql) × (reads_listing (with_meta tables indexes views) meta_sql ≡ false)
 unfolding understood everything
-meta_is tables indexes = (refl, (refl, refl), refl)
+meta_is tables indexes views = (refl, (refl, refl), refl)
+
+-- it only reads, whatever the tables are
+pub meta_reads : OnlyReads meta_sql
+meta_reads = plain_only_reads (with_meta [] [] []) meta_sql (meta_is [] [] []).1
 
 -- the same, as what a query finds asks it
-meta_plain : (tables : List Table) (indexes : List Index) → IsPlainQuery (understood (with_meta tables indexes) meta_sql) meta_query meta_names
+meta_plain : (tables : List Table) (indexes : List Index) (views : List View) → IsPlainQuery (understood (with_meta tables indexes views) meta_sql) meta_query meta_names
 unfolding understood everything
-meta_plain tables indexes = (refl, refl, refl)
+meta_plain tables indexes views = (refl, refl, refl)
 
 -- it is one statement with no parameter, and types well
-meta_fits : (tables : List Table) (indexes : List Index) → Fits meta_sql 0 (understood (with_meta tables indexes) meta_sql) × (accepts_program (with_meta tables indexes) [] meta_query [] ≡ true)
+meta_fits : (tables : List Table) (indexes : List Index) (views : List View) → Fits meta_sql 0 (understood (with_meta tables indexes views) meta_sql) × (accepts_program (with_meta tables indexes views) [] meta_query [] ≡ true)
 unfolding understood everything
-meta_fits tables indexes = ((refl, refl), refl)
+meta_fits tables indexes views = ((refl, refl), refl)
 
 -- It fails for memory, the disk or its size alone.
-pub meta_unavailable : (old new : State) (tables : List Table) (indexes : List Index) (e : Error) → old.now.schema ≡ with_meta tables indexes → FailsToQuery meta_sql [] old new e → IsTrue (is_unavailable e)
-meta_unavailable old new tables indexes e has h =
-    let is = meta_is tables indexes in
-    let fits = meta_fits tables indexes in
-    query_unavailable meta_sql [] old new (with_meta tables indexes) has meta_query meta_names is.0 is.1 is.2 fits.0 fits.1 (λ db. never_over 0 [] meta_terms by_key no_limit db []) e h
+pub meta_unavailable : (old new : State) (tables : List Table) (indexes : List Index) (views : List View) (e : Error) → old.now.schema ≡ with_meta tables indexes views → FailsToQuery meta_sql [] old new e → IsTrue (is_unavailable e)
+meta_unavailable old new tables indexes views e has h =
+    let is = meta_is tables indexes views in
+    let fits = meta_fits tables indexes views in
+    query_unavailable meta_sql [] old new (with_meta tables indexes views) has meta_query meta_names is.0 is.1 is.2 fits.0 fits.1 (λ db. never_over 0 [] meta_terms by_key no_limit db []) e h
 
 -- ---- what it shows of the three rows
 
@@ -111,12 +116,12 @@ meta_rises version settings =
     gate = Words (codes "gate")
 
 -- The rows of `meta` are shown by rising key.
-pub meta_shows : (old new : State) (tables : List Table) (indexes : List Index) (version settings : List ℕ) (rows : List Row) → old.now.schema ≡ with_meta tables indexes → IsMeta old.now.trees version settings
+pub meta_shows : (old new : State) (tables : List Table) (indexes : List Index) (views : List View) (version settings : List ℕ) (rows : List Row) → old.now.schema ≡ with_meta tables indexes views → IsMeta old.now.trees version settings
     → Shown meta_sql [] old new rows → rows ≡ meta_rows version settings
-meta_shows old new tables indexes version settings rows has meta shown =
-    let is = meta_is tables indexes in
+meta_shows old new tables indexes views version settings rows has meta shown =
+    let is = meta_is tables indexes views in
     let in_order : IsPermutation (map (drop 1) (old.now.trees 0)) (meta_rows version settings) = subst (λ rs. IsPermutation (map (drop 1) (old.now.trees 0)) rs) meta.columns_are (IsPermutation-refl _) in
-    let read = reads_as meta_sql [] old new (with_meta tables indexes) has (selects meta_query meta_names) is.0 is.1 is.2 rows shown in
+    let read = reads_as meta_sql [] old new (with_meta tables indexes views) has (selects meta_query meta_names) is.0 is.1 is.2 rows shown in
     let db = overlay old.now.trees [] in
     let a : IsAnswer meta_query db [] rows = read.answer Null in
     let kept : a.kept ≡ map of_columns (map (drop 1) (db 0)) = kept_is 0 [] meta_terms by_key no_limit db [] rows a ∙ outputs_of (db 0) in
@@ -128,16 +133,20 @@ meta_shows old new tables indexes version settings rows has meta shown =
 
 -- ---- what rows that it shows tell
 
--- what a plain query is
-plain_query : (r : Result Compiled CompileError) (q : Query) (names : List (List ℕ)) → IsPlainQuery r q names → (command_of r ≡ selects q names) × IsPlain r
-plain_query (Ok c) q names h = (h.0, (h.1, h.2))
-plain_query (Err e) q names h = absurd h
+-- Rows that are shown are the answer, whatever the tables are.
+pub shown_yields : (old new : State) (rows : List Row) → Shown meta_sql [] old new rows → Yields meta_sql old.now rows
+unfolding Shown
+shown_yields old new rows h =
+    let none = subst IsSilent h.1.is (meta_reads old.now.schema) in
+    let read = subst (ShowsRows old new meta_sql h.0 (timed [] h.0.formats h.1.now) rows) none h.2 in
+    record { text = h.0; is_text = h.1.is; now = h.1.now; source = read.0; is_source = read.1; answers = read.2 }
 
--- Rows that are shown are found.
-pub shown_finds : (sql : List ℕ) (params : Row) (old new : State) (rows : List Row) → Shown sql params old new rows → Finds sql params old.now rows
-shown_finds sql params old new rows shown q names plain unlisted =
-    let is = plain_query (understood old.now.schema sql) q names plain in
-    (reads_as sql params old new old.now.schema refl (selects q names) is.0 is.1 unlisted rows shown).answer Null
+-- And where the text is a plain query of the tables, the rows answer that.
+yields_finds : (db : Database) (rows : List Row) → Yields meta_sql db rows → Finds meta_sql [] db rows
+yields_finds db rows it q names plain unlisted =
+    let is = subst (λ r. IsPlainQuery r q names) it.is_text plain in
+    let here : it.source ≡ db = subst (λ b. IsSourceOf b db it.source) unlisted it.is_source in
+    (rw (is.0, is.2, here) at it.answers).answer Null
 
 -- Nothing is shown where there is no `meta`.
 pub none_shown : (old new : State) (rows : List Row) → HasNoMeta old.now.schema → Shown meta_sql [] old new rows → ⊥
@@ -149,13 +158,13 @@ on_the_page : (rows : List Row) → page meta_query [] rows ≡ rows
 on_the_page rows = refl
 
 -- The rows that are shown are those of the table, in some order.
-pub shown_held : (tables : List Table) (indexes : List Index) (db : Database) (version settings : List ℕ) → db.schema ≡ with_meta tables indexes → ShowsMeta db version settings → HoldsMeta db.trees version settings
-shown_held tables indexes db version settings has shows =
-    let plain = subst (λ s. IsPlainQuery (understood s meta_sql) meta_query meta_names) (sym has) (meta_plain tables indexes) in
-    let unlisted = ap (λ s. reads_listing s meta_sql) has ∙ (meta_is tables indexes).2 in
+pub shown_held : (tables : List Table) (indexes : List Index) (views : List View) (db : Database) (version settings : List ℕ) → db.schema ≡ with_meta tables indexes views → ShowsMeta db version settings → HoldsMeta db.trees version settings
+shown_held tables indexes views db version settings has shows =
+    let plain = subst (λ s. IsPlainQuery (understood s meta_sql) meta_query meta_names) (sym has) (meta_plain tables indexes views) in
+    let unlisted = ap (λ s. reads_listing s meta_sql) has ∙ (meta_is tables indexes views).2 in
     let trees = overlay db.trees [] in
     let rows = meta_rows version settings in
-    let a : IsAnswer meta_query trees [] rows = shows meta_query meta_names plain unlisted in
+    let a : IsAnswer meta_query trees [] rows = yields_finds db rows shows meta_query meta_names plain unlisted in
     let kept : a.kept ≡ map of_columns (map (drop 1) (trees 0)) = kept_is 0 [] meta_terms by_key no_limit trees [] rows a ∙ outputs_of (trees 0) in
     let same : IsPermutation (map of_columns (map (drop 1) (trees 0))) a.ordered = subst (λ k. IsPermutation k a.ordered) kept a.same in
     let all : map (λ (o : Output). o.1) a.ordered ≡ rows = sym (a.shown ∙ on_the_page _) in

@@ -1,18 +1,21 @@
 -- From what is found of a file's `meta` to what opening it with other settings makes.
-use Rattle.std.proofs.Common.{◌≡◌, inr, true, false, true≢false, sym, ap, subst, ◌∙◌, Ok, Some}
+use Rattle.std.proofs.Common.{◌≡◌, inr, true, false, true≢false, sym, ap, subst, ◌∙◌, Ok, Option, Some}
 use Rattle.sqlite.specs.Effect.{Database}
 use Rattle.sqlite.specs.Tree.{Trees}
+use Rattle.sqlite_catalog.specs.Listing.{Lists}
+use Rattle.sqlite_trees.specs.Objects.{catalog_tree}
 use Rattle.gate_types.specs.Adopt.{adopted_content, may_adopt}
 use Rattle.gate_types.specs.Forms.{are_settings_in_form}
 use Rattle.gate_types.specs.Lawful.{IsSound}
 use Rattle.gate_types.specs.Once.{Content}
 use Rattle.gate_types.specs.Settings.{Settings, are_sound}
 use Rattle.gate_types.specs.SettingsText.{settings_text}
+use Rattle.gate_types.specs.declared.open_fault.OpenFault.{OpenFault}
 use Rattle.gate_settings.specs.Told.{OneTextASetting, Tells}
 use Rattle.gate_laws.proofs.SameSettingsStay.{same_settings_stay}
 use Rattle.gate_sql.specs.Adopts.{CanAdopt, IsKept}
 use Rattle.gate_sql.specs.Opens.{MayOpen}
-use Rattle.gate_sql.specs.Reading.{HasNoneToAdopt, IsFoundOf, ShowsMeta}
+use Rattle.gate_sql.specs.Reading.{HasNoneToAdopt, IsFoundOf, IsTold, IsToldOf, ShowsMeta}
 
 -- the settings that are kept tell their text
 told : (db : Trees) (c d : Settings) (x : Content) (keeps : IsKept db c x) → Tells keeps.stands.stored.settings c
@@ -49,3 +52,7 @@ not_found law db c d k x keeps refused tells may = true≢false (sym may ∙ ap 
 -- where other settings are found, there are some to adopt
 pub some_to_adopt : (db : Database) (d k : Settings) → IsFoundOf (Ok (Some k)) (ShowsMeta db) d → HasNoneToAdopt db d → ⊥
 some_to_adopt db d k found none = none found.0 k found.4 found.1 found.2 found.3
+
+-- what is told of the tables of a connection is told of these trees, which are its own
+pub told_of : (db : Database) (fault : Option OpenFault) (trees : Trees) (d : Settings) → db.trees ≡ trees → Lists (db.trees catalog_tree) db.schema → IsTold fault (ShowsMeta db) d → IsToldOf fault trees d
+told_of db fault trees d is lists told = subst (λ t. IsToldOf fault t d) is (record { schema = db.schema; lists = lists; told = told })

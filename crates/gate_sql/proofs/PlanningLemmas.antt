@@ -21,7 +21,8 @@ use Rattle.gate_types.specs.declared.records.Ready.{Ready}
 use Rattle.gate_types.specs.declared.rows.ChangeRow.{ChangeRow}
 use Rattle.gate_schema.specs.Rows.{Stored, change_key}
 use Rattle.gate_rows.proofs.ThenLemmas.{survives_itself}
-use Rattle.gate_queries.specs.First.{IsProjectOf, OnlyReadsOn, first_schema}
+use Rattle.gate_queries.specs.First.{IsProjectOf}
+use Rattle.gate_queries.specs.Reads.{IsOnlyRead}
 use Rattle.gate_sql.specs.Migrates.{TellsQueue, pair_of_item, pair_of_landing, plan_for, puts}
 
 -- ---- the project of a change
@@ -55,11 +56,11 @@ project_is c s b n name p are is found =
 -- ---- reads in turn
 
 -- nothing is read yet
-pub nothing_read : (s : SqlState) → OnlyReadsOn first_schema s s
+pub nothing_read : (s : SqlState) → IsOnlyRead s s
 nothing_read s = record {
   clean = λ up. up;
-  stays = λ clean on. record { was_open = λ up. up; now_is = λ up. refl };
-  crash = λ clean on. survives_itself s;
+  stays = λ clean. record { was_open = λ up. up; now_is = λ up. refl };
+  crash = λ clean. survives_itself s;
 }
 
 -- ---- lists

@@ -1,6 +1,6 @@
 -- From how a file stands to what who migrates it is answered.
 use Rattle.std.proofs.Common.{◌≡◌, inl, inr, Bool, true, false, ℕ, List, Some, Ok, Err, Result, ap, bytes_eq, codes, length, refl, slice_index_or, subst, sym, true≢false, ◌∙◌}
-use Rattle.std.specs.Prelude.{IsTrue, MatchResult, OnOk}
+use Rattle.std.specs.Prelude.{◌≢◌, IfErr, IsTrue, MatchResult, OnOk}
 use Rattle.std.proofs.lemmas.Slice.Eq.{bytes_eq-Decides}
 use Rattle.sqlite.specs.Effect.{Database}
 use Rattle.sqlite.specs.Order.{Row}
@@ -18,9 +18,9 @@ use Rattle.gate_queries.specs.Finds.{Stays}
 use Rattle.gate_queries.proofs.StayLemmas.{stays_then}
 use Rattle.gate_sql.specs.Held.{IsShownFor}
 use Rattle.gate_sql.specs.Making.{IsSettled}
-use Rattle.gate_sql.specs.Migrates.{Carries}
-use Rattle.gate_sql.specs.Opens.{IsMigrated, IsStanding, fault_before}
-use Rattle.gate_sql.specs.Reading.{IsMigratedOf, IsStandingOf, IsUnread, meta_rows}
+use Rattle.gate_sql.specs.Migrates.{Carries, HasNoneToMigrate}
+use Rattle.gate_sql.specs.Opens.{IsMigrated, IsStanding, fault_before, is_newly_taken}
+use Rattle.gate_sql.specs.Reading.{IsMigratedOf, IsStandingOf, IsUnread, ShowsMeta, meta_rows}
 use Rattle.gate_sql.specs.declared.migrating.Migrated.{Migrated}
 use Rattle.gate_sql.specs.declared.migrating.Migrated.TheVariants as migrated
 use Rattle.gate_sql.proofs.JudgeLemmas.{three_are}
@@ -156,3 +156,15 @@ pub settled_from : (r : Result Migrated OpenFault) (mid new : State) (c : Settin
 settled_from (Ok m) mid new c x Recovers recovered held done = λ db left.
     subst (λ trees. StandsFor trees c (migrated_content c x)) (sym (recovered db held.0 left ∙ ap (λ (d : Database). d.trees) held.1)) done.stands
 settled_from (Err f) mid new c x Recovers recovered held done = tt
+
+-- where it isn't one of those that there is nothing to migrate of
+pub some_to_migrate : (db : Database) (d : Settings) (t : Bool) → t ≡ true → is_newly_taken db.schema ≡ false → IsStandingOf (Ok t) (ShowsMeta db) (settings_text d) → HasNoneToMigrate db d → ⊥
+some_to_migrate db d t is free told (inl took) = true≢false (sym took ∙ free)
+some_to_migrate db d t is free told (inr none) =
+    let both = first_is t told.0 told.1 (settings_text d) is told.2 in
+    none (subst (λ v. ShowsMeta db v (settings_text d)) both.0 (subst (ShowsMeta db told.0) both.1 told.3))
+
+-- a call that fails for want of memory, the disk or its size alone has no other fault
+pub none_other : (P : Type 0) (r : Result Migrated OpenFault) → MatchResult r (λ m. m ≡ migrated.Done) (λ f. f ≡ fault.Unavailable) → IfErr r (λ f. f ≢ fault.Unavailable → P)
+none_other P (Ok m) is = tt
+none_other P (Err f) is = λ other. absurd (other is)

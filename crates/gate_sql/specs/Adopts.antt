@@ -1,6 +1,5 @@
 -- What a file's tables become where other settings are adopted.
-use Rattle.std.specs.Prelude.{◌≡◌, ◌⊎◌, ℕ, true, List, find, Option, option_map}
-use Rattle.sqlite.specs.Effect.{Database}
+use Rattle.std.specs.Prelude.{◌≡◌, ℕ, true, List, find, Option, option_map}
 use Rattle.sqlite.specs.Tree.{Trees}
 use Rattle.gate_types.specs.Adopt.{may_adopt}
 use Rattle.gate_types.specs.AdoptedTables.{adopted_window}
@@ -11,9 +10,7 @@ use Rattle.gate_types.specs.Settings.{Settings, are_sound}
 use Rattle.gate_types.specs.declared.config.Queue.{Queue as QueueSetting}
 use Rattle.gate_rows.specs.Tells.{StandsFor}
 use Rattle.gate_schema.specs.Rows.{QueueRow, Stored}
-use Rattle.gate_schema.specs.Schema.{gate_schema}
 use Rattle.gate_sql.specs.Making.{queue_rows}
-use Rattle.gate_sql.specs.Reading.{HasNoneToAdopt}
 
 -- the window under which the rows keep a queue, if they keep it
 abbrev pub window_in : List QueueRow → List ℕ → Option ℕ
@@ -44,7 +41,3 @@ pub record IsKept (db : Trees) (c : Settings) (x : Content) : Type 0 where
   pub in_form : are_settings_in_form c ≡ true
   pub lawful : IsLawfulContent c x
   pub stands : StandsFor db c x
-
--- what is left where the call fails is what was there: the tables are the gate's, or no other settings are taken
-abbrev pub CanBeLeft : Database → Settings → Type 0
-CanBeLeft db d = (db.schema ≡ gate_schema) ⊎ HasNoneToAdopt db d

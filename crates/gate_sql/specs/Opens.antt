@@ -5,6 +5,7 @@ use Rattle.sqlite.specs.Schema.{Schema}
 use Rattle.sqlite.specs.Tree.{Trees}
 use Rattle.sqlite.specs.Table.{Table}
 use Rattle.sqlite_schema.specs.declared.schema.Index.{Index}
+use Rattle.sqlite_schema.specs.declared.schema.View.{View}
 use Rattle.sqlite_catalog.specs.Change.{is_used}
 use Rattle.gate_types.specs.Adopt.{may_adopt}
 use Rattle.gate_types.specs.Settings.{Settings}
@@ -20,8 +21,8 @@ use Rattle.gate_sql.specs.declared.migrating.Migrated.TheVariants as migrated
 -- ---- opening
 
 -- a schema whose first table is `meta`
-abbrev pub with_meta : List Table → List Index → Schema
-with_meta tables indexes = record { tables = meta_at 0 ∷ tables; indexes = indexes; views = [] }
+abbrev pub with_meta : List Table → List Index → List View → Schema
+with_meta tables indexes views = record { tables = meta_at 0 ∷ tables; indexes = indexes; views = views }
 
 -- `meta` holds the three rows of a gate's file, with this version and these settings
 abbrev pub IsMeta : Trees → List ℕ → List ℕ → Type 0

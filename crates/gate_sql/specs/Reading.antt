@@ -1,24 +1,25 @@
 -- What reading `meta` shows, and why it fails.
 use Rattle.std.specs.Prelude.{◌≡◌, ◌≢◌, ◌⊎◌, ⊤, ℕ, List, [], ◌∷◌, codes, Bool, true, false, Ok, Err, Option, Some, None, Result, map, IsPermutation}
-use Rattle.sqlite.specs.Effect.{Database}
-use Rattle.sqlite.specs.Listing.{understood}
+use Rattle.sqlite.specs.Clock.{timed}
+use Rattle.sqlite.specs.Effect.{Database, Reads as Answers}
+use Rattle.sqlite.specs.Listing.{IsSourceOf, reads_listing, understood}
 use Rattle.sqlite.specs.Order.{Row}
 use Rattle.sqlite.specs.Schema.{Schema}
-use Rattle.sqlite.specs.Table.{Table}
 use Rattle.sqlite.specs.Tree.{Trees}
 use Rattle.sqlite.specs.declared.error.Error.{Error}
 use Rattle.sqlite.specs.declared.error.Error.TheVariants.{SqliteFailure}
 use Rattle.sqlite.specs.declared.error.ErrorCode.TheVariants as code
+use Rattle.sqlite_catalog.specs.Listing.{Lists}
+use Rattle.sqlite_trees.specs.Objects.{catalog_tree}
+use Rattle.sqlite_resolve.specs.declared.compiled.Compiled.{Compiled}
 use Rattle.sqlite_resolve.specs.declared.error.CompileError.{CompileError}
-use Rattle.sqlite_schema.specs.declared.schema.Index.{Index}
 use Rattle.sqlite_value.specs.Order.{column}
-use Rattle.gate_queries.specs.Finds.{Finds}
 use Rattle.gate_schema.specs.Rows.{pair_of_words}
 use Rattle.gate_types.specs.Adopt.{may_adopt}
 use Rattle.gate_types.specs.Settings.{Settings}
 use Rattle.gate_types.specs.SettingsText.{settings_text}
 use Rattle.gate_settings.specs.Told.{Tells}
-use Rattle.gate_sql.specs.Opens.{IsJudged, IsMigrated, IsStanding, MayOpen, with_meta}
+use Rattle.gate_sql.specs.Opens.{IsJudged, IsMigrated, IsStanding, MayOpen}
 use Rattle.gate_sql.specs.declared.migrating.Migrated.{Migrated}
 use Rattle.gate_types.specs.declared.open_fault.OpenFault.{OpenFault}
 use Rattle.gate_types.specs.declared.open_fault.OpenFault.TheVariants as fault
@@ -33,9 +34,20 @@ meta_rows version settings =
     pair_of_words (codes "format") (codes "gate") ∷ pair_of_words (codes "schema") version ∷
     pair_of_words (codes "settings") settings ∷ []
 
+-- a query of the text, without parameters, answers these rows, whatever the tables, the indexes and the views are
+pub record Yields (sql : List ℕ) (db : Database) (rows : List Row) : Type 0 where
+  pub text : Compiled
+  pub is_text : understood db.schema sql ≡ Ok text
+  -- the time, if the text asks for it
+  pub now : ℕ
+  -- what it reads: the database, or the list of its objects
+  pub source : Database
+  pub is_source : IsSourceOf (reads_listing db.schema sql) db source
+  pub answers : Answers text.command source (timed [] text.formats now) rows
+
 -- the query shows these rows
 abbrev pub ShowsMeta : Database → List ℕ → List ℕ → Type 0
-ShowsMeta db version settings = Finds meta_sql [] db (meta_rows version settings)
+ShowsMeta db version settings = Yields meta_sql db (meta_rows version settings)
 
 -- `meta`, the first table, holds these rows, in some order
 abbrev pub HoldsMeta : Trees → List ℕ → List ℕ → Type 0
@@ -52,6 +64,12 @@ IsTold (Some fault.OtherSchema) Are d =
     (version : List ℕ) × (kept : List ℕ) × (version ≢ codes "2") × Are version kept
 IsTold (Some fault.OtherSettings) Are d = (kept : List ℕ) × (MayOpen kept d → ⊥) × Are (codes "2") kept
 IsTold (Some fault.Unavailable) Are d = ⊤
+
+-- a store with these trees is told so: under the schema that they list
+pub record IsToldOf (fault : Option OpenFault) (trees : Trees) (d : Settings) : Type 0 where
+  pub schema : Schema
+  pub lists : Lists (trees catalog_tree) schema
+  pub told : IsTold fault (ShowsMeta (record { schema = schema; trees = trees })) d
 
 -- the fault that was met, if one was
 abbrev pub met : {X : Type 0} → Result X OpenFault → Option OpenFault
@@ -102,11 +120,6 @@ HasNoneToAdopt db d = (kept : List ℕ) (c : Settings) → ShowsMeta db (codes "
 -- there is no `meta` to read: no such table, or none with these columns
 abbrev pub HasNoMeta : Schema → Type 0
 HasNoMeta schema = (fault : CompileError) × (understood schema meta_sql ≡ Err fault)
-
--- whether there is a `meta` is known: it is the first table, or there is none
-abbrev pub KnowsMeta : Schema → Type 0
-KnowsMeta schema =
-    ((tables : List Table) × (indexes : List Index) × (schema ≡ with_meta tables indexes)) ⊎ HasNoMeta schema
 
 -- it isn't opened: it is no gate's file, where nothing failed
 abbrev pub IsUnread : Option OpenFault → Type 0

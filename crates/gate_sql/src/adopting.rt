@@ -186,7 +186,7 @@ pub(crate) fn adopt<S: Alter>(
         CanAdopt (state S.Store conn.old).now.trees kept.now config.now x →
         OnOk result (IsShownFor (state S.Store conn.new) config.now (adopted_content kept.now config.now x)) }
     ensures settled { HasCleanDisk (state S.Store conn.new) → OnOk result (IsSettled (state S.Store conn.new)) }
-    ensures none { HasCleanDisk (state S.Store conn.new) → (state S.Store conn.old).now.schema ≡ gate_schema →
+    ensures none { HasCleanDisk (state S.Store conn.new) →
         OnErr result (Stays (state S.Store conn.old) (state S.Store conn.new)) }
     ensures fault { IfErr result (λ f. f ≡ OpenFault.Unavailable) }
     ensures clean { HasCleanDisk (state S.Store conn.new) → HasCleanDisk (state S.Store conn.old) }

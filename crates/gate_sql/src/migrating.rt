@@ -1,5 +1,5 @@
 //! A gate's file of schema 1 made one of schema 2.
-ghost use Rattle.std.specs.Prelude.{◌≡◌, ◌⊎◌, codes, false, map, IfErr, IsTrue, MatchResult, OnOk};
+ghost use Rattle.std.specs.Prelude.{◌≡◌, ◌≢◌, ◌⊎◌, codes, false, map, IfErr, IsTrue, MatchResult, OnOk};
 ghost use Rattle.sqlite.specs.Held.{state};
 ghost use Rattle.sqlite.specs.State.{HasCleanDisk, IsUnchanged};
 ghost use Rattle.sqlite.specs.Tree.{Trees};
@@ -17,7 +17,7 @@ ghost use Rattle.gate_sql.specs.Upgrade.{StandsForFirst};
 ghost use Rattle.gate_sql.specs.Making.{IsSettled};
 ghost use Rattle.gate_sql.specs.Migrates.{CanMigrate, Carries, HasNoneToMigrate, IsLeft};
 ghost use Rattle.gate_sql.specs.Opens.{IsMeta, IsMigrated, IsStanding, fault_before, is_newly_taken, with_meta};
-ghost use Rattle.gate_sql.specs.Reading.{HasNoMeta, IsMigratedOf, IsStandingOf, IsUnread, KnowsMeta, ShowsMeta, met, meta_rows};
+ghost use Rattle.gate_sql.specs.Reading.{HasNoMeta, IsMigratedOf, IsStandingOf, IsUnread, ShowsMeta, met, meta_rows};
 
 use crate::creating::is_any_used;
 use crate::opening::{fault_of, is_text, read_meta, value_for};
@@ -79,20 +79,17 @@ fn judge_rows(rows: &[Row], settings: &str) -> Result<bool, OpenFault>
 
 /// The same of the file of a connection.
 fn standing_in<S: Alter>(conn: &mut Connection<S>, settings: &str) -> Result<bool, OpenFault>
-    ensures judged { HasCleanDisk (state S.Store conn.new) → (tables : _) (indexes : _) (version kept : _) →
-        (state S.Store conn.old).now.schema ≡ with_meta tables indexes →
+    ensures judged { HasCleanDisk (state S.Store conn.new) → (tables : _) (indexes : _) (views : _) (version kept : _) →
+        (state S.Store conn.old).now.schema ≡ with_meta tables indexes views →
         IsMeta (state S.Store conn.old).now.trees version kept → IsStanding result version kept settings.now }
     ensures told { HasCleanDisk (state S.Store conn.new) →
         IsStandingOf result (ShowsMeta (state S.Store conn.old).now) settings.now }
     ensures unread { HasCleanDisk (state S.Store conn.new) → HasNoMeta (state S.Store conn.old).now.schema →
         IsUnread (met result) }
-    ensures same { HasCleanDisk (state S.Store conn.new) → (tables : _) (indexes : _) →
-        (state S.Store conn.old).now.schema ≡ with_meta tables indexes →
+    ensures same { HasCleanDisk (state S.Store conn.new) →
         OnOk result (IsUnchanged (state S.Store conn.old) (state S.Store conn.new)) }
-    ensures stays { HasCleanDisk (state S.Store conn.new) → KnowsMeta (state S.Store conn.old).now.schema →
-        Stays (state S.Store conn.old) (state S.Store conn.new) }
-    ensures crash { KnowsMeta (state S.Store conn.old).now.schema →
-        LeavesNothing (state S.Store conn.old) (state S.Store conn.new) }
+    ensures stays { HasCleanDisk (state S.Store conn.new) → Stays (state S.Store conn.old) (state S.Store conn.new) }
+    ensures crash { LeavesNothing (state S.Store conn.old) (state S.Store conn.new) }
     ensures clean { HasCleanDisk (state S.Store conn.new) → HasCleanDisk (state S.Store conn.old) }
 {
     if !conn.is_autocommit() {
@@ -185,8 +182,8 @@ pub fn migrate<S: Alter>(
         (λ m. m ≡ Migrated.Already) (λ f. f ≡ OpenFault.Unavailable)
         × IsLeft (state S.Store conn.old) (state S.Store conn.new) }
     // whether it is migrated is decided by the file alone
-    ensures judged { HasCleanDisk (state S.Store conn.new) → (tables : _) (indexes : _) (version kept : _) →
-        (state S.Store conn.old).now.schema ≡ with_meta tables indexes →
+    ensures judged { HasCleanDisk (state S.Store conn.new) → (tables : _) (indexes : _) (views : _) (version kept : _) →
+        (state S.Store conn.old).now.schema ≡ with_meta tables indexes views →
         IsMeta (state S.Store conn.old).now.trees version kept →
         IsMigrated result (is_newly_taken (state S.Store conn.old).now.schema) version kept config.now }
     ensures told { HasCleanDisk (state S.Store conn.new) →
@@ -194,7 +191,9 @@ pub fn migrate<S: Alter>(
         (ShowsMeta (state S.Store conn.old).now) config.now }
     ensures unread { HasCleanDisk (state S.Store conn.new) → HasNoMeta (state S.Store conn.old).now.schema →
         IsUnread (met result) }
-    ensures none { HasCleanDisk (state S.Store conn.new) → KnowsMeta (state S.Store conn.old).now.schema →
+    ensures refused { HasCleanDisk (state S.Store conn.new) → IfErr result (λ f. f ≢ OpenFault.Unavailable →
+        Stays (state S.Store conn.old) (state S.Store conn.new)) }
+    ensures none { HasCleanDisk (state S.Store conn.new) →
         HasNoneToMigrate (state S.Store conn.old).now config.now →
         IsLeft (state S.Store conn.old) (state S.Store conn.new) }
     ensures crash { HasCleanDisk (state S.Store conn.new) → IsTrue (state S.Store conn.old).is_open → (x : Content) →

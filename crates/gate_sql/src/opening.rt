@@ -18,8 +18,8 @@ ghost use Rattle.gate_queries.specs.Finds.{Stays};
 ghost use Rattle.gate_sql.specs.Handed.{answered, handed};
 ghost use Rattle.gate_sql.specs.Held.{HoldsFor, names_of};
 ghost use Rattle.gate_sql.specs.Opens.{IsJudged, IsMeta, with_meta};
-ghost use Rattle.gate_sql.specs.Adopts.{CanBeLeft, IsKept};
-ghost use Rattle.gate_sql.specs.Reading.{HasNoMeta, HasNoneToAdopt, HoldsMeta, IsFound, IsFoundOf, IsMet, IsTold, IsUnread, KnowsMeta, ShowsMeta, is_unavailable, met, meta_rows, meta_sql};
+ghost use Rattle.gate_sql.specs.Adopts.{IsKept};
+ghost use Rattle.gate_sql.specs.Reading.{HasNoMeta, HasNoneToAdopt, HoldsMeta, IsFound, IsFoundOf, IsMet, IsTold, IsUnread, ShowsMeta, is_unavailable, met, meta_rows, meta_sql};
 
 use crate::adopting::adopt;
 use crate::book::{SqlBook, texts_of};
@@ -39,8 +39,7 @@ pub(crate) fn read_meta<S: Alter>(conn: &mut Connection<S>) -> Result<Vec<Row>, 
     ensures err { HasCleanDisk (state S.Store conn.new) →
         IfErr result (FailsToQuery meta_sql [] (state S.Store conn.old) (state S.Store conn.new)) }
     ensures mode { conn.old.in_transaction ≡ false → conn.new.in_transaction ≡ false }
-    ensures crash { KnowsMeta (state S.Store conn.old).now.schema →
-        LeavesNothing (state S.Store conn.old) (state S.Store conn.new) }
+    ensures crash { LeavesNothing (state S.Store conn.old) (state S.Store conn.new) }
     ensures clean { HasCleanDisk (state S.Store conn.new) → HasCleanDisk (state S.Store conn.old) }
 {
     conn.query_all("SELECT k, v FROM meta ORDER BY k", &[])
@@ -173,21 +172,19 @@ fn kept_in<S: Alter>(
     config: &Config,
 ) -> Result<Option<Config>, OpenFault>
     ensures judged { settings.now ≡ settings_text config.now → HasCleanDisk (state S.Store conn.new) →
-        (tables : _) (indexes : _) (version kept : _) → (state S.Store conn.old).now.schema ≡ with_meta tables indexes →
+        (tables : _) (indexes : _) (views : _) (version kept : _) →
+        (state S.Store conn.old).now.schema ≡ with_meta tables indexes views →
         IsMeta (state S.Store conn.old).now.trees version kept → IsFound result version kept config.now }
     ensures told { settings.now ≡ settings_text config.now → HasCleanDisk (state S.Store conn.new) →
         IsFoundOf result (ShowsMeta (state S.Store conn.old).now) config.now }
     ensures unread { HasCleanDisk (state S.Store conn.new) → HasNoMeta (state S.Store conn.old).now.schema →
         IsUnread (met result) }
-    ensures same { HasCleanDisk (state S.Store conn.new) → (tables : _) (indexes : _) →
-        (state S.Store conn.old).now.schema ≡ with_meta tables indexes →
+    ensures same { HasCleanDisk (state S.Store conn.new) →
         OnOk result (IsUnchanged (state S.Store conn.old) (state S.Store conn.new) ×
         ((state S.Store conn.old).now ≡ (state S.Store conn.old).committed)) }
-    ensures stays { HasCleanDisk (state S.Store conn.new) → KnowsMeta (state S.Store conn.old).now.schema →
-        Stays (state S.Store conn.old) (state S.Store conn.new) }
+    ensures stays { HasCleanDisk (state S.Store conn.new) → Stays (state S.Store conn.old) (state S.Store conn.new) }
     ensures mode { OnOk result (conn.new.in_transaction ≡ false) }
-    ensures crash { KnowsMeta (state S.Store conn.old).now.schema →
-        LeavesNothing (state S.Store conn.old) (state S.Store conn.new) }
+    ensures crash { LeavesNothing (state S.Store conn.old) (state S.Store conn.new) }
     ensures clean { HasCleanDisk (state S.Store conn.new) → HasCleanDisk (state S.Store conn.old) }
 {
     if !conn.is_autocommit() {
@@ -233,22 +230,23 @@ impl<S: Alter> SqlBook<S> {
             (λ book. HasCleanDisk (state S.Store book.conn) → ⊥)
             (λ e. HasCleanDisk (state S.Store e.1) →
             (e.0 ≡ OpenFault.OtherSettings) ⊎ (e.0 ≡ OpenFault.Unavailable)) }
-        ensures judged { (tables : _) (indexes : _) (version kept : _) →
-            (state S.Store conn).now.schema ≡ with_meta tables indexes →
+        ensures judged { (tables : _) (indexes : _) (views : _) (version kept : _) →
+            (state S.Store conn).now.schema ≡ with_meta tables indexes views →
             IsMeta (state S.Store conn).now.trees version kept → HasCleanDisk (handed S.Store result) →
             IsJudged (answered result) version kept config.now }
         ensures told { HasCleanDisk (handed S.Store result) →
             IsTold (answered result) (ShowsMeta (state S.Store conn).now) config.now }
-        ensures held { (tables : _) (indexes : _) → (state S.Store conn).now.schema ≡ with_meta tables indexes →
+        ensures held { (tables : _) (indexes : _) (views : _) →
+            (state S.Store conn).now.schema ≡ with_meta tables indexes views →
             HasCleanDisk (handed S.Store result) →
             IsTold (answered result) (HoldsMeta (state S.Store conn).now.trees) config.now }
         ensures unread { HasNoMeta (state S.Store conn).now.schema → HasCleanDisk (handed S.Store result) →
             IsUnread (answered result) }
-        ensures none { KnowsMeta (state S.Store conn).now.schema →
-            CanBeLeft (state S.Store conn).now config.now → IfErr result (λ e.
+        ensures none { IfErr result (λ e.
             HasCleanDisk (state S.Store e.1) → Stays (state S.Store conn) (state S.Store e.1)) }
-        ensures crash { KnowsMeta (state S.Store conn).now.schema →
-            HasNoneToAdopt (state S.Store conn).now config.now → HasCleanDisk (handed S.Store result) →
+        ensures lasts { IfOk result (λ book. HasCleanDisk (state S.Store book.conn) → (db : Trees) →
+            S.Store.recovers book.conn.store db → db ≡ (state S.Store book.conn).now.trees) }
+        ensures crash { HasNoneToAdopt (state S.Store conn).now config.now → HasCleanDisk (handed S.Store result) →
             LeavesNothing (state S.Store conn) (handed S.Store result) }
         ensures quiet { (x : Content) → (state S.Store conn).now.schema ≡ gate_schema →
             StandsFor (state S.Store conn).now.trees config.now x → HasCleanDisk (handed S.Store result) →

@@ -8,7 +8,8 @@ ghost use Rattle.gate_types.specs.Names.{same_name};
 ghost use Rattle.gate_types.specs.State.{State as GateState, Queue as GateQueue};
 ghost use Rattle.gate_types.specs.Tables.{change_row};
 ghost use Rattle.gate_schema.specs.Rows.{Stored};
-ghost use Rattle.gate_queries.specs.First.{IsFirstOf, OnlyReadsOn, first_schema, pair_shown};
+ghost use Rattle.gate_queries.specs.First.{IsFirstOf, pair_shown};
+ghost use Rattle.gate_queries.specs.Reads.{IsOnlyRead};
 ghost use Rattle.gate_sql.specs.Migrates.{TellsQueue, TellsState, plan_for, puts};
 
 use gate_book::fault::BookFault;
@@ -77,7 +78,7 @@ fn plan_for<S: Alter>(
     ensures found { HasCleanDisk (state S.Store conn.new) → (b : Stored) (s : GateState) →
         IsFirstOf (state S.Store conn.old) b → b.changes ≡ map (change_row s.ready) s.changes →
         IfOk result (λ p. p ≡ plan_for config.now s may_fail_fast (serial, change)) }
-    ensures only_reads { OnlyReadsOn first_schema (state S.Store conn.old) (state S.Store conn.new) }
+    ensures only_reads { IsOnlyRead (state S.Store conn.old) (state S.Store conn.new) }
 {
     let name = project_name(conn, change)?;
     match project_named(config, name.as_str()) {
@@ -98,7 +99,7 @@ fn plan_of<S: Alter>(
         IsFirstOf (state S.Store conn.old) b → b.changes ≡ map (change_row s.ready) s.changes → (pair : ℕ × ℕ) →
         row.now ≡ pair_shown pair.0 pair.1 →
         IfOk result (λ p. p ≡ plan_for config.now s may_fail_fast pair) }
-    ensures only_reads { OnlyReadsOn first_schema (state S.Store conn.old) (state S.Store conn.new) }
+    ensures only_reads { IsOnlyRead (state S.Store conn.old) (state S.Store conn.new) }
 {
     let serial = serial_in(row, 0)?;
     let change = change_in(row, 1)?;
@@ -126,7 +127,7 @@ fn push_plans<S: Alter>(
         IsFirstOf (state S.Store conn.old) b → b.changes ≡ map (change_row s.ready) s.changes →
         (pairs : List (ℕ × ℕ)) → rows.now ≡ map (λ (p : ℕ × ℕ). pair_shown p.0 p.1) pairs →
         OnOk result (edits.new.items ≡ edits.old.items ++ puts (map (plan_for config.now s may_fail_fast) pairs)) }
-    ensures only_reads { OnlyReadsOn first_schema (state S.Store conn.old) (state S.Store conn.new) }
+    ensures only_reads { IsOnlyRead (state S.Store conn.old) (state S.Store conn.new) }
 {
     for row in rows {
         let plan = plan_of(alloc, conn, config, row, may_fail_fast)?;
@@ -147,7 +148,7 @@ fn push_queue<S: Alter>(
         IsFirstOf (state S.Store conn.old) b → b.changes ≡ map (change_row s.ready) s.changes → (q : GateQueue) →
         q.name ≡ queue.now → TellsQueue b q →
         OnOk result (edits.new.items ≡ edits.old.items ++ puts (plans_of_queue config.now s q)) }
-    ensures only_reads { OnlyReadsOn first_schema (state S.Store conn.old) (state S.Store conn.new) }
+    ensures only_reads { IsOnlyRead (state S.Store conn.old) (state S.Store conn.new) }
 {
     let items = item_pairs(conn, queue)?;
     push_plans(alloc, conn, config, &items, true, edits)?;
@@ -164,7 +165,7 @@ pub(crate) fn first_plans<S: Alter>(
     ensures found { HasCleanDisk (state S.Store conn.new) → (b : Stored) (s : GateState) →
         IsFirstOf (state S.Store conn.old) b → TellsState b config.now s →
         IfOk result (λ edits. edits.items ≡ puts (flat_map (plans_of_queue config.now s) s.queues)) }
-    ensures only_reads { OnlyReadsOn first_schema (state S.Store conn.old) (state S.Store conn.new) }
+    ensures only_reads { IsOnlyRead (state S.Store conn.old) (state S.Store conn.new) }
 {
     let mut edits = Vec::new(alloc);
     for queue in config.queues.as_slice() {

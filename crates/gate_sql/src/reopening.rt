@@ -1,5 +1,5 @@
 //! A gate's file opened after a crash.
-ghost use Rattle.std.specs.Prelude.{◌≡◌, ◌⊎◌, true, false, IfErr, IfOk, MatchResult, List};
+ghost use Rattle.std.specs.Prelude.{◌≡◌, ◌≢◌, ◌⊎◌, true, false, IfErr, IfOk, MatchResult, List, None, Some};
 ghost use Rattle.sqlite.specs.Held.{state};
 ghost use Rattle.sqlite.specs.State.{HasCleanDisk};
 ghost use Rattle.sqlite.specs.Steps.{IsFresh};
@@ -11,6 +11,7 @@ ghost use Rattle.gate_types.specs.Settings.{Settings};
 ghost use Rattle.gate_rows.specs.Tells.{StandsFor};
 ghost use Rattle.gate_sql.specs.Adopts.{IsKept};
 ghost use Rattle.gate_sql.specs.Held.{HoldsFor, HoldsForOne, StandsForOne, names_of};
+ghost use Rattle.gate_sql.specs.Reading.{IsToldOf};
 
 use crate::book::SqlBook;
 use gate_types::config::Config;
@@ -49,6 +50,10 @@ impl<S: Alter + Drop> SqlBook<S> {
         ensures may_fault { (c : Settings) (x : Content) → IsKept (S.Store.view store).trees c x →
             may_adopt c config.now ≡ true →
             IfErr result (λ e. IsClean (S.Store.view e.1) → e.0 ≡ OpenFault.Unavailable) }
+        ensures told { IfOk result (λ book. HasCleanDisk (state S.Store book.conn) →
+            IsToldOf None (S.Store.view store).trees config.now) }
+        ensures fault_told { IfErr result (λ e. IsClean (S.Store.view e.1) → e.0 ≢ OpenFault.Unavailable →
+            IsToldOf (Some e.0) (S.Store.view store).trees config.now) }
         ensures fault { (x : Content) → StandsFor (S.Store.view store).trees config.now x →
             IfErr result (λ e. IsClean (S.Store.view e.1) → e.0 ≡ OpenFault.Unavailable) }
     {

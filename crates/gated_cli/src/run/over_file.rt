@@ -14,12 +14,10 @@ ghost use Rattle.gate_core.specs.Replies.{Replayed, Cut};
 ghost use Rattle.gate_queries.specs.Finds.{Stays};
 ghost use Rattle.gate_schema.specs.Schema.{schema_with};
 ghost use Rattle.gate_rows.specs.Tells.{StandsFor};
-ghost use Rattle.gate_sql.specs.Adopts.{CanBeLeft};
 ghost use Rattle.gate_sql.specs.Applies.{LeavesOrStands};
 ghost use Rattle.gate_sql.specs.Held.{IsShownFor, ShowsFor, queue_names};
 ghost use Rattle.gate_sql.specs.Migrates.{HasNoneToMigrate, IsLeft};
 ghost use Rattle.gate_sql.specs.Opens.{IsJudged, IsMeta, IsMigrated, is_newly_taken, with_meta};
-ghost use Rattle.gate_sql.specs.Reading.{KnowsMeta};
 ghost use Rattle.gate_sql.specs.Upgrade.{StandsForFirst};
 ghost use Rattle.gate_http.specs.Connections.{IsCalled};
 ghost use Rattle.gated_cli.specs.Doing.{Announces, beside};
@@ -85,11 +83,11 @@ pub fn migrate<S: Alter + Drop>(
         (λ m. m ≡ Migrated.Already) (λ f. f ≡ Fault.File OpenFault.Unavailable)
         × IsLeft (state S.Store conn) (state S.Store result.0) }
     // whether the file is migrated is decided by the file alone
-    ensures judged { HasCleanDisk (state S.Store result.0) → (tables : _) (indexes : _) (version kept : _) →
-        (state S.Store conn).now.schema ≡ with_meta tables indexes →
+    ensures judged { HasCleanDisk (state S.Store result.0) → (tables : _) (indexes : _) (views : _) (version kept : _) →
+        (state S.Store conn).now.schema ≡ with_meta tables indexes views →
         IsMeta (state S.Store conn).now.trees version kept →
         IsMigrated (file_answer result.1) (is_newly_taken (state S.Store conn).now.schema) version kept config.now }
-    ensures none { HasCleanDisk (state S.Store result.0) → KnowsMeta (state S.Store conn).now.schema →
+    ensures none { HasCleanDisk (state S.Store result.0) →
         HasNoneToMigrate (state S.Store conn).now config.now →
         IsLeft (state S.Store conn) (state S.Store result.0) }
     ensures crash { HasCleanDisk (state S.Store result.0) → IsTrue (state S.Store conn).is_open → (x : Content) →
@@ -142,12 +140,11 @@ pub fn deliver<S: Alter + Drop, R: Read, W: Write>(
         × GoesOver (state S.Store conn) (state S.Store result.0) config
         (λ g after. (cut : Cut g lines text after) × (length cut.done ≡ done)) }
     // whether the file is opened is decided by the file alone
-    ensures judged { (tables : _) (indexes : _) (version kept : _) →
-        (state S.Store conn).now.schema ≡ with_meta tables indexes →
+    ensures judged { (tables : _) (indexes : _) (views : _) (version kept : _) →
+        (state S.Store conn).now.schema ≡ with_meta tables indexes views →
         IsMeta (state S.Store conn).now.trees version kept → HasCleanDisk (state S.Store result.0) →
         IsJudged (file_fault result.1) version kept config }
-    ensures none { KnowsMeta (state S.Store conn).now.schema → CanBeLeft (state S.Store conn).now config →
-        HasCleanDisk (state S.Store result.0) →
+    ensures none { HasCleanDisk (state S.Store result.0) →
         IfSome (file_fault result.1) (λ _. Stays (state S.Store conn) (state S.Store result.0)) }
     ensures fault { IfErr result.1 (λ f. f ≢ Fault.Read → f ≢ Fault.Write →
         IsOfFile f × (input.new ≡ input.old) × (output.new ≡ output.old)) }
@@ -183,12 +180,11 @@ pub fn status<S: Alter + Drop, W: Write>(
         GoesOver (state S.Store conn) (state S.Store result.0) config
         (λ g after. (after ≡ g) × WritesStatus g W.contents output.old output.new result.1) }
     // whether the file is opened is decided by the file alone
-    ensures judged { (tables : _) (indexes : _) (version kept : _) →
-        (state S.Store conn).now.schema ≡ with_meta tables indexes →
+    ensures judged { (tables : _) (indexes : _) (views : _) (version kept : _) →
+        (state S.Store conn).now.schema ≡ with_meta tables indexes views →
         IsMeta (state S.Store conn).now.trees version kept → HasCleanDisk (state S.Store result.0) →
         IsJudged (file_fault result.1) version kept config }
-    ensures none { KnowsMeta (state S.Store conn).now.schema → CanBeLeft (state S.Store conn).now config →
-        HasCleanDisk (state S.Store result.0) →
+    ensures none { HasCleanDisk (state S.Store result.0) →
         IfSome (file_fault result.1) (λ _. Stays (state S.Store conn) (state S.Store result.0)) }
     ensures ok { OnOk result.1 ((has_failed output.new ≡ false)
         × (text : List ℕ) × Took W.contents output.old output.new text) }
@@ -217,12 +213,11 @@ pub fn history<S: Alter + Drop, W: Write>(
         GoesOver (state S.Store conn) (state S.Store result.0) config
         (λ g after. (after ≡ g) × WritesHistory g queue.now W.contents output.old output.new result.1) }
     // whether the file is opened is decided by the file alone
-    ensures judged { (tables : _) (indexes : _) (version kept : _) →
-        (state S.Store conn).now.schema ≡ with_meta tables indexes →
+    ensures judged { (tables : _) (indexes : _) (views : _) (version kept : _) →
+        (state S.Store conn).now.schema ≡ with_meta tables indexes views →
         IsMeta (state S.Store conn).now.trees version kept → HasCleanDisk (state S.Store result.0) →
         IsJudged (file_fault result.1) version kept config }
-    ensures none { KnowsMeta (state S.Store conn).now.schema → CanBeLeft (state S.Store conn).now config →
-        HasCleanDisk (state S.Store result.0) →
+    ensures none { HasCleanDisk (state S.Store result.0) →
         IfSome (file_fault result.1) (λ _. Stays (state S.Store conn) (state S.Store result.0)) }
     ensures ok { OnOk result.1 (has_failed output.new ≡ false) }
     ensures err { IfErr result.1 (StopsHistory output.old output.new) }
@@ -254,12 +249,11 @@ pub fn serve<M: Net + AllocGlobal, S: Alter + Drop, W: Write, E: Write>(
     ensures gate { file_fault result.1 ≡ None →
         GoesOver (state S.Store conn) (state S.Store result.0) config (IsCalled count) }
     // whether the file is opened is decided by the file alone, and not by the port
-    ensures judged { (tables : _) (indexes : _) (version kept : _) →
-        (state S.Store conn).now.schema ≡ with_meta tables indexes →
+    ensures judged { (tables : _) (indexes : _) (views : _) (version kept : _) →
+        (state S.Store conn).now.schema ≡ with_meta tables indexes views →
         IsMeta (state S.Store conn).now.trees version kept → HasCleanDisk (state S.Store result.0) →
         IsJudged (file_fault result.1) version kept config }
-    ensures none { KnowsMeta (state S.Store conn).now.schema → CanBeLeft (state S.Store conn).now config →
-        HasCleanDisk (state S.Store result.0) →
+    ensures none { HasCleanDisk (state S.Store result.0) →
         IfSome (file_fault result.1) (λ _. Stays (state S.Store conn) (state S.Store result.0)) }
     ensures told { TellsUpTo E.contents count errors.old errors.new }
     ensures ok { OnOk result.1 ((left : Option (List ℕ)) → (failed : Bool) → Announces port

@@ -17,7 +17,7 @@ returns-clause-found g c clean b shows whole =
     let mid = state g.S.Store c.jobs.new.conn in
     let last = c.is_fast.ensures.only_reads in
     let early : HasCleanDisk mid = last.clean clean in
-    let still : Shows mid b = shown_still old mid b (c.jobs.ensures.only_reads.stays early (λ up. (shows up).schema_is)) shows in
+    let still : Shows mid b = shown_still old mid b (c.jobs.ensures.only_reads.stays early) shows in
     let jobs = c.in_ok-jobs.ensures.found early b shows whole in
     let fast = c.in_ok-fast.ensures.found clean b still whole in
     c.plan_with.ensures ∙ (λ i. plan_with c.args.number (fast i) (jobs i))

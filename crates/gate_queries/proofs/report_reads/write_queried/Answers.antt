@@ -1,15 +1,13 @@
-use Rattle.std.proofs.Common.{◌∙◌, ap, arith, not, rules, subst, sym}
-use Rattle.sqlite.proofs.Callers.{IsPlain, begun_plain}
+use Rattle.std.proofs.Common.{◌∙◌, ap, arith, not, rules, sym}
+use Rattle.sqlite.proofs.Callers.{begun_plain}
 use Rattle.sqlite.proofs.StateLemmas.{survives_then}
 use Rattle.sqlite.specs.Effect.{Database}
 use Rattle.sqlite.specs.Held.{state}
-use Rattle.sqlite.specs.Listing.{understood}
 use Rattle.sqlite.specs.State.{HasCleanDisk, IsUnchanged, Survives}
-use Rattle.gate_schema.proofs.QueryLemmas.{reads_survive}
 use Rattle.gate_queries.specs.Finds.{Stays}
 use Rattle.gate_queries.specs.History.{IsSettled, history_sql}
 use Rattle.gate_queries.proofs.HistoryLemmas.{history_plain, read_on}
-use Rattle.gate_queries.proofs.StayLemmas.{failed_stays, stays_then, unchanged_stays}
+use Rattle.gate_queries.proofs.StayLemmas.{begun_keeps, failed_stays, read_survives, stays_then, unchanged_stays}
 use Rattle.gate_queries.proofs.report_reads.write_queried.Goals as goal
 
 pub returns-in-Err-clause-stays : goal.returns-in-Err-clause-stays
@@ -20,9 +18,8 @@ returns-in-Err-clause-stays g c clean reads =
     let refused = rw c.in-Err.is at c.query.follows.holds-at-none in
     let opened : HasCleanDisk mid = omega (arith, refused.survives.clean) in
     let same : IsUnchanged first mid = c.in-Ok.ensures.ok opened in
-    let plain : IsPlain (understood mid.now.schema history_sql) = subst (λ (d : Database). IsPlain (understood d.schema history_sql)) (sym same.0.now_is) (reads same.0.was_open) in
     stays_then first mid new (c.check_open.ensures.stays opened)
-    (failed_stays history_sql _ mid new _ (λ up. c.is_autocommit.ensures.settled (c.is_autocommit.ensures.value ∙ ap not c.check_open.ensures.mode) up) plain (refused.err clean))
+    (failed_stays history_sql _ mid new _ (λ up. c.is_autocommit.ensures.settled (c.is_autocommit.ensures.value ∙ ap not c.check_open.ensures.mode) up) reads (refused.err clean))
 
 pub returns-in-Err-clause-crash : goal.returns-in-Err-clause-crash
 returns-in-Err-clause-crash g c clean reads =
@@ -32,8 +29,7 @@ returns-in-Err-clause-crash g c clean reads =
     let refused = rw c.in-Err.is at c.query.follows.holds-at-none in
     let opened : HasCleanDisk mid = omega (arith, refused.survives.clean) in
     let same : IsUnchanged first mid = c.in-Ok.ensures.ok opened in
-    let plain : IsPlain (understood mid.now.schema history_sql) = subst (λ (d : Database). IsPlain (understood d.schema history_sql)) (sym same.0.now_is) (reads same.0.was_open) in
-    survives_then first mid new (λ _. ⊥) (λ _. ⊥) (λ _. ⊥) (λ _ _ none. none) (λ _ _ none. none) c.check_open.ensures.crash (reads_survive history_sql _ mid new plain refused.survives)
+    survives_then first mid new (λ _. ⊥) (λ _. ⊥) (λ _. ⊥) (λ _ _ none. none) (λ _ _ none. none) c.check_open.ensures.crash (read_survives history_sql _ mid new reads refused.survives)
 
 pub returns-clause-found : goal.returns-clause-found
 returns-clause-found g c clean =
@@ -61,8 +57,7 @@ returns-clause-stays g c clean reads =
     let begun : HasCleanDisk (state g.S.Store start) = omega (arith, c.write_reports.ensures.crash.clean) in
     let opened : HasCleanDisk mid = omega (arith, c.in-Ok-query.ensures.survives.clean) in
     let same : IsUnchanged first mid = c.in-Ok.ensures.ok opened in
-    let plain : IsPlain (understood mid.now.schema history_sql) = subst (λ (d : Database). IsPlain (understood d.schema history_sql)) (sym same.0.now_is) (reads same.0.was_open) in
-    let on : IsUnchanged mid (state g.S.Store start) = (begun_plain g.S.Store history_sql _ c.check_open.new.conn start plain (c.in-Ok-query.ensures.begun begun)).1 in
+    let on : IsUnchanged mid (state g.S.Store start) = begun_keeps g.S.Store history_sql _ c.check_open.new.conn start reads (c.in-Ok-query.ensures.begun begun) in
     let settled : IsSettled (state g.S.Store start) =
     λ up. on.0.now_is ∙ c.is_autocommit.ensures.settled (c.is_autocommit.ensures.value ∙ ap not c.check_open.ensures.mode) on.0.was_open ∙ sym on.0.committed_is in
     let it : Stays first (state g.S.Store end) =
@@ -80,8 +75,7 @@ returns-clause-crash g c clean reads =
     let begun : HasCleanDisk start = omega (arith, c.write_reports.ensures.crash.clean) in
     let opened : HasCleanDisk mid = omega (arith, c.in-Ok-query.ensures.survives.clean) in
     let same : IsUnchanged first mid = c.in-Ok.ensures.ok opened in
-    let plain : IsPlain (understood mid.now.schema history_sql) = subst (λ (d : Database). IsPlain (understood d.schema history_sql)) (sym same.0.now_is) (reads same.0.was_open) in
-    let asked : Survives mid start (λ _. ⊥) = reads_survive history_sql _ mid start plain c.in-Ok-query.ensures.survives in
+    let asked : Survives mid start (λ _. ⊥) = read_survives history_sql _ mid start reads c.in-Ok-query.ensures.survives in
     let it : Survives first end (λ _. ⊥) =
     survives_then first mid end (λ _. ⊥) (λ _. ⊥) (λ _. ⊥) (λ _ _ none. none) (λ _ _ none. none) c.check_open.ensures.crash
     (survives_then mid start end (λ _. ⊥) (λ _. ⊥) (λ _. ⊥) (λ _ _ none. none) (λ _ _ none. none) asked c.write_reports.ensures.crash) in

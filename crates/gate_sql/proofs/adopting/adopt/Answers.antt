@@ -21,7 +21,7 @@ returns-in-Ok-write_rows-clause-made g c clean text x has can =
     let whole = rows_are_whole can.lawful can.stands.tells in
     let queues : c.in-Ok.queues ≡ map (resized c.args.kept.now b.queues) c.args.config.now.queues =
     c.in-Ok.ensures.found early b shows whole ∙ ap (λ qs. map (resized c.args.kept.now b.queues) qs) (c.as_slice.ensures ∙ ap (λ (s : Settings). s.queues) c.config.view_is) in
-    let still : Shows mid b = shown_still old mid b (c.resized_queues.ensures.only_reads.stays early (λ up. has)) shows in
+    let still : Shows mid b = shown_still old mid b (c.resized_queues.ensures.only_reads.stays early) shows in
     let shown = c.in-Ok-write_rows.ensures.all clean b still in
     record {
       schema_is = shown.schema_is;
@@ -39,9 +39,9 @@ returns-in-Ok-write_rows-clause-crash g c clean text x has can db left =
     let whole = rows_are_whole can.lawful can.stands.tells in
     let queues : c.in-Ok.queues ≡ map (resized c.args.kept.now b.queues) c.args.config.now.queues =
     c.in-Ok.ensures.found early b shows whole ∙ ap (λ qs. map (resized c.args.kept.now b.queues) qs) (c.as_slice.ensures ∙ ap (λ (s : Settings). s.queues) c.config.view_is) in
-    let still : Shows mid b = shown_still old mid b (c.resized_queues.ensures.only_reads.stays early (λ up. has)) shows in
+    let still : Shows mid b = shown_still old mid b (c.resized_queues.ensures.only_reads.stays early) shows in
     elim (c.write_rows.ensures.crash clean b still db left) [
-      | inl before ↦ elim ((c.resized_queues.ensures.only_reads.crash early (λ up. has)).crash early db before) [ inl first ↦ inl first | inr none ↦ absurd none ]
+      | inl before ↦ elim ((c.resized_queues.ensures.only_reads.crash early).crash early db before) [ inl first ↦ inl first | inr none ↦ absurd none ]
       | inr stands ↦ inr (stands_adopted old.now.trees db c.args.kept.now c.args.config.now x c.args.settings.now can text
           (subst (λ qs. Stands db (rewritten c.args.settings.now qs b)) (c.as_slice-2.ensures ∙ queues) stands))
     ]
@@ -56,9 +56,9 @@ returns-clause-crash g c clean text x has can db left =
     let whole = rows_are_whole can.lawful can.stands.tells in
     let queues : c.in-Ok.queues ≡ map (resized c.args.kept.now b.queues) c.args.config.now.queues =
     c.in-Ok.ensures.found early b shows whole ∙ ap (λ qs. map (resized c.args.kept.now b.queues) qs) (c.as_slice.ensures ∙ ap (λ (s : Settings). s.queues) c.config.view_is) in
-    let still : Shows mid b = shown_still old mid b (c.resized_queues.ensures.only_reads.stays early (λ up. has)) shows in
+    let still : Shows mid b = shown_still old mid b (c.resized_queues.ensures.only_reads.stays early) shows in
     elim (c.write_rows.ensures.crash clean b still db left) [
-      | inl before ↦ elim ((c.resized_queues.ensures.only_reads.crash early (λ up. has)).crash early db before) [ inl first ↦ inl first | inr none ↦ absurd none ]
+      | inl before ↦ elim ((c.resized_queues.ensures.only_reads.crash early).crash early db before) [ inl first ↦ inl first | inr none ↦ absurd none ]
       | inr stands ↦ inr (stands_adopted old.now.trees db c.args.kept.now c.args.config.now x c.args.settings.now can text
           (subst (λ qs. Stands db (rewritten c.args.settings.now qs b)) (c.as_slice-2.ensures ∙ queues) stands))
     ]

@@ -19,7 +19,7 @@ loop-queue-preserved g c =
       room = omega (arith, c.push_reserved.ensures.capacity, was.room);
       found = λ clean b shows whole.
           let early : HasCleanDisk old = c.resized_queue.ensures.only_reads.clean clean in
-          let still : Shows old b = shown_still first old b (was.only_reads.stays early (λ up. (shows up).schema_is)) shows in
+          let still : Shows old b = shown_still first old b (was.only_reads.stays early) shows in
           c.push_reserved.ensures.items
           ∙ ap (λ l. l ++ c.in_ok-next.next ∷ []) (was.found early b shows whole)
           ∙ ap (λ x. map (resized c.args.kept.now b.queues) (take k c.args.queues.now) ++ x ∷ []) (c.in_ok-next.ensures.found clean b still whole)

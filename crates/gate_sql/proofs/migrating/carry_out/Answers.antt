@@ -17,7 +17,7 @@ returns-in-Ok-upgrade_if_open-clause-done g c clean up x can =
     let k = c.args.config.now in
     let early : HasCleanDisk mid = c.upgrade_if_open.ensures.clean clean in
     let sound : are_sound k ≡ true = subst (λ (v : Settings). are_sound v ≡ true) c.config.view_is c.config.invariant in
-    let stays = c.first_plans.ensures.only_reads.stays early (λ _. can.schema_is) in
+    let stays = c.first_plans.ensures.only_reads.stays early in
     let b = can.stands.stored in
     let found = c.in-Ok.ensures.found early b x.state (λ _. first_shown old k x can) (tells_state k x b sound can.queues_are_set can.stands.tells) in
     let are : c.deref.result.now ≡ puts (first_plans k x) = c.deref.ensures.value ∙ found in
@@ -36,7 +36,7 @@ returns-clause-done g c clean up x can =
     let k = c.args.config.now in
     let early : HasCleanDisk mid = c.upgrade_if_open.ensures.clean clean in
     let sound : are_sound k ≡ true = subst (λ (v : Settings). are_sound v ≡ true) c.config.view_is c.config.invariant in
-    let stays = c.first_plans.ensures.only_reads.stays early (λ _. can.schema_is) in
+    let stays = c.first_plans.ensures.only_reads.stays early in
     let b = can.stands.stored in
     let found = c.in-Ok.ensures.found early b x.state (λ _. first_shown old k x can) (tells_state k x b sound can.queues_are_set can.stands.tells) in
     let are : c.deref.result.now ≡ puts (first_plans k x) = c.deref.ensures.value ∙ found in
@@ -51,13 +51,13 @@ returns-in-Ok-upgrade_if_open-clause-crash g c clean up x can db may =
     let k = c.args.config.now in
     let early : HasCleanDisk mid = c.upgrade_if_open.ensures.clean clean in
     let sound : are_sound k ≡ true = subst (λ (v : Settings). are_sound v ≡ true) c.config.view_is c.config.invariant in
-    let stays = c.first_plans.ensures.only_reads.stays early (λ _. can.schema_is) in
+    let stays = c.first_plans.ensures.only_reads.stays early in
     let b = can.stands.stored in
     let found = c.in-Ok.ensures.found early b x.state (λ _. first_shown old k x can) (tells_state k x b sound can.queues_are_set can.stands.tells) in
     let are : c.deref.result.now ≡ puts (first_plans k x) = c.deref.ensures.value ∙ found in
     let there : IsTrue mid.is_open → CanUpgrade mid b c.deref.result.now (tables_before k x) =
     λ open_still. can_still old mid b c.deref.result.now (tables_before k x) (stays.now_is open_still) (can_upgrade old k x c.deref.result.now sound are can) in
-    leaves_then old mid (state g.S.Store c.upgrade_if_open.new.conn) early clean (c.first_plans.ensures.only_reads.crash early (λ _. can.schema_is))
+    leaves_then old mid (state g.S.Store c.upgrade_if_open.new.conn) early clean (c.first_plans.ensures.only_reads.crash early)
     (λ db may. elim (c.upgrade_if_open.ensures.crash clean b (tables_before k x) there db may) [
       | inl m ↦ inl m
       | inr u ↦ inr (stands_for_migrated db k x b can.stands.settings (subst (λ l. HasUpgraded db b l (tables_before k x)) are u))
@@ -70,13 +70,13 @@ returns-clause-crash g c clean up x can db may =
     let k = c.args.config.now in
     let early : HasCleanDisk mid = c.upgrade_if_open.ensures.clean clean in
     let sound : are_sound k ≡ true = subst (λ (v : Settings). are_sound v ≡ true) c.config.view_is c.config.invariant in
-    let stays = c.first_plans.ensures.only_reads.stays early (λ _. can.schema_is) in
+    let stays = c.first_plans.ensures.only_reads.stays early in
     let b = can.stands.stored in
     let found = c.in-Ok.ensures.found early b x.state (λ _. first_shown old k x can) (tells_state k x b sound can.queues_are_set can.stands.tells) in
     let are : c.deref.result.now ≡ puts (first_plans k x) = c.deref.ensures.value ∙ found in
     let there : IsTrue mid.is_open → CanUpgrade mid b c.deref.result.now (tables_before k x) =
     λ open_still. can_still old mid b c.deref.result.now (tables_before k x) (stays.now_is open_still) (can_upgrade old k x c.deref.result.now sound are can) in
-    leaves_then old mid (state g.S.Store c.upgrade_if_open.new.conn) early clean (c.first_plans.ensures.only_reads.crash early (λ _. can.schema_is))
+    leaves_then old mid (state g.S.Store c.upgrade_if_open.new.conn) early clean (c.first_plans.ensures.only_reads.crash early)
     (λ db may. elim (c.upgrade_if_open.ensures.crash clean b (tables_before k x) there db may) [
       | inl m ↦ inl m
       | inr u ↦ inr (stands_for_migrated db k x b can.stands.settings (subst (λ l. HasUpgraded db b l (tables_before k x)) are u))

@@ -10,7 +10,7 @@ use Rattle.gate_sql.specs.Opens.{IsMigrated, IsStanding, fault_before, is_newly_
 use Rattle.gate_sql.specs.Reading.{IsMigratedOf, IsStandingOf, IsUnread, ShowsMeta}
 use Rattle.gate_sql.proofs.FirstTells.{names_free, still_can}
 use Rattle.gate_sql.proofs.SchemaLemmas.{one_schema}
-use Rattle.gate_sql.proofs.StandingLemmas.{already_judged, already_told, carried_judged, carried_told, done_from, fault_judged, fault_told, fault_unread, first_fails, not_first, not_second, second_fails, settled_from, taken_judged}
+use Rattle.gate_sql.proofs.StandingLemmas.{already_judged, already_told, carried_judged, carried_told, done_from, fault_judged, fault_told, fault_unread, first_fails, none_other, not_first, not_second, second_fails, settled_from, some_to_migrate, taken_judged}
 use Rattle.gate_sql.proofs.UpgradeLemmas.{leaves_then}
 use Rattle.gate_sql.proofs.migrating.migrate.Goals as goal
 
@@ -26,13 +26,13 @@ returns-then-taken-clause-done g c clean up x it set =
 pub returns-then-taken-clause-already : goal.returns-then-taken-clause-already
 returns-then-taken-clause-already g c clean up s x it =
     let has : c.args.conn.now.schema ≡ gate_schema = one_schema gate_schema c.args.conn.now.schema _ refl it.stands.listed (c.schema.ensures.live up).0.lists in
-    absurd (not_first c.in-Ok-true.field-0 _ _ c.in-Ok-true.field-0-test (c.in-Ok-true.ensures.judged clean _ _ (codes "2") _ has it.stands.meta))
+    absurd (not_first c.in-Ok-true.field-0 _ _ c.in-Ok-true.field-0-test (c.in-Ok-true.ensures.judged clean _ _ _ (codes "2") _ has it.stands.meta))
 
 pub returns-then-taken-clause-judged : goal.returns-then-taken-clause-judged
-returns-then-taken-clause-judged g c clean tables indexes version kept has meta =
+returns-then-taken-clause-judged g c clean tables indexes views version kept has meta =
     let text : c.as_str.result.now ≡ settings_text c.args.config.now = c.as_str.ensures.value ∙ c.in-Ok.ensures in
     let taken : c.has_new_names-taken.result ≡ is_newly_taken c.args.conn.now.schema = c.has_new_names-taken.ensures ∙ ap is_newly_taken c.schema.ensures.value in
-    let standing = subst (IsStanding (Ok c.in-Ok-true.field-0) version kept) text (c.in-Ok-true.ensures.judged clean tables indexes version kept has meta) in
+    let standing = subst (IsStanding (Ok c.in-Ok-true.field-0) version kept) text (c.in-Ok-true.ensures.judged clean tables indexes views version kept has meta) in
     taken_judged c.in-Ok-true.field-0 _ version kept c.args.config.now c.in-Ok-true.field-0-test (sym taken ∙ c.if-taken.true) standing
 
 pub returns-then-taken-clause-crash : goal.returns-then-taken-clause-crash
@@ -41,7 +41,7 @@ returns-then-taken-clause-crash g c clean up x it set db may =
     let mid = state g.S.Store c.standing_in.new.conn in
     let k = c.args.config.now in
     let has : c.args.conn.now.schema ≡ first_schema = one_schema first_schema c.args.conn.now.schema _ refl it.stands.listed (c.schema.ensures.live up).0.lists in
-    elim ((c.standing_in.ensures.crash (inl (_, _, has))).crash clean db may) [ inl o ↦ inl o | inr none ↦ absurd none ]
+    elim (c.standing_in.ensures.crash.crash clean db may) [ inl o ↦ inl o | inr none ↦ absurd none ]
 
 pub returns-in-Ok-true-clause-done : goal.returns-in-Ok-true-clause-done
 returns-in-Ok-true-clause-done g c clean up x it set =
@@ -51,7 +51,7 @@ returns-in-Ok-true-clause-done g c clean up x it set =
     let has : c.args.conn.now.schema ≡ first_schema = one_schema first_schema c.args.conn.now.schema _ refl it.stands.listed (c.schema.ensures.live up).0.lists in
     let new = state g.S.Store c.carry_out.new.conn in
     let early : HasCleanDisk mid = c.carry_out.ensures.clean clean in
-    let same = c.in-Ok-true.ensures.same early _ _ has in
+    let same = c.in-Ok-true.ensures.same early in
     let can : CanMigrate mid k x = still_can old mid k x same.0.now_is (record { schema_is = has; stands = it; queues_are_set = set }) in
     done_from c.carry_out.result old mid new k x (record { was_open = λ _. same.0.was_open; now_is = λ _. same.0.now_is }) c.carry_out.ensures.answer (c.carry_out.ensures.done clean same.0.is_open x can)
 
@@ -63,7 +63,7 @@ returns-in-Ok-true-clause-settled g c clean up x it set =
     let has : c.args.conn.now.schema ≡ first_schema = one_schema first_schema c.args.conn.now.schema _ refl it.stands.listed (c.schema.ensures.live up).0.lists in
     let new = state g.S.Store c.carry_out.new.conn in
     let early : HasCleanDisk mid = c.carry_out.ensures.clean clean in
-    let same = c.in-Ok-true.ensures.same early _ _ has in
+    let same = c.in-Ok-true.ensures.same early in
     let can : CanMigrate mid k x = still_can old mid k x same.0.now_is (record { schema_is = has; stands = it; queues_are_set = set }) in
     settled_from c.carry_out.result mid new k x (λ (db : Trees). g.S.Store.recovers c.carry_out.new.conn.store db) (g.met.S.Store.settled c.carry_out.new.conn.store)
     (c.carry_out.ensures.settled clean) (c.carry_out.ensures.done clean same.0.is_open x can)
@@ -71,13 +71,13 @@ returns-in-Ok-true-clause-settled g c clean up x it set =
 pub returns-in-Ok-true-clause-already : goal.returns-in-Ok-true-clause-already
 returns-in-Ok-true-clause-already g c clean up s x it =
     let has : c.args.conn.now.schema ≡ gate_schema = one_schema gate_schema c.args.conn.now.schema _ refl it.stands.listed (c.schema.ensures.live up).0.lists in
-    absurd (not_first c.in-Ok-true.field-0 _ _ c.in-Ok-true.field-0-test (c.in-Ok-true.ensures.judged (c.carry_out.ensures.clean clean) _ _ (codes "2") _ has it.stands.meta))
+    absurd (not_first c.in-Ok-true.field-0 _ _ c.in-Ok-true.field-0-test (c.in-Ok-true.ensures.judged (c.carry_out.ensures.clean clean) _ _ _ (codes "2") _ has it.stands.meta))
 
 pub returns-in-Ok-true-clause-judged : goal.returns-in-Ok-true-clause-judged
-returns-in-Ok-true-clause-judged g c clean tables indexes version kept has meta =
+returns-in-Ok-true-clause-judged g c clean tables indexes views version kept has meta =
     let text : c.as_str.result.now ≡ settings_text c.args.config.now = c.as_str.ensures.value ∙ c.in-Ok.ensures in
     let taken : c.has_new_names-taken.result ≡ is_newly_taken c.args.conn.now.schema = c.has_new_names-taken.ensures ∙ ap is_newly_taken c.schema.ensures.value in
-    let standing = subst (IsStanding (Ok c.in-Ok-true.field-0) version kept) text (c.in-Ok-true.ensures.judged (c.carry_out.ensures.clean clean) tables indexes version kept has meta) in
+    let standing = subst (IsStanding (Ok c.in-Ok-true.field-0) version kept) text (c.in-Ok-true.ensures.judged (c.carry_out.ensures.clean clean) tables indexes views version kept has meta) in
     carried_judged c.in-Ok-true.field-0 c.carry_out.result _ version kept c.args.config.now c.in-Ok-true.field-0-test (sym taken ∙ c.if-taken.false) c.carry_out.ensures.answer standing
 
 pub returns-in-Ok-true-clause-told : goal.returns-in-Ok-true-clause-told
@@ -96,9 +96,9 @@ returns-in-Ok-true-clause-crash g c clean up x it set db may =
     let has : c.args.conn.now.schema ≡ first_schema = one_schema first_schema c.args.conn.now.schema _ refl it.stands.listed (c.schema.ensures.live up).0.lists in
     let new = state g.S.Store c.carry_out.new.conn in
     let early : HasCleanDisk mid = c.carry_out.ensures.clean clean in
-    let same = c.in-Ok-true.ensures.same early _ _ has in
+    let same = c.in-Ok-true.ensures.same early in
     let can : CanMigrate mid k x = still_can old mid k x same.0.now_is (record { schema_is = has; stands = it; queues_are_set = set }) in
-    leaves_then old mid new early clean (c.standing_in.ensures.crash (inl (_, _, has))) (c.carry_out.ensures.crash clean same.0.is_open x can) db may
+    leaves_then old mid new early clean c.standing_in.ensures.crash (c.carry_out.ensures.crash clean same.0.is_open x can) db may
 
 pub returns-in-Ok-false-clause-done : goal.returns-in-Ok-false-clause-done
 returns-in-Ok-false-clause-done g c clean up x it set =
@@ -106,7 +106,7 @@ returns-in-Ok-false-clause-done g c clean up x it set =
     let mid = state g.S.Store c.standing_in.new.conn in
     let k = c.args.config.now in
     let has : c.args.conn.now.schema ≡ first_schema = one_schema first_schema c.args.conn.now.schema _ refl it.stands.listed (c.schema.ensures.live up).0.lists in
-    absurd (not_second c.in-Ok-false.field-0 _ _ c.in-Ok-false.field-0-test (c.in-Ok-false.ensures.judged clean _ _ (codes "1") _ has it.stands.rows.meta))
+    absurd (not_second c.in-Ok-false.field-0 _ _ c.in-Ok-false.field-0-test (c.in-Ok-false.ensures.judged clean _ _ _ (codes "1") _ has it.stands.rows.meta))
 
 pub returns-in-Ok-false-clause-settled : goal.returns-in-Ok-false-clause-settled
 returns-in-Ok-false-clause-settled g c clean up x it set =
@@ -114,17 +114,17 @@ returns-in-Ok-false-clause-settled g c clean up x it set =
     let mid = state g.S.Store c.standing_in.new.conn in
     let k = c.args.config.now in
     let has : c.args.conn.now.schema ≡ first_schema = one_schema first_schema c.args.conn.now.schema _ refl it.stands.listed (c.schema.ensures.live up).0.lists in
-    absurd (not_second c.in-Ok-false.field-0 _ _ c.in-Ok-false.field-0-test (c.in-Ok-false.ensures.judged clean _ _ (codes "1") _ has it.stands.rows.meta))
+    absurd (not_second c.in-Ok-false.field-0 _ _ c.in-Ok-false.field-0-test (c.in-Ok-false.ensures.judged clean _ _ _ (codes "1") _ has it.stands.rows.meta))
 
 pub returns-in-Ok-false-clause-already : goal.returns-in-Ok-false-clause-already
 returns-in-Ok-false-clause-already g c clean up s x it =
     let has : c.args.conn.now.schema ≡ gate_schema = one_schema gate_schema c.args.conn.now.schema _ refl it.stands.listed (c.schema.ensures.live up).0.lists in
-    (refl, record { stays = c.standing_in.ensures.stays clean (inl (_, _, has)); crash = c.standing_in.ensures.crash (inl (_, _, has)) })
+    (refl, record { stays = c.standing_in.ensures.stays clean; crash = c.standing_in.ensures.crash })
 
 pub returns-in-Ok-false-clause-judged : goal.returns-in-Ok-false-clause-judged
-returns-in-Ok-false-clause-judged g c clean tables indexes version kept has meta =
+returns-in-Ok-false-clause-judged g c clean tables indexes views version kept has meta =
     let text : c.as_str.result.now ≡ settings_text c.args.config.now = c.as_str.ensures.value ∙ c.in-Ok.ensures in
-    let standing = subst (IsStanding (Ok c.in-Ok-false.field-0) version kept) text (c.in-Ok-false.ensures.judged clean tables indexes version kept has meta) in
+    let standing = subst (IsStanding (Ok c.in-Ok-false.field-0) version kept) text (c.in-Ok-false.ensures.judged clean tables indexes views version kept has meta) in
     already_judged c.in-Ok-false.field-0 (is_newly_taken c.args.conn.now.schema) version kept c.args.config.now c.in-Ok-false.field-0-test standing
 
 pub returns-in-Ok-false-clause-told : goal.returns-in-Ok-false-clause-told
@@ -139,8 +139,8 @@ returns-in-Ok-false-clause-unread g c clean none =
     absurd (c.in-Ok-false.ensures.unread clean none)
 
 pub returns-in-Ok-false-clause-none : goal.returns-in-Ok-false-clause-none
-returns-in-Ok-false-clause-none g c clean known nothing =
-    record { stays = c.standing_in.ensures.stays clean known; crash = c.standing_in.ensures.crash known }
+returns-in-Ok-false-clause-none g c clean nothing =
+    record { stays = c.standing_in.ensures.stays clean; crash = c.standing_in.ensures.crash }
 
 pub returns-in-Ok-false-clause-crash : goal.returns-in-Ok-false-clause-crash
 returns-in-Ok-false-clause-crash g c clean up x it set db may =
@@ -148,7 +148,7 @@ returns-in-Ok-false-clause-crash g c clean up x it set db may =
     let mid = state g.S.Store c.standing_in.new.conn in
     let k = c.args.config.now in
     let has : c.args.conn.now.schema ≡ first_schema = one_schema first_schema c.args.conn.now.schema _ refl it.stands.listed (c.schema.ensures.live up).0.lists in
-    elim ((c.standing_in.ensures.crash (inl (_, _, has))).crash clean db may) [ inl o ↦ inl o | inr none ↦ absurd none ]
+    elim (c.standing_in.ensures.crash.crash clean db may) [ inl o ↦ inl o | inr none ↦ absurd none ]
 
 pub returns-clause-done : goal.returns-clause-done
 returns-clause-done g c clean up x it set =
@@ -157,21 +157,21 @@ returns-clause-done g c clean up x it set =
     let k = c.args.config.now in
     let has : c.args.conn.now.schema ≡ first_schema = one_schema first_schema c.args.conn.now.schema _ refl it.stands.listed (c.schema.ensures.live up).0.lists in
     let text : c.as_str.result.now ≡ settings_text c.args.config.now = c.as_str.ensures.value ∙ c.in-Ok.ensures in
-    let f = first_fails c.in-Err.fault _ _ (it.settings ∙ sym text) (c.in-Err.ensures.judged clean _ _ (codes "1") _ has it.stands.rows.meta) in
-    (c.fault_before.ensures ∙ ap (fault_before _) f, c.standing_in.ensures.stays clean (inl (_, _, has)))
+    let f = first_fails c.in-Err.fault _ _ (it.settings ∙ sym text) (c.in-Err.ensures.judged clean _ _ _ (codes "1") _ has it.stands.rows.meta) in
+    (c.fault_before.ensures ∙ ap (fault_before _) f, c.standing_in.ensures.stays clean)
 
 pub returns-clause-already : goal.returns-clause-already
 returns-clause-already g c clean up s x it =
     let has : c.args.conn.now.schema ≡ gate_schema = one_schema gate_schema c.args.conn.now.schema _ refl it.stands.listed (c.schema.ensures.live up).0.lists in
-    let f = second_fails c.in-Err.fault _ _ (c.in-Err.ensures.judged clean _ _ (codes "2") _ has it.stands.meta) in
-    (c.fault_before.ensures ∙ ap (fault_before _) f, record { stays = c.standing_in.ensures.stays clean (inl (_, _, has)); crash = c.standing_in.ensures.crash (inl (_, _, has)) })
+    let f = second_fails c.in-Err.fault _ _ (c.in-Err.ensures.judged clean _ _ _ (codes "2") _ has it.stands.meta) in
+    (c.fault_before.ensures ∙ ap (fault_before _) f, record { stays = c.standing_in.ensures.stays clean; crash = c.standing_in.ensures.crash })
 
 pub returns-clause-judged : goal.returns-clause-judged
-returns-clause-judged g c clean tables indexes version kept has meta =
+returns-clause-judged g c clean tables indexes views version kept has meta =
     let text : c.as_str.result.now ≡ settings_text c.args.config.now = c.as_str.ensures.value ∙ c.in-Ok.ensures in
     let taken : c.has_new_names-taken.result ≡ is_newly_taken c.args.conn.now.schema = c.has_new_names-taken.ensures ∙ ap is_newly_taken c.schema.ensures.value in
     let is = c.fault_before.ensures ∙ ap (λ (t : Bool). fault_before t c.in-Err.fault) taken in
-    let standing = subst (IsStanding (Err c.in-Err.fault) version kept) text (c.in-Err.ensures.judged clean tables indexes version kept has meta) in
+    let standing = subst (IsStanding (Err c.in-Err.fault) version kept) text (c.in-Err.ensures.judged clean tables indexes views version kept has meta) in
     subst (λ f. IsMigrated (Err f) (is_newly_taken c.args.conn.now.schema) version kept c.args.config.now) (sym is) (fault_judged c.in-Err.fault _ version kept c.args.config.now standing)
 
 pub returns-clause-told : goal.returns-clause-told
@@ -188,8 +188,8 @@ returns-clause-unread g c clean none =
     subst (λ f. IsUnread (Some f)) (sym c.fault_before.ensures) (fault_unread c.in-Err.fault _ (c.in-Err.ensures.unread clean none))
 
 pub returns-clause-none : goal.returns-clause-none
-returns-clause-none g c clean known nothing =
-    record { stays = c.standing_in.ensures.stays clean known; crash = c.standing_in.ensures.crash known }
+returns-clause-none g c clean nothing =
+    record { stays = c.standing_in.ensures.stays clean; crash = c.standing_in.ensures.crash }
 
 pub returns-clause-crash : goal.returns-clause-crash
 returns-clause-crash g c clean up x it set db may =
@@ -197,4 +197,15 @@ returns-clause-crash g c clean up x it set db may =
     let mid = state g.S.Store c.standing_in.new.conn in
     let k = c.args.config.now in
     let has : c.args.conn.now.schema ≡ first_schema = one_schema first_schema c.args.conn.now.schema _ refl it.stands.listed (c.schema.ensures.live up).0.lists in
-    elim ((c.standing_in.ensures.crash (inl (_, _, has))).crash clean db may) [ inl o ↦ inl o | inr none ↦ absurd none ]
+    elim (c.standing_in.ensures.crash.crash clean db may) [ inl o ↦ inl o | inr none ↦ absurd none ]
+
+pub returns-in-Ok-true-clause-refused : goal.returns-in-Ok-true-clause-refused
+returns-in-Ok-true-clause-refused g c clean = none_other _ c.carry_out.result c.carry_out.ensures.answer
+
+pub returns-in-Ok-true-clause-none : goal.returns-in-Ok-true-clause-none
+returns-in-Ok-true-clause-none g c clean nothing =
+    let text : c.as_str.result.now ≡ settings_text c.args.config.now = c.as_str.ensures.value ∙ c.in-Ok.ensures in
+    let taken : c.has_new_names-taken.result ≡ is_newly_taken c.args.conn.now.schema = c.has_new_names-taken.ensures ∙ ap is_newly_taken c.schema.ensures.value in
+    let old = state g.S.Store c.args.conn.now in
+    let standing = subst (IsStandingOf (Ok c.in-Ok-true.field-0) (ShowsMeta old.now)) text (c.in-Ok-true.ensures.told (c.carry_out.ensures.clean clean)) in
+    absurd (some_to_migrate old.now c.args.config.now c.in-Ok-true.field-0 c.in-Ok-true.field-0-test (sym taken ∙ c.if-taken.false) standing nothing)

@@ -4,8 +4,8 @@ use Rattle.sqlite.specs.Held.{state}
 use Rattle.sqlite.specs.State.{HasCleanDisk}
 use Rattle.gate_types.specs.Migrate.{plans_of_queue}
 use Rattle.gate_types.specs.Settings.{Settings}
-use Rattle.gate_queries.specs.First.{first_schema}
-use Rattle.gate_queries.proofs.FirstReads.{first_still, only_reads_then}
+use Rattle.gate_queries.proofs.FirstReads.{first_still}
+use Rattle.gate_queries.proofs.ReadLemmas.{only_read_then}
 use Rattle.gate_sql.specs.Migrates.{puts}
 use Rattle.gate_sql.proofs.PlanningLemmas.{last_queue, next_queue}
 use Rattle.gate_sql.proofs.planning.first_plans.Goals as goal
@@ -19,10 +19,10 @@ loop-queue-preserved g c =
     let k = c.args.config.now in
     let settings : c.as_slice-queue-items.result.now ≡ k.queues = c.as_slice-queue-items.ensures ∙ ap (λ (v : Settings). v.queues) c.config.view_is in
     record {
-      only_reads = only_reads_then first_schema first old new was.only_reads c.push_queue.ensures.only_reads;
+      only_reads = only_read_then first old new was.only_reads c.push_queue.ensures.only_reads;
       found = λ clean b s shows tells.
           let early : HasCleanDisk old = c.push_queue.ensures.only_reads.clean clean in
-          let still = first_still first old b (was.only_reads.stays early (λ up. (shows up).schema_is)) shows in
+          let still = first_still first old b (was.only_reads.stays early) shows in
           let at = was.found early b s shows tells in
           next_queue b k s (puts (flat_map (plans_of_queue k s) s.queues)) c.loop-queue.edits.items c.push_queue.new.edits.items k.queues c.loop-queue.queue-index c.queue-item.result
           (omega (arith, c.loop-queue-test.true, ap length settings)) (c.queue-item.is ∙ ap (λ l. get_or l c.loop-queue.queue-index c.queue-item.result) settings) at.0 at.1 at.2 at.3

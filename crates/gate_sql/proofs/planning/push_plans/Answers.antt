@@ -2,9 +2,10 @@ use Rattle.std.proofs.Common.{◌≡◌, ◌∙◌, ◌++◌, ◌∷◌, [], ap,
 use Rattle.std.proofs.lemmas.List.{length-map, take_all}
 use Rattle.sqlite.specs.Held.{state}
 use Rattle.sqlite.specs.State.{HasCleanDisk}
-use Rattle.gate_queries.specs.First.{first_schema, pair_shown}
+use Rattle.gate_queries.specs.First.{pair_shown}
 use Rattle.gate_queries.proofs.DecodeLemmas.{row_shows}
-use Rattle.gate_queries.proofs.FirstReads.{first_still, only_reads_then}
+use Rattle.gate_queries.proofs.FirstReads.{first_still}
+use Rattle.gate_queries.proofs.ReadLemmas.{only_read_then}
 use Rattle.gate_sql.specs.Migrates.{plan_for, puts}
 use Rattle.gate_sql.proofs.PlanningLemmas.{nothing_read, push_more}
 use Rattle.gate_sql.proofs.planning.push_plans.Goals as goal
@@ -22,12 +23,12 @@ loop-row-preserved g c =
     let new = state g.S.Store c.plan_of.new.conn in
     let was = c.loop-row.invariant in
     record {
-      only_reads = only_reads_then first_schema first old new was.only_reads c.plan_of.ensures.only_reads;
+      only_reads = only_read_then first old new was.only_reads c.plan_of.ensures.only_reads;
       found = λ clean b s shows are pairs rows.
           let k = c.loop-row.row-index in
           let f = plan_for c.args.config.now s c.args.may_fail_fast in
           let early : HasCleanDisk old = c.plan_of.ensures.only_reads.clean clean in
-          let still = first_still first old b (was.only_reads.stays early (λ up. (shows up).schema_is)) shows in
+          let still = first_still first old b (was.only_reads.stays early) shows in
           let at = row_shows (λ p. pair_shown p.0 p.1) (λ _. true) c.args.rows.now c.row-item.result k pairs c.loop-row-test.true c.row-item.is rows (λ _ _ _. refl) in
           c.in_ok-push_plan.ensures ∙ ap (λ l. l ++ puts (c.in_ok-plan.plan ∷ [])) (was.found early b s shows are pairs rows)
           ∙ push_more f c.args.edits.now.items k pairs at.one c.in_ok-plan.plan (c.in_ok-plan.ensures.found clean b s still are at.one at.is) at.next;
@@ -35,11 +36,11 @@ loop-row-preserved g c =
 
 pub returns-in_err-plan-clause-only_reads : goal.returns-in_err-plan-clause-only_reads
 returns-in_err-plan-clause-only_reads g c =
-    only_reads_then first_schema (state g.S.Store c.args.conn.now) (state g.S.Store c.loop-row.conn) (state g.S.Store c.plan_of.new.conn) c.loop-row.invariant.only_reads c.plan_of.ensures.only_reads
+    only_read_then (state g.S.Store c.args.conn.now) (state g.S.Store c.loop-row.conn) (state g.S.Store c.plan_of.new.conn) c.loop-row.invariant.only_reads c.plan_of.ensures.only_reads
 
 pub returns-in_err-push_plan-clause-only_reads : goal.returns-in_err-push_plan-clause-only_reads
 returns-in_err-push_plan-clause-only_reads g c =
-    only_reads_then first_schema (state g.S.Store c.args.conn.now) (state g.S.Store c.loop-row.conn) (state g.S.Store c.plan_of.new.conn) c.loop-row.invariant.only_reads c.plan_of.ensures.only_reads
+    only_read_then (state g.S.Store c.args.conn.now) (state g.S.Store c.loop-row.conn) (state g.S.Store c.plan_of.new.conn) c.loop-row.invariant.only_reads c.plan_of.ensures.only_reads
 
 pub returns-clause-found : goal.returns-clause-found
 returns-clause-found g c clean b s shows are pairs rows =

@@ -1,4 +1,4 @@
-use Rattle.std.proofs.Common.{arith, subst, sym}
+use Rattle.std.proofs.Common.{None, Some, arith, subst, sym}
 use Rattle.sqlite.specs.Held.{state}
 use Rattle.sqlite.specs.State.{HasCleanDisk}
 use Rattle.gate_types.specs.Once.{Content}
@@ -6,6 +6,7 @@ use Rattle.gate_rows.specs.Tells.{StandsFor}
 use Rattle.gate_sql.specs.Adopts.{IsKept}
 use Rattle.gate_sql.specs.Held.{HoldsFor}
 use Rattle.gate_sql.proofs.AgainLemmas.{one_held, one_stands}
+use Rattle.gate_sql.proofs.OpenLemmas.{told_of}
 use Rattle.gate_sql.proofs.book.SqlBook.open_store.Goals as goal
 
 pub returns-in-Ok-open-clause-opens : goal.returns-in-Ok-open-clause-opens
@@ -59,3 +60,16 @@ returns-in-Err-open-clause-may_fault g c cs x keeps may clean =
     let last : HasCleanDisk (state g.S.Store c.in-Err-open.conn) = omega (arith, clean, c.into_store.ensures.quiet.clean) in
     let first : HasCleanDisk (state g.S.Store c.in-Ok.conn) = c.in-Err-open.ensures.clean last in
     c.in-Err-open.ensures.adopts (c.in-Ok.ensures.opens first).0.is_open cs x (subst (λ t. IsKept t cs x) (sym (c.in-Ok.ensures.trees first)) keeps) may last
+
+pub returns-in-Ok-open-clause-told : goal.returns-in-Ok-open-clause-told
+returns-in-Ok-open-clause-told g c clean =
+    let first : HasCleanDisk (state g.S.Store c.in-Ok.conn) = c.in-Ok-open.ensures.clean clean in
+    let opens = c.in-Ok.ensures.opens first in
+    told_of (state g.S.Store c.in-Ok.conn).now None _ c.args.config.now (c.in-Ok.ensures.trees first) (opens.1 opens.0.is_open).0.lists (c.in-Ok-open.ensures.told clean)
+
+pub returns-in-Err-open-clause-fault_told : goal.returns-in-Err-open-clause-fault_told
+returns-in-Err-open-clause-fault_told g c clean other =
+    let last : HasCleanDisk (state g.S.Store c.in-Err-open.conn) = omega (arith, clean, c.into_store.ensures.quiet.clean) in
+    let first : HasCleanDisk (state g.S.Store c.in-Ok.conn) = c.in-Err-open.ensures.clean last in
+    let opens = c.in-Ok.ensures.opens first in
+    told_of (state g.S.Store c.in-Ok.conn).now (Some c.in-Err-open.fault) _ c.args.config.now (c.in-Ok.ensures.trees first) (opens.1 opens.0.is_open).0.lists (c.in-Err-open.ensures.told last)

@@ -26,15 +26,15 @@ returns-in-Ok-done-clause-ok g c =
     (h.0, h.1, h.2, h.3, h.4, subst (λ conn. GoesOver (state g.S.Store c.args.conn) (state g.S.Store conn) c.args.config P) (sym last) over)
 
 pub returns-in-Ok-done-clause-judged : goal.returns-in-Ok-done-clause-judged
-returns-in-Ok-done-clause-judged g c tables indexes version kept schema meta clean =
+returns-in-Ok-done-clause-judged g c tables indexes views version kept schema meta clean =
     let last = c.into_conn-conn.ensures ∙ ap (λ book. book.conn) (c.into_book-2.ensures ∙ ap (λ cached. cached.book) c.into_book.ensures) in
     let before = c.in-Ok-done.ensures.ok.5.trusted_before (subst (λ conn. HasCleanDisk (state g.S.Store conn)) last clean) in
     let opened = subst (λ book. HasCleanDisk (state g.S.Store book.conn)) c.new.ensures.book
     (subst (λ cached. HasCleanDisk (state g.S.Store cached.book.conn)) c.new-gate.ensures.book before) in
-    c.in-Ok.ensures.judged tables indexes version kept schema meta opened
+    c.in-Ok.ensures.judged tables indexes views version kept schema meta opened
 
 pub returns-in-Err-done-clause-judged : goal.returns-in-Err-done-clause-judged
-returns-in-Err-done-clause-judged g c tables indexes version kept schema meta clean =
+returns-in-Err-done-clause-judged g c tables indexes views version kept schema meta clean =
     let last = c.into_conn-conn.ensures ∙ ap (λ book. book.conn) (c.into_book-2.ensures ∙ ap (λ cached. cached.book) c.into_book.ensures) in
     let said = c.in-Err-done.ensures in
     let after = subst (λ conn. HasCleanDisk (state g.S.Store conn)) last clean in
@@ -44,10 +44,10 @@ returns-in-Err-done-clause-judged g c tables indexes version kept schema meta cl
     let opened = subst (λ book. HasCleanDisk (state g.S.Store book.conn)) c.new.ensures.book
     (subst (λ cached. HasCleanDisk (state g.S.Store cached.book.conn)) c.new-gate.ensures.book before) in
     subst (λ f. IsJudged f version kept c.args.config) (sym (no_replay_fault c.in-Err-done.fault c.from.result c.from.ensures))
-    (c.in-Ok.ensures.judged tables indexes version kept schema meta opened)
+    (c.in-Ok.ensures.judged tables indexes views version kept schema meta opened)
 
 pub returns-in-Err-done-clause-none : goal.returns-in-Err-done-clause-none
-returns-in-Err-done-clause-none g c known can clean =
+returns-in-Err-done-clause-none g c clean =
     subst (λ f. IfSome f (λ _. Stays (state g.S.Store c.args.conn) (state g.S.Store c.into_conn-conn.result)))
     (sym (no_replay_fault c.in-Err-done.fault c.from.result c.from.ensures)) tt
 

@@ -27,13 +27,13 @@ returns-clause-gate g c unfaulted =
     subst (λ conn. GoesOver (state g.S.Store c.args.conn) (state g.S.Store conn) c.args.config P) (sym last) over
 
 pub returns-clause-judged : goal.returns-clause-judged
-returns-clause-judged g c tables indexes version kept schema meta clean =
+returns-clause-judged g c tables indexes views version kept schema meta clean =
     let last = c.into_conn.ensures ∙ ap (λ book. book.conn) c.into_book.ensures in
     let shown = subst (λ conn. HasCleanDisk (state g.S.Store conn)) last clean in
     let opened = subst (λ book. HasCleanDisk (state g.S.Store book.conn)) c.new-gate.ensures.book (c.write_history-done.ensures.gate.trusted_before shown) in
     subst (λ f. IsJudged f version kept c.args.config) (sym c.write_history-done.ensures.opened)
-    (c.in-Ok.ensures.judged tables indexes version kept schema meta opened)
+    (c.in-Ok.ensures.judged tables indexes views version kept schema meta opened)
 
 pub returns-clause-none : goal.returns-clause-none
-returns-clause-none g c known can clean =
+returns-clause-none g c clean =
     subst (λ f. IfSome f (λ _. Stays (state g.S.Store c.args.conn) (state g.S.Store c.into_conn.result))) (sym c.write_history-done.ensures.opened) tt

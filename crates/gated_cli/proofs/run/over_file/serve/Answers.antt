@@ -24,16 +24,16 @@ returns-clause-gate g c unfaulted =
     subst (λ conn. GoesOver (state g.S.Store c.args.conn) (state g.S.Store conn) c.args.config (IsCalled c.args.count)) (sym last) over
 
 pub returns-clause-judged : goal.returns-clause-judged
-returns-clause-judged g c tables indexes version kept schema meta clean =
+returns-clause-judged g c tables indexes views version kept schema meta clean =
     let last = c.into_conn.ensures ∙ ap (λ book. book.conn) (c.into_book-2.ensures ∙ ap (λ cached. cached.book) c.into_book.ensures) in
     let served = subst (λ conn. HasCleanDisk (state g.S.Store conn)) last clean in
     let opened = subst (λ book. HasCleanDisk (state g.S.Store book.conn)) c.new.ensures.book
     (subst (λ cached. HasCleanDisk (state g.S.Store cached.book.conn)) c.new-gate.ensures.book (c.serve-done.ensures.gate.trusted_before served)) in
     subst (λ f. IsJudged f version kept c.args.config) (sym (no_file_fault _ c.serve-done.result c.serve-done.ensures.err))
-    (c.in-Ok.ensures.judged tables indexes version kept schema meta opened)
+    (c.in-Ok.ensures.judged tables indexes views version kept schema meta opened)
 
 pub returns-clause-none : goal.returns-clause-none
-returns-clause-none g c known can clean =
+returns-clause-none g c clean =
     subst (λ f. IfSome f (λ _. Stays (state g.S.Store c.args.conn) (state g.S.Store c.into_conn.result)))
     (sym (no_file_fault _ c.serve-done.result c.serve-done.ensures.err)) tt
 
