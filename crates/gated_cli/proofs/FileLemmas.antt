@@ -38,6 +38,13 @@ of_write io.Write g is e = refl
 of_write io.NoMemory g is e = cc
 of_write io.Store g is e = cc
 
+-- and of want of memory
+pub of_no_memory : {T U : Type 0} (f : IoFault) (g : Fault) → g ≡ of_replay f → IsErrOf {T = T} (Err g) fault.NoMemory → IsErrOf {T = U} (Err f) io.NoMemory
+of_no_memory io.Read g is e = cc
+of_no_memory io.Write g is e = cc
+of_no_memory io.NoMemory g is e = refl
+of_no_memory io.Store g is e = cc
+
 -- another one is want of memory
 pub of_memory : {U : Type 0} (f : IoFault) (g : Fault) → g ≡ of_replay f → (IsErrOf {T = U} (Err f) io.Store → ⊥) → g ≢ fault.Read → g ≢ fault.Write → IsErrOf {T = U} (Err f) io.NoMemory × IsOfFile g
 of_memory io.Read g is none unread unwritten = absurd (unread is)
@@ -117,6 +124,10 @@ goes_over_cached at holds shows before c d book made old new P is stays over agr
           (opens (subst (λ b. HasCleanDisk (at b)) over (subst (λ r. HasCleanDisk (at r.book)) same was)) g file);
       agrees = λ lawful. agrees c g.content;
     }) clean passes
+
+-- a call that leaves the book as it was leads to the same gate
+pub same_passes : {B : Type 0} (trusted : B → Type 0) (holds : B → Settings → Content → Type 0) (d : Settings) (old new : B) → new ≡ old → Passes trusted holds d old new (λ g after. after ≡ g)
+same_passes trusted holds d old new same up g over = (g, subst (λ b. IsOver holds d b g) (sym same) over, refl)
 
 -- ---- serving
 

@@ -17,7 +17,7 @@ ghost use Rattle.gate_rows.specs.Tells.{StandsFor};
 ghost use Rattle.gate_sql.specs.Applies.{LeavesOrStands};
 ghost use Rattle.gate_sql.specs.Held.{IsShownFor, ShowsFor, queue_names};
 ghost use Rattle.gate_sql.specs.Migrates.{HasNoneToMigrate, IsLeft};
-ghost use Rattle.gate_sql.specs.Opens.{IsJudged, IsMeta, IsMigrated, is_newly_taken, with_meta};
+ghost use Rattle.gate_sql.specs.Opens.{IsJudged, IsMade, IsMeta, IsMigrated, is_newly_taken, is_taken, with_meta};
 ghost use Rattle.gate_sql.specs.Upgrade.{StandsForFirst};
 ghost use Rattle.gate_http.specs.Connections.{IsCalled};
 ghost use Rattle.gated_cli.specs.Doing.{Announces, beside};
@@ -50,6 +50,8 @@ pub fn make<S: Alter + Drop>(
     conn: Connection<S>,
     config: &Config,
 ) -> (Connection<S>, Result<(), Fault>)
+    // whether the tables are made is decided by the names that are there, and by a transaction under way
+    ensures faults { IsMade (file_fault result.1) (is_taken (state S.Store conn).now.schema) conn.in_transaction }
     ensures made { (state S.Store conn).now.schema ≡ schema_with 0 0 → HasCleanDisk (state S.Store result.0) →
         OnOk result.1 (ShowsFor (state S.Store result.0) config.now (empty config.now)) }
     ensures none { HasCleanDisk (state S.Store result.0) →
@@ -87,6 +89,9 @@ pub fn migrate<S: Alter + Drop>(
         (state S.Store conn).now.schema ≡ with_meta tables indexes views →
         IsMeta (state S.Store conn).now.trees version kept →
         IsMigrated (file_answer result.1) (is_newly_taken (state S.Store conn).now.schema) version kept config.now }
+    ensures refused { HasCleanDisk (state S.Store result.0) →
+        IfErr result.1 (λ f. f ≢ Fault.File OpenFault.Unavailable →
+        Stays (state S.Store conn) (state S.Store result.0)) }
     ensures none { HasCleanDisk (state S.Store result.0) →
         HasNoneToMigrate (state S.Store conn).now config.now →
         IsLeft (state S.Store conn) (state S.Store result.0) }
@@ -139,6 +144,9 @@ pub fn deliver<S: Alter + Drop, R: Read, W: Write>(
         × (done : ℕ) × ReadFor (R.remaining (inside input.old)) (R.remaining (inside input.new)) lines done
         × GoesOver (state S.Store conn) (state S.Store result.0) config
         (λ g after. (cut : Cut g lines text after) × (length cut.done ≡ done)) }
+    // nothing is answered, and the gate is as it was
+    ensures memory { IsErrOf result.1 Fault.NoMemory →
+        GoesOver (state S.Store conn) (state S.Store result.0) config (λ g after. after ≡ g) }
     // whether the file is opened is decided by the file alone
     ensures judged { (tables : _) (indexes : _) (views : _) (version kept : _) →
         (state S.Store conn).now.schema ≡ with_meta tables indexes views →

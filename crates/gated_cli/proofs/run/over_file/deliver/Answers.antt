@@ -2,6 +2,7 @@ use Rattle.std.proofs.Common.{◌≡◌, ◌∙◌, ap, subst, sym}
 use Rattle.std.specs.Prelude.{IfSome, length}
 use Rattle.sqlite.specs.Held.{state}
 use Rattle.sqlite.specs.State.{HasCleanDisk}
+use Rattle.gate_cache.specs.Cached.{HoldsBelow}
 use Rattle.gate_core.specs.Gated.{Gated}
 use Rattle.gate_core.specs.Lines.{lines_of, whole_lines}
 use Rattle.gate_core.specs.Replies.{Cut, Replayed}
@@ -9,7 +10,7 @@ use Rattle.gate_queries.specs.Finds.{Stays}
 use Rattle.gate_sql.specs.Held.{HoldsFor}
 use Rattle.gate_sql.specs.Opens.{IsJudged}
 use Rattle.gated_cli.specs.OverFile.{GoesOver}
-use Rattle.gated_cli.proofs.FileLemmas.{goes_over_cached, no_replay_fault, of_each, of_memory, of_read, of_write, opens_to}
+use Rattle.gated_cli.proofs.FileLemmas.{goes_over_cached, no_replay_fault, of_each, of_memory, of_no_memory, of_read, of_write, opens_to, same_passes}
 use Rattle.gated_cli.proofs.run.over_file.deliver.Goals as goal
 
 pub returns-in-Ok-done-clause-ok : goal.returns-in-Ok-done-clause-ok
@@ -76,6 +77,22 @@ returns-in-Err-done-clause-write g c e =
     (λ clean gate file. opens_to (λ x. HasCleanDisk opened → HoldsFor opened c.in-Ok.book.queues.items c.args.config x) (state g.S.Store c.args.conn) c.args.config gate c.in-Ok.ensures.opens c.in-Ok.ensures.adopts file clean)
     h.5.trusted_before h.5.passes in
     (h.0, h.1, h.2, h.3, h.4, subst (λ conn. GoesOver (state g.S.Store c.args.conn) (state g.S.Store conn) c.args.config P) (sym last) over)
+
+pub returns-in-Err-done-clause-memory : goal.returns-in-Err-done-clause-memory
+returns-in-Err-done-clause-memory g c e =
+    let same = (c.in-Err-done.ensures.memory (of_no_memory c.in-Err-done.fault c.from.result c.from.ensures e)).0 in
+    let last = c.into_conn-conn.ensures ∙ ap (λ book. book.conn) (c.into_book-2.ensures ∙ ap (λ cached. cached.book) c.into_book.ensures) in
+    let P : Gated → Gated → Type 0 = λ gate after. after ≡ gate in
+    let opened = state g.S.Store c.in-Ok.book.conn in
+    let over = goes_over_cached (λ book. state g.S.Store book.conn) (λ book k x. HoldsFor (state g.S.Store book.conn) book.queues.items k x) (λ book k x held. held.shows)
+    (state g.S.Store c.args.conn) c.args.config c.new-gate.result.config c.in-Ok.book c.new.result c.new-gate.result.book c.replay-done.new.gate.book P
+    c.new-gate.ensures.config c.stays_lawful.ensures c.new.ensures.book c.new.ensures.agrees c.new-gate.ensures.book
+    (λ clean gate file. opens_to (λ x. HasCleanDisk opened → HoldsFor opened c.in-Ok.book.queues.items c.args.config x) (state g.S.Store c.args.conn) c.args.config gate c.in-Ok.ensures.opens c.in-Ok.ensures.adopts file clean)
+    (λ clean. subst (λ gate. HasCleanDisk (state g.S.Store gate.book.book.conn)) same clean)
+    (same_passes (λ cached. HasCleanDisk (state g.S.Store cached.book.conn))
+    (λ cached k x. HoldsBelow (λ book k x. HoldsFor (state g.S.Store book.conn) book.queues.items k x) cached k x)
+    c.new-gate.result.config c.new-gate.result.book c.replay-done.new.gate.book (ap (λ gate. gate.book) same)) in
+    subst (λ conn. GoesOver (state g.S.Store c.args.conn) (state g.S.Store conn) c.args.config P) (sym last) over
 
 pub returns-in-Err-done-clause-fault : goal.returns-in-Err-done-clause-fault
 returns-in-Err-done-clause-fault g c unread unwritten =

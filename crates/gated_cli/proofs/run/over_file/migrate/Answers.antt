@@ -11,3 +11,6 @@ pub returns-in-Err-clause-already : goal.returns-in-Err-clause-already
 returns-in-Err-clause-already g c clean up k x stands =
     let h = c.in-Err.ensures.already clean up k x stands in
     (ap fault.File h.0, h.1)
+
+pub returns-in-Err-clause-refused : goal.returns-in-Err-clause-refused
+returns-in-Err-clause-refused g c clean other = c.in-Err.ensures.refused clean (λ e. other (ap fault.File e))
