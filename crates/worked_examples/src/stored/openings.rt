@@ -55,16 +55,34 @@ fn still_waits<S: Alter + Drop>(rt: &(impl Abort + AllocGlobal), conn: Connectio
 }
 
 /// A gate whose file is opened again knows what it was told, and goes on.
-fn goes_on<S: Alter + Drop>(rt: &(impl Abort + AllocGlobal), conn: Connection<S>) {
+fn goes_on<S: Alter + Drop>(rt: &(impl Abort + AllocGlobal), conn: Connection<S>) -> Connection<S> {
     let conn = one_waits(rt, conn);
     let conn = tells_over(rt, gate_in(rt, conn), NEED_IS_MISSING, MISSING, ONE_WAITS);
-    let _ = tells_over(rt, gate_in(rt, conn), NEED_COMES, CAME, BOTH_QUEUED);
+    tells_over(rt, gate_in(rt, conn), NEED_COMES, CAME, BOTH_QUEUED)
 }
 
 /// The answers of the three gates together are those of one, and what was answered is answered so again.
 #[test]
 fn a_gate_goes_on_in_a_file_that_is_opened_again(rt: HostRuntime) {
-    goes_on(&rt, empty(&rt));
+    let _ = goes_on(&rt, empty(&rt));
+}
+
+/// And so in a database that has a table of somebody else, whose row stays.
+fn goes_on_beside<S: Alter + Drop>(rt: &(impl Abort + AllocGlobal), mut conn: Connection<S>) {
+    conn.execute("CREATE TABLE note (text TEXT)", &[])
+        .expect(rt, "a table");
+    conn.execute("INSERT INTO note VALUES ('kept')", &[])
+        .expect(rt, "a row");
+    let mut conn = goes_on(rt, conn);
+    let notes = conn
+        .query_all("SELECT text FROM note WHERE text = 'kept'", &[])
+        .expect(rt, "the notes");
+    assert!(rt; notes.len() == 1);
+}
+
+#[test]
+fn a_gate_goes_on_beside_another_table(rt: HostRuntime) {
+    goes_on_beside(&rt, empty(&rt));
 }
 
 /// The file isn't opened under these settings, and is handed back.

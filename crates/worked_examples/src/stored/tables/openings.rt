@@ -49,6 +49,35 @@ fn settings_that_lack_what_is_kept_are_refused(rt: HostRuntime) {
     goes(&rt, OTHER_SETTINGS);
 }
 
+const ADOPTED_BESIDE_ANOTHERS_QUEUE: &str = "create: done
+run DROP TABLE queue
+run CREATE TABLE queue (name TEXT, win INTEGER)
+run INSERT INTO queue VALUES ('core', 2)
+open as core 0 1 and web: Unavailable
+1 is SELECT count(*) FROM queue
+open: done";
+
+/// Where other settings can't be taken since a table is no gate's, the file is as it was.
+#[test]
+fn settings_that_can_not_be_written_leave_the_file(rt: HostRuntime) {
+    goes(&rt, ADOPTED_BESIDE_ANOTHERS_QUEUE);
+}
+
+const META_IS_A_VIEW: &str = "run CREATE TABLE kept (k TEXT, v TEXT)
+run INSERT INTO kept VALUES ('format', 'gate'), ('schema', '7'), ('settings', '')
+run CREATE VIEW meta AS SELECT k, v FROM kept
+open: OtherSchema
+run UPDATE kept SET v = '2' WHERE k = 'schema'
+open: OtherSettings
+run DELETE FROM kept WHERE k = 'format'
+open: WrongFile";
+
+/// A view is read as a table is.
+#[test]
+fn a_view_of_kept_settings_is_judged(rt: HostRuntime) {
+    goes(&rt, META_IS_A_VIEW);
+}
+
 const ANOTHER_VERSION: &str = "create: done
 run UPDATE meta SET v = '1' WHERE k = 'schema'
 open: OtherSchema
