@@ -1,4 +1,10 @@
 //! What keeps a gate's content: the trait `Book`, and a book in memory.
+//!
+//! ```text
+//! let mut book = MemBook::new(alloc, &config)?;
+//! let item = book.next_item(&queue, above)?;
+//! book.apply(&edits)?;
+//! ```
 #![tactic(auto)]
 
 mod adopting;

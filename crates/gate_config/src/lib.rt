@@ -1,4 +1,10 @@
 //! The settings file: a TOML document becomes a `Config`, or the least of its faults.
+//!
+//! ```text
+//! let config = gate_config::read(alloc, bytes)?;
+//! for queue in config.queues.as_slice() {
+//!     // its name, its window, its floor and its rule
+//! ```
 #![tactic(auto)]
 
 ghost use Rattle.std.specs.Prelude.{◌≡◌, ◌⊎◌, Some, None, IfOk, IfErr};

@@ -1,4 +1,10 @@
 //! The gate over HTTP: one request of a connection is read, acted on, and answered. `docs/FORMATS.md` has the routes.
+//!
+//! ```text
+//! let served = serve_one(alloc, &mut gate, reader, writer)?;
+//! // or one connection after another, `count` of them:
+//! serve(alloc, &listener, &mut gate, count, errors)?;
+//! ```
 #![tactic(auto)]
 
 mod body;

@@ -1,4 +1,10 @@
 //! The reads of a gate's book as queries of its tables, each by key.
+//!
+//! ```text
+//! let items = items(&mut conn, &queue)?;
+//! let item = item(&mut conn, serial)?;
+//! let counters = counters(&mut conn)?;
+//! ```
 #![tactic(auto)]
 
 mod ahead;

@@ -1,5 +1,11 @@
 //! What a gate asks of a book by key: the build that is due, the orders that are shown, where a change stands. No queue
 //! is loaded: items are gone through one after another, no further than the rule needs.
+//!
+//! ```text
+//! let build = next_build(alloc, book, &config, number)?;
+//! let order = order_of_queue(alloc, book, &config, &queue)?;
+//! let stand = standing(alloc, book, &config, change)?;
+//! ```
 #![tactic(auto)]
 
 pub mod due;

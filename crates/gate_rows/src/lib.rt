@@ -1,4 +1,10 @@
 //! The rows of the gate's tables: each edit as statements within a transaction.
+//!
+//! ```text
+//! let mut tx = conn.transaction();
+//! apply_one(alloc, &mut tx, &edit)?;
+//! tx.commit()?;
+//! ```
 #![tactic(auto)]
 
 mod ahead;

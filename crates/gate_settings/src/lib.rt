@@ -1,4 +1,10 @@
 //! Settings read back from the one text that `Config::text` writes of them.
+//!
+//! ```text
+//! let text = config.text(alloc)?;
+//! let again = read_text(alloc, text.as_bytes())?;
+//! // `again` has the same queues, projects and jobs, in the same order
+//! ```
 #![tactic(auto)]
 
 ghost use Rattle.std.specs.Prelude.{◌≡◌, MatchResult, IfOk, ℕ, List};

@@ -5,6 +5,12 @@
 //!   rebase and a sweep of all queues.
 //! - `begun` begins the walk; `walking` makes its visits, one after another; `wanted` finds the row that it asks for;
 //!   `rows` reads what a visit is given.
+//!
+//! ```text
+//! let edits = settling(alloc, book, &config, &touched)?;
+//! // behind the delivery's own edits they lead to the state after a rebase and a sweep of all queues,
+//! // and ask for no row but those that can change
+//! ```
 #![tactic(auto)]
 
 mod begun;

@@ -1,4 +1,10 @@
 //! A gate's book over the tables of a file.
+//!
+//! ```text
+//! let book = SqlBook::create(alloc, conn, &config)?; // once
+//! let book = SqlBook::open(alloc, conn, &config)?; // from then on
+//! let mut gate = Gate::new(config, book);
+//! ```
 #![tactic(auto)]
 
 mod adopting;

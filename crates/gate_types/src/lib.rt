@@ -1,6 +1,12 @@
 //! What every part of the gate speaks of: numbers and names in their ranges, records, settings,
 //! deliveries with their replies and refusals, edits, taps, and the one text of a delivery. With them
 //! stand the definitions of all rules, and laws of some of these.
+//!
+//! ```text
+//! let change = ChangeNo::new(101)?;
+//! let queue = Name::new(text)?;
+//! let text = canonical(alloc, &Delivery::Approved { change, revision })?;
+//! ```
 #![tactic(auto)]
 
 pub mod adopting;

@@ -17,6 +17,12 @@
 //!   of the definitions.
 //!
 //! `Walk::gone`, `Walk::edits` and `Walk::into_edits` say what the walk holds, and take no memory.
+//!
+//! ```text
+//! let mut walk = Walk::start(alloc, queue, touched)?;
+//! let next = walk.visit(alloc, seen.as_ref())?; // `Go` or `Need` behind a serial: see that row next; `Stop`
+//! let edits = walk.into_edits();
+//! ```
 #![tactic(auto)]
 
 pub mod laws;

@@ -1,5 +1,11 @@
 //! What the forge and the workers say, and what they are told: bytes become deliveries, commit
 //! messages the changes that they need, replies their texts. `docs/FORMATS.md` has the formats.
+//!
+//! ```text
+//! let (id, delivery) = read_delivery(alloc, line, Door::Any)?;
+//! let needed = needs(alloc, base, message)?;
+//! let text = write_reply(alloc, &reply)?;
+//! ```
 #![tactic(auto)]
 
 mod door;
