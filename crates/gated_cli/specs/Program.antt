@@ -12,13 +12,14 @@ use Rattle.gated_command.specs.declared.command.Cmd.{Cmd}
 use Rattle.gated_cli.specs.declared.run.fault.Fault.{Fault}
 use Rattle.gated_cli.specs.declared.run.fault.Fault.TheVariants as fault
 
--- the words name a command and it is done, or they ask for help, the input is left alone and nothing is told
+-- the words name a command and it is done, or they ask for help or the version, the input is left alone and nothing is
+-- told
 abbrev pub Obeys : {E : Type 0} → (E → Option (List ℕ)) → List Text → Streams → Streams → Tap E → Tap E → Type 0
 Obeys held words before after old new =
     ((cmd : Cmd) × Names words cmd × Does cmd before after × ToldBy held cmd old new)
     ⊎ ((may_ask_help words ≡ true) × (after.left ≡ before.left) × (new ≡ old))
 
--- help couldn't be given: there was no memory for it, or the output failed
+-- help or the version couldn't be given: there was no memory for it, or the output failed
 abbrev pub HelpFails : {W : Type 0} → Fault → Tap W → Tap W → Type 0
 HelpFails f old new =
     ((f ≡ fault.NoMemory) × (new ≡ old)) ⊎ ((f ≡ fault.Write) × (has_failed new ≡ true))
@@ -28,7 +29,8 @@ abbrev pub HelpEndsBy : Fault → Streams → Streams → Type 0
 HelpEndsBy f before after = (after.left ≡ before.left)
     × (((f ≡ fault.NoMemory) × (after ≡ before)) ⊎ ((f ≡ fault.Write) × (after.output_failed ≡ true)))
 
--- the words name a command and it ends with this fault, or they ask for help and it can't be given; it is told
+-- the words name a command and it ends with this fault, or they ask for help or the version, which can't be given; it
+-- is told
 abbrev pub FailsBy : {E : Type 0} → (E → Option (List ℕ)) → Fault → List Text → Streams → Streams → Tap E → Tap E
     → Type 0
 FailsBy held f words before after old new =

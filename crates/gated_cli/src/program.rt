@@ -2,7 +2,7 @@
 ghost use Rattle.std.specs.Prelude.{◌≡◌, ◌≢◌, ◌⊎◌, ◌≤◌, OnOk, IfErr, codes, map, true, false};
 ghost use Rattle.clap.specs.Words.{kind_of};
 ghost use Rattle.gate_types.specs.Tap.{has_failed};
-ghost use Rattle.gated_command.specs.CommandLine.{is_refused, may_be_refused, may_ask_help};
+ghost use Rattle.gated_command.specs.CommandLine.{is_help, is_refused, may_be_refused};
 ghost use Rattle.gated_cli.specs.Doing.{Streams, streams};
 ghost use Rattle.gated_cli.specs.Ending.{Tells};
 ghost use Rattle.gated_cli.specs.Faults.{line_of};
@@ -23,7 +23,7 @@ use std::rt::Files;
 const REFUSED: u8 = 2;
 
 /// Does what the words ask for, of which the first is the program's name, and gives the status
-/// that the program ends with: 0 where it is done, or help is given; 1 after a fault; 2 where the
+/// that the program ends with: 0 where it is done, or help or the version is given; 1 after a fault; 2 where the
 /// words are refused, which `errors` is told. A fault is told on `errors` too, and so are those of the
 /// connections of a server.
 pub fn program<F: Files + GateFiles + AllocGlobal, S: AsStr, R: Read, W: Write, E: Write>(
@@ -66,7 +66,7 @@ pub fn unread<E: Write>(alloc: Global, error: &io::Error, errors: &mut Tap<E>) -
     REFUSED
 }
 
-/// Gives the help that was asked for, or tells why nothing is done; and gives the status.
+/// Gives the help or the version that was asked for, or tells why nothing is done; and gives the status.
 fn explained<W: Write, E: Write>(
     alloc: Global,
     usage: &Usage,
@@ -75,16 +75,19 @@ fn explained<W: Write, E: Write>(
 ) -> u8
     requires writer { has_failed output.old ≡ false }
     requires teller { has_failed errors.old ≡ false }
-    ensures help { kind_of usage.now ≡ ErrorKind.DisplayHelp →
+    ensures help { is_help (kind_of usage.now) ≡ true →
         ((result ≡ 0) × (errors.new ≡ errors.old)) ⊎ ((result ≡ 1) × (fault : Fault)
         × Tells E.contents errors.old errors.new (line_of fault)
         × HelpFails fault output.old output.new) }
-    ensures refused { kind_of usage.now ≢ ErrorKind.DisplayHelp → (result ≡ 2) × (output.new ≡ output.old) }
+    ensures refused { is_help (kind_of usage.now) ≡ false → (result ≡ 2) × (output.new ≡ output.old) }
     ensures memory { kind_of usage.now ≡ ErrorKind.OutOfMemory →
         Tells E.contents errors.old errors.new out_of_memory }
 {
     match usage.kind() {
-        ErrorKind::DisplayHelp => ended(help(alloc, usage, output), errors),
+        ErrorKind::DisplayHelp | ErrorKind::DisplayVersion => ended(
+            help(alloc, usage, output),
+            errors,
+        ),
         ErrorKind::OutOfMemory => {
             let _ = out_of_memory(errors);
             REFUSED

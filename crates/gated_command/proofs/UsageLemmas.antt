@@ -20,11 +20,6 @@ pub kind_explains : (a : App) (words : List Text) (e f : Error) → f ≡ e → 
 kind_explains a words e f same is h =
     inl (subst (HasKind (fault_of gated words)) (sym same) (subst (λ a. HasKind (fault_of a words) e) is h))
 
--- one kind asks for help
-pub help_kind : (k : ErrorKind) → is_help k ≡ true → k ≡ kind.DisplayHelp
-help_kind kind.DisplayHelp h = refl
-help_kind _ h = absurd (false≢true h)
-
 pub among_any : (p : ErrorKind → Bool) (k : ErrorKind) (ks : Kinds) → IsAmong k ks → p k ≡ true → list_any p ks ≡ true
 among_any p k [] h e = absurd h
 among_any p k (x ∷ xs) (inl h) e =
@@ -39,21 +34,21 @@ none_and_some p (x ∷ xs) all any =
     none_and_some p xs rest (grind (arith, here, any))
 
 -- an error that asks for help is found in the words
-pub help_is_found : (words : List Text) (e : Error) → IsExplained words e → kind_of e ≡ kind.DisplayHelp → may_ask_help words ≡ true
-help_is_found words e (inl (inl memory)) h = let bad : kind.OutOfMemory ≡ kind.DisplayHelp = sym memory ∙ h in absurd (false≢true (ap is_help bad))
-help_is_found words e (inl (inr among)) h = among_any is_help (kind_of e) _ among (ap is_help h)
-help_is_found words e (inr missing) h = let bad : kind.MissingSubcommand ≡ kind.DisplayHelp = sym missing.0 ∙ h in absurd (false≢true (ap is_help bad))
+pub help_is_found : (words : List Text) (e : Error) → IsExplained words e → is_help (kind_of e) ≡ true → may_ask_help words ≡ true
+help_is_found words e (inl (inl memory)) h = absurd (false≢true (ap is_help (sym memory) ∙ h))
+help_is_found words e (inl (inr among)) h = among_any is_help (kind_of e) _ among h
+help_is_found words e (inr missing) h = absurd (false≢true (ap is_help (sym missing.0) ∙ h))
 
 -- words that are refused ask for no help
-pub refused_is_no_help : (words : List Text) (e : Error) → IsExplained words e → is_refused words ≡ true → kind_of e ≡ kind.DisplayHelp → ⊥
+pub refused_is_no_help : (words : List Text) (e : Error) → IsExplained words e → is_refused words ≡ true → is_help (kind_of e) ≡ true → ⊥
 refused_is_no_help words e why refused h =
     none_and_some is_help (fault_of gated words) (and_parts _ _ refused).1 (help_is_found words e why h)
 
 -- where nothing is refused an error is help or want of memory
 pub help_or_memory : (words : List Text) (e : Error) → IsExplained words e → may_be_refused words ≡ false
-    → (kind_of e ≡ kind.DisplayHelp) ⊎ (kind_of e ≡ kind.OutOfMemory)
+    → (is_help (kind_of e) ≡ true) ⊎ (kind_of e ≡ kind.OutOfMemory)
 help_or_memory words e (inl (inl memory)) fine = inr memory
-help_or_memory words e (inl (inr among)) fine = inl (help_kind (kind_of e) (only_help among))
+help_or_memory words e (inl (inr among)) fine = inl (only_help among)
   where
     by_cases : (b : Bool) → (not b ≡ true → ⊥) → b ≡ true
     by_cases true f = refl
@@ -68,9 +63,9 @@ help_or_memory words e (inr missing) fine =
     absurd (true≢false (sym named ∙ (or_parts _ _ fine).1))
 
 -- either an error asks for help, or it doesn't
-pub help_or_not : (k : ErrorKind) → (k ≡ kind.DisplayHelp) ⊎ ((k ≡ kind.DisplayHelp) → ⊥)
+pub help_or_not : (k : ErrorKind) → (is_help k ≡ true) ⊎ (is_help k ≡ false)
 help_or_not k = by_cases (is_help k) refl
   where
-    by_cases : (b : Bool) → is_help k ≡ b → (k ≡ kind.DisplayHelp) ⊎ ((k ≡ kind.DisplayHelp) → ⊥)
-    by_cases true e = inl (help_kind k e)
-    by_cases false e = inr (λ h. true≢false (sym (ap is_help h) ∙ e))
+    by_cases : (b : Bool) → is_help k ≡ b → (is_help k ≡ true) ⊎ (is_help k ≡ false)
+    by_cases true e = inl e
+    by_cases false e = inr e

@@ -95,10 +95,10 @@ migrate = over_file (codes "migrate")
 abbrev pub bare : App
 bare = new_app (codes "gated")
 
--- the program's command line, where a command has to be given
+-- the program's command line, which has a version, and where a command has to be given
 abbrev pub gated : App
 gated = with_subcommand (with_subcommand (with_subcommand (with_subcommand (with_subcommand (with_subcommand
-    (with_subcommand (with_subcommand (record bare { top = record bare.top { subcommand_required = true } })
+    (with_subcommand (with_subcommand (record bare { top = record bare.top { has_version = true; subcommand_required = true } })
     check.top) init.top) replay.top) deliver.top) status.top) history.top) serve.top) migrate.top
 
 -- what a command line says
@@ -183,9 +183,10 @@ abbrev pub IsExplained : List Text → Error → Type 0
 IsExplained words e =
     HasKind (fault_of gated words) e ⊎ ((kind_of e ≡ kind.MissingSubcommand) × (asked words ≡ None))
 
--- help was asked for
+-- help was asked for, or the version
 abbrev pub is_help : ErrorKind → Bool
 is_help kind.DisplayHelp = true
+is_help kind.DisplayVersion = true
 is_help _ = false
 
 -- there is no kind

@@ -13,6 +13,10 @@ use clap::{Arg, ArgAction, ArgMatches, Command, Error};
 use std::alloc::{AllocError, Global};
 use std::convert::AsStr;
 
+/// What `--version` tells behind the name: the program, the schema of the tables that it makes, and the kit whose
+/// libraries it is built with.
+const VERSION: &str = "1.0.0, tables of schema 2, rattle-kit-13f";
+
 /// The highest port.
 const MOST_PORT: u64 = 65_535;
 
@@ -68,15 +72,15 @@ pub enum Cmd<'a> {
     },
 }
 
-/// Why a command line asks for nothing to be done: it is refused, or it asks for help. It prints
-/// as the text for the user.
+/// Why a command line asks for nothing to be done: it is refused, or it asks for help or the version. It prints as the
+/// text for the user.
 pub type Usage = Error;
 
 /// Reads a command line, of which the first word is the program's name.
 ///
 /// # Errors
 ///
-/// Where the line is refused, asks for help, or memory is refused; and never where `clap` takes the
+/// Where the line is refused, asks for help or the version, or memory is refused; and never where `clap` takes the
 /// line and it names a command, but for want of memory.
 pub fn command<'a, S: AsStr>(alloc: Global, words: &'a [S]) -> Result<Cmd<'a>, Usage>
     ensures ok { IfOk result (Names (map S.text words.entry.now)) }
@@ -98,6 +102,7 @@ fn app<'a>(alloc: Global) -> Result<Command<'a>, AllocError>
         .about(
             "The gate of a code forge: decides which approved changes may land, and in which order.",
         )
+        .version(VERSION)
         .subcommand_required(true);
     let whole = with(Ok(bare), check(alloc));
     let whole = with(whole, init(alloc));

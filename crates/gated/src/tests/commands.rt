@@ -178,6 +178,15 @@ $ gated help replay < no delivery
 ...
 |= 0
 unread
+# the version is given on the output
+$ gated --version < no delivery
+gated 1.0.0, tables of schema 2, rattle-kit-13f
+|= 0
+unread
+$ gated -V < no delivery
+gated 1.0.0, tables of schema 2, rattle-kit-13f
+|= 0
+unread
 # help that can't be written is a fault
 $ gated --help < no delivery > 0
 |gated: I2 write

@@ -68,6 +68,10 @@ gated check --help -> DisplayHelp 0
 gated replay -h -> DisplayHelp 0
 gated help replay -> DisplayHelp 0
 gated migrate --help -> DisplayHelp 0
+# the version is the program's
+gated --version -> DisplayVersion 0
+gated -V -> DisplayVersion 0
+gated check --version -> UnknownArgument 2
 "#;
 
 #[test]

@@ -37,7 +37,11 @@ returns-in-Err-clause-fault g c ended = elim (help_or_not (kind_of c.in-Err.usag
 
 pub returns-in-Err-clause-refused : goal.returns-in-Err-clause-refused
 returns-in-Err-clause-refused g c refused =
-    (c.explained.ensures.refused (refused_is_no_help (map g.S.AsStr.text c.args.words.now) c.in-Err.usage c.in-Err.ensures.kinds refused)).0
+    let none = refused_is_no_help (map g.S.AsStr.text c.args.words.now) c.in-Err.usage c.in-Err.ensures.kinds refused in
+    elim (help_or_not (kind_of c.in-Err.usage)) [
+      | inl help ↦ absurd (none help)
+      | inr other ↦ (c.explained.ensures.refused other).0
+    ]
 
 pub returns-in-Err-clause-told : goal.returns-in-Err-clause-told
 returns-in-Err-clause-told g c ended fine = elim (help_or_memory (map g.S.AsStr.text c.args.words.now) c.in-Err.usage c.in-Err.ensures.kinds fine) [
