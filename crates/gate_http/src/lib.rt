@@ -16,7 +16,6 @@ mod fields;
 mod gate;
 mod head;
 pub mod laws;
-pub mod memory;
 mod request;
 pub mod respond;
 mod response;

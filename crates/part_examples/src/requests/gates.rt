@@ -5,7 +5,6 @@ use gate_book::book::Book;
 use gate_book::memory::MemBook;
 use gate_config::read;
 use gate_core::gate::Gate;
-use gate_http::memory::serve_bytes;
 use gate_http::serve::serve_one;
 use gate_http::served::Served;
 use gate_types::tap::Tap;
@@ -143,11 +142,6 @@ fn a_repeat_after_a_cut_answer_gets_the_kept_reply(rt: HostRuntime) {
 
 const ORDERS: &[u8] = b"GET /orders HTTP/1.1\r\n\r\n";
 
-fn serves_bytes<B: Book>(rt: &(impl Abort + AllocGlobal), gate: &mut Gate<B>, orders: &[u8]) {
-    let (served, bytes) = serve_bytes(rt.alloc(), gate, ORDERS).expect(rt, "a response");
-    assert!(rt; served == Served::Answered(200) && bytes.as_slice() == orders);
-}
-
 fn serves_a_reader<B: Book>(rt: &(impl Abort + AllocGlobal), gate: &mut Gate<B>, orders: &[u8]) {
     let mut writer = Tap::new(Vec::new(rt.alloc()));
     let served = serve_one(rt.alloc(), gate, &mut Tap::new(ORDERS), &mut writer);
@@ -155,14 +149,8 @@ fn serves_a_reader<B: Book>(rt: &(impl Abort + AllocGlobal), gate: &mut Gate<B>,
     assert!(rt; served == Ok(Served::Answered(200)) && bytes.as_slice() == orders);
 }
 
-/// A gate serves bytes, and what a reader gives.
-fn serves<B: Book>(rt: &(impl Abort + AllocGlobal), gate: &mut Gate<B>) {
-    let orders = response(rt, "orders");
-    serves_bytes(rt, gate, orders.as_bytes());
-    serves_a_reader(rt, gate, orders.as_bytes());
-}
-
 #[test]
-fn bytes_and_readers_are_served(rt: HostRuntime) {
-    serves(&rt, &mut Gate::<MemBook>::fresh(&rt));
+fn a_reader_is_served(rt: HostRuntime) {
+    let orders = response(&rt, "orders");
+    serves_a_reader(&rt, &mut Gate::<MemBook>::fresh(&rt), orders.as_bytes());
 }
