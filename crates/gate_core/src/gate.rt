@@ -100,6 +100,7 @@ impl<B: Book> Gate<B> {
         ensures answered { OfHeldUnder B.IsTrusted B.Holds self.old.book self.new.book self.old.config (λ x.
             MatchResult result (λ text. option_map build_text (build_of x.state number) ≡ Some (string_bytes text))
             (λ r. (r ≡ Refusal.Unavailable) ⊎ ((r ≡ Refusal.UnknownBuild) × (build_of x.state number ≡ None)))) }
+        ensures refused { IfErr result (λ r. (r ≡ Refusal.Unavailable) ⊎ (r ≡ Refusal.UnknownBuild)) }
         ensures kept { IsKept B.IsTrusted B.Holds B.LeavesOneOf self.old.book self.new.book }
         ensures settings { self.new.config ≡ self.old.config }
     {
