@@ -1,10 +1,9 @@
 -- The items of a queue in the state to which edits lead.
 use Rattle.std.proofs.Common.{◌≡◌, ℕ, ◌+◌, ◌<◌, ◌≤◌, ⊎_elim, false, length, refl, Option, Some, None, List, [], sym, ap, ◌∙◌, subst, arith}
-use Rattle.std.specs.Prelude.{option_map, nat_lt}
+use Rattle.std.specs.Prelude.{true, option_map, is_some, nat_lt}
 use Rattle.std.specs.Option.{option_map_or, option_or}
-use Rattle.std.proofs.lemmas.Bool.{lt-ltb, le-ltb, cases_lt}
+use Rattle.std.proofs.lemmas.Bool.{lt-ltb, le-ltb, cases_lt, true≢false}
 use Rattle.std.proofs.lemmas.Option.{none-some}
-use Rattle.gate_book.specs.declared.rows.QueueSizes.{QueueSizes}
 use Rattle.gate_types.specs.declared.records.Item.{Item as ItemRow}
 use Rattle.gate_types.specs.declared.edits.Edit.{Edit}
 use Rattle.gate_types.specs.Settings.{Settings}
@@ -12,7 +11,7 @@ use Rattle.gate_types.specs.State.{Queue, State}
 use Rattle.gate_types.specs.Once.{Content}
 use Rattle.gate_types.specs.Rows.{item_rows}
 use Rattle.gate_types.specs.Lawful.{IsSound}
-use Rattle.gate_book.specs.Reads.{items_in, queued_of, queue_named, sizes_of, last_below}
+use Rattle.gate_book.specs.Reads.{items_in, queued_of, queue_named, window_of, item_count, last_below}
 use Rattle.gate_laws.proofs.Rising.{Rising}
 use Rattle.gate_admission.specs.Led.{IsLed}
 use Rattle.gate_admission.specs.Known.{IsQueue, has_room}
@@ -66,34 +65,30 @@ shifted a l d e = ⊎_elim
     (λ (h : 1000 ≤ l). le-ltb a (1000 + d) (omega (arith, h, e)) ∙ sym (le-ltb l 1000 h))
     (cases_lt l 1000)
 
-pub no_sizes : (o : Option Queue) → option_map sizes_of o ≡ None → o ≡ None
-no_sizes None e = refl
-no_sizes (Some q) e = absurd (none-some (sizes_of q) (sym e))
-
 pub no_room : (c : Settings) (x : Content) (edits : List Edit) (v : State) (name : List ℕ) → IsLed c x edits v →
-    option_map sizes_of (queue_named x.state name) ≡ None → has_room v name ≡ false
+    is_some (window_of x.state name) ≡ false → has_room v name ≡ false
 no_room c x edits v name led e =
     ap (λ (o : Option Queue). option_map_or (λ q. nat_lt (length q.items) 1000) o false)
-    (no_queue_led c x edits v name led (no_sizes (queue_named x.state name) e))
+    (no_queue_led c x edits v name led (none_there (queue_named x.state name) e))
+  where
+    none_there : (o : Option Queue) → is_some (option_map (λ (q : Queue). q.window) o) ≡ false → o ≡ None
+    none_there None f = refl
+    none_there (Some q) f = absurd (true≢false f)
 
-pub room_led : (c : Settings) (x : Content) (edits : List Edit) (v : State) (name : List ℕ) (sizes : QueueSizes)
-    (added dropped : ℕ) → IsLed c x edits v → option_map sizes_of (queue_named x.state name) ≡ Some sizes →
+pub room_led : (c : Settings) (x : Content) (edits : List Edit) (v : State) (name : List ℕ) (items added dropped : ℕ) →
+    IsLed c x edits v → is_some (window_of x.state name) ≡ true → items ≡ item_count c x.state name →
     length (items_after name (items_in c x.state name) edits) + dropped ≡ length (items_in c x.state name) + added →
-    nat_lt (sizes.items + added) (1000 + dropped) ≡ has_room v name
-room_led c x edits v name sizes added dropped led e sum = by_queue (queue_named x.state name) refl
+    nat_lt (items + added) (1000 + dropped) ≡ has_room v name
+room_led c x edits v name items added dropped led e count sum = by_queue (queue_named x.state name) refl
   where
     by_queue : (o : Option Queue) → queue_named x.state name ≡ o →
-        nat_lt (sizes.items + added) (1000 + dropped) ≡ has_room v name
-    by_queue None f = absurd (none-some sizes (sym (ap (option_map sizes_of) f) ∙ e))
+        nat_lt (items + added) (1000 + dropped) ≡ has_room v name
+    by_queue None f = absurd (true≢false (sym e ∙ ap (λ o. is_some (option_map (λ (q : Queue). q.window) o)) f))
     by_queue (Some p) f =
         let there = queue_led c x edits v name p led f in
         let q = there.queue in
-        let stored : length p.items ≡ sizes.items =
-        ap (λ (o : Option QueueSizes). option_map_or (λ z. z.items) o 0) (sym (ap (option_map sizes_of) f) ∙ e) in
-        let old : length (items_in c x.state name) ≡ length p.items =
-        ap (λ o. length (option_map_or (item_rows c x.state) o [])) f ∙ rows_length c x.state p in
         let new : length (items_after name (items_in c x.state name) edits) ≡ length q.items =
         ap length (items_led c x edits v name led there)
         ∙ ap (λ o. length (option_map_or (item_rows c v) o [])) there.named ∙ rows_length c v q in
-        shifted (sizes.items + added) (length q.items) dropped (omega (arith, stored, old, new, sum))
+        shifted (items + added) (length q.items) dropped (omega (arith, count, new, sum))
         ∙ sym (ap (λ (o : Option Queue). option_map_or (λ q. nat_lt (length q.items) 1000) o false) there.named)

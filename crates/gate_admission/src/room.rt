@@ -98,9 +98,11 @@ pub(crate) fn has_room<B: Book>(
     ensures kept { IsKept B.IsTrusted B.Holds B.LeavesOneOf book.old book.new }
     ensures fault { IfErr result (MayAnswer B.MayFault) }
 {
-    let Some(sizes) = book.queue(queue)? else {
+    let window = book.window(queue)?;
+    if window.is_none() {
         return Ok(false);
-    };
+    }
+    let items = book.item_count(queue)?;
     let moves = count_moves(book, edits, queue)?;
-    Ok(u128::from(sizes.items) + (moves.added as u128) < 1000 + (moves.dropped as u128))
+    Ok(u128::from(items) + (moves.added as u128) < 1000 + (moves.dropped as u128))
 }

@@ -8,6 +8,7 @@ pub mod TableLemmas
 pub mod ChangeLemmas
 pub mod LoopLemmas
 pub mod MemoryLemmas
+pub mod NeedLemmas
 mod AdoptLemmas
 pub mod ReadLemmas
 pub mod ReadyLemmas

@@ -1,5 +1,5 @@
 -- The queues of a book in memory: changed one by one, and looked through.
-use Rattle.std.proofs.Common.{◌≡◌, ℕ, zero, suc, ◌<◌, ◌≤◌, Bool, true, false, cond, Option, Some, List, [], ◌∷◌, length, drop, get_or, map, refl, sym, ap, subst, ◌∙◌, arith}
+use Rattle.std.proofs.Common.{◌≡◌, ℕ, zero, suc, ◌+◌, ◌<◌, ◌≤◌, Bool, true, false, cond, Option, Some, List, [], ◌∷◌, length, drop, get_or, map, refl, sym, ap, subst, ◌∙◌, arith}
 use Rattle.std.specs.Prelude.{find, option_map}
 use Rattle.std.specs.Option.{option_or}
 use Rattle.std.specs.List.{AllByRecursion}
@@ -16,7 +16,7 @@ use Rattle.gate_book.specs.Changes as change
 use Rattle.gate_book.specs.Queues as queue
 use Rattle.gate_book.specs.Replies as reply
 use Rattle.gate_book.specs.Plans as plan
-use Rattle.gate_book.specs.Memory.{HasRoom, HasRoomBeside}
+use Rattle.gate_book.specs.Memory.{HasRoom}
 use Rattle.gate_book.specs.declared.builds.BuildTable.{BuildTable}
 use Rattle.gate_book.specs.declared.changes.ChangeTable.{ChangeTable}
 use Rattle.gate_book.specs.declared.plans.PlanTable.{PlanTable}
@@ -95,9 +95,9 @@ queued_at test queues k t o l at e =
 
 -- ---- room
 
--- room in each table
-pub changes_less : (n : ℕ) (t : ChangeTable) → change.HasRoom (suc n) t → change.HasRoom n t
-changes_less n t room = let r = room.rows in let p = room.places in let q = room.ready in record { rows = omega (arith, r); places = omega (arith, p); ready = omega (arith, q) }
+-- where there is room for one more, there is room
+pub changes_less : (n k m : ℕ) (t : ChangeTable) → change.HasRoom (suc n) (k + m) t → change.HasRoom n m t
+changes_less n k m t room = let r = room.rows in let p = room.places in let q = room.ready in let u = room.needs in record { rows = omega (arith, r); places = omega (arith, p); ready = omega (arith, q); needs = omega (arith, u) }
 
 pub plans_less : (n : ℕ) (t : PlanTable) → plan.HasRoom (suc n) t → plan.HasRoom n t
 plans_less n t room = omega (arith, room)
@@ -108,8 +108,8 @@ builds_less n t room = let r = room.rows in let q = room.live in record { rows =
 pub replies_less : (n : ℕ) (t : ReplyTable) → reply.HasRoom (suc n) t → reply.HasRoom n t
 replies_less n t room = let r = room.rows in let q = room.places in record { rows = omega (arith, r); places = omega (arith, q) }
 
-changes_one : (n : ℕ) (t : ChangeTable) → change.HasRoom (suc n) t → change.HasRoom 1 t
-changes_one n t room = let r = room.rows in let p = room.places in let q = room.ready in record { rows = omega (arith, r); places = omega (arith, p); ready = omega (arith, q) }
+changes_one : (n k m : ℕ) (t : ChangeTable) → change.HasRoom (suc n) (k + m) t → change.HasRoom 1 k t
+changes_one n k m t room = let r = room.rows in let p = room.places in let q = room.ready in let u = room.needs in record { rows = omega (arith, r); places = omega (arith, p); ready = omega (arith, q); needs = omega (arith, u) }
 
 plans_one : (n : ℕ) (t : PlanTable) → plan.HasRoom (suc n) t → plan.HasRoom 1 t
 plans_one n t room = omega (arith, room)
@@ -123,21 +123,12 @@ replies_one n t room = let r = room.rows in let q = room.places in record { rows
 queue_one : (n : ℕ) (t : QueueTable) → queue.HasRoom (suc n) t → queue.HasRoom 1 t
 queue_one n t room = let a = room.items in let b = room.entries in let d = room.landings in let e = room.reports in record { items = omega (arith, a); entries = omega (arith, b); landings = omega (arith, d); reports = omega (arith, e) }
 
--- where there is room for one more, there is room
-pub beside_less : (n : ℕ) (t : MemTables) → HasRoomBeside (suc n) t → HasRoomBeside n t
-beside_less n t room = record {
-  changes = changes_less n t.changes room.changes;
-  plans = plans_less n t.plans room.plans;
-  builds = builds_less n t.builds room.builds;
-  replies = replies_less n t.replies room.replies;
-}
-
--- and room for one
-pub room_one : (n : ℕ) (t : MemTables) → HasRoom (suc n) t → HasRoom 1 t
-room_one n t room = record {
+-- where there is room for more, there is room for one
+pub room_one : (n k m : ℕ) (t : MemTables) → HasRoom (suc n) (k + m) t → HasRoom 1 k t
+room_one n k m t room = record {
   queues = in_weaker (queue.HasRoom (suc n)) (queue.HasRoom 1) (λ q r. queue_one n q r) t.queues.items room.queues;
   others = record {
-    changes = changes_one n t.changes room.others.changes;
+    changes = changes_one n k m t.changes room.others.changes;
     plans = plans_one n t.plans room.others.plans;
     builds = builds_one n t.builds room.others.builds;
     replies = replies_one n t.replies room.others.replies;

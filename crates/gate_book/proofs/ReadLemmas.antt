@@ -4,11 +4,9 @@ use Rattle.std.specs.Prelude.{◌==◌, ◌&&◌, nat_lt, filter, find, fold, op
 use Rattle.std.specs.List.{list_any, AllByRecursion}
 use Rattle.std.specs.List.Sorted.{IsStrictlyIncreasing}
 use Rattle.std.specs.Option.{option_map_or}
-use Rattle.std.proofs.lemmas.List.{length-map}
 use Rattle.std.proofs.lemmas.List.Folds.{flat_map-map}
 use Rattle.std.proofs.lemmas.Bool.{false≢true}
 use borrow.Author.Tests.{leb-true}
-use Rattle.gate_types.specs.declared.records.Build.{Build}
 use Rattle.gate_types.specs.declared.records.Change.{Change}
 use Rattle.gate_types.specs.declared.records.Item.{Item}
 use Rattle.gate_types.specs.declared.records.Landing.{Landing}
@@ -18,16 +16,14 @@ use Rattle.gate_types.specs.declared.records.Stage.TheVariants as stage
 use Rattle.gate_types.specs.declared.rows.ChangeRow.{ChangeRow}
 use Rattle.gate_types.specs.Settings.{Settings}
 use Rattle.gate_types.specs.Names.{same_name}
-use Rattle.gate_types.specs.Line.{Place}
-use Rattle.gate_types.specs.State.{Item as QueueItem, Queue, State, known_change, change_of, is_open}
-use Rattle.gate_types.specs.Standing.{places, places_after, place_of, next_ahead, with_ahead}
-use Rattle.gate_types.specs.Rows.{item_rows, row_of, numbered}
+use Rattle.gate_types.specs.State.{Queue, State, known_change, change_of, is_open}
+use Rattle.gate_types.specs.Rows.{item_rows, numbered}
 use Rattle.gate_types.specs.Once.{Content}
 use Rattle.gate_types.specs.Tables.{QueueRows, approval_of, change_row, queue_rows, numbered_landings, tables}
 use Rattle.gate_types.specs.Forms.{IsLawfulContent, is_ready_in_form, is_drawn_number}
 use Rattle.gate_book.specs.Changes.{AreReady, Differ}
 use Rattle.gate_book.specs.Reads as read
-use Rattle.gate_book.specs.TableReads.{change_in, needs_in, rows_named, sizes_of_rows, items_named, landings_below, is_needing_in, all_queued, LandingsRise}
+use Rattle.gate_book.specs.TableReads.{change_in, needs_in, rows_named, items_named, landings_below, needing_in, all_queued, LandingsRise}
 use Rattle.gate_book.specs.Queues.{landing_serial}
 use Rattle.gate_book.specs.Sorted.{RisesFrom}
 use Rattle.gate_book.proofs.MemoryLemmas.{find_map}
@@ -48,8 +44,8 @@ needs_are c x n = ap (λ o. option_map_or (λ (k : Change). k.needs) o []) (chan
     by_found None = refl
     by_found (Some k) = refl
 
-pub needing_is : (c : Settings) (x : Content) (n above : ℕ) (i : Item) → is_needing_in (tables c x).changes n above i ≡ nat_lt above i.serial && list_any (λ m. m == n) (change_of x.state i.change).needs
-needing_is c x n above i = ap (λ ms. nat_lt above i.serial && list_any (λ m. m == n) ms) (needs_are c x i.change)
+pub needing_are : (c : Settings) (x : Content) (n above : ℕ) (items : List Item) → needing_in (tables c x).changes n above items ≡ read.items_needing x.state n above items
+needing_are c x n above items = λ k. filter (λ (i : Item). nat_lt above i.serial && list_any (λ m. m == n) (needs_are c x i.change k)) items
 
 -- ---- queues
 
@@ -68,13 +64,6 @@ items_are c x name = ap (λ o. option_map_or (λ (r : QueueRows). r.items) o [])
     by_found (Some q) = refl
 
 -- numbering keeps the length
-length_places : (builds : List Build) (ahead : List QueueItem) (ps : List Place) → length (places_after builds ahead ps) ≡ length ps
-length_places builds ahead [] = refl
-length_places builds ahead (p ∷ ps) = ap (λ n. suc n) (length_places builds (next_ahead builds (with_ahead ahead p)) ps)
-
-length_items : (c : Settings) (s : State) (q : Queue) → length (item_rows c s q) ≡ length q.items
-length_items c s q = length-map (places c s q) (row_of s.builds) ∙ length_places s.builds [] (map (place_of c s q) q.items) ∙ length-map q.items (place_of c s q)
-
 length_landings : (n : ℕ) (ls : List Landing) → length (numbered_landings n ls) ≡ length ls
 length_landings n [] = refl
 length_landings n (l ∷ ls) = ap (λ m. suc m) (length_landings (suc n) ls)
@@ -83,12 +72,19 @@ pub length_reports : (n : ℕ) (rs : List Report) → length (numbered n rs) ≡
 length_reports n [] = refl
 length_reports n (r ∷ rs) = ap (λ m. suc m) (length_reports (suc n) rs)
 
-pub sizes_are : (c : Settings) (x : Content) (name : List ℕ) → option_map sizes_of_rows (rows_named (tables c x).queues name) ≡ option_map read.sizes_of (read.queue_named x.state name)
-sizes_are c x name = ap (option_map sizes_of_rows) (named_is c x name) ∙ by_found (read.queue_named x.state name)
+pub window_is : (c : Settings) (x : Content) (name : List ℕ) → option_map (λ r. r.window) (rows_named (tables c x).queues name) ≡ read.window_of x.state name
+window_is c x name = ap (option_map (λ (r : QueueRows). r.window)) (named_is c x name) ∙ by_found (read.queue_named x.state name)
   where
-    by_found : (o : Option Queue) → option_map sizes_of_rows (option_map (rows_of_queue c x.state) o) ≡ option_map read.sizes_of o
+    by_found : (o : Option Queue) → option_map (λ (r : QueueRows). r.window) (option_map (rows_of_queue c x.state) o) ≡ option_map (λ q. q.window) o
     by_found None = refl
-    by_found (Some q) = λ k. Some (record { window = q.window; items = length_items c x.state q k; landings = length_landings 0 q.landings k })
+    by_found (Some q) = refl
+
+pub landing_count_is : (c : Settings) (x : Content) (name : List ℕ) → option_map_or (λ r. length r.landings) (rows_named (tables c x).queues name) 0 ≡ read.landing_count x.state name
+landing_count_is c x name = ap (λ o. option_map_or (λ (r : QueueRows). length r.landings) o 0) (named_is c x name) ∙ by_found (read.queue_named x.state name)
+  where
+    by_found : (o : Option Queue) → option_map_or (λ (r : QueueRows). length r.landings) (option_map (rows_of_queue c x.state) o) 0 ≡ length (option_map_or (λ q. q.landings) o [])
+    by_found None = refl
+    by_found (Some q) = length_landings 0 q.landings
 
 pub reports_are : (c : Settings) (x : Content) (name : List ℕ) → option_map_or (λ r. length r.reports) (rows_named (tables c x).queues name) 0 ≡ read.reports_in x.state name
 reports_are c x name = ap (λ o. option_map_or (λ (r : QueueRows). length r.reports) o 0) (named_is c x name) ∙ by_found (read.queue_named x.state name)
@@ -216,7 +212,7 @@ open_is_known s n is = subst (λ o. IsSome o) (sym (find_map (change_row s.ready
     by_known None e = absurd (false≢true e)
     by_known (Some k) e = refl
 
-and_second : (a b : Bool) → a && b ≡ true → b ≡ true
+pub and_second : (a b : Bool) → a && b ≡ true → b ≡ true
 and_second true b e = e
 and_second false b e = absurd (false≢true e)
 

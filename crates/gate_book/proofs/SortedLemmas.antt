@@ -188,6 +188,61 @@ found_behind key n (x ∷ xs) = ⊎_elim
     ∙ sym (ap (λ t. cond t (Some x) (find (λ y. nat_lt n (key y)) xs)) (lt-ltb n (key x) (omega arith))))
     (below_or (key x) (n + 1))
 
+-- the rows above n
+abbrev those_above : {X : Type 0} → (X → ℕ) → ℕ → List X → List X
+those_above key n xs = filter (λ x. nat_lt n (key x)) xs
+
+all_above : {X : Type 0} (key : X → ℕ) (n m : ℕ) (xs : List X) → n < m → RisesFrom key m xs → xs ≡ those_above key n xs
+all_above key n m [] h r = refl
+all_above key n m (x ∷ xs) h r =
+    let above : m ≤ key x = r.0 in
+    ap (λ ys. x ∷ ys) (all_above key n (suc (key x)) xs (omega arith) r.1)
+    ∙ sym (ap (λ t. cond t (x ∷ those_above key n xs) (those_above key n xs)) (lt-ltb n (key x) (omega arith)))
+
+pub behind_is : {X : Type 0} (key : X → ℕ) (n m : ℕ) (xs : List X) → RisesFrom key m xs → drop (place_in key (n + 1) xs) xs ≡ those_above key n xs
+behind_is key n m [] r = refl
+behind_is key n m (x ∷ xs) r = ⊎_elim
+    (λ l. ap (λ i. drop i (x ∷ xs)) (place_next key (n + 1) x xs l) ∙ behind_is key n (suc (key x)) xs r.1
+    ∙ sym (ap (λ t. cond t (x ∷ those_above key n xs) (those_above key n xs)) (le-ltb n (key x) (omega arith))))
+    (λ l. ap (λ i. drop i (x ∷ xs)) (place_here key (n + 1) x xs l) ∙ all_above key n (key x) (x ∷ xs) (omega arith) (omega arith, r.1))
+    (below_or (key x) (n + 1))
+
+-- the rows up to n
+abbrev those_up_to : {X : Type 0} → (X → ℕ) → ℕ → List X → List X
+those_up_to key n xs = filter (λ x. nat_le (key x) n) xs
+
+none_up_to : {X : Type 0} (key : X → ℕ) (n m : ℕ) (xs : List X) → n < m → RisesFrom key m xs → those_up_to key n xs ≡ []
+none_up_to key n m [] h r = refl
+none_up_to key n m (x ∷ xs) h r =
+    let above : m ≤ key x = r.0 in
+    ap (λ t. cond t (x ∷ those_up_to key n xs) (those_up_to key n xs)) (lt-leb (key x) n (omega arith)) ∙ none_up_to key n (suc (key x)) xs (omega arith) r.1
+
+pub up_to_is : {X : Type 0} (key : X → ℕ) (n m : ℕ) (xs : List X) → RisesFrom key m xs → take (place_in key (n + 1) xs) xs ≡ those_up_to key n xs
+up_to_is key n m [] r = refl
+up_to_is key n m (x ∷ xs) r = ⊎_elim
+    (λ l. ap (λ i. take i (x ∷ xs)) (place_next key (n + 1) x xs l) ∙ ap (λ ys. x ∷ ys) (up_to_is key n (suc (key x)) xs r.1)
+    ∙ sym (ap (λ t. cond t (x ∷ those_up_to key n xs) (those_up_to key n xs)) (le-leb (key x) n (omega arith))))
+    (λ l. ap (λ i. take i (x ∷ xs)) (place_here key (n + 1) x xs l) ∙ sym (none_up_to key n (key x) (x ∷ xs) (omega arith) (omega arith, r.1)))
+    (below_or (key x) (n + 1))
+
+-- rows that are left out leave the order
+pub rises-filter : {X : Type 0} (key : X → ℕ) (test : X → Bool) (m : ℕ) (xs : List X) → RisesFrom key m xs → RisesFrom key m (filter test xs)
+rises-filter key test m [] r = tt
+rises-filter key test m (x ∷ xs) r = by_test (test x) (rises-filter key test (suc (key x)) xs r.1)
+  where
+    by_test : (t : Bool) → RisesFrom key (suc (key x)) (filter test xs) → RisesFrom key m (cond t (x ∷ filter test xs) (filter test xs))
+    by_test true rest = (r.0, rest)
+    by_test false rest = let above : m ≤ key x = r.0 in rises-more key m (suc (key x)) (filter test xs) (omega arith) rest
+
+-- two tests, one after the other
+pub filter_twice : {X : Type 0} (p q : X → Bool) (xs : List X) → filter q (filter p xs) ≡ filter (λ x. p x && q x) xs
+filter_twice p q [] = refl
+filter_twice p q (x ∷ xs) = by_test (p x) (filter_twice p q xs)
+  where
+    by_test : (t : Bool) → filter q (filter p xs) ≡ filter (λ y. p y && q y) xs → filter q (cond t (x ∷ filter p xs) (filter p xs)) ≡ cond (t && q x) (x ∷ filter (λ y. p y && q y) xs) (filter (λ y. p y && q y) xs)
+    by_test true rest = ap (λ ys. cond (q x) (x ∷ ys) ys) rest
+    by_test false rest = rest
+
 -- the last of some rows, or what was found before them
 abbrev last_of : {X : Type 0} → Option X → List X → Option X
 last_of before xs = fold (λ last x. Some x) before xs

@@ -11,6 +11,7 @@ use Rattle.gate_types.specs.State.{put_by}
 use Rattle.gate_types.specs.Tables.{approval_of}
 use Rattle.gate_book.specs.Sorted.{RisesFrom, In}
 use Rattle.gate_book.specs.Pairs.{pair_key, IsFit}
+use Rattle.gate_book.specs.Needs.{AreInOrder, TellsNeeds}
 use Rattle.gate_book.specs.declared.pairs.Pair.{Pair}
 use Rattle.gate_book.specs.declared.changes.ChangeTable.{ChangeTable}
 
@@ -53,18 +54,21 @@ same_number (Some m) n = m == n
 abbrev pub approval_in : List ChangeRow → ℕ → Option ℕ
 approval_in rows n = option_and_then (λ r. r.approval) (find (λ r. r.change.number == n) rows)
 
--- numbers find their rows, and the index, which rises, tells of each ready change
+-- numbers find their rows, and the indexes, which rise, tell of each ready change and of each need
 pub record IsKept (t : ChangeTable) : Type 0 where
   pub finds : FindsNumbers t.places t.rows.items
   pub ready_rise : RisesFrom pair_key 0 t.ready.items
   pub ready_fit : AllByRecursion IsFit t.ready.items
   pub ready_told : TellsReady t.ready.items (in_order number_of t.rows.items)
+  pub needs_order : AreInOrder t.needs.items
+  pub needs_told : TellsNeeds t.needs.items (in_order number_of t.rows.items)
 
--- room for n more
-pub record HasRoom (n : ℕ) (t : ChangeTable) : Type 0 where
+-- room for n more, which have m needs
+pub record HasRoom (n m : ℕ) (t : ChangeTable) : Type 0 where
   pub rows : vec_len t.rows + n ≤ vec_capacity t.rows
   pub places : n ≤ spare t.places
   pub ready : vec_len t.ready + n ≤ vec_capacity t.ready
+  pub needs : vec_len t.needs + m ≤ vec_capacity t.needs
 
 -- the rows of the changes, by number
 abbrev pub changes_of : ChangeTable → List ChangeRow

@@ -2,6 +2,7 @@ pub mod Sorted
 pub mod Pairs
 pub mod Plans
 pub mod Builds
+pub mod Needs
 pub mod Changes
 pub mod Queues
 pub mod Replies

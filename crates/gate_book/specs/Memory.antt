@@ -63,14 +63,14 @@ pub record IsKept (t : MemTables) : Type 0 where
   pub builds : AreKept t.builds
   pub replies : reply.IsKept t.replies
 
--- room for n more changes, plans, builds and deliveries
-pub record HasRoomBeside (n : ℕ) (t : MemTables) : Type 0 where
-  pub changes : change.HasRoom n t.changes
+-- room for n more changes, which have m needs, and n more plans, builds and deliveries
+pub record HasRoomBeside (n m : ℕ) (t : MemTables) : Type 0 where
+  pub changes : change.HasRoom n m t.changes
   pub plans : plan.HasRoom n t.plans
   pub builds : HaveRoom n t.builds
   pub replies : reply.HasRoom n t.replies
 
--- room for n more rows in each table
-pub record HasRoom (n : ℕ) (t : MemTables) : Type 0 where
+-- room for n more rows in each table, where those of changes have m needs
+pub record HasRoom (n m : ℕ) (t : MemTables) : Type 0 where
   pub queues : AllByRecursion (queue.HasRoom n) t.queues.items
-  pub others : HasRoomBeside n t
+  pub others : HasRoomBeside n m t

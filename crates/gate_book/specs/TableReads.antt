@@ -1,16 +1,18 @@
 -- What is read of tables.
-use Rattle.std.specs.Prelude.{ℕ, Bool, ◌&&◌, ◌==◌, nat_lt, List, [], map, filter, find, length, min, Option, option_map, flat_map}
+use Rattle.std.specs.Prelude.{ℕ, Bool, ◌&&◌, ◌==◌, nat_lt, List, [], map, filter, find, length, min, Option, option_map, option_to_list, flat_map}
 use Rattle.std.specs.List.{list_any}
 use Rattle.std.specs.Option.{option_map_or}
+use Rattle.gate_types.specs.declared.records.Build.{Build}
 use Rattle.gate_types.specs.declared.records.Change.{Change}
 use Rattle.gate_types.specs.declared.records.Item.{Item}
+use Rattle.gate_types.specs.declared.records.Plan.{Plan}
 use Rattle.gate_types.specs.declared.rows.ChangeRow.{ChangeRow}
 use Rattle.gate_types.specs.Counters.{Drawn}
 use Rattle.gate_types.specs.Names.{same_name}
 use Rattle.gate_types.specs.Tables.{QueueRows}
+use Rattle.gate_book.specs.Builds.{is_live_of}
 use Rattle.gate_book.specs.Queues.{landing_serial}
 use Rattle.gate_book.specs.Sorted.{RisesFrom}
-use Rattle.gate_book.specs.declared.rows.QueueSizes.{QueueSizes}
 use Rattle.gate_book.specs.declared.rows.QueuedItem.{QueuedItem}
 
 -- the row of a change
@@ -29,10 +31,6 @@ needs_in rows n = option_map_or (λ k. k.needs) (change_in rows n) []
 abbrev pub rows_named : List QueueRows → List ℕ → Option QueueRows
 rows_named queues name = find (λ q. same_name q.name name) queues
 
--- its window, and how many items and landings it has
-abbrev pub sizes_of_rows : QueueRows → QueueSizes
-sizes_of_rows q = record { window = q.window; items = length q.items; landings = length q.landings }
-
 -- its items
 abbrev pub items_named : List QueueRows → List ℕ → List Item
 items_named queues name = option_map_or (λ q. q.items) (rows_named queues name) []
@@ -49,9 +47,17 @@ LandingsRise q = RisesFrom landing_serial 0 q.landings
 abbrev pub is_needing_in : List ChangeRow → ℕ → ℕ → Item → Bool
 is_needing_in rows n serial i = nat_lt serial i.serial && list_any (λ m. m == n) (needs_in rows i.change)
 
--- the first such item
-abbrev pub first_needing_in : List ChangeRow → ℕ → ℕ → List Item → Option Item
-first_needing_in rows n serial items = find (is_needing_in rows n serial) items
+-- the items of these that are such
+abbrev pub needing_in : List ChangeRow → ℕ → ℕ → List Item → List Item
+needing_in rows n serial items = filter (is_needing_in rows n serial) items
+
+-- the plans of these items, item by item
+abbrev pub plans_of_rows : List Plan → List Item → List Plan
+plans_of_rows plans items = flat_map (λ i. option_to_list (find (λ p. p.serial == i.serial) plans)) items
+
+-- the live builds of these items, item by item, each one's by number
+abbrev pub builds_of_rows : List Build → List Item → List Build
+builds_of_rows builds items = flat_map (λ i. filter (is_live_of i.serial) builds) items
 
 -- the items of a queue, each with its name
 abbrev pub queued_rows : QueueRows → List QueuedItem

@@ -1,6 +1,6 @@
 //! What keeps a gate's content.
 use crate::fault::{BookFault, HistoryFault};
-use crate::rows::{QueueSizes, QueuedItem};
+use crate::rows::QueuedItem;
 use gate_types::edits::Edit;
 use gate_types::names::Name;
 use gate_types::numbers::{BuildNo, ChangeNo, Serial};
@@ -12,7 +12,7 @@ use std::io::Write;
 /// A book holds a content: the state of a gate, and what is kept of its deliveries. It is asked by
 /// key, and changed by edits, all or none. After a fault it holds what it held.
 pub trait Book {
-    ghost use Rattle.std.specs.Prelude.{◌≡◌, ◌<◌, false, [], ◌∷◌, ◌++◌, List, option_map, IfOk, IfErr, IfSome};
+    ghost use Rattle.std.specs.Prelude.{◌≡◌, ◌<◌, false, [], ◌∷◌, ◌++◌, List, IfOk, IfErr, IfSome};
     ghost use Rattle.gate_types.specs.Settings.{Settings};
     ghost use Rattle.gate_types.specs.State.{known_change};
     ghost use Rattle.gate_types.specs.Step.{build_of};
@@ -50,10 +50,24 @@ pub trait Book {
         ensures kept { IsKept IsTrusted Holds LeavesOneOf self.old self.new }
         ensures fault { IfErr result MayFault };
 
-    /// The window of a queue, and how many items and landings it has.
-    fn queue(&mut self, name: &Name) -> Result<Option<QueueSizes>, BookFault>
+    /// How many items of a queue may be tested at once, 0 where all may; None where there is no such queue.
+    fn window(&mut self, queue: &Name) -> Result<Option<u32>, BookFault>
         ensures found { OfHeld IsTrusted Holds self.old self.new (λ c x.
-            read.Answers (option_map read.sizes_of (read.queue_named x.state name.now)) result) }
+            read.Answers (read.window_of x.state queue.now) result) }
+        ensures kept { IsKept IsTrusted Holds LeavesOneOf self.old self.new }
+        ensures fault { IfErr result MayFault };
+
+    /// How many items a queue has, 0 where there is no such queue.
+    fn item_count(&mut self, queue: &Name) -> Result<u64, BookFault>
+        ensures found { OfHeld IsTrusted Holds self.old self.new (λ c x.
+            read.Answers (read.item_count c x.state queue.now) result) }
+        ensures kept { IsKept IsTrusted Holds LeavesOneOf self.old self.new }
+        ensures fault { IfErr result MayFault };
+
+    /// How many landings a queue has, 0 where there is no such queue.
+    fn landing_count(&mut self, queue: &Name) -> Result<u64, BookFault>
+        ensures found { OfHeld IsTrusted Holds self.old self.new (λ c x.
+            read.Answers (read.landing_count x.state queue.now) result) }
         ensures kept { IsKept IsTrusted Holds LeavesOneOf self.old self.new }
         ensures fault { IfErr result MayFault };
 
@@ -108,16 +122,27 @@ pub trait Book {
         ensures kept { IsKept IsTrusted Holds LeavesOneOf self.old self.new }
         ensures fault { IfErr result MayFault };
 
-    /// The first item of a queue with a higher serial than `above` whose change needs this one.
+    /// The first items of a queue with higher serials than `above`, front to back, no more than `most`.
+    fn next_items(
+        &mut self,
+        queue: &Name,
+        above: u64,
+        most: u32,
+    ) -> Result<Sequence<Item>, BookFault>
+        ensures found { OfHeld IsTrusted Holds self.old self.new (λ c x.
+            read.Answers (read.first_items_above above most (read.items_in c x.state queue.now)) result) }
+        ensures kept { IsKept IsTrusted Holds LeavesOneOf self.old self.new }
+        ensures fault { IfErr result MayFault };
+
+    /// The items of a queue with higher serials than `above` whose changes need this one, front to back.
     fn needing(
         &mut self,
         queue: &Name,
         change: ChangeNo,
         above: u64,
-    ) -> Result<Option<Item>, BookFault>
+    ) -> Result<Sequence<Item>, BookFault>
         ensures found { OfHeld IsTrusted Holds self.old self.new (λ c x.
-            read.Answers (read.first_needing x.state change above (read.items_in c x.state queue.now)) result) }
-        ensures rises { IfOk result (λ found. IfSome found (λ i. above < i.serial)) }
+            read.Answers (read.items_needing x.state change above (read.items_in c x.state queue.now)) result) }
         ensures kept { IsKept IsTrusted Holds LeavesOneOf self.old self.new }
         ensures fault { IfErr result MayFault };
 
@@ -132,6 +157,32 @@ pub trait Book {
     fn live_builds(&mut self, serial: Serial) -> Result<Sequence<Build>, BookFault>
         ensures found { OfHeld IsTrusted Holds self.old self.new (λ c x.
             read.Answers (read.live_builds x.state serial) result) }
+        ensures kept { IsKept IsTrusted Holds LeavesOneOf self.old self.new }
+        ensures fault { IfErr result MayFault };
+
+    /// The plans of a queue's items with serials above `above` up to `last`, front to back.
+    fn plans_between(
+        &mut self,
+        queue: &Name,
+        above: u64,
+        last: Serial,
+    ) -> Result<Sequence<Plan>, BookFault>
+        ensures found { OfHeld IsTrusted Holds self.old self.new (λ c x.
+            read.Answers (read.plans_of_items x.state (read.items_between above last (read.items_in c x.state queue.now)))
+            result) }
+        ensures kept { IsKept IsTrusted Holds LeavesOneOf self.old self.new }
+        ensures fault { IfErr result MayFault };
+
+    /// The live builds of a queue's items with serials above `above` up to `last`, front to back, each item's by number.
+    fn builds_between(
+        &mut self,
+        queue: &Name,
+        above: u64,
+        last: Serial,
+    ) -> Result<Sequence<Build>, BookFault>
+        ensures found { OfHeld IsTrusted Holds self.old self.new (λ c x.
+            read.Answers (read.builds_of_items x.state (read.items_between above last (read.items_in c x.state queue.now)))
+            result) }
         ensures kept { IsKept IsTrusted Holds LeavesOneOf self.old self.new }
         ensures fault { IfErr result MayFault };
 

@@ -85,22 +85,21 @@ fn push_copy(found: &mut Sequence<Build>, build: Option<&Build>) -> Result<(), N
     Ok(())
 }
 
-/// Those builds that are live ones of this serial, of the numbers that the pairs tell.
-fn collect_live(
-    alloc: Global,
+/// Adds those builds that are live ones of this serial, of the numbers that the pairs tell.
+fn add_live(
+    found: &mut Sequence<Build>,
     rows: &[Build],
     pairs: &[Pair],
     serial: Serial,
-) -> Result<Sequence<Build>, NoMemory>
+) -> Result<(), NoMemory>
     requires { RisesFrom number_of 0 rows.now }
-    ensures { IfOk result (λ found. found
-        ≡ filter_map (λ p. passing number_of (is_live_of serial) rows.now p.second) pairs.now) }
+    ensures { OnOk result (found.new
+        ≡ found.old ++ filter_map (λ p. passing number_of (is_live_of serial) rows.now p.second) pairs.now) }
 {
-    let mut found = Sequence::new(alloc);
     for pair in pairs {
-        push_copy(&mut found, live_one(rows, pair.second, serial))?;
+        push_copy(found, live_one(rows, pair.second, serial))?;
     }
-    Ok(found)
+    Ok(())
 }
 
 impl BuildTable {
@@ -173,13 +172,27 @@ impl BuildTable {
         }
     }
 
+    /// Adds the live builds of a serial, by number.
+    pub(crate) fn add_live(
+        &self,
+        found: &mut Sequence<Build>,
+        serial: Serial,
+    ) -> Result<(), NoMemory>
+        requires { AreKept self.now }
+        ensures { OnOk result (found.new ≡ found.old ++ filter (is_live_of serial) self.now.rows.items) }
+    {
+        let pairs = of_first(&self.live, serial.get());
+        add_live(found, &self.rows, pairs, serial)?;
+        Ok(())
+    }
+
     /// The live builds of a serial, by number.
     pub(crate) fn live_of(&self, alloc: Global, serial: Serial) -> Result<Sequence<Build>, NoMemory>
         requires { AreKept self.now }
         ensures { IfOk result (λ found. found ≡ filter (is_live_of serial) self.now.rows.items) }
     {
-        let pairs = of_first(&self.live, serial.get());
-        let found = collect_live(alloc, &self.rows, pairs, serial)?;
+        let mut found = Sequence::new(alloc);
+        self.add_live(&mut found, serial)?;
         Ok(found)
     }
 }

@@ -1,15 +1,18 @@
 //! The changes of a book in memory.
-ghost use Rattle.std.specs.Prelude.{◌≡◌, ◌==◌, ◌<◌, ◌≤◌, ◌+◌, ◌++◌, ℕ, suc, [], find, slice_get, nat_eq, IfOk, OnOk, vec_len, vec_capacity};
-ghost use Rattle.std.specs.List.{list_any, filter_map, cons_option};
+ghost use Rattle.std.specs.Prelude.{◌≡◌, ◌==◌, ◌<◌, ◌≤◌, ◌+◌, ◌++◌, ℕ, suc, [], true, length, find, slice_get, nat_eq, IfOk, OnOk, vec_len, vec_capacity};
+ghost use Rattle.std.specs.List.{list_any, filter_map, cons_option, AllByRecursion};
 ghost use Rattle.std.specs.Option.{option_copied, option_map_or};
 ghost use Rattle.std.specs.HashMap.{get, spare};
 ghost use Rattle.gate_types.specs.State.{put_by};
-ghost use Rattle.gate_book.specs.Sorted.{RisesFrom, without};
+ghost use Rattle.gate_book.specs.Sorted.{RisesFrom, without, In};
 ghost use Rattle.gate_book.specs.TableReads.{change_in, needs_in};
 ghost use Rattle.gate_book.specs.Pairs.{pair_key, IsFit};
+ghost use Rattle.gate_book.specs.declared.pairs.Pair.{Pair};
+ghost use Rattle.gate_book.specs.Needs.{AreInOrder, IsSmall, TellsNeedsOf, need_of};
 ghost use Rattle.gate_book.specs.Changes.{FindsNumbers, IsKept, HasRoom, IsWhatRowsTell, ready_by, number_of, in_order, changes_of, approval_in, entry_of};
 
-use crate::pairs::Pair;
+use crate::needs::note_needs;
+use crate::pairs::{Pair, of_first};
 use crate::sorted;
 use crate::sorted::Keyed;
 use gate_types::names::NoMemory;
@@ -20,13 +23,15 @@ use gate_types::sequence::Sequence;
 use std::alloc::{AllocError, Global};
 use std::collections::HashMap;
 
-/// All changes in the order in which they came first, the place of each number, and an index of the
-/// ready ones: pairs of the number of the approval and the change's own.
+/// All changes in the order in which they came first, the place of each number, and two indexes: of
+/// the ready ones (pairs of the number of the approval and the change's own), and of needs (pairs of the
+/// needed change and one that needs it, or needed it at an earlier revision).
 #[derive(Drop)]
 pub struct ChangeTable {
     rows: Vec<ChangeRow>,
     places: HashMap<u64, usize>,
     ready: Vec<Pair>,
+    needs: Vec<Pair>,
 }
 
 fn place_of(places: &HashMap<u64, usize>, number: u64) -> Option<usize>
@@ -134,6 +139,19 @@ fn note_ready(ready: &mut Vec<Pair>, approval: Option<u64>, number: u64)
     }
 }
 
+/// Adds the needs of a change to the index, where there is room.
+fn note_row(index: &mut Vec<Pair>, row: &ChangeRow)
+    requires room { vec_len index.old + length row.now.change.needs ≤ vec_capacity index.old }
+    requires order { AreInOrder index.old.items }
+    ensures order { AreInOrder index.new.items }
+    ensures told { TellsNeedsOf index.new.items row.now.change.number row.now.change.needs }
+    ensures others { (p : Pair) → In p index.old.items → In p index.new.items }
+    ensures len { vec_len index.new ≤ vec_len index.old + length row.now.change.needs }
+    ensures capacity { vec_capacity index.new ≡ vec_capacity index.old }
+{
+    note_needs(index, row.change.number, row.change.needs.as_slice());
+}
+
 /// What a pair of the index tells, if it is still so.
 fn ready_at(rows: &[ChangeRow], places: &HashMap<u64, usize>, pair: Pair) -> Option<Ready>
     requires { FindsNumbers places.now rows.now }
@@ -185,32 +203,35 @@ impl ChangeTable {
             rows: Vec::new(alloc),
             places: HashMap::new(alloc),
             ready: Vec::new(alloc),
+            needs: Vec::new(alloc),
         }
     }
 
-    /// Makes room for `n` more changes. The changes stay, whatever the result.
-    pub(crate) fn make_room(&mut self, n: usize) -> Result<(), AllocError>
+    /// Makes room for `n` more changes, which have so many needs. The changes stay, whatever the result.
+    pub(crate) fn make_room(&mut self, n: usize, needs: usize) -> Result<(), AllocError>
         requires { IsKept self.old }
         ensures rows { changes_of self.new ≡ changes_of self.old }
         ensures kept { IsKept self.new }
-        ensures room { OnOk result (HasRoom n self.new) }
+        ensures room { OnOk result (HasRoom n needs self.new) }
     {
         self.rows.reserve(n)?;
         self.places.reserve(n)?;
         self.ready.reserve(n)?;
+        self.needs.reserve(needs)?;
         Ok(())
     }
 
     /// Puts a row where there is room, in place of one with its number.
     pub(crate) fn put(&mut self, row: ChangeRow)
         requires kept { IsKept self.old }
-        requires room { HasRoom 1 self.old }
+        requires room { HasRoom 1 (length row.change.needs) self.old }
         ensures rows { changes_of self.new ≡ put_by number_of row (changes_of self.old) }
         ensures kept { IsKept self.new }
-        ensures room { (n : ℕ) → HasRoom (suc n) self.old → HasRoom n self.new }
+        ensures room { (n m : ℕ) → HasRoom (suc n) (length row.change.needs + m) self.old → HasRoom n m self.new }
     {
         let number = number_of_row(&row);
         let approval = row.approval;
+        note_row(&mut self.needs, &row);
         drop_ready(
             &mut self.ready,
             approval_of(&self.rows, &self.places, number),
@@ -235,6 +256,16 @@ impl ChangeTable {
             Some(row) => Ok(Some(row.change.copy()?)),
             None => Ok(None),
         }
+    }
+
+    /// Pairs of which the second numbers tell the changes that need this one, and maybe others.
+    pub(crate) fn needing(&self, change: ChangeNo) -> &[Pair]
+        requires { IsKept self.now }
+        ensures small { AllByRecursion IsSmall result.now }
+        ensures told { (n : ℕ) → list_any (λ m. m == change) (needs_in (changes_of self.now) n) ≡ true →
+            In (need_of change n) result.now }
+    {
+        of_first(&self.needs, change.get())
     }
 
     /// Whether a change needs another.

@@ -7,7 +7,8 @@ ghost use Rattle.gate_book.specs.Memory.{IsRefused, adopted, held, start_with};
 
 use crate::book::Book;
 use crate::fault::{BookFault, HistoryFault};
-use crate::rows::{QueueSizes, QueuedItem};
+use crate::needs::count_needs;
+use crate::rows::QueuedItem;
 use crate::tables::MemTables;
 use crate::writing::write_history;
 use gate_types::adopting::may_adopt;
@@ -135,8 +136,16 @@ impl Book for MemBook {
         Ok(self.tables.change(number)?)
     }
 
-    fn queue(&mut self, name: &Name) -> Result<Option<QueueSizes>, BookFault> {
-        Ok(self.tables.queue(name))
+    fn window(&mut self, queue: &Name) -> Result<Option<u32>, BookFault> {
+        Ok(self.tables.window(queue))
+    }
+
+    fn item_count(&mut self, queue: &Name) -> Result<u64, BookFault> {
+        Ok(self.tables.item_count(queue))
+    }
+
+    fn landing_count(&mut self, queue: &Name) -> Result<u64, BookFault> {
+        Ok(self.tables.landing_count(queue))
     }
 
     fn reports(&mut self, queue: &Name) -> Result<u64, BookFault> {
@@ -167,13 +176,22 @@ impl Book for MemBook {
         Ok(self.tables.last_item(queue, below))
     }
 
+    fn next_items(
+        &mut self,
+        queue: &Name,
+        above: u64,
+        most: u32,
+    ) -> Result<Sequence<Item>, BookFault> {
+        Ok(self.tables.next_items(self.alloc, queue, above, most)?)
+    }
+
     fn needing(
         &mut self,
         queue: &Name,
         change: ChangeNo,
         above: u64,
-    ) -> Result<Option<Item>, BookFault> {
-        Ok(self.tables.needing(queue, change, above))
+    ) -> Result<Sequence<Item>, BookFault> {
+        Ok(self.tables.needing(self.alloc, queue, change, above)?)
     }
 
     fn plan(&mut self, serial: Serial) -> Result<Option<Plan>, BookFault> {
@@ -182,6 +200,24 @@ impl Book for MemBook {
 
     fn live_builds(&mut self, serial: Serial) -> Result<Sequence<Build>, BookFault> {
         Ok(self.tables.live_builds(self.alloc, serial)?)
+    }
+
+    fn plans_between(
+        &mut self,
+        queue: &Name,
+        above: u64,
+        last: Serial,
+    ) -> Result<Sequence<Plan>, BookFault> {
+        Ok(self.tables.plans_between(self.alloc, queue, above, last)?)
+    }
+
+    fn builds_between(
+        &mut self,
+        queue: &Name,
+        above: u64,
+        last: Serial,
+    ) -> Result<Sequence<Build>, BookFault> {
+        Ok(self.tables.builds_between(self.alloc, queue, above, last)?)
     }
 
     fn build(&mut self, number: BuildNo) -> Result<Option<Build>, BookFault> {
@@ -212,7 +248,10 @@ impl Book for MemBook {
 
     fn apply(&mut self, edits: &[Edit]) -> Result<(), BookFault> {
         let copies = copies(self.alloc, edits)?;
-        self.tables.make_room(edits.len())?;
+        let Some(needs) = count_needs(edits) else {
+            return Err(BookFault::NoMemory);
+        };
+        self.tables.make_room(edits.len(), needs)?;
         self.tables.apply_all(copies);
         Ok(())
     }

@@ -1,19 +1,20 @@
 //! One queue of a book in memory.
-ghost use Rattle.std.specs.Prelude.{◌≡◌, ◌==◌, ℕ, suc, [], find, filter, length, option_map, ◌<◌, ◌≤◌, ◌+◌, nat_lt, IfOk, OnOk, vec_len, vec_capacity};
+ghost use Rattle.std.specs.Prelude.{◌≡◌, ◌==◌, ℕ, suc, [], find, filter, length, option_map, ◌<◌, ◌≤◌, ◌+◌, ◌^◌, nat_lt, IfOk, OnOk, vec_len, vec_capacity};
 ghost use Rattle.std.specs.List.{filter_map};
 ghost use Rattle.std.specs.Option.{option_copied};
 ghost use Rattle.gate_types.specs.Names.{same_name};
 ghost use Rattle.gate_types.specs.State.{put_by};
 ghost use Rattle.gate_types.specs.Tables.{edited_queue};
-ghost use Rattle.gate_book.specs.Sorted.{RisesFrom, passing, first_of, without};
+ghost use Rattle.gate_book.specs.Sorted.{RisesFrom, In, passing, first_of, without};
 ghost use Rattle.gate_book.specs.Pairs.{IsFit};
+ghost use Rattle.gate_book.specs.Needs.{IsRising, TellsSerials};
 ghost use Rattle.gate_book.specs.Queues as entries;
 ghost use Rattle.gate_book.specs.Queues.{IsKept, HasRoom, rows_of, serial_of, landing_serial, is_of_change};
 ghost use Rattle.gate_book.specs.Reads as read;
-ghost use Rattle.gate_book.specs.TableReads.{sizes_of_rows};
 
+use crate::needs::add_seconds;
 use crate::pairs::{Pair, of_first};
-use crate::rows::{QueueSizes, QueuedItem};
+use crate::rows::QueuedItem;
 use crate::sorted;
 use crate::sorted::Keyed;
 use gate_types::edits::Edit;
@@ -221,6 +222,19 @@ impl QueueTable {
         first_item(&self.items, of_first(&self.entries, change.get()), change)
     }
 
+    /// Adds the serials of the items of a change.
+    pub(crate) fn add_serials(&self, serials: &mut Vec<u64>, change: u64) -> Result<(), NoMemory>
+        requires kept { IsKept self.now }
+        requires rising { IsRising serials.old.items }
+        requires next { change + 1 < 2 ^ 64 }
+        ensures rising { OnOk result (IsRising serials.new.items) }
+        ensures told { OnOk result (TellsSerials change serials.new.items (rows_of self.now).items) }
+        ensures others { OnOk result ((n : ℕ) → In n serials.old.items → In n serials.new.items) }
+    {
+        add_seconds(serials, of_first(&self.entries, change))?;
+        Ok(())
+    }
+
     /// The item of a change, with the name of this queue.
     pub(crate) fn queued(&self, change: ChangeNo) -> Result<Option<QueuedItem>, NoMemory>
         requires { IsKept self.now }
@@ -266,14 +280,16 @@ impl QueueTable {
         queue
     }
 
-    pub(crate) fn sizes(&self) -> QueueSizes
-        ensures { result ≡ sizes_of_rows (rows_of self.now) }
+    pub(crate) fn item_count(&self) -> u64
+        ensures { result ≡ length (rows_of self.now).items }
     {
-        QueueSizes {
-            window: self.window,
-            items: self.items.len() as u64,
-            landings: self.landings.len() as u64,
-        }
+        self.items.len() as u64
+    }
+
+    pub(crate) fn landing_count(&self) -> u64
+        ensures { result ≡ length (rows_of self.now).landings }
+    {
+        self.landings.len() as u64
     }
 
     pub(crate) fn report_count(&self) -> u64
@@ -290,7 +306,9 @@ impl QueueTable {
     }
 
     pub(crate) fn item_rows(&self) -> &[Item]
-        ensures { result.now ≡ (rows_of self.now).items }
+        requires { IsKept self.now }
+        ensures rows { result.now ≡ (rows_of self.now).items }
+        ensures rising { RisesFrom serial_of 0 result.now }
     {
         &self.items
     }
@@ -315,6 +333,37 @@ impl QueueTable {
         ensures { result ≡ read.last_below below (rows_of self.now).items }
     {
         sorted::last_below(&self.items, below).copied()
+    }
+
+    /// The items above a serial.
+    pub(crate) fn items_behind(&self, above: u64) -> &[Item]
+        requires { IsKept self.now }
+        ensures rows { result.now ≡ filter (λ i. nat_lt above i.serial) (rows_of self.now).items }
+        ensures rising { RisesFrom serial_of 0 result.now }
+    {
+        sorted::behind(&self.items, above)
+    }
+
+    /// The items above one serial, up to another.
+    pub(crate) fn items_between(&self, above: u64, last: Serial) -> &[Item]
+        requires { IsKept self.now }
+        ensures { result.now ≡ read.items_between above last (rows_of self.now).items }
+    {
+        sorted::up_to(self.items_behind(above), last.get())
+    }
+
+    /// The first items above a serial, no more than `most`.
+    pub(crate) fn next_items(
+        &self,
+        alloc: Global,
+        above: u64,
+        most: u32,
+    ) -> Result<Sequence<Item>, NoMemory>
+        requires { IsKept self.now }
+        ensures { IfOk result (λ found. found ≡ read.first_items_above above most (rows_of self.now).items) }
+    {
+        let items = Vec::from_slice(alloc, sorted::first(self.items_behind(above), most))?;
+        Ok(Sequence::from_vec(items))
     }
 
     /// How many landings have a lower serial, where these rise.

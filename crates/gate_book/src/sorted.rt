@@ -1,5 +1,5 @@
 //! Rows kept in the order of their keys, each key once.
-ghost use Rattle.std.specs.Prelude.{◌≡◌, ◌==◌, ◌<◌, ◌≤◌, ◌+◌, ◌&&◌, nat_lt, nat_le, find, filter, slice_get, slice_set, length, None, IfSome, IfNone, vec_len, vec_capacity};
+ghost use Rattle.std.specs.Prelude.{◌≡◌, ◌==◌, ◌<◌, ◌≤◌, ◌+◌, ◌&&◌, nat_lt, nat_le, find, filter, take, slice_get, slice_set, length, None, IfSome, IfNone, vec_len, vec_capacity};
 ghost use Rattle.std.specs.Option.{option_copied};
 ghost use Rattle.gate_types.specs.State.{put_by};
 ghost use Rattle.gate_book.specs.Sorted.{RisesFrom, IsAt, place_in, last_below, without};
@@ -74,6 +74,32 @@ pub(crate) fn last_below<T: Keyed>(rows: &[T], key: u64) -> Option<&T>
     } else {
         Some(&rows[place - 1])
     }
+}
+
+/// The rows above a key.
+pub(crate) fn behind<T: Keyed>(rows: &[T], key: u64) -> &[T]
+    requires { RisesFrom T.key 0 rows.now }
+    ensures rows { result.now ≡ filter (λ row. nat_lt key (T.key row)) rows.now }
+    ensures rising { RisesFrom T.key 0 result.now }
+{
+    let place = place_of(rows, key as u128 + 1);
+    &rows[place..]
+}
+
+/// The rows up to a key.
+pub(crate) fn up_to<T: Keyed>(rows: &[T], key: u64) -> &[T]
+    requires { RisesFrom T.key 0 rows.now }
+    ensures { result.now ≡ filter (λ row. nat_le (T.key row) key) rows.now }
+{
+    let place = place_of(rows, key as u128 + 1);
+    &rows[..place]
+}
+
+/// The first rows, no more than `most`.
+pub(crate) fn first<T: Keyed>(rows: &[T], most: u32) -> &[T]
+    ensures { result.now ≡ take most rows.now }
+{
+    &rows[..rows.len().min(most as usize)]
 }
 
 /// The rows from a key on, up to and without another.

@@ -1,5 +1,5 @@
 //! All tables of a book in memory.
-ghost use Rattle.std.specs.Prelude.{◌≡◌, ◌==◌, ℕ, suc, [], length, find, filter, map, option_map, IfOk, OnErr, OnOk, IfSome};
+ghost use Rattle.std.specs.Prelude.{◌≡◌, ◌==◌, ◌+◌, ℕ, suc, [], length, find, filter, map, option_map, IfOk, OnErr, OnOk, IfSome};
 ghost use Rattle.std.specs.List.{AllByRecursion};
 ghost use Rattle.std.specs.Option.{option_copied, option_map_or};
 ghost use Rattle.gate_types.specs.Names.{same_name};
@@ -8,18 +8,20 @@ ghost use Rattle.gate_types.specs.Tables.{edited_queue, set_counter, edited_tabl
 ghost use Rattle.gate_book.specs.Changes as change_table;
 ghost use Rattle.gate_book.specs.Queues as queue;
 ghost use Rattle.gate_book.specs.Builds.{is_live_of};
+ghost use Rattle.gate_book.specs.Needs.{needs_of, needs_of_all};
 ghost use Rattle.gate_book.specs.Reads as read;
-ghost use Rattle.gate_book.specs.TableReads.{change_in, sizes_of_rows, rows_named, items_named, is_needing_in, first_needing_in, all_queued, landings_below, LandingsRise, within};
+ghost use Rattle.gate_book.specs.TableReads.{change_in, rows_named, items_named, needing_in, plans_of_rows, builds_of_rows, all_queued, landings_below, LandingsRise, within};
 ghost use Rattle.gate_types.specs.AdoptedTables.{adopted_tables, empty_rows};
 ghost use Rattle.gate_book.specs.Memory.{tables_of, IsKept, HasRoom, HasRoomBeside, drawn_of, start_with};
 
 use crate::adopting::adopt_queues;
 use crate::builds::BuildTable;
 use crate::changes::ChangeTable;
+use crate::collecting::{builds_of, needing_of, plans_of};
 use crate::plans::PlanTable;
 use crate::queues::QueueTable;
 use crate::replies::ReplyTable;
-use crate::rows::{QueueSizes, QueuedItem};
+use crate::rows::QueuedItem;
 use gate_types::config::{Config, Queue};
 use gate_types::edits::{Counter, Edit};
 use gate_types::names::{Name, NoMemory};
@@ -139,32 +141,6 @@ fn queued_in(queues: &[QueueTable], change: ChangeNo) -> Result<Option<QueuedIte
     Ok(None)
 }
 
-/// Whether an item is above a serial and its change needs this one.
-fn is_needing(item: &Item, changes: &ChangeTable, change: ChangeNo, above: u64) -> bool
-    requires { change_table.IsKept changes.now }
-    ensures { result ≡ is_needing_in (change_table.changes_of changes.now) change above item.now }
-{
-    item.serial.get() > above && changes.needs(item.change, change)
-}
-
-/// The first of some items above a serial whose change needs this one.
-fn first_needing<'a>(
-    items: &'a [Item],
-    changes: &ChangeTable,
-    change: ChangeNo,
-    above: u64,
-) -> Option<&'a Item>
-    requires { change_table.IsKept changes.now }
-    ensures { option_copied result ≡ first_needing_in (change_table.changes_of changes.now) change above items.now }
-{
-    for item in items {
-        if is_needing(item, changes, change, above) {
-            return Some(item);
-        }
-    }
-    None
-}
-
 /// The queue of a name.
 fn queue_of<'a>(queues: &'a [QueueTable], name: &str) -> Option<&'a QueueTable>
     requires { AllByRecursion queue.IsKept queues.now }
@@ -213,14 +189,14 @@ impl MemTables {
         Ok(())
     }
 
-    /// Makes room for `n` edits. The tables stay, whatever the result.
-    pub(crate) fn make_room(&mut self, n: usize) -> Result<(), AllocError>
+    /// Makes room for `n` edits, of which the changes have so many needs. The tables stay, whatever the result.
+    pub(crate) fn make_room(&mut self, n: usize, needs: usize) -> Result<(), AllocError>
         requires { IsKept self.old }
         ensures rows { tables_of self.new ≡ tables_of self.old }
         ensures kept { IsKept self.new }
-        ensures room { OnOk result (HasRoom n self.new) }
+        ensures room { OnOk result (HasRoom n needs self.new) }
     {
-        self.changes.make_room(n)?;
+        self.changes.make_room(n, needs)?;
         make_queues_room(&mut self.queues, n)?;
         self.plans.make_room(n)?;
         self.builds.make_room(n)?;
@@ -231,10 +207,10 @@ impl MemTables {
     /// One edit, where there is room.
     fn apply(&mut self, edit: Edit)
         requires kept { IsKept self.old }
-        requires room { HasRoom 1 self.old }
+        requires room { HasRoom 1 (needs_of edit) self.old }
         ensures rows { tables_of self.new ≡ edited_tables (tables_of self.old) edit }
         ensures kept { IsKept self.new }
-        ensures room { (n : ℕ) → HasRoom (suc n) self.old → HasRoom n self.new }
+        ensures room { (n m : ℕ) → HasRoom (suc n) (needs_of edit + m) self.old → HasRoom n m self.new }
     {
         apply_to_queues(&mut self.queues, &edit);
         self.apply_to_others(edit);
@@ -243,12 +219,12 @@ impl MemTables {
     /// One edit of what isn't in a queue.
     fn apply_to_others(&mut self, edit: Edit)
         requires kept { IsKept self.old }
-        requires room { HasRoomBeside 1 self.old }
+        requires room { HasRoomBeside 1 (needs_of edit) self.old }
         ensures rows { tables_of self.new
             ≡ record (edited_tables (tables_of self.old) edit) { queues = (tables_of self.old).queues } }
         ensures queues { self.new.queues ≡ self.old.queues }
         ensures kept { IsKept self.new }
-        ensures room { (n : ℕ) → HasRoomBeside (suc n) self.old → HasRoomBeside n self.new }
+        ensures room { (n m : ℕ) → HasRoomBeside (suc n) (needs_of edit + m) self.old → HasRoomBeside n m self.new }
     {
         match edit {
             Edit::PutChange { change, approval } => {
@@ -268,7 +244,7 @@ impl MemTables {
     /// All edits, where there is room.
     pub(crate) fn apply_all(&mut self, edits: Vec<Edit>)
         requires kept { IsKept self.old }
-        requires room { HasRoom (length edits.items) self.old }
+        requires room { HasRoom (length edits.items) (needs_of_all edits.items) self.old }
         ensures rows { tables_of self.new ≡ fold_all (tables_of self.old) edits.items }
         ensures kept { IsKept self.new }
     {
@@ -311,13 +287,33 @@ impl MemTables {
         self.changes.get(number)
     }
 
-    pub(crate) fn queue(&self, name: &Name) -> Option<QueueSizes>
+    pub(crate) fn window(&self, queue: &Name) -> Option<u32>
         requires { IsKept self.now }
-        ensures { result ≡ option_map sizes_of_rows (rows_named (tables_of self.now).queues name.now) }
+        ensures { result ≡ option_map (λ q. q.window) (rows_named (tables_of self.now).queues queue.now) }
     {
-        match self.queue_named(name) {
-            Some(queue) => Some(queue.sizes()),
+        match self.queue_named(queue) {
+            Some(queue) => Some(queue.window()),
             None => None,
+        }
+    }
+
+    pub(crate) fn item_count(&self, queue: &Name) -> u64
+        requires { IsKept self.now }
+        ensures { result ≡ length (items_named (tables_of self.now).queues queue.now) }
+    {
+        match self.queue_named(queue) {
+            Some(queue) => queue.item_count(),
+            None => 0,
+        }
+    }
+
+    pub(crate) fn landing_count(&self, queue: &Name) -> u64
+        requires { IsKept self.now }
+        ensures { result ≡ option_map_or (λ q. length q.landings) (rows_named (tables_of self.now).queues queue.now) 0 }
+    {
+        match self.queue_named(queue) {
+            Some(queue) => queue.landing_count(),
+            None => 0,
         }
     }
 
@@ -389,15 +385,40 @@ impl MemTables {
         }
     }
 
-    pub(crate) fn needing(&self, queue: &Name, change: ChangeNo, above: u64) -> Option<Item>
+    pub(crate) fn next_items(
+        &self,
+        alloc: Global,
+        queue: &Name,
+        above: u64,
+        most: u32,
+    ) -> Result<Sequence<Item>, NoMemory>
         requires { IsKept self.now }
-        ensures { result
-            ≡ first_needing_in (tables_of self.now).changes change above
-            (items_named (tables_of self.now).queues queue.now) }
+        ensures { IfOk result (λ found. found
+            ≡ read.first_items_above above most (items_named (tables_of self.now).queues queue.now)) }
     {
         match self.queue_named(queue) {
-            Some(queue) => first_needing(queue.item_rows(), &self.changes, change, above).copied(),
-            None => None,
+            Some(queue) => queue.next_items(alloc, above, most),
+            None => Ok(Sequence::new(alloc)),
+        }
+    }
+
+    pub(crate) fn needing(
+        &self,
+        alloc: Global,
+        queue: &Name,
+        change: ChangeNo,
+        above: u64,
+    ) -> Result<Sequence<Item>, NoMemory>
+        requires { IsKept self.now }
+        ensures { IfOk result (λ found. found
+            ≡ needing_in (tables_of self.now).changes change above (items_named (tables_of self.now).queues queue.now)) }
+    {
+        match self.queue_named(queue) {
+            Some(queue) => {
+                let found = needing_of(alloc, queue, &self.changes, change, above)?;
+                Ok(found)
+            }
+            None => Ok(Sequence::new(alloc)),
         }
     }
 
@@ -417,6 +438,45 @@ impl MemTables {
         ensures { IfOk result (λ found. found ≡ filter (is_live_of serial) (tables_of self.now).builds) }
     {
         self.builds.live_of(alloc, serial)
+    }
+
+    /// The items of a queue above one serial, up to another; none where there is no such queue.
+    fn items_between(&self, queue: &Name, above: u64, last: Serial) -> &[Item]
+        requires { IsKept self.now }
+        ensures { result.now ≡ read.items_between above last (items_named (tables_of self.now).queues queue.now) }
+    {
+        match self.queue_named(queue) {
+            Some(queue) => queue.items_between(above, last),
+            None => &[],
+        }
+    }
+
+    pub(crate) fn plans_between(
+        &self,
+        alloc: Global,
+        queue: &Name,
+        above: u64,
+        last: Serial,
+    ) -> Result<Sequence<Plan>, NoMemory>
+        requires { IsKept self.now }
+        ensures { IfOk result (λ found. found ≡ plans_of_rows (tables_of self.now).plans
+            (read.items_between above last (items_named (tables_of self.now).queues queue.now))) }
+    {
+        plans_of(alloc, &self.plans, self.items_between(queue, above, last))
+    }
+
+    pub(crate) fn builds_between(
+        &self,
+        alloc: Global,
+        queue: &Name,
+        above: u64,
+        last: Serial,
+    ) -> Result<Sequence<Build>, NoMemory>
+        requires { IsKept self.now }
+        ensures { IfOk result (λ found. found ≡ builds_of_rows (tables_of self.now).builds
+            (read.items_between above last (items_named (tables_of self.now).queues queue.now))) }
+    {
+        builds_of(alloc, &self.builds, self.items_between(queue, above, last))
     }
 
     pub(crate) fn build(&self, number: BuildNo) -> Result<Option<Build>, NoMemory>

@@ -1,5 +1,5 @@
 -- When what is kept of a book's answers is so of a content.
-use Rattle.std.specs.Prelude.{◌≡◌, IfSome, option_map}
+use Rattle.std.specs.Prelude.{◌≡◌, IfSome}
 use Rattle.gate_types.specs.Forms.{IsLawfulContent}
 use Rattle.gate_types.specs.Once.{Content}
 use Rattle.gate_types.specs.Settings.{Settings}
@@ -12,7 +12,7 @@ use Rattle.gate_cache.specs.declared.cached.CachedBook.{CachedBook}
 pub record Agrees (k : Cache) (c : Settings) (x : Content) : Type 0 where
   pub first_change : IfSome k.first_change (λ told. told.1 ≡ known_change x.state told.0)
   pub last_change : IfSome k.last_change (λ told. told.1 ≡ known_change x.state told.0)
-  pub queue : IfSome k.queue (λ told. told.1 ≡ option_map read.sizes_of (read.queue_named x.state told.0))
+  pub window : IfSome k.window (λ told. told.1 ≡ read.window_of x.state told.0)
   pub reports : IfSome k.reports (λ told. told.1 ≡ read.reports_in x.state told.0)
   pub queued : IfSome k.queued (λ told. told.1 ≡ read.queued_of c x.state told.0)
   pub plan : IfSome k.plan (λ told. told.1 ≡ read.plan_at x.state told.0)

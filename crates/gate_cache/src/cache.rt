@@ -6,7 +6,7 @@ ghost use Rattle.gate_types.specs.State.{known_change};
 ghost use Rattle.gate_book.specs.Reads as read;
 ghost use Rattle.gate_cache.specs.Cached.{Agrees};
 
-use gate_book::rows::{QueueSizes, QueuedItem};
+use gate_book::rows::QueuedItem;
 use gate_types::names::{Name, NoMemory};
 use gate_types::numbers::{ChangeNo, Serial};
 use gate_types::records::{Build, Change, Counters, Plan, Ready};
@@ -19,7 +19,7 @@ pub struct Cache {
     // The delivery's own, which is asked for again behind others.
     pub(crate) first_change: Option<(ChangeNo, Option<Change>)>,
     pub(crate) last_change: Option<(ChangeNo, Option<Change>)>,
-    pub(crate) queue: Option<(Name, Option<QueueSizes>)>,
+    pub(crate) window: Option<(Name, Option<u32>)>,
     pub(crate) reports: Option<(Name, u64)>,
     pub(crate) queued: Option<(ChangeNo, Option<QueuedItem>)>,
     pub(crate) plan: Option<(Serial, Option<Plan>)>,
@@ -86,7 +86,7 @@ impl Cache {
         Cache {
             first_change: None,
             last_change: None,
-            queue: None,
+            window: None,
             reports: None,
             queued: None,
             plan: None,
@@ -126,25 +126,25 @@ impl Cache {
         }
     }
 
-    /// The window and the sizes of this queue, where they are kept.
-    pub(crate) fn queue(&self, name: &Name) -> Option<Option<QueueSizes>>
+    /// The window of this queue, where it is kept.
+    pub(crate) fn window(&self, name: &Name) -> Option<Option<u32>>
         ensures { IfSome result (λ found. (c : Settings) (x : Content) → Agrees self.now c x →
-            found ≡ option_map read.sizes_of (read.queue_named x.state name.now)) }
+            found ≡ read.window_of x.state name.now) }
     {
-        match &self.queue {
+        match &self.window {
             Some((asked, found)) if asked.as_str() == name.as_str() => Some(*found),
             _ => None,
         }
     }
 
-    /// Keeps the window and the sizes of a queue, where memory allows.
-    pub(crate) fn keep_queue(&mut self, name: &Name, found: &Option<QueueSizes>)
+    /// Keeps the window of a queue, where memory allows.
+    pub(crate) fn keep_window(&mut self, name: &Name, found: &Option<u32>)
         ensures { (c : Settings) (x : Content) →
-            found.now ≡ option_map read.sizes_of (read.queue_named x.state name.now) → Agrees self.old c x →
+            found.now ≡ read.window_of x.state name.now → Agrees self.old c x →
             Agrees self.new c x }
     {
         if let Ok(asked) = name.copy() {
-            self.queue = Some((asked, *found));
+            self.window = Some((asked, *found));
         }
     }
 

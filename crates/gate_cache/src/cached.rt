@@ -7,7 +7,7 @@ ghost use Rattle.gate_cache.specs.Cached.{Agrees};
 use crate::cache::Cache;
 use gate_book::book::Book;
 use gate_book::fault::{BookFault, HistoryFault};
-use gate_book::rows::{QueueSizes, QueuedItem};
+use gate_book::rows::QueuedItem;
 use gate_types::edits::Edit;
 use gate_types::names::Name;
 use gate_types::numbers::{BuildNo, ChangeNo, Serial};
@@ -79,13 +79,21 @@ impl<B: Book> Book for CachedBook<B> {
         Ok(found)
     }
 
-    fn queue(&mut self, name: &Name) -> Result<Option<QueueSizes>, BookFault> {
-        if let Some(found) = self.cache.queue(name) {
+    fn window(&mut self, queue: &Name) -> Result<Option<u32>, BookFault> {
+        if let Some(found) = self.cache.window(queue) {
             return Ok(found);
         }
-        let found = self.book.queue(name)?;
-        self.cache.keep_queue(name, &found);
+        let found = self.book.window(queue)?;
+        self.cache.keep_window(queue, &found);
         Ok(found)
+    }
+
+    fn item_count(&mut self, queue: &Name) -> Result<u64, BookFault> {
+        self.book.item_count(queue)
+    }
+
+    fn landing_count(&mut self, queue: &Name) -> Result<u64, BookFault> {
+        self.book.landing_count(queue)
     }
 
     fn reports(&mut self, queue: &Name) -> Result<u64, BookFault> {
@@ -126,12 +134,21 @@ impl<B: Book> Book for CachedBook<B> {
         self.book.last_item(queue, below)
     }
 
+    fn next_items(
+        &mut self,
+        queue: &Name,
+        above: u64,
+        most: u32,
+    ) -> Result<Sequence<Item>, BookFault> {
+        self.book.next_items(queue, above, most)
+    }
+
     fn needing(
         &mut self,
         queue: &Name,
         change: ChangeNo,
         above: u64,
-    ) -> Result<Option<Item>, BookFault> {
+    ) -> Result<Sequence<Item>, BookFault> {
         self.book.needing(queue, change, above)
     }
 
@@ -151,6 +168,24 @@ impl<B: Book> Book for CachedBook<B> {
         let found = self.book.live_builds(serial)?;
         self.cache.keep_live_builds(self.alloc, serial, &found);
         Ok(found)
+    }
+
+    fn plans_between(
+        &mut self,
+        queue: &Name,
+        above: u64,
+        last: Serial,
+    ) -> Result<Sequence<Plan>, BookFault> {
+        self.book.plans_between(queue, above, last)
+    }
+
+    fn builds_between(
+        &mut self,
+        queue: &Name,
+        above: u64,
+        last: Serial,
+    ) -> Result<Sequence<Build>, BookFault> {
+        self.book.builds_between(queue, above, last)
     }
 
     fn build(&mut self, number: BuildNo) -> Result<Option<Build>, BookFault> {

@@ -10,6 +10,7 @@ use Rattle.sqlite_sql.specs.declared.ops.CompareOp.TheVariants.{Eq}
 use Rattle.sqlite_tied.specs.Compute.{everything}
 use Rattle.gate_schema.proofs.QueryLemmas.{over_table}
 use Rattle.gate_schema.proofs.Statements.{Asks, key_is, no_limit}
+use Rattle.gate_queries.proofs.BetweenReads.{between_query}
 use Rattle.gate_queries.proofs.KeyedReads.{rising}
 
 -- what they show: all columns
@@ -47,3 +48,19 @@ live_query = over_table 13 live_test build_terms rising no_limit
 pub live_asks : Asks live_sql live_query build_names
 unfolding understood everything
 live_asks = ((refl, (refl, refl)), refl)
+
+-- ---- the live builds of the items of a queue between two serials
+
+abbrev pub between_sql : List ℕ
+between_sql = codes "SELECT build.num, build.queue, build.serial, build.change, build.revision, build.job, build.base, build.ahead, build.outcome, build.live FROM item, build WHERE item.queue = ?1 AND +item.serial > ?2 AND item.serial <= ?3 AND build.serial = item.serial AND build.live = 1 ORDER BY item.serial, build.num"
+
+-- a live build of the item
+abbrev pub between_live : List Term
+between_live = op2 (Compare Eq Binary) (col 2 3) (col 1 0) ∷ op2 (Compare Eq Binary) (col 2 10) (lit (Int (pos 1))) ∷ []
+
+abbrev pub between_terms : List Term
+between_terms = col 2 0 ∷ col 2 2 ∷ col 2 3 ∷ col 2 4 ∷ col 2 5 ∷ col 2 6 ∷ col 2 7 ∷ col 2 8 ∷ col 2 9 ∷ col 2 10 ∷ []
+
+pub between_asks : Asks between_sql (between_query 13 between_live between_terms (col 2 0)) build_names
+unfolding understood everything
+between_asks = ((refl, (refl, refl)), refl)

@@ -1,4 +1,5 @@
 mod AheadLemmas
+mod BetweenReads
 mod BuildForms
 mod BuildReads
 mod BuildTexts
@@ -8,12 +9,13 @@ mod CountReads
 mod CounterReads
 pub mod DecodeLemmas
 mod DeliveryReads
-mod ExistsLemmas
+mod DistinctLemmas
 pub mod FirstReads
 mod GreatestLemmas
 mod HistoryLemmas
 mod ItemReads
 mod ItemTexts
+mod JoinLemmas
 mod KeyedReads
 mod ListFacts
 mod ListedReads
@@ -22,6 +24,8 @@ mod NeedingReads
 mod NextReads
 mod PlanReads
 mod PlanTexts
+mod PlannedLemmas
+mod PlannedReads
 mod QueueReads
 mod QueueTexts
 pub mod ReadLemmas

@@ -1,4 +1,4 @@
--- What the reads of the next item of a queue find, of the last, and of the next whose change needs another.
+-- What the reads of the next item of a queue find, of the next few, and of the last.
 use Rattle.std.proofs.Common.{◌≡◌, ◌≤◌, ◌<◌, ℕ, pos, min, List, [], ◌∷◌, map, filter, take, reverse, slice_get, Bool, true, ◌&&◌, Option, option_map, ltb, refl, sym, ap, subst, ◌∙◌, arith}
 use Rattle.std.specs.Prelude.{IfSome, Result}
 use Rattle.std.specs.List.{AllByRecursion, AllPass}
@@ -25,7 +25,7 @@ use Rattle.gate_queries.specs.Finds.{Finds}
 use Rattle.gate_queries.specs.Reads.{IsShown}
 use Rattle.gate_queries.specs.Whole.{IsWhole, is_item_row_in_form}
 use Rattle.gate_queries.proofs.ItemReads.{InForm, ShowsItems}
-use Rattle.gate_queries.proofs.ItemTexts.{item_names, item_terms, last_is, last_query, last_sql, last_test, next_is, next_query, next_sql, next_test, one_row}
+use Rattle.gate_queries.proofs.ItemTexts.{item_names, item_terms, last_is, last_query, last_sql, last_test, next_is, next_query, next_sql, next_test, one_row, several_is, several_query, several_sql, third}
 use Rattle.gate_queries.proofs.KeyedReads.{below_number, finds_falling, finds_rising}
 use Rattle.gate_queries.proofs.ListFacts.{all_so, filter_alike, first_so, passing}
 use Rattle.gate_queries.proofs.ReadLemmas.{answers}
@@ -97,6 +97,22 @@ next_found s b name above rows shown whole finds =
         in_form = All-take InForm 1 _ (All-filter (is_next name above) InForm b.items whole.items);
       };
       first_is = first_taken _;
+    }
+
+-- the read of the next few items finds those
+pub several_found : (s : State) (b : Stored) (name : List ℕ) (above most : ℕ) (rows : List Row) → IsShown s b → IsWhole b →
+    Finds several_sql (Words name ∷ Int (pos (capped above)) ∷ Int (pos most) ∷ []) s.now rows → ShowsItems rows (take most (filter (is_next name above) b.items))
+several_found s b name above most rows shown whole finds =
+    let to = capped above in
+    let params = Words name ∷ Int (pos to) ∷ Int (pos most) ∷ [] in
+    let a = answers s several_sql several_query item_names params rows several_is shown.schema_is finds in
+    let alike : filter (is_next name to) b.items ≡ filter (is_next name above) b.items =
+    filter_alike _ _ b.items (all_so InForm _ (λ i form. ap (λ t. same_name i.queue name && t) (above_capped above i.item.serial (low i form))) b.items whole.items) in
+    record {
+      shown = finds_rising item_key item_row item_shown 11 next_test item_terms third params (is_next name to)
+          (λ i. rw (equal_texts i.queue name, above_number i.item.serial to, and_true (ltb to i.item.serial))) (λ i. refl) (λ i. refl) (overlay s.now.trees []) b.items rows shown.stands.item a
+          ∙ ap (λ is. take most (map item_shown is)) alike ∙ take-map item_shown most _;
+      in_form = All-take InForm most _ (All-filter (is_next name above) InForm b.items whole.items);
     }
 
 -- the read of the last item begins with it

@@ -38,7 +38,7 @@ places_above n from at [] low = tt
 places_above n from at (j ∷ js) low = (low, places_above n (suc from) at js (omega arith))
 
 -- the places of a plan's jobs rise
-places_rise : (n from : ℕ) (js : List Job) → IsAscending (λ (x y : JobRow). x.place < y.place) (job_rows n from js)
+pub places_rise : (n from : ℕ) (js : List Job) → IsAscending (λ (x y : JobRow). x.place < y.place) (job_rows n from js)
 places_rise n from [] = tt
 places_rise n from (j ∷ js) = (places_above n (suc from) from js (omega arith), places_rise n (suc from) js)
 

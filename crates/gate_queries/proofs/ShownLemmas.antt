@@ -1,9 +1,9 @@
 -- Records that are found: what they pass, how many they are, and the first of them.
-use Rattle.std.proofs.Common.{◌≡◌, ◌≤◌, ℕ, Bool, true, List, [], ◌∷◌, filter, get_or, length, map, ap, ◌∙◌, arith, slice_get, slice_index, option_map, find, Option, subst, Result, Ok, Err}
+use Rattle.std.proofs.Common.{◌≡◌, ◌≤◌, ℕ, Bool, true, List, [], ◌∷◌, ◌++◌, filter, flat_map, get_or, length, map, ap, ◌∙◌, arith, slice_get, slice_index, option_map, find, Option, subst, Result, Ok, Err}
 use Rattle.std.specs.Prelude.{IfOk, OnErr}
 use Rattle.std.proofs.lemmas.List.Elements.{All-from_recursion, filter_passes, recursion_from_All}
 use Rattle.std.proofs.lemmas.List.Kept.{AllPairs-filter}
-use Rattle.std.specs.List.{AllPairs, AllPass}
+use Rattle.std.specs.List.{AllByRecursion, AllPairs, AllPass}
 use Rattle.sqlite.specs.Order.{Row}
 use Rattle.sqlite_keyed.proofs.ListLemmas.{all-filter, slice_get-filter}
 use Rattle.gate_book.specs.Reads.{Answers}
@@ -15,6 +15,18 @@ use Rattle.gate_queries.proofs.ListFacts.{first_of_map}
 pub pass_filter : {X : Type 0} (form p : X → Bool) (xs : List X) → AllPass form xs → AllPass form (filter p xs)
 pass_filter form p xs all =
     All-from_recursion (λ x. form x ≡ true) (filter p xs) (all-filter (λ x. form x ≡ true) p xs (recursion_from_All (λ x. form x ≡ true) xs all))
+
+-- what the records of each list pass, those of all pass
+pub pass_flat : {X Y : Type 0} (form : Y → Bool) (f : X → List Y) → ((x : X) → AllPass form (f x)) → (xs : List X) → AllPass form (flat_map f xs)
+pass_flat {X} {Y} form f each xs = All-from_recursion (λ y. form y ≡ true) (flat_map f xs) (all xs)
+  where
+    both : (ys zs : List Y) → AllByRecursion (λ y. form y ≡ true) ys → AllByRecursion (λ y. form y ≡ true) zs → AllByRecursion (λ y. form y ≡ true) (ys ++ zs)
+    both [] zs h k = k
+    both (y ∷ ys) zs h k = (h.0, both ys zs h.1 k)
+
+    all : (us : List X) → AllByRecursion (λ y. form y ≡ true) (flat_map f us)
+    all [] = tt
+    all (u ∷ us) = both (f u) (flat_map f us) (recursion_from_All (λ y. form y ≡ true) (f u) (each u)) (all us)
 
 -- where no two records that pass may stand together, at most one passes
 pub few_pass : {X : Type 0} (R : X → X → Type 0) (p : X → Bool) → ((x y : X) → p x ≡ true → p y ≡ true → R x y → ⊥) → (xs : List X) → AllPairs R xs

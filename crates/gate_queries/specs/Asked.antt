@@ -1,5 +1,5 @@
 -- What each read says of what the tables hold; of the items of a queue it is `items_of`.
-use Rattle.std.specs.Prelude.{ℕ, ◌&&◌, ◌==◌, ◌<◌, nat_lt, if◌then◌else◌, Bool, List, [], ◌∷◌, map, filter, find, fold, flat_map, length, Option, Some, None, option_map, AllPairs, IsPermutation}
+use Rattle.std.specs.Prelude.{ℕ, ◌&&◌, ◌==◌, ◌<◌, nat_lt, if◌then◌else◌, Bool, List, [], ◌∷◌, map, filter, find, fold, flat_map, Option, Some, None, option_map, option_to_list, AllPairs, IsPermutation}
 use Rattle.std.specs.List.{list_any}
 use Rattle.std.specs.Option.{option_map_or}
 use Rattle.gate_types.specs.Names.{same_name}
@@ -12,7 +12,7 @@ use Rattle.gate_types.specs.declared.records.Ready.{Ready}
 use Rattle.gate_types.specs.declared.rows.ChangeRow.{ChangeRow}
 use Rattle.gate_types.specs.declared.rows.LandingRow.{LandingRow}
 use Rattle.gate_types.specs.declared.rows.ReportRow.{ReportRow}
-use Rattle.gate_book.specs.declared.rows.QueueSizes.{QueueSizes}
+use Rattle.gate_book.specs.Reads.{items_between}
 use Rattle.gate_book.specs.declared.rows.QueuedItem.{QueuedItem}
 use Rattle.gate_schema.specs.Rows.{ItemRow, JobRow, QueueRow, Stored, build_key, change_key, item_key}
 use Rattle.gate_schema.specs.Shown.{needs_it}
@@ -32,10 +32,10 @@ queued r = record { queue = r.queue; item = r.item }
 abbrev pub queued_of : Stored → ℕ → Option QueuedItem
 queued_of b n = option_map queued (find (λ (r : ItemRow). r.item.change == n) b.items)
 
--- the first item of a queue above a serial whose change needs this one
-abbrev pub first_needing : Stored → List ℕ → ℕ → ℕ → Option Item
-first_needing b name n serial =
-    find (λ (i : Item). nat_lt serial i.serial && needs_it b.needs n i.change) (items_of name b.items)
+-- the items of a queue above a serial whose change needs this one
+abbrev pub items_needing : Stored → List ℕ → ℕ → ℕ → List Item
+items_needing b name n serial =
+    filter (λ (i : Item). nat_lt serial i.serial && needs_it b.needs n i.change) (items_of name b.items)
 
 -- ---- plans
 
@@ -55,6 +55,11 @@ plan_with n fast (j ∷ js) = Some (record { serial = n; jobs = j ∷ js; fast =
 -- the plan under a serial
 abbrev pub plan_at : Stored → ℕ → Option Plan
 plan_at b n = plan_with n (is_fast b n) (jobs_of b n)
+
+-- the plans of the items of a queue above one serial, up to another, item by item
+abbrev pub plans_between : Stored → List ℕ → ℕ → ℕ → List Plan
+plans_between b name above last =
+    flat_map (λ (i : Item). option_to_list (plan_at b i.serial)) (items_between above last (items_of name b.items))
 
 -- ---- changes
 
@@ -85,7 +90,16 @@ build_of b n = find (λ (x : Build). build_key x == n) b.builds
 abbrev pub live_builds : Stored → ℕ → List Build
 live_builds b serial = filter (λ (x : Build). x.live && x.serial == serial) b.builds
 
+-- the live builds of the items of a queue above one serial, up to another, item by item
+abbrev pub builds_between : Stored → List ℕ → ℕ → ℕ → List Build
+builds_between b name above last =
+    flat_map (λ (i : Item). live_builds b i.serial) (items_between above last (items_of name b.items))
+
 -- ---- queues, landings and reports
+
+-- the window of the queue of a name
+abbrev pub window_of : Stored → List ℕ → Option ℕ
+window_of b name = option_map (λ (q : QueueRow). q.window) (find (λ (q : QueueRow). same_name q.name name) b.queues)
 
 -- the greatest of these, 0 of none
 abbrev pub greatest : List ℕ → ℕ
@@ -104,15 +118,3 @@ landing_before b name serial =
 -- the last place of a report of a queue
 abbrev pub last_report : Stored → List ℕ → ℕ
 last_report b name = greatest (map (λ (r : ReportRow). r.place) (reports_of name b.reports))
-
--- the window of a queue, how many items it has, and the place of its last landing
-abbrev pub sizes_of : Stored → List ℕ → QueueRow → QueueSizes
-sizes_of b name q = record {
-  window = q.window;
-  items = length (items_of name b.items);
-  landings = last_landing b name;
-}
-
--- the same of the queue of a name
-abbrev pub queue_sizes : Stored → List ℕ → Option QueueSizes
-queue_sizes b name = option_map (sizes_of b name) (find (λ (q : QueueRow). same_name q.name name) b.queues)

@@ -4,5 +4,6 @@ pub mod Whole
 pub mod Reads
 pub mod First
 pub mod Shown
+pub mod Planned
 pub mod Ahead
 pub mod History

@@ -6,7 +6,7 @@ use Rattle.gate_types.specs.declared.config.Job.{Job}
 use Rattle.gate_types.specs.declared.records.Change.{Change}
 use Rattle.gate_types.specs.declared.records.Kept.{Kept}
 use Rattle.gate_types.specs.declared.records.Ready.{Ready}
-use Rattle.gate_schema.specs.Rows.{bit}
+use Rattle.gate_schema.specs.Rows.{JobRow, bit}
 use Rattle.gate_schema.specs.Words.{stage_word}
 
 -- a change that is ready
@@ -24,6 +24,10 @@ change_shown k = Words k.project ∷ Int (pos k.revision) ∷ Words (stage_word 
 -- a job
 abbrev pub job_shown : Job → Row
 job_shown j = Words j.name ∷ Int (pos (bit j.voting)) ∷ []
+
+-- a job behind the serial of its plan
+abbrev pub planned_shown : JobRow → Row
+planned_shown x = Int (pos x.serial) ∷ job_shown x.job
 
 -- a kept delivery, without its id
 abbrev pub kept_shown : Kept → Row

@@ -35,6 +35,10 @@ is_build_row_in_form x =
 abbrev pub is_job_row_in_form : JobRow → Bool
 is_job_row_in_form x = is_name x.job.name
 
+-- a job's row: its name, and the serial of its plan
+abbrev pub is_planned_in_form : JobRow → Bool
+is_planned_in_form x = is_drawn_number x.serial && is_job_row_in_form x
+
 -- the jobs under each serial stand in their order, at the places from 0 on
 abbrev pub ArePlaced : Stored → Type 0
 ArePlaced b = (n : ℕ) → filter (λ (x : JobRow). x.serial == n) b.jobs ≡ job_rows n 0 (jobs_of b n)

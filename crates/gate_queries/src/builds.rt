@@ -5,16 +5,18 @@ ghost use Rattle.sqlite.specs.Held.{state};
 ghost use Rattle.gate_types.specs.declared.records.Build.{Build as BuildRow};
 ghost use Rattle.gate_book.specs.Reads.{Answers};
 ghost use Rattle.gate_schema.specs.Shown.{build_shown};
-ghost use Rattle.gate_queries.specs.Asked.{build_of, live_builds};
+ghost use Rattle.gate_queries.specs.Asked.{build_of, builds_between, live_builds};
 ghost use Rattle.gate_queries.specs.Reads.{IsOnlyRead, Opened, Tells};
 ghost use Rattle.gate_queries.specs.Whole.{is_build_row_in_form};
 
 use crate::ahead::ahead_in;
 use crate::columns::{build_in, change_in, flag_in, name_in, number_in, revision_in, serial_in};
+use crate::item_reads::capped;
 use crate::read::read_rows;
 use crate::words::outcome_in;
 use gate_book::fault::BookFault;
 use gate_rows::values;
+use gate_types::names::Name;
 use gate_types::numbers::{BuildNo, Serial};
 use gate_types::records::Build;
 use gate_types::sequence::Sequence;
@@ -99,6 +101,36 @@ pub fn live_builds<S: Alter>(
         "SELECT num, queue, serial, change, revision, job, base, ahead, outcome, live FROM build \
          WHERE serial = ?1 AND live = 1 ORDER BY num",
         &[values::serial(serial)],
+    )?;
+    all_builds(*rows.allocator(), &rows)
+}
+
+/// The live builds of a queue's items with serials above `above` up to `last`, front to back, each item's by number.
+///
+/// `NoMemory` where memory is refused, `Store` where the query fails, `Damaged` where a row isn't in form.
+pub fn builds_between<S: Alter>(
+    conn: &mut Connection<S>,
+    queue: &Name,
+    above: u64,
+    last: Serial,
+) -> Result<Sequence<Build>, BookFault>
+    ensures found { Tells (state S.Store conn.old) (state S.Store conn.new) result (λ b.
+        builds_between b queue.now above last) }
+    ensures opened { Opened (state S.Store conn.old) (state S.Store conn.new) result }
+    ensures only_reads { IsOnlyRead (state S.Store conn.old) (state S.Store conn.new) }
+{
+    // Two bounds on `serial` would have the items of every queue sought between them: `+` hides the lower one.
+    let rows = read_rows(
+        conn,
+        "SELECT build.num, build.queue, build.serial, build.change, build.revision, build.job, build.base, \
+         build.ahead, build.outcome, build.live FROM item, build \
+         WHERE item.queue = ?1 AND +item.serial > ?2 AND item.serial <= ?3 \
+         AND build.serial = item.serial AND build.live = 1 ORDER BY item.serial, build.num",
+        &[
+            values::text(queue.as_str()),
+            capped(above),
+            values::serial(last),
+        ],
     )?;
     all_builds(*rows.allocator(), &rows)
 }

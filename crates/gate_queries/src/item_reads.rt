@@ -3,9 +3,9 @@ ghost use Rattle.std.specs.Prelude.{◌≡◌, ◌<◌, pos, min, false, IfOk, I
 ghost use Rattle.sqlite.specs.Held.{state};
 ghost use Rattle.sqlite.specs.Value.{owned};
 ghost use Rattle.sqlite.specs.declared.types.Value.TheVariants.{Int};
-ghost use Rattle.gate_book.specs.Reads.{first_above, last_below};
+ghost use Rattle.gate_book.specs.Reads.{first_above, first_items_above, last_below};
 ghost use Rattle.gate_rows.specs.Tells.{items_of};
-ghost use Rattle.gate_queries.specs.Asked.{first_needing, item_at, queued_of};
+ghost use Rattle.gate_queries.specs.Asked.{item_at, items_needing, queued_of};
 ghost use Rattle.gate_queries.specs.Reads.{IsOnlyRead, Opened, Tells};
 
 use crate::item_rows::{all_items, first_above, first_below, first_item, first_queued};
@@ -21,7 +21,7 @@ use sqlite::types::ValueRef;
 use sqlite::{Alter, Connection};
 
 /// A number as a parameter; the greatest that a column holds in place of one above it.
-fn capped<'a>(n: u64) -> ValueRef<'a>
+pub(crate) fn capped<'a>(n: u64) -> ValueRef<'a>
     ensures { owned result ≡ Int (pos (min n 9223372036854775807)) }
 {
     number(n.min(9_223_372_036_854_775_807))
@@ -126,29 +126,50 @@ pub fn last_item<S: Alter>(
     first_below(&rows, below)
 }
 
-/// The first item of a queue with a higher serial than `above` whose change needs this one, or None.
+/// The first items of a queue with higher serials than `above`, front to back, no more than `most`.
 ///
-/// `NoMemory` where memory is refused, `Store` where the query fails, `Damaged` where a row isn't in form or its
-/// serial isn't higher.
-pub fn needing<S: Alter>(
+/// `NoMemory` where memory is refused, `Store` where the query fails, `Damaged` where a row isn't in form.
+pub fn next_items<S: Alter>(
     conn: &mut Connection<S>,
     queue: &Name,
-    needed: ChangeNo,
     above: u64,
-) -> Result<Option<Item>, BookFault>
+    most: u32,
+) -> Result<Sequence<Item>, BookFault>
     ensures found { Tells (state S.Store conn.old) (state S.Store conn.new) result (λ b.
-        first_needing b queue.now needed above) }
-    ensures rises { IfOk result (λ found. IfSome found (λ i. above < i.serial)) }
+        first_items_above above most (items_of queue.now b.items)) }
     ensures opened { Opened (state S.Store conn.old) (state S.Store conn.new) result }
     ensures only_reads { IsOnlyRead (state S.Store conn.old) (state S.Store conn.new) }
 {
     let rows = read_rows(
         conn,
         "SELECT serial, queue, change, revision, ahead, failing FROM item \
-         WHERE queue = ?1 AND serial > ?2 AND EXISTS \
-         (SELECT 1 FROM need WHERE need.change = item.change AND need.needed = ?3) \
-         ORDER BY serial LIMIT 1",
+         WHERE queue = ?1 AND serial > ?2 ORDER BY serial LIMIT ?3",
+        &[text(queue.as_str()), capped(above), number(u64::from(most))],
+    )?;
+    all_items(*rows.allocator(), &rows)
+}
+
+/// The items of a queue with higher serials than `above` whose changes need this one, front to back.
+///
+/// `NoMemory` where memory is refused, `Store` where the query fails, `Damaged` where a row isn't in form.
+pub fn needing<S: Alter>(
+    conn: &mut Connection<S>,
+    queue: &Name,
+    needed: ChangeNo,
+    above: u64,
+) -> Result<Sequence<Item>, BookFault>
+    ensures found { Tells (state S.Store conn.old) (state S.Store conn.new) result (λ b.
+        items_needing b queue.now needed above) }
+    ensures opened { Opened (state S.Store conn.old) (state S.Store conn.new) result }
+    ensures only_reads { IsOnlyRead (state S.Store conn.old) (state S.Store conn.new) }
+{
+    // A change may name another twice. `+` hides the queue, so that items are sought by their changes.
+    let rows = read_rows(
+        conn,
+        "SELECT DISTINCT item.serial, item.queue, item.change, item.revision, item.ahead, item.failing \
+         FROM need, item WHERE need.needed = ?3 AND item.change = need.change \
+         AND +item.queue = ?1 AND item.serial > ?2 ORDER BY item.serial",
         &[text(queue.as_str()), capped(above), change(needed)],
     )?;
-    first_above(&rows, above)
+    all_items(*rows.allocator(), &rows)
 }

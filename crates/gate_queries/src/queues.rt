@@ -1,19 +1,16 @@
 //! Reads of queues, by name: the window, how many items, landings and reports there are.
-ghost use Rattle.std.specs.Prelude.{◌≡◌, ℕ, false, nat_le, List, find, length, map, option_map, slice_get, slice_index};
+ghost use Rattle.std.specs.Prelude.{◌≡◌, ℕ, false, nat_le, List, length, map, slice_get, slice_index};
 ghost use Rattle.std.specs.List.{AllPass};
 ghost use Rattle.sqlite.specs.Held.{state};
-ghost use Rattle.gate_types.specs.Names.{same_name};
 ghost use Rattle.gate_book.specs.Reads.{Answers};
 ghost use Rattle.gate_rows.specs.Tells.{items_of};
-ghost use Rattle.gate_schema.specs.Rows.{QueueRow};
-ghost use Rattle.gate_queries.specs.Asked.{landing_before, last_landing, last_report, queue_sizes};
+ghost use Rattle.gate_queries.specs.Asked.{landing_before, last_landing, last_report, window_of};
 ghost use Rattle.gate_queries.specs.Reads.{IsOnlyRead, Opened, Tells};
 ghost use Rattle.gate_queries.specs.Shown.{number_shown};
 
 use crate::columns::number_in;
 use crate::read::read_rows;
 use gate_book::fault::BookFault;
-use gate_book::rows::QueueSizes;
 use gate_rows::values::{serial, text};
 use gate_types::names::Name;
 use gate_types::numbers::Serial;
@@ -47,8 +44,7 @@ fn first_window(rows: &[Row]) -> Result<Option<u32>, BookFault>
 ///
 /// `NoMemory` where memory is refused, `Store` where the query fails, `Damaged` where the window is over 1,000.
 pub fn window<S: Alter>(conn: &mut Connection<S>, queue: &Name) -> Result<Option<u32>, BookFault>
-    ensures found { Tells (state S.Store conn.old) (state S.Store conn.new) result (λ b.
-        option_map (λ (q : QueueRow). q.window) (find (λ (q : QueueRow). same_name q.name queue.now) b.queues)) }
+    ensures found { Tells (state S.Store conn.old) (state S.Store conn.new) result (λ b. window_of b queue.now) }
     ensures opened { Opened (state S.Store conn.old) (state S.Store conn.new) result }
     ensures only_reads { IsOnlyRead (state S.Store conn.old) (state S.Store conn.new) }
 {
@@ -60,8 +56,10 @@ pub fn window<S: Alter>(conn: &mut Connection<S>, queue: &Name) -> Result<Option
     first_window(&rows)
 }
 
-/// How many items a queue has.
-fn item_count<S: Alter>(conn: &mut Connection<S>, queue: &Name) -> Result<u64, BookFault>
+/// How many items a queue has, 0 where there is no such queue.
+///
+/// `NoMemory` where memory is refused, `Store` where the query fails, `Damaged` where the count is no number.
+pub fn item_count<S: Alter>(conn: &mut Connection<S>, queue: &Name) -> Result<u64, BookFault>
     ensures found { Tells (state S.Store conn.old) (state S.Store conn.new) result (λ b.
         length (items_of queue.now b.items)) }
     ensures opened { Opened (state S.Store conn.old) (state S.Store conn.new) result }
@@ -76,7 +74,9 @@ fn item_count<S: Alter>(conn: &mut Connection<S>, queue: &Name) -> Result<u64, B
 }
 
 /// The place of a queue's last landing, 0 where it has none.
-fn last_landing<S: Alter>(conn: &mut Connection<S>, queue: &Name) -> Result<u64, BookFault>
+///
+/// `NoMemory` where memory is refused, `Store` where the query fails, `Damaged` where the place is no number.
+pub fn landing_count<S: Alter>(conn: &mut Connection<S>, queue: &Name) -> Result<u64, BookFault>
     ensures found { Tells (state S.Store conn.old) (state S.Store conn.new) result (λ b. last_landing b queue.now) }
     ensures opened { Opened (state S.Store conn.old) (state S.Store conn.new) result }
     ensures only_reads { IsOnlyRead (state S.Store conn.old) (state S.Store conn.new) }
@@ -124,27 +124,4 @@ pub fn reports<S: Alter>(conn: &mut Connection<S>, queue: &Name) -> Result<u64, 
         &[text(queue.as_str())],
     )?;
     first_number(&rows)
-}
-
-/// The window of the queue of a name, and how many items and landings it has; None where there is no such queue.
-///
-/// `NoMemory` where memory is refused, `Store` where a query fails, `Damaged` where a row isn't in form.
-pub fn queue<S: Alter>(
-    conn: &mut Connection<S>,
-    name: &Name,
-) -> Result<Option<QueueSizes>, BookFault>
-    ensures found { Tells (state S.Store conn.old) (state S.Store conn.new) result (λ b. queue_sizes b name.now) }
-    ensures opened { Opened (state S.Store conn.old) (state S.Store conn.new) result }
-    ensures only_reads { IsOnlyRead (state S.Store conn.old) (state S.Store conn.new) }
-{
-    let Some(window) = window(conn, name)? else {
-        return Ok(None);
-    };
-    let items = item_count(conn, name)?;
-    let landings = last_landing(conn, name)?;
-    Ok(Some(QueueSizes {
-        window,
-        items,
-        landings,
-    }))
 }

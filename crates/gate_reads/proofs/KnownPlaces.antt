@@ -1,10 +1,9 @@
 -- What is known of the place of a row.
-use Rattle.std.proofs.Common.{◌≡◌, ℕ, ◌+◌, true, false, not, ◌&&◌, ◌||◌, Option, Some, None, List, [], ◌∷◌, map, refl, sym, ap, ◌∙◌, subst}
+use Rattle.std.proofs.Common.{◌≡◌, ℕ, ◌+◌, Bool, true, false, not, ◌&&◌, ◌||◌, Option, Some, None, List, [], ◌∷◌, map, refl, sym, ap, ◌∙◌, subst}
 use Rattle.std.specs.Prelude.{◌==◌, filter, find, length, nat_lt, option_map, slice_get, unwrap_or}
 use Rattle.std.specs.Option.{option_map_or}
 use Rattle.std.specs.List.{list_any, list_all}
 use Rattle.gate_types.specs.declared.config.Job.{Job}
-use Rattle.gate_types.specs.declared.records.Build.{Build}
 use Rattle.gate_types.specs.declared.records.Change.{Change}
 use Rattle.gate_types.specs.declared.records.Entry.{Entry}
 use Rattle.gate_types.specs.declared.records.Item.{Item as ItemRow}
@@ -14,7 +13,7 @@ use Rattle.gate_types.specs.declared.records.Stage.TheVariants as stage
 use Rattle.gate_types.specs.Settings.{Settings}
 use Rattle.gate_types.specs.State.{Item, Queue, State, known_change, plan_of, has_change}
 use Rattle.gate_types.specs.Line.{Place, item_entry, landings_below}
-use Rattle.gate_types.specs.Slot.{are_met_by, is_blocked, is_cut, is_waiting_slot}
+use Rattle.gate_types.specs.Slot.{are_met_by, is_blocked, has_failure, is_cut, is_waiting_slot}
 use Rattle.gate_types.specs.Standing.{needs_of, places, all_places}
 use Rattle.gate_types.specs.Choice.{build_for, builds_for}
 use Rattle.gate_types.specs.Rows.{row_of}
@@ -27,7 +26,9 @@ use Rattle.gate_reads.specs.Known.{known_or_closed, need_of}
 use Rattle.gate_book.specs.Reads.{queue_named, landings_in, landings_before, live_builds}
 use Rattle.gate_reads.specs.NextBuild.{with_number}
 use Rattle.gate_queue.specs.Outcomes.{slot_among}
+use Rattle.gate_reads.specs.Parts.{IsTold}
 use Rattle.gate_reads.specs.Places.{IsBehind, are_met_among, build_on}
+use Rattle.gate_reads.specs.declared.due.ToldItem.{ToldItem}
 use Rattle.gate_reads.proofs.OwnBuilds.{all_count, blocked_none, cut_none, cut_is, first_due}
 
 -- ---- a place of a queue
@@ -107,47 +108,65 @@ pub blocked_is : (p : Place) (ahead : List Entry) (needs : List Need) → ahead 
     not (are_met_among ahead needs) ≡ is_blocked p
 blocked_is p ahead needs ea en = ap not ((λ k. are_met_among (ea k) (en k)) ∙ met_is p.ahead p.needs)
 
+-- one that isn't failing isn't
+pub unblocked_at : {c : Settings} {s : State} {name : List ℕ} {ahead : List Entry} {row : ItemRow} {q : Queue}
+    {p : Place} → IsBehind c s name ahead row q p → row.failing ≡ false → is_blocked p ≡ false
+unblocked_at {s = s} {p = p} at e =
+    neither (is_blocked p) (has_failure s.builds p) (sym (ap (λ (r : ItemRow). r.failing) at.row_is) ∙ e)
+  where
+    neither : (a b : Bool) → a || b ≡ false → a ≡ false
+    neither true b h = h
+    neither false b h = refl
+
+-- another is just where a need isn't met
+pub blocked_at : {c : Settings} {s : State} {name : List ℕ} {ahead : List Entry} {row : ItemRow} {q : Queue} {p : Place} →
+    IsBehind c s name ahead row q p → (known : Option Change) (needs : List Need) → known ≡ known_change s row.change →
+    needs ≡ map (need_of s) (known_or_closed known).needs → not (are_met_among ahead needs) ≡ is_blocked p
+blocked_at {c} {s} {row = row} {q = q} {p = p} at known needs k n =
+    blocked_is p _ needs at.ahead_is
+    (needs_at c s q p row known needs (contains_in (places c s q) p at.there) at.row_is k n)
+
 -- ---- the first build that is due of an item
 
--- none, where a need isn't met
-pub none_due : {c : Settings} {s : State} {name : List ℕ} {ahead : List Entry} {row : ItemRow} {q : Queue} {p : Place} →
-    IsBehind c s name ahead row q p → (known : Option Change) (needs : List Need) → known ≡ known_change s row.change →
-    needs ≡ map (need_of s) (known_or_closed known).needs → are_met_among ahead needs ≡ false →
+-- none, where it is cut
+pub none_cut : {c : Settings} {s : State} {name : List ℕ} {ahead : List Entry} {told : ToldItem} {q : Queue} {p : Place} →
+    IsBehind c s name ahead told.row q p → IsTold s told → told.fast && told.row.failing ≡ true →
     slice_get (builds_for s q p) 0 ≡ None
-none_due {c} {s} {name} {ahead} {row} {q} {p} at known needs k n e =
-    let there = contains_in (places c s q) p at.there in
-    blocked_none s q p
-    (sym (blocked_is p ahead needs at.ahead_is (needs_at c s q p row known needs there at.row_is k n)) ∙ ap not e)
+none_cut {c} {s} {name} {told = told} {q = q} {p = p} at t e = by_blocked (is_blocked p) refl
+  where
+    by_blocked : (b : Bool) → is_blocked p ≡ b → slice_get (builds_for s q p) 0 ≡ None
+    by_blocked true b = blocked_none s q p b
+    by_blocked false b =
+        let here = there_too c s name q p at.queue_is (contains_in (places c s q) p at.there) in
+        cut_none s q p (sym (cut_at c s p told.row (plan_of s told.row.serial) here at.row_is refl b)
+        ∙ ap (λ f. f && told.row.failing) (sym t.fast) ∙ e)
 
--- nor where it is cut
-pub none_cut : {c : Settings} {s : State} {name : List ℕ} {ahead : List Entry} {row : ItemRow} {q : Queue} {p : Place} →
-    IsBehind c s name ahead row q p → (known : Option Change) (needs : List Need) (plan : Plan) →
-    known ≡ known_change s row.change → needs ≡ map (need_of s) (known_or_closed known).needs →
-    plan ≡ plan_of s row.serial → are_met_among ahead needs ≡ true → plan.fast && row.failing ≡ true →
+-- that of its first waiting job, where it is neither cut nor blocked
+pub first_is : {c : Settings} {s : State} {name : List ℕ} {ahead : List Entry} {told : ToldItem} {q : Queue} {p : Place} →
+    IsLawful c s → IsBehind c s name ahead told.row q p → IsTold s told → told.fast && told.row.failing ≡ false →
+    is_blocked p ≡ false → slice_get (builds_for s q p) 0 ≡ option_map (build_for (s.counters.build + 1) q p)
+    (find (λ j. is_waiting_slot (slot_among told.builds.now j)) told.jobs.now)
+first_is {c} {s} {name} {told = told} {q = q} {p = p} lawful at t e b =
+    let here = there_too c s name q p at.queue_is (contains_in (places c s q) p at.there) in
+    let plan = plan_of s told.row.serial in
+    first_due s q p told.builds.now told.jobs.now
+    (t.builds ∙ ap (λ (r : ItemRow). live_builds s r.serial) at.row_is)
+    (t.jobs ∙ jobs_at c s p told.row plan here at.row_is refl) (all_count c s lawful p here) b
+    (sym (cut_at c s p told.row plan here at.row_is refl b) ∙ ap (λ f. f && told.row.failing) (sym t.fast) ∙ e)
+
+-- none, where no job waits
+pub none_waits : {c : Settings} {s : State} {name : List ℕ} {ahead : List Entry} {told : ToldItem} {q : Queue} {p : Place} →
+    IsLawful c s → IsBehind c s name ahead told.row q p → IsTold s told → told.fast && told.row.failing ≡ false →
+    find (λ j. is_waiting_slot (slot_among told.builds.now j)) told.jobs.now ≡ None →
     slice_get (builds_for s q p) 0 ≡ None
-none_cut {c} {s} {name} {ahead} {row} {q} {p} at known needs plan k n o e cut =
-    let there = contains_in (places c s q) p at.there in
-    let here = there_too c s name q p at.queue_is there in
-    let unblocked = sym (blocked_is p ahead needs at.ahead_is (needs_at c s q p row known needs there at.row_is k n)) ∙ ap not e in
-    cut_none s q p (sym (cut_at c s p row plan here at.row_is o unblocked) ∙ cut)
+none_waits {c} {s} {told = told} {q = q} {p = p} lawful at t e f = by_blocked (is_blocked p) refl
+  where
+    by_blocked : (b : Bool) → is_blocked p ≡ b → slice_get (builds_for s q p) 0 ≡ None
+    by_blocked true b = blocked_none s q p b
+    by_blocked false b =
+        first_is lawful at t e b ∙ ap (option_map (build_for (s.counters.build + 1) q p)) f
 
--- that of its first waiting job, where all are met
-pub first_is : {c : Settings} {s : State} {name : List ℕ} {ahead : List Entry} {row : ItemRow} {q : Queue} {p : Place} →
-    IsLawful c s → IsBehind c s name ahead row q p → (known : Option Change) (needs : List Need) (builds : List Build)
-    (plan : Plan) (jobs : List Job) → known ≡ known_change s row.change →
-    needs ≡ map (need_of s) (known_or_closed known).needs → builds ≡ live_builds s row.serial →
-    plan ≡ plan_of s row.serial → jobs ≡ plan.jobs →
-    are_met_among ahead needs ≡ true → plan.fast && row.failing ≡ false → slice_get (builds_for s q p) 0
-    ≡ option_map (build_for (s.counters.build + 1) q p) (find (λ j. is_waiting_slot (slot_among builds j)) jobs)
-first_is {c} {s} {name} {ahead} {row} {q} {p} lawful at known needs builds plan jobs k n b o j e u =
-    let there = contains_in (places c s q) p at.there in
-    let here = there_too c s name q p at.queue_is there in
-    let unblocked = sym (blocked_is p ahead needs at.ahead_is (needs_at c s q p row known needs there at.row_is k n)) ∙ ap not e in
-    first_due s q p builds jobs (b ∙ ap (λ (r : ItemRow). live_builds s r.serial) at.row_is)
-    (j ∙ jobs_at c s p row plan here at.row_is o) (all_count c s lawful p here) unblocked
-    (sym (cut_at c s p row plan here at.row_is o unblocked) ∙ u)
-
--- and so it is the build of that job
+-- and it is the build of that job
 pub built_is : {c : Settings} {s : State} {name : List ℕ} {ahead : List Entry} {row : ItemRow} {q : Queue} {p : Place} →
     IsBehind c s name ahead row q p → (number : ℕ) (job : Job) →
     build_on number name ahead row (landings_before s name row.serial) job.name

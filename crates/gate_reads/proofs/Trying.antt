@@ -1,5 +1,5 @@
 -- The items of a queue before the first for which a build is due.
-use Rattle.std.proofs.Common.{◌≡◌, ℕ, zero, suc, ◌-◌, Bool, true, false, ◌||◌, cond, Some, None, List, [], ◌∷◌, ◌++◌, map, take, refl, sym, ap, ◌∙◌, subst, arith, lt-ltb, true≢false}
+use Rattle.std.proofs.Common.{◌≡◌, ℕ, zero, suc, ◌-◌, Bool, true, false, ◌||◌, cond, Some, None, List, [], ◌∷◌, ◌++◌, map, take, refl, sym, ap, ◌∙◌, arith, lt-ltb, true≢false}
 use Rattle.std.specs.Prelude.{◌==◌, nat_lt, if◌then◌else◌, slice_get, option_map}
 use Rattle.std.specs.List.{flat_map}
 use Rattle.std.proofs.lemmas.List.{map-append}
@@ -13,12 +13,7 @@ use Rattle.gate_types.specs.State.{Item, Queue, State}
 use Rattle.gate_types.specs.Line.{Place, item_entry}
 use Rattle.gate_types.specs.Standing.{is_failing, next_ahead, places}
 use Rattle.gate_types.specs.Choice.{builds_for, choices}
-use Rattle.gate_types.specs.Rows.{item_rows}
-use Rattle.gate_laws.proofs.Members.{in_contains}
-use Rattle.gate_book.specs.Reads.{queue_named, first_above}
-use Rattle.gate_reads.specs.NextBuild.{with_number}
-use Rattle.gate_reads.specs.Places.{IsBehind}
-use Rattle.gate_reads.proofs.Walking.{IsLeft, IsNext, place_behind, places_from, step_along, end_along}
+use Rattle.gate_reads.proofs.Walking.{IsLeft, IsNext, place_behind, places_from}
 
 pub first_some : {X : Type 0} (f : X → X) (b : X) (xs ys : List X) → Some b ≡ option_map f (slice_get xs 0) →
     Some b ≡ option_map f (slice_get (xs ++ ys) 0)
@@ -76,26 +71,10 @@ pub tried_closed : (c : Settings) (s : State) (q : Queue) (above left : ℕ) (ah
     Tried c s q above left ahead → is_open q.window left ≡ false → slice_get (choices c s q) 0 ≡ None
 tried_closed c s q above left ahead h e = h.due ∙ none_open s q q.window left (places_from c s q h.items h.rest) e
 
-none_left : (s : State) (q : Queue) (window left : ℕ) →
-    slice_get (flat_map (builds_for s q) (open_places window left [])) 0 ≡ None
-none_left s q window left = by_window (window == 0) left
-  where
-    by_window : (b : Bool) (n : ℕ) → slice_get (flat_map (builds_for s q) (cond b [] (take n []))) 0 ≡ None
-    by_window true n = refl
-    by_window false zero = refl
-    by_window false (suc n) = refl
-
-pub tried_end : (c : Settings) (s : State) (q : Queue) (above left : ℕ) (ahead : List Entry) →
-    Tried c s q above left ahead → first_above above (item_rows c s q) ≡ None → slice_get (choices c s q) 0 ≡ None
-tried_end c s q above left ahead h e =
-    h.due ∙ ap (λ is. slice_get (flat_map (builds_for s q)
-    (open_places q.window left (places_from c s q h.items is))) 0)
-    (end_along c s q above h.items h.rest h.behind e) ∙ none_left s q q.window left
-
 -- ---- the next row
 
 -- the first place that is left, and the others
-open_first : (s : State) (q : Queue) (window left : ℕ) (p : Place) (ps : List Place) → is_open window left ≡ true →
+pub open_first : (s : State) (q : Queue) (window left : ℕ) (p : Place) (ps : List Place) → is_open window left ≡ true →
     flat_map (builds_for s q) (open_places window left (p ∷ ps))
     ≡ builds_for s q p ++ flat_map (builds_for s q) (open_places window (left - 1) ps)
 open_first s q window zero p ps e = by_window (window == 0) e
@@ -114,46 +93,10 @@ open_first s q window (suc left) p ps e =
     by_window true = flat_map-cons (builds_for s q) p ps
     by_window false = flat_map-cons (builds_for s q) p (take left ps)
 
-pub next_row : (c : Settings) (s : State) (q : Queue) (above left : ℕ) (ahead : List Entry) (row : ItemRow) →
-    (h : Tried c s q above left ahead) → first_above above (item_rows c s q) ≡ Some row →
-    IsNext c s q h.items h.rest row
-next_row c s q above left ahead row h e = step_along c s q above h.items h.rest row h.behind e
-
 -- its place
 abbrev pub place_next : {c : Settings} {s : State} {q : Queue} {items rest : List Item} {row : ItemRow} →
     IsNext c s q items rest row → Place
 place_next {c} {s} {q} {items} n = place_behind c s q items n.item
-
-pub behind_next : {c : Settings} {s : State} {q : Queue} {above left : ℕ} {ahead : List Entry} {row : ItemRow}
-    (name : List ℕ) → queue_named s name ≡ Some q → (h : Tried c s q above left ahead) →
-    (n : IsNext c s q h.items h.rest row) → IsBehind c s name ahead row q (place_next n)
-behind_next {c} {s} {q} name e h n = record {
-  queue_is = e;
-  there = in_contains (places c s q) (place_next n) n.there;
-  row_is = n.row_is;
-  ahead_is = h.ahead_is;
-}
-
--- the builds that might start, from here
-tried_from : {c : Settings} {s : State} {q : Queue} {above left : ℕ} {ahead : List Entry} {row : ItemRow} →
-    (h : Tried c s q above left ahead) → (n : IsNext c s q h.items h.rest row) → is_open q.window left ≡ true →
-    slice_get (choices c s q) 0 ≡ slice_get (builds_for s q (place_next n) ++ flat_map (builds_for s q)
-    (open_places q.window (left - 1) (places_from c s q (next_ahead s.builds (place_next n)) n.after))) 0
-tried_from {c} {s} {q} {left = left} h n o =
-    h.due ∙ ap (λ is. slice_get (flat_map (builds_for s q)
-    (open_places q.window left (places_from c s q h.items is))) 0)
-    n.rest_is
-    ∙ ap (λ (bs : List Build). slice_get bs 0)
-    (open_first s q q.window left (place_next n) (places_from c s q (next_ahead s.builds (place_next n)) n.after) o)
-
-pub tried_here : {c : Settings} {s : State} {q : Queue} {above left : ℕ} {ahead : List Entry} {row : ItemRow} →
-    (h : Tried c s q above left ahead) → (n : IsNext c s q h.items h.rest row) → is_open q.window left ≡ true →
-    (number : ℕ) (b : Build) → Some b ≡ option_map (with_number number) (slice_get (builds_for s q (place_next n)) 0) →
-    Some b ≡ option_map (with_number number) (slice_get (choices c s q) 0)
-tried_here {c} {s} {q} {left = left} h n o number b f =
-    first_some (with_number number) b (builds_for s q (place_next n)) (flat_map (builds_for s q)
-    (open_places q.window (left - 1) (places_from c s q (next_ahead s.builds (place_next n)) n.after))) f
-    ∙ ap (option_map (with_number number)) (sym (tried_from h n o))
 
 -- what is ahead of the row behind it
 pub longer_is : (bs : List Build) (p : Place) → map item_entry (next_ahead bs p)
@@ -169,20 +112,3 @@ longer_is bs p = by_failing (is_failing bs p)
 abbrev pub with_row : ItemRow → List Entry → List Entry
 with_row row ahead = if row.failing then ahead else ahead ++ record
     { change = row.change; revision = row.revision } ∷ []
-
-pub tried_next : {c : Settings} {s : State} {q : Queue} {above left : ℕ} {ahead : List Entry} {row : ItemRow} →
-    (h : Tried c s q above left ahead) → (n : IsNext c s q h.items h.rest row) → is_open q.window left ≡ true →
-    (number serial less : ℕ) (longer : List Entry) →
-    None ≡ option_map (with_number number) (slice_get (builds_for s q (place_next n)) 0) →
-    serial ≡ row.serial → less ≡ left - 1 → longer ≡ with_row row ahead → Tried c s q serial less longer
-tried_next {c} {s} {q} {left = left} h n o number serial less longer f es el ea = record {
-  items = next_ahead s.builds (place_next n);
-  rest = n.after;
-  ahead_is = ea ∙ (λ k. with_row (n.row_is k) (h.ahead_is k)) ∙ sym (longer_is s.builds (place_next n));
-  behind = subst (λ m. IsLeft c s q m (next_ahead s.builds (place_next n)) n.after) (sym es) n.left;
-  due = tried_from h n o
-      ∙ first_none (with_number number) (builds_for s q (place_next n)) (flat_map (builds_for s q)
-      (open_places q.window (left - 1) (places_from c s q (next_ahead s.builds (place_next n)) n.after))) f
-      ∙ ap (λ m. slice_get (flat_map (builds_for s q)
-      (open_places q.window m (places_from c s q (next_ahead s.builds (place_next n)) n.after))) 0) (sym el);
-}

@@ -1,6 +1,6 @@
 -- Going along a queue, row by row.
-use Rattle.std.proofs.Common.{◌≡◌, ℕ, suc, ◌≤◌, Bool, true, ◌&&◌, cond, Option, Some, None, List, [], ◌∷◌, map, refl, sym, ap, ◌∙◌, subst, inl, inr, arith, lt-ltb, le-ltb}
-use Rattle.std.specs.Prelude.{length, nat_le, nat_lt}
+use Rattle.std.proofs.Common.{◌≡◌, ℕ, suc, ◌≤◌, Bool, true, false, ◌&&◌, cond, Option, Some, None, List, [], ◌∷◌, map, refl, sym, ap, ◌∙◌, subst, inl, inr, arith, lt-ltb, le-ltb}
+use Rattle.std.specs.Prelude.{filter, find, length, nat_le, nat_lt, slice_get}
 use Rattle.std.specs.List.{list_all}
 use Rattle.std.specs.Option.{option_map_or}
 use Rattle.std.proofs.lemmas.Bool.{leb-true, and_parts}
@@ -18,6 +18,7 @@ use Rattle.gate_laws.proofs.Members.{In, all_from, every, found}
 use Rattle.gate_laws.proofs.Parts.{ItemsRise}
 use Rattle.gate_laws.proofs.Rising.{Rising, rising}
 use Rattle.gate_book.specs.Reads.{queue_named, items_in, first_above}
+use Rattle.gate_reads.proofs.RisingRows.{RiseAbove, rows_above, all_above}
 
 -- the places of what is left of a queue, with these items ahead
 abbrev pub places_from : Settings → State → Queue → List Item → List Item → List Place
@@ -34,8 +35,8 @@ RiseFrom n (i ∷ is) = (n ≤ i.serial) × RiseFrom (suc i.serial) is
 
 -- above this serial is what is left, with these items ahead
 pub record IsLeft (c : Settings) (s : State) (q : Queue) (above : ℕ) (ahead rest : List Item) : Type 0 where
-  pub later : (n : ℕ) → above ≤ n → first_above n (item_rows c s q)
-      ≡ first_above n (map (row_of s.builds) (places_from c s q ahead rest))
+  pub later : (n : ℕ) → above ≤ n → rows_above n (item_rows c s q)
+      ≡ rows_above n (map (row_of s.builds) (places_from c s q ahead rest))
   pub rise : RiseFrom (suc above) rest
   pub within : (p : Place) → In p (places_from c s q ahead rest) → In p (places c s q)
 
@@ -48,32 +49,59 @@ pub record IsNext (c : Settings) (s : State) (q : Queue) (ahead rest : List Item
   pub there : In (place_behind c s q ahead item) (places c s q)
   pub left : IsLeft c s q row.serial (next_ahead s.builds (place_behind c s q ahead item)) after
 
+-- the first of them is what a book tells of
+first_found : {X : Type 0} (t : X → Bool) (xs : List X) → find t xs ≡ slice_get (filter t xs) 0
+first_found t [] = refl
+first_found t (x ∷ xs) = by_test (t x) (first_found t xs)
+  where
+    by_test : (b : Bool) → find t xs ≡ slice_get (filter t xs) 0 →
+        cond b (Some x) (find t xs) ≡ slice_get (cond b (x ∷ filter t xs) (filter t xs)) 0
+    by_test true h = refl
+    by_test false h = h
+
+first_left : {c : Settings} {s : State} {q : Queue} {above : ℕ} {ahead rest : List Item} →
+    IsLeft c s q above ahead rest → first_above above (item_rows c s q)
+    ≡ first_above above (map (row_of s.builds) (places_from c s q ahead rest))
+first_left {c} {s} {q} {above} {ahead} {rest} l =
+    first_found (λ i. nat_lt above i.serial) (item_rows c s q)
+    ∙ ap (λ is. slice_get is 0) (l.later above (omega arith))
+    ∙ sym (first_found (λ i. nat_lt above i.serial) (map (row_of s.builds) (places_from c s q ahead rest)))
+
 above_it : (m n : ℕ) → suc m ≤ n → nat_lt m n ≡ true
 above_it m n h = lt-ltb m n (omega (arith, h))
 
-pub step_along : (c : Settings) (s : State) (q : Queue) (above : ℕ) (ahead rest : List Item) (row : ItemRow) →
-    IsLeft c s q above ahead rest → first_above above (item_rows c s q) ≡ Some row → IsNext c s q ahead rest row
-step_along c s q above ahead [] row l e = absurd (none-some row (sym (l.later above (omega arith)) ∙ e))
-step_along c s q above ahead (i ∷ after) row l e =
+-- behind the first of what is left is the rest of it
+pub left_behind : (c : Settings) (s : State) (q : Queue) (above : ℕ) (ahead after : List Item) (i : Item) →
+    IsLeft c s q above ahead (i ∷ after) →
+    IsLeft c s q i.serial (next_ahead s.builds (place_behind c s q ahead i)) after
+left_behind c s q above ahead after i l =
     let p = place_behind c s q ahead i in
     let from : suc above ≤ i.serial = l.rise.0 in
     let behind = map (row_of s.builds) (places_from c s q (next_ahead s.builds p) after) in
+    record {
+      later = λ n h. l.later n (omega (arith, from, h))
+          ∙ ap (λ t. cond t (row_of s.builds p ∷ rows_above n behind) (rows_above n behind)) (le-ltb n i.serial h);
+      rise = l.rise.1;
+      within = λ r m. l.within r (inr m);
+    }
+
+pub step_along : (c : Settings) (s : State) (q : Queue) (above : ℕ) (ahead rest : List Item) (row : ItemRow) →
+    IsLeft c s q above ahead rest → first_above above (item_rows c s q) ≡ Some row → IsNext c s q ahead rest row
+step_along c s q above ahead [] row l e = absurd (none-some row (sym (first_left l) ∙ e))
+step_along c s q above ahead (i ∷ after) row l e =
+    let p = place_behind c s q ahead i in
+    let behind = map (row_of s.builds) (places_from c s q (next_ahead s.builds p) after) in
     let row_is : row ≡ row_of s.builds p = sym (same_Some (row_of s.builds p) row
-    (sym (ap (λ t. cond t (Some (row_of s.builds p)) (first_above above behind)) (above_it above i.serial from))
-    ∙ sym (l.later above (omega arith)) ∙ e)) in
-    let serial_is : row.serial ≡ i.serial = ap (λ (r : ItemRow). r.serial) row_is in
+    (sym (ap (λ t. cond t (Some (row_of s.builds p)) (first_above above behind)) (above_it above i.serial l.rise.0))
+    ∙ sym (first_left l) ∙ e)) in
     record {
       item = i;
       after = after;
       rest_is = refl;
       row_is = row_is;
       there = l.within p (inl refl);
-      left = record {
-        later = λ n h. l.later n (omega arith)
-            ∙ ap (λ t. cond t (Some (row_of s.builds p)) (first_above n behind)) (le-ltb n i.serial (omega arith));
-        rise = subst (λ n. RiseFrom (suc n) after) (sym serial_is) l.rise.1;
-        within = λ r m. l.within r (inr m);
-      };
+      left = subst (λ n. IsLeft c s q n (next_ahead s.builds p) after)
+          (sym (ap (λ (r : ItemRow). r.serial) row_is)) (left_behind c s q above ahead after i l);
     }
 
 -- where no row is above, nothing is left
@@ -83,8 +111,23 @@ end_along c s q above ahead [] l e = refl
 end_along c s q above ahead (i ∷ after) l e =
     let row = row_of s.builds (place_behind c s q ahead i) in
     let behind = map (row_of s.builds) (places_from c s q (next_ahead s.builds (place_behind c s q ahead i)) after) in
-    absurd (none-some row (sym e ∙ l.later above (omega arith)
+    absurd (none-some row (sym e ∙ first_left l
     ∙ ap (λ t. cond t (Some row) (first_above above behind)) (above_it above i.serial l.rise.0)))
+
+-- ---- the rows that are left
+
+pub rows_rise : (c : Settings) (s : State) (q : Queue) (n : ℕ) (ahead rest : List Item) → RiseFrom (suc n) rest →
+    RiseAbove n (map (row_of s.builds) (places_from c s q ahead rest))
+rows_rise c s q n ahead [] r = tt
+rows_rise c s q n ahead (i ∷ is) r =
+    let from : suc n ≤ i.serial = r.0 in
+    (omega (arith, from), rows_rise c s q i.serial (next_ahead s.builds (place_behind c s q ahead i)) is r.1)
+
+pub rows_left : {c : Settings} {s : State} {q : Queue} {n : ℕ} {ahead rest : List Item} → IsLeft c s q n ahead rest →
+    rows_above n (item_rows c s q) ≡ map (row_of s.builds) (places_from c s q ahead rest)
+rows_left {c} {s} {q} {n} {ahead} {rest} l =
+    l.later n (omega arith) ∙ all_above n n (map (row_of s.builds) (places_from c s q ahead rest)) (omega arith)
+    (rows_rise c s q n ahead rest l.rise)
 
 -- ---- at the front all is left
 
@@ -123,3 +166,13 @@ lawful_front c x h name q e =
     at_front c x.state q
     (rising (λ i. i.serial) q.items (every ItemsRise x.state.queues h.lawful.sound.items_rise q m))
     (item_serials q (every (λ r. is_queue_in_form r ≡ true) x.state.queues h.in_form.state.queues q m))
+
+-- the rows that a book tells of rise
+pub lawful_rise : (c : Settings) (x : Content) → IsLawfulContent c x → (name : List ℕ) →
+    RiseAbove 0 (items_in c x.state name)
+lawful_rise c x h name = by_queue (queue_named x.state name) refl
+  where
+    by_queue : (o : Option Queue) → queue_named x.state name ≡ o →
+        RiseAbove 0 (option_map_or (item_rows c x.state) o [])
+    by_queue None e = tt
+    by_queue (Some q) e = rows_rise c x.state q 0 [] q.items (lawful_front c x h name q e).rise

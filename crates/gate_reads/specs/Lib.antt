@@ -3,3 +3,4 @@ pub mod Standing
 pub mod NextBuild
 pub mod Known
 pub mod Places
+pub mod Parts

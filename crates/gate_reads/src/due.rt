@@ -3,24 +3,34 @@ ghost use Rattle.std.specs.Prelude.{◌≡◌, ◌&&◌, ◌==◌, IfOk, IfErr, 
 ghost use Rattle.std.specs.List.{list_any};
 ghost use Rattle.gate_types.specs.State.{Queue};
 ghost use Rattle.gate_types.specs.Line.{Place};
+ghost use Rattle.gate_types.specs.Slot.{is_blocked};
 ghost use Rattle.gate_types.specs.Choice.{builds_for};
 ghost use Rattle.gate_book.specs.Faults.{MayAnswer};
 ghost use Rattle.gate_book.specs.Kept.{OfHeld, OfHeldUnder, IsKept};
 ghost use Rattle.gate_book.specs.Reads.{landings_before};
 ghost use Rattle.gate_reads.specs.NextBuild.{with_number};
+ghost use Rattle.gate_reads.specs.Parts.{IsTold};
 ghost use Rattle.gate_reads.specs.Places.{IsBehind, are_met_among, build_on};
 
 use crate::jobs::first_waiting;
 use crate::known::needs_of;
 use gate_book::book::Book;
 use gate_book::fault::BookFault;
-use gate_book::planned::plan_of;
 use gate_types::config::{Config, Job};
 use gate_types::names::Name;
 use gate_types::numbers::{BuildNo, ChangeNo};
-use gate_types::records::{Build, Entry, Item, Need, Outcome, Plan};
+use gate_types::records::{Build, Entry, Item, Need, Outcome};
 use gate_types::sequence::Sequence;
 use std::alloc::Global;
+
+/// An item as a book tells of it: its row, the jobs of its plan, whether one failure ends them all, its live builds.
+#[derive(Clone, Copy)]
+pub(crate) struct ToldItem<'a> {
+    pub row: Item,
+    pub jobs: &'a [Job],
+    pub fast: bool,
+    pub builds: &'a [Build],
+}
 
 fn has_change(ahead: &[Entry], change: ChangeNo) -> bool
     ensures { result ≡ list_any (λ e. e.change == change) ahead.now }
@@ -71,10 +81,33 @@ fn build_on<B: Book>(
 }
 
 /// Whether an item that isn't blocked is cut: it fails, and is to fail fast.
-fn is_cut(plan: &Plan, item: &Item) -> bool
-    ensures { result ≡ plan.now.fast && item.now.failing }
+fn is_cut(told: &ToldItem) -> bool
+    ensures { result ≡ told.now.fast && told.now.row.failing }
 {
-    plan.fast && item.failing
+    told.fast && told.row.failing
+}
+
+/// Whether an item with these changes ahead is blocked. Only a failing one can be: the needs of others aren't read.
+fn is_blocked<B: Book>(
+    alloc: Global,
+    book: &mut B,
+    config: &Config,
+    queue: &Name,
+    ahead: &Sequence<Entry>,
+    item: &Item,
+) -> Result<bool, BookFault>
+    ensures found { OfHeldUnder B.IsTrusted B.Holds book.old book.new config.now (λ x. (q : Queue) (p : Place) →
+        IsBehind config.now x.state queue.now ahead.now item.now q p →
+        IfOk result (λ blocked. blocked ≡ is_blocked p)) }
+    ensures kept { IsKept B.IsTrusted B.Holds B.LeavesOneOf book.old book.new }
+    ensures fault { IfErr result (MayAnswer B.MayFault) }
+{
+    if !item.failing {
+        return Ok(false);
+    }
+    let known = book.change(item.change)?;
+    let needs = needs_of(alloc, book, &known)?;
+    Ok(!are_met_among(ahead.as_slice(), &needs))
 }
 
 /// The build of the first waiting job of an item with these changes ahead, unless it is blocked or cut.
@@ -85,26 +118,22 @@ pub(crate) fn build_of_item<B: Book>(
     queue: &Name,
     number: BuildNo,
     ahead: &Sequence<Entry>,
-    item: &Item,
+    told: &ToldItem,
 ) -> Result<Option<Build>, BookFault>
     ensures found { OfHeldUnder B.IsTrusted B.Holds book.old book.new config.now (λ x. (q : Queue) (p : Place) →
-        IsBehind config.now x.state queue.now ahead.now item.now q p →
+        IsBehind config.now x.state queue.now ahead.now told.now.row q p → IsTold x.state told.now →
         IfOk result (λ found. found ≡ option_map (with_number number) (slice_get (builds_for x.state q p) 0))) }
     ensures kept { IsKept B.IsTrusted B.Holds B.LeavesOneOf book.old book.new }
     ensures fault { IfErr result (MayAnswer B.MayFault) }
 {
-    let known = book.change(item.change)?;
-    let needs = needs_of(alloc, book, &known)?;
-    if !are_met_among(ahead.as_slice(), &needs) {
+    if is_cut(told) {
         return Ok(None);
     }
-    let plan = plan_of(alloc, book, item.serial)?;
-    if is_cut(&plan, item) {
+    let Some(job) = first_waiting(alloc, told.builds, told.jobs)? else {
+        return Ok(None);
+    };
+    if is_blocked(alloc, book, config, queue, ahead, &told.row)? {
         return Ok(None);
     }
-    let builds = book.live_builds(item.serial)?;
-    match first_waiting(alloc, builds.as_slice(), plan.jobs.as_slice())? {
-        Some(job) => Ok(Some(build_on(book, queue, number, ahead, item, job)?)),
-        None => Ok(None),
-    }
+    Ok(Some(build_on(book, queue, number, ahead, &told.row, job)?))
 }

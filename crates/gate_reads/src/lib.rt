@@ -1,5 +1,5 @@
 //! What a gate asks of a book by key: the build that is due, the orders that are shown, where a change stands. No queue
-//! is loaded: items are gone through one after another, no further than the rule needs.
+//! is loaded: items are gone through one after another or part by part, no further than the rule needs.
 //!
 //! ```text
 //! let build = next_build(alloc, book, &config, number)?;
@@ -13,5 +13,6 @@ mod jobs;
 pub mod known;
 pub mod next_build;
 pub mod orders;
+mod part;
 mod shown;
 pub mod standing;

@@ -1,5 +1,5 @@
 //! The build that a worker is given next.
-ghost use Rattle.std.specs.Prelude.{◌≡◌, ◌==◌, ◌||◌, ◌++◌, ◌∷◌, [], nat_lt, IfOk, IfErr, OnOk, Some, if◌then◌else◌, option_map, slice_get};
+ghost use Rattle.std.specs.Prelude.{◌≡◌, ◌==◌, ◌||◌, ◌++◌, ◌∷◌, [], nat_lt, IfOk, IfErr, OnOk, Some, if◌then◌else◌, option_map, slice_get, length};
 ghost use Rattle.gate_types.specs.State.{Queue};
 ghost use Rattle.gate_types.specs.Choice.{choices, choose};
 ghost use Rattle.gate_book.specs.Faults.{MayAnswer};
@@ -7,7 +7,7 @@ ghost use Rattle.gate_book.specs.Kept.{OfHeldUnder, IsKept};
 ghost use Rattle.gate_book.specs.Reads.{queue_named};
 ghost use Rattle.gate_reads.specs.NextBuild.{with_number};
 
-use crate::due::build_of_item;
+use crate::part::{Part, build_of_part, read_part, size_of_part};
 use gate_book::book::Book;
 use gate_book::fault::BookFault;
 use gate_types::config::Config;
@@ -39,6 +39,13 @@ pub fn push_unless_failing(ahead: &mut Sequence<Entry>, item: &Item) -> Result<(
     Ok(())
 }
 
+/// Whether the queue has no item behind a part, since more than it has were asked for.
+fn is_short(part: &Part, most: u32) -> bool
+    ensures { result ≡ nat_lt (length part.now.items) most }
+{
+    (part.items.as_slice().len() as u64) < most as u64
+}
+
 /// The first build that is due in a queue of this window.
 fn first_build<B: Book>(
     alloc: Global,
@@ -58,15 +65,18 @@ fn first_build<B: Book>(
     let mut above = 0;
     let mut left = window;
     'along: while is_open(window, left) {
-        let Some(item) = book.next_item(queue, above)? else {
+        let most = size_of_part(window, left);
+        let Some(part) = read_part(book, queue, above, most)? else {
             return Ok(None);
         };
-        if let Some(build) = build_of_item(alloc, book, config, queue, number, &ahead, &item)? {
+        if let Some(build) = build_of_part(alloc, book, config, queue, number, &mut ahead, &part)? {
             return Ok(Some(build));
         }
-        push_unless_failing(&mut ahead, &item)?;
-        above = item.serial.get();
-        left = left.saturating_sub(1);
+        if is_short(&part, most) {
+            return Ok(None);
+        }
+        above = part.last.get();
+        left = left.saturating_sub(most);
     }
     Ok(None)
 }
@@ -84,8 +94,8 @@ fn build_of_queue<B: Book>(
     ensures kept { IsKept B.IsTrusted B.Holds B.LeavesOneOf book.old book.new }
     ensures fault { IfErr result (MayAnswer B.MayFault) }
 {
-    match book.queue(queue)? {
-        Some(sizes) => first_build(alloc, book, config, queue, sizes.window, number),
+    match book.window(queue)? {
+        Some(window) => first_build(alloc, book, config, queue, window, number),
         None => Ok(None),
     }
 }

@@ -1,7 +1,8 @@
 -- The rows that other rows of a sound state name are there.
 use Rattle.std.proofs.Common.{◌≡◌, ℕ, true, ◌&&◌, Option, Some, None, List, [], map, refl, sym, ap, ◌∙◌, true≢false}
-use Rattle.std.specs.Prelude.{◌==◌, find, option_map, unwrap_or}
+use Rattle.std.specs.Prelude.{◌==◌, find, length, option_map, unwrap_or}
 use Rattle.std.specs.List.{AllPass}
+use Rattle.std.specs.Option.{option_map_or}
 use Rattle.std.proofs.lemmas.Bool.{and_parts}
 use Rattle.std.proofs.lemmas.Option.{none-some}
 use Rattle.gate_types.specs.declared.records.Build.{Build}
@@ -17,7 +18,7 @@ use Rattle.gate_types.specs.Step.{build_of}
 use Rattle.gate_types.specs.Rows.{item_of, row_of, item_rows}
 use Rattle.gate_types.specs.Lawful.{IsSound, is_sound_item, is_sound_build}
 use Rattle.gate_book.specs.declared.rows.QueuedItem.{QueuedItem}
-use Rattle.gate_book.specs.Reads.{queue_named, queued_items, item_at, sizes_of}
+use Rattle.gate_book.specs.Reads.{queue_named, queued_items, item_at, window_of, landing_count}
 use Rattle.gate_laws.proofs.Members.{every, found, not_found, to_flat, to_map}
 use Rattle.gate_laws.proofs.Facts.{build_facts}
 use Rattle.gate_laws.proofs.Places.{place_of_item}
@@ -37,10 +38,20 @@ change_there c s name row sound h none =
     (same_name (project_of c s row.change).queue h.queue.name) passes).0).0 in
     true≢false (sym opens ∙ ap (λ k. is_open (unwrap_or k unknown)) none)
 
--- the queue of a stored row has sizes
-pub sizes_there : (c : Settings) (s : State) (name : List ℕ) (row : ItemRow) → Stored c s name row →
-    option_map sizes_of (queue_named s name) ≡ None → ⊥
-sizes_there c s name row h none = none-some (sizes_of h.queue) (sym none ∙ ap (option_map sizes_of) h.first)
+-- the queue of a stored row has this window
+pub window_stored : {c : Settings} {s : State} {name : List ℕ} {row : ItemRow} (h : Stored c s name row) →
+    window_of s name ≡ Some h.queue.window
+window_stored h = ap (option_map (λ (q : Queue). q.window)) h.first
+
+-- so it has one
+pub window_there : (c : Settings) (s : State) (name : List ℕ) (row : ItemRow) → Stored c s name row →
+    window_of s name ≡ None → ⊥
+window_there c s name row h none = none-some h.queue.window (sym none ∙ window_stored h)
+
+-- its landings are those that are counted
+pub landings_stored : {c : Settings} {s : State} {name : List ℕ} {row : ItemRow} (h : Stored c s name row) →
+    landing_count s name ≡ length h.queue.landings
+landings_stored h = ap (λ o. length (option_map_or (λ (q : Queue). q.landings) o [])) h.first
 
 -- the item of a live running build has a row
 pub item_there : (c : Settings) (s : State) (n : ℕ) (b : Build) → IsSound c s → build_of s n ≡ Some b →

@@ -24,7 +24,7 @@ use Rattle.gate_walk.specs.Rescan.{TakenOut, start, fails_at}
 use Rattle.gate_walk.specs.TakenOut.{out_of}
 use Rattle.gate_walk.specs.Delivery.{touch_of, out_by}
 use Rattle.gate_walk.specs.UnderWay.{IsFor, queue_after}
-use Rattle.gate_book.specs.Reads.{queue_named, sizes_of, reports_in}
+use Rattle.gate_book.specs.Reads.{window_of, reports_in}
 use Rattle.gate_raw.specs.Touches.{event_of}
 use Rattle.gate_raw.specs.declared.touched.Event.{Event}
 use Rattle.gate_raw.specs.declared.touched.TouchedItem.{TouchedItem}
@@ -52,9 +52,9 @@ set_there {c = c} {x = x} {k = k} h none =
     ∙ not_found (λ (q : QueueSetting). same_name q.name k.queue) c.queues none r.0 r.1)
 
 -- and in the state
-pub sizes_are : {c : Settings} {x : Content} {k : TouchedItem} (h : Touching c x k) →
-    option_map sizes_of (queue_named x.state k.queue) ≡ Some (sizes_of h.queue)
-sizes_are h = ap (option_map sizes_of) (queue_is h)
+pub window_is : {c : Settings} {x : Content} {k : TouchedItem} (h : Touching c x k) →
+    window_of x.state k.queue ≡ Some h.queue.window
+window_is h = ap (option_map (λ q. q.window)) (queue_is h)
 
 pub reports_are : {c : Settings} {x : Content} {k : TouchedItem} (h : Touching c x k) →
     reports_in x.state k.queue ≡ length h.queue.reports

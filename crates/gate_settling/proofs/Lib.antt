@@ -13,6 +13,8 @@ pub mod StandingLemmas
 pub mod SeenLemmas
 -- the row that a walk wants
 pub mod WantedLemmas
+-- who needs what has gone
+pub mod NeedingLemmas
 pub mod KeptLemmas
 -- the plans that a walk's edits drop
 pub mod DroppedPlans

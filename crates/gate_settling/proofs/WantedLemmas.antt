@@ -1,13 +1,12 @@
 -- The row that a walk wants is the one that is read by key.
-use Rattle.std.proofs.Common.{◌≡◌, ℕ, suc, ◌-◌, ◌<◌, ◌≤◌, Bool, true, false, not, ◌&&◌, ◌||◌, cond, Option, Some, None, List, [], ◌∷◌, ◌++◌, inl, inr, refl, sym, ap, ◌∙◌, subst, arith, true≢false}
+use Rattle.std.proofs.Common.{◌≡◌, ℕ, suc, ◌-◌, ◌<◌, ◌≤◌, Bool, true, false, not, ◌&&◌, cond, Option, Some, None, List, [], ◌∷◌, inl, inr, refl, sym, ap, ◌∙◌, subst, arith, true≢false}
 use Rattle.std.specs.Prelude.{◌==◌, nat_lt, nat_le, find, option_map, IfSome}
 use Rattle.std.specs.List.{list_any}
 use Rattle.std.specs.Option.{option_map_or}
-use Rattle.std.proofs.lemmas.Bool.{and_parts, and_from, eq-eqb, ne_eqb, lt-ltb, ltb-true, ltb-false, le-leb, le-ltb, leb-true}
-use Rattle.std.proofs.lemmas.List.Folds.{list_any-append}
+use Rattle.std.proofs.lemmas.Bool.{and_parts, and_from, eq-eqb, ne_eqb, lt-ltb, ltb-true, ltb-false, le-leb, leb-true}
 use Rattle.gate_types.specs.declared.records.Item.{Item as ItemRow}
 use Rattle.gate_types.specs.Settings.{Settings}
-use Rattle.gate_types.specs.State.{Queue, State, known_change, change_of}
+use Rattle.gate_types.specs.State.{Queue, State, known_change}
 use Rattle.gate_types.specs.Lawful.{IsSound}
 use Rattle.gate_types.specs.Rows.{item_rows}
 use Rattle.gate_types.specs.Once.{Content}
@@ -17,7 +16,7 @@ use Rattle.gate_walk.specs.Walk.{SeenNeed, Seen, Walk, is_gone, needs_gone}
 use Rattle.gate_walk.specs.Next.{Next, from, go, need, stop, wanted}
 use Rattle.gate_walk.specs.Views.{next_of_code}
 use Rattle.gate_walk.specs.UnderWay.{stale_rows, rows_seen, next_by, row_wanted, Starts, GoesOn}
-use Rattle.gate_book.specs.Reads.{queue_named, items_in, first_above, first_needing}
+use Rattle.gate_book.specs.Reads.{queue_named, items_in, first_above}
 use Rattle.gate_raw.specs.declared.touched.TouchedItem.{TouchedItem}
 use Rattle.gate_laws.proofs.Members.{In, every, from_map, found}
 use Rattle.gate_laws.proofs.Parts.{ItemsRise}
@@ -27,8 +26,8 @@ use Rattle.gate_queue.proofs.Ordered.{RiseFrom, row_serial, rises}
 use Rattle.gate_walk.proofs.Visits.{stored_rise}
 use Rattle.gate_walk.proofs.Swept.{items_rise}
 use Rattle.gate_settling.specs.Touching.{Touching, delivered, sees, IsUnderWay}
-use Rattle.gate_settling.specs.Rows.{is_out, need_now, needs_known, first_behind, is_needing, first_needing_any, earlier, row_for, IsFrom, IsAbove}
-use Rattle.gate_settling.proofs.ListLemmas.{same_bool, and_false, or_false, find_same, find_kept, any_map, any_swapped}
+use Rattle.gate_settling.specs.Rows.{is_out, need_now, needs_known, first_behind, is_needing, row_for, IsFrom, IsAbove}
+use Rattle.gate_settling.proofs.ListLemmas.{same_bool, and_false, find_same, find_kept, any_map, any_swapped}
 use Rattle.gate_settling.proofs.StandingLemmas.{items_are, serial_is_drawn, stands, stale_are, in_stale}
 use Rattle.gate_settling.proofs.SeenLemmas.{needs_of_change, seen_now}
 
@@ -172,9 +171,9 @@ goes_under_way h old new r vs next row g f l e =
           ∙ wanted_is h new.carry.gone r.serial next f l ∙ ap (option_map (sees h)) (sym e);
     }
 
--- ---- the first row that needs one of several changes
+-- ---- the rows of a queue
 
-low_in : (n : ℕ) (rows : List ItemRow) → RiseFrom row_serial n rows → (r : ItemRow) → In r rows → n ≤ r.serial
+pub low_in : (n : ℕ) (rows : List ItemRow) → RiseFrom row_serial n rows → (r : ItemRow) → In r rows → n ≤ r.serial
 low_in n [] h r m = absurd m
 low_in n (y ∷ rows) h r m =
     let low : n ≤ y.serial = h.0 in
@@ -182,60 +181,6 @@ low_in n (y ∷ rows) h r m =
       | inl e ↦ subst (λ (z : ItemRow). n ≤ z.serial) e low
       | inr o ↦ (let more : suc y.serial ≤ r.serial = low_in (suc y.serial) rows h.1 r o in omega (arith, low, more))
     ]
-
-same_cond : {X : Type 0} (b : Bool) (x : X) → cond b x x ≡ x
-same_cond true x = refl
-same_cond false x = refl
-
--- of rows that rise, the first that passes one of two tests
-first_of_either : (a b : ItemRow → Bool) (n : ℕ) (rows : List ItemRow) → RiseFrom row_serial n rows →
-    find (λ r. a r || b r) rows ≡ earlier (find a rows) (find b rows)
-first_of_either a b n [] h = refl
-first_of_either a b n (y ∷ rows) h = by_both (a y) (b y) (first_of_either a b (suc y.serial) rows h.1)
-  where
-    behind : (r : ItemRow) → In r rows → y.serial < r.serial
-    behind r m = let more = low_in (suc y.serial) rows h.1 r m in omega (arith, more)
-
-    first_stays : (f : Option ItemRow) → find b rows ≡ f → earlier (Some y) f ≡ Some y
-    first_stays None e = refl
-    first_stays (Some r) e =
-        let more = behind r (found b rows r e).0 in
-        ap (λ t. cond t (Some r) (Some y)) (le-ltb r.serial y.serial (omega (arith, more)))
-
-    first_comes : (f : Option ItemRow) → find a rows ≡ f → earlier f (Some y) ≡ Some y
-    first_comes None e = refl
-    first_comes (Some r) e =
-        ap (λ t. cond t (Some y) (Some r)) (lt-ltb y.serial r.serial (behind r (found a rows r e).0))
-
-    by_both : (s t : Bool) → find (λ r. a r || b r) rows ≡ earlier (find a rows) (find b rows) →
-        cond (s || t) (Some y) (find (λ r. a r || b r) rows)
-        ≡ earlier (cond s (Some y) (find a rows)) (cond t (Some y) (find b rows))
-    by_both true true rest = sym (same_cond (nat_lt y.serial y.serial) (Some y))
-    by_both true false rest = sym (first_stays (find b rows) refl)
-    by_both false true rest = sym (first_comes (find a rows) refl)
-    by_both false false rest = rest
-
--- one change more
-pub needing_more : (s : State) (gone : List ℕ) (g n : ℕ) (rows : List ItemRow) → RiseFrom row_serial 0 rows →
-    first_needing_any s (gone ++ g ∷ []) n rows
-    ≡ earlier (first_needing_any s gone n rows) (first_needing s g n rows)
-needing_more s gone g n rows h =
-    find_same _ (λ (r : ItemRow). nat_lt n r.serial && is_needing s gone r || nat_lt n r.serial && needs r g) rows
-    (λ r m. by_lt r (nat_lt n r.serial))
-    ∙ first_of_either (λ r. nat_lt n r.serial && is_needing s gone r) (λ r. nat_lt n r.serial && needs r g) 0 rows h
-  where
-    needs : ItemRow → ℕ → Bool
-    needs r k = list_any (λ m. m == k) (change_of s r.change).needs
-
-    by_lt : (r : ItemRow) (b : Bool) →
-        b && is_needing s (gone ++ g ∷ []) r ≡ (b && is_needing s gone r || b && needs r g)
-    by_lt r true = list_any-append (needs r) gone (g ∷ []) ∙ ap (λ t. is_needing s gone r || t) (or_false (needs r g))
-    by_lt r false = refl
-
-pub none_needing : (s : State) (n : ℕ) (rows : List ItemRow) → first_needing_any s [] n rows ≡ None
-none_needing s n [] = refl
-none_needing s n (r ∷ rows) = ap (λ b. cond b (Some r) (first_needing_any s [] n rows)) (and_false (nat_lt n r.serial))
-    ∙ none_needing s n rows
 
 -- the rows of a queue rise
 pub items_in_rise : (c : Settings) (s : State) → IsSound c s → (name : List ℕ) →
@@ -248,16 +193,6 @@ items_in_rise c s sound name = by_queue (queue_named s name) refl
         let there = found _ s.queues q e in
         stored_rise c s q (items_rise c s q q.items 0
         (rises (λ j. j.serial) q.items (every ItemsRise s.queues sound.items_rise q there.0)))
-
-pub earlier_above : (n : ℕ) (a b : Option ItemRow) → IfSome a (λ r. n < r.serial) → IfSome b (λ r. n < r.serial) →
-    IfSome (earlier a b) (λ r. n < r.serial)
-earlier_above n None b h k = k
-earlier_above n (Some a) None h k = h
-earlier_above n (Some a) (Some b) h k = by_test (nat_lt b.serial a.serial)
-  where
-    by_test : (t : Bool) → IfSome (cond t (Some b) (Some a)) (λ (r : ItemRow). n < r.serial)
-    by_test true = k
-    by_test false = h
 
 -- ---- serials rise
 

@@ -1,5 +1,5 @@
 -- What is read by key of the rows that a walk asks for, with what the delivery makes of it.
-use Rattle.std.specs.Prelude.{ℕ, Bool, true, false, ◌&&◌, ◌||◌, not, ◌==◌, nat_lt, ◌≡◌, ◌<◌, ◌+◌, ◌-◌, if◌then◌else◌, List, [], map, Option, Some, None, find}
+use Rattle.std.specs.Prelude.{ℕ, Bool, true, false, ◌&&◌, ◌||◌, not, ◌==◌, nat_lt, ◌≡◌, ◌<◌, ◌≤◌, ◌+◌, ◌-◌, if◌then◌else◌, List, [], ◌∷◌, map, filter, take, length, Option, Some, None, find}
 use Rattle.std.specs.List.{list_any}
 use Rattle.std.specs.Option.{option_map_or}
 use Rattle.gate_types.specs.declared.records.Change.{Change}
@@ -107,12 +107,6 @@ is_needing s gone r = list_any (λ n. list_any (λ m. m == n) (change_of s r.cha
 abbrev pub first_needing_any : State → List ℕ → ℕ → List ItemRow → Option ItemRow
 first_needing_any s gone serial rows = find (λ r. nat_lt serial r.serial && is_needing s gone r) rows
 
--- of two rows the one of the lower serial
-abbrev pub earlier : Option ItemRow → Option ItemRow → Option ItemRow
-earlier None b = b
-earlier (Some a) None = Some a
-earlier (Some a) (Some b) = if nat_lt b.serial a.serial then Some b else Some a
-
 -- the row that is wanted next
 abbrev pub row_for : Settings → State → List ℕ → List ℕ → Next → Option ItemRow
 row_for c s name gone (next.Go n) = first_above n (items_in c s name)
@@ -130,3 +124,28 @@ abbrev pub IsAbove : ℕ → Next → Type 0
 IsAbove n (next.Go m) = m < n
 IsAbove n (next.Need m) = m < n
 IsAbove n next.Stop = ⊥
+
+-- ---- the rows that are kept
+
+-- the rows above a serial whose change needs one of these
+abbrev pub needing_any : State → List ℕ → ℕ → List ItemRow → List ItemRow
+needing_any s gone serial rows = filter (λ r. nat_lt serial r.serial && is_needing s gone r) rows
+
+-- a row before others, joined with rows, where `join` joins those others
+abbrev pub joined_behind : ItemRow → (List ItemRow → List ItemRow) → List ItemRow → List ItemRow
+joined_behind a join [] = a ∷ join []
+joined_behind a join (b ∷ bs) = if nat_lt b.serial a.serial then b ∷ joined_behind a join bs
+    else (if b.serial == a.serial then a ∷ join bs else a ∷ join (b ∷ bs))
+
+-- the rows of two lists by their serials, a row of both once
+abbrev pub joined : List ItemRow → List ItemRow → List ItemRow
+joined [] bs = bs
+joined (a ∷ rest) bs = joined_behind a (joined rest) bs
+
+-- of a queue's rows those are kept that lie above a serial, no higher than this one, and whose change needs one of the
+-- first changes that have gone, as many as were asked about
+pub record AreKept (s : State) (gone : List ℕ) (limit : ℕ) (items kept : List ItemRow) (asked : ℕ) : Type 0 where
+  pub above : ℕ
+  pub no_higher : above ≤ limit
+  pub rows : kept ≡ needing_any s (take asked gone) above items
+  pub were_asked : asked ≤ length gone

@@ -84,7 +84,7 @@ pub(crate) fn begun<B: Book>(
     let Some(settings) = queue_named(config, &touched.queue) else {
         return Ok(None);
     };
-    let Some(sizes) = book.queue(&touched.queue)? else {
+    let Some(window) = book.window(&touched.queue)? else {
         return Ok(None);
     };
     let before = book.reports(&touched.queue)?;
@@ -98,7 +98,7 @@ pub(crate) fn begun<B: Book>(
     };
     let facts = QueueFacts {
         settings,
-        window: window_now(touched.event, settings, sizes.window),
+        window: window_now(touched.event, settings, window),
         reports,
     };
     Ok(Some(Walk::start(alloc, facts, starting_point(touched))?))

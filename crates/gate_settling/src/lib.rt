@@ -3,8 +3,8 @@
 //!
 //! - `settling::settling` is what the gate calls: its edits, behind those of the delivery, lead to the state after a
 //!   rebase and a sweep of all queues.
-//! - `begun` begins the walk; `walking` makes its visits, one after another; `wanted` finds the row that it asks for;
-//!   `rows` reads what a visit is given.
+//! - `begun` begins the walk; `walking` makes its visits, one after another; `wanted` finds the row that it asks for,
+//!   and `needing` keeps who needs what has gone; `rows` reads what a visit is given.
 //!
 //! ```text
 //! let edits = settling(alloc, book, &config, &touched)?;
@@ -14,6 +14,7 @@
 #![tactic(auto)]
 
 mod begun;
+mod needing;
 mod rows;
 pub mod settling;
 mod walking;

@@ -7,6 +7,7 @@ ghost use Rattle.gate_settling.specs.Rows as rows;
 ghost use Rattle.gate_settling.specs.Touching.{Touching, delivered, sees, IsWalked};
 ghost use Rattle.gate_book.specs.Faults.{MayAnswer};
 
+use crate::needing::Needing;
 use crate::rows::facts_now;
 use crate::wanted::{first_wanted, wanted};
 use gate_book::book::Book;
@@ -60,10 +61,11 @@ pub(crate) fn walked<B: Book>(
     ensures fault { IfErr result (MayAnswer B.MayFault) }
 {
     let mut walk = begun;
+    let mut needing = Needing::none(alloc);
     let mut next = first_wanted(book, touched)?;
     while let Some(row) = next {
         let asks = visited(alloc, book, config, touched, &mut walk, row)?;
-        next = wanted(book, &touched.queue, walk.gone(), asks)?;
+        next = wanted(alloc, book, &touched.queue, walk.gone(), asks, &mut needing)?;
     }
     walk.visit(alloc, None)?;
     Ok(walk)

@@ -1,5 +1,5 @@
 -- When what the file's tables hold answers each read as a content does.
-use Rattle.std.specs.Prelude.{◌≡◌, ℕ, List, option_map}
+use Rattle.std.specs.Prelude.{◌≡◌, ℕ, List}
 use Rattle.gate_types.specs.Once.{Content}
 use Rattle.gate_types.specs.Settings.{Settings}
 use Rattle.gate_types.specs.State.{known_change}
@@ -18,9 +18,9 @@ pub record IsAnsweredBy (b : Stored) (c : Settings) (x : Content) : Type 0 where
   pub item : (serial : ℕ) → file.item_at b serial ≡ content.item_at c x.state serial
   -- the item of a change, with its queue's name
   pub queued : (n : ℕ) → file.queued_of b n ≡ content.queued_of c x.state n
-  -- the first item of a queue above a serial whose change needs another
+  -- the items of a queue above a serial whose changes need another
   pub needing : (name : List ℕ) (n serial : ℕ) →
-      file.first_needing b name n serial ≡ content.first_needing x.state n serial (content.items_in c x.state name)
+      file.items_needing b name n serial ≡ content.items_needing x.state n serial (content.items_in c x.state name)
   -- what is known of a change
   pub change : (n : ℕ) → file.known_change b n ≡ known_change x.state n
   -- the changes that are ready, in order of approval
@@ -31,9 +31,16 @@ pub record IsAnsweredBy (b : Stored) (c : Settings) (x : Content) : Type 0 where
   pub plan : (serial : ℕ) → file.plan_at b serial ≡ content.plan_at x.state serial
   -- the live builds of a serial
   pub live_builds : (serial : ℕ) → file.live_builds b serial ≡ content.live_builds x.state serial
-  -- the window of a queue, and how many items and landings it has
-  pub queue : (name : List ℕ) →
-      file.queue_sizes b name ≡ option_map content.sizes_of (content.queue_named x.state name)
+  -- the plans of the items of a queue above one serial, up to another
+  pub plans_between : (name : List ℕ) (above last : ℕ) → file.plans_between b name above last ≡
+      content.plans_of_items x.state (content.items_between above last (content.items_in c x.state name))
+  -- their live builds
+  pub builds_between : (name : List ℕ) (above last : ℕ) → file.builds_between b name above last ≡
+      content.builds_of_items x.state (content.items_between above last (content.items_in c x.state name))
+  -- the window of a queue
+  pub window : (name : List ℕ) → file.window_of b name ≡ content.window_of x.state name
+  -- how many landings it has
+  pub landing_count : (name : List ℕ) → file.last_landing b name ≡ content.landing_count x.state name
   -- how many reports a queue has made
   pub reports : (name : List ℕ) → file.last_report b name ≡ content.reports_in x.state name
   -- how many landings of a queue have a lower serial

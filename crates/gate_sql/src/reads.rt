@@ -3,7 +3,7 @@ use crate::applying::{apply, is_among};
 use crate::book::SqlBook;
 use gate_book::book::Book;
 use gate_book::fault::{BookFault, HistoryFault};
-use gate_book::rows::{QueueSizes, QueuedItem};
+use gate_book::rows::QueuedItem;
 use gate_types::edits::Edit;
 use gate_types::names::Name;
 use gate_types::numbers::{BuildNo, ChangeNo, Serial};
@@ -37,8 +37,16 @@ impl<S: Alter> Book for SqlBook<S> {
         gate_queries::change(&mut self.conn, number)
     }
 
-    fn queue(&mut self, name: &Name) -> Result<Option<QueueSizes>, BookFault> {
-        gate_queries::queue(&mut self.conn, name)
+    fn window(&mut self, queue: &Name) -> Result<Option<u32>, BookFault> {
+        gate_queries::window(&mut self.conn, queue)
+    }
+
+    fn item_count(&mut self, queue: &Name) -> Result<u64, BookFault> {
+        gate_queries::item_count(&mut self.conn, queue)
+    }
+
+    fn landing_count(&mut self, queue: &Name) -> Result<u64, BookFault> {
+        gate_queries::landing_count(&mut self.conn, queue)
     }
 
     fn reports(&mut self, queue: &Name) -> Result<u64, BookFault> {
@@ -69,12 +77,21 @@ impl<S: Alter> Book for SqlBook<S> {
         gate_queries::last_item(&mut self.conn, queue, below)
     }
 
+    fn next_items(
+        &mut self,
+        queue: &Name,
+        above: u64,
+        most: u32,
+    ) -> Result<Sequence<Item>, BookFault> {
+        gate_queries::next_items(&mut self.conn, queue, above, most)
+    }
+
     fn needing(
         &mut self,
         queue: &Name,
         change: ChangeNo,
         above: u64,
-    ) -> Result<Option<Item>, BookFault> {
+    ) -> Result<Sequence<Item>, BookFault> {
         gate_queries::needing(&mut self.conn, queue, change, above)
     }
 
@@ -84,6 +101,24 @@ impl<S: Alter> Book for SqlBook<S> {
 
     fn live_builds(&mut self, serial: Serial) -> Result<Sequence<Build>, BookFault> {
         gate_queries::live_builds(&mut self.conn, serial)
+    }
+
+    fn plans_between(
+        &mut self,
+        queue: &Name,
+        above: u64,
+        last: Serial,
+    ) -> Result<Sequence<Plan>, BookFault> {
+        gate_queries::plans_between(&mut self.conn, queue, above, last)
+    }
+
+    fn builds_between(
+        &mut self,
+        queue: &Name,
+        above: u64,
+        last: Serial,
+    ) -> Result<Sequence<Build>, BookFault> {
+        gate_queries::builds_between(&mut self.conn, queue, above, last)
     }
 
     fn build(&mut self, number: BuildNo) -> Result<Option<Build>, BookFault> {

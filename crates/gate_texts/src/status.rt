@@ -93,10 +93,11 @@ fn queue_text<B: Book>(
     ensures kept { IsKept B.IsTrusted B.Holds B.LeavesOneOf book.old book.new }
     ensures fault { IfErr result (MayAnswer B.MayFault) }
 {
-    let Some(sizes) = book.queue(queue)? else {
+    let Some(window) = book.window(queue)? else {
         return Ok(String::new(alloc));
     };
-    let line = queue_line(alloc, queue.as_str(), sizes.window, sizes.landings)?;
+    let landings = book.landing_count(queue)?;
+    let line = queue_line(alloc, queue.as_str(), window, landings)?;
     let items = items_text(alloc, book, config, queue)?;
     let text = format!(in alloc; "{line}{items}")?;
     Ok(text)

@@ -123,3 +123,45 @@ for n from 2 to 1000
 fn a_build_far_behind_is_found(rt: HostRuntime) {
     plays(&rt, FAR_BEHIND);
 }
+
+const CHAIN: &str = r#"
+# a chain of 200 changes leaves with the first one
+Each needs the one before. All that leave are told at once, by more than 600 edits.
+gate core 2 1
+
+> {"id":"0a000000-0000-4000-8000-000000000001","kind":"revision","change":1,"project":"app","revision":1,"message":""}
+< {"reply":"recorded"}
+> {"id":"0b000000-0000-4000-8000-000000000001","kind":"approved","change":1,"revision":1}
+< {"order":1,"reply":"queued"}
+
+for n from 1 to 199
+> {"id":"1a000000-0000-4000-8000-<000n>","kind":"revision","change":<n+1>,"project":"app","revision":1,"message":"Depends-On: https://forge/c/<n>"}
+< {"reply":"recorded"}
+> {"id":"1b000000-0000-4000-8000-<000n>","kind":"approved","change":<n+1>,"revision":1}
+< {"order":<n+1>,"reply":"queued"}
+
+> {"id":"0c000000-0000-4000-8000-000000000001","kind":"take","worker":"w1"}
+< {"after":0,"ahead":[],"build":1,"change":1,"job":"unit","queue":"core","reply":"build","revision":1}
+> {"id":"0c000000-0000-4000-8000-000000000002","kind":"take","worker":"w1"}
+< {"after":0,"ahead":[[1,1]],"build":2,"change":2,"job":"unit","queue":"core","reply":"build","revision":1}
+
+status
+queue core window 2 landed 0
+     1         1    1      - ok      unit=running
+     2         2    1      1 ok      unit=running
+...
+   200       200    1    199 ok      unit=waiting
+end
+
+> {"id":"0d000000-0000-4000-8000-000000000001","kind":"result","build":1,"outcome":"failure"}
+< {"reply":"noted"}
+
+status
+queue core window 1 landed 0
+end
+"#;
+
+#[test]
+fn a_chain_of_needs_leaves_at_once(rt: HostRuntime) {
+    plays(&rt, CHAIN);
+}

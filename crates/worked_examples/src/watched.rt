@@ -1,11 +1,12 @@
-//! A book that counts the items of a queue that a delivery reads: no more of a long queue than of a short one.
+//! A book that counts the items that a delivery reads: no more of a long queue than of a short one, in memory and over
+//! the tables of a file.
 use crate::claims::holds;
 use crate::scenes::gate_in_memory;
+use crate::stored::files::{gate_under, made_under};
 use crate::talks::goes_on;
 use gate_book::book::Book;
 use gate_book::fault::{BookFault, HistoryFault};
-use gate_book::memory::MemBook;
-use gate_book::rows::{QueueSizes, QueuedItem};
+use gate_book::rows::QueuedItem;
 use gate_core::gate::Gate;
 use gate_types::edits::Edit;
 use gate_types::names::Name;
@@ -13,17 +14,25 @@ use gate_types::numbers::{BuildNo, ChangeNo, Serial};
 use gate_types::records::{Build, Change, Counters, Id, Item, Kept, Plan, Ready};
 use gate_types::sequence::Sequence;
 use gate_types::tap::Tap;
+use sqlite::Connection;
 use std::io::Write;
 use std::process::Abort;
 
-/// Answers as the book in it, and counts the reads of items that stand in a queue since the last delivery came.
+/// Answers as the book in it, and counts the items that it was asked for since the last delivery came, by a key or as
+/// many as were told at once.
 #[derive(Drop)]
-struct Watched {
-    book: MemBook,
-    asked: u32,
+struct Watched<B> {
+    book: B,
+    asked: u64,
 }
 
-impl Book for Watched {
+impl<B> Watched<B> {
+    fn count(&mut self, items: usize) {
+        self.asked = self.asked.saturating_add(items as u64);
+    }
+}
+
+impl<B: Book> Book for Watched<B> {
     ghost Holds = { λ _ _ _. ⊥ };
 
     ghost IsTrusted = { λ _. ⊥ };
@@ -44,8 +53,16 @@ impl Book for Watched {
         self.book.change(number)
     }
 
-    fn queue(&mut self, name: &Name) -> Result<Option<QueueSizes>, BookFault> {
-        self.book.queue(name)
+    fn window(&mut self, queue: &Name) -> Result<Option<u32>, BookFault> {
+        self.book.window(queue)
+    }
+
+    fn item_count(&mut self, queue: &Name) -> Result<u64, BookFault> {
+        self.book.item_count(queue)
+    }
+
+    fn landing_count(&mut self, queue: &Name) -> Result<u64, BookFault> {
+        self.book.landing_count(queue)
     }
 
     fn reports(&mut self, queue: &Name) -> Result<u64, BookFault> {
@@ -57,25 +74,40 @@ impl Book for Watched {
     }
 
     fn items(&mut self, queue: &Name) -> Result<Sequence<Item>, BookFault> {
-        self.asked = u32::MAX;
-        self.book.items(queue)
+        let items = self.book.items(queue)?;
+        self.count(items.as_slice().len());
+        Ok(items)
     }
 
     fn item(&mut self, serial: Serial) -> Result<Option<Item>, BookFault> {
+        self.count(1);
         self.book.item(serial)
     }
 
     fn queued(&mut self, change: ChangeNo) -> Result<Option<QueuedItem>, BookFault> {
+        self.count(1);
         self.book.queued(change)
     }
 
     fn next_item(&mut self, queue: &Name, above: u64) -> Result<Option<Item>, BookFault> {
-        self.asked = self.asked.saturating_add(1);
+        self.count(1);
         self.book.next_item(queue, above)
     }
 
     fn last_item(&mut self, queue: &Name, below: u64) -> Result<Option<Item>, BookFault> {
+        self.count(1);
         self.book.last_item(queue, below)
+    }
+
+    fn next_items(
+        &mut self,
+        queue: &Name,
+        above: u64,
+        most: u32,
+    ) -> Result<Sequence<Item>, BookFault> {
+        let items = self.book.next_items(queue, above, most)?;
+        self.count(items.as_slice().len());
+        Ok(items)
     }
 
     fn needing(
@@ -83,9 +115,10 @@ impl Book for Watched {
         queue: &Name,
         change: ChangeNo,
         above: u64,
-    ) -> Result<Option<Item>, BookFault> {
-        self.asked = u32::MAX;
-        self.book.needing(queue, change, above)
+    ) -> Result<Sequence<Item>, BookFault> {
+        let items = self.book.needing(queue, change, above)?;
+        self.count(items.as_slice().len());
+        Ok(items)
     }
 
     fn plan(&mut self, serial: Serial) -> Result<Option<Plan>, BookFault> {
@@ -94,6 +127,24 @@ impl Book for Watched {
 
     fn live_builds(&mut self, serial: Serial) -> Result<Sequence<Build>, BookFault> {
         self.book.live_builds(serial)
+    }
+
+    fn plans_between(
+        &mut self,
+        queue: &Name,
+        above: u64,
+        last: Serial,
+    ) -> Result<Sequence<Plan>, BookFault> {
+        self.book.plans_between(queue, above, last)
+    }
+
+    fn builds_between(
+        &mut self,
+        queue: &Name,
+        above: u64,
+        last: Serial,
+    ) -> Result<Sequence<Build>, BookFault> {
+        self.book.builds_between(queue, above, last)
     }
 
     fn build(&mut self, number: BuildNo) -> Result<Option<Build>, BookFault> {
@@ -167,18 +218,33 @@ queue web window 3 landed 1
 end
 "#;
 
-/// The gate goes on by these parts, of which the last delivery reads two items of a queue at most.
-fn reads_two(rt: &(impl Abort + AllocGlobal), gate: &mut Gate<Watched>, parts: &str) {
-    goes_on(rt, gate, "two items are read", parts);
-    holds(rt, gate.book.asked <= 2, parts);
+/// The gate goes on by these parts, of which the last delivery asks for a few items.
+fn reads_few<B: Book>(rt: &(impl Abort + AllocGlobal), gate: &mut Gate<Watched<B>>, parts: &str) {
+    goes_on(rt, gate, "a few items are read", parts);
+    holds(rt, gate.book.asked <= 8, parts);
+}
+
+fn reads_no_more_of_a_long_queue<B: Book + Drop>(rt: &(impl Abort + AllocGlobal), gate: Gate<B>) {
+    let Gate { config, book } = gate;
+    let mut gate = Gate::new(config, Watched { book, asked: 0 });
+    goes_on(rt, &mut gate, "a full queue", FULL_WEB);
+    reads_few(rt, &mut gate, FIRST_ENDS);
+    reads_few(rt, &mut gate, FIRST_LANDS);
+    goes_on(rt, &mut gate, "two more changes", TWO_MORE);
 }
 
 #[test]
 fn a_landing_reads_no_more_of_a_long_queue_than_of_a_short_one(rt: HostRuntime) {
-    let Gate { config, book } = gate_in_memory(&rt, "core 2 1 and web", "");
-    let mut gate = Gate::new(config, Watched { book, asked: 0 });
-    goes_on(&rt, &mut gate, "a full queue", FULL_WEB);
-    reads_two(&rt, &mut gate, FIRST_ENDS);
-    reads_two(&rt, &mut gate, FIRST_LANDS);
-    goes_on(&rt, &mut gate, "two more changes", TWO_MORE);
+    let gate = gate_in_memory(&rt, "core 2 1 and web", "");
+    reads_no_more_of_a_long_queue(&rt, gate);
+}
+
+#[test]
+fn a_landing_reads_no_more_of_a_long_queue_over_tables(rt: HostRuntime) {
+    let conn = Connection::open_in_memory(rt.alloc()).expect(&rt, "memory");
+    let conn = made_under(&rt, conn, "core 2 1 and web");
+    let gate = gate_under(&rt, conn, "core 2 1 and web")
+        .ok()
+        .expect(&rt, "a gate in the file");
+    reads_no_more_of_a_long_queue(&rt, gate);
 }

@@ -100,14 +100,15 @@ pub(crate) fn landed<B: Book>(
     let Some(known) = change_of(book, &queued)? else {
         return Err(BookFault::Damaged);
     };
-    let Some(sizes) = book.queue(&queued.queue)? else {
+    let Some(window) = book.window(&queued.queue)? else {
         return Err(BookFault::Damaged);
     };
+    let landings = book.landing_count(&queued.queue)?;
     let plan = landed_plan(alloc, book, &queued)?;
-    let place = sizes.landings.saturating_add(1);
+    let place = landings.saturating_add(1);
     let edits = leaving(alloc, book, config, &queued, Verdict::Landed(place))?;
-    let window = grown(config, queued.queue.as_str(), sizes.window);
-    let edits = with_landing(edits, &queued, place, sizes.window, window)?;
+    let resized = grown(config, queued.queue.as_str(), window);
+    let edits = with_landing(edits, &queued, place, window, resized)?;
     let edits = with_edit(edits, Edit::PutPlan(plan))?;
     let edits = put_anew(
         edits,

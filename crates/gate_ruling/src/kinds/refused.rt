@@ -38,14 +38,14 @@ pub(crate) fn refused<B: Book>(
     let Some(queued) = shown_order(alloc, book, config, order)? else {
         return Ok(Raw::Refused(Refusal::NoOrder));
     };
-    let Some(sizes) = book.queue(&queued.queue)? else {
+    let Some(window) = book.window(&queued.queue)? else {
         return Err(BookFault::Damaged);
     };
     let edits = leaving(alloc, book, config, &queued, Verdict::Refused)?;
-    let window = shrunk(config, queued.queue.as_str(), sizes.window);
+    let resized = shrunk(config, queued.queue.as_str(), window);
     Ok(Raw::Moved(Moved {
         said: Said::Now(Reply::Removed),
-        edits: with_window(edits, &queued.queue, sizes.window, window)?,
+        edits: with_window(edits, &queued.queue, window, resized)?,
         touched: Some(touched(queued, Event::Left(Verdict::Refused))),
     }))
 }

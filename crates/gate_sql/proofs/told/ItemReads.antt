@@ -1,6 +1,6 @@
 -- What is asked of items, of the file's rows and of a content.
 use Rattle.std.proofs.Common.{◌≡◌, ℕ, suc, ◌≤◌, ◌&&◌, ◌||◌, Option, Some, None, List, [], ◌∷◌, refl, ap, ◌∙◌, arith}
-use Rattle.std.specs.Prelude.{◌==◌, nat_lt, find, flat_map, option_map}
+use Rattle.std.specs.Prelude.{◌==◌, nat_lt, filter, find, flat_map, option_map}
 use Rattle.std.specs.List.{list_any}
 use Rattle.std.specs.Option.{option_map_or}
 use Rattle.gate_types.specs.declared.records.Item.{Item}
@@ -71,8 +71,8 @@ module _ (c : Settings) (x : Content) (b : Stored) (told : Tells b (tables c x))
       ∙ any_need number n 0 (needs_in (tables c x).changes number)
       ∙ ap (list_any (λ m. m == n)) (needs_known (tables c x).changes number ∙ read.needs_are c x number)
 
-  -- the first item above a serial whose change needs another
+  -- the items above a serial whose changes need another
   pub needing_is : (name : List ℕ) (n serial : ℕ) →
-      file.first_needing b name n serial ≡ content.first_needing x.state n serial (content.items_in c x.state name)
+      file.items_needing b name n serial ≡ content.items_needing x.state n serial (content.items_in c x.state name)
   needing_is name n serial =
-      λ k. find (λ (i : Item). nat_lt serial i.serial && needs_are n i.change k) (items_are c x b told name k)
+      λ k. filter (λ (i : Item). nat_lt serial i.serial && needs_are n i.change k) (items_are c x b told name k)

@@ -11,19 +11,17 @@ use Rattle.gate_types.specs.declared.rows.ReportRow.{ReportRow}
 use Rattle.gate_types.specs.Forms.{IsLawfulContent}
 use Rattle.gate_types.specs.Names.{same_name}
 use Rattle.gate_types.specs.Once.{Content}
-use Rattle.gate_types.specs.Rows.{item_rows, numbered}
+use Rattle.gate_types.specs.Rows.{numbered}
 use Rattle.gate_types.specs.Settings.{Settings}
 use Rattle.gate_types.specs.State.{Queue, State}
 use Rattle.gate_types.specs.Tables.{QueueRows, numbered_landings, tables}
 use Rattle.gate_schema.specs.Rows.{QueueRow, Stored}
-use Rattle.gate_rows.specs.Tells.{Tells, items_of, landings_of, of_queue, placed, reports_of}
+use Rattle.gate_rows.specs.Tells.{Tells, landings_of, of_queue, placed, reports_of}
 use Rattle.gate_book.specs.Reads as content
-use Rattle.gate_book.specs.declared.rows.QueueSizes.{QueueSizes}
 use Rattle.gate_book.proofs.ReadLemmas as read
 use Rattle.gate_queries.specs.Asked as file
 use Rattle.gate_laws.proofs.Members.{In, every, filter_none, found}
 use Rattle.gate_laws.proofs.Rising.{Rising, rising}
-use Rattle.gate_sql.proofs.told.Items.{count_items, items_are}
 use Rattle.gate_sql.proofs.told.Lists.{filtered_same, mapped_same, permuted_same, pick, same_greatest}
 
 -- ---- places from 1 on
@@ -163,7 +161,7 @@ module _ (c : Settings) (x : Content) (b : Stored) (told : Tells b (tables c x))
       by_queue (Some q) = refl
 
   -- the last landing is how many there are
-  landings_count : (name : List ℕ) → file.last_landing b name ≡ length (content.landings_in x.state name)
+  pub landings_count : (name : List ℕ) → file.last_landing b name ≡ length (content.landings_in x.state name)
   landings_count name =
       let rows = of_queue (λ q. q.landings) name (tables c x).queues in
       let here = landings_of name b.landings in
@@ -189,35 +187,11 @@ module _ (c : Settings) (x : Content) (b : Stored) (told : Tells b (tables c x))
       by_queue None = omega arith
       by_queue (Some q) = omega arith
 
-  -- the window of a queue, and how many items and landings it has
-  pub queue_is : (name : List ℕ) →
-      file.queue_sizes b name ≡ option_map content.sizes_of (content.queue_named x.state name)
-  queue_is name =
-      two_maps (find (λ (q : QueueRow). same_name q.name name) b.queues)
-      ∙ ap (λ l. option_map sized (option_map (λ (q : QueueRow). q.window)
-      (find (λ (q : QueueRow). same_name q.name name) l))) told.queues_are.places
-      ∙ ap (option_map sized) (window_placed c x.state name 0 x.state.queues)
-      ∙ by_queue (content.queue_named x.state name) refl
-    where
-      -- the sizes, with this window
-      sized : ℕ → QueueSizes
-      sized w = record { window = w; items = length (items_of name b.items); landings = file.last_landing b name }
-
-      two_maps : (o : Option QueueRow) →
-          option_map (file.sizes_of b name) o ≡ option_map sized (option_map (λ (q : QueueRow). q.window) o)
-      two_maps None = refl
-      two_maps (Some q) = refl
-
-      by_queue : (o : Option Queue) → content.queue_named x.state name ≡ o →
-          option_map sized (option_map (λ (q : Queue). q.window) o) ≡ option_map content.sizes_of o
-      by_queue None e = refl
-      by_queue (Some q) e =
-          let items : length (items_of name b.items) ≡ length q.items =
-          ap length (items_are c x b told name ∙ ap (λ o. option_map_or (item_rows c x.state) o []) e)
-          ∙ count_items c x.state q in
-          let landings : file.last_landing b name ≡ length q.landings =
-          landings_count name ∙ ap (λ o. length (option_map_or (λ (q : Queue). q.landings) o [])) e in
-          λ k. Some (record { window = q.window; items = items k; landings = landings k })
+  -- the window of a queue
+  pub window_is : (name : List ℕ) → file.window_of b name ≡ content.window_of x.state name
+  window_is name =
+      ap (λ l. option_map (λ (q : QueueRow). q.window) (find (λ (q : QueueRow). same_name q.name name) l)) told.queues_are.places
+      ∙ window_placed c x.state name 0 x.state.queues
 
   -- how many landings have a lower serial
   pub landing_before_is : IsLawfulContent c x → (name : List ℕ) (serial : ℕ) →

@@ -62,10 +62,11 @@ fn book_under(rt: &(impl Abort + AllocGlobal), words: &str) -> MemBook {
 
 /// Adds the window of a queue, and how many items and landings it has.
 fn tell(rt: &(impl Abort + AllocGlobal), book: &mut MemBook, told: &mut String, queue: &str) {
-    let sizes = book.queue(&name(rt, queue)).expect(rt, "a queue");
-    match sizes {
-        Some(sizes) => {
-            let (window, items, landings) = (sizes.window, sizes.items, sizes.landings);
+    let name = name(rt, queue);
+    match book.window(&name).expect(rt, "a window") {
+        Some(window) => {
+            let items = book.item_count(&name).expect(rt, "a number");
+            let landings = book.landing_count(&name).expect(rt, "a number");
             write!(told, ", {queue} {window} {items} {landings}").expect(rt, "memory")
         }
         None => write!(told, ", no {queue}").expect(rt, "memory"),

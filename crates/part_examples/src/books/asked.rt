@@ -2,19 +2,31 @@
 use crate::books::scene::{change_no, id, name, serial_no};
 use crate::claims::is;
 use gate_book::book::Book;
-use gate_book::rows::QueueSizes;
 use gate_types::numbers::ChangeNo;
 use gate_types::records::{Counters, Item, Plan, Ready};
 use std::process::Abort;
 
-pub fn queue_is<B: Book>(
+pub fn window_is<B: Book>(
     rt: &(impl Abort + AllocGlobal),
     book: &mut B,
     queue: &str,
-    wanted: Option<QueueSizes>,
+    wanted: Option<u32>,
 ) {
-    let found = book.queue(&name(rt, queue));
+    let found = book.window(&name(rt, queue));
     assert!(rt; found == Ok(wanted), "{queue}");
+}
+
+/// A queue has so many items and landings.
+pub fn sizes_are<B: Book>(
+    rt: &(impl Abort + AllocGlobal),
+    book: &mut B,
+    queue: &str,
+    items: u64,
+    landings: u64,
+) {
+    let name = name(rt, queue);
+    assert!(rt; book.item_count(&name) == Ok(items), "{queue}");
+    assert!(rt; book.landing_count(&name) == Ok(landings), "{queue}");
 }
 
 pub fn reports_are<B: Book>(
@@ -83,16 +95,30 @@ pub fn last_item_is<B: Book>(
     );
 }
 
-/// The first item of `core` above a serial whose change needs this one.
+/// The first items of `core` above a serial, no more than `most`.
+pub fn next_items_are<B: Book>(
+    rt: &(impl Abort + AllocGlobal),
+    book: &mut B,
+    above: u64,
+    most: u32,
+    wanted: &[Item],
+) {
+    let found = book.next_items(&name(rt, "core"), above, most);
+    let items = found.expect(rt, "items");
+    assert!(rt; items.as_slice() == wanted, "{above} {most}");
+}
+
+/// The items of `core` above a serial whose changes need this one.
 pub fn needing_is<B: Book>(
     rt: &(impl Abort + AllocGlobal),
     book: &mut B,
     change: u64,
     above: u64,
-    wanted: Option<Item>,
+    wanted: &[Item],
 ) {
     let found = book.needing(&name(rt, "core"), change_no(rt, change), above);
-    assert!(rt; found == Ok(wanted), "{above}");
+    let items = found.expect(rt, "items");
+    assert!(rt; items.as_slice() == wanted, "{above}");
 }
 
 /// A change stands in `core` as this item.
@@ -142,6 +168,34 @@ pub fn plan_is<B: Book>(rt: &(impl Abort + AllocGlobal), book: &mut B, serial: u
     let plan = found.expect(rt, "a plan");
     assert_eq!(rt; plan.serial.get(), serial);
     is(rt, plan_text(rt, &plan).as_str(), wanted, "a plan");
+}
+
+/// The items of `core` above a serial up to another have plans under these serials.
+pub fn planned_between<B: Book>(
+    rt: &(impl Abort + AllocGlobal),
+    book: &mut B,
+    above: u64,
+    last: u64,
+    wanted: &[u64],
+) {
+    let found = book.plans_between(&name(rt, "core"), above, serial_no(rt, last));
+    let plans = found.expect(rt, "plans");
+    let serials = plans.as_slice().iter().map(|plan| plan.serial.get());
+    assert!(rt; serials.eq(wanted.iter().copied()), "{above} {last}");
+}
+
+/// The items of `core` above a serial up to another have live builds of these numbers.
+pub fn live_between<B: Book>(
+    rt: &(impl Abort + AllocGlobal),
+    book: &mut B,
+    above: u64,
+    last: u64,
+    wanted: &[u64],
+) {
+    let found = book.builds_between(&name(rt, "core"), above, serial_no(rt, last));
+    let builds = found.expect(rt, "builds");
+    let numbers = builds.as_slice().iter().map(|build| build.number.get());
+    assert!(rt; numbers.eq(wanted.iter().copied()), "{above} {last}");
 }
 
 pub fn no_plan<B: Book>(rt: &impl Abort, book: &mut B, serial: u64) {

@@ -1,13 +1,12 @@
 //! A book that keeps answers: what is asked for again is not read again, until the next delivery or edits.
 use crate::books::asked::{
-    counters_are, live_builds, needs_are, no_plan, not_known, not_queued, plan_is, queue_is,
-    queued_is, ready_are, reply_is, reports_are,
+    counters_are, live_builds, needs_are, no_plan, not_known, not_queued, plan_is, queued_is,
+    ready_are, reply_is, reports_are, sizes_are, window_is,
 };
 use crate::books::counting::Counting;
 use crate::books::scene::{apply, change_no, first_book, item, later_edits};
 use gate_book::book::Book;
 use gate_book::memory::MemBook;
-use gate_book::rows::QueueSizes;
 use gate_cache::cached::CachedBook;
 use gate_types::records::{Counters, Ready};
 use std::process::Abort;
@@ -25,19 +24,13 @@ fn reads_are(rt: &impl Abort, book: Cached, wanted: u32) {
     assert_eq!(rt; reads, wanted);
 }
 
-const SIZES: QueueSizes = QueueSizes {
-    window: 5,
-    items: 2,
-    landings: 1,
-};
-
 const DRAWN: Counters = Counters {
     approval: 0,
     build: 0,
     order: 4,
 };
 
-/// Asks for the queue, its reports, the ready list and the counters; for a change and the one that it
+/// Asks for the window of a queue, its reports, the ready list and the counters; for a change and the one that it
 /// needs, its item, and the plan and the live builds of another one.
 fn all_is_told<B: Book>(rt: &(impl Abort + AllocGlobal), book: &mut B) {
     let first = Ready {
@@ -45,7 +38,7 @@ fn all_is_told<B: Book>(rt: &(impl Abort + AllocGlobal), book: &mut B) {
         change: change_no(rt, 103),
     };
     ready_are(rt, book, [first].as_slice());
-    queue_is(rt, book, "core", Some(SIZES));
+    window_is(rt, book, "core", Some(5));
     reports_are(rt, book, "core", 1);
     counters_are(rt, book, DRAWN);
     needs_are(rt, book, 102, [change_no(rt, 101)].as_slice());
@@ -64,7 +57,7 @@ fn what_is_asked_for_again_is_read_once(rt: HostRuntime) {
 }
 
 fn others_are_told<B: Book>(rt: &(impl Abort + AllocGlobal), book: &mut B) {
-    queue_is(rt, book, "web", None);
+    window_is(rt, book, "web", None);
     reports_are(rt, book, "web", 0);
     not_known(rt, book, 104);
     not_queued(rt, book, 103);
@@ -95,8 +88,7 @@ fn later_is_told<B: Book>(rt: &(impl Abort + AllocGlobal), book: &mut B) {
     let edits = later_edits(rt);
     apply(rt, book, edits.as_slice());
     ready_are(rt, book, &[]);
-    let sizes = QueueSizes { items: 1, ..SIZES };
-    queue_is(rt, book, "core", Some(sizes));
+    sizes_are(rt, book, "core", 1, 1);
     not_queued(rt, book, 101);
     no_plan(rt, book, 2);
     live_builds(rt, book, 2, 1);

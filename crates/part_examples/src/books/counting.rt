@@ -1,7 +1,7 @@
 //! A book that counts what it is asked for.
 use gate_book::book::Book;
 use gate_book::fault::{BookFault, HistoryFault};
-use gate_book::rows::{QueueSizes, QueuedItem};
+use gate_book::rows::QueuedItem;
 use gate_types::edits::Edit;
 use gate_types::names::Name;
 use gate_types::numbers::{BuildNo, ChangeNo, Serial};
@@ -38,9 +38,19 @@ impl<B: Book> Book for Counting<B> {
         self.book.change(number)
     }
 
-    fn queue(&mut self, name: &Name) -> Result<Option<QueueSizes>, BookFault> {
+    fn window(&mut self, queue: &Name) -> Result<Option<u32>, BookFault> {
         self.reads = self.reads.saturating_add(1);
-        self.book.queue(name)
+        self.book.window(queue)
+    }
+
+    fn item_count(&mut self, queue: &Name) -> Result<u64, BookFault> {
+        self.reads = self.reads.saturating_add(1);
+        self.book.item_count(queue)
+    }
+
+    fn landing_count(&mut self, queue: &Name) -> Result<u64, BookFault> {
+        self.reads = self.reads.saturating_add(1);
+        self.book.landing_count(queue)
     }
 
     fn reports(&mut self, queue: &Name) -> Result<u64, BookFault> {
@@ -78,12 +88,22 @@ impl<B: Book> Book for Counting<B> {
         self.book.last_item(queue, below)
     }
 
+    fn next_items(
+        &mut self,
+        queue: &Name,
+        above: u64,
+        most: u32,
+    ) -> Result<Sequence<Item>, BookFault> {
+        self.reads = self.reads.saturating_add(1);
+        self.book.next_items(queue, above, most)
+    }
+
     fn needing(
         &mut self,
         queue: &Name,
         change: ChangeNo,
         above: u64,
-    ) -> Result<Option<Item>, BookFault> {
+    ) -> Result<Sequence<Item>, BookFault> {
         self.reads = self.reads.saturating_add(1);
         self.book.needing(queue, change, above)
     }
@@ -96,6 +116,26 @@ impl<B: Book> Book for Counting<B> {
     fn live_builds(&mut self, serial: Serial) -> Result<Sequence<Build>, BookFault> {
         self.reads = self.reads.saturating_add(1);
         self.book.live_builds(serial)
+    }
+
+    fn plans_between(
+        &mut self,
+        queue: &Name,
+        above: u64,
+        last: Serial,
+    ) -> Result<Sequence<Plan>, BookFault> {
+        self.reads = self.reads.saturating_add(1);
+        self.book.plans_between(queue, above, last)
+    }
+
+    fn builds_between(
+        &mut self,
+        queue: &Name,
+        above: u64,
+        last: Serial,
+    ) -> Result<Sequence<Build>, BookFault> {
+        self.reads = self.reads.saturating_add(1);
+        self.book.builds_between(queue, above, last)
     }
 
     fn build(&mut self, number: BuildNo) -> Result<Option<Build>, BookFault> {

@@ -1,8 +1,8 @@
 //! A book in memory, changed and read back.
 use crate::books::asked::{
-    counters_are, item_is, items_are, landings_before, last_item_is, live_builds, needing_is,
-    needs_are, next_item_is, no_plan, no_reply, not_known, not_queued, plan_is, queue_is,
-    queued_is, ready_are, reply_is, reports_are,
+    counters_are, item_is, items_are, landings_before, last_item_is, live_between, live_builds,
+    needing_is, needs_are, next_item_is, next_items_are, no_plan, no_reply, not_known, not_queued,
+    plan_is, planned_between, queued_is, ready_are, reply_is, reports_are, sizes_are, window_is,
 };
 use crate::books::scene::{
     apply, book_of, build_no, change_no, first_book, item, keep, later_edits, put_plan, put_report,
@@ -11,7 +11,6 @@ use crate::books::scene::{
 use gate_book::book::Book;
 use gate_book::fault::HistoryFault;
 use gate_book::memory::MemBook;
-use gate_book::rows::QueueSizes;
 use gate_types::edits::Edit;
 use gate_types::records::{Counters, Outcome, Ready, Verdict};
 use gate_types::tap::Tap;
@@ -21,13 +20,10 @@ use std::process::Abort;
 
 fn is_empty<B: Book>(rt: &(impl Abort + AllocGlobal), book: &mut B, drawn: Counters) {
     counters_are(rt, book, drawn);
-    let sizes = QueueSizes {
-        window: 10,
-        items: 0,
-        landings: 0,
-    };
-    queue_is(rt, book, "core", Some(sizes));
-    queue_is(rt, book, "other", None);
+    window_is(rt, book, "core", Some(10));
+    sizes_are(rt, book, "core", 0, 0);
+    window_is(rt, book, "other", None);
+    sizes_are(rt, book, "other", 0, 0);
     reports_are(rt, book, "core", 0);
     no_reply(rt, book, 9);
     no_plan(rt, book, 2);
@@ -47,12 +43,8 @@ fn a_book_begins_empty(rt: HostRuntime) {
 }
 
 fn queues_are_told<B: Book>(rt: &(impl Abort + AllocGlobal), book: &mut B) {
-    let sizes = QueueSizes {
-        window: 5,
-        items: 2,
-        landings: 1,
-    };
-    queue_is(rt, book, "core", Some(sizes));
+    window_is(rt, book, "core", Some(5));
+    sizes_are(rt, book, "core", 2, 1);
     reports_are(rt, book, "core", 1);
     landings_before(rt, book, 1, 0);
     landings_before(rt, book, 2, 1);
@@ -69,9 +61,11 @@ pub fn items_are_told<B: Book>(rt: &(impl Abort + AllocGlobal), book: &mut B) {
     item_is(rt, book, 4, Some(item(rt, 4, 102)));
     item_is(rt, book, 3, None);
     next_item_is(rt, book, 2, Some(item(rt, 4, 102)));
+    next_items_are(rt, book, 0, 1, [item(rt, 2, 101)].as_slice());
+    next_items_are(rt, book, 2, 2, [item(rt, 4, 102)].as_slice());
     last_item_is(rt, book, 4, Some(item(rt, 2, 101)));
-    needing_is(rt, book, 101, 0, Some(item(rt, 4, 102)));
-    needing_is(rt, book, 101, 4, None);
+    needing_is(rt, book, 101, 0, [item(rt, 4, 102)].as_slice());
+    needing_is(rt, book, 101, 4, &[]);
     queued_is(rt, book, 102, item(rt, 4, 102));
 }
 
@@ -89,6 +83,8 @@ pub fn changes_and_builds_are_told<B: Book>(rt: &(impl Abort + AllocGlobal), boo
     };
     ready_are(rt, book, [ready].as_slice());
     live_builds(rt, book, 2, 2);
+    live_between(rt, book, 0, 4, &[1, 2]);
+    live_between(rt, book, 2, 4, &[]);
     let drawn = Counters {
         approval: 0,
         build: 0,
@@ -111,6 +107,8 @@ pub fn plans_are_told<B: Book>(rt: &(impl Abort + AllocGlobal), book: &mut B) {
     plan_is(rt, book, 4, "unit slow");
     no_plan(rt, book, 3);
     no_plan(rt, book, 5);
+    planned_between(rt, book, 0, 4, &[2, 4]);
+    planned_between(rt, book, 2, 3, &[]);
 }
 
 #[test]

@@ -124,8 +124,7 @@ fn window_of(rt: &(impl Abort + AllocGlobal), book: &mut MemBook, queue: &str) -
         Some(name) => name,
         None => try_name(rt.alloc(), queue).expect(rt, "memory"),
     };
-    let sizes = book.queue(&name).expect(rt, "a read that takes no memory")?;
-    Some(sizes.window)
+    book.window(&name).expect(rt, "a read that takes no memory")
 }
 
 fn windows_are(

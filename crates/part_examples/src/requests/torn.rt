@@ -1,7 +1,7 @@
 //! A book whose histories break off.
 use gate_book::book::Book;
 use gate_book::fault::{BookFault, HistoryFault};
-use gate_book::rows::{QueueSizes, QueuedItem};
+use gate_book::rows::QueuedItem;
 use gate_types::edits::Edit;
 use gate_types::names::Name;
 use gate_types::numbers::{BuildNo, ChangeNo, Serial};
@@ -33,8 +33,16 @@ impl<B: Book> Book for Torn<B> {
         self.0.change(number)
     }
 
-    fn queue(&mut self, name: &Name) -> Result<Option<QueueSizes>, BookFault> {
-        self.0.queue(name)
+    fn window(&mut self, queue: &Name) -> Result<Option<u32>, BookFault> {
+        self.0.window(queue)
+    }
+
+    fn item_count(&mut self, queue: &Name) -> Result<u64, BookFault> {
+        self.0.item_count(queue)
+    }
+
+    fn landing_count(&mut self, queue: &Name) -> Result<u64, BookFault> {
+        self.0.landing_count(queue)
     }
 
     fn reports(&mut self, queue: &Name) -> Result<u64, BookFault> {
@@ -65,12 +73,21 @@ impl<B: Book> Book for Torn<B> {
         self.0.last_item(queue, below)
     }
 
+    fn next_items(
+        &mut self,
+        queue: &Name,
+        above: u64,
+        most: u32,
+    ) -> Result<Sequence<Item>, BookFault> {
+        self.0.next_items(queue, above, most)
+    }
+
     fn needing(
         &mut self,
         queue: &Name,
         change: ChangeNo,
         above: u64,
-    ) -> Result<Option<Item>, BookFault> {
+    ) -> Result<Sequence<Item>, BookFault> {
         self.0.needing(queue, change, above)
     }
 
@@ -80,6 +97,24 @@ impl<B: Book> Book for Torn<B> {
 
     fn live_builds(&mut self, serial: Serial) -> Result<Sequence<Build>, BookFault> {
         self.0.live_builds(serial)
+    }
+
+    fn plans_between(
+        &mut self,
+        queue: &Name,
+        above: u64,
+        last: Serial,
+    ) -> Result<Sequence<Plan>, BookFault> {
+        self.0.plans_between(queue, above, last)
+    }
+
+    fn builds_between(
+        &mut self,
+        queue: &Name,
+        above: u64,
+        last: Serial,
+    ) -> Result<Sequence<Build>, BookFault> {
+        self.0.builds_between(queue, above, last)
     }
 
     fn build(&mut self, number: BuildNo) -> Result<Option<Build>, BookFault> {

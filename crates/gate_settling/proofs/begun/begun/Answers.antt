@@ -2,11 +2,9 @@ use Rattle.std.proofs.Common.{◌≡◌, ◌∙◌, ◌+◌, cond, sym, ap, arit
 use Rattle.std.specs.Prelude.{option_copied}
 use Rattle.std.proofs.lemmas.Option.{same_Some, none-some}
 use Rattle.gate_types.specs.Window.{bounds_by}
-use Rattle.gate_book.specs.Reads.{sizes_of}
-use Rattle.gate_book.specs.declared.rows.QueueSizes.{QueueSizes}
 use Rattle.gate_settling.specs.Touching.{delivered}
 use Rattle.gate_settling.specs.Rows.{reports_now, window_now}
-use Rattle.gate_settling.proofs.BegunLemmas.{set_there, sizes_are, reports_are, few_reports, is_for}
+use Rattle.gate_settling.proofs.BegunLemmas.{set_there, window_is, reports_are, few_reports, is_for}
 use Rattle.gate_settling.proofs.begun.begun.Goals as goal
 use Rattle.gate_settling.proofs.begun.begun.Goals.{then-is_out, else-is_out}
 
@@ -16,13 +14,13 @@ returns-in_default-clause-begun g c trusted x holds lawful h =
 
 pub returns-in_default-2-clause-begun : goal.returns-in_default-2-clause-begun
 returns-in_default-2-clause-begun g c trusted x holds lawful h =
-    none-some (sizes_of h.queue)
-    (sym c.in_default-2.is ∙ c.in_ok-sizes.ensures.found trusted _ x holds lawful ∙ sizes_are h)
+    none-some h.queue.window
+    (sym c.in_default-2.is ∙ c.in_ok-window.ensures.found trusted _ x holds lawful ∙ window_is h)
 
 pub returns-then-before-ge1000000000000000-clause-begun : goal.returns-then-before-ge1000000000000000-clause-begun
 returns-then-before-ge1000000000000000-clause-begun g c trusted x holds lawful h =
     let first = c.in_ok-before.ensures.kept.trusted_before trusted in
-    let held = c.in_ok-sizes.ensures.kept.holds_on first _ x holds in
+    let held = c.in_ok-window.ensures.kept.holds_on first _ x holds in
     let many = c.in_ok-before.ensures.found trusted _ x held lawful ∙ reports_are h in
     let few = few_reports h in
     let no_fewer = c.if-before-ge1000000000000000.true in
@@ -32,10 +30,10 @@ pub returns-clause-begun : goal.returns-clause-begun
 returns-clause-begun g c trusted x holds lawful h =
     let k = c.args.touched.now in
     let first = c.in_ok-before.ensures.kept.trusted_before trusted in
-    let held = c.in_ok-sizes.ensures.kept.holds_on first _ x holds in
+    let held = c.in_ok-window.ensures.kept.holds_on first _ x holds in
     let many = c.in_ok-before.ensures.found trusted _ x held lawful ∙ reports_are h in
-    let sizes = same_Some c.in-Some-2.sizes (sizes_of h.queue)
-    (sym c.in-Some-2.is ∙ c.in_ok-sizes.ensures.found first _ x holds lawful ∙ sizes_are h) in
+    let window = same_Some c.in-Some-2.window h.queue.window
+    (sym c.in-Some-2.is ∙ c.in_ok-window.ensures.found first _ x holds lawful ∙ window_is h) in
     let reports : c.if-is_out.reports ≡ reports_now k.event c.in_ok-before.before = elim c.if-is_out.branch [
       | then-is_out w ↦ w.reports-is ∙ sym (ap (λ b. cond b (c.in_ok-before.before + 1) c.in_ok-before.before)
           (sym c.is_out.ensures ∙ w.if-is_out.true))
@@ -44,6 +42,6 @@ returns-clause-begun g c trusted x holds lawful h =
     ] in
     let set = sym c.queue_named.ensures ∙ ap option_copied c.in-Some.is in
     c.in_ok-start.ensures.for_a_delivery (delivered h) (is_for h _ _ set
-    (c.window_now.ensures ∙ ap (λ (z : QueueSizes). window_now k.event (bounds_by c.in-Some.settings.now) z.window) sizes)
+    (c.window_now.ensures ∙ ap (window_now k.event (bounds_by c.in-Some.settings.now)) window)
     (reports ∙ ap (reports_now k.event) many) c.starting_point.ensures.serial c.starting_point.ensures.ahead
     c.starting_point.ensures.out)

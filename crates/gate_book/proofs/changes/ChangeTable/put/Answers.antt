@@ -1,7 +1,12 @@
-use Rattle.std.proofs.Common.{◌≡◌, ◌∙◌, ◌<◌, Option, ap, arith}
+use Rattle.std.proofs.Common.{◌≡◌, ◌∙◌, ◌<◌, List, Option, ap, arith}
 use Rattle.std.specs.List.{AllByRecursion}
 use Rattle.gate_book.specs.Pairs.{IsFit}
 use Rattle.gate_book.specs.Changes.{TellsReady, number_of, in_order}
+use Rattle.gate_types.specs.declared.rows.ChangeRow.{ChangeRow}
+use Rattle.gate_book.specs.declared.pairs.Pair.{Pair}
+use Rattle.gate_book.specs.Needs.{TellsNeeds, TellsNeedsOf, need_of}
+use Rattle.gate_book.specs.Sorted.{In}
+use Rattle.gate_book.proofs.BuildLemmas.{in_weaker, all_put}
 use Rattle.gate_book.proofs.ChangeLemmas.{in_order_rises, dropped, noted, put_ready, fit_dropped, fit_noted, tells_put}
 use Rattle.gate_book.proofs.changes.ChangeTable.put.Goals as goal
 
@@ -20,4 +25,19 @@ returns-clause-kept c =
     rw index (fit_noted row.approval (number_of row) (dropped was (number_of row) old.ready.items) small (fit_dropped was (number_of row) old.ready.items kept.ready_fit)) in
     let told : TellsReady c.note_ready.new.ready.items (in_order number_of c.put_row.new.rows.items) =
     rw (index, c.put_row.ensures.rows) (tells_put was row 0 old.ready.items rows small kept.ready_fit (in_order_rises number_of old.rows.items) kept.ready_told) in
-    record { finds = c.put_row.ensures.finds; ready_rise = c.note_ready.ensures.rising; ready_fit = fit; ready_told = told }
+    let needs : List Pair = c.note_row.new.index.items in
+    let itself : TellsNeedsOf needs row.change.number row.change.needs = c.note_row.ensures.told in
+    let before : TellsNeeds needs rows = in_weaker
+    (λ (r : ChangeRow). TellsNeedsOf old.needs.items r.change.number r.change.needs) (λ (r : ChangeRow). TellsNeedsOf needs r.change.number r.change.needs)
+    (λ r all. in_weaker (λ m. In (need_of m r.change.number) old.needs.items) (λ m. In (need_of m r.change.number) needs)
+    (λ m t. c.note_row.ensures.others (need_of m r.change.number) t) r.change.needs all) rows kept.needs_told in
+    let needs_told : TellsNeeds needs (in_order number_of c.put_row.new.rows.items) = rw c.put_row.ensures.rows
+    (all_put (λ (r : ChangeRow). TellsNeedsOf needs r.change.number r.change.needs) number_of row rows itself before) in
+    record {
+      finds = c.put_row.ensures.finds;
+      ready_rise = c.note_ready.ensures.rising;
+      ready_fit = fit;
+      ready_told = told;
+      needs_order = c.note_row.ensures.order;
+      needs_told = needs_told;
+    }

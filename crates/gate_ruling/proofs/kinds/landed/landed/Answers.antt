@@ -1,6 +1,5 @@
 use Rattle.std.proofs.Common.{◌≡◌, ◌∙◌, ◌+◌, ◌++◌, ◌∷◌, [], length, Some, true, refl, sym, ap, subst, arith, rules}
-use Rattle.std.specs.Prelude.{option_map}
-use Rattle.std.specs.Option.{option_map_or}
+use Rattle.std.proofs.lemmas.Option.{same_Some}
 use Rattle.gate_types.specs.declared.deliveries.Delivery.TheVariants as delivery
 use Rattle.gate_types.specs.declared.records.Plan.{Plan}
 use Rattle.gate_types.specs.declared.records.Verdict.TheVariants as verdict
@@ -11,8 +10,6 @@ use Rattle.gate_types.specs.SubmitOrder.{shown_order}
 use Rattle.gate_types.specs.Window.{grow}
 use Rattle.gate_types.specs.Rows.{item_of}
 use Rattle.gate_types.specs.Step.{leave, landed_queue, landed_plan}
-use Rattle.gate_book.specs.Reads.{sizes_of}
-use Rattle.gate_book.specs.declared.rows.QueueSizes.{QueueSizes}
 use Rattle.gate_raw.specs.Moves.{Moves}
 use Rattle.gate_raw.specs.Touches.{Touches}
 use Rattle.gate_reads.specs.Orders.{TellsShown}
@@ -22,7 +19,7 @@ use Rattle.gate_ruling.proofs.Few.{few_landings}
 use Rattle.gate_ruling.proofs.Folded.{moves_on}
 use Rattle.gate_ruling.proofs.Stored.{stored}
 use Rattle.gate_ruling.proofs.Ordered.{has_order, same_queue, landed_touches, landed_state, landed_raw, lands, plan_put}
-use Rattle.gate_ruling.proofs.Missing.{change_there, sizes_there}
+use Rattle.gate_ruling.proofs.Missing.{change_there, window_there, window_stored, landings_stored}
 use Rattle.gate_ruling.proofs.kinds.landed.landed.Goals as goal
 
 pub returns-clause-raw : goal.returns-clause-raw
@@ -34,42 +31,44 @@ returns-clause-raw g c trusted x holds lawful =
     let d = delivery.Landed number in
     let settings : are_sound s ≡ true = search rules in
     let sound = lawful.lawful.sound in
-    let four = c.in_ok-edits.ensures.kept.trusted_before trusted in
-    let three = c.in_ok-plan.ensures.kept.trusted_before four in
-    let two = c.in_ok-sizes.ensures.kept.trusted_before three in
+    let five = c.in_ok-edits.ensures.kept.trusted_before trusted in
+    let four = c.in_ok-plan.ensures.kept.trusted_before five in
+    let three = c.in_ok-landings.ensures.kept.trusted_before four in
+    let two = c.in_ok-window.ensures.kept.trusted_before three in
     let one = c.in_ok-known.ensures.kept.trusted_before two in
     let at_one = c.in_ok-queued.ensures.kept.holds_on one _ x holds in
     let at_two = c.in_ok-known.ensures.kept.holds_on two _ x at_one in
-    let at_three = c.in_ok-sizes.ensures.kept.holds_on three _ x at_two in
-    let at_four = c.in_ok-plan.ensures.kept.holds_on four _ x at_three in
+    let at_three = c.in_ok-window.ensures.kept.holds_on three _ x at_two in
+    let at_four = c.in_ok-landings.ensures.kept.holds_on four _ x at_three in
+    let at_five = c.in_ok-plan.ensures.kept.holds_on five _ x at_four in
     let o = has_order s x.state number k
     (subst (λ y. TellsShown s x.state y (shown_order s x.state number)) c.in-Some.is
     (c.in_ok-queued.ensures.found one x holds lawful)) in
     let h = stored s x.state k.queue k.item o.row.stored in
     let is : known_change x.state k.item.change ≡ Some known =
     sym (c.in_ok-known.ensures.found two s x at_one lawful) ∙ c.in-Some-2.is in
-    let sizes : c.in-Some-3.sizes ≡ sizes_of h.queue =
-    ap (λ y. option_map_or (λ (z : QueueSizes). z) y (sizes_of h.queue))
-    (sym c.in-Some-3.is ∙ c.in_ok-sizes.ensures.found three s x at_two lawful ∙ ap (option_map sizes_of) h.first) in
-    let count = ap (λ (z : QueueSizes). z.landings) sizes in
+    let before : c.in-Some-3.window ≡ h.queue.window =
+    same_Some c.in-Some-3.window h.queue.window
+    (sym c.in-Some-3.is ∙ c.in_ok-window.ensures.found three s x at_two lawful ∙ window_stored h) in
+    let count = c.in_ok-landings.ensures.found four s x at_three lawful ∙ landings_stored h in
     let few = few_landings s x lawful h.queue h.there in
     let plus = c.saturating_add-place.ensures in
     let place = c.saturating_add-place.result in
     let at : place ≡ length h.queue.landings + 1 = omega (arith, count, few, plus) in
-    let window = c.grown-window.ensures
-    ∙ (λ i. grow (sizes i).window (bounds_named s (c.as_str.ensures.value i)).rule) in
+    let window = c.grown-resized.ensures
+    ∙ (λ i. grow (before i) (bounds_named s (c.as_str.ensures.value i)).rule) in
     let t = leave (verdict.Landed place) k.item.change x.state in
     let u = change_queue k.queue (landed_queue s (item_of k.item)) t in
     let edits = c.in_ok-edits-2.ensures
-    ∙ ap (λ (z : QueueSizes). c.in_ok-edits.edits.items ++ landing_edits k place z.window c.grown-window.result) sizes in
+    ∙ ap (λ z. c.in_ok-edits.edits.items ++ landing_edits k place z c.grown-resized.result) before in
     let landing = subst (λ es. Moves x es u) (sym edits)
-    (moves_on x t u c.in_ok-edits.edits.items (landing_edits k place h.queue.window c.grown-window.result)
-    (c.in_ok-edits.ensures.moves trusted x at_four lawful o.row.stored)
-    (lands s x k settings sound h place c.grown-window.result at window)) in
+    (moves_on x t u c.in_ok-edits.edits.items (landing_edits k place h.queue.window c.grown-resized.result)
+    (c.in_ok-edits.ensures.moves trusted x at_five lawful o.row.stored)
+    (lands s x k settings sound h place c.grown-resized.result at window)) in
     let plan = landed_plan x.state k.item.serial in
     let planned = c.in_ok-edits-3.ensures
     ∙ ap (λ (p : Plan). c.in_ok-edits-2.edits.items ++ edit.PutPlan p ∷ [])
-    (c.in_ok-plan.ensures.found four s x at_three lawful) in
+    (c.in_ok-plan.ensures.found five s x at_four lawful) in
     let moves = subst (λ es. Moves x es (put_plan plan u)) (sym planned)
     (moves_on x u (put_plan plan u) c.in_ok-edits-2.edits.items (edit.PutPlan plan ∷ []) landing
     (plan_put x u plan)) in
@@ -100,7 +99,7 @@ pub returns-in_default-3-clause-undamaged : goal.returns-in_default-3-clause-und
 returns-in_default-3-clause-undamaged g c trusted x holds lawful =
     let s = c.args.config.now in
     let k = c.in-Some.queued in
-    let two = c.in_ok-sizes.ensures.kept.trusted_before trusted in
+    let two = c.in_ok-window.ensures.kept.trusted_before trusted in
     let one = c.in_ok-known.ensures.kept.trusted_before two in
     let at_one = c.in_ok-queued.ensures.kept.holds_on one _ x holds in
     let at_two = c.in_ok-known.ensures.kept.holds_on two _ x at_one in
@@ -108,5 +107,5 @@ returns-in_default-3-clause-undamaged g c trusted x holds lawful =
     (subst (λ y. TellsShown s x.state y (shown_order s x.state c.args.order)) c.in-Some.is
     (c.in_ok-queued.ensures.found one x holds lawful)) in
     let h = stored s x.state k.queue k.item o.row.stored in
-    absurd (sizes_there s x.state k.queue k.item h
-    (sym (c.in_ok-sizes.ensures.found trusted s x at_two lawful) ∙ c.in_default-3.is))
+    absurd (window_there s x.state k.queue k.item h
+    (sym (c.in_ok-window.ensures.found trusted s x at_two lawful) ∙ c.in_default-3.is))

@@ -1,6 +1,5 @@
 use Rattle.std.proofs.Common.{◌≡◌, ◌∙◌, ◌++◌, Some, true, refl, sym, ap, subst, rules}
-use Rattle.std.specs.Prelude.{option_map}
-use Rattle.std.specs.Option.{option_map_or}
+use Rattle.std.proofs.lemmas.Option.{same_Some}
 use Rattle.gate_types.specs.declared.deliveries.Delivery.TheVariants as delivery
 use Rattle.gate_types.specs.declared.records.Verdict.TheVariants as verdict
 use Rattle.gate_types.specs.Settings.{are_sound}
@@ -8,8 +7,6 @@ use Rattle.gate_types.specs.State.{change_queue}
 use Rattle.gate_types.specs.SubmitOrder.{shown_order}
 use Rattle.gate_types.specs.Window.{shrink}
 use Rattle.gate_types.specs.Step.{leave, shrunk_queue}
-use Rattle.gate_book.specs.Reads.{sizes_of}
-use Rattle.gate_book.specs.declared.rows.QueueSizes.{QueueSizes}
 use Rattle.gate_queue.specs.Edits.{window_edits}
 use Rattle.gate_raw.specs.Moves.{Moves}
 use Rattle.gate_raw.specs.Touches.{Touches}
@@ -18,7 +15,7 @@ use Rattle.gate_ruling.specs.Windows.{bounds_named}
 use Rattle.gate_ruling.proofs.Folded.{moves_on}
 use Rattle.gate_ruling.proofs.Stored.{stored}
 use Rattle.gate_ruling.proofs.Ordered.{has_order, refused_touches, refused_raw, shrinks}
-use Rattle.gate_ruling.proofs.Missing.{sizes_there}
+use Rattle.gate_ruling.proofs.Missing.{window_there, window_stored}
 use Rattle.gate_ruling.proofs.kinds.refused.refused.Goals as goal
 
 pub returns-clause-raw : goal.returns-clause-raw
@@ -30,22 +27,22 @@ returns-clause-raw g c trusted x holds lawful =
     let settings : are_sound s ≡ true = search rules in
     let sound = lawful.lawful.sound in
     let two = c.in_ok-edits.ensures.kept.trusted_before trusted in
-    let one = c.in_ok-sizes.ensures.kept.trusted_before two in
+    let one = c.in_ok-window.ensures.kept.trusted_before two in
     let at_one = c.in_ok-queued.ensures.kept.holds_on one _ x holds in
-    let at_two = c.in_ok-sizes.ensures.kept.holds_on two _ x at_one in
+    let at_two = c.in_ok-window.ensures.kept.holds_on two _ x at_one in
     let o = has_order s x.state number k
     (subst (λ y. TellsShown s x.state y (shown_order s x.state number)) c.in-Some.is
     (c.in_ok-queued.ensures.found one x holds lawful)) in
     let h = stored s x.state k.queue k.item o.row.stored in
-    let sizes : c.in-Some-2.sizes ≡ sizes_of h.queue =
-    ap (λ y. option_map_or (λ (z : QueueSizes). z) y (sizes_of h.queue))
-    (sym c.in-Some-2.is ∙ c.in_ok-sizes.ensures.found two s x at_one lawful ∙ ap (option_map sizes_of) h.first) in
-    let window = c.shrunk-window.ensures ∙ (λ i.
-    shrink (sizes i).window (bounds_named s (c.as_str.ensures.value i)).floor (bounds_named s (c.as_str.ensures.value i)).rule) in
+    let before : c.in-Some-2.window ≡ h.queue.window =
+    same_Some c.in-Some-2.window h.queue.window
+    (sym c.in-Some-2.is ∙ c.in_ok-window.ensures.found two s x at_one lawful ∙ window_stored h) in
+    let window = c.shrunk-resized.ensures ∙ (λ i.
+    shrink (before i) (bounds_named s (c.as_str.ensures.value i)).floor (bounds_named s (c.as_str.ensures.value i)).rule) in
     let t = leave verdict.Refused k.item.change x.state in
     let u = change_queue k.queue (shrunk_queue s) t in
     let edits = c.in_ok-with_window.ensures
-    ∙ ap (λ (z : QueueSizes). c.in_ok-edits.edits.items ++ window_edits k.queue z.window c.shrunk-window.result) sizes in
+    ∙ ap (λ z. c.in_ok-edits.edits.items ++ window_edits k.queue z c.shrunk-resized.result) before in
     record {
       after = u;
       accepted = refused_raw s x.state number k o;
@@ -53,9 +50,9 @@ returns-clause-raw g c trusted x holds lawful =
       touches = subst (λ y. Touches s x.state d (Some y)) (sym c.touched.ensures)
           (refused_touches s x.state number k o);
       moves = subst (λ es. Moves x es u) (sym edits)
-          (moves_on x t u c.in_ok-edits.edits.items (window_edits k.queue h.queue.window c.shrunk-window.result)
+          (moves_on x t u c.in_ok-edits.edits.items (window_edits k.queue h.queue.window c.shrunk-resized.result)
           (c.in_ok-edits.ensures.moves trusted x at_two lawful o.row.stored)
-          (shrinks s x k settings sound h c.shrunk-window.result window));
+          (shrinks s x k settings sound h c.shrunk-resized.result window));
       unplaced = tt;
     }
 
@@ -63,11 +60,11 @@ pub returns-in_default-2-clause-undamaged : goal.returns-in_default-2-clause-und
 returns-in_default-2-clause-undamaged g c trusted x holds lawful =
     let s = c.args.config.now in
     let k = c.in-Some.queued in
-    let before = c.in_ok-sizes.ensures.kept.trusted_before trusted in
+    let before = c.in_ok-window.ensures.kept.trusted_before trusted in
     let held = c.in_ok-queued.ensures.kept.holds_on before _ x holds in
     let o = has_order s x.state c.args.order k
     (subst (λ y. TellsShown s x.state y (shown_order s x.state c.args.order)) c.in-Some.is
     (c.in_ok-queued.ensures.found before x holds lawful)) in
     let h = stored s x.state k.queue k.item o.row.stored in
-    absurd (sizes_there s x.state k.queue k.item h
-    (sym (c.in_ok-sizes.ensures.found trusted s x held lawful) ∙ c.in_default-2.is))
+    absurd (window_there s x.state k.queue k.item h
+    (sym (c.in_ok-window.ensures.found trusted s x held lawful) ∙ c.in_default-2.is))

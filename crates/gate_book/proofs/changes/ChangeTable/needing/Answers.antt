@@ -1,0 +1,24 @@
+use Rattle.std.proofs.Common.{◌≡◌, refl}
+use Rattle.std.specs.Prelude.{◌==◌, filter}
+use Rattle.std.proofs.lemmas.Bool.{eq-eqb}
+use Rattle.gate_book.specs.declared.pairs.Pair.{Pair}
+use Rattle.gate_book.specs.Changes.{changes_of}
+use Rattle.gate_book.specs.Needs.{IsSmall, need_of}
+use Rattle.gate_book.proofs.NeedLemmas.{all_filter, in_filter, needed_told, small_fit}
+use Rattle.gate_book.proofs.changes.ChangeTable.needing.Goals as goal
+
+pub of_first-requires-clause-fit : goal.of_first-requires-clause-fit
+of_first-requires-clause-fit c = rw c.deref.ensures.value (small_fit c.args.self.now.needs.items c.requires.needs_order.small)
+
+pairs : (c : goal.After-of_first) → c.of_first.result.now ≡ filter (λ (p : Pair). p.first == c.args.change) c.args.self.now.needs.items
+pairs c = rw (c.get.ensures.value, c.deref.ensures.value) at c.of_first.ensures
+
+pub returns-clause-small : goal.returns-clause-small
+returns-clause-small c =
+    rw (pairs c) (all_filter IsSmall (λ (p : Pair). p.first == c.args.change) c.args.self.now.needs.items c.requires.needs_order.small)
+
+pub returns-clause-told : goal.returns-clause-told
+returns-clause-told c n any =
+    let needs = c.args.self.now.needs.items in
+    rw (pairs c) (in_filter (λ (p : Pair). p.first == c.args.change) (need_of c.args.change n) needs (eq-eqb c.args.change c.args.change refl)
+    (needed_told needs c.args.change n (changes_of c.args.self.now) c.requires.needs_told any))

@@ -1,0 +1,17 @@
+use Rattle.std.proofs.Common.{◌∙◌, List, ap}
+use Rattle.gate_types.specs.declared.records.Item.{Item}
+use Rattle.gate_types.specs.Tables.{tables}
+use Rattle.gate_book.specs.Reads as read
+use Rattle.gate_book.specs.TableReads.{items_named, builds_of_rows}
+use Rattle.gate_book.proofs.ReadLemmas.{items_are}
+use Rattle.gate_types.specs.Tables.{Tables}
+use Rattle.gate_book.specs.Memory.{Held}
+use Rattle.gate_book.proofs.memory.MemBookBook.builds_between.Goals as goal
+
+pub returns-clause-found : goal.returns-clause-found
+returns-clause-found c _ s x held lawful =
+    let same = ap (λ (m : Held). m.tables) (c.self.view_is ∙ held) in
+    let name = c.args.queue.now in
+    let builds : Tables → List Item → _ = λ t items. builds_of_rows t.builds (read.items_between c.args.above c.args.last items) in
+    c.in_ok-builds_between.ensures ∙ ap (λ (t : Tables). builds t (items_named t.queues name)) same
+    ∙ ap (builds (tables s x)) (items_are s x name)

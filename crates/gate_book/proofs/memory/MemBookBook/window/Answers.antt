@@ -1,0 +1,13 @@
+use Rattle.std.proofs.Common.{◌∙◌, ap}
+use Rattle.std.specs.Prelude.{option_map}
+use Rattle.gate_book.specs.TableReads.{rows_named}
+use Rattle.gate_book.proofs.ReadLemmas.{window_is}
+use Rattle.gate_types.specs.Tables.{Tables}
+use Rattle.gate_book.specs.Memory.{Held}
+use Rattle.gate_book.proofs.memory.MemBookBook.window.Goals as goal
+
+pub returns-clause-found : goal.returns-clause-found
+returns-clause-found c _ s x held lawful =
+    let same = ap (λ (m : Held). m.tables) (c.self.view_is ∙ held) in
+    let name = c.args.queue.now in
+    c.window.ensures ∙ ap (λ (t : Tables). option_map (λ r. r.window) (rows_named t.queues name)) same ∙ window_is s x name
