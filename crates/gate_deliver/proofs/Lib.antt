@@ -3,3 +3,5 @@ mod KeptReply
 mod NextContents
 mod Steps
 mod Placed
+-- where admission changes nothing
+mod NobodyEnters

@@ -3,7 +3,7 @@ use Rattle.std.proofs.Common.{◌≡◌, ℕ, ◌≤◌, inl, inr, Bool, true, f
 use Rattle.std.specs.Prelude.{◌==◌, ◌&&◌, ◌||◌, All, find, flat_map, is_some, option_map, unwrap_or}
 use Rattle.std.specs.List.{list_any, list_all}
 use Rattle.std.specs.Option.{option_map_or}
-use Rattle.std.proofs.lemmas.Bool.{and_parts, eq-eqb, eqb-true}
+use Rattle.std.proofs.lemmas.Bool.{and_parts, eqb-true}
 use Rattle.std.proofs.lemmas.Option.{none-some, same_Some}
 use Rattle.gate_types.specs.declared.deliveries.Reply.{Reply}
 use Rattle.gate_types.specs.declared.deliveries.Reply.TheVariants as reply
@@ -26,11 +26,11 @@ use Rattle.gate_admission.specs.Known.{IsQueue}
 use Rattle.gate_admission.proofs.Admitted.{AreNamed}
 use Rattle.gate_reads.proofs.Queues.{named_itself}
 
-or_first : (a b : Bool) → a || b ≡ false → a ≡ false
+pub or_first : (a b : Bool) → a || b ≡ false → a ≡ false
 or_first false b e = refl
 or_first true b e = e
 
-or_rest : (a b : Bool) → a || b ≡ false → b ≡ false
+pub or_rest : (a b : Bool) → a || b ≡ false → b ≡ false
 or_rest false b e = e
 or_rest true b e = absurd (true≢false e)
 

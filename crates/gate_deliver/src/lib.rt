@@ -8,6 +8,7 @@
 #![tactic(auto)]
 
 mod accepting;
+mod admitted;
 pub mod delivering;
 mod ruled;
 mod speaking;

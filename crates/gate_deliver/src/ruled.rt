@@ -1,14 +1,13 @@
 //! What becomes of a delivery under a new id, before anything changes.
 ghost use Rattle.std.specs.Prelude.{◌≡◌, ◌++◌, IfOk, IfErr};
-ghost use Rattle.gate_types.specs.declared.deliveries.Delivery.{Delivery as DeliveryOf};
 ghost use Rattle.gate_book.specs.Faults.{MayAnswer};
 ghost use Rattle.gate_book.specs.Kept.{OfHeldUnder, IsKept};
 ghost use Rattle.gate_raw.specs.Raw.{IsMoved};
 ghost use Rattle.gate_ruling.specs.Faults.{MayRule};
 ghost use Rattle.gate_deliver.specs.Ruled.{IsRuled};
 
+use crate::admitted::admitted;
 use crate::speaking::speak;
-use gate_admission::admitting::admitting;
 use gate_book::book::Book;
 use gate_book::fault::BookFault;
 use gate_laws::{runs, settling as settling_laws};
@@ -45,7 +44,7 @@ pub(crate) fn rule<B: Book>(
     match raw(alloc, book, config, delivery)? {
         Raw::Refused(refusal) => Ok(Ruled::Refused(refusal)),
         Raw::Stands(reply) => Ok(Ruled::Accepted(reply, Vec::new(alloc))),
-        Raw::Moved(moved) => settle(alloc, book, config, moved),
+        Raw::Moved(moved) => settle(alloc, book, config, delivery, moved),
     }
 }
 
@@ -54,10 +53,11 @@ fn settle<B: Book>(
     alloc: Global,
     book: &mut B,
     config: &Config,
+    delivery: &Delivery,
     moved: Moved,
 ) -> Result<Ruled, BookFault>
-    ensures ruled { OfHeldUnder B.IsTrusted B.Holds book.old book.new config.now (λ x. (d : DeliveryOf) →
-        IsMoved config.now x d moved → IfOk result (IsRuled config.now x d)) }
+    ensures ruled { OfHeldUnder B.IsTrusted B.Holds book.old book.new config.now (λ x.
+        IsMoved config.now x delivery.now moved → IfOk result (IsRuled config.now x delivery.now)) }
     ensures kept { IsKept B.IsTrusted B.Holds B.LeavesOneOf book.old book.new }
     ensures fault { IfErr result (MayAnswer B.MayFault) }
 {
@@ -72,7 +72,7 @@ fn settle<B: Book>(
         touched,
     } = moved;
     let settled = joined(edits, settling(alloc, book, config, &touched)?)?;
-    match admitting(alloc, book, config, settled)? {
+    match admitted(alloc, book, config, delivery, settled)? {
         Some(all) => {
             let reply = speak(book, config, said, &all)?;
             Ok(Ruled::Accepted(reply, all))

@@ -10,8 +10,9 @@ use Rattle.gate_deliver.proofs.Steps.{moved_steps, exhausted_steps}
 use Rattle.gate_deliver.proofs.ruled.settle.Goals as goal
 
 pub returns-in_ok-reply-in-Some-clause-ruled : goal.returns-in_ok-reply-in-Some-clause-ruled
-returns-in_ok-reply-in-Some-clause-ruled g c trusted x holds lawful d moved =
+returns-in_ok-reply-in-Some-clause-ruled g c trusted x holds lawful moved =
     let s = c.args.config.now in
+    let d = c.args.delivery.now in
     let t = moved.after in
     let sound : are_sound s ≡ true = search rules in
     let admitted = c.in_ok-reply-in-Some.ensures.kept.trusted_before trusted in
@@ -21,7 +22,7 @@ returns-in_ok-reply-in-Some-clause-ruled g c trusted x holds lawful d moved =
     let led = c.in_ok-settling.ensures.settled settled x holds lawful d _ t c.args.moved.edits.items moved.accepted moved.acts moved.touches moved.moves in
     let both = subst (λ es. Leads s x es (in_state x (swept s t))) (sym c.in_ok-settled.ensures) led in
     let there = c.in_ok-settling.ensures.kept.holds_on settled _ x holds in
-    let done = at_some _ _ c.in_ok-all.field-0 c.in-Some.all c.in-Some.is (c.in_ok-all.ensures.admitted admitted x there lawful (swept s t) swept_sound both) in
+    let done = at_some _ _ c.in_ok-all.field-0 c.in-Some.all c.in-Some.is (c.in_ok-all.ensures.admitted admitted x there lawful _ t moved.accepted swept_sound both) in
     let here = c.in_ok-all.ensures.kept.holds_on admitted _ x there in
     let all = subst (λ es. Leads s x es (in_state x (settle s t))) (sym c.deref.ensures.value) done.0 in
     let spoken = c.in_ok-reply-in-Some.ensures.said trusted x here lawful (settle s t) (c.admit_is_sound.ensures s (swept s t) sound swept_sound) all in
@@ -32,8 +33,9 @@ returns-in_ok-reply-in-Some-clause-ruled g c trusted x holds lawful d moved =
     }
 
 pub returns-in-None-clause-ruled : goal.returns-in-None-clause-ruled
-returns-in-None-clause-ruled g c trusted x holds lawful d moved =
+returns-in-None-clause-ruled g c trusted x holds lawful moved =
     let s = c.args.config.now in
+    let d = c.args.delivery.now in
     let t = moved.after in
     let sound : are_sound s ≡ true = search rules in
     let settled = c.in_ok-all.ensures.kept.trusted_before trusted in
@@ -42,5 +44,5 @@ returns-in-None-clause-ruled g c trusted x holds lawful d moved =
     let led = c.in_ok-settling.ensures.settled settled x holds lawful d _ t c.args.moved.edits.items moved.accepted moved.acts moved.touches moved.moves in
     let both = subst (λ es. Leads s x es (in_state x (swept s t))) (sym c.in_ok-settled.ensures) led in
     let there = c.in_ok-settling.ensures.kept.holds_on settled _ x holds in
-    let past = at_none _ _ c.in_ok-all.field-0 c.in-None.is (c.in_ok-all.ensures.admitted trusted x there lawful (swept s t) swept_sound both) in
+    let past = at_none _ _ c.in_ok-all.field-0 c.in-None.is (c.in_ok-all.ensures.admitted trusted x there lawful _ t moved.accepted swept_sound both) in
     (exhausted_steps s x.state t d _ moved.accepted past, refl)

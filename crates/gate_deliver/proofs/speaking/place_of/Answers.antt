@@ -1,7 +1,5 @@
 use Rattle.std.proofs.Common.{rules, ◌≡◌, ◌∙◌, None, Some, List, ℕ, true, ap, sym}
 use Rattle.std.specs.Prelude.{◌==◌, find, option_copied}
-use Rattle.std.specs.Option.{option_map_or}
-use Rattle.gate_types.specs.declared.deliveries.Reply.TheVariants as reply
 use Rattle.gate_types.specs.Names.{same_name}
 use Rattle.gate_types.specs.Settings.{are_sound}
 use Rattle.gate_book.specs.Reads.{items_in}
