@@ -1,0 +1,172 @@
+"""What a delivery of each kind costs as a gate ages: scenes over files, a kind at a time, counted by callgrind."""
+import json
+import os
+import subprocess
+import sys
+
+from counted import counted
+
+# Changes whose deliveries are counted in each scene.
+CHANGES = 10
+
+SIZES = {
+    "whole": {"opening": (1000, 4000, 16000), "age": (1000, 4000, 16000), "length": (10, 100, 900),
+              "waiting": (0, 100, 1000), "chain": (10, 100, 400)},
+    "small": {"opening": (10, 20), "age": (10, 20), "length": (10, 20), "waiting": (0, 10), "chain": (10, 20)},
+}
+
+
+class Gate:
+    """A file of the program, and the lines that were sent to it."""
+
+    def __init__(self, program, settings, folder):
+        self.program, self.settings = program, settings
+        self.file = os.path.join(folder, "gate.db")
+        self.profile = os.path.join(folder, "profile")
+        self.sent = self.change = 0
+        for end in ("", "-wal", "-shm"):
+            if os.path.exists(self.file + end):
+                os.remove(self.file + end)
+        subprocess.run([program, "init", settings, self.file], check=True, capture_output=True)
+
+    def lines(self, deliveries):
+        """Deliveries as lines, each under an id of its own."""
+        texts = []
+        for delivery in deliveries:
+            self.sent += 1
+            texts.append(json.dumps({"id": f"00000000-0000-4000-8000-{self.sent:012}", **delivery}))
+        return ("\n".join(texts) + "\n" if texts else "").encode()
+
+    def words(self):
+        return [self.program, "deliver", self.settings, self.file]
+
+    def tell(self, deliveries):
+        """The replies to deliveries that aren't counted."""
+        done = subprocess.run(self.words(), input=self.lines(deliveries), capture_output=True, check=True)
+        return [json.loads(line) for line in done.stdout.splitlines()]
+
+    def count(self, deliveries):
+        """What deliveries cost, without opening the file, and the replies."""
+        idle, _ = counted(self.words(), b"", self.profile)
+        busy, output = counted(self.words(), self.lines(deliveries), self.profile)
+        replies = [json.loads(line) for line in output.splitlines()]
+        refused = [reply for reply in replies if "error" in reply]
+        if refused:
+            raise SystemExit(f"refused: {refused[0]}")
+        return busy.over(idle, len(deliveries)), replies
+
+    def opening(self):
+        return counted(self.words(), b"", self.profile)[0]
+
+    def fresh(self, count):
+        """Numbers of changes that are new."""
+        first = self.change + 1
+        self.change += count
+        return range(first, first + count)
+
+
+def revision(change, needs=()):
+    message = "\n".join(f"Depends-On: https://forge/c/{need}" for need in needs)
+    return {"kind": "revision", "change": change, "project": "lib", "revision": 1, "message": message}
+
+
+def approved(change):
+    return {"kind": "approved", "change": change, "revision": 1}
+
+
+def take():
+    return {"kind": "take", "worker": "w"}
+
+
+def result(build, outcome="success"):
+    return {"kind": "result", "build": build, "outcome": outcome}
+
+
+def landed(order):
+    return {"kind": "landed", "order": order}
+
+
+def admit(gate, count):
+    """New changes come and are approved: their orders."""
+    changes = gate.fresh(count)
+    gate.tell([revision(change) for change in changes])
+    return [reply["order"] for reply in gate.tell([approved(change) for change in changes])]
+
+
+def live(gate, count):
+    """Changes come, pass and land, a few at a time."""
+    while count > 0:
+        some = min(count, 20)
+        orders = admit(gate, some)
+        builds = [reply["build"] for reply in gate.tell([take() for _ in orders])]
+        gate.tell([result(build) for build in builds])
+        gate.tell([landed(order) for order in orders])
+        count -= some
+
+
+def wait(gate, count):
+    """Approved changes that need one that is unknown."""
+    changes = gate.fresh(count)
+    gate.tell([revision(change, [999999999]) for change in changes])
+    gate.tell([approved(change) for change in changes])
+
+
+def kinds(gate, orders, line):
+    """Counts the way of ten changes, a kind at a time, over a queue of these orders, none of which has a build. `line`
+    says where."""
+    changes = gate.fresh(CHANGES)
+    told = {}
+    told["revision"], _ = gate.count([revision(change) for change in changes])
+    told["approved"], replies = gate.count([approved(change) for change in changes])
+    orders = orders + [reply["order"] for reply in replies]
+    told["take"], replies = gate.count([take() for _ in range(CHANGES)])
+    told["result"], _ = gate.count([result(reply["build"]) for reply in replies])
+    told["landed"], _ = gate.count([landed(order) for order in orders[:CHANGES]])
+    for kind, cost in told.items():
+        print(f"{line:28} {kind:9} {cost}", flush=True)
+
+
+def opening(make, size):
+    gate = make()
+    live(gate, size)
+    print(f"opening, {size} landed".ljust(28), gate.opening(), flush=True)
+
+
+def age(make, size):
+    gate = make()
+    live(gate, size)
+    kinds(gate, admit(gate, 10), f"{size} landed")
+
+
+def length(make, size):
+    gate = make()
+    kinds(gate, admit(gate, size), f"a queue of {size}")
+
+
+def waiting(make, size):
+    gate = make()
+    wait(gate, size)
+    kinds(gate, admit(gate, 10), f"{size} waiting")
+
+
+def chain(make, size):
+    """Each change needs the one before; the first one fails, and all leave."""
+    gate = make()
+    changes = gate.fresh(size)
+    gate.tell([revision(change, [change - 1] if change > 1 else []) for change in changes])
+    gate.tell([approved(change) for change in changes])
+    build = gate.tell([take()])[0]["build"]
+    cost, _ = gate.count([result(build, "failure")])
+    print(f"a chain of {size}".ljust(28), "a change", cost.part(size), flush=True)
+
+
+CASES = {"opening": opening, "age": age, "length": length, "waiting": waiting, "chain": chain}
+
+
+def main(program, settings, folder, sizes, cases):
+    for case in cases:
+        for size in SIZES[sizes][case]:
+            CASES[case](lambda: Gate(program, settings, folder), size)
+
+
+main(*sys.argv[1:5], sys.argv[5:])
