@@ -94,14 +94,14 @@ def admit(gate, count):
 
 
 def live(gate, count):
-    """Changes come, pass and land, a few at a time."""
-    while count > 0:
-        some = min(count, 20)
-        orders = admit(gate, some)
-        builds = [reply["build"] for reply in gate.tell([take() for _ in orders])]
-        gate.tell([result(build) for build in builds])
-        gate.tell([landed(order) for order in orders])
-        count -= some
+    """Changes come, pass and land, one behind another, the first that the gate sees: so builds and orders are numbered
+    as the changes are."""
+    deliveries = []
+    for number in gate.fresh(count):
+        deliveries += [revision(number), approved(number), take(), result(number), landed(number)]
+    refused = [reply for reply in gate.tell(deliveries) if "error" in reply]
+    if refused:
+        raise SystemExit(f"refused: {refused[0]}")
 
 
 def wait(gate, count):
