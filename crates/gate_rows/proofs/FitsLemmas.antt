@@ -1,5 +1,5 @@
 -- What an INSERT that ends well says of the rows that were there.
-use Rattle.std.proofs.Common.{◌≡◌, ◌<◌, ℕ, zero, suc, pos, List, [], ◌∷◌, map, filter, take, Bool, true, false, not, cond, ◌&&◌, eqb, Ok, refl, sym, ap, subst, ◌∙◌, arith, append-nil, is_eq}
+use Rattle.std.proofs.Common.{◌≡◌, ◌≤◌, ◌<◌, ℕ, zero, suc, pos, List, [], ◌∷◌, map, filter, length, take, ltb, Bool, true, false, not, cond, ◌&&◌, eqb, Ok, refl, sym, ap, subst, ◌∙◌, arith, append-nil, is_eq}
 use Rattle.std.specs.List.{AllByRecursion, list_any}
 use Rattle.std.proofs.lemmas.Bool.{and_parts, not-true, or_parts}
 use Rattle.std.proofs.lemmas.Bool.Decides.{nat_tests}
@@ -14,13 +14,16 @@ use Rattle.sqlite.specs.State.{State, ExecutesInside}
 use Rattle.sqlite.specs.declared.types.Value.TheVariants.{Int}
 use Rattle.sqlite.proofs.Callers.{runs_as, statement_of}
 use Rattle.sqlite_catalog.specs.Listing.{IsSound}
+use Rattle.sqlite_keyed.specs.Keyed.{IsKeyedBy}
+use Rattle.sqlite_keyed.proofs.ListLemmas.{all_kept, filter-filter}
 use Rattle.sqlite_trees.specs.Tree.{rowid}
 use Rattle.gate_types.specs.Names.{same_name}
 use Rattle.gate_types.specs.declared.config.Job.{Job}
 use Rattle.gate_schema.specs.Rows.{AreNamed, Changes, IsReady, ItemRow, JobRow, QueueLanding, QueueReport, Stands, Stored, item_key, item_row, job_columns, landing_columns, report_columns}
 use Rattle.gate_schema.specs.Edits.{add_jobs, job_rows}
 use Rattle.gate_schema.specs.Schema.{gate_schema, item_at}
-use Rattle.gate_schema.proofs.ItemTable.{add_item_is, add_item_sql, add_item_terms, item_params}
+use Rattle.gate_schema.proofs.ItemTable.{add_item_is, add_item_sql, add_item_terms, is_of, item_params}
+use Rattle.gate_schema.proofs.ChangeLemmas.{one_keyed}
 use Rattle.gate_schema.proofs.JobTable.{add_job_is, add_job_sql, add_job_terms, adds_job}
 use Rattle.gate_schema.proofs.LandingTable.{add_landing_is, add_landing_sql, add_landing_terms, adds_landing}
 use Rattle.gate_schema.proofs.ReportTable.{add_report_is, add_report_sql, add_report_terms, adds_report}
@@ -75,6 +78,24 @@ others_differ n name (y ∷ ys) free = go (eqb y.item.serial n) refl (same_name 
     go true e true f free more = ((λ _. f), more free)
     go true e false f free more = ((λ _. absurd (let no = free.0 in cc)), more free.1)
     go false e m f free more = ((λ is. absurd cc), more free.1)
+
+-- where one of a serial is found in a queue, no other queue has one
+pub alone_found : (x : ItemRow) (rows : List ItemRow) → IsKeyedBy (λ y. pos (item_key y)) rows → (count : ℕ) → count ≡ length (filter (is_of x) rows) → ltb 0 count ≡ true
+    → AllByRecursion (λ (y : ItemRow). eqb y.item.serial x.item.serial ≡ true → same_name y.queue x.queue ≡ true) rows
+alone_found x rows up count is found =
+    let mine : ItemRow → Bool = λ y. eqb (item_key y) (item_key x) in
+    let few : length (filter mine rows) ≤ 1 = one_keyed item_key item_row (λ y. refl) (item_key x) mine (λ y e. e) rows up in
+    let some : 0 < length (filter (is_of x) (filter mine rows)) = rw (filter-filter (is_of x) mine (λ y e. (and_parts _ _ e).0) rows, sym is) (grind (arith, nat_tests)) in
+    all_kept (λ y. same_name y.queue x.queue ≡ true) mine rows (go (filter mine rows) few some)
+  where
+    its : (y : ItemRow) (b : Bool) → is_of x y ≡ b → 0 < length (cond b (y ∷ []) []) → same_name y.queue x.queue ≡ true
+    its y true e some = (and_parts _ _ e).1
+    its y false e some = absurd (omega arith)
+
+    go : (ys : List ItemRow) → length ys ≤ 1 → 0 < length (filter (is_of x) ys) → AllByRecursion (λ (y : ItemRow). same_name y.queue x.queue ≡ true) ys
+    go [] few some = tt
+    go (y ∷ []) few some = (its y (is_of x y) refl some, tt)
+    go (y ∷ z ∷ ys) few some = absurd (omega arith)
 
 -- ---- landings and reports
 

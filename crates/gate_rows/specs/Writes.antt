@@ -1,5 +1,5 @@
 -- What a call within a transaction does, where the disk has returned what was written.
-use Rattle.std.specs.Prelude.{OnOk, Result}
+use Rattle.std.specs.Prelude.{◌≡◌, Bool, true, IfOk, OnOk, Result}
 use Rattle.sqlite.specs.State.{HasCleanDisk, KeepsCommit, State, Survives}
 use Rattle.gate_schema.specs.Rows.{AreNamed, Changes, IsReady, Stands, Stored}
 
@@ -7,10 +7,19 @@ use Rattle.gate_schema.specs.Rows.{AreNamed, Changes, IsReady, Stands, Stored}
 abbrev pub Makes : {T E : Type 0} → State → State → Result T E → (Stored → Stored) → Type 0
 Makes old new result change = HasCleanDisk new → IsReady old → OnOk result (Changes old new change)
 
+-- on Ok, what the tables hold is changed as the answer says
+abbrev pub MakesAs : {T E : Type 0} → State → State → Result T E → (T → Stored → Stored) → Type 0
+MakesAs old new result change = HasCleanDisk new → IsReady old → IfOk result (λ x. Changes old new (change x))
+
 -- on Ok, this was so of what the tables held
 abbrev pub Found : {T E : Type 0} → State → State → Result T E → (Stored → Type 0) → Type 0
 Found old new result P =
     HasCleanDisk new → IsReady old → OnOk result ((b : Stored) → AreNamed b → Stands old.now.trees b → P b)
+
+-- on Ok, it was so where the answer is true
+abbrev pub FoundIf : {E : Type 0} → State → State → Result Bool E → (Stored → Type 0) → Type 0
+FoundIf old new result P =
+    HasCleanDisk new → IsReady old → IfOk result (λ is. is ≡ true → (b : Stored) → Stands old.now.trees b → P b)
 
 -- nothing is committed
 abbrev pub Keeps : State → State → Type 0

@@ -6,7 +6,7 @@ ghost use Rattle.gate_types.specs.declared.edits.Edit.TheVariants as edit;
 ghost use Rattle.gate_schema.specs.Edits as edits;
 ghost use Rattle.gate_schema.specs.Rows.{ItemRow};
 ghost use Rattle.gate_rows.specs.Tells.{FitsBeside};
-ghost use Rattle.gate_rows.specs.Writes.{Found, Keeps, LeavesNothing, Makes};
+ghost use Rattle.gate_rows.specs.Writes.{Found, FoundIf, Keeps, LeavesNothing, Makes, MakesAs};
 
 use crate::values::{change, flag, revision, serial, serial_if_any, text};
 use gate_types::names::Name;
@@ -26,23 +26,28 @@ pub(crate) fn drop_item<S: Alter>(tx: &mut Transaction<'_, S>, number: Serial) -
     Ok(())
 }
 
-/// Takes the item of a serial out of one queue.
-fn drop_item_of<S: Alter>(
-    tx: &mut Transaction<'_, S>,
-    number: Serial,
-    queue: &Name,
-) -> Result<(), Error>
+/// Sets an item in place of the one of its serial in its queue. Tells whether there is one.
+fn set_item<S: Alter>(tx: &mut Transaction<'_, S>, queue: &Name, item: &Item) -> Result<bool, Error>
     ensures same_reference { tx.new.conn.ghost_name ≡ tx.old.conn.ghost_name }
-    ensures changes { Makes (state S.Store tx.old.conn.now) (state S.Store tx.new.conn.now) result
-        (edits.drop_item_of number queue.now) }
+    ensures changes { MakesAs (state S.Store tx.old.conn.now) (state S.Store tx.new.conn.now) result
+        (λ found. edits.set_item found (edits.item_in queue.now item.now)) }
+    ensures fits { FoundIf (state S.Store tx.old.conn.now) (state S.Store tx.new.conn.now) result
+        (FitsBeside (edit.PutItem queue.now item.now)) }
     ensures kept { Keeps (state S.Store tx.old.conn.now) (state S.Store tx.new.conn.now) }
     ensures crash { LeavesNothing (state S.Store tx.old.conn.now) (state S.Store tx.new.conn.now) }
 {
-    tx.execute(
-        "DELETE FROM item WHERE serial = ?1 AND queue = ?2",
-        &[serial(number), text(queue.as_str())],
+    let rows = tx.execute(
+        "UPDATE item SET change = ?3, revision = ?4, ahead = ?5, failing = ?6 WHERE serial = ?1 AND queue = ?2",
+        &[
+            serial(item.serial),
+            text(queue.as_str()),
+            change(item.change),
+            revision(item.revision),
+            serial_if_any(item.ahead),
+            flag(item.failing),
+        ],
     )?;
-    Ok(())
+    Ok(rows > 0)
 }
 
 /// Adds an item. An Err where an item has its serial.
@@ -83,6 +88,8 @@ pub(crate) fn put_item<S: Alter>(
     ensures kept { Keeps (state S.Store tx.old.conn.now) (state S.Store tx.new.conn.now) }
     ensures crash { LeavesNothing (state S.Store tx.old.conn.now) (state S.Store tx.new.conn.now) }
 {
-    drop_item_of(tx, item.serial, queue)?;
+    if set_item(tx, queue, item)? {
+        return Ok(());
+    }
     add_item(tx, queue, item)
 }

@@ -1,5 +1,5 @@
 -- The builds: what each statement on them means, and what it makes of what the tables hold.
-use Rattle.std.proofs.Common.{◌≡◌, ◌≤◌, ℕ, pos, List, [], ◌∷◌, map, filter, length, false, not, Ok, codes, refl, sym, ap, subst, ◌∙◌, arith, eqb}
+use Rattle.std.proofs.Common.{◌≡◌, ◌≤◌, ℕ, pos, List, [], ◌∷◌, map, filter, length, false, not, Ok, codes, refl, sym, ap, subst, ◌∙◌, eqb}
 use Rattle.std.proofs.lemmas.List.{length-map}
 use Rattle.sqlite.specs.Cast.{cast_row}
 use Rattle.sqlite.specs.Command.TheVariants.{Insert, Delete, Update}
@@ -15,13 +15,11 @@ use Rattle.sqlite.specs.Term.{Term, lit, col}
 use Rattle.sqlite.specs.declared.types.Value.TheVariants.{Null, Int, Text as Words}
 use Rattle.sqlite.proofs.Callers.{runs_as, statement_of}
 use Rattle.sqlite_schema.specs.declared.program.Program.{Program}
-use Rattle.sqlite_keyed.specs.Keyed.{IsKeyedBy, insert_by}
+use Rattle.sqlite_keyed.specs.Keyed.{insert_by}
 use Rattle.sqlite_keyed.proofs.ListLemmas.{filter-map, filter_same}
-use Rattle.sqlite_keyed.proofs.RuleLemmas.{at_most_one}
 use Rattle.sqlite_tied.proofs.RuleLemmas.{and_true}
 use Rattle.sqlite_tied.specs.Compute.{everything}
 use Rattle.sqlite_trees.specs.Tree.{rowid, put_row}
-use Rattle.std.proofs.lemmas.Bool.Decides.{nat_tests}
 use Rattle.gate_types.specs.Rebase.{with_live}
 use Rattle.gate_types.specs.Rows.{with_outcome}
 use Rattle.gate_types.specs.declared.records.Build.{Build}
@@ -30,7 +28,7 @@ use Rattle.gate_schema.specs.Edits.{add_build, drop_build, set_outcome, stop_bui
 use Rattle.gate_schema.specs.Rows.{IsReady, Changes, IsKeyed, bit, build_row, build_key}
 use Rattle.gate_schema.specs.Schema.{gate_schema, build_at}
 use Rattle.gate_schema.specs.Words.{ahead_text, outcome_word}
-use Rattle.gate_schema.proofs.ChangeLemmas.{changed, keyed_put, keyed_without, keyed_numbered, keyed_changed, updated_rows}
+use Rattle.gate_schema.proofs.ChangeLemmas.{changed, keyed_put, keyed_without, keyed_numbered, keyed_changed, one_keyed, updated_rows}
 use Rattle.gate_schema.proofs.DeleteLemmas.{deleted_ids, leaves_others}
 use Rattle.gate_schema.proofs.QueryLemmas.{over_table, passes, shows_few}
 use Rattle.gate_schema.proofs.RowLemmas.{cast_int, cast_null, int_cast, out, renewed, written_update}
@@ -104,11 +102,6 @@ drops_build n old new count ready h =
           (keyed_without build_key build_row (λ x. refl) test (λ y. eqb (build_key y) n) (λ y. rw equal_numbers (and_true (eqb (build_key y) n))) (old.now.trees 13) b.builds stands.build));
     }
 
--- ---- one column of a build set
-
-one_build : (n : ℕ) (bs : List Build) → IsKeyedBy (λ y. pos (build_key y)) bs → length (filter (λ y. eqb (build_key y) n) bs) ≤ 1
-one_build n bs up = at_most_one (λ y. pos (build_key y)) (pos n) (λ y. eqb (build_key y) n) (λ y e. grind (arith, nat_tests)) bs up
-
 -- ---- the outcome of a build told
 
 abbrev pub set_outcome_sql : List ℕ
@@ -142,7 +135,7 @@ sets_outcome n o old new count ready h =
           let numbered = keyed_numbered build_key build_row (λ x. refl) (old.now.trees 13) b.builds stands.build in
           let found : filter test (old.now.trees 13) ≡ map build_row (filter (λ y. eqb (build_key y) n) b.builds) =
           ap (filter test) stands.build.rows_are ∙ filter-map test build_row b.builds ∙ ap (map build_row) (filter_same _ _ same b.builds) in
-          let few : length (filter (λ y. eqb (build_key y) n) b.builds) ≤ 1 = one_build n b.builds stands.build.in_order in
+          let few : length (filter (λ y. eqb (build_key y) n) b.builds) ≤ 1 = one_keyed build_key build_row (λ x. refl) n (λ y. eqb (build_key y) n) (λ y e. e) b.builds stands.build.in_order in
           let short : length (filter test (old.now.trees 13)) ≤ 1 = rw found (simp length-map few) in
           let rows : e.0 ≡ map (out (build_at 13) set_outcome_terms params old.now.trees) (filter test (old.now.trees 13)) =
           shows_few 13 (key_is 0 ∷ []) (col 1 0 ∷ set_outcome_terms) [] no_limit db params e.0 short (e.1.answer Null) in
@@ -187,7 +180,7 @@ stops_build n old new count ready h =
           let numbered = keyed_numbered build_key build_row (λ x. refl) (old.now.trees 13) b.builds stands.build in
           let found : filter test (old.now.trees 13) ≡ map build_row (filter (λ y. eqb (build_key y) n) b.builds) =
           ap (filter test) stands.build.rows_are ∙ filter-map test build_row b.builds ∙ ap (map build_row) (filter_same _ _ same b.builds) in
-          let few : length (filter (λ y. eqb (build_key y) n) b.builds) ≤ 1 = one_build n b.builds stands.build.in_order in
+          let few : length (filter (λ y. eqb (build_key y) n) b.builds) ≤ 1 = one_keyed build_key build_row (λ x. refl) n (λ y. eqb (build_key y) n) (λ y e. e) b.builds stands.build.in_order in
           let short : length (filter test (old.now.trees 13)) ≤ 1 = rw found (simp length-map few) in
           let rows : e.0 ≡ map (out (build_at 13) stop_build_terms params old.now.trees) (filter test (old.now.trees 13)) =
           shows_few 13 (key_is 0 ∷ []) (col 1 0 ∷ stop_build_terms) [] no_limit db params e.0 short (e.1.answer Null) in

@@ -1,5 +1,8 @@
 -- Rows changed where they stand, put and taken out, and the records beside them.
-use Rattle.std.proofs.Common.{◌≡◌, ◌≤◌, ℕ, ℤ, pos, List, [], ◌∷◌, ◌++◌, map, drop, filter, length, Bool, true, false, not, cond, IsTrue, refl, sym, ap, subst, ◌∙◌, arith, is_eq, Ordering, Less, Equal, Greater, int_cmp, true≢false}
+use Rattle.std.proofs.Common.{◌≡◌, ◌≤◌, ℕ, ℤ, pos, List, [], ◌∷◌, ◌++◌, map, drop, filter, length, Bool, true, false, not, cond, IsTrue, refl, sym, ap, subst, ◌∙◌, arith, is_eq, Ordering, Less, Equal, Greater, int_cmp, true≢false, eqb, ltb}
+use Rattle.std.proofs.lemmas.Bool.Decides.{nat_tests}
+use Rattle.std.proofs.lemmas.List.Elements.{filter_passes, recursion_from_All}
+use Rattle.std.proofs.lemmas.List.Sorted.{IsPermutation-refl}
 use Rattle.std.specs.List.{AllByRecursion}
 use Rattle.std.specs.Ordering.{match_ordering, ordering_reverse}
 use Rattle.std.proofs.lemmas.Cmp.{tied_itself}
@@ -9,11 +12,13 @@ use Rattle.sqlite.specs.Edit.{id_in, put_all, without_all}
 use Rattle.sqlite_trees.specs.Tree.{rowid, put_row, without_rowid, has_rowid}
 use Rattle.sqlite_trees.specs.View.{is_int}
 use Rattle.sqlite_value.proofs.OrderLemmas.{value_cmp_total, value_cmp-Int}
-use Rattle.sqlite_keyed.specs.Keyed.{insert_by}
+use Rattle.sqlite_keyed.specs.Keyed.{IsKeyedBy, insert_by}
 use Rattle.sqlite_keyed.proofs.KeyedLemmas.{Less-from_lt, IsKeyedBy-insert_by}
 use Rattle.sqlite_keyed.proofs.ListLemmas.{ascending-map, ascending_weaker, ascending-filter, filter-map, filter_same, map-map, map_same}
+use Rattle.sqlite_keyed.proofs.RuleLemmas.{at_most_one}
+use Rattle.gate_schema.specs.Edits.{insert_if}
 use Rattle.gate_schema.specs.Rows.{IsNumbered, IsKeyed}
-use Rattle.gate_schema.proofs.DeleteLemmas.{is_its}
+use Rattle.gate_schema.proofs.DeleteLemmas.{is_its, leaves_others}
 
 abbrev pub changed : {X : Type 0} → (X → Bool) → (X → X) → List X → List X
 changed p f xs = map (λ x. cond (p x) (f x) x) xs
@@ -118,6 +123,30 @@ module _ {X : Type 0} (key : X → ℕ) (row : X → Row) (id : (x : X) → rowi
     rows_are = ap (filter (λ r. not (test r))) h.rows_are ∙ filter-map (λ r. not (test r)) row xs ∙ ap (map row) (filter_same _ _ (λ x. ap not (same x)) xs);
     in_order = ascending-filter _ (λ x. not (p x)) xs h.in_order;
   }
+
+  pub keyed_found : (test : Row → Bool) (p : X → Bool) → ((x : X) → test (row x) ≡ p x) → (rs : List Row) (xs : List X) → IsKeyed key row rs xs → filter test rs ≡ map row (filter p xs)
+  keyed_found test p same rs xs h = ap (filter test) h.rows_are ∙ filter-map test row xs ∙ ap (map row) (filter_same _ _ same xs)
+
+  -- one record at most has a key
+  pub one_keyed : (n : ℕ) (p : X → Bool) → ((x : X) → p x ≡ true → eqb (key x) n ≡ true) → (xs : List X) → IsKeyedBy (λ x. pos (key x)) xs → length (filter p xs) ≤ 1
+  one_keyed n p its xs up = at_most_one (λ x. pos (key x)) (pos n) p (λ x e. let same = its x e in grind (arith, nat_tests)) xs up
+
+  -- Where an UPDATE makes one row of each that it finds, and finds one at most, that one is taken out and the row is put.
+  pub keyed_set : (test : Row → Bool) (new : Row → Row) (p : X → Bool) (x : X) → ((y : X) → test (row y) ≡ p y) → ((y : X) → p y ≡ true → new (row y) ≡ row x)
+      → (rs : List Row) (xs : List X) → IsKeyed key row rs xs → length (filter p xs) ≤ 1
+      → IsKeyed key row (put_all (without_all rs (map (λ r. id_in (rowid r)) (filter test rs))) (map new (filter test rs))) (insert_if (ltb 0 (length (filter p xs))) key (filter (λ y. not (p y)) xs) x)
+  keyed_set test new p x same made rs xs h short =
+      let others = filter (λ y. not (p y)) xs in
+      let then = λ (left found : List Row). IsKeyed key row (put_all left (map new found)) (insert_if (ltb 0 (length (filter p xs))) key others x) in
+      subst (λ left. then left (filter test rs)) (sym (leaves_others test rs _ (keyed_numbered rs xs h) (IsPermutation-refl _)))
+      (subst (then (filter (λ r. not (test r)) rs)) (sym (keyed_found test p same rs xs h))
+      (go (filter (λ r. not (test r)) rs) others (keyed_without test p same rs xs h) (filter p xs) (recursion_from_All _ _ (filter_passes p xs)) short))
+    where
+      go : (left : List Row) (others : List X) → IsKeyed key row left others → (found : List X) → AllByRecursion (λ y. p y ≡ true) found → length found ≤ 1
+          → IsKeyed key row (put_all left (map new (map row found))) (insert_if (ltb 0 (length found)) key others x)
+      go left others rest [] all short = rest
+      go left others rest (y ∷ []) all short = subst (λ r. IsKeyed key row (put_row r left) (insert_by (λ y. pos (key y)) others x)) (sym (made y all.0)) (keyed_put x left others rest)
+      go left others rest (y ∷ z ∷ found) all short = absurd (omega arith)
 
   pub keyed_changed : (test : Row → Bool) (new : Row → Row) (p : X → Bool) (f : X → X) → ((x : X) → test (row x) ≡ p x) → ((x : X) → new (row x) ≡ row (f x)) → ((x : X) → key (f x) ≡ key x)
       → (rs : List Row) (xs : List X) → IsKeyed key row rs xs → IsKeyed key row (changed test new rs) (changed p f xs)

@@ -1,7 +1,9 @@
 -- The changes, without their needs: what each statement on them means, and what it makes of what the tables hold.
-use Rattle.std.proofs.Common.{◌≡◌, ℕ, pos, List, [], ◌∷◌, filter, not, Ok, codes, refl, sym, ap, subst, ◌∙◌, eqb}
+use Rattle.std.proofs.Common.{◌≡◌, ◌≤◌, ℕ, pos, List, [], ◌∷◌, map, filter, length, Bool, true, not, Ok, codes, refl, sym, ap, subst, ◌∙◌, arith, eqb, ltb}
+use Rattle.std.proofs.lemmas.Bool.Decides.{nat_tests}
+use Rattle.std.proofs.lemmas.List.{length-map}
 use Rattle.sqlite.specs.Cast.{cast_row}
-use Rattle.sqlite.specs.Command.TheVariants.{Insert, Delete}
+use Rattle.sqlite.specs.Command.TheVariants.{Insert, Update}
 use Rattle.sqlite.specs.Edit.{edit_of, edited, with_rowid}
 use Rattle.sqlite.specs.Listing.{understood}
 use Rattle.sqlite.specs.Order.{Row}
@@ -18,18 +20,17 @@ use Rattle.sqlite_keyed.specs.Keyed.{insert_by}
 use Rattle.sqlite_tied.proofs.RuleLemmas.{and_true}
 use Rattle.sqlite_tied.specs.Compute.{everything}
 use Rattle.sqlite_trees.specs.Tree.{put_row}
-use Rattle.gate_schema.specs.Edits.{add_change, drop_change}
+use Rattle.gate_schema.specs.Edits.{add_change, insert_if, set_change}
 use Rattle.gate_schema.specs.Rows.{IsReady, Changes, IsKeyed, number_or_null, change_row, change_key}
 use Rattle.gate_schema.specs.Schema.{gate_schema, change_at}
 use Rattle.gate_schema.specs.Words.{stage_word}
-use Rattle.gate_schema.proofs.ChangeLemmas.{keyed_put, keyed_without, keyed_numbered}
-use Rattle.gate_schema.proofs.DeleteLemmas.{deleted_ids, leaves_others}
-use Rattle.gate_schema.proofs.QueryLemmas.{over_table, passes}
-use Rattle.gate_schema.proofs.RowLemmas.{cast_int, cast_null, cast_or_null}
+use Rattle.gate_schema.proofs.ChangeLemmas.{keyed_found, keyed_put, keyed_set, one_keyed}
+use Rattle.gate_schema.proofs.QueryLemmas.{over_table, passes, shows_few}
+use Rattle.gate_schema.proofs.RowLemmas.{cast_int, cast_null, cast_or_null, out, renewed, written_update}
 use Rattle.gate_schema.proofs.Statements.{Is, key_is, no_limit}
 use Rattle.gate_schema.proofs.TableLemmas.{others_stay, with_changes}
 use Rattle.gate_schema.proofs.ValueLemmas.{equal_numbers}
-use Rattle.gate_schema.proofs.WriteLemmas.{inserts, deletes}
+use Rattle.gate_schema.proofs.WriteLemmas.{inserts, updates}
 use Rattle.gate_types.specs.declared.rows.ChangeRow.{ChangeRow}
 
 -- ---- a change added
@@ -65,34 +66,47 @@ adds_change x old new count ready h =
           (subst (λ rs. IsKeyed change_key change_row rs (insert_by (λ y. pos (change_key y)) b.changes x)) (sym left) (keyed_put change_key change_row (λ x. refl) x (old.now.trees 7) b.changes stands.change));
     }
 
--- ---- a change taken out
+-- ---- a change set in place of the one of its number
 
-abbrev pub drop_change_sql : List ℕ
-drop_change_sql = codes "DELETE FROM change WHERE num = ?1"
+abbrev pub set_change_sql : List ℕ
+set_change_sql = codes "UPDATE change SET project = ?2, revision = ?3, state = ?4, approval = ?5 WHERE num = ?1"
 
-abbrev pub drop_change_query : Query
-drop_change_query = over_table 7 (key_is 0 ∷ []) (col 1 0 ∷ []) [] no_limit
+abbrev pub set_change_terms : List Term
+set_change_terms = col 1 0 ∷ lit Null ∷ col 0 1 ∷ col 0 2 ∷ col 0 3 ∷ col 0 4 ∷ []
 
-pub drop_change_is : Is drop_change_sql (Delete 3 (record { lets = []; body = drop_change_query }))
+abbrev pub set_change_query : Query
+set_change_query = over_table 7 (key_is 0 ∷ []) (col 1 0 ∷ set_change_terms) [] no_limit
+
+pub set_change_is : Is set_change_sql (Update 3 (record { lets = []; body = set_change_query }))
 unfolding understood everything
-drop_change_is = (refl, (refl, refl))
+set_change_is = (refl, (refl, refl))
 
-pub drops_change : (n : ℕ) (old new : State) (count : ℕ) → IsReady old → ExecutesInside 0 drop_change_sql (Int (pos n) ∷ []) old new (Ok count)
-    → Changes old new (drop_change n)
-drops_change n old new count ready h =
-    let params = Int (pos n) ∷ [] in
-    let program : Program = record { lets = []; body = drop_change_query } in
-    let w = runs_as drop_change_sql params old new gate_schema ready.schema_is (Delete 3 program) drop_change_is.0 drop_change_is.1 count h.0 in
-    let e = deletes gate_schema (λ _ _ _. refl) old new ready.schema_is 3 (change_at 7) refl (statement_of drop_change_sql (understood gate_schema drop_change_sql)) params count program w in
+pub sets_change : (x : ChangeRow) (old new : State) (count : ℕ) → IsReady old → ExecutesInside 0 set_change_sql (change_params x) old new (Ok count)
+    → Changes old new (set_change (ltb 0 count) x)
+sets_change x old new count ready h =
+    let params = change_params x in
+    let program : Program = record { lets = []; body = set_change_query } in
+    let w = runs_as set_change_sql params old new gate_schema ready.schema_is (Update 3 program) set_change_is.0 set_change_is.1 count h.0 in
+    let e = updates gate_schema (λ _ _ _. refl) old new ready.schema_is 3 (change_at 7) refl (statement_of set_change_sql (understood gate_schema set_change_sql)) params count program w in
     let db = overlay old.now.trees [] in
     let test = passes (key_is 0 ∷ []) params in
+    let new_row = renewed (change_at 7) set_change_terms params old.now.trees in
+    let its : ChangeRow → Bool = λ y. eqb (change_key y) (change_key x) in
+    let same : (y : ChangeRow) → test (change_row y) ≡ its y = λ y. rw equal_numbers (and_true (its y)) in
+    let made : (y : ChangeRow) → its y ≡ true → new_row (change_row y) ≡ change_row x =
+    λ y here. let e : change_key y ≡ change_key x = grind (arith, nat_tests) in rw (cast_int, cast_null, cast_int, cast_or_null, e) in
     record {
       ready = record { schema_is = e.2.schema_is; inside = h.1.mode };
       named = λ b named. named;
       stands = λ b named stands.
-          let left : new.now.trees 7 ≡ filter (λ r. not (test r)) (old.now.trees 7) =
-          e.2.applies.rows ∙ leaves_others test (old.now.trees 7) _ (keyed_numbered change_key change_row (λ x. refl) (old.now.trees 7) b.changes stands.change) (deleted_ids 7 (key_is 0 ∷ []) db params e.0 (e.1.answer Null)) in
+          let found = keyed_found change_key change_row (λ x. refl) test its same (old.now.trees 7) b.changes stands.change in
+          let few : length (filter its b.changes) ≤ 1 = one_keyed change_key change_row (λ x. refl) (change_key x) its (λ y e. e) b.changes stands.change.in_order in
+          let short : length (filter test (old.now.trees 7)) ≤ 1 = rw found (simp length-map few) in
+          let rows : e.0 ≡ map (out (change_at 7) set_change_terms params old.now.trees) (filter test (old.now.trees 7)) =
+          shows_few 7 (key_is 0 ∷ []) (col 1 0 ∷ set_change_terms) [] no_limit db params e.0 short (e.1.answer Null) in
+          let counted : count ≡ length (filter its b.changes) = e.3 ∙ ap length rows ∙ length-map _ _ ∙ ap length found ∙ length-map _ _ in
+          let left = e.2.applies.rows ∙ written_update (change_at 7) set_change_terms params old.now.trees e.0 _ rows short in
           with_changes new.now.trees b _ (others_stay old new _ 7 b e.2 refl refl stands)
-          (subst (λ rs. IsKeyed change_key change_row rs (filter (λ y. not (eqb (change_key y) n)) b.changes)) (sym left)
-          (keyed_without change_key change_row (λ x. refl) test (λ y. eqb (change_key y) n) (λ y. rw equal_numbers (and_true (eqb (change_key y) n))) (old.now.trees 7) b.changes stands.change));
+          (subst (λ rs. IsKeyed change_key change_row rs (insert_if (ltb 0 count) change_key (filter (λ y. not (its y)) b.changes) x)) (sym left)
+          (rw counted (keyed_set change_key change_row (λ x. refl) test new_row its x same made (old.now.trees 7) b.changes stands.change few)));
     }

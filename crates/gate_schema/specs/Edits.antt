@@ -20,6 +20,10 @@ use Rattle.gate_types.specs.declared.records.Change.{Change}
 use Rattle.gate_types.specs.declared.rows.ChangeRow.{ChangeRow}
 use Rattle.gate_schema.specs.Rows.{Stored, QueueRow, ItemRow, NeedRow, JobRow, QueueLanding, QueueReport, item_key, change_key, build_key, fast_key}
 
+-- a row added at its key, where it is to be
+abbrev pub insert_if : {X : Type 0} → Bool → (X → ℕ) → List X → X → List X
+insert_if found key rows x = if found then insert_by (λ y. pos (key y)) rows x else rows
+
 -- ---- one statement each
 
 -- the item of a serial taken out of a queue
@@ -34,6 +38,12 @@ drop_item n b = record b { items = filter (λ y. not (item_key y == n)) b.items 
 -- an item added at its serial
 abbrev pub add_item : ItemRow → Stored → Stored
 add_item x b = record b { items = insert_by (λ y. pos (item_key y)) b.items x }
+
+-- an item set in place of the one of its serial in its queue; where none was found, none is set
+abbrev pub set_item : Bool → ItemRow → Stored → Stored
+set_item found x b =
+    let others = filter (λ y. not (item_key y == item_key x && same_name y.queue x.queue)) b.items in
+    record b { items = insert_if found item_key others x }
 
 -- the jobs under a serial taken out
 abbrev pub drop_jobs : ℕ → Stored → Stored
@@ -62,6 +72,11 @@ drop_change n b = record b { changes = filter (λ y. not (change_key y == n)) b.
 -- a change added at its number, without its needs
 abbrev pub add_change : ChangeRow → Stored → Stored
 add_change x b = record b { changes = insert_by (λ y. pos (change_key y)) b.changes x }
+
+-- a change set in place of the one of its number; where none was found, none is set
+abbrev pub set_change : Bool → ChangeRow → Stored → Stored
+set_change found x b =
+    record b { changes = insert_if found change_key (filter (λ y. not (change_key y == change_key x)) b.changes) x }
 
 -- the needs of a change taken out
 abbrev pub drop_needs : ℕ → Stored → Stored

@@ -1,0 +1,10 @@
+use Rattle.sqlite.specs.Held.{state}
+use Rattle.gate_schema.specs.Edits as edits
+use Rattle.gate_schema.proofs.ChangeTable.{sets_change}
+use Rattle.gate_schema.proofs.RowLemmas.{bound_or_null}
+use Rattle.gate_rows.proofs.changes.set_change.Goals as goal
+
+pub returns-clause-changes : goal.returns-clause-changes
+returns-clause-changes g c clean ready =
+    sets_change (edits.change_with c.args.k.now c.args.approval) (state g.S.Store c.args.tx.now.conn.now) (state g.S.Store c.execute.new.self.conn.now) _ ready
+    (rw (c.change.ensures, c.text.ensures, c.text-2.ensures, c.as_str.ensures.value, c.revision.ensures, c.stage_text.ensures, c.in-Some.ensures, bound_or_null) at (c.in_ok-rows.ensures.runs clean ready.inside))
