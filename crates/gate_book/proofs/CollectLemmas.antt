@@ -4,7 +4,7 @@ use Rattle.std.specs.Prelude.{◌==◌, filter, find, option_and_then}
 use Rattle.std.specs.List.{AllByRecursion, filter_map, cons_option}
 use Rattle.std.proofs.lemmas.Bool.{eq-eqb, ne_eqb}
 use Rattle.gate_book.specs.Sorted.{RisesFrom, In, kept_if, passing}
-use Rattle.gate_book.proofs.SortedLemmas.{below_or, found_above}
+use Rattle.gate_book.proofs.SortedLemmas.{below_or, found_above, in_above}
 
 -- each row that passes has its key among these
 abbrev pub AreTold : {X : Type 0} → (X → ℕ) → (X → Bool) → List X → List ℕ → Type 0
@@ -13,14 +13,6 @@ AreTold key test xs ns = AllByRecursion (λ x. test x ≡ true → In (key x) ns
 -- numbers that rise
 abbrev pub Rising : ℕ → List ℕ → Type 0
 Rising k ns = RisesFrom (λ n. n) k ns
-
--- only numbers that are at least n can be among those that rise from n
-above_in : (n k : ℕ) (ns : List ℕ) → Rising k ns → In n ns → k ≤ n
-above_in n k [] rise there = absurd there
-above_in n k (m ∷ ms) rise there = let low : k ≤ m = rise.0 in ⊎_elim
-    (λ e. omega (arith, e))
-    (λ t. let high : suc m ≤ n = above_in n (suc m) ms rise.1 t in omega arith)
-    there
 
 -- what isn't the first is among the rest
 in_rest : (n m : ℕ) (ms : List ℕ) → m ≢ n → In n (m ∷ ms) → In n ms
@@ -61,7 +53,7 @@ skips_row : {X : Type 0} (key : X → ℕ) (test : X → Bool) (x : X) (xs : Lis
 skips_row key test x xs k ns l rise told = by_test (test x) told
   where
     by_test : (t : Bool) → (t ≡ true → In (key x) ns) → filter test xs ≡ cond t (x ∷ filter test xs) (filter test xs)
-    by_test true told = absurd (let low : k ≤ key x = above_in (key x) k ns rise (told refl) in omega arith)
+    by_test true told = absurd (let low : k ≤ key x = in_above (λ (n : ℕ). n) k (key x) ns rise (told refl) in omega arith)
     by_test false told = refl
 
 -- a row at the first of the numbers is what that number finds

@@ -12,5 +12,6 @@ pub mod NeedLemmas
 mod AdoptLemmas
 pub mod ReadLemmas
 pub mod ReadyLemmas
+pub mod NeedingLemmas
 pub mod Padding
 pub mod HistoryLemmas

@@ -1,10 +1,14 @@
 -- The index of needs.
-use Rattle.std.proofs.Common.{◌≡◌, ℕ, ◌+◌, ◌<◌, inl, inr, ⊎_elim, Bool, true, false, cond, ◌||◌, Some, List, [], ◌∷◌, ◌++◌, length, take, get_or, refl, sym, ap, subst, ◌∙◌, eqb-true, arith}
-use Rattle.std.specs.Prelude.{◌==◌, filter, find, option_map}
-use Rattle.std.specs.List.{AllByRecursion, list_any}
+use Rattle.std.proofs.Common.{◌≡◌, ℕ, ◌+◌, ◌<◌, inl, inr, ⊎_elim, Bool, true, false, cond, ◌||◌, Option, Some, None, List, [], ◌∷◌, ◌++◌, length, take, get_or, refl, sym, ap, subst, ◌∙◌, eqb-true, arith}
+use Rattle.std.specs.Prelude.{◌==◌, filter, find, option_map, unwrap_or}
+use Rattle.std.specs.List.{AllByRecursion, cons_option, filter_map, list_any}
+use Rattle.std.specs.List.Sorted.{IsPermutation}
 use Rattle.std.specs.Option.{option_map_or}
 use Rattle.std.proofs.lemmas.Bool.{false≢true}
 use Rattle.std.proofs.lemmas.List.{take_more}
+use Rattle.std.proofs.lemmas.List.Elements.{All-from_recursion, recursion_from_All}
+use Rattle.std.proofs.lemmas.List.Sorted.{All-permutation, IsPermutation-sym}
+use Rattle.std.proofs.lemmas.Option.{none-some}
 use Rattle.gate_types.specs.declared.edits.Edit.{Edit}
 use Rattle.gate_types.specs.declared.records.Item.{Item}
 use Rattle.gate_types.specs.declared.rows.ChangeRow.{ChangeRow}
@@ -13,7 +17,7 @@ use Rattle.gate_book.specs.Sorted.{In}
 use Rattle.gate_book.specs.Pairs.{IsFit}
 use Rattle.gate_book.specs.Needs.{TellsNeeds, TellsSerials, IsSmall, need_of, needs_of, needs_of_all}
 use Rattle.gate_book.specs.TableReads.{needs_in}
-use Rattle.gate_book.proofs.BuildLemmas.{in_weaker}
+use Rattle.gate_book.proofs.BuildLemmas.{all_in, in_weaker}
 use Rattle.gate_book.proofs.LoopLemmas.{all_push}
 
 -- ---- rows that are there
@@ -37,6 +41,30 @@ all_filter P test (x ∷ xs) all = by_test (test x) (all_filter P test xs all.1)
     by_test : (t : Bool) → AllByRecursion P (filter test xs) → AllByRecursion P (cond t (x ∷ filter test xs) (filter test xs))
     by_test true rest = (all.0, rest)
     by_test false rest = rest
+
+-- what a filter keeps was there and passes
+pub from_filter : {X : Type 0} (test : X → Bool) (x : X) (xs : List X) → In x (filter test xs) → In x xs × (test x ≡ true)
+from_filter test x [] there = absurd there
+from_filter {X} test x (y ∷ ys) there = by_test (test y) refl there (from_filter test x ys)
+  where
+    by_test : (t : Bool) → test y ≡ t → In x (cond t (y ∷ filter test ys) (filter test ys)) → (In x (filter test ys) → In x ys × (test x ≡ true)) → In x (y ∷ ys) × (test x ≡ true)
+    by_test true h there rest = ⊎_elim (λ e. (inl e, sym (ap test e) ∙ h)) (λ t. let r = rest t in (inr r.0, r.1)) there
+    by_test false h there rest = let r = rest there in (inr r.0, r.1)
+
+-- what a row gives is among what all give
+pub in_given : {X Y : Type 0} (h : X → Option Y) (x : X) (y : Y) (xs : List X) → In x xs → h x ≡ Some y → In y (filter_map h xs)
+in_given h x y [] there e = absurd there
+in_given {X} {Y} h x y (z ∷ zs) there e = by_given (h z) refl (in_given h x y zs) there
+  where
+    by_given : (o : Option Y) → h z ≡ o → (In x zs → h x ≡ Some y → In y (filter_map h zs)) → In x (z ∷ zs) → In y (cons_option o (filter_map h zs))
+    by_given None g rest there = ⊎_elim (λ s. absurd (none-some y (sym g ∙ ap h s ∙ e))) (λ t. rest t e) there
+    by_given (Some w) g rest there = ⊎_elim (λ s. inl (ap (λ o. unwrap_or o w) (sym g ∙ ap h s ∙ e))) (λ t. inr (rest t e)) there
+
+-- what a permutation keeps
+pub moved_in : {X : Type 0} (xs ys : List X) → IsPermutation xs ys → (x : X) → In x xs → In x ys
+moved_in xs ys moved x there =
+    all_in (λ z. In z ys) xs x
+    (recursion_from_All (λ z. In z ys) xs (All-permutation (λ z. In z ys) ys xs (IsPermutation-sym xs ys moved) (All-from_recursion (λ z. In z ys) ys (all_from (λ z. In z ys) ys (λ z t. t))))) there
 
 -- what is so of the first rows and of the next
 pub all_next : {X : Type 0} (P : X → Type 0) (xs : List X) (k : ℕ) (d : X) → k < length xs → AllByRecursion P (take k xs) → P (get_or xs k d) → AllByRecursion P (take (k + 1) xs)

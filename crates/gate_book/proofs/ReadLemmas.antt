@@ -21,12 +21,13 @@ use Rattle.gate_types.specs.Rows.{item_rows, numbered}
 use Rattle.gate_types.specs.Once.{Content}
 use Rattle.gate_types.specs.Tables.{QueueRows, approval_of, change_row, queue_rows, numbered_landings, tables}
 use Rattle.gate_types.specs.Forms.{IsLawfulContent, is_ready_in_form, is_drawn_number}
-use Rattle.gate_book.specs.Changes.{AreReady, Differ}
+use Rattle.gate_book.specs.Changes.{AreReady, Differ, approval_in}
 use Rattle.gate_book.specs.Reads as read
-use Rattle.gate_book.specs.TableReads.{change_in, needs_in, rows_named, items_named, landings_below, needing_in, all_queued, LandingsRise}
+use Rattle.gate_book.specs.TableReads.{change_in, needs_in, rows_named, items_named, landings_below, needing_in, ready_needing_in, all_queued, LandingsRise}
 use Rattle.gate_book.specs.Queues.{landing_serial}
 use Rattle.gate_book.specs.Sorted.{RisesFrom}
 use Rattle.gate_book.proofs.MemoryLemmas.{find_map}
+use Rattle.gate_book.proofs.ReadyLemmas.{approval_told}
 
 -- ---- changes
 
@@ -46,6 +47,9 @@ needs_are c x n = ap (λ o. option_map_or (λ (k : Change). k.needs) o []) (chan
 
 pub needing_are : (c : Settings) (x : Content) (n above : ℕ) (items : List Item) → needing_in (tables c x).changes n above items ≡ read.items_needing x.state n above items
 needing_are c x n above items = λ k. filter (λ (i : Item). nat_lt above i.serial && list_any (λ m. m == n) (needs_are c x i.change k)) items
+
+pub ready_needing_are : (c : Settings) (x : Content) (n : ℕ) (ready : List Ready) → ready_needing_in (tables c x).changes n ready ≡ filter (λ r. list_any (λ m. m == n) (change_of x.state r.change).needs) ready
+ready_needing_are c x n ready = λ k. filter (λ (r : Ready). list_any (λ m. m == n) (needs_are c x r.change k)) ready
 
 -- ---- queues
 
@@ -236,3 +240,7 @@ ready_are c x lawful =
       told = rows_tell s.ready s.changes;
       known = each (λ (r : Ready). is_open (change_of s r.change) ≡ true) (λ (r : Ready). IsSome (find (λ (k : ChangeRow). k.change.number == r.change) (map (change_row s.ready) s.changes))) (λ r e. open_is_known s r.change e) s.ready (all_rows (λ (r : Ready). is_open (change_of s r.change) ≡ true) s.ready sound.ready_are_open);
     }
+
+-- so they tell each change's approval
+pub approval_is : (c : Settings) (x : Content) (n : ℕ) → IsLawfulContent c x → approval_in (tables c x).changes n ≡ approval_of x.state.ready n
+approval_is c x n lawful = approval_told (tables c x).changes x.state.ready n (ready_are c x lawful)

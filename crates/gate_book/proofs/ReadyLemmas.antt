@@ -11,7 +11,7 @@ use Rattle.gate_types.specs.Tables.{approval_of}
 use Rattle.gate_book.specs.declared.pairs.Pair.{Pair}
 use Rattle.gate_book.specs.Sorted.{RisesFrom, In, kept_if, passing}
 use Rattle.gate_book.specs.Pairs.{pair_key, IsFit}
-use Rattle.gate_book.specs.Changes.{AreReady, Differ, TellsReady, same_number, ready_by, entry_of, number_of}
+use Rattle.gate_book.specs.Changes.{AreReady, Differ, TellsReady, same_number, ready_by, entry_of, number_of, approval_in}
 use Rattle.gate_book.proofs.PairLemmas.{same_pair}
 use Rattle.gate_book.proofs.BuildLemmas.{all_in}
 use Rattle.gate_book.proofs.CollectLemmas.{collected}
@@ -43,7 +43,7 @@ filter_any [] = refl
 filter_any (r ∷ rs) = ap (λ xs. r ∷ xs) (filter_any rs)
 
 -- what is found is there
-found_in : {X : Type 0} (test : X → Bool) (xs : List X) (x : X) → find test xs ≡ Some x → In x xs
+pub found_in : {X : Type 0} (test : X → Bool) (xs : List X) (x : X) → find test xs ≡ Some x → In x xs
 found_in test [] x e = absurd (none-some x e)
 found_in test (y ∷ ys) x e = by_test (test y) e (found_in test ys x)
   where
@@ -63,7 +63,7 @@ keys_rise m k (r ∷ rs) rise fit low =
 -- ---- approvals
 
 -- a change that is there has the approval that is looked up
-approval_known : (rs : List Ready) (r : Ready) → Differ rs → In r rs → approval_of rs r.change ≡ Some r.approval
+pub approval_known : (rs : List Ready) (r : Ready) → Differ rs → In r rs → approval_of rs r.change ≡ Some r.approval
 approval_known [] r differ there = absurd there
 approval_known (s ∷ ss) r differ there = ⊎_elim
     (λ e. ap (λ t. option_map (λ (q : Ready). q.approval) (cond t (Some s) (find (λ q. q.change == r.change) ss))) (eq-eqb s.change r.change (ap (λ (q : Ready). q.change) e)) ∙ ap (λ (q : Ready). Some q.approval) e)
@@ -110,6 +110,16 @@ no_row n rows (r ∷ rs) known none = ⊎_elim
     (λ t. absurd (false≢true (subst (λ o. IsSome o) (ap (λ m. find (λ (k : ChangeRow). k.change.number == m) rows) t.1 ∙ none) known.0)))
     (λ t. ap (λ b. cond b (Some r) (find (λ (s : Ready). s.change == n) rs)) t.0 ∙ no_row n rows rs known.1 none)
     (eqb_tells r.change n)
+
+-- the approval that the rows tell of a change is that of the list
+pub approval_told : (rows : List ChangeRow) (rs : List Ready) (n : ℕ) → AreReady rows rs → approval_in rows n ≡ approval_of rs n
+approval_told rows rs n ready = by_row (find (λ (k : ChangeRow). k.change.number == n) rows) refl
+  where
+    by_row : (o : Option ChangeRow) → find (λ (k : ChangeRow). k.change.number == n) rows ≡ o → option_and_then (λ (k : ChangeRow). k.approval) o ≡ approval_of rs n
+    by_row None e = sym (ap (option_map (λ (r : Ready). r.approval)) (no_row n rows rs ready.known e))
+    by_row (Some k) e =
+        all_in (λ (j : ChangeRow). j.approval ≡ approval_of rs j.change.number) rows k ready.told (found_in (λ (j : ChangeRow). j.change.number == n) rows k e)
+        ∙ ap (approval_of rs) (found_has number_of n k rows (sym e))
 
 -- what a row tells
 abbrev told_by : ℕ → ChangeRow → Option Ready

@@ -6,7 +6,7 @@ use Rattle.std.proofs.lemmas.Bool.{eq-eqb, ne_eqb, le-ltb, lt-ltb, le-leb, lt-le
 use Rattle.std.proofs.lemmas.Bool.Decides.{leb_tells, eqb_tells}
 use Rattle.gate_types.specs.State.{put_by}
 use Rattle.std.proofs.lemmas.Option.{none-some, slice_get-get_or}
-use Rattle.gate_book.specs.Sorted.{RisesFrom, IsAt, place_in, without}
+use Rattle.gate_book.specs.Sorted.{RisesFrom, In, IsAt, place_in, without}
 
 pub below_or : (a b : ℕ) → (a < b) ⊎ (b ≤ a)
 below_or a b = ⊎_elim (λ t. inl (omega (arith, t.1))) (λ t. inr (omega (arith, t.1))) (leb_tells (suc a) b)
@@ -390,3 +390,55 @@ between_is key from to m (x ∷ xs) h r = ⊎_elim
     whole e rest =
         let least : place_in key to xs ≡ place_in key to xs - 0 = omega arith in
         ap (λ n. take n xs) least ∙ sym (λ i. take (place_in key to xs - e i) (drop (e i) xs)) ∙ rest
+
+-- ---- rows that are there
+
+-- what is in rows that rise from a key isn't below it
+pub in_above : {X : Type 0} (key : X → ℕ) (m : ℕ) (x : X) (xs : List X) → RisesFrom key m xs → In x xs → m ≤ key x
+in_above key m x [] up there = absurd there
+in_above key m x (y ∷ ys) up there =
+    let low : m ≤ key y = up.0 in
+    ⊎_elim (λ e. omega (arith, low, ap key e)) (λ t. let high : suc (key y) ≤ key x = in_above key (suc (key y)) x ys up.1 t in omega (arith, low, high)) there
+
+-- of rows that rise, one key is one row
+pub one_key : {X : Type 0} (key : X → ℕ) (m : ℕ) (x y : X) (xs : List X) → RisesFrom key m xs → In x xs → In y xs → key x ≡ key y → x ≡ y
+one_key key m x y [] up tx ty e = absurd tx
+one_key key m x y (z ∷ zs) up tx ty e = ⊎_elim
+    (λ ex. ⊎_elim
+    (λ ey. sym ex ∙ ey)
+    (λ ty. let high : suc (key z) ≤ key y = in_above key (suc (key z)) y zs up.1 ty in absurd (omega (arith, high, e, ap key ex)))
+    ty)
+    (λ tx. ⊎_elim
+    (λ ey. let high : suc (key z) ≤ key x = in_above key (suc (key z)) x zs up.1 tx in absurd (omega (arith, high, e, ap key ey)))
+    (λ ty. one_key key (suc (key z)) x y zs up.1 tx ty e)
+    ty)
+    tx
+
+-- lists that rise and have the same rows are one list
+pub same_rows : {X : Type 0} (key : X → ℕ) (m n : ℕ) (xs ys : List X) → RisesFrom key m xs → RisesFrom key n ys → ((z : X) → In z xs → In z ys) → ((z : X) → In z ys → In z xs) → xs ≡ ys
+same_rows key m n [] [] up to there back = refl
+same_rows key m n [] (y ∷ ys) up to there back = absurd (back y (inl refl))
+same_rows key m n (x ∷ xs) [] up to there back = absurd (there x (inl refl))
+same_rows {X} key m n (x ∷ xs) (y ∷ ys) up to there back =
+    λ i. first i ∷ same_rows key (suc (key x)) (suc (key y)) xs ys up.1 to.1 rest tser i
+  where
+    first : x ≡ y
+    first = ⊎_elim
+        (λ e. sym e)
+        (λ t. ⊎_elim
+        (λ e. e)
+        (λ u. let above : suc (key y) ≤ key x = in_above key (suc (key y)) x ys to.1 t in let below : suc (key x) ≤ key y = in_above key (suc (key x)) y xs up.1 u in absurd (omega (arith, above, below)))
+        (back y (inl refl)))
+        (there x (inl refl))
+
+    rest : (z : X) → In z xs → In z ys
+    rest z t = ⊎_elim
+        (λ e. let above : suc (key x) ≤ key z = in_above key (suc (key x)) z xs up.1 t in absurd (omega (arith, above, ap key e, ap key first)))
+        (λ u. u)
+        (there z (inr t))
+
+    tser : (z : X) → In z ys → In z xs
+    tser z t = ⊎_elim
+        (λ e. let above : suc (key y) ≤ key z = in_above key (suc (key y)) z ys to.1 t in absurd (omega (arith, above, ap key e, ap key first)))
+        (λ u. u)
+        (back z (inr t))

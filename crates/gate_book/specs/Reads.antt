@@ -6,6 +6,7 @@ use Rattle.gate_types.specs.declared.records.Item.{Item as ItemRow}
 use Rattle.gate_types.specs.declared.records.Landing.{Landing}
 use Rattle.gate_types.specs.declared.records.Build.{Build}
 use Rattle.gate_types.specs.declared.records.Plan.{Plan}
+use Rattle.gate_types.specs.declared.records.Ready.{Ready}
 use Rattle.gate_types.specs.Names.{same_name}
 use Rattle.gate_types.specs.Settings.{Settings}
 use Rattle.gate_types.specs.State.{Queue, State, change_of}
@@ -81,6 +82,10 @@ last_below serial items = fold (λ last i. Some i) None (filter (λ i. nat_lt i.
 abbrev pub items_needing : State → ℕ → ℕ → List ItemRow → List ItemRow
 items_needing s n serial items =
     filter (λ i. nat_lt serial i.serial && list_any (λ m. m == n) (change_of s i.change).needs) items
+
+-- the ready changes that need this one, in order of approval
+abbrev pub ready_needing : State → ℕ → List Ready
+ready_needing s n = filter (λ r. list_any (λ m. m == n) (change_of s r.change).needs) s.ready
 
 -- the plan of the item or the landing of a serial
 abbrev pub plan_at : State → ℕ → Option Plan

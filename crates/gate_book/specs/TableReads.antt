@@ -1,18 +1,21 @@
 -- What is read of tables.
-use Rattle.std.specs.Prelude.{ℕ, Bool, ◌&&◌, ◌==◌, nat_lt, List, [], map, filter, find, length, min, Option, option_map, option_to_list, flat_map}
+use Rattle.std.specs.Prelude.{ℕ, Bool, ◌&&◌, ◌==◌, ◌≡◌, nat_lt, if◌then◌else◌, List, [], map, filter, find, length, min, Option, None, option_map, option_and_then, option_to_list, flat_map}
 use Rattle.std.specs.List.{list_any}
 use Rattle.std.specs.Option.{option_map_or}
 use Rattle.gate_types.specs.declared.records.Build.{Build}
 use Rattle.gate_types.specs.declared.records.Change.{Change}
 use Rattle.gate_types.specs.declared.records.Item.{Item}
 use Rattle.gate_types.specs.declared.records.Plan.{Plan}
+use Rattle.gate_types.specs.declared.records.Ready.{Ready}
 use Rattle.gate_types.specs.declared.rows.ChangeRow.{ChangeRow}
 use Rattle.gate_types.specs.Counters.{Drawn}
 use Rattle.gate_types.specs.Names.{same_name}
 use Rattle.gate_types.specs.Tables.{QueueRows}
 use Rattle.gate_book.specs.Builds.{is_live_of}
+use Rattle.gate_book.specs.Changes.{AreReady}
 use Rattle.gate_book.specs.Queues.{landing_serial}
 use Rattle.gate_book.specs.Sorted.{RisesFrom}
+use Rattle.gate_book.specs.declared.pairs.Pair.{Pair}
 use Rattle.gate_book.specs.declared.rows.QueuedItem.{QueuedItem}
 
 -- the row of a change
@@ -50,6 +53,29 @@ is_needing_in rows n serial i = nat_lt serial i.serial && list_any (λ m. m == n
 -- the items of these that are such
 abbrev pub needing_in : List ChangeRow → ℕ → ℕ → List Item → List Item
 needing_in rows n serial items = filter (is_needing_in rows n serial) items
+
+-- a change as a ready one, if it is ready and needs another
+abbrev pub if_needing : ℕ → ChangeRow → Option Ready
+if_needing n r =
+    if list_any (λ m. m == n) r.change.needs
+    then option_map (λ a. record { approval = a; change = r.change.number }) r.approval
+    else None
+
+-- so the change that a pair names second
+abbrev pub needing_by : List ChangeRow → ℕ → Pair → Option Ready
+needing_by rows n p = option_and_then (if_needing n) (row_of rows p.second)
+
+-- a ready change that needs this one
+abbrev pub is_ready_needing : List ChangeRow → ℕ → Ready → Bool
+is_ready_needing rows n r = list_any (λ m. m == n) (needs_in rows r.change)
+
+-- those of these that do
+abbrev pub ready_needing_in : List ChangeRow → ℕ → List Ready → List Ready
+ready_needing_in rows n ready = filter (is_ready_needing rows n) ready
+
+-- a list is those that need a change of whatever ready list the rows tell
+abbrev pub IsWhatRowsTellOf : List ChangeRow → ℕ → List Ready → Type 0
+IsWhatRowsTellOf rows n found = (ready : List Ready) → AreReady rows ready → found ≡ ready_needing_in rows n ready
 
 -- the plans of these items, item by item
 abbrev pub plans_of_rows : List Plan → List Item → List Plan

@@ -18,7 +18,7 @@ pub trait Book {
     ghost use Rattle.gate_types.specs.Step.{build_of};
     ghost use Rattle.gate_types.specs.Once.{Content, kept_for};
     ghost use Rattle.gate_types.specs.Forms.{IsLawfulContent};
-    ghost use Rattle.gate_types.specs.Tables.{Leads};
+    ghost use Rattle.gate_types.specs.Tables.{Leads, approval_of};
     ghost use Rattle.gate_book.specs.declared.fault.BookFault.{BookFault};
     ghost use Rattle.gate_book.specs.Reads as read;
     ghost use Rattle.gate_types.specs.Tap.{has_failed};
@@ -196,6 +196,20 @@ pub trait Book {
     /// The ready list, in order of approval.
     fn ready(&mut self) -> Result<Sequence<Ready>, BookFault>
         ensures found { OfHeld IsTrusted Holds self.old self.new (λ c x. read.Answers x.state.ready result) }
+        ensures kept { IsKept IsTrusted Holds LeavesOneOf self.old self.new }
+        ensures fault { IfErr result MayFault };
+
+    /// The number of a change's approval, while it is ready.
+    fn approval(&mut self, change: ChangeNo) -> Result<Option<u64>, BookFault>
+        ensures found { OfHeld IsTrusted Holds self.old self.new (λ c x.
+            read.Answers (approval_of x.state.ready change) result) }
+        ensures kept { IsKept IsTrusted Holds LeavesOneOf self.old self.new }
+        ensures fault { IfErr result MayFault };
+
+    /// The ready changes that need this one, in order of approval.
+    fn ready_needing(&mut self, change: ChangeNo) -> Result<Sequence<Ready>, BookFault>
+        ensures found { OfHeld IsTrusted Holds self.old self.new (λ c x.
+            read.Answers (read.ready_needing x.state change) result) }
         ensures kept { IsKept IsTrusted Holds LeavesOneOf self.old self.new }
         ensures fault { IfErr result MayFault };
 

@@ -1,14 +1,15 @@
 //! The changes of a book in memory.
-ghost use Rattle.std.specs.Prelude.{◌≡◌, ◌==◌, ◌<◌, ◌≤◌, ◌+◌, ◌++◌, ℕ, suc, [], true, length, find, slice_get, nat_eq, IfOk, OnOk, vec_len, vec_capacity};
+ghost use Rattle.std.specs.Prelude.{◌≡◌, ◌==◌, ◌<◌, ◌≤◌, ◌+◌, ◌++◌, ℕ, suc, [], true, length, map, find, slice_get, nat_eq, IfOk, OnOk, vec_len, vec_capacity};
 ghost use Rattle.std.specs.List.{list_any, filter_map, cons_option, AllByRecursion};
+ghost use Rattle.std.specs.List.Sorted.{IsNonDecreasingBy, IsPermutation};
 ghost use Rattle.std.specs.Option.{option_copied, option_map_or};
 ghost use Rattle.std.specs.HashMap.{get, spare};
 ghost use Rattle.gate_types.specs.State.{put_by};
 ghost use Rattle.gate_book.specs.Sorted.{RisesFrom, without, In};
-ghost use Rattle.gate_book.specs.TableReads.{change_in, needs_in};
+ghost use Rattle.gate_book.specs.TableReads.{change_in, needs_in, needing_by, IsWhatRowsTellOf};
 ghost use Rattle.gate_book.specs.Pairs.{pair_key, IsFit};
 ghost use Rattle.gate_book.specs.declared.pairs.Pair.{Pair};
-ghost use Rattle.gate_book.specs.Needs.{AreInOrder, IsSmall, TellsNeedsOf, need_of};
+ghost use Rattle.gate_book.specs.Needs.{AreInOrder, IsRising, IsSmall, TellsNeedsOf, need_of};
 ghost use Rattle.gate_book.specs.Changes.{FindsNumbers, IsKept, HasRoom, IsWhatRowsTell, ready_by, number_of, in_order, changes_of, approval_in, entry_of};
 
 use crate::needs::note_needs;
@@ -194,6 +195,68 @@ fn collect_ready(
     Ok(found)
 }
 
+/// Whether a change needs another.
+fn row_needs(row: &ChangeRow, other: ChangeNo) -> bool
+    ensures { result ≡ list_any (λ m. m == other) row.now.change.needs }
+{
+    row.change
+        .needs
+        .as_slice()
+        .iter()
+        .any(|need| *need == other)
+}
+
+/// The change that a pair names second, if it is ready and needs this one.
+fn ready_if_needing(
+    rows: &[ChangeRow],
+    places: &HashMap<u64, usize>,
+    pair: Pair,
+    change: ChangeNo,
+) -> Option<Ready>
+    requires { FindsNumbers places.now rows.now }
+    ensures { result ≡ needing_by (in_order number_of rows.now) change pair }
+{
+    let row = row_of(rows, places, pair.second)?;
+    let approval = row.approval?;
+    if row_needs(row, change) {
+        Some(Ready {
+            approval,
+            change: row.change.number,
+        })
+    } else {
+        None
+    }
+}
+
+/// Those of the changes that some pairs name second which are ready and need this one.
+fn collect_needing(
+    alloc: Global,
+    rows: &[ChangeRow],
+    places: &HashMap<u64, usize>,
+    pairs: &[Pair],
+    change: ChangeNo,
+) -> Result<Sequence<Ready>, NoMemory>
+    requires { FindsNumbers places.now rows.now }
+    ensures { IfOk result (λ found. found
+        ≡ filter_map (needing_by (in_order number_of rows.now) change) pairs.now) }
+{
+    let mut found = Sequence::new(alloc);
+    for pair in pairs {
+        push_ready(&mut found, ready_if_needing(rows, places, *pair, change))?;
+    }
+    Ok(found)
+}
+
+/// The same in order of approval.
+fn by_approval(ready: Sequence<Ready>) -> Sequence<Ready>
+    ensures same { IsPermutation ready result }
+    ensures order { IsNonDecreasingBy (λ r. r.approval) result }
+{
+    let mut ready = ready.into_vec();
+    ready.sort_unstable_by_key(|one| one.approval);
+    Sequence::from_vec(ready)
+}
+
 impl ChangeTable {
     pub(crate) fn new(alloc: Global) -> Self
         ensures rows { changes_of result ≡ [] }
@@ -258,9 +321,18 @@ impl ChangeTable {
         }
     }
 
+    /// The number of a change's approval, while it is ready.
+    pub(crate) fn approval(&self, number: ChangeNo) -> Option<u64>
+        requires { IsKept self.now }
+        ensures { result ≡ approval_in (changes_of self.now) number }
+    {
+        approval_of(&self.rows, &self.places, number.get())
+    }
+
     /// Pairs of which the second numbers tell the changes that need this one, and maybe others.
     pub(crate) fn needing(&self, change: ChangeNo) -> &[Pair]
         requires { IsKept self.now }
+        ensures rising { IsRising (map (λ p. p.second) result.now) }
         ensures small { AllByRecursion IsSmall result.now }
         ensures told { (n : ℕ) → list_any (λ m. m == change) (needs_in (changes_of self.now) n) ≡ true →
             In (need_of change n) result.now }
@@ -274,12 +346,7 @@ impl ChangeTable {
         ensures { result ≡ list_any (λ m. m == other) (needs_in (changes_of self.now) number) }
     {
         match self.row(number) {
-            Some(row) => row
-                .change
-                .needs
-                .as_slice()
-                .iter()
-                .any(|need| *need == other),
+            Some(row) => row_needs(row, other),
             None => false,
         }
     }
@@ -291,5 +358,20 @@ impl ChangeTable {
     {
         let found = collect_ready(alloc, &self.rows, &self.places, &self.ready)?;
         Ok(found)
+    }
+
+    /// The ready changes that need this one, in order of approval: exact for any list that the rows tell. Found by the
+    /// changes that need it, or did.
+    pub(crate) fn ready_needing(
+        &self,
+        alloc: Global,
+        change: ChangeNo,
+    ) -> Result<Sequence<Ready>, NoMemory>
+        requires { IsKept self.now }
+        ensures { IfOk result (IsWhatRowsTellOf (changes_of self.now) change) }
+    {
+        let pairs = self.needing(change);
+        let found = collect_needing(alloc, &self.rows, &self.places, pairs, change)?;
+        Ok(by_approval(found))
     }
 }

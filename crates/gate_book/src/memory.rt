@@ -24,8 +24,9 @@ use std::alloc::Global;
 use std::io::Write;
 use std::marker::Model;
 
-/// A book that keeps all in memory. The time of an edit, or of a read by key, grows with what is
-/// kept by no more than the steps of a binary search; now and then a table moves to a larger place.
+/// A book that keeps all in memory. A read by key takes the steps of a search for each row that it looks at. So does
+/// an edit, and it moves the rows behind its own in a sorted table: mostly few, but many behind a need of a change from
+/// long ago. Now and then a table moves to a larger place.
 #[derive(Drop)]
 pub struct MemBook {
     alloc: Global,
@@ -226,6 +227,14 @@ impl Book for MemBook {
 
     fn ready(&mut self) -> Result<Sequence<Ready>, BookFault> {
         Ok(self.tables.ready(self.alloc)?)
+    }
+
+    fn approval(&mut self, change: ChangeNo) -> Result<Option<u64>, BookFault> {
+        Ok(self.tables.approval(change))
+    }
+
+    fn ready_needing(&mut self, change: ChangeNo) -> Result<Sequence<Ready>, BookFault> {
+        Ok(self.tables.ready_needing(self.alloc, change)?)
     }
 
     fn counters(&mut self) -> Result<Counters, BookFault> {

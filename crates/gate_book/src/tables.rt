@@ -10,7 +10,7 @@ ghost use Rattle.gate_book.specs.Queues as queue;
 ghost use Rattle.gate_book.specs.Builds.{is_live_of};
 ghost use Rattle.gate_book.specs.Needs.{needs_of, needs_of_all};
 ghost use Rattle.gate_book.specs.Reads as read;
-ghost use Rattle.gate_book.specs.TableReads.{change_in, rows_named, items_named, needing_in, plans_of_rows, builds_of_rows, all_queued, landings_below, LandingsRise, within};
+ghost use Rattle.gate_book.specs.TableReads.{change_in, rows_named, items_named, needing_in, IsWhatRowsTellOf, plans_of_rows, builds_of_rows, all_queued, landings_below, LandingsRise, within};
 ghost use Rattle.gate_types.specs.AdoptedTables.{adopted_tables, empty_rows};
 ghost use Rattle.gate_book.specs.Memory.{tables_of, IsKept, HasRoom, HasRoomBeside, drawn_of, start_with};
 
@@ -492,6 +492,26 @@ impl MemTables {
         ensures { IfOk result (change_table.IsWhatRowsTell (tables_of self.now).changes) }
     {
         self.changes.ready(alloc)
+    }
+
+    /// The ready changes that need this one, in order of approval: exact for any list that the rows tell.
+    pub(crate) fn ready_needing(
+        &self,
+        alloc: Global,
+        change: ChangeNo,
+    ) -> Result<Sequence<Ready>, NoMemory>
+        requires { IsKept self.now }
+        ensures { IfOk result (IsWhatRowsTellOf (tables_of self.now).changes change) }
+    {
+        self.changes.ready_needing(alloc, change)
+    }
+
+    /// The number of a change's approval, while it is ready.
+    pub(crate) fn approval(&self, change: ChangeNo) -> Option<u64>
+        requires { IsKept self.now }
+        ensures { result ≡ change_table.approval_in (tables_of self.now).changes change }
+    {
+        self.changes.approval(change)
     }
 
     /// The last numbers drawn, none above the last that there is.

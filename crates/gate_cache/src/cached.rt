@@ -201,6 +201,14 @@ impl<B: Book> Book for CachedBook<B> {
         Ok(found)
     }
 
+    fn approval(&mut self, change: ChangeNo) -> Result<Option<u64>, BookFault> {
+        self.book.approval(change)
+    }
+
+    fn ready_needing(&mut self, change: ChangeNo) -> Result<Sequence<Ready>, BookFault> {
+        self.book.ready_needing(change)
+    }
+
     fn counters(&mut self) -> Result<Counters, BookFault> {
         if let Some(found) = self.cache.counters() {
             return Ok(found);

@@ -1,8 +1,9 @@
 -- A content in form stays in form, call by call.
 use Rattle.std.proofs.Common.{◌≡◌, ℕ, zero, suc, ◌<◌, ◌≤◌, true, false, not, ◌&&◌, Option, Some, None, List, [], ◌∷◌, get_or, length, refl, sym, ap, ◌∙◌, inl, inr, arith, true≢false}
-use Rattle.std.specs.Prelude.{AllPairs, ◌≢◌, is_some, nat_eq, nat_le}
+use Rattle.std.specs.Prelude.{AllPairs, ◌≢◌, is_some, max, nat_eq, nat_le}
 use Rattle.std.specs.Str.{is_utf8}
-use Rattle.std.proofs.lemmas.Bool.{and_parts, and_from, cond_both, not-true, le-leb}
+use Rattle.std.proofs.lemmas.Bool.{and_parts, and_from, cond_both, not-true, le-leb, le-ltb, leb-true}
+use Rattle.std.proofs.Math.Nat.{max-le}
 use Rattle.std.proofs.lemmas.List.Elements.{All-nil, All-push}
 use Rattle.std.proofs.lemmas.List.Quantifiers.{all_pairs_push}
 use lib.Pointwise.{pointwise, bytes_decides}
@@ -11,17 +12,20 @@ use Rattle.gate_types.specs.declared.records.Kept.{Kept}
 use Rattle.gate_types.specs.declared.deliveries.Delivery.{Delivery}
 use Rattle.gate_types.specs.declared.deliveries.Reply.{Reply}
 use Rattle.gate_types.specs.Settings.{Settings, are_sound}
-use Rattle.gate_types.specs.Step.{Stepped, accepted, refused, step}
+use Rattle.gate_types.specs.Counters.{Drawn}
+use Rattle.gate_types.specs.State.{State, start}
+use Rattle.gate_types.specs.Step.{Stepped, accepted, refused, step, is_exhausted}
 use Rattle.gate_types.specs.Canonical.{canonical_text}
 use Rattle.gate_types.specs.ReplyText.{reply_text}
 use Rattle.gate_types.specs.Once.{Call, Content, empty, kept_for, may_act, content_after, next_content, once}
 use Rattle.gate_types.specs.Lawful.{IsLawful}
-use Rattle.gate_types.specs.Forms.{are_settings_in_form, is_delivery_in_form, is_id_in_form, is_call_in_form, is_text_in_form, is_kept_in_form, is_reply_in_form, IsContentInForm}
+use Rattle.gate_types.specs.Forms.{are_settings_in_form, are_counters_in_form, is_delivery_in_form, is_id_in_form, is_call_in_form, is_text_in_form, is_kept_in_form, is_reply_in_form, IsInForm, IsContentInForm}
 use Rattle.gate_laws.specs.InForm.{EmptyIsInForm, NextContentIsInForm, NextContentIsLawful, RunIsInForm}
+use Rattle.gate_laws.specs.Runs.{StartWithIsLawful}
 use Rattle.gate_laws.proofs.Members.{In, every, not_found}
-use Rattle.gate_laws.proofs.StartIsLawful.{start_lawful}
+use Rattle.gate_laws.proofs.StartIsLawful.{start_at, start_at_lawful, start_lawful}
 use Rattle.gate_laws.proofs.RunIsLawful.{next_lawful}
-use Rattle.gate_laws.proofs.StepIsInForm.{start_is_in_form, step_is_in_form}
+use Rattle.gate_laws.proofs.StepIsInForm.{start_at_in_form, start_is_in_form, step_is_in_form}
 use Rattle.gate_laws.proofs.ReplyForms.{reply_is_in_form}
 use Rattle.gate_laws.proofs.TextForms.{canonical_is_utf8, reply_is_utf8}
 use Rattle.gate_laws.proofs.TextLengths.{said_short, reply_short}
@@ -62,12 +66,33 @@ replied_in_form c r h = let few = reply_short c r h in
 
 -- ---- the laws
 
-pub empty_is_in_form : EmptyIsInForm
-empty_is_in_form c w f = record {
-  state = start_is_in_form c w f;
+-- nothing is kept yet
+none_kept_in_form : (c : Settings) (s : State) → IsInForm c s → IsContentInForm c (record { state = s; kept = [] })
+none_kept_in_form c s h = record {
+  state = h;
   kept = All-nil (λ k. is_kept_in_form k ≡ true);
   ids_differ = none_kept;
 }
+
+pub empty_is_in_form : EmptyIsInForm
+empty_is_in_form c w f = none_kept_in_form c (start c) (start_is_in_form c w f)
+
+-- counters in form aren't past the last number
+not_past : (c : Settings) (d : Drawn) → are_counters_in_form d ≡ true → is_exhausted (start_at c d) ≡ false
+not_past c d v =
+    let both = and_parts _ _ v in
+    let first = and_parts _ _ both.0 in
+    le-ltb 1000000000000000 (max d.approval (max d.build d.order))
+    (max-le (leb-true d.approval 1000000000000000 first.0)
+    (max-le (leb-true d.build 1000000000000000 first.1) (leb-true d.order 1000000000000000 both.1)))
+
+pub start_with_is_lawful : StartWithIsLawful
+start_with_is_lawful c d w f v =
+    let e = not_past c d v in
+    record {
+      lawful = start_at_lawful c d e;
+      in_form = none_kept_in_form c (start_at c d) (start_at_in_form c d w f e);
+    }
 
 after_call : (c : Settings) (x : Content) (k : Call) → are_sound c ≡ true → are_settings_in_form c ≡ true →
     IsLawful c x.state → IsContentInForm c x → is_call_in_form k ≡ true → may_act x k ≡ true →

@@ -13,6 +13,7 @@ use Rattle.gate_types.specs.declared.deliveries.Reply.{Reply}
 use Rattle.gate_types.specs.Names.{same_name, is_path_name}
 use Rattle.gate_types.specs.Needs.{needs}
 use Rattle.gate_types.specs.Settings.{Settings, are_sound, is_sound_window}
+use Rattle.gate_types.specs.Counters.{Drawn}
 use Rattle.gate_types.specs.State.{State, start, empty_queue, is_landed}
 use Rattle.gate_types.specs.Admit.{without_ready}
 use Rattle.gate_types.specs.Settle.{settle}
@@ -25,7 +26,7 @@ use Rattle.gate_laws.proofs.Members.{In, every, all, all_from, from_map, found}
 use Rattle.gate_laws.proofs.OrderFacts.{shows}
 use Rattle.gate_laws.proofs.AfterLanding.{is_after}
 use Rattle.gate_laws.proofs.SettledIsAtRest.{settled_is_at_rest}
-use Rattle.gate_laws.proofs.StartIsLawful.{start_lawful}
+use Rattle.gate_laws.proofs.StartIsLawful.{start_at, start_at_lawful}
 use Rattle.gate_laws.proofs.RunIsLawful.{raw_step_is_sound, step_is_lawful}
 use Rattle.gate_laws.proofs.EachAccepted.{OnAccepted, on_accepted, on_test, known_is, new_revision, each_approved, each_withdrawn, each_closed, each_landed, each_refused, each_take, each_result}
 use Rattle.gate_laws.proofs.Shapes.{Shaped, shaped_from, plan_to, ready_to, build_to, queue_to}
@@ -164,8 +165,8 @@ start_queue c w q m =
       reports = λ r n. absurd n;
     }
 
-start_shaped : (c : Settings) → are_sound c ≡ true → Shaped c (start c)
-start_shaped c w = record {
+start_shaped : (c : Settings) (d : Drawn) → are_sound c ≡ true → Shaped c (start_at c d)
+start_shaped c d w = record {
   changes = λ k m. absurd m;
   ready = λ r m. absurd m;
   queues = λ q m. let x = from_map empty_queue c.queues q m in subst WholeQueue x.2 (start_queue c w x.0 x.1);
@@ -173,5 +174,9 @@ start_shaped c w = record {
   builds = λ b m. absurd m;
 }
 
+pub start_at_in_form : (c : Settings) (d : Drawn) → are_sound c ≡ true → are_settings_in_form c ≡ true →
+    is_exhausted (start_at c d) ≡ false → IsInForm c (start_at c d)
+start_at_in_form c d w f e = form_of c (start_at c d) f (start_at_lawful c d e) (start_shaped c d w)
+
 pub start_is_in_form : StartIsInForm
-start_is_in_form c w f = form_of c (start c) f (start_lawful c) (start_shaped c w)
+start_is_in_form c w f = start_at_in_form c (start c).counters w f refl

@@ -1,12 +1,12 @@
-//! Typed deliveries and settings are of their forms.
+//! Typed deliveries, settings, counters and ids are of their forms.
 ghost use Rattle.std.specs.Prelude.{◌≡◌, true, nat_lt};
 ghost use Rattle.std.specs.List.{list_all};
 ghost use Rattle.gate_types.specs.Names.{is_name};
-ghost use Rattle.gate_types.specs.Forms.{is_delivery_in_form, is_project_in_form, are_settings_in_form, is_id_in_form};
+ghost use Rattle.gate_types.specs.Forms.{is_delivery_in_form, is_project_in_form, are_settings_in_form, are_counters_in_form, is_id_in_form};
 
 use gate_types::config::{Config, Job, Project, Queue};
 use gate_types::deliveries::Delivery;
-use gate_types::records::Id;
+use gate_types::records::{Counters, Id};
 
 /// A typed delivery is of its form.
 pub fn delivery_is_in_form(delivery: &Delivery)
@@ -90,6 +90,13 @@ fn projects_are_in_form(projects: &[Project])
     for project in projects {
         project_is_in_form(project);
     }
+}
+
+/// Typed counters are of their form.
+pub fn counters_are_in_form(counters: &Counters)
+    ensures { are_counters_in_form counters.now ≡ true }
+{
+    let _order = counters.order;
 }
 
 /// An id is of its form.

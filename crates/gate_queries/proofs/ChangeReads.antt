@@ -24,9 +24,9 @@ use Rattle.gate_schema.proofs.Statements.{key_is, no_limit}
 use Rattle.gate_schema.proofs.ValueLemmas.{equal_numbers}
 use Rattle.gate_queries.specs.Finds.{Finds}
 use Rattle.gate_queries.specs.Reads.{IsShown}
-use Rattle.gate_queries.specs.Shown.{change_shown, number_shown}
+use Rattle.gate_queries.specs.Shown.{approval_shown, change_shown, number_shown}
 use Rattle.gate_queries.specs.Whole.{IsWhole, is_change_row_in_form}
-use Rattle.gate_queries.proofs.ChangeTexts.{change_asks, change_names, change_query, change_sql, change_terms, needs_asks, needs_query, needs_sql}
+use Rattle.gate_queries.proofs.ChangeTexts.{approval_asks, approval_query, approval_sql, change_asks, change_names, change_query, change_sql, change_terms, needs_asks, needs_query, needs_sql}
 use Rattle.gate_queries.proofs.KeyedReads.{finds_few, one_at}
 use Rattle.gate_queries.proofs.ListedReads.{listed_rising, told_behind}
 use Rattle.gate_queries.proofs.ReadLemmas.{answers}
@@ -110,3 +110,15 @@ changes_as n needs b s shows whole are =
         (eqb-true _ _ (has 0 r (omega arith)), ap (λ (o : Option ChangeRow). option_map_or (λ (r : ChangeRow). r.change.needs) o []) first ∙ sym are, first_of_both _ _ (form 0 r (omega arith)))
     go (r ∷ []) few has form first (suc k) d low = absurd (omega arith)
     go (r ∷ t ∷ rs) few has form first k d low = absurd (omega arith)
+
+-- ---- its approval
+
+-- the number of its approval
+pub approval_found : (s : State) (b : Stored) (n : ℕ) (rows : List Row) → IsShown s b → Finds approval_sql (Int (pos n) ∷ []) s.now rows
+    → rows ≡ map approval_shown (filter (λ r. eqb (change_key r) n) b.changes)
+approval_found s b n rows shows finds =
+    let params = Int (pos n) ∷ [] in
+    let is = shows.stands.change in
+    finds_few change_key change_row approval_shown 7 (key_is 0 ∷ []) (col 1 5 ∷ []) no_limit params (λ r. eqb (change_key r) n)
+    (λ r. rw equal_numbers (and_true (eqb (change_key r) n))) (λ r. refl) (overlay s.now.trees []) b.changes rows is (one_at change_key n b.changes is.in_order)
+    (answers s approval_sql approval_query (codes "approval" ∷ []) params rows approval_asks shows.schema_is finds)

@@ -38,3 +38,15 @@ needs_query = over_table 9 (key_is 1 ∷ []) (col 1 3 ∷ []) ((col 1 2, ascendi
 pub needs_asks : Asks needs_sql needs_query (codes "needed" ∷ [])
 unfolding understood everything
 needs_asks = ((refl, (refl, refl)), refl)
+
+-- ---- its approval
+
+abbrev pub approval_sql : List ℕ
+approval_sql = codes "SELECT approval FROM change WHERE num = ?1"
+
+abbrev pub approval_query : Query
+approval_query = over_table 7 (key_is 0 ∷ []) (col 1 5 ∷ []) [] no_limit
+
+pub approval_asks : Asks approval_sql approval_query (codes "approval" ∷ [])
+unfolding understood everything
+approval_asks = ((refl, (refl, refl)), refl)

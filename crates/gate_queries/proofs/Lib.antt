@@ -29,6 +29,7 @@ mod PlannedReads
 mod QueueReads
 mod QueueTexts
 pub mod ReadLemmas
+mod ReadyNeedingReads
 mod ReadyReads
 mod ReportReads
 mod ShownLemmas

@@ -56,7 +56,7 @@ ready_terms = col 1 5 ∷ col 1 0 ∷ []
 abbrev ready_query : Query
 ready_query = over_table 7 ready_test ready_terms ((col 1 5, ascending Binary) ∷ []) no_limit
 
-abbrev ready_names : List (List ℕ)
+abbrev pub ready_names : List (List ℕ)
 ready_names = codes "approval" ∷ codes "num" ∷ []
 
 pub ready_is : Asks ready_sql ready_query ready_names
@@ -66,7 +66,7 @@ ready_is = ((refl, (refl, refl)), refl)
 -- ---- what the query makes of the changes
 
 -- what they rise by
-abbrev approval_of : Ready → ℕ
+abbrev pub approval_of : Ready → ℕ
 approval_of r = r.approval
 
 -- what it makes of a ready change: what it sorts by, and what it shows
@@ -74,7 +74,7 @@ abbrev out : Ready → Output
 out r = (Int (pos r.approval) ∷ [], ready_shown r)
 
 -- NULL passes no test of a number
-null_is_not_above : is_true (binary (Compare Gt Binary) Null (Int (pos 0))) ≡ false
+pub null_is_not_above : is_true (binary (Compare Gt Binary) Null (Int (pos 0))) ≡ false
 unfolding binary
 null_is_not_above = refl
 

@@ -1,5 +1,5 @@
 -- What each read says of what the tables hold; of the items of a queue it is `items_of`.
-use Rattle.std.specs.Prelude.{ℕ, ◌&&◌, ◌==◌, ◌<◌, nat_lt, if◌then◌else◌, Bool, List, [], ◌∷◌, map, filter, find, fold, flat_map, Option, Some, None, option_map, option_to_list, AllPairs, IsPermutation}
+use Rattle.std.specs.Prelude.{ℕ, ◌&&◌, ◌==◌, ◌<◌, nat_lt, if◌then◌else◌, Bool, List, [], ◌∷◌, map, filter, find, fold, flat_map, Option, Some, None, option_map, option_and_then, option_to_list, AllPairs, IsPermutation, ◌≡◌}
 use Rattle.std.specs.List.{list_any}
 use Rattle.std.specs.Option.{option_map_or}
 use Rattle.gate_types.specs.Names.{same_name}
@@ -67,6 +67,11 @@ plans_between b name above last =
 abbrev pub known_change : Stored → ℕ → Option Change
 known_change b n = option_map (λ (r : ChangeRow). r.change) (find (λ (r : ChangeRow). change_key r == n) b.changes)
 
+-- the number of a change's approval, while it is ready
+abbrev pub approval_of : Stored → ℕ → Option ℕ
+approval_of b n =
+    option_and_then (λ (r : ChangeRow). r.approval) (find (λ (r : ChangeRow). change_key r == n) b.changes)
+
 -- a change that is ready
 abbrev pub ready_row : ChangeRow → List Ready
 ready_row r = option_map_or (λ a. (record { approval = a; change = r.change.number }) ∷ []) r.approval []
@@ -79,6 +84,12 @@ ready_rows rows = flat_map ready_row rows
 pub record AreReady (b : Stored) (found : List Ready) : Type 0 where
   pub are : IsPermutation found (ready_rows b.changes)
   pub rise : AllPairs (λ (r s : Ready). r.approval < s.approval) found
+
+-- these are the changes that are ready and need this one, in order of approval
+pub record AreReadyNeeding (b : Stored) (n : ℕ) (found : List Ready) : Type 0 where
+  pub ready : List Ready
+  pub are_ready : AreReady b ready
+  pub need_it : found ≡ filter (λ (r : Ready). needs_it b.needs n r.change) ready
 
 -- ---- builds
 

@@ -6,7 +6,8 @@ use Rattle.gate_types.specs.declared.config.Job.{Job}
 use Rattle.gate_types.specs.declared.records.Change.{Change}
 use Rattle.gate_types.specs.declared.records.Kept.{Kept}
 use Rattle.gate_types.specs.declared.records.Ready.{Ready}
-use Rattle.gate_schema.specs.Rows.{JobRow, bit}
+use Rattle.gate_types.specs.declared.rows.ChangeRow.{ChangeRow}
+use Rattle.gate_schema.specs.Rows.{JobRow, bit, number_or_null}
 use Rattle.gate_schema.specs.Words.{stage_word}
 
 -- a change that is ready
@@ -20,6 +21,10 @@ number_shown n = Int (pos n) ∷ []
 -- a change, without its number and its needs
 abbrev pub change_shown : Change → Row
 change_shown k = Words k.project ∷ Int (pos k.revision) ∷ Words (stage_word k.stage) ∷ []
+
+-- the number of a change's approval, NULL where there is none
+abbrev pub approval_shown : ChangeRow → Row
+approval_shown r = number_or_null r.approval ∷ []
 
 -- a job
 abbrev pub job_shown : Job → Row

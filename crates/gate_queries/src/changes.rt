@@ -1,16 +1,17 @@
 //! Reads of changes, by number.
-ghost use Rattle.std.specs.Prelude.{◌≡◌, ℕ, false, true, List, map, slice_get};
+ghost use Rattle.std.specs.Prelude.{◌≡◌, ℕ, false, true, List, map, option_and_then, slice_get};
 ghost use Rattle.std.specs.List.{All, AllPass};
 ghost use Rattle.sqlite.specs.Held.{state};
 ghost use Rattle.gate_types.specs.Forms.{is_change_in_form, is_change_number};
 ghost use Rattle.gate_types.specs.declared.records.Change.{Change as ChangeOf};
+ghost use Rattle.gate_types.specs.declared.rows.ChangeRow.{ChangeRow};
 ghost use Rattle.gate_book.specs.Reads.{Answers};
 ghost use Rattle.gate_rows.specs.Tells.{needs_in};
-ghost use Rattle.gate_queries.specs.Asked.{known_change};
+ghost use Rattle.gate_queries.specs.Asked.{approval_of, known_change};
 ghost use Rattle.gate_queries.specs.Reads.{IsOnlyRead, Opened, Tells};
-ghost use Rattle.gate_queries.specs.Shown.{change_shown, number_shown};
+ghost use Rattle.gate_queries.specs.Shown.{approval_shown, change_shown, number_shown};
 
-use crate::columns::{change_in, path_name_in, revision_in};
+use crate::columns::{change_in, number_if_any_in, path_name_in, revision_in};
 use crate::read::read_rows;
 use crate::words::stage_in;
 use gate_book::fault::BookFault;
@@ -98,4 +99,34 @@ pub fn change<S: Alter>(
         &[values::change(number)],
     )?;
     first_change(number, needs, &rows)
+}
+
+/// The number of an approval in the first row, if there is one; `Damaged` where it holds neither a number nor NULL.
+fn first_approval(rows: &[Row]) -> Result<Option<u64>, BookFault>
+    ensures { (rs : List ChangeRow) → rows.now ≡ map approval_shown rs →
+        Answers (option_and_then (λ r. r.approval) (slice_get rs 0)) result }
+{
+    match rows {
+        [] => Ok(None),
+        [row, ..] => number_if_any_in(row, 0),
+    }
+}
+
+/// The number of a change's approval, while it is ready.
+///
+/// `NoMemory` where memory is refused, `Store` where the query fails, `Damaged` where the row isn't in form.
+pub fn approval<S: Alter>(
+    conn: &mut Connection<S>,
+    number: ChangeNo,
+) -> Result<Option<u64>, BookFault>
+    ensures found { Tells (state S.Store conn.old) (state S.Store conn.new) result (λ b. approval_of b number) }
+    ensures opened { Opened (state S.Store conn.old) (state S.Store conn.new) result }
+    ensures only_reads { IsOnlyRead (state S.Store conn.old) (state S.Store conn.new) }
+{
+    let rows = read_rows(
+        conn,
+        "SELECT approval FROM change WHERE num = ?1",
+        &[values::change(number)],
+    )?;
+    first_approval(&rows)
 }

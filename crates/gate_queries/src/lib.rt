@@ -26,12 +26,12 @@ mod report_reads;
 mod words;
 
 pub use builds::{build, builds_between, live_builds};
-pub use changes::change;
+pub use changes::{approval, change};
 pub use counter_reads::counters;
 pub use deliveries::delivery;
 pub use item_plans::plans_between;
 pub use item_reads::{item, items, last_item, needing, next_item, next_items, queued};
 pub use plans::plan;
 pub use queues::{item_count, landing_before, landing_count, reports, window};
-pub use ready_reads::ready;
+pub use ready_reads::{ready, ready_needing};
 pub use report_reads::history;

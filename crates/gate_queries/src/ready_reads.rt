@@ -1,16 +1,18 @@
-//! The read of the ready list.
+//! Reads of the ready list.
 ghost use Rattle.std.specs.Prelude.{◌≡◌, true, false, List, map};
 ghost use Rattle.std.specs.List.{AllPass};
 ghost use Rattle.sqlite.specs.Held.{state};
 ghost use Rattle.gate_types.specs.Forms.{is_ready_in_form};
 ghost use Rattle.gate_book.specs.Reads.{Answers};
-ghost use Rattle.gate_queries.specs.Asked.{AreReady};
+ghost use Rattle.gate_queries.specs.Asked.{AreReady, AreReadyNeeding};
 ghost use Rattle.gate_queries.specs.Reads.{IsOnlyRead, Opened, Reads};
 ghost use Rattle.gate_queries.specs.Shown.{ready_shown};
 
 use crate::columns::{change_in, number_in};
 use crate::read::read_rows;
 use gate_book::fault::BookFault;
+use gate_rows::values::change;
+use gate_types::numbers::ChangeNo;
 use gate_types::records::Ready;
 use gate_types::sequence::Sequence;
 use sqlite::{Alter, Connection, Row};
@@ -53,4 +55,26 @@ pub fn ready<S: Alter>(conn: &mut Connection<S>) -> Result<Sequence<Ready>, Book
         &[],
     )?;
     all_ready(*rows.allocator(), &rows)
+}
+
+/// The changes that are ready and need this one, in order of approval.
+///
+/// `NoMemory` where memory is refused, `Store` where the query fails, `Damaged` where a row isn't in form.
+pub fn ready_needing<S: Alter>(
+    conn: &mut Connection<S>,
+    needed: ChangeNo,
+) -> Result<Sequence<Ready>, BookFault>
+    ensures found { Reads (state S.Store conn.old) (state S.Store conn.new) result (λ b found.
+        AreReadyNeeding b needed found) }
+    ensures opened { Opened (state S.Store conn.old) (state S.Store conn.new) result }
+    ensures only_reads { IsOnlyRead (state S.Store conn.old) (state S.Store conn.new) }
+{
+    // A change may name another twice. Needs are sought by their index, and then changes by their numbers.
+    let needing = read_rows(
+        conn,
+        "SELECT DISTINCT change.approval, change.num FROM need, change \
+         WHERE need.needed = ?1 AND change.num = need.change AND change.approval > 0 ORDER BY change.approval",
+        &[change(needed)],
+    )?;
+    all_ready(*needing.allocator(), &needing)
 }

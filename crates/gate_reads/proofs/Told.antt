@@ -1,11 +1,13 @@
 -- What is told of an item that is found by key.
-use Rattle.std.proofs.Common.{◌≡◌, ℕ, true, false, Some, None, refl, sym, ap, ◌∙◌, subst}
+use Rattle.std.proofs.Common.{◌≡◌, ℕ, true, false, Option, Some, None, refl, sym, ap, ◌∙◌, subst}
 use Rattle.std.specs.Prelude.{◌==◌, find, is_some, option_map, Result, Ok, Err, IfOk}
 use Rattle.std.specs.Bool.{then_some}
 use Rattle.std.proofs.lemmas.Bool.{eqb-true}
+use Rattle.gate_types.specs.declared.records.Ready.{Ready}
 use Rattle.gate_types.specs.Settings.{Settings, are_sound}
-use Rattle.gate_types.specs.State.{State, is_queued}
+use Rattle.gate_types.specs.State.{State, is_queued, is_ready}
 use Rattle.gate_types.specs.SubmitOrder.{shown_order}
+use Rattle.gate_types.specs.Tables.{approval_of}
 use Rattle.gate_types.specs.Rows.{row_of}
 use Rattle.gate_types.specs.Lawful.{IsSound}
 use Rattle.gate_laws.proofs.Members.{found}
@@ -14,7 +16,7 @@ use Rattle.gate_book.specs.declared.rows.QueuedItem.{QueuedItem}
 use Rattle.gate_book.specs.Reads.{queued_of, Answers}
 use Rattle.gate_reads.specs.Orders.{TellsShown}
 use Rattle.gate_reads.specs.Standing.{IsQueuedAs}
-use Rattle.gate_reads.proofs.Found.{found_itself, some_before, none_before}
+use Rattle.gate_reads.proofs.Found.{any_found, found_itself, some_before, none_before}
 use Rattle.gate_reads.proofs.Stood.{Stood, stood, stood_there, queued_as, serial_of, change_of, change_once, queued_is, queue_is, is_queued_is}
 use Rattle.gate_reads.proofs.ShownOrders.{shows, if_shown, order_as, shown_is}
 use Rattle.gate_reads.proofs.Passing.{row_of_order, stored_at}
@@ -63,3 +65,11 @@ pub not_queued : (c : Settings) (s : State) (n : ℕ) → queued_of c s n ≡ No
 not_queued c s n e =
     is_queued_is s n ∙ ap is_some (queue_is c s n
     ∙ ap (option_map (λ x. x.queue.name)) (none_before (queued_as s) _ (sym (queued_is c s n) ∙ e)))
+
+-- a change is ready just where it has an approval
+pub ready_so : (s : State) (n : ℕ) → is_ready s n ≡ is_some (approval_of s.ready n)
+ready_so s n = any_found (λ (r : Ready). r.change == n) s.ready ∙ by_found (find (λ (r : Ready). r.change == n) s.ready)
+  where
+    by_found : (o : Option Ready) → is_some o ≡ is_some (option_map (λ (r : Ready). r.approval) o)
+    by_found None = refl
+    by_found (Some r) = refl

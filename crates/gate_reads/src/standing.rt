@@ -1,6 +1,5 @@
 //! Where a change stands.
-ghost use Rattle.std.specs.Prelude.{◌≡◌, ◌==◌, IfOk, IfErr};
-ghost use Rattle.std.specs.List.{list_any};
+ghost use Rattle.std.specs.Prelude.{IfOk, IfErr};
 ghost use Rattle.gate_book.specs.Faults.{MayAnswer};
 ghost use Rattle.gate_book.specs.Kept.{OfHeldUnder, IsKept};
 ghost use Rattle.gate_reads.specs.Standing.{StandsSo};
@@ -10,7 +9,6 @@ use gate_book::fault::BookFault;
 use gate_book::rows::QueuedItem;
 use gate_types::config::Config;
 use gate_types::numbers::ChangeNo;
-use gate_types::records::Ready;
 use std::alloc::Global;
 
 /// Where a change stands.
@@ -24,13 +22,7 @@ pub enum Stand {
     Nowhere,
 }
 
-fn has_ready(ready: &[Ready], change: ChangeNo) -> bool
-    ensures { result ≡ list_any (λ r. r.change == change) ready.now }
-{
-    ready.iter().any(|row| row.change == change)
-}
-
-/// Where a change stands. The ready list is read only where it is no item.
+/// Where a change stands. Its approval is asked for only where it is no item.
 pub fn standing<B: Book>(
     alloc: Global,
     book: &mut B,
@@ -47,9 +39,8 @@ pub fn standing<B: Book>(
     if let Some(queued) = book.queued(change)? {
         return Ok(Stand::Queued(queued));
     }
-    if has_ready(book.ready()?.as_slice(), change) {
-        Ok(Stand::Ready)
-    } else {
-        Ok(Stand::Nowhere)
+    match book.approval(change)? {
+        Some(_) => Ok(Stand::Ready),
+        None => Ok(Stand::Nowhere),
     }
 }

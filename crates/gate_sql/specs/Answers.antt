@@ -4,6 +4,7 @@ use Rattle.gate_types.specs.Once.{Content}
 use Rattle.gate_types.specs.Settings.{Settings}
 use Rattle.gate_types.specs.State.{known_change}
 use Rattle.gate_types.specs.Step.{build_of}
+use Rattle.gate_types.specs.Tables.{approval_of}
 use Rattle.gate_types.specs.declared.records.Ready.{Ready}
 use Rattle.gate_schema.specs.Rows.{Stored}
 use Rattle.gate_rows.specs.Tells.{items_of}
@@ -23,8 +24,13 @@ pub record IsAnsweredBy (b : Stored) (c : Settings) (x : Content) : Type 0 where
       file.items_needing b name n serial ≡ content.items_needing x.state n serial (content.items_in c x.state name)
   -- what is known of a change
   pub change : (n : ℕ) → file.known_change b n ≡ known_change x.state n
+  -- the number of a change's approval, while it is ready
+  pub approval : (n : ℕ) → file.approval_of b n ≡ approval_of x.state.ready n
   -- the changes that are ready, in order of approval
   pub ready : (found : List Ready) → file.AreReady b found → found ≡ x.state.ready
+  -- those of them that need another
+  pub ready_needing : (n : ℕ) (found : List Ready) → file.AreReadyNeeding b n found →
+      found ≡ content.ready_needing x.state n
   -- the build of a number
   pub build : (n : ℕ) → file.build_of b n ≡ build_of x.state n
   -- the plan under a serial

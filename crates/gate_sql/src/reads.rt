@@ -129,6 +129,14 @@ impl<S: Alter> Book for SqlBook<S> {
         gate_queries::ready(&mut self.conn)
     }
 
+    fn approval(&mut self, change: ChangeNo) -> Result<Option<u64>, BookFault> {
+        gate_queries::approval(&mut self.conn, change)
+    }
+
+    fn ready_needing(&mut self, change: ChangeNo) -> Result<Sequence<Ready>, BookFault> {
+        gate_queries::ready_needing(&mut self.conn, change)
+    }
+
     fn counters(&mut self) -> Result<Counters, BookFault> {
         gate_queries::counters(&mut self.conn)
     }

@@ -4,5 +4,6 @@ mod asked;
 mod cached;
 mod counting;
 mod memory;
+mod needing;
 mod scene;
 mod starved;

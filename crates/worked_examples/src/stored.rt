@@ -1,5 +1,6 @@
 //! A gate's file: its tables made and read, closed and opened again, with other settings too, and stopped at each write.
 mod adopting;
+mod approvals;
 mod days;
 mod disks;
 pub mod files;
@@ -13,4 +14,5 @@ mod plans;
 mod rows;
 mod stops;
 mod tables;
+mod waiting;
 mod work;

@@ -155,6 +155,14 @@ impl<B: Book> Book for Watched<B> {
         self.book.ready()
     }
 
+    fn approval(&mut self, change: ChangeNo) -> Result<Option<u64>, BookFault> {
+        self.book.approval(change)
+    }
+
+    fn ready_needing(&mut self, change: ChangeNo) -> Result<Sequence<Ready>, BookFault> {
+        self.book.ready_needing(change)
+    }
+
     fn counters(&mut self) -> Result<Counters, BookFault> {
         self.book.counters()
     }

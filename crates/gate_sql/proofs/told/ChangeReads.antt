@@ -1,6 +1,10 @@
 -- What is asked of changes, of the file's rows and of a content: what is known of one, and which are ready.
 use Rattle.std.proofs.Common.{◌≡◌, ◌≢◌, ℕ, ◌≤◌, true, ◌++◌, Option, Some, None, List, [], ◌∷◌, map, refl, sym, ap, ◌∙◌, subst, inl, inr, arith, true≢false}
-use Rattle.std.specs.Prelude.{◌==◌, AllPairs, IsPermutation, find, option_map, unwrap_or}
+use Rattle.std.specs.Prelude.{◌==◌, AllPairs, IsPermutation, find, option_and_then, option_map, unwrap_or}
+-- What is asked of changes, of the file's rows and of a content: what is known of one, what it needs, and which are ready.
+use Rattle.std.proofs.Common.{◌≡◌, ◌≢◌, ℕ, suc, ◌≤◌, true, ◌||◌, ◌++◌, Option, Some, None, List, [], ◌∷◌, map, refl, sym, ap, ◌∙◌, subst, inl, inr, arith, true≢false}
+use Rattle.std.specs.Prelude.{◌==◌, AllPairs, IsPermutation, filter, find, option_map, unwrap_or}
+use Rattle.std.specs.List.{list_any}
 use Rattle.std.specs.Option.{option_map_or}
 use Rattle.std.proofs.lemmas.Bool.{eq-eqb, eqb-true, false≢true}
 use Rattle.std.proofs.lemmas.List.Concat.{flat_map-cons}
@@ -14,8 +18,12 @@ use Rattle.gate_types.specs.Settings.{Settings}
 use Rattle.gate_types.specs.State.{State, change_of, is_open, known_change}
 use Rattle.gate_types.specs.Tables.{approval_of, change_row, tables}
 use Rattle.gate_types.specs.Lawful.{IsSound}
-use Rattle.gate_schema.specs.Rows.{Stored, change_key}
-use Rattle.gate_rows.specs.Tells.{Tells}
+use Rattle.gate_schema.specs.Edits.{need_rows}
+use Rattle.gate_schema.specs.Rows.{NeedRow, Stored, change_key}
+use Rattle.gate_schema.specs.Shown.{needs_it}
+use Rattle.gate_rows.specs.Tells.{Tells, needs_in}
+use Rattle.gate_book.specs.Reads as content
+use Rattle.gate_book.specs.TableReads as table
 use Rattle.gate_book.proofs.ReadLemmas as read
 use Rattle.gate_queries.specs.Asked as file
 use Rattle.gate_laws.proofs.Alone.{changes_once, ready_changes}
@@ -23,7 +31,7 @@ use Rattle.gate_laws.proofs.Changes.{unknown}
 use Rattle.gate_laws.proofs.Counts.{one_of, times}
 use Rattle.gate_laws.proofs.Members.{In, all, every, found, from_flat, from_map, not_found, to_flat, to_map}
 use Rattle.gate_laws.proofs.Rising.{Rising, rising}
-use Rattle.gate_sql.proofs.told.Lists.{HaveSame, pairs_rise, permuted_same, rising_alone, same_rising}
+use Rattle.gate_sql.proofs.told.Lists.{HaveSame, any_filter, pairs_rise, permuted_same, rising_alone, same_rising}
 
 -- the number of an approval, and its change's
 abbrev approved : ℕ → ℕ → Ready
@@ -135,12 +143,41 @@ approvals_differ ready up (k ∷ ks) rise =
         let above = rise.0 there.0 there.1 in
         omega (arith, number, above))) h
 
+-- a change is among those that are needed just where it is among their rows
+any_need : (number n place : ℕ) (needs : List ℕ) →
+    list_any (λ (r : NeedRow). r.needed == n) (need_rows number place needs) ≡ list_any (λ m. m == n) needs
+any_need number n place [] = refl
+any_need number n place (m ∷ ms) = ap (λ t. m == n || t) (any_need number n (suc place) ms)
+
+-- the needs of a change's row are those of what is known of it
+needs_known : (rows : List ChangeRow) (n : ℕ) → needs_in rows n ≡ table.needs_in rows n
+needs_known rows n = by_row (find (λ (r : ChangeRow). r.change.number == n) rows)
+  where
+    by_row : (o : Option ChangeRow) → option_map_or (λ (r : ChangeRow). r.change.needs) o [] ≡
+        option_map_or (λ k. k.needs) (option_map (λ (r : ChangeRow). r.change) o) []
+    by_row None = refl
+    by_row (Some r) = refl
+
 module _ (c : Settings) (x : Content) (b : Stored) (told : Tells b (tables c x)) where
   -- what is known of a change
   pub change_is : (n : ℕ) → file.known_change b n ≡ known_change x.state n
   change_is n =
       ap (λ rows. option_map (λ (r : ChangeRow). r.change) (find (λ (r : ChangeRow). change_key r == n) rows))
       told.changes_are ∙ read.change_is c x n
+
+  -- the number of a change's approval
+  pub approval_is : IsLawfulContent c x → (n : ℕ) → file.approval_of b n ≡ approval_of x.state.ready n
+  approval_is lawful n =
+      ap (λ rows. option_and_then (λ (r : ChangeRow). r.approval) (find (λ (r : ChangeRow). change_key r == n) rows))
+      told.changes_are ∙ read.approval_is c x n lawful
+
+  -- whether a change needs another
+  pub needs_are : (n number : ℕ) → needs_it b.needs n number ≡ list_any (λ m. m == n) (change_of x.state number).needs
+  needs_are n number =
+      any_filter (λ (r : NeedRow). r.change == number) (λ (r : NeedRow). r.needed == n) b.needs
+      ∙ ap (list_any (λ (r : NeedRow). r.needed == n)) (told.needs_are number)
+      ∙ any_need number n 0 (needs_in (tables c x).changes number)
+      ∙ ap (list_any (λ m. m == n)) (needs_known (tables c x).changes number ∙ read.needs_are c x number)
 
   -- the ready list
   pub ready_is : IsLawfulContent c x → (found : List Ready) → file.AreReady b found → found ≡ x.state.ready
@@ -158,6 +195,14 @@ module _ (c : Settings) (x : Content) (b : Stored) (told : Tells b (tables c x))
       found_rows : HaveSame found (file.ready_rows (tables c x).changes)
       found_rows = permuted_same found (file.ready_rows (tables c x).changes)
           (subst (λ l. IsPermutation found (file.ready_rows l)) told.changes_are ready.are)
+
+  -- those that need another
+  pub ready_needing_is : IsLawfulContent c x → (n : ℕ) (found : List Ready) → file.AreReadyNeeding b n found →
+      found ≡ content.ready_needing x.state n
+  ready_needing_is lawful n found are =
+      are.need_it
+      ∙ ap (filter (λ (r : Ready). needs_it b.needs n r.change)) (ready_is lawful are.ready are.are_ready)
+      ∙ (λ k. filter (λ (r : Ready). needs_are n r.change k) x.state.ready)
 
   -- no two rows have one approval
   pub approvals_of_rows : IsLawfulContent c x →

@@ -11,7 +11,7 @@ use Rattle.gate_book.specs.Reads.{items_between}
 use Rattle.gate_schema.specs.Rows.{AreNamed, Stored, build_key}
 use Rattle.gate_rows.specs.Tells.{Tells}
 use Rattle.gate_sql.specs.Answers.{IsAnsweredBy}
-use Rattle.gate_sql.proofs.told.ChangeReads.{change_is, ready_is}
+use Rattle.gate_sql.proofs.told.ChangeReads.{approval_is, change_is, ready_is, ready_needing_is}
 use Rattle.gate_sql.proofs.told.ItemReads.{item_is, needing_is, queued_is}
 use Rattle.gate_sql.proofs.told.Items.{items_are}
 use Rattle.gate_sql.proofs.told.PlanReads.{plan_is}
@@ -26,7 +26,9 @@ reads_are_told {c = c} {x = x} {b = b} lawful named told = record {
   queued = queued_is c x b lawful told named;
   needing = needing_is c x b told;
   change = change_is c x b told;
+  approval = approval_is c x b told lawful;
   ready = ready_is c x b told lawful;
+  ready_needing = ready_needing_is c x b told lawful;
   build = λ n. ap (find (λ (y : Build). build_key y == n)) told.builds_are;
   plan = plan_is c x b lawful told;
   live_builds = λ serial. ap (filter (λ (y : Build). y.live && y.serial == serial)) told.builds_are;

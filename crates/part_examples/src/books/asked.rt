@@ -59,6 +59,21 @@ pub fn ready_are<B: Book>(rt: &impl Abort, book: &mut B, wanted: &[Ready]) {
     assert!(rt; ready.as_slice() == wanted);
 }
 
+/// The ready changes that need this one.
+pub fn ready_needing_is<B: Book>(rt: &impl Abort, book: &mut B, change: u64, wanted: &[Ready]) {
+    let found = book.ready_needing(change_no(rt, change));
+    let ready = found.expect(rt, "ready changes");
+    assert!(rt; ready.as_slice() == wanted, "{change}");
+}
+
+/// A change's approval has this number; None where it isn't ready.
+pub fn approval_is<B: Book>(rt: &impl Abort, book: &mut B, change: u64, wanted: Option<u64>) {
+    assert!(rt;
+        book.approval(change_no(rt, change)) == Ok(wanted),
+        "{change}"
+    );
+}
+
 /// The items of `core`.
 pub fn items_are<B: Book>(rt: &(impl Abort + AllocGlobal), book: &mut B, wanted: &[Item]) {
     let items = book.items(&name(rt, "core")).expect(rt, "items");

@@ -148,6 +148,16 @@ impl<B: Book> Book for Counting<B> {
         self.book.ready()
     }
 
+    fn approval(&mut self, change: ChangeNo) -> Result<Option<u64>, BookFault> {
+        self.reads = self.reads.saturating_add(1);
+        self.book.approval(change)
+    }
+
+    fn ready_needing(&mut self, change: ChangeNo) -> Result<Sequence<Ready>, BookFault> {
+        self.reads = self.reads.saturating_add(1);
+        self.book.ready_needing(change)
+    }
+
     fn counters(&mut self) -> Result<Counters, BookFault> {
         self.reads = self.reads.saturating_add(1);
         self.book.counters()

@@ -1,8 +1,9 @@
 //! A book in memory, changed and read back.
 use crate::books::asked::{
-    counters_are, item_is, items_are, landings_before, last_item_is, live_between, live_builds,
-    needing_is, needs_are, next_item_is, next_items_are, no_plan, no_reply, not_known, not_queued,
-    plan_is, planned_between, queued_is, ready_are, reply_is, reports_are, sizes_are, window_is,
+    approval_is, counters_are, item_is, items_are, landings_before, last_item_is, live_between,
+    live_builds, needing_is, needs_are, next_item_is, next_items_are, no_plan, no_reply, not_known,
+    not_queued, plan_is, planned_between, queued_is, ready_are, reply_is, reports_are, sizes_are,
+    window_is,
 };
 use crate::books::scene::{
     apply, book_of, build_no, change_no, first_book, item, keep, later_edits, put_plan, put_report,
@@ -98,6 +99,22 @@ pub fn changes_and_builds_are_told<B: Book>(rt: &(impl Abort + AllocGlobal), boo
 fn changes_and_builds_are_read_back(rt: HostRuntime) {
     let mut book = first_book(&rt);
     changes_and_builds_are_told(&rt, &mut book);
+}
+
+/// Of the one that is ready, of one that is an item, and of one that isn't known; and once it is no longer ready.
+fn approvals_are_told<B: Book>(rt: &(impl Abort + AllocGlobal), book: &mut B) {
+    approval_is(rt, book, 103, Some(7));
+    approval_is(rt, book, 102, None);
+    approval_is(rt, book, 104, None);
+    let edits = later_edits(rt);
+    apply(rt, book, edits.as_slice());
+    approval_is(rt, book, 103, None);
+}
+
+#[test]
+fn approvals_are_read_back(rt: HostRuntime) {
+    let mut book = first_book(&rt);
+    approvals_are_told(&rt, &mut book);
 }
 
 /// Of the items and of the landing, and no others.

@@ -125,6 +125,14 @@ impl<B: Book> Book for Torn<B> {
         self.0.ready()
     }
 
+    fn approval(&mut self, change: ChangeNo) -> Result<Option<u64>, BookFault> {
+        self.0.approval(change)
+    }
+
+    fn ready_needing(&mut self, change: ChangeNo) -> Result<Sequence<Ready>, BookFault> {
+        self.0.ready_needing(change)
+    }
+
     fn counters(&mut self) -> Result<Counters, BookFault> {
         self.0.counters()
     }

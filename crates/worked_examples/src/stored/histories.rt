@@ -142,6 +142,7 @@ fn asked<B: Book>(rt: &(impl Abort + AllocGlobal), gate: &mut Gate<B>, text: &[u
         }
         Err(fault) => {
             assert!(rt; fault == HistoryFault::Broken);
+            assert!(rt; !written.is_empty());
             assert!(rt; written.len() < text.len());
             assert!(rt; text.starts_with(written.as_slice()));
             End::Broken

@@ -1,10 +1,11 @@
-use Rattle.std.proofs.Common.{◌≡◌, refl}
+use Rattle.std.proofs.Common.{◌≡◌, refl, arith}
 use Rattle.std.specs.Prelude.{◌==◌, filter}
 use Rattle.std.proofs.lemmas.Bool.{eq-eqb}
 use Rattle.gate_book.specs.declared.pairs.Pair.{Pair}
 use Rattle.gate_book.specs.Changes.{changes_of}
 use Rattle.gate_book.specs.Needs.{IsSmall, need_of}
 use Rattle.gate_book.proofs.NeedLemmas.{all_filter, in_filter, needed_told, small_fit}
+use Rattle.gate_book.proofs.PairLemmas.{seconds_rise}
 use Rattle.gate_book.proofs.changes.ChangeTable.needing.Goals as goal
 
 pub of_first-requires-clause-fit : goal.of_first-requires-clause-fit
@@ -12,6 +13,10 @@ of_first-requires-clause-fit c = rw c.deref.ensures.value (small_fit c.args.self
 
 pairs : (c : goal.After-of_first) → c.of_first.result.now ≡ filter (λ (p : Pair). p.first == c.args.change) c.args.self.now.needs.items
 pairs c = rw (c.get.ensures.value, c.deref.ensures.value) at c.of_first.ensures
+
+pub returns-clause-rising : goal.returns-clause-rising
+returns-clause-rising c =
+    rw (pairs c) (seconds_rise c.args.change 0 0 c.args.self.now.needs.items c.requires.needs_order.rise (λ p h e. omega arith))
 
 pub returns-clause-small : goal.returns-clause-small
 returns-clause-small c =
