@@ -1,3 +1,4 @@
 pub mod Answered
 pub mod Ruled
 pub mod Nobody
+pub mod Thinned

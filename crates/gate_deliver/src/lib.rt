@@ -12,3 +12,4 @@ mod admitted;
 pub mod delivering;
 mod ruled;
 mod speaking;
+mod thinned;

@@ -8,6 +8,7 @@ ghost use Rattle.gate_deliver.specs.Ruled.{IsRuled};
 
 use crate::admitted::admitted;
 use crate::speaking::speak;
+use crate::thinned::thinned;
 use gate_book::book::Book;
 use gate_book::fault::BookFault;
 use gate_laws::{runs, settling as settling_laws};
@@ -74,8 +75,9 @@ fn settle<B: Book>(
     let settled = joined(edits, settling(alloc, book, config, &touched)?)?;
     match admitted(alloc, book, config, delivery, settled)? {
         Some(all) => {
-            let reply = speak(book, config, said, &all)?;
-            Ok(Ruled::Accepted(reply, all))
+            let made = thinned(alloc, all)?;
+            let reply = speak(book, config, said, &made)?;
+            Ok(Ruled::Accepted(reply, made))
         }
         None => Ok(Ruled::Refused(Refusal::Exhausted)),
     }

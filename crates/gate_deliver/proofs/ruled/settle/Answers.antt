@@ -7,6 +7,7 @@ use Rattle.gate_types.specs.Tables.{Leads}
 use Rattle.gate_raw.specs.Moves.{in_state, swept}
 use Rattle.gate_deliver.proofs.Results.{at_some, at_none}
 use Rattle.gate_deliver.proofs.Steps.{moved_steps, exhausted_steps}
+use Rattle.gate_deliver.proofs.Thinning.{thinned_leads}
 use Rattle.gate_deliver.proofs.ruled.settle.Goals as goal
 
 pub returns-in_ok-reply-in-Some-clause-ruled : goal.returns-in_ok-reply-in-Some-clause-ruled
@@ -24,12 +25,13 @@ returns-in_ok-reply-in-Some-clause-ruled g c trusted x holds lawful moved =
     let there = c.in_ok-settling.ensures.kept.holds_on settled _ x holds in
     let done = at_some _ _ c.in_ok-all.field-0 c.in-Some.all c.in-Some.is (c.in_ok-all.ensures.admitted admitted x there lawful _ t moved.accepted swept_sound both) in
     let here = c.in_ok-all.ensures.kept.holds_on admitted _ x there in
-    let all = subst (λ es. Leads s x es (in_state x (settle s t))) (sym c.deref.ensures.value) done.0 in
-    let spoken = c.in_ok-reply-in-Some.ensures.said trusted x here lawful (settle s t) (c.admit_is_sound.ensures s (swept s t) sound swept_sound) all in
+    let made = subst (λ es. Leads s x es (in_state x (settle s t))) (sym c.in_ok-made-in-Some.ensures) (thinned_leads s x c.in-Some.all.items _ done.0) in
+    let read = subst (λ es. Leads s x es (in_state x (settle s t))) (sym c.deref.ensures.value) made in
+    let spoken = c.in_ok-reply-in-Some.ensures.said trusted x here lawful (settle s t) (c.admit_is_sound.ensures s (swept s t) sound swept_sound) read in
     record {
       after = settle s t;
       steps = moved_steps s x.state t d _ moved.accepted done.1 ∙ ap (λ r. accepted r (settle s t)) (sym spoken);
-      leads = done.0;
+      leads = made;
     }
 
 pub returns-in-None-clause-ruled : goal.returns-in-None-clause-ruled
