@@ -72,7 +72,7 @@ put_most name end r o (e ∷ es) puts l = ⊎_elim
 
 -- ---- by rows
 
-abbrev last_of : Option ItemRow → List ItemRow → Option ItemRow
+abbrev pub last_of : Option ItemRow → List ItemRow → Option ItemRow
 last_of o rows = fold (λ last i. Some i) o rows
 
 most_from : (n : ℕ) (o : Option ItemRow) (rows : List ItemRow) → AtMost n (option_map (λ i. i.serial) o) →
@@ -80,7 +80,7 @@ most_from : (n : ℕ) (o : Option ItemRow) (rows : List ItemRow) → AtMost n (o
 most_from n o [] h all = h
 most_from n o (y ∷ ys) h all = most_from n (Some y) ys (all y (inl refl)) (λ z m. all z (inr m))
 
-last_most : (o : Option ItemRow) (rows : List ItemRow) (r : ItemRow) → Rising serial_of rows → In r rows →
+pub last_most : (o : Option ItemRow) (rows : List ItemRow) (r : ItemRow) → Rising serial_of rows → In r rows →
     AtMost r.serial (option_map (λ i. i.serial) (last_of o rows))
 last_most o [] r up m = absurd m
 last_most o (y ∷ ys) r up m = elim m [

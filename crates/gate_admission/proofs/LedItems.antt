@@ -65,30 +65,14 @@ shifted a l d e = ⊎_elim
     (λ (h : 1000 ≤ l). le-ltb a (1000 + d) (omega (arith, h, e)) ∙ sym (le-ltb l 1000 h))
     (cases_lt l 1000)
 
-pub no_room : (c : Settings) (x : Content) (edits : List Edit) (v : State) (name : List ℕ) → IsLed c x edits v →
-    is_some (window_of x.state name) ≡ false → has_room v name ≡ false
-no_room c x edits v name led e =
-    ap (λ (o : Option Queue). option_map_or (λ q. nat_lt (length q.items) 1000) o false)
-    (no_queue_led c x edits v name led (none_there (queue_named x.state name) e))
-  where
-    none_there : (o : Option Queue) → is_some (option_map (λ (q : Queue). q.window) o) ≡ false → o ≡ None
-    none_there None f = refl
-    none_there (Some q) f = absurd (true≢false f)
-
 pub room_led : (c : Settings) (x : Content) (edits : List Edit) (v : State) (name : List ℕ) (items added dropped : ℕ) →
-    IsLed c x edits v → is_some (window_of x.state name) ≡ true → items ≡ item_count c x.state name →
+    IsLed c x edits v → IsQueue v name → items ≡ item_count c x.state name →
     length (items_after name (items_in c x.state name) edits) + dropped ≡ length (items_in c x.state name) + added →
     nat_lt (items + added) (1000 + dropped) ≡ has_room v name
-room_led c x edits v name items added dropped led e count sum = by_queue (queue_named x.state name) refl
-  where
-    by_queue : (o : Option Queue) → queue_named x.state name ≡ o →
-        nat_lt (items + added) (1000 + dropped) ≡ has_room v name
-    by_queue None f = absurd (true≢false (sym e ∙ ap (λ o. is_some (option_map (λ (q : Queue). q.window) o)) f))
-    by_queue (Some p) f =
-        let there = queue_led c x edits v name p led f in
-        let q = there.queue in
-        let new : length (items_after name (items_in c x.state name) edits) ≡ length q.items =
-        ap length (items_led c x edits v name led there)
-        ∙ ap (λ o. length (option_map_or (item_rows c v) o [])) there.named ∙ rows_length c v q in
-        shifted (items + added) (length q.items) dropped (omega (arith, count, new, sum))
-        ∙ sym (ap (λ (o : Option Queue). option_map_or (λ q. nat_lt (length q.items) 1000) o false) there.named)
+room_led c x edits v name items added dropped led there count sum =
+    let q = there.queue in
+    let new : length (items_after name (items_in c x.state name) edits) ≡ length q.items =
+    ap length (items_led c x edits v name led there)
+    ∙ ap (λ o. length (option_map_or (item_rows c v) o [])) there.named ∙ rows_length c v q in
+    shifted (items + added) (length q.items) dropped (omega (arith, count, new, sum))
+    ∙ sym (ap (λ (o : Option Queue). option_map_or (λ q. nat_lt (length q.items) 1000) o false) there.named)

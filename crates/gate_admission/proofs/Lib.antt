@@ -10,11 +10,14 @@ pub mod Sizes
 pub mod Standing
 pub mod Led
 pub mod LedItems
+pub mod Spans
 pub mod ReadyList
 -- one admission after another
 pub mod Admitted
+pub mod ProjectQueue
 pub mod EnteringRow
 pub mod EnteringEdits
 pub mod StillOut
-pub mod Passed
+pub mod LetIn
+pub mod Waiting
 pub mod Tries

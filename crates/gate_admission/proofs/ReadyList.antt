@@ -66,7 +66,7 @@ apart_join (r ∷ rs) ts h k other = (
   apart_join rs ts h.1 k (λ x t m n. other x t (inr m) n),
 )
 
-apart_same : (rs : List Ready) (r t : Ready) → Apart rs → In r rs → In t rs → r.change ≡ t.change → r ≡ t
+pub apart_same : (rs : List Ready) (r t : Ready) → Apart rs → In r rs → In t rs → r.change ≡ t.change → r ≡ t
 apart_same [] r t h m n e = absurd m
 apart_same (x ∷ xs) r t h m n e = ⊎_elim
     (λ (a : x ≡ r). ⊎_elim
@@ -109,12 +109,12 @@ approval_put n k a rows =
     by_test false = refl
 
 -- who is left without a change
-other_than : (n : ℕ) (rs : List Ready) (r : Ready) → In r (ready_without n rs) → In r rs × (r.change ≢ n)
+pub other_than : (n : ℕ) (rs : List Ready) (r : Ready) → In r (ready_without n rs) → In r rs × (r.change ≢ n)
 other_than n rs r m =
     let at = from_filter (λ (t : Ready). not (t.change == n)) rs r m in
     (at.0, (λ e. true≢false (sym (eq-eqb r.change n e) ∙ not-true (r.change == n) at.1)))
 
-stays_in : (n : ℕ) (rs : List Ready) (r : Ready) → In r rs → r.change ≢ n → In r (ready_without n rs)
+pub stays_in : (n : ℕ) (rs : List Ready) (r : Ready) → In r rs → r.change ≢ n → In r (ready_without n rs)
 stays_in n rs r m other =
     to_filter (λ (t : Ready). not (t.change == n)) rs r m (ap not (ne_eqb r.change n other))
 

@@ -13,7 +13,9 @@ use Rattle.gate_types.specs.State.{put_by}
 use Rattle.gate_types.specs.Rows.{edited_items}
 use Rattle.gate_types.specs.Tables.{edited_changes}
 use Rattle.gate_book.specs.TableReads.{change_in, row_of}
-use Rattle.gate_admission.specs.Seen.{change_put, last_put, item_after, items_after, item_at}
+use Rattle.gate_admission.specs.Seen.{change_put, last_put, item_after, items_after, item_at, fate_after, by_fate}
+use Rattle.gate_admission.specs.declared.items.Fate.{Fate}
+use Rattle.gate_admission.specs.declared.items.Fate.TheVariants as fate
 
 -- a row that was put is found, and no other is lost
 pub find_put : {X : Type 0} (key : X → ℕ) (k : ℕ) (x : X) (rows : List X) →
@@ -185,3 +187,40 @@ items_fold name serial rows [] = refl
 items_fold name serial rows (e ∷ es) =
     ap (λ o. fold (item_after name serial) o es) (sym (item_step name serial rows e))
     ∙ items_fold name serial (edited_items name rows e) es
+
+-- the edits decide, or the stored item stays
+fate_step : (name : List ℕ) (serial : ℕ) (o : Option ItemRow) (f : Fate) (e : Edit) →
+    item_after name serial (by_fate o f) e ≡ by_fate o (fate_after name serial f e)
+fate_step name serial o f (edit.PutItem q i) = by_test (same_name q name && i.serial == serial)
+  where
+    by_test : (b : Bool) → cond b (Some i) (by_fate o f) ≡ by_fate o (cond b (fate.Put i) f)
+    by_test true = refl
+    by_test false = refl
+fate_step name serial o f (edit.DropItem k) = by_test (k == serial)
+  where
+    by_test : (b : Bool) → cond b None (by_fate o f) ≡ by_fate o (cond b fate.Dropped f)
+    by_test true = refl
+    by_test false = refl
+fate_step name serial o f (edit.PutChange k a) = refl
+fate_step name serial o f (edit.PutPlan k) = refl
+fate_step name serial o f (edit.PutLanding q p l) = refl
+fate_step name serial o f (edit.PutReport q p l) = refl
+fate_step name serial o f (edit.PutBuild b) = refl
+fate_step name serial o f (edit.SetOutcome b u) = refl
+fate_step name serial o f (edit.StopBuild b) = refl
+fate_step name serial o f (edit.SetWindow q w) = refl
+fate_step name serial o f (edit.SetCounter k d) = refl
+fate_step name serial o f (edit.Keep k) = refl
+
+fate_fold : (name : List ℕ) (serial : ℕ) (o : Option ItemRow) (f : Fate) (edits : List Edit) →
+    fold (item_after name serial) (by_fate o f) edits ≡ by_fate o (fold (fate_after name serial) f edits)
+fate_fold name serial o f [] = refl
+fate_fold name serial o f (e ∷ es) =
+    ap (λ p. fold (item_after name serial) p es) (fate_step name serial o f e)
+    ∙ fate_fold name serial o (fate_after name serial f e) es
+
+pub item_by_fate : (name : List ℕ) (serial : ℕ) (rows : List ItemRow) (edits : List Edit) →
+    by_fate (item_at serial rows) (fold (fate_after name serial) fate.Stays edits) ≡
+    item_at serial (items_after name rows edits)
+item_by_fate name serial rows edits =
+    sym (fate_fold name serial (item_at serial rows) fate.Stays edits) ∙ items_fold name serial rows edits

@@ -2,4 +2,5 @@ pub mod Led
 pub mod Seen
 pub mod Known
 pub mod Enters
-pub mod Passed
+pub mod Counted
+pub mod Candidates

@@ -9,6 +9,8 @@ use Rattle.gate_types.specs.declared.edits.Edit.TheVariants as edit
 use Rattle.gate_types.specs.Names.{same_name}
 use Rattle.gate_book.specs.declared.rows.QueuedItem.{QueuedItem}
 use Rattle.gate_types.specs.Rows.{edited_items}
+use Rattle.gate_admission.specs.declared.items.Fate.{Fate}
+use Rattle.gate_admission.specs.declared.items.Fate.TheVariants as fate
 
 -- what the last edit of a change's row puts
 abbrev pub change_put : ℕ → Option Change → Edit → Option Change
@@ -40,6 +42,19 @@ abbrev pub item_after : List ℕ → ℕ → Option ItemRow → Edit → Option 
 item_after name serial item (edit.PutItem queue i) = if same_name queue name && i.serial == serial then Some i else item
 item_after name serial item (edit.DropItem k) = if k == serial then None else item
 item_after name serial item _ = item
+
+-- what an edit makes of the item of a serial in a queue, whatever it was
+abbrev pub fate_after : List ℕ → ℕ → Fate → Edit → Fate
+fate_after name serial before (edit.PutItem queue i) =
+    if same_name queue name && i.serial == serial then fate.Put i else before
+fate_after name serial before (edit.DropItem k) = if k == serial then fate.Dropped else before
+fate_after name serial before _ = before
+
+-- the item by what became of it, and as it was stored
+abbrev pub by_fate : Option ItemRow → Fate → Option ItemRow
+by_fate stored fate.Stays = stored
+by_fate stored (fate.Put i) = Some i
+by_fate stored fate.Dropped = None
 
 -- the items of a queue after edits
 abbrev pub items_after : List ℕ → List ItemRow → List Edit → List ItemRow

@@ -1,10 +1,12 @@
 //! The counters, as they are after edits.
 ghost use Rattle.std.specs.Prelude.{◌≡◌, ◌||◌, nat_lt, fold, IfOk, IfErr};
+ghost use Rattle.std.specs.List.{list_any};
 ghost use Rattle.gate_types.specs.Counters.{Drawn};
 ghost use Rattle.gate_types.specs.Tables.{edited_counters};
 ghost use Rattle.gate_book.specs.Faults.{MayAnswer};
 ghost use Rattle.gate_book.specs.Kept.{IsKept};
 ghost use Rattle.gate_admission.specs.Led.{OfLed};
+ghost use Rattle.gate_admission.specs.Counted as counting;
 
 use gate_book::book::Book;
 use gate_book::fault::BookFault;
@@ -88,4 +90,20 @@ pub(crate) fn is_past(drawn: LastDrawn) -> bool
     drawn.approval > 1_000_000_000_000_000
         || drawn.build > 1_000_000_000_000_000
         || drawn.order > 1_000_000_000_000_000
+}
+
+fn passes(edit: &Edit) -> bool
+    ensures { result ≡ counting.sets_past edit.now }
+{
+    match edit {
+        Edit::SetCounter { drawn, .. } => *drawn > 1_000_000_000_000_000,
+        _ => false,
+    }
+}
+
+/// Whether an edit sets a counter past 10^15.
+pub(crate) fn sets_past(edits: &[Edit]) -> bool
+    ensures { result ≡ list_any counting.sets_past edits.now }
+{
+    edits.iter().any(|edit| passes(edit))
 }

@@ -72,7 +72,7 @@ fn has_place<B: Book>(
     needs: &[Need],
 ) -> Result<bool, BookFault>
     ensures found { OfLed B.IsTrusted B.Holds book.old book.new edits.now (λ c v.
-        IfOk result (λ has. has ≡ has_place v queue.now needs.now)) }
+        IsQueue v queue.now → IfOk result (λ has. has ≡ has_place v queue.now needs.now)) }
     ensures kept { IsKept B.IsTrusted B.Holds B.LeavesOneOf book.old book.new }
     ensures fault { IfErr result (MayAnswer B.MayFault) }
 {

@@ -5,6 +5,7 @@ ghost use Rattle.gate_book.specs.Kept.{OfHeld, IsKept};
 ghost use Rattle.gate_book.specs.Reads.{items_in, last_below, queued_of};
 ghost use Rattle.gate_admission.specs.Led.{OfLed};
 ghost use Rattle.gate_admission.specs.Seen as seen;
+ghost use Rattle.gate_admission.specs.declared.items.Fate.TheVariants as fate;
 ghost use Rattle.gate_admission.specs.Known.{IsQueue};
 ghost use Rattle.gate_admission.specs.Enters.{item_in, last_row};
 
@@ -39,30 +40,48 @@ fn stored_item<B: Book>(
     Ok(at_serial(book.next_item(queue, serial.get() - 1)?, serial))
 }
 
-fn after(queue: &Name, serial: Serial, item: Option<Item>, edit: &Edit) -> Option<Item>
-    ensures { result ≡ seen.item_after queue.now serial item edit.now }
+/// What edits make of the item of a serial in a queue.
+#[derive(Clone, Copy)]
+pub enum Fate {
+    Stays,
+    Put(Item),
+    Dropped,
+}
+
+fn after(queue: &Name, serial: Serial, before: Fate, edit: &Edit) -> Fate
+    ensures { result ≡ seen.fate_after queue.now serial before edit.now }
 {
     match edit {
         Edit::PutItem {
             queue: name,
             item: put,
-        } if same_name(name, queue) && put.serial == serial => Some(*put),
-        Edit::DropItem(dropped) if *dropped == serial => None,
-        _ => item,
+        } if same_name(name, queue) && put.serial == serial => Fate::Put(*put),
+        Edit::DropItem(dropped) if *dropped == serial => Fate::Dropped,
+        _ => before,
     }
 }
 
-fn after_all(queue: &Name, serial: Serial, item: Option<Item>, edits: &[Edit]) -> Option<Item>
-    ensures { result ≡ fold (seen.item_after queue.now serial) item edits.now }
+fn made_of(queue: &Name, serial: Serial, edits: &[Edit]) -> Fate
+    ensures { result ≡ fold (seen.fate_after queue.now serial) fate.Stays edits.now }
 {
-    let mut item = item;
+    let mut found = Fate::Stays;
     for edit in edits {
-        item = after(queue, serial, item, edit);
+        found = after(queue, serial, found, edit);
     }
-    item
+    found
 }
 
-/// The item of a serial in a queue, after the edits.
+fn by_fate(stored: Option<Item>, fate: Fate) -> Option<Item>
+    ensures { result ≡ seen.by_fate stored fate }
+{
+    match fate {
+        Fate::Stays => stored,
+        Fate::Put(item) => Some(item),
+        Fate::Dropped => None,
+    }
+}
+
+/// The item of a serial in a queue, after the edits. The store is asked where no edit decides.
 pub(crate) fn item_at<B: Book>(
     book: &mut B,
     edits: &[Edit],
@@ -74,8 +93,11 @@ pub(crate) fn item_at<B: Book>(
     ensures kept { IsKept B.IsTrusted B.Holds B.LeavesOneOf book.old book.new }
     ensures fault { IfErr result (MayAnswer B.MayFault) }
 {
-    let stored = stored_item(book, queue, serial)?;
-    Ok(after_all(queue, serial, stored, edits))
+    match made_of(queue, serial, edits) {
+        Fate::Stays => stored_item(book, queue, serial),
+        Fate::Put(item) => Ok(Some(item)),
+        Fate::Dropped => Ok(None),
+    }
 }
 
 fn of_change(item: Option<Item>, change: ChangeNo) -> Option<Item>

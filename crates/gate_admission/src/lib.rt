@@ -8,6 +8,7 @@
 #![tactic(auto)]
 
 pub mod admitting;
+mod candidates;
 mod counted;
 mod entering;
 pub mod items;

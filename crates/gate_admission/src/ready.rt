@@ -4,6 +4,7 @@ ghost use Rattle.gate_book.specs.Faults.{MayAnswer};
 ghost use Rattle.gate_book.specs.Kept.{IsKept};
 ghost use Rattle.gate_admission.specs.Led.{OfLed};
 ghost use Rattle.gate_admission.specs.Seen.{ready_without, with_approval, ready_after};
+ghost use Rattle.gate_admission.specs.Candidates.{put_ready};
 
 use gate_book::book::Book;
 use gate_book::fault::BookFault;
@@ -85,6 +86,13 @@ fn after_all(alloc: Global, ready: Vec<Ready>, edits: &[Edit]) -> Result<Vec<Rea
         ready = after(alloc, ready, edit)?;
     }
     Ok(ready)
+}
+
+/// The ready changes that the edits put.
+pub(crate) fn ready_put(alloc: Global, edits: &[Edit]) -> Result<Vec<Ready>, NoMemory>
+    ensures { IfOk result (λ found. found.items ≡ put_ready edits.now) }
+{
+    after_all(alloc, Vec::new(alloc), edits)
 }
 
 /// The ready list after the edits.

@@ -1,11 +1,15 @@
 //! Whether a queue has room, after edits.
-ghost use Rattle.std.specs.Prelude.{◌≡◌, ◌≤◌, ◌<◌, ◌+◌, length, IfOk, IfErr};
+ghost use Rattle.std.specs.Prelude.{◌≡◌, ◌≤◌, ◌<◌, ◌+◌, true, false, length, IfOk, IfErr, MatchOption};
+ghost use Rattle.std.specs.List.{list_any};
+ghost use Rattle.std.specs.Option.{option_copied};
+ghost use Rattle.gate_types.specs.State.{State};
 ghost use Rattle.gate_book.specs.Faults.{MayAnswer};
 ghost use Rattle.gate_book.specs.Kept.{OfHeld, IsKept};
-ghost use Rattle.gate_book.specs.Reads.{items_in};
+ghost use Rattle.gate_book.specs.Reads.{items_in, item_count};
 ghost use Rattle.gate_admission.specs.Led.{OfLed};
 ghost use Rattle.gate_admission.specs.Seen as seen;
-ghost use Rattle.gate_admission.specs.Known.{has_room};
+ghost use Rattle.gate_admission.specs.Known.{IsQueue, has_room};
+ghost use Rattle.gate_admission.specs.Candidates as candidate;
 
 use crate::items::item_at;
 use crate::known::same_name;
@@ -13,6 +17,7 @@ use gate_book::book::Book;
 use gate_book::fault::BookFault;
 use gate_types::edits::Edit;
 use gate_types::names::Name;
+use gate_types::numbers::Serial;
 
 /// Whether an edit after others puts an item into a queue where none had its serial.
 fn grows<B: Book>(
@@ -87,6 +92,119 @@ fn count_moves<B: Book>(book: &mut B, edits: &[Edit], queue: &Name) -> Result<Mo
     Ok(Moves { added, dropped })
 }
 
+/// How many serials there are from one to another.
+fn serials_between(first: Serial, last: Serial) -> u64
+    ensures { last < first + result }
+{
+    if last < first {
+        1
+    } else {
+        last.get() - first.get() + 1
+    }
+}
+
+/// No fewer than a queue has items, by its first and its last serial: 0 where there is none.
+fn most_items<B: Book>(book: &mut B, queue: &Name) -> Result<u64, BookFault>
+    ensures found { OfHeld B.IsTrusted B.Holds book.old book.new (λ c x.
+        IfOk result (λ most. item_count c x.state queue.now ≤ most)) }
+    ensures kept { IsKept B.IsTrusted B.Holds B.LeavesOneOf book.old book.new }
+    ensures fault { IfErr result (MayAnswer B.MayFault) }
+{
+    let Some(first) = book.next_item(queue, 0)? else {
+        return Ok(0);
+    };
+    let Some(last) = book.last_item(queue, u64::MAX)? else {
+        return Ok(0);
+    };
+    Ok(serials_between(first.serial, last.serial))
+}
+
+/// Whether a queue has its 1,000 items. They are counted only where its serials allow so many.
+fn is_full<B: Book>(book: &mut B, queue: &Name) -> Result<bool, BookFault>
+    ensures found { OfHeld B.IsTrusted B.Holds book.old book.new (λ c x.
+        IfOk result (λ is. is ≡ candidate.is_full x.state queue.now)) }
+    ensures kept { IsKept B.IsTrusted B.Holds B.LeavesOneOf book.old book.new }
+    ensures fault { IfErr result (MayAnswer B.MayFault) }
+{
+    if most_items(book, queue)? < 1000 {
+        return Ok(false);
+    }
+    Ok(book.item_count(queue)? >= 1000)
+}
+
+/// The queue that an edit reports a leaving item of.
+fn reported(edit: &Edit) -> Option<&Name>
+    ensures { option_copied result ≡ candidate.reported edit.now }
+{
+    match edit {
+        Edit::PutReport { queue, .. } => Some(queue),
+        _ => None,
+    }
+}
+
+/// The first queue that edits report a leaving item of.
+fn first_reported(edits: &[Edit]) -> Option<&Name>
+    ensures { (s : State) → MatchOption result (list_any (candidate.makes_room s) edits.now ≡ false)
+        (λ queue. candidate.is_full s queue.now ≡ true → list_any (candidate.makes_room s) edits.now ≡ true) }
+{
+    for edit in edits {
+        let queue = reported(edit);
+        if queue.is_some() {
+            return queue;
+        }
+    }
+    None
+}
+
+/// Whether an edit reports that an item leaves a full queue, where this one isn't full.
+fn makes_room<B: Book>(book: &mut B, edit: &Edit, queue: &Name) -> Result<bool, BookFault>
+    ensures found { OfHeld B.IsTrusted B.Holds book.old book.new (λ c x.
+        candidate.is_full x.state queue.now ≡ false →
+        IfOk result (λ makes. makes ≡ candidate.makes_room x.state edit.now)) }
+    ensures kept { IsKept B.IsTrusted B.Holds B.LeavesOneOf book.old book.new }
+    ensures fault { IfErr result (MayAnswer B.MayFault) }
+{
+    let Some(other) = reported(edit) else {
+        return Ok(false);
+    };
+    if same_name(other, queue) {
+        return Ok(false);
+    }
+    is_full(book, other)
+}
+
+/// The same of some edits. It asks about no queue but others: by a delivery one queue loses items.
+fn others_make_room<B: Book>(book: &mut B, edits: &[Edit], queue: &Name) -> Result<bool, BookFault>
+    ensures found { OfHeld B.IsTrusted B.Holds book.old book.new (λ c x.
+        candidate.is_full x.state queue.now ≡ false →
+        IfOk result (λ make. make ≡ list_any (candidate.makes_room x.state) edits.now)) }
+    ensures kept { IsKept B.IsTrusted B.Holds B.LeavesOneOf book.old book.new }
+    ensures fault { IfErr result (MayAnswer B.MayFault) }
+{
+    for edit in edits {
+        if makes_room(book, edit, queue)? {
+            return Ok(true);
+        }
+    }
+    Ok(false)
+}
+
+/// Whether an item leaves a queue that was full.
+pub(crate) fn make_room<B: Book>(book: &mut B, edits: &[Edit]) -> Result<bool, BookFault>
+    ensures found { OfHeld B.IsTrusted B.Holds book.old book.new (λ c x.
+        IfOk result (λ make. make ≡ list_any (candidate.makes_room x.state) edits.now)) }
+    ensures kept { IsKept B.IsTrusted B.Holds B.LeavesOneOf book.old book.new }
+    ensures fault { IfErr result (MayAnswer B.MayFault) }
+{
+    let Some(queue) = first_reported(edits) else {
+        return Ok(false);
+    };
+    if is_full(book, queue)? {
+        return Ok(true);
+    }
+    others_make_room(book, edits, queue)
+}
+
 /// Whether a queue has fewer than 1,000 items after the edits.
 pub(crate) fn has_room<B: Book>(
     book: &mut B,
@@ -94,13 +212,13 @@ pub(crate) fn has_room<B: Book>(
     queue: &Name,
 ) -> Result<bool, BookFault>
     ensures found { OfLed B.IsTrusted B.Holds book.old book.new edits.now (λ c v.
-        IfOk result (λ has. has ≡ has_room v queue.now)) }
+        IsQueue v queue.now → IfOk result (λ has. has ≡ has_room v queue.now)) }
     ensures kept { IsKept B.IsTrusted B.Holds B.LeavesOneOf book.old book.new }
     ensures fault { IfErr result (MayAnswer B.MayFault) }
 {
-    let window = book.window(queue)?;
-    if window.is_none() {
-        return Ok(false);
+    let most = most_items(book, queue)?;
+    if u128::from(most) + (edits.len() as u128) < 1000 {
+        return Ok(true);
     }
     let items = book.item_count(queue)?;
     let moves = count_moves(book, edits, queue)?;

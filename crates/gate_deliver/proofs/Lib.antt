@@ -3,7 +3,7 @@ mod KeptReply
 mod NextContents
 mod Steps
 mod Placed
--- where admission changes nothing
-mod NobodyEnters
+-- who may enter by the edits
+mod ByEdits
 -- where a put of a change is left out
 mod Thinning

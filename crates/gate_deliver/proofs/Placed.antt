@@ -164,39 +164,3 @@ told_nowhere c s a h n named e =
     by_queue (Some q) f =
         let there = found (λ (r : Queue). same_name r.name []) s.queues q f in
         absurd (true≢false (sym there.1 ∙ empty s.queues named.not_empty q there.0))
-
--- ---- a project's queue is there
-
--- a test that all pass
-passes : {X : Type 0} (t : X → Bool) (xs : List X) → list_all t xs ≡ true → (x : X) → In x xs → t x ≡ true
-passes t [] e x m = absurd m
-passes t (y ∷ ys) e x (inl same) = subst (λ z. t z ≡ true) same (and_parts (t y) (list_all t ys) e).0
-passes t (y ∷ ys) e x (inr m) = passes t ys (and_parts (t y) (list_all t ys) e).1 x m
-
-any_named : (name : List ℕ) (qs : List Queue) →
-    list_any (λ q. same_name q.name name) qs ≡ list_any (λ m. same_name m name) (map (λ q. q.name) qs)
-any_named name [] = refl
-any_named name (q ∷ qs) = ap (λ b. same_name q.name name || b) (any_named name qs)
-
-any_set : (name : List ℕ) (qs : List QueueSetting) →
-    list_any (λ q. same_name q.name name) qs ≡ list_any (λ m. same_name m name) (map (λ q. q.name) qs)
-any_set name [] = refl
-any_set name (q ∷ qs) = ap (λ b. same_name q.name name || b) (any_set name qs)
-
-pub queue_there : (c : Settings) (s : State) → are_sound c ≡ true → IsSound c s → (name : List ℕ) (p : Project) →
-    find (λ p. same_name p.name name) c.projects ≡ Some p → IsQueue s p.queue
-queue_there c s a h name p e = by_queue (queue_named s p.queue) refl
-    (sym (any_found (λ (q : Queue). same_name q.name p.queue) s.queues)
-    ∙ any_named p.queue s.queues ∙ ap (list_any (λ m. same_name m p.queue)) h.queues_are_set ∙ sym (any_set p.queue c.queues)
-    ∙ set)
-  where
-    set : has_queue c.queues p.queue ≡ true
-    set =
-        let all = (and_parts _ (list_all (λ r. has_queue c.queues r.queue && are_sound_jobs r.jobs) c.projects) a).1 in
-        (and_parts (has_queue c.queues p.queue) (are_sound_jobs p.jobs)
-        (passes (λ r. has_queue c.queues r.queue && are_sound_jobs r.jobs) c.projects all p
-        (found (λ r. same_name r.name name) c.projects p e).0)).0
-
-    by_queue : (o : Option Queue) → queue_named s p.queue ≡ o → is_some o ≡ true → IsQueue s p.queue
-    by_queue (Some q) f t = record { queue = q; named = f }
-    by_queue None f t = absurd (true≢false (sym t))

@@ -1,4 +1,3 @@
 pub mod Answered
 pub mod Ruled
-pub mod Nobody
 pub mod Thinned

@@ -1,5 +1,6 @@
 //! What becomes of a delivery under a new id, before anything changes.
 ghost use Rattle.std.specs.Prelude.{◌≡◌, ◌++◌, IfOk, IfErr};
+ghost use Rattle.gate_types.specs.declared.deliveries.Delivery.{Delivery as DeliveryOf};
 ghost use Rattle.gate_book.specs.Faults.{MayAnswer};
 ghost use Rattle.gate_book.specs.Kept.{OfHeldUnder, IsKept};
 ghost use Rattle.gate_raw.specs.Raw.{IsMoved};
@@ -45,7 +46,7 @@ pub(crate) fn rule<B: Book>(
     match raw(alloc, book, config, delivery)? {
         Raw::Refused(refusal) => Ok(Ruled::Refused(refusal)),
         Raw::Stands(reply) => Ok(Ruled::Accepted(reply, Vec::new(alloc))),
-        Raw::Moved(moved) => settle(alloc, book, config, delivery, moved),
+        Raw::Moved(moved) => settle(alloc, book, config, moved),
     }
 }
 
@@ -54,11 +55,10 @@ fn settle<B: Book>(
     alloc: Global,
     book: &mut B,
     config: &Config,
-    delivery: &Delivery,
     moved: Moved,
 ) -> Result<Ruled, BookFault>
-    ensures ruled { OfHeldUnder B.IsTrusted B.Holds book.old book.new config.now (λ x.
-        IsMoved config.now x delivery.now moved → IfOk result (IsRuled config.now x delivery.now)) }
+    ensures ruled { OfHeldUnder B.IsTrusted B.Holds book.old book.new config.now (λ x. (d : DeliveryOf) →
+        IsMoved config.now x d moved → IfOk result (IsRuled config.now x d)) }
     ensures kept { IsKept B.IsTrusted B.Holds B.LeavesOneOf book.old book.new }
     ensures fault { IfErr result (MayAnswer B.MayFault) }
 {
@@ -73,7 +73,7 @@ fn settle<B: Book>(
         touched,
     } = moved;
     let settled = joined(edits, settling(alloc, book, config, &touched)?)?;
-    match admitted(alloc, book, config, delivery, settled)? {
+    match admitted(alloc, book, config, settled)? {
         Some(all) => {
             let made = thinned(alloc, all)?;
             let reply = speak(book, config, said, &made)?;

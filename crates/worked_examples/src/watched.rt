@@ -1,5 +1,5 @@
-//! A book that counts the items that a delivery reads: no more of a long queue than of a short one, in memory and over
-//! the tables of a file.
+//! A book that counts the items and the ready changes that a delivery reads: no more of a long queue than of a short
+//! one, and nothing of those who wait for something else, in memory and over the tables of a file.
 use crate::claims::holds;
 use crate::scenes::gate_in_memory;
 use crate::stored::files::{gate_under, made_under};
@@ -18,8 +18,8 @@ use sqlite::Connection;
 use std::io::Write;
 use std::process::Abort;
 
-/// Answers as the book in it, and counts the items that it was asked for since the last delivery came, by a key or as
-/// many as were told at once.
+/// Answers as the book in it, and counts the items and the ready changes that it was asked for since the last delivery
+/// came, by a key or as many as were told at once.
 #[derive(Drop)]
 struct Watched<B> {
     book: B,
@@ -152,15 +152,20 @@ impl<B: Book> Book for Watched<B> {
     }
 
     fn ready(&mut self) -> Result<Sequence<Ready>, BookFault> {
-        self.book.ready()
+        let ready = self.book.ready()?;
+        self.count(ready.as_slice().len());
+        Ok(ready)
     }
 
     fn approval(&mut self, change: ChangeNo) -> Result<Option<u64>, BookFault> {
+        self.count(1);
         self.book.approval(change)
     }
 
     fn ready_needing(&mut self, change: ChangeNo) -> Result<Sequence<Ready>, BookFault> {
-        self.book.ready_needing(change)
+        let ready = self.book.ready_needing(change)?;
+        self.count(ready.as_slice().len());
+        Ok(ready)
     }
 
     fn counters(&mut self) -> Result<Counters, BookFault> {
@@ -255,4 +260,74 @@ fn a_landing_reads_no_more_of_a_long_queue_over_tables(rt: HostRuntime) {
         .ok()
         .expect(&rt, "a gate in the file");
     reads_no_more_of_a_long_queue(&rt, gate);
+}
+
+/// 200 changes wait for one that nobody knows.
+const MANY_WAIT: &str = r#"for n from 1 to 200
+> {"id":"0a000000-0000-4000-8000-<000n>","kind":"revision","change":<n>,"project":"site","revision":1,"message":"Depends-On: https://forge/c/900"}
+< {"reply":"recorded"}
+> {"id":"0b000000-0000-4000-8000-<000n>","kind":"approved","change":<n>,"revision":1}
+< {"reply":"waiting"}
+"#;
+
+const ANOTHER_COMES: &str =
+    r#"> {"id":"0c000000-0000-4000-8000-000000000001","kind":"revision","change":901,"project":"site","revision":1,"message":""}
+< {"reply":"recorded"}"#;
+
+const ANOTHER_ENTERS: &str =
+    r#"> {"id":"0c000000-0000-4000-8000-000000000002","kind":"approved","change":901,"revision":1}
+< {"order":1,"reply":"queued"}"#;
+
+const ANOTHER_LANDS: &str =
+    r#"> {"id":"0c000000-0000-4000-8000-000000000003","kind":"take","worker":"w1"}
+< {"after":0,"ahead":[],"build":1,"change":901,"job":"unit","queue":"web","reply":"build","revision":1}
+> {"id":"0c000000-0000-4000-8000-000000000004","kind":"result","build":1,"outcome":"success"}
+< {"reply":"noted"}
+> {"id":"0c000000-0000-4000-8000-000000000005","kind":"landed","order":1}
+< {"n":1,"reply":"landed"}"#;
+
+const ALL_ENTER: &str =
+    r#"> {"id":"0c000000-0000-4000-8000-000000000006","kind":"revision","change":900,"project":"site","revision":1,"message":""}
+< {"reply":"recorded"}
+> {"id":"0c000000-0000-4000-8000-000000000007","kind":"approved","change":900,"revision":1}
+< {"order":2,"reply":"queued"}
+
+status
+queue core window 2 landed 0
+queue web window 3 landed 1
+     2       900    1      - ok      unit=waiting
+     3         1    1      2 ok      unit=waiting
+...
+   201       199    1    200 ok      unit=waiting
+   202       200    1    201 ok      unit=waiting
+end
+"#;
+
+fn asks_about_nobody_else_who_waits<B: Book + Drop>(
+    rt: &(impl Abort + AllocGlobal),
+    gate: Gate<B>,
+) {
+    let Gate { config, book } = gate;
+    let mut gate = Gate::new(config, Watched { book, asked: 0 });
+    goes_on(rt, &mut gate, "many wait", MANY_WAIT);
+    reads_few(rt, &mut gate, ANOTHER_COMES);
+    reads_few(rt, &mut gate, ANOTHER_ENTERS);
+    reads_few(rt, &mut gate, ANOTHER_LANDS);
+    goes_on(rt, &mut gate, "all enter", ALL_ENTER);
+}
+
+#[test]
+fn those_who_wait_for_something_else_are_not_asked_about(rt: HostRuntime) {
+    let gate = gate_in_memory(&rt, "core 2 1 and web", "");
+    asks_about_nobody_else_who_waits(&rt, gate);
+}
+
+#[test]
+fn those_who_wait_for_something_else_are_not_asked_about_over_tables(rt: HostRuntime) {
+    let conn = Connection::open_in_memory(rt.alloc()).expect(&rt, "memory");
+    let conn = made_under(&rt, conn, "core 2 1 and web");
+    let gate = gate_under(&rt, conn, "core 2 1 and web")
+        .ok()
+        .expect(&rt, "a gate in the file");
+    asks_about_nobody_else_who_waits(&rt, gate);
 }

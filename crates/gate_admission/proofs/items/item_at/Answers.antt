@@ -1,12 +1,26 @@
-use Rattle.std.proofs.Common.{◌∙◌, ap, fold}
+use Rattle.std.proofs.Common.{◌≡◌, ◌∙◌, ap, sym}
+use Rattle.std.proofs.lemmas.Result.{IfOk-weaker}
 use Rattle.gate_book.specs.Reads.{items_in}
-use Rattle.gate_admission.specs.Seen.{item_after}
-use Rattle.gate_admission.proofs.Rows.{items_fold}
+use Rattle.gate_admission.specs.Seen.{item_at, by_fate}
+use Rattle.gate_admission.proofs.Rows.{item_by_fate}
 use Rattle.gate_admission.proofs.items.item_at.Goals as goal
 
-pub returns-clause-found : goal.returns-clause-found
-returns-clause-found g c = λ trusted s x holds lawful.
-    c.after_all.ensures
-    ∙ ap (λ o. fold (item_after c.args.queue.now c.args.serial) o c.args.edits.now)
-    (c.in_ok-stored.ensures.found trusted s x holds lawful)
-    ∙ items_fold c.args.queue.now c.args.serial (items_in s x.state c.args.queue.now) c.args.edits.now
+pub returns-in-Stays-clause-found : goal.returns-in-Stays-clause-found
+returns-in-Stays-clause-found g c = λ trusted s x holds lawful.
+    let rows = items_in s x.state c.args.queue.now in
+    IfOk-weaker c.stored_item.result _ _
+    (λ found e. e ∙ ap (by_fate (item_at c.args.serial rows)) (sym c.in-Stays.is ∙ c.made_of.ensures)
+    ∙ item_by_fate c.args.queue.now c.args.serial rows c.args.edits.now)
+    (c.stored_item.ensures.found trusted s x holds lawful)
+
+pub returns-in-Put-clause-found : goal.returns-in-Put-clause-found
+returns-in-Put-clause-found g c = λ trusted s x holds lawful.
+    let rows = items_in s x.state c.args.queue.now in
+    ap (by_fate (item_at c.args.serial rows)) (sym c.in-Put.is ∙ c.made_of.ensures)
+    ∙ item_by_fate c.args.queue.now c.args.serial rows c.args.edits.now
+
+pub returns-in-Dropped-clause-found : goal.returns-in-Dropped-clause-found
+returns-in-Dropped-clause-found g c = λ trusted s x holds lawful.
+    let rows = items_in s x.state c.args.queue.now in
+    ap (by_fate (item_at c.args.serial rows)) (sym c.in-Dropped.is ∙ c.made_of.ensures)
+    ∙ item_by_fate c.args.queue.now c.args.serial rows c.args.edits.now

@@ -1,40 +1,52 @@
-use Rattle.std.proofs.Common.{◌≡◌, ◌∙◌, ◌≤◌, None, List, take, length, sym, ap, subst}
-use Rattle.std.specs.Prelude.{find}
+use Rattle.std.proofs.Common.{◌≡◌, ◌∙◌, None, Some, Option, Bool, true, false, cond, refl, sym, ap, subst}
+use Rattle.std.specs.Prelude.{find, is_some, MatchOption}
+use Rattle.std.specs.Ordering.{nat_cmp}
+use Rattle.std.specs.BTreeMap.{is_at}
+use Rattle.std.specs.Map.{lookup}
 use Rattle.gate_types.specs.declared.records.Ready.{Ready}
 use Rattle.gate_types.specs.Admit.{may_enter}
-use Rattle.gate_admission.specs.Passed.{needs_it}
-use Rattle.gate_admission.proofs.Passed.{passed_again}
+use Rattle.gate_admission.specs.Candidates.{if_so, EntersFirst}
+use Rattle.gate_admission.proofs.Calls.{then}
+use Rattle.gate_admission.proofs.Waiting.{nobody_left, passed, enters_first}
 use Rattle.gate_admission.proofs.passing.first_to_enter.Goals as goal
 
-pub returns-in_default-clause-found : goal.returns-in_default-clause-found
-returns-in_default-clause-found g c = λ trusted x holds lawful v led none.
+some_so : (b : Bool) (r : Ready) → is_some (if_so b r) ≡ true → b ≡ true
+some_so true r h = refl
+some_so false r h = h
+
+none_so : (b : Bool) (r : Ready) → is_some (if_so b r) ≡ false → b ≡ false
+none_so true r h = h
+none_so false r h = refl
+
+pub returns-then-is_some-clause-found : goal.returns-then-is_some-clause-found
+returns-then-is_some-clause-found g c = λ trusted x holds lawful v led are.
     let s = c.args.config.now in
-    let one = c.in_ok-found.ensures.kept.trusted_before trusted in
-    let next = c.in_ok-ready.ensures.kept.holds_on one s x holds in
-    let all : c.as_slice.result.now ≡ v.ready = c.as_slice.ensures.value
-    ∙ c.in_ok-ready.ensures.found one s x holds lawful v led in
-    let begun = ap (λ (xs : List Ready). find (may_enter s v) (take c.args.from xs)) all ∙ none in
-    sym (ap (λ (xs : List Ready). find (may_enter s v) xs) all)
-    ∙ rw c.in_default.is at (c.in_ok-found.ensures.found trusted x next lawful v led begun)
+    let one = c.in_ok-entrant.ensures.kept.trusted_before trusted in
+    let start = c.loop-ready.invariant.kept.holds_on one s x holds in
+    let r = c.in-Some.ready in
+    let now = c.loop-ready.invariant.found one x holds lawful v led are in
+    let found = c.in_ok-entrant.ensures.found trusted x start lawful v led in
+    let may = some_so (may_enter s v r) r (ap is_some (sym found) ∙ sym c.is_some.ensures ∙ c.if-is_some.true) in
+    subst (λ o. MatchOption o (find (may_enter s v) v.ready ≡ None) (λ t. EntersFirst s v t c.next.new.waiting))
+    (sym (found ∙ ap (λ b. if_so b r) may))
+    (enters_first s v led.sound c.loop-ready.waiting c.next.new.waiting r now c.in-Some.ensures.found
+    c.in-Some.ensures.rest.0 may c.in-Some.ensures.least)
+
+pub loop-ready-preserved : goal.loop-ready-preserved
+loop-ready-preserved g c = record {
+  kept = then c.loop-ready.invariant.kept c.in_ok-entrant.ensures.kept;
+  found = λ trusted x holds lawful v led are.
+      let s = c.args.config.now in
+      let one = c.in_ok-entrant.ensures.kept.trusted_before trusted in
+      let start = c.loop-ready.invariant.kept.holds_on one s x holds in
+      let r = c.in-Some.ready in
+      let found = c.in_ok-entrant.ensures.found trusted x start lawful v led in
+      let not = none_so (may_enter s v r) r (ap is_some (sym found) ∙ sym c.is_some.ensures ∙ c.if-is_some.false) in
+      passed s v led.sound c.loop-ready.waiting c.next.new.waiting r
+      (c.loop-ready.invariant.found one x holds lawful v led are) c.in-Some.ensures.found c.in-Some.ensures.rest.0 not;
+}
 
 pub returns-clause-found : goal.returns-clause-found
-returns-clause-found g c = λ trusted x holds lawful v led none.
-    let s = c.args.config.now in
-    let two = c.in_ok-passed.ensures.kept.trusted_before trusted in
-    let one = c.in_ok-found.ensures.kept.trusted_before two in
-    let next = c.in_ok-ready.ensures.kept.holds_on one s x holds in
-    let last = c.in_ok-found.ensures.kept.holds_on two s x next in
-    let listed = c.in_ok-ready.ensures.found one s x holds lawful v led in
-    let all : c.as_slice.result.now ≡ v.ready = c.as_slice.ensures.value ∙ listed in
-    let all2 : c.as_slice-2.result.now ≡ v.ready = c.as_slice-2.ensures.value ∙ listed in
-    let r = c.in-Some.found.ready in
-    let place = c.in-Some.found.passed in
-    let k = c.in_ok-passed.passed in
-    let begun = ap (λ (xs : List Ready). find (may_enter s v) (take c.args.from xs)) all ∙ none in
-    let finds = rw c.in-Some.is at (c.in_ok-found.ensures.found two x next lawful v led begun) in
-    let first = sym (ap (λ (xs : List Ready). find (may_enter s v) xs) all) ∙ finds.first in
-    let before = sym (ap (λ (xs : List Ready). find (may_enter s v) (take place xs)) all) ∙ finds.before in
-    let few = subst (λ (xs : List Ready). k ≤ length (take place xs)) all2 c.in_ok-passed.ensures.within in
-    let needs = subst (λ (xs : List Ready). find (needs_it v r.change) (take k (take place xs)) ≡ None) all2
-    (c.in_ok-passed.ensures.found trusted s x last lawful v led) in
-    record { first = first; again = passed_again s v r place k first before few needs }
+returns-clause-found g c = λ trusted x holds lawful v led are.
+    nobody_left c.args.config.now v c.loop-ready.waiting (c.loop-ready.invariant.found trusted x holds lawful v led are)
+    (λ a. ap (λ es. lookup (is_at (nat_cmp a)) es) c.in_default.ensures.none)

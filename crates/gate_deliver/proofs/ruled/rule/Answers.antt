@@ -19,4 +19,4 @@ pub returns-in-Moved-clause-ruled : goal.returns-in-Moved-clause-ruled
 returns-in-Moved-clause-ruled g c trusted x holds lawful =
     let before = c.settle.ensures.kept.trusted_before trusted in
     let raw = subst (IsRaw c.args.config.now x c.args.delivery.now) c.in-Moved.is (c.in_ok-refusal.ensures.raw before x holds lawful) in
-    c.settle.ensures.ruled trusted x (c.in_ok-refusal.ensures.kept.holds_on before _ x holds) lawful raw
+    c.settle.ensures.ruled trusted x (c.in_ok-refusal.ensures.kept.holds_on before _ x holds) lawful c.args.delivery.now raw

@@ -11,9 +11,8 @@ use Rattle.gate_deliver.proofs.Thinning.{thinned_leads}
 use Rattle.gate_deliver.proofs.ruled.settle.Goals as goal
 
 pub returns-in_ok-reply-in-Some-clause-ruled : goal.returns-in_ok-reply-in-Some-clause-ruled
-returns-in_ok-reply-in-Some-clause-ruled g c trusted x holds lawful moved =
+returns-in_ok-reply-in-Some-clause-ruled g c trusted x holds lawful d moved =
     let s = c.args.config.now in
-    let d = c.args.delivery.now in
     let t = moved.after in
     let sound : are_sound s ≡ true = search rules in
     let admitted = c.in_ok-reply-in-Some.ensures.kept.trusted_before trusted in
@@ -23,7 +22,7 @@ returns-in_ok-reply-in-Some-clause-ruled g c trusted x holds lawful moved =
     let led = c.in_ok-settling.ensures.settled settled x holds lawful d _ t c.args.moved.edits.items moved.accepted moved.acts moved.touches moved.moves in
     let both = subst (λ es. Leads s x es (in_state x (swept s t))) (sym c.in_ok-settled.ensures) led in
     let there = c.in_ok-settling.ensures.kept.holds_on settled _ x holds in
-    let done = at_some _ _ c.in_ok-all.field-0 c.in-Some.all c.in-Some.is (c.in_ok-all.ensures.admitted admitted x there lawful _ t moved.accepted swept_sound both) in
+    let done = at_some _ _ c.in_ok-all.field-0 c.in-Some.all c.in-Some.is (c.in_ok-all.ensures.admitted admitted x there lawful d _ t moved.accepted swept_sound both) in
     let here = c.in_ok-all.ensures.kept.holds_on admitted _ x there in
     let made = subst (λ es. Leads s x es (in_state x (settle s t))) (sym c.in_ok-made-in-Some.ensures) (thinned_leads s x c.in-Some.all.items _ done.0) in
     let read = subst (λ es. Leads s x es (in_state x (settle s t))) (sym c.deref.ensures.value) made in
@@ -35,9 +34,8 @@ returns-in_ok-reply-in-Some-clause-ruled g c trusted x holds lawful moved =
     }
 
 pub returns-in-None-clause-ruled : goal.returns-in-None-clause-ruled
-returns-in-None-clause-ruled g c trusted x holds lawful moved =
+returns-in-None-clause-ruled g c trusted x holds lawful d moved =
     let s = c.args.config.now in
-    let d = c.args.delivery.now in
     let t = moved.after in
     let sound : are_sound s ≡ true = search rules in
     let settled = c.in_ok-all.ensures.kept.trusted_before trusted in
@@ -46,5 +44,5 @@ returns-in-None-clause-ruled g c trusted x holds lawful moved =
     let led = c.in_ok-settling.ensures.settled settled x holds lawful d _ t c.args.moved.edits.items moved.accepted moved.acts moved.touches moved.moves in
     let both = subst (λ es. Leads s x es (in_state x (swept s t))) (sym c.in_ok-settled.ensures) led in
     let there = c.in_ok-settling.ensures.kept.holds_on settled _ x holds in
-    let past = at_none _ _ c.in_ok-all.field-0 c.in-None.is (c.in_ok-all.ensures.admitted trusted x there lawful _ t moved.accepted swept_sound both) in
+    let past = at_none _ _ c.in_ok-all.field-0 c.in-None.is (c.in_ok-all.ensures.admitted trusted x there lawful d _ t moved.accepted swept_sound both) in
     (exhausted_steps s x.state t d _ moved.accepted past, refl)

@@ -5,7 +5,8 @@ use Rattle.gate_types.specs.Settings.{are_sound}
 use Rattle.gate_book.specs.Reads.{items_in}
 use Rattle.gate_admission.specs.Led.{IsLed}
 use Rattle.gate_admission.proofs.Admitted.{are_named, project_is, queue_is}
-use Rattle.gate_deliver.proofs.Placed.{told_place, told_nowhere, queue_there}
+use Rattle.gate_admission.proofs.ProjectQueue.{queue_there}
+use Rattle.gate_deliver.proofs.Placed.{told_place, told_nowhere}
 use Rattle.gate_deliver.proofs.speaking.place_of.Goals as goal
 
 pub returns-in_default-clause-told : goal.returns-in_default-clause-told

@@ -1,0 +1,15 @@
+use Rattle.std.proofs.Common.{◌∙◌, ◌++◌, not, sym, ap}
+use Rattle.std.specs.List.{list_any}
+use Rattle.gate_types.specs.declared.records.Ready.{Ready}
+use Rattle.gate_admission.specs.Candidates.{puts, if_left}
+use Rattle.gate_admission.proofs.Along.{filter_step}
+use Rattle.gate_admission.proofs.candidates.without_put.Goals as goal
+
+pub loop-row-preserved : goal.loop-row-preserved
+loop-row-preserved c =
+    let edits = c.args.edits.now in
+    let r = c.row-item.result in
+    c.in_ok-left.ensures
+    ∙ (λ i. c.loop-row.invariant i ++ if_left (list_any (puts r.change) edits) r)
+    ∙ sym (filter_step (λ (t : Ready). list_any (puts t.change) edits) c.args.rows.now c.loop-row.row-index r
+    c.loop-row-test.true c.row-item.is)

@@ -1,0 +1,9 @@
+-- For the inside alone: numbers past the last one.
+use Rattle.std.specs.Prelude.{ℕ, Bool, false, nat_lt}
+use Rattle.gate_types.specs.declared.edits.Edit.{Edit}
+use Rattle.gate_types.specs.declared.edits.Edit.TheVariants as edit
+
+-- an edit sets a counter past 10^15
+abbrev pub sets_past : Edit → Bool
+sets_past (edit.SetCounter k n) = nat_lt 1000000000000000 n
+sets_past _ = false

@@ -1,0 +1,198 @@
+//! Who might enter by what a delivery did, so that not all who wait are asked about.
+ghost use Rattle.std.specs.Prelude.{◌≡◌, ◌++◌, ◌∷◌, [], not, fold, filter, flat_map, take, IfOk, IfErr, OnOk, ℕ};
+ghost use Rattle.std.specs.List.{list_any};
+ghost use Rattle.std.specs.Ordering.{nat_cmp};
+ghost use Rattle.std.specs.BTreeMap.{get};
+ghost use Rattle.gate_types.specs.State.{State, is_landed};
+ghost use Rattle.gate_book.specs.Faults.{MayAnswer};
+ghost use Rattle.gate_book.specs.Kept.{OfHeld, IsKept};
+ghost use Rattle.gate_admission.specs.Led.{IsLed};
+ghost use Rattle.gate_admission.specs.Seen.{ready_after};
+ghost use Rattle.gate_admission.specs.Candidates as candidate;
+ghost use Rattle.gate_admission.specs.Candidates.{AreCandidates, AreOthers, EntersByEdits, change_under};
+
+use crate::ready::{ready_list, ready_put};
+use crate::room::make_room;
+use gate_book::book::Book;
+use gate_book::fault::BookFault;
+use gate_types::edits::Edit;
+use gate_types::names::NoMemory;
+use gate_types::numbers::ChangeNo;
+use gate_types::records::{Change, Ready, Stage};
+use std::alloc::Global;
+use std::collections::BTreeMap;
+
+fn puts(edit: &Edit, number: ChangeNo) -> bool
+    ensures { result ≡ candidate.puts number edit.now }
+{
+    match edit {
+        Edit::PutChange { change, .. } => change.number == number,
+        _ => false,
+    }
+}
+
+fn are_putting(edits: &[Edit], number: ChangeNo) -> bool
+    ensures { result ≡ list_any (candidate.puts number) edits.now }
+{
+    edits.iter().any(|edit| puts(edit, number))
+}
+
+fn with_left(left: Vec<Ready>, edits: &[Edit], row: Ready) -> Result<Vec<Ready>, NoMemory>
+    ensures { IfOk result (λ all. all.items
+        ≡ left.items ++ candidate.if_left (list_any (candidate.puts row.change) edits.now) row) }
+{
+    let mut all = left;
+    if !are_putting(edits, row.change) {
+        all.push(row)?;
+    }
+    Ok(all)
+}
+
+fn without_put(alloc: Global, rows: &[Ready], edits: &[Edit]) -> Result<Vec<Ready>, NoMemory>
+    ensures { IfOk result (λ left. left.items ≡ filter (λ r. not (list_any (candidate.puts r.change) edits.now)) rows.now) }
+{
+    let mut left = Vec::new(alloc);
+    for row in rows {
+        left = with_left(left, edits, *row)?;
+    }
+    Ok(left)
+}
+
+/// The ready changes that need one, but for those that the edits put.
+fn left_needing<B: Book>(
+    alloc: Global,
+    book: &mut B,
+    edits: &[Edit],
+    change: ChangeNo,
+) -> Result<Vec<Ready>, BookFault>
+    ensures found { OfHeld B.IsTrusted B.Holds book.old book.new (λ c x.
+        IfOk result (λ rows. rows.items ≡ candidate.left_needing x.state edits.now change)) }
+    ensures kept { IsKept B.IsTrusted B.Holds B.LeavesOneOf book.old book.new }
+    ensures fault { IfErr result (MayAnswer B.MayFault) }
+{
+    let rows = book.ready_needing(change)?;
+    Ok(without_put(alloc, rows.as_slice(), edits)?)
+}
+
+fn is_landed(change: &Change) -> bool
+    ensures { result ≡ is_landed change.now }
+{
+    matches!(change.stage, Stage::Landed)
+}
+
+/// Those that need a change that an edit puts as landed.
+fn let_in_by<B: Book>(
+    alloc: Global,
+    book: &mut B,
+    edits: &[Edit],
+    edit: &Edit,
+) -> Result<Vec<Ready>, BookFault>
+    ensures found { OfHeld B.IsTrusted B.Holds book.old book.new (λ c x.
+        IfOk result (λ rows. rows.items ≡ candidate.let_in_by x.state edits.now edit.now)) }
+    ensures kept { IsKept B.IsTrusted B.Holds B.LeavesOneOf book.old book.new }
+    ensures fault { IfErr result (MayAnswer B.MayFault) }
+{
+    match edit {
+        Edit::PutChange { change, .. } => {
+            if is_landed(change) {
+                left_needing(alloc, book, edits, change.number)
+            } else {
+                Ok(Vec::new(alloc))
+            }
+        }
+        _ => Ok(Vec::new(alloc)),
+    }
+}
+
+fn joined(front: Vec<Ready>, back: &[Ready]) -> Result<Vec<Ready>, NoMemory>
+    ensures { IfOk result (λ all. all.items ≡ front.items ++ back.now) }
+{
+    let mut all = front;
+    for row in back {
+        all.push(*row)?;
+    }
+    Ok(all)
+}
+
+/// The ready changes that the edits put, and those that need a change that they put as landed.
+fn let_in<B: Book>(alloc: Global, book: &mut B, edits: &[Edit]) -> Result<Vec<Ready>, BookFault>
+    ensures found { OfHeld B.IsTrusted B.Holds book.old book.new (λ c x.
+        IfOk result (λ rows. rows.items ≡ candidate.let_in x.state edits.now)) }
+    ensures kept { IsKept B.IsTrusted B.Holds B.LeavesOneOf book.old book.new }
+    ensures fault { IfErr result (MayAnswer B.MayFault) }
+{
+    let mut all = ready_put(alloc, edits)?;
+    for edit in edits {
+        let more = let_in_by(alloc, book, edits, edit)?;
+        all = joined(all, more.as_slice())?;
+    }
+    Ok(all)
+}
+
+fn add(waiting: &mut BTreeMap<u64, ChangeNo>, row: Ready) -> Result<(), NoMemory>
+    ensures { OnOk result ((a : ℕ) → get nat_cmp waiting.new a ≡ change_under a (get nat_cmp waiting.old a) row) }
+{
+    waiting.insert(row.approval, row.change)?;
+    Ok(())
+}
+
+fn add_all(waiting: &mut BTreeMap<u64, ChangeNo>, rows: &[Ready]) -> Result<(), NoMemory>
+    ensures { OnOk result ((a : ℕ) →
+        get nat_cmp waiting.new a ≡ fold (change_under a) (get nat_cmp waiting.old a) rows.now) }
+{
+    for row in rows {
+        add(waiting, *row)?;
+    }
+    Ok(())
+}
+
+/// All who are ready, where a full queue lost an item; else those whom the edits let in.
+fn to_look_at<B: Book>(alloc: Global, book: &mut B, edits: &[Edit]) -> Result<Vec<Ready>, BookFault>
+    ensures found { OfHeld B.IsTrusted B.Holds book.old book.new (λ c x. (v : State) → IsLed c x edits.now v →
+        EntersByEdits c x.state edits.now v → IfOk result (λ rows. candidate.AreToLookAt c v rows.items)) }
+    ensures kept { IsKept B.IsTrusted B.Holds B.LeavesOneOf book.old book.new }
+    ensures fault { IfErr result (MayAnswer B.MayFault) }
+{
+    if make_room(book, edits)? {
+        ready_list(alloc, book, edits)
+    } else {
+        let_in(alloc, book, edits)
+    }
+}
+
+/// Who might enter, each under the number of its approval: whoever may is among them.
+pub(crate) fn candidates<B: Book>(
+    alloc: Global,
+    book: &mut B,
+    edits: &[Edit],
+) -> Result<BTreeMap<u64, ChangeNo>, BookFault>
+    ensures found { OfHeld B.IsTrusted B.Holds book.old book.new (λ c x. (v : State) → IsLed c x edits.now v →
+        EntersByEdits c x.state edits.now v → IfOk result (AreCandidates c v)) }
+    ensures kept { IsKept B.IsTrusted B.Holds B.LeavesOneOf book.old book.new }
+    ensures fault { IfErr result (MayAnswer B.MayFault) }
+{
+    let rows = to_look_at(alloc, book, edits)?;
+    let mut waiting = BTreeMap::new(alloc);
+    add_all(&mut waiting, rows.as_slice())?;
+    Ok(waiting)
+}
+
+/// Adds those who need a change: once it has entered, they might too.
+pub(crate) fn add_needing<B: Book>(
+    alloc: Global,
+    book: &mut B,
+    edits: &[Edit],
+    change: ChangeNo,
+    waiting: &mut BTreeMap<u64, ChangeNo>,
+) -> Result<(), BookFault>
+    ensures found { OfHeld B.IsTrusted B.Holds book.old book.new (λ c x. (v : State) → IsLed c x edits.now v →
+        AreOthers c v change waiting.old → OnOk result (AreCandidates c v waiting.new)) }
+    ensures kept { IsKept B.IsTrusted B.Holds B.LeavesOneOf book.old book.new }
+    ensures fault { IfErr result (MayAnswer B.MayFault) }
+{
+    let put = ready_put(alloc, edits)?;
+    let left = left_needing(alloc, book, edits, change)?;
+    add_all(waiting, put.as_slice())?;
+    add_all(waiting, left.as_slice())?;
+    Ok(())
+}
