@@ -1,34 +1,48 @@
 -- What the lines of `closed` and of `revision` come to.
 use Rattle.std.proofs.Common.{◌≡◌, ℕ, ◌≤◌, Bool, true, false, not, cond, Some, List, [], length, refl, sym, ap, ◌∙◌}
-use Rattle.std.specs.Prelude.{unwrap_or, nat_lt, nat_le, ◌||◌}
+use Rattle.std.specs.Prelude.{unwrap_or, nat_le, ◌||◌, if◌then◌else◌}
 use Rattle.std.proofs.lemmas.Bool.{le-ltb}
 use Rattle.gate_types.specs.declared.records.Change.{Change}
 use Rattle.gate_types.specs.declared.records.Stage.TheVariants as stage
 use Rattle.gate_types.specs.declared.records.Verdict.TheVariants as verdict
 use Rattle.gate_types.specs.declared.deliveries.Reply.{Reply}
 use Rattle.gate_types.specs.declared.deliveries.Reply.TheVariants as reply
+use Rattle.gate_types.specs.declared.deliveries.Refusal.TheVariants as refusal
 use Rattle.gate_types.specs.Names.{same_name}
 use Rattle.gate_types.specs.Needs.{needs}
 use Rattle.gate_types.specs.Settings.{Settings}
 use Rattle.gate_types.specs.State.{State, known_change, put_change, is_open, is_landed, is_queued}
 use Rattle.gate_types.specs.Admit.{without_ready}
 use Rattle.gate_types.specs.SubmitOrder.{is_submitting}
-use Rattle.gate_types.specs.Step.{raw_closed, raw_revision, accepted, leave, with_stage, revised, has_project, is_known_and}
+use Rattle.gate_types.specs.Step.{Stepped, raw_closed, raw_revision, accepted, refused, leave, with_stage, revised, has_project, is_known_and}
 use Rattle.gate_walk.specs.Delivery.{is_stale}
+use Rattle.gate_ruling.specs.Guards.{GoesOn}
+use Rattle.gate_ruling.proofs.Guarded.{open_goes}
 use Rattle.gate_ruling.proofs.Withdrawn.{known_number}
 
 -- the state that `closed` leaves
 abbrev pub closed_state : ℕ → State → State
 closed_state n s = with_stage stage.Closed n (without_ready n (leave verdict.Closed n s))
 
-pub closed_raw : (c : Settings) (s : State) (n r : ℕ) (k : Change) → known_change s n ≡ Some k → r ≤ k.revision →
-    nat_lt r k.revision || not (is_open k) ≡ false → is_submitting c s n ≡ false → (said : Reply) (queued : Bool) →
+-- the lines on an open change at its latest revision
+abbrev pub closing : Settings → State → ℕ → Change → Stepped
+closing c s n k =
+    if is_submitting c s n then refused refusal.Submitting else
+    accepted (if is_queued s n then reply.Removed else reply.Recorded) (closed_state n s)
+
+pub closed_raw : (c : Settings) (s : State) (n r : ℕ) (k : Change) → GoesOn s n r k → is_open k ≡ true →
+    is_submitting c s n ≡ false → (said : Reply) (queued : Bool) →
     said ≡ cond queued reply.Removed reply.Recorded → queued ≡ is_queued s n →
     raw_closed c s n r ≡ accepted said (closed_state n s)
-closed_raw c s n r k known up past free said queued told at =
-    rw (known, le-ltb k.revision r up, past, free) refl
+closed_raw c s n r k goes opens free said queued told at =
+    open_goes s n r k (closing c s n) goes opens
+    ∙ rw free refl
     ∙ ap (λ b. accepted (cond b reply.Removed reply.Recorded) (closed_state n s)) (sym at)
     ∙ ap (λ y. accepted y (closed_state n s)) (sym told)
+
+pub shown_raw : (c : Settings) (s : State) (n r : ℕ) (k : Change) → GoesOn s n r k → is_open k ≡ true →
+    is_submitting c s n ≡ true → raw_closed c s n r ≡ refused refusal.Submitting
+shown_raw c s n r k goes opens shown = open_goes s n r k (closing c s n) goes opens ∙ rw shown refl
 
 pub closed_acts : (said : Reply) (queued : Bool) → said ≡ cond queued reply.Removed reply.Recorded →
     is_stale said ≡ false

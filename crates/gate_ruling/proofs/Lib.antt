@@ -11,6 +11,8 @@ pub mod Left
 pub mod GivenUp
 -- what other rows name
 pub mod Missing
+-- the lines that kinds begin with
+pub mod Guarded
 -- the kinds
 pub mod Withdrawn
 pub mod Closed

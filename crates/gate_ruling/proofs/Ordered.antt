@@ -1,7 +1,6 @@
 -- A shown order, by the row of its item: what it touches, and what its queue becomes.
-use Rattle.std.proofs.Common.{◌≡◌, ℕ, suc, ◌+◌, Bool, true, false, not, cond, Option, Some, None, List, [], ◌∷◌, ◌++◌, map, filter, length, refl, sym, ap, ◌∙◌, subst, arith, true≢false}
+use Rattle.std.proofs.Common.{◌≡◌, ℕ, suc, ◌+◌, Bool, true, false, not, cond, Some, List, [], ◌∷◌, ◌++◌, map, filter, length, refl, sym, ap, ◌∙◌, subst, arith, true≢false}
 use Rattle.std.specs.Prelude.{◌==◌, nat_lt, option_map, unwrap_or}
-use Rattle.std.specs.Option.{option_map_or}
 use Rattle.std.proofs.lemmas.Bool.{ne_eqb, le-ltb, eqb-true, false_from_ne_true}
 use Rattle.gate_types.specs.declared.records.Change.{Change}
 use Rattle.gate_types.specs.declared.records.Ready.{Ready}
@@ -15,15 +14,14 @@ use Rattle.gate_types.specs.declared.edits.Edit.{Edit}
 use Rattle.gate_types.specs.declared.edits.Edit.TheVariants as edit
 use Rattle.gate_types.specs.declared.deliveries.Delivery.TheVariants as delivery
 use Rattle.gate_types.specs.declared.deliveries.Reply.TheVariants as reply
-use Rattle.gate_types.specs.declared.deliveries.Refusal.TheVariants as refusal
 use Rattle.gate_types.specs.Names.{same_name}
 use Rattle.gate_types.specs.Settings.{Settings, are_sound}
 use Rattle.gate_types.specs.State.{Item, Queue, State, put_by, put_change, put_plan, change_queue, known_change}
 use Rattle.gate_types.specs.Window.{grow, shrink, bounds_of}
 use Rattle.gate_types.specs.Admit.{without_ready}
-use Rattle.gate_types.specs.SubmitOrder.{Order, shown_order, orders}
+use Rattle.gate_types.specs.SubmitOrder.{Order, orders}
 use Rattle.gate_types.specs.Rows.{item_of}
-use Rattle.gate_types.specs.Step.{left_queue, leave, landed_queue, landed_plan, shrunk_queue, with_landing, with_stage, raw_landed, raw_refused, accepted, refused}
+use Rattle.gate_types.specs.Step.{left_queue, leave, landed_queue, landed_plan, shrunk_queue, with_landing, with_stage, Stepped, raw_landed, raw_refused, accepted}
 use Rattle.gate_types.specs.Once.{Content}
 use Rattle.gate_types.specs.Tables.{numbered_landings}
 use Rattle.gate_types.specs.Lawful.{IsSound}
@@ -34,8 +32,8 @@ use Rattle.gate_laws.proofs.OrderFacts.{shows}
 use Rattle.gate_raw.specs.Moves.{Columns, in_state, Moves}
 use Rattle.gate_raw.specs.Touches.{Touches}
 use Rattle.gate_raw.specs.declared.touched.Event.TheVariants as event
-use Rattle.gate_reads.specs.Orders.{IsRowOf, TellsShown}
 use Rattle.gate_queue.specs.Edits.{window_edits}
+use Rattle.gate_ruling.specs.Guards.{HasOrder}
 use Rattle.gate_ruling.specs.Landing.{landing_of, landing_edits}
 use Rattle.gate_ruling.specs.Windows.{bounds_named}
 use Rattle.gate_ruling.proofs.Folded.{shown, shown_after, by_parts}
@@ -43,19 +41,6 @@ use Rattle.gate_ruling.proofs.Stored.{Stored}
 use Rattle.gate_ruling.proofs.Withdrawn.{known_number}
 
 -- ---- the order of a row
-
-pub record HasOrder (c : Settings) (s : State) (number : ℕ) (k : QueuedItem) : Type 0 where
-  pub order : Order
-  pub shown : shown_order c s number ≡ Some order
-  pub row : IsRowOf c s k.queue k.item order
-
-pub has_order : (c : Settings) (s : State) (number : ℕ) (k : QueuedItem) →
-    TellsShown c s (Some k) (shown_order c s number) → HasOrder c s number k
-has_order c s number k h = by_order (shown_order c s number) refl h
-  where
-    by_order : (o : Option Order) → shown_order c s number ≡ o → TellsShown c s (Some k) o → HasOrder c s number k
-    by_order None e f = absurd f
-    by_order (Some o) e f = record { order = o; shown = e; row = f }
 
 serial_is : (c : Settings) (s : State) (number : ℕ) (k : QueuedItem) → HasOrder c s number k →
     k.item.serial == number ≡ true
@@ -138,12 +123,16 @@ one_changed c s k v settings sound h columns edits f own other =
 
 -- ---- `refused`
 
+-- the lines on a shown order
+abbrev pub refusing : Settings → State → Order → Stepped
+refusing c s o =
+    accepted reply.Removed (change_queue o.queue.name (shrunk_queue c) (leave verdict.Refused o.item.change s))
+
 pub refused_raw : (c : Settings) (s : State) (number : ℕ) (k : QueuedItem) → (h : HasOrder c s number k) →
     raw_refused c s number
     ≡ accepted reply.Removed (change_queue k.queue (shrunk_queue c) (leave verdict.Refused k.item.change s))
 refused_raw c s number k h =
-    ap (λ o. option_map_or (λ (o : Order). accepted reply.Removed (change_queue o.queue.name (shrunk_queue c)
-    (leave verdict.Refused o.item.change s))) o (refused refusal.NoOrder)) h.shown
+    h.goes (refusing c s)
     ∙ (λ i. accepted reply.Removed (change_queue (sym h.row.queue i) (shrunk_queue c)
     (leave verdict.Refused (sym h.row.item i).change s)))
 
@@ -309,6 +298,11 @@ landed_state c k place known s =
     (put_plan (landed_plan s k.item.serial)
     (change_queue k.queue (landed_queue c (item_of k.item)) (leave (verdict.Landed place) k.item.change s))))
 
+-- the lines on a shown order
+abbrev pub landing : Settings → State → Order → Stepped
+landing c s o =
+    let n = length o.queue.landings + 1 in accepted (reply.Landed n) (with_landing c n o s)
+
 pub landed_raw : (c : Settings) (s : State) (number : ℕ) (k : QueuedItem) (known : Change) → IsSound c s →
     (o : HasOrder c s number k) → (h : Stored c s k.queue k.item) → h.queue ≡ o.order.queue →
     known_change s k.item.change ≡ Some known → (place : ℕ) → place ≡ length h.queue.landings + 1 →
@@ -323,8 +317,7 @@ landed_raw c s number k known sound o h same is place at =
     (eqb-true r.change known.number e ∙ known_number s n known is))))) in
     let count : length o.order.queue.landings + 1 ≡ place =
     ap (λ (q : Queue). length q.landings + 1) (sym same) ∙ sym at in
-    ap (λ y. option_map_or (λ (o : Order). accepted (reply.Landed (length o.queue.landings + 1))
-    (with_landing c (length o.queue.landings + 1) o s)) y (refused refusal.NoOrder)) o.shown
+    o.goes (landing c s)
     ∙ (λ i. accepted (reply.Landed (count i)) (with_stage stage.Landed (sym o.row.item i).change
     (put_plan (landed_plan s (sym o.row.item i).serial)
     (change_queue (sym o.row.queue i) (landed_queue c (sym o.row.item i))

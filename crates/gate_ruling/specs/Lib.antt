@@ -1,4 +1,5 @@
 pub mod Faults
+pub mod Guards
 pub mod Leaving
 pub mod Landing
 pub mod Windows

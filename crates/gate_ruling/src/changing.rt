@@ -1,5 +1,5 @@
 //! A change is recorded anew.
-ghost use Rattle.std.specs.Prelude.{◌≡◌, ◌||◌, not, ℕ, nat_lt, map, IfOk};
+ghost use Rattle.std.specs.Prelude.{◌≡◌, ℕ, map, IfOk};
 ghost use Rattle.std.specs.List.Sorted.{IsStrictlyIncreasing};
 ghost use Rattle.gate_types.specs.State.{State, put_change, is_open, is_landed};
 ghost use Rattle.gate_types.specs.Admit.{without_ready};
@@ -8,10 +8,10 @@ ghost use Rattle.gate_raw.specs.Moves.{Moves};
 
 use gate_types::edits::Edit;
 use gate_types::names::NoMemory;
-use gate_types::numbers::Revision;
 use gate_types::records::{Change, Stage};
 
-fn is_open(change: &Change) -> bool
+/// Whether a change is open.
+pub(crate) fn is_open(change: &Change) -> bool
     ensures { result ≡ is_open change.now }
 {
     matches!(change.stage, Stage::Open)
@@ -22,13 +22,6 @@ pub(crate) fn is_landed(change: &Change) -> bool
     ensures { result ≡ is_landed change.now }
 {
     matches!(change.stage, Stage::Landed)
-}
-
-/// Whether a revision isn't the latest of a change any more, or the change isn't open.
-pub(crate) fn is_past(known: &Change, revision: Revision) -> bool
-    ensures { result ≡ (nat_lt revision known.now.revision || not (is_open known.now)) }
-{
-    revision.get() < known.revision.get() || !is_open(known)
 }
 
 /// Edits, and then the change's row anew: it is ready no longer.

@@ -9,6 +9,7 @@
 
 mod changing;
 mod edits;
+mod guards;
 mod kinds;
 mod leaving;
 mod numbers;

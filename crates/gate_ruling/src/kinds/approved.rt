@@ -8,8 +8,9 @@ ghost use Rattle.gate_book.specs.Kept.{OfHeldUnder, IsKept};
 ghost use Rattle.gate_raw.specs.Raw.{IsRaw};
 ghost use Rattle.gate_ruling.specs.Approving.{is_nowhere};
 
-use crate::changing::is_past;
+use crate::changing::is_open;
 use crate::edits::with_edit;
+use crate::guards::latest;
 use crate::numbers::LAST_NUMBER;
 use gate_book::book::Book;
 use gate_book::fault::BookFault;
@@ -58,13 +59,11 @@ pub(crate) fn approved<B: Book>(
     ensures kept { IsKept B.IsTrusted B.Holds B.LeavesOneOf book.old book.new }
     ensures fault { IfErr result (MayAnswer B.MayFault) }
 {
-    let Some(known) = book.change(change)? else {
-        return Ok(Raw::Refused(Refusal::UnknownChange));
+    let known = match latest(book, change, revision)? {
+        Ok(known) => known,
+        Err(raw) => return Ok(raw),
     };
-    if known.revision.get() < revision.get() {
-        return Ok(Raw::Refused(Refusal::UnknownRevision));
-    }
-    if is_past(&known, revision) {
+    if !is_open(&known) {
         return Ok(Raw::Stands(Reply::Stale));
     }
     if !is_nowhere(&standing(alloc, book, config, change)?) {

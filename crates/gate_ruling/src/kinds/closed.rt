@@ -6,7 +6,8 @@ ghost use Rattle.gate_book.specs.Faults.{MayAnswer};
 ghost use Rattle.gate_book.specs.Kept.{OfHeldUnder, IsKept};
 ghost use Rattle.gate_raw.specs.Raw.{IsRaw};
 
-use crate::changing::{is_past, put_anew};
+use crate::changing::{is_open, put_anew};
+use crate::guards::latest;
 use crate::leaving::{Left, give_up_place};
 use gate_book::book::Book;
 use gate_book::fault::BookFault;
@@ -43,13 +44,11 @@ pub(crate) fn closed<B: Book>(
     ensures kept { IsKept B.IsTrusted B.Holds B.LeavesOneOf book.old book.new }
     ensures fault { IfErr result (MayAnswer B.MayFault) }
 {
-    let Some(known) = book.change(change)? else {
-        return Ok(Raw::Refused(Refusal::UnknownChange));
+    let known = match latest(book, change, revision)? {
+        Ok(known) => known,
+        Err(raw) => return Ok(raw),
     };
-    if known.revision.get() < revision.get() {
-        return Ok(Raw::Refused(Refusal::UnknownRevision));
-    }
-    if is_past(&known, revision) {
+    if !is_open(&known) {
         return Ok(Raw::Stands(Reply::Stale));
     }
     if is_submitting(alloc, book, config, change)? {

@@ -11,6 +11,7 @@ ghost use Rattle.gate_ruling.specs.Faults.{MayRule};
 
 use crate::changing::put_anew;
 use crate::edits::{with_edit, with_window};
+use crate::guards::ordered;
 use crate::leaving::{leaving, touched};
 use crate::windows::grown;
 use gate_book::book::Book;
@@ -19,9 +20,8 @@ use gate_book::planned::plan_of;
 use gate_book::rows::QueuedItem;
 use gate_raw::raw::{Moved, Raw, Said};
 use gate_raw::touched::Event;
-use gate_reads::orders::shown_order;
 use gate_types::config::Config;
-use gate_types::deliveries::{Refusal, Reply};
+use gate_types::deliveries::Reply;
 use gate_types::edits::Edit;
 use gate_types::names::NoMemory;
 use gate_types::numbers::Serial;
@@ -94,8 +94,9 @@ pub(crate) fn landed<B: Book>(
         IfErr result (MayAnswer B.MayFault)) }
 {
     let _settings = &config.base;
-    let Some(queued) = shown_order(alloc, book, config, order)? else {
-        return Ok(Raw::Refused(Refusal::NoOrder));
+    let queued = match ordered(alloc, book, config, order)? {
+        Ok(queued) => queued,
+        Err(raw) => return Ok(raw),
     };
     let Some(known) = change_of(book, &queued)? else {
         return Err(BookFault::Damaged);

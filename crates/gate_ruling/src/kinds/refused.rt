@@ -7,15 +7,15 @@ ghost use Rattle.gate_raw.specs.Raw.{IsRaw};
 ghost use Rattle.gate_ruling.specs.Faults.{MayRule};
 
 use crate::edits::with_window;
+use crate::guards::ordered;
 use crate::leaving::{leaving, touched};
 use crate::windows::shrunk;
 use gate_book::book::Book;
 use gate_book::fault::BookFault;
 use gate_raw::raw::{Moved, Raw, Said};
 use gate_raw::touched::Event;
-use gate_reads::orders::shown_order;
 use gate_types::config::Config;
-use gate_types::deliveries::{Refusal, Reply};
+use gate_types::deliveries::Reply;
 use gate_types::numbers::Serial;
 use gate_types::records::Verdict;
 use std::alloc::Global;
@@ -35,8 +35,9 @@ pub(crate) fn refused<B: Book>(
         IfErr result (MayAnswer B.MayFault)) }
 {
     let _settings = &config.base;
-    let Some(queued) = shown_order(alloc, book, config, order)? else {
-        return Ok(Raw::Refused(Refusal::NoOrder));
+    let queued = match ordered(alloc, book, config, order)? {
+        Ok(queued) => queued,
+        Err(raw) => return Ok(raw),
     };
     let Some(window) = book.window(&queued.queue)? else {
         return Err(BookFault::Damaged);

@@ -6,6 +6,7 @@ ghost use Rattle.gate_book.specs.Kept.{OfHeldUnder, IsKept};
 ghost use Rattle.gate_raw.specs.Raw.{IsRaw};
 
 use crate::changing::put_anew;
+use crate::guards::latest;
 use crate::leaving::{leaving, touched};
 use gate_book::book::Book;
 use gate_book::fault::BookFault;
@@ -32,15 +33,10 @@ pub(crate) fn withdrawn<B: Book>(
     ensures kept { IsKept B.IsTrusted B.Holds B.LeavesOneOf book.old book.new }
     ensures fault { IfErr result (MayAnswer B.MayFault) }
 {
-    let Some(known) = book.change(change)? else {
-        return Ok(Raw::Refused(Refusal::UnknownChange));
+    let known = match latest(book, change, revision)? {
+        Ok(known) => known,
+        Err(raw) => return Ok(raw),
     };
-    if known.revision.get() < revision.get() {
-        return Ok(Raw::Refused(Refusal::UnknownRevision));
-    }
-    if revision.get() < known.revision.get() {
-        return Ok(Raw::Stands(Reply::Stale));
-    }
     if is_submitting(alloc, book, config, change)? {
         return Ok(Raw::Refused(Refusal::Submitting));
     }

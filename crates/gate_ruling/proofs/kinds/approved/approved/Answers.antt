@@ -1,11 +1,14 @@
-use Rattle.std.proofs.Common.{◌≡◌, ◌∙◌, ◌<◌, ◌+◌, ◌≤◌, Some, refl, sym, ap, subst, arith}
+use Rattle.std.proofs.Common.{◌≡◌, ◌∙◌, ◌<◌, ◌+◌, true, refl, sym, ap, subst, arith}
 use Rattle.gate_types.specs.Counters.{Drawn}
-use Rattle.gate_types.specs.State.{known_change}
+use Rattle.gate_types.specs.declared.deliveries.Delivery.TheVariants as delivery
+use Rattle.gate_types.specs.State.{is_open}
 use Rattle.gate_types.specs.Settle.{settle}
 use Rattle.gate_types.specs.Step.{made_ready, approval_reply, settled_step}
 use Rattle.gate_raw.specs.Moves.{Moves}
+use Rattle.gate_ruling.specs.Guards.{IsLatest}
+use Rattle.gate_ruling.proofs.Guarded.{unless_closed, past_or_closed, closed_stale}
 use Rattle.gate_ruling.proofs.Drawn.{approval_past}
-use Rattle.gate_ruling.proofs.Approved.{approved_raw, approval_acts, nowhere}
+use Rattle.gate_ruling.proofs.Approved.{approving, approved_raw, already_raw, approval_acts, nowhere, somewhere}
 use Rattle.gate_ruling.proofs.Put.{ready_moves}
 use Rattle.gate_ruling.proofs.kinds.approved.approved.Goals as goal
 
@@ -14,15 +17,13 @@ returns-then-drawn-ge-LAST_NUMBER-clause-raw g c trusted x holds lawful =
     let s = c.args.config.now in
     let n = c.args.change in
     let r = c.args.revision in
-    let k = c.in-Some.known in
+    let k = c.in-Ok.known in
     let two = c.in_ok-drawn.ensures.kept.trusted_before trusted in
     let one = c.in_ok-standing.ensures.kept.trusted_before two in
     let at_one = c.in_ok-known.ensures.kept.holds_on one _ x holds in
     let at_two = c.in_ok-standing.ensures.kept.holds_on two _ x at_one in
-    let known : known_change x.state n ≡ Some k = sym (c.in_ok-known.ensures.found one s x holds lawful)
-    ∙ c.in-Some.is in
-    let up : r ≤ k.revision = omega arith in
-    let past = sym c.is_past.ensures ∙ c.if-is_past.false in
+    let latest = subst (IsLatest s x n r) c.in-Ok.is (c.in_ok-known.ensures.latest one s x holds lawful) in
+    let opens : is_open k ≡ true = sym c.is_open.ensures ∙ c.if-not-is_open.false in
     let away = nowhere s x.state n c.in_ok-standing.field-0 (c.in_ok-standing.ensures.found two x at_one lawful)
     (sym c.is_nowhere.ensures ∙ c.if-not-is_nowhere.false) in
     let drawn = ap (λ (d : Drawn). d.approval) (c.drawn.view_is
@@ -30,7 +31,7 @@ returns-then-drawn-ge-LAST_NUMBER-clause-raw g c trusted x holds lawful =
     let top = c.if-drawn-ge-LAST_NUMBER.true in
     let t = made_ready n x.state in
     let over : 1000000000000000 < t.counters.approval = omega (arith, drawn, top) in (
-      ap (settled_step s) (approved_raw s x.state n r k known up past away)
+      ap (settled_step s) (approved_raw s x.state n r k latest.1 opens away)
           ∙ approval_past s (approval_reply n (settle s t)) t over,
       refl,
     )
@@ -40,25 +41,55 @@ returns-clause-raw g c trusted x holds lawful =
     let s = c.args.config.now in
     let n = c.args.change in
     let r = c.args.revision in
-    let k = c.in-Some.known in
+    let k = c.in-Ok.known in
     let two = c.in_ok-drawn.ensures.kept.trusted_before trusted in
     let one = c.in_ok-standing.ensures.kept.trusted_before two in
     let at_one = c.in_ok-known.ensures.kept.holds_on one _ x holds in
     let at_two = c.in_ok-standing.ensures.kept.holds_on two _ x at_one in
-    let known : known_change x.state n ≡ Some k = sym (c.in_ok-known.ensures.found one s x holds lawful)
-    ∙ c.in-Some.is in
-    let up : r ≤ k.revision = omega arith in
-    let past = sym c.is_past.ensures ∙ c.if-is_past.false in
+    let latest = subst (IsLatest s x n r) c.in-Ok.is (c.in_ok-known.ensures.latest one s x holds lawful) in
+    let opens : is_open k ≡ true = sym c.is_open.ensures ∙ c.if-not-is_open.false in
     let away = nowhere s x.state n c.in_ok-standing.field-0 (c.in_ok-standing.ensures.found two x at_one lawful)
     (sym c.is_nowhere.ensures ∙ c.if-not-is_nowhere.false) in
     let drawn = ap (λ (d : Drawn). d.approval) (c.drawn.view_is
     ∙ c.in_ok-drawn.ensures.found trusted s x at_two lawful) in
     record {
       after = made_ready n x.state;
-      accepted = approved_raw s x.state n r k known up past away;
+      accepted = approved_raw s x.state n r k latest.1 opens away;
       acts = approval_acts n (settle s (made_ready n x.state));
       touches = refl;
       moves = subst (λ es. Moves x es (made_ready n x.state)) (sym c.in_ok-made_ready.ensures)
-          (ready_moves x n k lawful.lawful.sound.changes_rise known away.1 _ (ap (λ m. m + 1) drawn));
+          (ready_moves x n k lawful.lawful.sound.changes_rise latest.0 away.1 _ (ap (λ m. m + 1) drawn));
       unplaced = away.0;
     }
+
+pub returns-in-Err-clause-raw : goal.returns-in-Err-clause-raw
+returns-in-Err-clause-raw g c trusted x holds lawful =
+    let s = c.args.config.now in
+    let n = c.args.change in
+    let r = c.args.revision in
+    subst (IsLatest s x n r) c.in-Err.is (c.in_ok-known.ensures.latest trusted s x holds lawful)
+    (unless_closed x.state (approving s x.state n)) (delivery.Approved n r)
+    (past_or_closed x.state n r (approving s x.state n))
+
+pub returns-then-not-is_open-clause-raw : goal.returns-then-not-is_open-clause-raw
+returns-then-not-is_open-clause-raw g c trusted x holds lawful =
+    let s = c.args.config.now in
+    let n = c.args.change in
+    let r = c.args.revision in
+    let latest = subst (IsLatest s x n r) c.in-Ok.is (c.in_ok-known.ensures.latest trusted s x holds lawful) in
+    closed_stale x.state n r c.in-Ok.known (approving s x.state n) latest.1
+    (sym c.is_open.ensures ∙ c.if-not-is_open.true)
+
+pub returns-then-not-is_nowhere-clause-raw : goal.returns-then-not-is_nowhere-clause-raw
+returns-then-not-is_nowhere-clause-raw g c trusted x holds lawful =
+    let s = c.args.config.now in
+    let n = c.args.change in
+    let r = c.args.revision in
+    let k = c.in-Ok.known in
+    let one = c.in_ok-standing.ensures.kept.trusted_before trusted in
+    let at_one = c.in_ok-known.ensures.kept.holds_on one _ x holds in
+    let latest = subst (IsLatest s x n r) c.in-Ok.is (c.in_ok-known.ensures.latest one s x holds lawful) in
+    let opens : is_open k ≡ true = sym c.is_open.ensures ∙ c.if-not-is_open.false in
+    already_raw s x.state n r k latest.1 opens
+    (somewhere s x.state n c.in_ok-standing.field-0 (c.in_ok-standing.ensures.found trusted x at_one lawful)
+    (sym c.is_nowhere.ensures ∙ c.if-not-is_nowhere.true))

@@ -1,14 +1,17 @@
-use Rattle.std.proofs.Common.{◌≡◌, ◌∙◌, ◌≤◌, Some, false, refl, sym, ap, subst, arith}
+use Rattle.std.proofs.Common.{rules, ◌≡◌, ◌∙◌, true, false, refl, sym, ap, subst}
 use Rattle.std.specs.Prelude.{is_some}
 use Rattle.gate_types.specs.declared.deliveries.Delivery.TheVariants as delivery
+use Rattle.gate_types.specs.declared.deliveries.Refusal.TheVariants as refusal
 use Rattle.gate_types.specs.declared.records.Verdict.TheVariants as verdict
-use Rattle.gate_types.specs.State.{known_change, is_queued}
+use Rattle.gate_types.specs.State.{is_open, is_queued}
 use Rattle.gate_types.specs.SubmitOrder.{is_submitting}
-use Rattle.gate_types.specs.Step.{leave}
+use Rattle.gate_types.specs.Step.{leave, refused, settled_step, step}
 use Rattle.gate_raw.specs.Moves.{Moves}
 use Rattle.gate_raw.specs.Touches.{Touches}
+use Rattle.gate_ruling.specs.Guards.{IsLatest}
+use Rattle.gate_ruling.proofs.Guarded.{unless_closed, past_or_closed, closed_stale}
 use Rattle.gate_ruling.proofs.GivenUp.{given_up, queued_by}
-use Rattle.gate_ruling.proofs.Closed.{closed_state, closed_raw, closed_acts, closed_is}
+use Rattle.gate_ruling.proofs.Closed.{closed_state, closing, closed_raw, shown_raw, closed_acts, closed_is}
 use Rattle.gate_ruling.proofs.kinds.closed.closed.Goals as goal
 
 pub returns-clause-raw : goal.returns-clause-raw
@@ -16,7 +19,7 @@ returns-clause-raw g c trusted x holds lawful =
     let s = c.args.config.now in
     let n = c.args.change in
     let r = c.args.revision in
-    let k = c.in-Some.known in
+    let k = c.in-Ok.known in
     let d = delivery.Closed n r in
     let three = c.in_ok-left.ensures.kept.trusted_before trusted in
     let two = c.in_ok-stand.ensures.kept.trusted_before three in
@@ -24,25 +27,57 @@ returns-clause-raw g c trusted x holds lawful =
     let at_one = c.in_ok-known.ensures.kept.holds_on one _ x holds in
     let at_two = c.in_ok-is_submitting.ensures.kept.holds_on two _ x at_one in
     let at_three = c.in_ok-stand.ensures.kept.holds_on three _ x at_two in
-    let known : known_change x.state n ≡ Some k = sym (c.in_ok-known.ensures.found one s x holds lawful)
-    ∙ c.in-Some.is in
+    let latest = subst (IsLatest s x n r) c.in-Ok.is (c.in_ok-known.ensures.latest one s x holds lawful) in
     let free : is_submitting s x.state n ≡ false =
     sym (c.in_ok-is_submitting.ensures.found two x at_one lawful) ∙ c.if-branch.false in
     let so = c.in_ok-stand.ensures.found three x at_two lawful in
-    let up : r ≤ k.revision = omega arith in
-    let past = sym c.is_past.ensures ∙ c.if-is_past.false in
+    let opens : is_open k ≡ true = sym c.is_open.ensures ∙ c.if-not-is_open.false in
     let touched = c.in_ok-left.ensures.touched in
     let queued : is_some c.in_ok-left.left.touched ≡ is_queued x.state n =
     ap is_some touched ∙ queued_by s x.state n verdict.Closed c.in_ok-stand.stand so in
     let said = c.removed_or_recorded-reply.ensures in
     record {
       after = closed_state n x.state;
-      accepted = closed_raw s x.state n r k known up past free _ _ said queued;
+      accepted = closed_raw s x.state n r k latest.1 opens free _ _ said queued;
       acts = closed_acts _ _ said;
       touches = subst (Touches s x.state d) (sym touched)
           (given_up s x.state d n verdict.Closed c.in_ok-stand.stand so refl refl (λ i. refl));
-      moves = subst (Moves x c.in_ok-edits.edits.items) (closed_is x.state n k known)
+      moves = subst (Moves x c.in_ok-edits.edits.items) (closed_is x.state n k latest.0)
           (c.in_ok-edits.ensures x (leave verdict.Closed n x.state) lawful.lawful.sound.changes_rise
           (c.in_ok-left.ensures.moves trusted x at_three lawful n so));
       unplaced = tt;
     }
+
+pub returns-in-Err-clause-raw : goal.returns-in-Err-clause-raw
+returns-in-Err-clause-raw g c trusted x holds lawful =
+    let s = c.args.config.now in
+    let n = c.args.change in
+    let r = c.args.revision in
+    subst (IsLatest s x n r) c.in-Err.is (c.in_ok-known.ensures.latest trusted s x holds lawful)
+    (unless_closed x.state (closing s x.state n)) (delivery.Closed n r)
+    (past_or_closed x.state n r (closing s x.state n))
+
+pub returns-then-not-is_open-clause-raw : goal.returns-then-not-is_open-clause-raw
+returns-then-not-is_open-clause-raw g c trusted x holds lawful =
+    let s = c.args.config.now in
+    let n = c.args.change in
+    let r = c.args.revision in
+    let latest = subst (IsLatest s x n r) c.in-Ok.is (c.in_ok-known.ensures.latest trusted s x holds lawful) in
+    closed_stale x.state n r c.in-Ok.known (closing s x.state n) latest.1
+    (sym c.is_open.ensures ∙ c.if-not-is_open.true)
+
+pub returns-then-branch-clause-raw : goal.returns-then-branch-clause-raw
+returns-then-branch-clause-raw g c trusted x holds lawful =
+    let s = c.args.config.now in
+    let n = c.args.change in
+    let r = c.args.revision in
+    let k = c.in-Ok.known in
+    let one = c.in_ok-is_submitting.ensures.kept.trusted_before trusted in
+    let at_one = c.in_ok-known.ensures.kept.holds_on one _ x holds in
+    let latest = subst (IsLatest s x n r) c.in-Ok.is (c.in_ok-known.ensures.latest one s x holds lawful) in
+    let opens : is_open k ≡ true = sym c.is_open.ensures ∙ c.if-not-is_open.false in
+    let shown : is_submitting s x.state n ≡ true =
+    sym (c.in_ok-is_submitting.ensures.found trusted x at_one lawful) ∙ c.if-branch.true in
+    let refuses : step s x.state (delivery.Closed n r) ≡ refused refusal.Submitting =
+    ap (settled_step s) (shown_raw s x.state n r k latest.1 opens shown) in
+    search rules

@@ -6,19 +6,18 @@ use Rattle.gate_types.specs.declared.records.Verdict.TheVariants as verdict
 use Rattle.gate_types.specs.declared.edits.Edit.TheVariants as edit
 use Rattle.gate_types.specs.Settings.{are_sound}
 use Rattle.gate_types.specs.State.{change_queue, put_plan, known_change}
-use Rattle.gate_types.specs.SubmitOrder.{shown_order}
 use Rattle.gate_types.specs.Window.{grow}
 use Rattle.gate_types.specs.Rows.{item_of}
 use Rattle.gate_types.specs.Step.{leave, landed_queue, landed_plan}
 use Rattle.gate_raw.specs.Moves.{Moves}
 use Rattle.gate_raw.specs.Touches.{Touches}
-use Rattle.gate_reads.specs.Orders.{TellsShown}
+use Rattle.gate_ruling.specs.Guards.{IsOrdered}
 use Rattle.gate_ruling.specs.Landing.{landing_edits}
 use Rattle.gate_ruling.specs.Windows.{bounds_named}
 use Rattle.gate_ruling.proofs.Few.{few_landings}
 use Rattle.gate_ruling.proofs.Folded.{moves_on}
 use Rattle.gate_ruling.proofs.Stored.{stored}
-use Rattle.gate_ruling.proofs.Ordered.{has_order, same_queue, landed_touches, landed_state, landed_raw, lands, plan_put}
+use Rattle.gate_ruling.proofs.Ordered.{landing, same_queue, landed_touches, landed_state, landed_raw, lands, plan_put}
 use Rattle.gate_ruling.proofs.Missing.{change_there, window_there, window_stored, landings_stored}
 use Rattle.gate_ruling.proofs.kinds.landed.landed.Goals as goal
 
@@ -26,8 +25,8 @@ pub returns-clause-raw : goal.returns-clause-raw
 returns-clause-raw g c trusted x holds lawful =
     let s = c.args.config.now in
     let number = c.args.order in
-    let k = c.in-Some.queued in
-    let known = c.in-Some-2.known in
+    let k = c.in-Ok.queued in
+    let known = c.in-Some.known in
     let d = delivery.Landed number in
     let settings : are_sound s ≡ true = search rules in
     let sound = lawful.lawful.sound in
@@ -41,15 +40,13 @@ returns-clause-raw g c trusted x holds lawful =
     let at_three = c.in_ok-window.ensures.kept.holds_on three _ x at_two in
     let at_four = c.in_ok-landings.ensures.kept.holds_on four _ x at_three in
     let at_five = c.in_ok-plan.ensures.kept.holds_on five _ x at_four in
-    let o = has_order s x.state number k
-    (subst (λ y. TellsShown s x.state y (shown_order s x.state number)) c.in-Some.is
-    (c.in_ok-queued.ensures.found one x holds lawful)) in
+    let o = subst (IsOrdered s x number) c.in-Ok.is (c.in_ok-queued.ensures.ordered one x holds lawful) in
     let h = stored s x.state k.queue k.item o.row.stored in
     let is : known_change x.state k.item.change ≡ Some known =
-    sym (c.in_ok-known.ensures.found two s x at_one lawful) ∙ c.in-Some-2.is in
-    let before : c.in-Some-3.window ≡ h.queue.window =
-    same_Some c.in-Some-3.window h.queue.window
-    (sym c.in-Some-3.is ∙ c.in_ok-window.ensures.found three s x at_two lawful ∙ window_stored h) in
+    sym (c.in_ok-known.ensures.found two s x at_one lawful) ∙ c.in-Some.is in
+    let before : c.in-Some-2.window ≡ h.queue.window =
+    same_Some c.in-Some-2.window h.queue.window
+    (sym c.in-Some-2.is ∙ c.in_ok-window.ensures.found three s x at_two lawful ∙ window_stored h) in
     let count = c.in_ok-landings.ensures.found four s x at_three lawful ∙ landings_stored h in
     let few = few_landings s x lawful h.queue h.there in
     let plus = c.saturating_add-place.ensures in
@@ -82,30 +79,32 @@ returns-clause-raw g c trusted x holds lawful =
       unplaced = tt;
     }
 
+pub returns-in_default-clause-undamaged : goal.returns-in_default-clause-undamaged
+returns-in_default-clause-undamaged g c trusted x holds lawful =
+    let s = c.args.config.now in
+    let k = c.in-Ok.queued in
+    let before = c.in_ok-known.ensures.kept.trusted_before trusted in
+    let held = c.in_ok-queued.ensures.kept.holds_on before _ x holds in
+    let o = subst (IsOrdered s x c.args.order) c.in-Ok.is (c.in_ok-queued.ensures.ordered before x holds lawful) in
+    let h = stored s x.state k.queue k.item o.row.stored in
+    absurd (change_there s x.state k.queue k.item lawful.lawful.sound h
+    (sym (c.in_ok-known.ensures.found trusted s x held lawful) ∙ c.in_default.is))
+
 pub returns-in_default-2-clause-undamaged : goal.returns-in_default-2-clause-undamaged
 returns-in_default-2-clause-undamaged g c trusted x holds lawful =
     let s = c.args.config.now in
-    let k = c.in-Some.queued in
-    let before = c.in_ok-known.ensures.kept.trusted_before trusted in
-    let held = c.in_ok-queued.ensures.kept.holds_on before _ x holds in
-    let o = has_order s x.state c.args.order k
-    (subst (λ y. TellsShown s x.state y (shown_order s x.state c.args.order)) c.in-Some.is
-    (c.in_ok-queued.ensures.found before x holds lawful)) in
-    let h = stored s x.state k.queue k.item o.row.stored in
-    absurd (change_there s x.state k.queue k.item lawful.lawful.sound h
-    (sym (c.in_ok-known.ensures.found trusted s x held lawful) ∙ c.in_default-2.is))
-
-pub returns-in_default-3-clause-undamaged : goal.returns-in_default-3-clause-undamaged
-returns-in_default-3-clause-undamaged g c trusted x holds lawful =
-    let s = c.args.config.now in
-    let k = c.in-Some.queued in
+    let k = c.in-Ok.queued in
     let two = c.in_ok-window.ensures.kept.trusted_before trusted in
     let one = c.in_ok-known.ensures.kept.trusted_before two in
     let at_one = c.in_ok-queued.ensures.kept.holds_on one _ x holds in
     let at_two = c.in_ok-known.ensures.kept.holds_on two _ x at_one in
-    let o = has_order s x.state c.args.order k
-    (subst (λ y. TellsShown s x.state y (shown_order s x.state c.args.order)) c.in-Some.is
-    (c.in_ok-queued.ensures.found one x holds lawful)) in
+    let o = subst (IsOrdered s x c.args.order) c.in-Ok.is (c.in_ok-queued.ensures.ordered one x holds lawful) in
     let h = stored s x.state k.queue k.item o.row.stored in
     absurd (window_there s x.state k.queue k.item h
-    (sym (c.in_ok-window.ensures.found trusted s x at_two lawful) ∙ c.in_default-3.is))
+    (sym (c.in_ok-window.ensures.found trusted s x at_two lawful) ∙ c.in_default-2.is))
+
+pub returns-in-Err-clause-raw : goal.returns-in-Err-clause-raw
+returns-in-Err-clause-raw g c trusted x holds lawful =
+    let s = c.args.config.now in
+    subst (IsOrdered s x c.args.order) c.in-Err.is (c.in_ok-queued.ensures.ordered trusted x holds lawful)
+    (landing s x.state) (delivery.Landed c.args.order) refl

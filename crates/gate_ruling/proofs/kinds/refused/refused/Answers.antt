@@ -4,17 +4,16 @@ use Rattle.gate_types.specs.declared.deliveries.Delivery.TheVariants as delivery
 use Rattle.gate_types.specs.declared.records.Verdict.TheVariants as verdict
 use Rattle.gate_types.specs.Settings.{are_sound}
 use Rattle.gate_types.specs.State.{change_queue}
-use Rattle.gate_types.specs.SubmitOrder.{shown_order}
 use Rattle.gate_types.specs.Window.{shrink}
 use Rattle.gate_types.specs.Step.{leave, shrunk_queue}
 use Rattle.gate_queue.specs.Edits.{window_edits}
 use Rattle.gate_raw.specs.Moves.{Moves}
 use Rattle.gate_raw.specs.Touches.{Touches}
-use Rattle.gate_reads.specs.Orders.{TellsShown}
+use Rattle.gate_ruling.specs.Guards.{IsOrdered}
 use Rattle.gate_ruling.specs.Windows.{bounds_named}
 use Rattle.gate_ruling.proofs.Folded.{moves_on}
 use Rattle.gate_ruling.proofs.Stored.{stored}
-use Rattle.gate_ruling.proofs.Ordered.{has_order, refused_touches, refused_raw, shrinks}
+use Rattle.gate_ruling.proofs.Ordered.{refusing, refused_touches, refused_raw, shrinks}
 use Rattle.gate_ruling.proofs.Missing.{window_there, window_stored}
 use Rattle.gate_ruling.proofs.kinds.refused.refused.Goals as goal
 
@@ -22,7 +21,7 @@ pub returns-clause-raw : goal.returns-clause-raw
 returns-clause-raw g c trusted x holds lawful =
     let s = c.args.config.now in
     let number = c.args.order in
-    let k = c.in-Some.queued in
+    let k = c.in-Ok.queued in
     let d = delivery.Refused number in
     let settings : are_sound s ≡ true = search rules in
     let sound = lawful.lawful.sound in
@@ -30,13 +29,11 @@ returns-clause-raw g c trusted x holds lawful =
     let one = c.in_ok-window.ensures.kept.trusted_before two in
     let at_one = c.in_ok-queued.ensures.kept.holds_on one _ x holds in
     let at_two = c.in_ok-window.ensures.kept.holds_on two _ x at_one in
-    let o = has_order s x.state number k
-    (subst (λ y. TellsShown s x.state y (shown_order s x.state number)) c.in-Some.is
-    (c.in_ok-queued.ensures.found one x holds lawful)) in
+    let o = subst (IsOrdered s x number) c.in-Ok.is (c.in_ok-queued.ensures.ordered one x holds lawful) in
     let h = stored s x.state k.queue k.item o.row.stored in
-    let before : c.in-Some-2.window ≡ h.queue.window =
-    same_Some c.in-Some-2.window h.queue.window
-    (sym c.in-Some-2.is ∙ c.in_ok-window.ensures.found two s x at_one lawful ∙ window_stored h) in
+    let before : c.in-Some.window ≡ h.queue.window =
+    same_Some c.in-Some.window h.queue.window
+    (sym c.in-Some.is ∙ c.in_ok-window.ensures.found two s x at_one lawful ∙ window_stored h) in
     let window = c.shrunk-resized.ensures ∙ (λ i.
     shrink (before i) (bounds_named s (c.as_str.ensures.value i)).floor (bounds_named s (c.as_str.ensures.value i)).rule) in
     let t = leave verdict.Refused k.item.change x.state in
@@ -56,15 +53,19 @@ returns-clause-raw g c trusted x holds lawful =
       unplaced = tt;
     }
 
-pub returns-in_default-2-clause-undamaged : goal.returns-in_default-2-clause-undamaged
-returns-in_default-2-clause-undamaged g c trusted x holds lawful =
+pub returns-in_default-clause-undamaged : goal.returns-in_default-clause-undamaged
+returns-in_default-clause-undamaged g c trusted x holds lawful =
     let s = c.args.config.now in
-    let k = c.in-Some.queued in
+    let k = c.in-Ok.queued in
     let before = c.in_ok-window.ensures.kept.trusted_before trusted in
     let held = c.in_ok-queued.ensures.kept.holds_on before _ x holds in
-    let o = has_order s x.state c.args.order k
-    (subst (λ y. TellsShown s x.state y (shown_order s x.state c.args.order)) c.in-Some.is
-    (c.in_ok-queued.ensures.found before x holds lawful)) in
+    let o = subst (IsOrdered s x c.args.order) c.in-Ok.is (c.in_ok-queued.ensures.ordered before x holds lawful) in
     let h = stored s x.state k.queue k.item o.row.stored in
     absurd (window_there s x.state k.queue k.item h
-    (sym (c.in_ok-window.ensures.found trusted s x held lawful) ∙ c.in_default-2.is))
+    (sym (c.in_ok-window.ensures.found trusted s x held lawful) ∙ c.in_default.is))
+
+pub returns-in-Err-clause-raw : goal.returns-in-Err-clause-raw
+returns-in-Err-clause-raw g c trusted x holds lawful =
+    let s = c.args.config.now in
+    subst (IsOrdered s x c.args.order) c.in-Err.is (c.in_ok-queued.ensures.ordered trusted x holds lawful)
+    (refusing s x.state) (delivery.Refused c.args.order) refl

@@ -1,0 +1,57 @@
+//! The lines that several kinds of deliveries begin with: what a delivery has to name before anything else is asked.
+ghost use Rattle.std.specs.Prelude.{IfOk, IfErr};
+ghost use Rattle.gate_book.specs.Faults.{MayAnswer};
+ghost use Rattle.gate_book.specs.Kept.{OfHeld, OfHeldUnder, IsKept};
+ghost use Rattle.gate_ruling.specs.Guards.{IsLatest, IsOrdered};
+
+use gate_book::book::Book;
+use gate_book::fault::BookFault;
+use gate_book::rows::QueuedItem;
+use gate_raw::raw::Raw;
+use gate_reads::orders::shown_order;
+use gate_types::config::Config;
+use gate_types::deliveries::{Refusal, Reply};
+use gate_types::numbers::{ChangeNo, Revision, Serial};
+use gate_types::records::Change;
+use std::alloc::Global;
+
+/// The change of this number, if this is its latest revision; else what a delivery that names it comes to.
+pub(crate) fn latest<B: Book>(
+    book: &mut B,
+    change: ChangeNo,
+    revision: Revision,
+) -> Result<Result<Change, Raw>, BookFault>
+    ensures latest { OfHeld B.IsTrusted B.Holds book.old book.new (λ c x.
+        IfOk result (IsLatest c x change revision)) }
+    ensures kept { IsKept B.IsTrusted B.Holds B.LeavesOneOf book.old book.new }
+    ensures fault { IfErr result (MayAnswer B.MayFault) }
+{
+    let Some(known) = book.change(change)? else {
+        return Ok(Err(Raw::Refused(Refusal::UnknownChange)));
+    };
+    if known.revision.get() < revision.get() {
+        return Ok(Err(Raw::Refused(Refusal::UnknownRevision)));
+    }
+    if revision.get() < known.revision.get() {
+        return Ok(Err(Raw::Stands(Reply::Stale)));
+    }
+    Ok(Ok(known))
+}
+
+/// The row of the item whose order is shown under this number; else what a delivery that names it comes to.
+pub(crate) fn ordered<B: Book>(
+    alloc: Global,
+    book: &mut B,
+    config: &Config,
+    order: Serial,
+) -> Result<Result<QueuedItem, Raw>, BookFault>
+    ensures ordered { OfHeldUnder B.IsTrusted B.Holds book.old book.new config.now (λ x.
+        IfOk result (IsOrdered config.now x order)) }
+    ensures kept { IsKept B.IsTrusted B.Holds B.LeavesOneOf book.old book.new }
+    ensures fault { IfErr result (MayAnswer B.MayFault) }
+{
+    match shown_order(alloc, book, config, order)? {
+        Some(queued) => Ok(Ok(queued)),
+        None => Ok(Err(Raw::Refused(Refusal::NoOrder))),
+    }
+}
