@@ -15,7 +15,7 @@ use Rattle.gate_types.specs.Step.{Stepped, step, accepted, refused}
 use Rattle.gate_types.specs.Lawful.{IsLawful}
 use Rattle.gate_types.specs.Forms.{IsLawfulContent}
 use Rattle.gate_types.specs.Once.{Content, Call, kept_for, may_act, is_accepted, content_after, next_content, acts, answer_of, answer_of_step}
-use Rattle.gate_laws.specs.Orders.{answers, IsStillShown, AShownOrderStays, is_order_shown, OnlyShownOrdersAreAnswered}
+use Rattle.gate_laws.specs.Orders.{answers_order, IsStillShown, AShownOrderStays, is_order_shown, OnlyShownOrdersAreAnswered}
 use Rattle.gate_core.specs.Landing.{LandsRightly}
 
 -- a call acts, and its delivery's state is the next one; or it doesn't, and nothing changes
@@ -37,11 +37,11 @@ goes c x k = goes_by c x k (may_act x k) (step c x.state k.delivery) refl refl
 
 -- a shown order stays, unless the call answered it
 stays_by : AShownOrderStays → (c : Settings) (x : Content) (k : Call) (o : Order) → are_sound c ≡ true →
-    IsLawful c x.state → Contains (orders c x.state) o → acts c x k && answers k.delivery o.item.serial ≡ false →
+    IsLawful c x.state → Contains (orders c x.state) o → acts c x k && answers_order k.delivery o.item.serial ≡ false →
     Goes c x k → IsStillShown c (next_content c x k).state o
 stays_by law c x k o sound lawful there other (inl (r, t, e, next, on)) =
     subst (λ s. IsStillShown c s o) (sym next)
-    (law c x.state k.delivery r t o sound lawful e there (sym (ap (λ b. b && answers k.delivery o.item.serial) on) ∙ other))
+    (law c x.state k.delivery r t o sound lawful e there (sym (ap (λ b. b && answers_order k.delivery o.item.serial) on) ∙ other))
 stays_by law c x k o sound lawful there other (inr same) =
     subst (λ s. IsStillShown c s o) (sym same) (record { order = o; shown = there; queue = refl; item = refl })
 
@@ -54,7 +54,7 @@ refused_so c x k false m none e = inl (rw (m, none, e) refl)
 
 -- an order that isn't shown can't be answered
 unshown_step : OnlyShownOrdersAreAnswered → (c : Settings) (x : Content) (d : Delivery) (n : ℕ) →
-    is_order_shown c x.state n ≡ false → answers d n ≡ true → step c x.state d ≡ refused refusal.NoOrder
+    is_order_shown c x.state n ≡ false → answers_order d n ≡ true → step c x.state d ≡ refused refusal.NoOrder
 unshown_step law c x (delivery.Landed number) n unshown on =
     ap (λ m. step c x.state (delivery.Landed m)) (eqb-true number n on) ∙ law.of_landed c x.state n unshown
 unshown_step law c x (delivery.Refused number) n unshown on =

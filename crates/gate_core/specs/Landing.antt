@@ -8,7 +8,7 @@ use Rattle.gate_types.specs.SubmitOrder.{Order, orders}
 use Rattle.gate_types.specs.Evidence.{IsShown}
 use Rattle.gate_types.specs.Lawful.{IsDistinct, landed_changes}
 use Rattle.gate_types.specs.Once.{Content, Call, kept_for, next_content, acts}
-use Rattle.gate_laws.specs.Orders.{answers, IsStillShown, is_order_shown}
+use Rattle.gate_laws.specs.Orders.{answers_order, IsStillShown, is_order_shown}
 
 -- no change has landed twice; each landing's builds ran on the landings before it, then itself; a shown order stays
 -- unless this call answered it; and under a new id an order that isn't shown can't be answered
@@ -16,6 +16,6 @@ pub record LandsRightly (c : Settings) (x : Content) (k : Call) (a : Answer) : T
   pub once : IsDistinct (landed_changes (next_content c x k).state)
   pub evidence : All (λ q. (n : ℕ) → IsShown c (next_content c x k).state q n) (next_content c x k).state.queues
   pub stays : (o : Order) → Contains (orders c x.state) o →
-      acts c x k && answers k.delivery o.item.serial ≡ false → IsStillShown c (next_content c x k).state o
+      acts c x k && answers_order k.delivery o.item.serial ≡ false → IsStillShown c (next_content c x k).state o
   pub unshown : kept_for k.id x.kept ≡ None → (n : ℕ) → is_order_shown c x.state n ≡ false →
-      answers k.delivery n ≡ true → (a ≡ answer.Refused refusal.NoOrder) ⊎ (a ≡ answer.Refused refusal.Unavailable)
+      answers_order k.delivery n ≡ true → (a ≡ answer.Refused refusal.NoOrder) ⊎ (a ≡ answer.Refused refusal.Unavailable)

@@ -16,7 +16,7 @@ use Rattle.gate_types.specs.Line.{Place}
 use Rattle.gate_types.specs.Standing.{places, all_places}
 use Rattle.gate_types.specs.Step.{has_project}
 use Rattle.gate_types.specs.Adopt.{resized, adopted_queue, adopted}
-use Rattle.gate_types.specs.Evidence.{is_shown}
+use Rattle.gate_types.specs.Evidence.{has_evidence}
 use Rattle.gate_types.specs.Lawful.{IsSound, serials_of, drawn_serials, waiting_changes, landed_changes, is_sound_item, is_sound_build, is_overtaken_rightly, is_of_item, TellsLandings, ArePlanned}
 use Rattle.gate_laws.specs.Adoption.{AdoptedIsSound}
 use Rattle.gate_laws.proofs.Members.{In, every, all, from_map, to_map, found, not_found, map_map, map_same, in_contains, contains_in}
@@ -181,7 +181,7 @@ adopted_sound c d s a =
           every (HasSingles s) (all_places c s) h.builds_are_single p (places_are c d s a p m));
       landings_are_shown = all (ShowsAll d t) t.queues (each_queue c d s (ShowsAll d t)
           (λ q m w r. every (ShowsAll c s) s.queues h.landings_are_shown q m)
-          (λ r m n k. ap (λ o. option_map_or (is_shown d t (empty_queue r) (k + 1)) o true) (nothing_at k)));
+          (λ r m n k. ap (λ o. option_map_or (has_evidence d t (empty_queue r) (k + 1)) o true) (nothing_at k)));
       approvals_are_drawn = h.approvals_are_drawn;
       builds_are_set = all (λ b. has_queue d.queues b.queue ≡ true) s.builds (λ b m.
           set_kept c d s a b.queue (every (λ b. has_queue c.queues b.queue ≡ true) s.builds h.builds_are_set b m));

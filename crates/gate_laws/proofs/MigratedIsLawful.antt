@@ -17,7 +17,7 @@ use Rattle.gate_types.specs.Standing.{with_ahead, places, all_places, place_of, 
 use Rattle.gate_types.specs.Rebase.{stays_live}
 use Rattle.gate_types.specs.Sweep.{judged, judged_after}
 use Rattle.gate_types.specs.Step.{has_project}
-use Rattle.gate_types.specs.Evidence.{is_one_on, passed_builds, is_shown}
+use Rattle.gate_types.specs.Evidence.{is_one_on, passed_builds, has_evidence}
 use Rattle.gate_types.specs.Migrate.{item_plan, landing_plan, plans_of_queue, migrated}
 use Rattle.gate_types.specs.Lawful.{IsSound, IsLawful, serials_of, landed_changes, is_sound_item, ArePlanned, TellsLandings}
 use Rattle.gate_types.specs.Forms.{are_settings_in_form, is_project_in_form}
@@ -202,7 +202,7 @@ sound_migrated c s w h =
   where
     shown : (q : Queue) → In q s.queues → (k : ℕ) → (o : Option Landing) → slice_get q.landings k ≡ o →
         IsTrue (option_map_or (is_shown_before c s q (k + 1)) o true) →
-        IsTrue (option_map_or (is_shown c (migrated c s) q (k + 1)) o true)
+        IsTrue (option_map_or (has_evidence c (migrated c s) q (k + 1)) o true)
     shown q mq k None e i = refl
     shown q mq k (Some l) e i =
         ap (λ (p : Plan). list_all (λ j. not j.voting || is_one_on q.landings

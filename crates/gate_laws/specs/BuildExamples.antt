@@ -3,7 +3,7 @@ use Rattle.std.specs.Prelude.{◌≡◌, ℕ, List, [], ◌∷◌, codes}
 use Rattle.gate_types.specs.declared.deliveries.Delivery.{Delivery}
 use Rattle.gate_types.specs.State.{State}
 use Rattle.gate_types.specs.Status.{status_text}
-use Rattle.gate_laws.specs.Script.{settings, lib, app, opened, approved, withdrawn, take, passed, failed, lost, said, after, begun, shown_build, core_history, lines, stale, removed, noted, idle, build_1, build_2, build_3, build_4}
+use Rattle.gate_laws.specs.Script.{settings, lib, app, opened, approved, withdrawn, take, passed, failed, lost, replies_to, after, begun, shown_build, core_history, lines, stale, removed, noted, idle, build_1, build_2, build_3, build_4}
 
 -- 101, 102 and 103 in the queue
 abbrev pub three : State
@@ -17,7 +17,7 @@ two = begun settings (opened 101 lib ∷ opened 102 app ∷ approved 101 ∷ app
 -- behind a window of 2, builds are given for the jobs of two items, front to back; the third item waits
 abbrev pub BuildsAreGivenFrontToBack : Type 0
 BuildsAreGivenFrontToBack =
-    said settings three (take ∷ take ∷ take ∷ take ∷ []) ≡ build_1 ∷ build_2 ∷ build_3 ∷ idle ∷ []
+    replies_to settings three (take ∷ take ∷ take ∷ take ∷ []) ≡ build_1 ∷ build_2 ∷ build_3 ∷ idle ∷ []
 
 -- the first item fails while the second is tested behind it; the old build's result comes late
 abbrev first_fails : List Delivery
@@ -25,7 +25,7 @@ first_fails = take ∷ take ∷ take ∷ failed 1 ∷ take ∷ passed 3 ∷ []
 
 -- the item behind a failing one is built again without it, and its earlier build decides nothing
 pub record AFailureResetsTheItemsBehindIt : Type 0 where
-  pub replies : said settings three first_fails ≡ build_1 ∷ build_2 ∷ build_3 ∷ noted ∷ build_4 ∷ stale ∷ []
+  pub replies : replies_to settings three first_fails ≡ build_1 ∷ build_2 ∷ build_3 ∷ noted ∷ build_4 ∷ stale ∷ []
   pub earlier_build : shown_build (after settings three first_fails) 3
       ≡ codes "{\"after\":0,\"ahead\":[[101,1]],\"build\":3,\"change\":102,\"job\":\"unit\",\"live\":false,\"outcome\":\"running\",\"queue\":\"core\",\"revision\":1}"
 
@@ -35,7 +35,7 @@ middle_fails = take ∷ take ∷ take ∷ failed 3 ∷ withdrawn 101 ∷ take �
 
 -- an item that fails behind another stays until that one is decided, and starts anew where that one goes
 pub record AFailureBehindAnItemStays : Type 0 where
-  pub replies : said settings two middle_fails ≡ build_1 ∷ build_2 ∷ build_3 ∷ noted ∷ removed ∷ build_4 ∷ stale ∷ []
+  pub replies : replies_to settings two middle_fails ≡ build_1 ∷ build_2 ∷ build_3 ∷ noted ∷ removed ∷ build_4 ∷ stale ∷ []
   pub failing : status_text settings (after settings two (take ∷ take ∷ take ∷ failed 3 ∷ [])) ≡ lines (
       codes "queue core window 2 landed 0" ∷
       codes "     1       101    1      - ok      unit=running docs=running" ∷
@@ -61,7 +61,7 @@ tries =
 
 -- a job whose build is lost is tried three times; then it has failed
 pub record ALostBuildIsTriedThreeTimes : Type 0 where
-  pub replies : said settings one (take ∷ lost 1 ∷ take ∷ lost 2 ∷ take ∷ lost 3 ∷ []) ≡ tries
+  pub replies : replies_to settings one (take ∷ lost 1 ∷ take ∷ lost 2 ∷ take ∷ lost 3 ∷ []) ≡ tries
   pub history : core_history (after settings one (take ∷ lost 1 ∷ take ∷ lost 2 ∷ take ∷ lost 3 ∷ [])) ≡ lines (
       codes "history core" ∷
       codes "     1      1       102    1 failed          -" ∷
@@ -77,7 +77,7 @@ lost_on_two_lines = take ∷ take ∷ take ∷ lost 3 ∷ take ∷ lost 4 ∷ fa
 
 -- losses count only where the builds ran on the same
 pub record LossesOnTwoLinesArentAdded : Type 0 where
-  pub replies : said settings two lost_on_two_lines ≡
+  pub replies : replies_to settings two lost_on_two_lines ≡
       build_1 ∷ build_2 ∷ build_3 ∷ noted ∷
       codes "{\"after\":0,\"ahead\":[[101,1]],\"build\":4,\"change\":102,\"job\":\"unit\",\"queue\":\"core\",\"reply\":\"build\",\"revision\":1}" ∷ noted ∷
       noted ∷

@@ -4,7 +4,7 @@ use Rattle.gate_types.specs.declared.deliveries.Delivery.TheVariants as delivery
 use Rattle.gate_types.specs.State.{State, start}
 use Rattle.gate_types.specs.Once.{Call, empty, once}
 use Rattle.gate_types.specs.Status.{status_text}
-use Rattle.gate_laws.specs.Script.{settings, core_alone, lib, app, opened, approved, under, said, after, texts, lines, recorded, stale, queued, unknown_change, id_reused, unavailable}
+use Rattle.gate_laws.specs.Script.{settings, core_alone, lib, app, opened, approved, under, replies_to, after, texts, lines, recorded, stale, queued, unknown_change, id_reused, unavailable}
 
 -- 101 approved twice under one id, then 102
 abbrev repeated : List Call
@@ -47,7 +47,7 @@ revised = after core_alone (start core_alone)
 
 -- a revision takes the item of the earlier one out of its queue, and wants an approval of its own
 pub record ARevisionSupersedes : Type 0 where
-  pub replies : said core_alone (start core_alone)
+  pub replies : replies_to core_alone (start core_alone)
       (opened 101 lib ∷ opened 102 app ∷ approved 101 ∷ approved 102 ∷
       delivery.Revision 101 lib 2 [] ∷ approved 101 ∷ [])
       ≡ recorded ∷ recorded ∷ queued (codes "1") ∷ queued (codes "2") ∷ recorded ∷ stale ∷ []
@@ -55,4 +55,4 @@ pub record ARevisionSupersedes : Type 0 where
       codes "queue core window 2 landed 0" ∷
       codes "     2       102    1      - ok      unit=waiting" ∷
       codes "end" ∷ [])
-  pub approved_anew : said core_alone revised (delivery.Approved 101 2 ∷ []) ≡ queued (codes "3") ∷ []
+  pub approved_anew : replies_to core_alone revised (delivery.Approved 101 2 ∷ []) ≡ queued (codes "3") ∷ []

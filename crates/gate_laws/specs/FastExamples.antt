@@ -5,7 +5,7 @@ use Rattle.gate_types.specs.Settings.{Settings}
 use Rattle.gate_types.specs.SettingsText.{project_text}
 use Rattle.gate_types.specs.State.{State}
 use Rattle.gate_types.specs.Status.{status_text}
-use Rattle.gate_laws.specs.Script.{base, core, lib, app, site, unit, docs, queue, opened, approved, take, passed, failed, said, after, begun, core_history, lines, stale, noted, build_1, build_2, build_3, build_4}
+use Rattle.gate_laws.specs.Script.{base, core, lib, app, site, unit, docs, queue, opened, approved, take, passed, failed, replies_to, after, begun, core_history, lines, stale, noted, build_1, build_2, build_3, build_4}
 
 -- the settings of the other examples, but that `lib` is to fail fast
 abbrev pub fast_settings : Settings
@@ -35,7 +35,7 @@ pub record FailFastIsTold : Type 0 where
 
 -- a voting job of the first item fails while the other one runs: it goes at once
 pub record AFastFailureGoesAtOnce : Type 0 where
-  pub replies : said fast_settings fast_first
+  pub replies : replies_to fast_settings fast_first
       (take ∷ take ∷ take ∷ failed 1 ∷ passed 2 ∷ passed 3 ∷ take ∷ [])
       ≡ build_1 ∷ build_2 ∷ build_3 ∷ noted ∷ stale ∷ stale ∷ build_4 ∷ []
   pub history : core_history (after fast_settings fast_first (take ∷ take ∷ take ∷ failed 1 ∷ [])) ≡ lines (
@@ -54,7 +54,7 @@ second_fails = take ∷ take ∷ take ∷ failed 2 ∷ []
 
 -- a voting job of an item behind another fails: its other job is skipped, until what is before it fails too
 pub record AFastFailureBehindAnItemSkips : Type 0 where
-  pub replies : said fast_settings fast_second
+  pub replies : replies_to fast_settings fast_second
       (take ∷ take ∷ take ∷ failed 2 ∷ passed 3 ∷ failed 1 ∷ take ∷ [])
       ≡ codes "{\"after\":0,\"ahead\":[],\"build\":1,\"change\":102,\"job\":\"unit\",\"queue\":\"core\",\"reply\":\"build\",\"revision\":1}" ∷
       codes "{\"after\":0,\"ahead\":[[102,1]],\"build\":2,\"change\":101,\"job\":\"unit\",\"queue\":\"core\",\"reply\":\"build\",\"revision\":1}" ∷
@@ -76,7 +76,7 @@ pub record AFastFailureBehindAnItemSkips : Type 0 where
 
 -- a job that doesn't vote fails first: nothing is skipped
 pub record AJobThatDoesntVoteSkipsNothing : Type 0 where
-  pub replies : said fast_settings fast_first (take ∷ take ∷ take ∷ failed 2 ∷ passed 1 ∷ passed 3 ∷ [])
+  pub replies : replies_to fast_settings fast_first (take ∷ take ∷ take ∷ failed 2 ∷ passed 1 ∷ passed 3 ∷ [])
       ≡ build_1 ∷ build_2 ∷ build_3 ∷ noted ∷ noted ∷ noted ∷ []
   pub status : status_text fast_settings (after fast_settings fast_first (take ∷ take ∷ take ∷ failed 2 ∷ [])) ≡ lines (
       codes "queue core window 2 landed 0" ∷

@@ -5,7 +5,7 @@ use Rattle.gate_types.specs.declared.deliveries.Delivery.TheVariants as delivery
 use Rattle.gate_types.specs.State.{State}
 use Rattle.gate_types.specs.Status.{status_text}
 use Rattle.gate_types.specs.OrderList.{order_list_text}
-use Rattle.gate_laws.specs.Script.{settings, with_window, lib, app, site, opened, approved, withdrawn, take, passed, failed, under, at, said, after, begun, texts, core_history, lines, recorded, stale, removed, noted, landed_as, submitting, no_order, build_1, build_2, build_3}
+use Rattle.gate_laws.specs.Script.{settings, with_window, lib, app, site, opened, approved, withdrawn, take, passed, failed, under, at, replies_to, after, begun, texts, core_history, lines, recorded, stale, removed, noted, landed_as, submitting, no_order, build_1, build_2, build_3}
 use Rattle.gate_laws.specs.BuildExamples.{three, two}
 
 -- 101 has failed while its `docs` still run, and 102 behind it has passed without it
@@ -16,7 +16,7 @@ second_passed = after settings three (take ∷ take ∷ take ∷ failed 1 ∷ ta
 pub record AnItemLandsBeforeAFailingOne : Type 0 where
   pub orders : order_list_text settings second_passed
       ≡ codes "[{\"change\":102,\"order\":2,\"project\":\"app\",\"queue\":\"core\",\"revision\":1}]"
-  pub replies : said settings second_passed (delivery.Landed 2 ∷ passed 2 ∷ []) ≡ landed_as (codes "1") ∷ noted ∷ []
+  pub replies : replies_to settings second_passed (delivery.Landed 2 ∷ passed 2 ∷ []) ≡ landed_as (codes "1") ∷ noted ∷ []
   pub landed : status_text settings (after settings second_passed (delivery.Landed 2 ∷ [])) ≡ lines (
       codes "queue core window 3 landed 1" ∷
       codes "     1       101    1      - failing unit=failure docs=running" ∷
@@ -47,7 +47,7 @@ pub record AJobThatDoesntVoteDecidesNothing : Type 0 where
   pub waits_for_the_vote : order_list_text settings (after settings running (failed 2 ∷ [])) ≡ codes "[]"
   pub waits_for_the_other : order_list_text settings (after settings running (passed 1 ∷ [])) ≡ codes "[]"
   pub orders : order_list_text settings (after settings running (failed 2 ∷ passed 1 ∷ [])) ≡ order_of_101
-  pub replies : said settings running (failed 2 ∷ passed 1 ∷ delivery.Landed 1 ∷ delivery.Landed 1 ∷ [])
+  pub replies : replies_to settings running (failed 2 ∷ passed 1 ∷ delivery.Landed 1 ∷ delivery.Landed 1 ∷ [])
       ≡ noted ∷ noted ∷ landed_as (codes "1") ∷ no_order ∷ []
 
 -- 101 lands while 102 behind it is tested; then 102
@@ -56,7 +56,7 @@ both_land = take ∷ take ∷ take ∷ passed 1 ∷ passed 2 ∷ delivery.Landed
 
 -- a landing keeps the builds behind it
 pub record ALandingKeepsTheBuildsBehindIt : Type 0 where
-  pub replies : said settings two both_land
+  pub replies : replies_to settings two both_land
       ≡ build_1 ∷ build_2 ∷ build_3 ∷ noted ∷ noted ∷ landed_as (codes "1") ∷ noted ∷ landed_as (codes "2") ∷ []
   pub orders : order_list_text settings
       (after settings two (take ∷ take ∷ take ∷ passed 1 ∷ passed 2 ∷ delivery.Landed 1 ∷ passed 3 ∷ []))
@@ -98,7 +98,7 @@ pub record TheWindowGrowsBeforeItShrinks : Type 0 where
       codes "     3       104    1      1 failing unit=failure" ∷
       codes "queue web window 2 landed 0" ∷
       codes "end" ∷ [])
-  pub replies : said (with_window 6) two_failed_behind (delivery.Landed 1 ∷ []) ≡ landed_as (codes "1") ∷ []
+  pub replies : replies_to (with_window 6) two_failed_behind (delivery.Landed 1 ∷ []) ≡ landed_as (codes "1") ∷ []
   pub status : status_text (with_window 6) (after (with_window 6) two_failed_behind (delivery.Landed 1 ∷ [])) ≡ lines (
       codes "queue core window 1 landed 1" ∷
       codes "queue web window 2 landed 0" ∷

@@ -9,7 +9,7 @@ use Rattle.gate_types.specs.Settings.{default_rule}
 use Rattle.gate_types.specs.SettingsText.{queue_text}
 use Rattle.gate_types.specs.Window.{grow, shrink}
 use Rattle.gate_types.specs.Status.{status_text}
-use Rattle.gate_laws.specs.Script.{settings, with_window, lib, app, site, opened, opened_needing, approved, take, passed, failed, said, after, begun, lines, waiting, already, queued, landed_as, idle, exhausted}
+use Rattle.gate_laws.specs.Script.{settings, with_window, lib, app, site, opened, opened_needing, approved, take, passed, failed, replies_to, after, begun, lines, waiting, already, queued, landed_as, idle, exhausted}
 
 -- 10^15
 abbrev last : ℕ
@@ -26,8 +26,8 @@ ordered n = with_drawn (record { approval = 0; build = 0; order = n })
 
 -- orders end at 10^15: what would draw one more is refused and changes nothing
 pub record OrdersRunOut : Type 0 where
-  pub last_one : said settings (ordered 999999999999999) (approved 101 ∷ []) ≡ queued (codes "1000000000000000") ∷ []
-  pub refused : said settings (ordered last) (approved 101 ∷ approved 102 ∷ []) ≡ exhausted ∷ waiting ∷ []
+  pub last_one : replies_to settings (ordered 999999999999999) (approved 101 ∷ []) ≡ queued (codes "1000000000000000") ∷ []
+  pub refused : replies_to settings (ordered last) (approved 101 ∷ approved 102 ∷ []) ≡ exhausted ∷ waiting ∷ []
   pub status : status_text settings (after settings (ordered last) (approved 101 ∷ [])) ≡ lines (
       codes "queue core window 2 landed 0" ∷
       codes "queue web window 2 landed 0" ∷
@@ -41,8 +41,8 @@ awaited n = with_drawn (record { approval = 2; build = 2; order = n }) (begun se
 
 -- a landing that would admit a waiting change past the last order is refused too
 pub record ALandingThatAdmitsRunsOut : Type 0 where
-  pub last_one : said settings (awaited 999999999999999) (delivery.Landed 1 ∷ []) ≡ landed_as (codes "1") ∷ []
-  pub refused : said settings (awaited last) (delivery.Landed 1 ∷ approved 301 ∷ []) ≡ exhausted ∷ already ∷ []
+  pub last_one : replies_to settings (awaited 999999999999999) (delivery.Landed 1 ∷ []) ≡ landed_as (codes "1") ∷ []
+  pub refused : replies_to settings (awaited last) (delivery.Landed 1 ∷ approved 301 ∷ []) ≡ exhausted ∷ already ∷ []
 
 -- 102 in the queue, and this many builds drawn
 abbrev built : ℕ → State
@@ -51,10 +51,10 @@ built n =
 
 -- builds end at 10^15, and approvals too; with nothing to build a take is idle even then
 pub record BuildsAndApprovalsRunOut : Type 0 where
-  pub last_one : said settings (built 999999999999999) (take ∷ take ∷ [])
+  pub last_one : replies_to settings (built 999999999999999) (take ∷ take ∷ [])
       ≡ codes "{\"after\":0,\"ahead\":[],\"build\":1000000000000000,\"change\":102,\"job\":\"unit\",\"queue\":\"core\",\"reply\":\"build\",\"revision\":1}" ∷ idle ∷ []
-  pub refused : said settings (built last) (take ∷ []) ≡ exhausted ∷ []
-  pub approvals : said settings
+  pub refused : replies_to settings (built last) (take ∷ []) ≡ exhausted ∷ []
+  pub approvals : replies_to settings
       (with_drawn (record { approval = last; build = 0; order = 0 }) (begun settings (opened 101 lib ∷ [])))
       (approved 101 ∷ []) ≡ exhausted ∷ []
 
@@ -93,7 +93,7 @@ unbounded = begun (with_window 0)
 
 -- a window of 0 sets no bound, and stays 0
 pub record AWindowOf0SetsNoBound : Type 0 where
-  pub third_item : said (with_window 0) unbounded (take ∷ [])
+  pub third_item : replies_to (with_window 0) unbounded (take ∷ [])
       ≡ codes "{\"after\":0,\"ahead\":[[101,1],[102,1]],\"build\":4,\"change\":103,\"job\":\"unit\",\"queue\":\"core\",\"reply\":\"build\",\"revision\":1}" ∷ []
   pub failed : status_text (with_window 0)
       (begun (with_window 0) (opened 102 app ∷ approved 102 ∷ take ∷ failed 1 ∷ [])) ≡ lines (

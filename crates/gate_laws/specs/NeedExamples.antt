@@ -6,7 +6,7 @@ use Rattle.gate_types.specs.declared.deliveries.Delivery.TheVariants as delivery
 use Rattle.gate_types.specs.Needs.{needs}
 use Rattle.gate_types.specs.State.{State, start}
 use Rattle.gate_types.specs.Status.{status_text}
-use Rattle.gate_laws.specs.Script.{settings, with_window, base, lib, app, site, opened, opened_with, opened_needing, depends_on, approved, take, passed, failed, said, after, begun, shown_build, core_history, lines, recorded, waiting, queued, noted, landed_as, too_many_needs, build_1, build_2}
+use Rattle.gate_laws.specs.Script.{settings, with_window, base, lib, app, site, opened, opened_with, opened_needing, depends_on, approved, take, passed, failed, replies_to, after, begun, shown_build, core_history, lines, recorded, waiting, queued, noted, landed_as, too_many_needs, build_1, build_2}
 
 -- 102 needs 101, and is approved first
 abbrev needing : List Delivery
@@ -14,7 +14,7 @@ needing = opened 101 lib ∷ opened_needing (codes "101") 102 app ∷ approved 1
 
 -- a change waits until the one that it needs is in its queue, and enters behind it
 pub record ANeedAdmitsTheWaitingChange : Type 0 where
-  pub replies : said settings (start settings) needing ≡ recorded ∷ recorded ∷ waiting ∷ queued (codes "1") ∷ []
+  pub replies : replies_to settings (start settings) needing ≡ recorded ∷ recorded ∷ waiting ∷ queued (codes "1") ∷ []
   pub status : status_text settings (begun settings needing) ≡ lines (
       codes "queue core window 2 landed 0" ∷
       codes "     1       101    1      - ok      unit=waiting docs=waiting" ∷
@@ -30,7 +30,7 @@ cycle =
 
 -- changes that need each other wait for good, and so does one that needs itself
 pub record ACycleWaits : Type 0 where
-  pub replies : said settings (start settings) cycle ≡ recorded ∷ recorded ∷ recorded ∷ waiting ∷ waiting ∷ waiting ∷ []
+  pub replies : replies_to settings (start settings) cycle ≡ recorded ∷ recorded ∷ recorded ∷ waiting ∷ waiting ∷ waiting ∷ []
   pub status : status_text settings (begun settings cycle) ≡ lines (
       codes "queue core window 2 landed 0" ∷
       codes "queue web window 2 landed 0" ∷
@@ -46,7 +46,7 @@ need_elsewhere = opened 101 lib ∷ opened_needing (codes "101") 301 site ∷ ap
 
 -- a need in another queue must land first
 pub record ANeedInAnotherQueueLandsFirst : Type 0 where
-  pub replies : said settings (start settings) need_elsewhere
+  pub replies : replies_to settings (start settings) need_elsewhere
       ≡ recorded ∷ recorded ∷ waiting ∷ queued (codes "1") ∷ build_1 ∷ build_2 ∷ noted ∷ noted ∷ []
   pub before : status_text settings (begun settings need_elsewhere) ≡ lines (
       codes "queue core window 2 landed 0" ∷
@@ -54,7 +54,7 @@ pub record ANeedInAnotherQueueLandsFirst : Type 0 where
       codes "queue web window 2 landed 0" ∷
       codes "waiting 301 1" ∷
       codes "end" ∷ [])
-  pub landed : said settings (begun settings need_elsewhere) (delivery.Landed 1 ∷ []) ≡ landed_as (codes "1") ∷ []
+  pub landed : replies_to settings (begun settings need_elsewhere) (delivery.Landed 1 ∷ []) ≡ landed_as (codes "1") ∷ []
   pub status : status_text settings (after settings (begun settings need_elsewhere) (delivery.Landed 1 ∷ [])) ≡ lines (
       codes "queue core window 3 landed 1" ∷
       codes "queue web window 2 landed 0" ∷
@@ -82,7 +82,7 @@ pub record AnItemGoesWithItsNeed : Type 0 where
       codes "     1      1       101    1 failed          -" ∷
       codes "     2      2       102    1 needs           -" ∷
       codes "end 2" ∷ [])
-  pub replies : said (with_window 4) need_failed (passed 2 ∷ approved 102 ∷ []) ≡ noted ∷ waiting ∷ []
+  pub replies : replies_to (with_window 4) need_failed (passed 2 ∷ approved 102 ∷ []) ≡ noted ∷ waiting ∷ []
   pub status : status_text (with_window 4) (after (with_window 4) need_failed (passed 2 ∷ approved 102 ∷ [])) ≡ lines (
       codes "queue core window 2 landed 0" ∷
       codes "queue web window 2 landed 0" ∷
@@ -97,7 +97,7 @@ chain =
 
 -- each admission looks at the waiting changes anew, from the first one on
 pub record AdmissionStartsAnew : Type 0 where
-  pub replies : said settings (start settings) chain
+  pub replies : replies_to settings (start settings) chain
       ≡ recorded ∷ recorded ∷ recorded ∷ waiting ∷ waiting ∷ queued (codes "1") ∷ []
   pub status : status_text settings (begun settings chain) ≡ lines (
       codes "queue core window 2 landed 0" ∷
@@ -145,6 +145,6 @@ footers n = flat_map (λ k. depends_on (decimal k) ++ 10 ∷ []) (range_with_len
 -- 32 different needs are taken, a double more too, but not 33
 abbrev pub AtMost32NeedsAreTaken : Type 0
 AtMost32NeedsAreTaken =
-    said settings (start settings)
+    replies_to settings (start settings)
     (opened_with (footers 33) 101 lib ∷ opened_with (footers 32 ++ depends_on (codes "7")) 101 lib ∷ [])
     ≡ too_many_needs ∷ recorded ∷ []

@@ -131,8 +131,8 @@ abbrev pub texts : Settings → Content → List Call → List (List ℕ)
 texts c x calls = map answer_text (answers c x calls)
 
 -- the texts of the answers to deliveries
-abbrev pub said : Settings → State → List Delivery → List (List ℕ)
-said c s ds = texts c (at s) (numbered 1 ds)
+abbrev pub replies_to : Settings → State → List Delivery → List (List ℕ)
+replies_to c s ds = texts c (at s) (numbered 1 ds)
 
 -- the state after deliveries
 abbrev pub after : Settings → State → List Delivery → State

@@ -7,7 +7,7 @@ use Rattle.sqlite.specs.Order.{Row}
 use Rattle.sqlite.specs.State.{Shown, State}
 use Rattle.sqlite.specs.declared.types.Value.TheVariants.{Int, Text as Words}
 use Rattle.sqlite_trees.specs.declared.store.Store.{Ghosts}
-use Rattle.gate_types.specs.History.{report_row}
+use Rattle.gate_types.specs.History.{report_row, verdict_word, landing_place}
 use Rattle.gate_types.specs.Rows.{numbered}
 use Rattle.gate_types.specs.Tap.{Took, TookFront}
 use Rattle.gate_types.specs.declared.records.Report.{Report}
@@ -17,7 +17,6 @@ use Rattle.gate_book.specs.declared.fault.HistoryFault.{HistoryFault}
 use Rattle.gate_book.specs.declared.fault.HistoryFault.TheVariants as fault
 use Rattle.gate_rows.specs.Tells.{reports_of}
 use Rattle.gate_schema.specs.Rows.{Stored, number_or_null}
-use Rattle.gate_schema.specs.Words.{verdict_place, verdict_word}
 use Rattle.gate_queries.specs.Reads.{IsShown}
 
 -- ---- the rows
@@ -30,7 +29,7 @@ history_sql = codes "SELECT serial, change, revision, verdict, n FROM report WHE
 abbrev pub report_shown : Report → Row
 report_shown r =
     Int (pos r.serial) ∷ Int (pos r.change) ∷ Int (pos r.revision) ∷ Words (verdict_word r.verdict) ∷
-    number_or_null (verdict_place r.verdict) ∷ []
+    number_or_null (landing_place r.verdict) ∷ []
 
 -- the connection runs the query of a queue's reports, and has given these rows
 abbrev pub GaveRows : {S : Type 0} → Ghosts S → List ℕ → Held S → List Row → Type 0

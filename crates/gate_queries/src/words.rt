@@ -3,7 +3,9 @@ ghost use Rattle.std.specs.Prelude.{◌≡◌, ◌<◌, length, None, Some, IfOk
 ghost use Rattle.sqlite_value.specs.Order.{column};
 ghost use Rattle.sqlite.specs.declared.types.Value.TheVariants.{Text};
 ghost use Rattle.gate_schema.specs.Rows.{number_or_null};
-ghost use Rattle.gate_schema.specs.Words.{outcome_word, stage_word, verdict_place, verdict_word};
+ghost use Rattle.gate_schema.specs.Words.{stage_word};
+ghost use Rattle.gate_types.specs.History.{verdict_word, landing_place};
+ghost use Rattle.gate_types.specs.BuildText.{outcome_word};
 
 use crate::columns::number_if_any_in;
 use gate_book::fault::BookFault;
@@ -47,9 +49,9 @@ fn outcome_of(word: &[u8]) -> Option<Outcome>
 
 /// The verdict of a word, with the place of a landing; None where no verdict has both.
 fn verdict_of(word: &[u8], place: Option<u64>) -> Option<Verdict>
-    ensures told { (verdict : _) → word.now ≡ verdict_word verdict → place ≡ verdict_place verdict →
+    ensures told { (verdict : _) → word.now ≡ verdict_word verdict → place ≡ landing_place verdict →
         result ≡ Some verdict }
-    ensures form { IfSome result (λ verdict. (word.now ≡ verdict_word verdict) × (place ≡ verdict_place verdict)) }
+    ensures form { IfSome result (λ verdict. (word.now ≡ verdict_word verdict) × (place ≡ landing_place verdict)) }
 {
     match place {
         Some(place) => (word == b"landed".as_slice()).then_some(Verdict::Landed(place)),
@@ -59,9 +61,9 @@ fn verdict_of(word: &[u8], place: Option<u64>) -> Option<Verdict>
 
 /// The verdict of a word, but for that of a landing.
 fn verdict_without_place(word: &[u8]) -> Option<Verdict>
-    ensures told { (verdict : _) → word.now ≡ verdict_word verdict → verdict_place verdict ≡ None →
+    ensures told { (verdict : _) → word.now ≡ verdict_word verdict → landing_place verdict ≡ None →
         result ≡ Some verdict }
-    ensures form { IfSome result (λ verdict. (word.now ≡ verdict_word verdict) × (verdict_place verdict ≡ None)) }
+    ensures form { IfSome result (λ verdict. (word.now ≡ verdict_word verdict) × (landing_place verdict ≡ None)) }
 {
     if word == b"failed".as_slice() {
         Some(Verdict::Failed)
@@ -108,10 +110,10 @@ pub(crate) fn outcome_in(row: &Row, at: usize) -> Result<Outcome, BookFault>
 /// The verdict in a column, its landing's place in the next. `Damaged` where they hold none.
 pub(crate) fn verdict_in(row: &Row, at: usize, place_at: usize) -> Result<Verdict, BookFault>
     ensures ok { (verdict : _) → column row.now at ≡ Text (verdict_word verdict) →
-        column row.now place_at ≡ number_or_null (verdict_place verdict) → place_at < length row.now →
+        column row.now place_at ≡ number_or_null (landing_place verdict) → place_at < length row.now →
         IfOk result (λ found. found ≡ verdict) }
     ensures err { (verdict : _) → column row.now at ≡ Text (verdict_word verdict) →
-        column row.now place_at ≡ number_or_null (verdict_place verdict) → place_at < length row.now →
+        column row.now place_at ≡ number_or_null (landing_place verdict) → place_at < length row.now →
         OnErr result ⊥ }
 {
     let place = number_if_any_in(row, place_at)?;

@@ -3,7 +3,7 @@ ghost use Rattle.std.specs.Prelude.{◌≡◌, ◌<◌, ◌^◌, pos, IfSome};
 ghost use Rattle.sqlite.specs.Value.{owned};
 ghost use Rattle.sqlite.specs.declared.types.Value.TheVariants.{Int, Text, Blob};
 ghost use Rattle.gate_schema.specs.Rows.{bit, number_or_null};
-ghost use Rattle.gate_schema.specs.Words.{verdict_place};
+ghost use Rattle.gate_types.specs.History.{landing_place};
 
 use gate_types::numbers::{BuildNo, ChangeNo, Revision, Serial};
 use gate_types::records::Verdict;
@@ -42,7 +42,7 @@ pub(crate) fn number_if_any<'a>(n: Option<u64>) -> Option<ValueRef<'a>>
 
 /// The place of the landing, where it landed; None where a column can't hold that.
 pub(crate) fn landing_place<'a>(verdict: Verdict) -> Option<ValueRef<'a>>
-    ensures { IfSome result (λ v. owned v ≡ number_or_null (verdict_place verdict)) }
+    ensures { IfSome result (λ v. owned v ≡ number_or_null (landing_place verdict)) }
 {
     match verdict {
         Verdict::Landed(n) if n < 9_223_372_036_854_775_808 => Some(ValueRef::Int(n as i64)),

@@ -1,6 +1,8 @@
 //! The words of the tables.
 ghost use Rattle.std.specs.Prelude.{◌≡◌};
-ghost use Rattle.gate_schema.specs.Words.{counter_word, outcome_word, stage_word, verdict_word};
+ghost use Rattle.gate_schema.specs.Words.{counter_word, stage_word};
+ghost use Rattle.gate_types.specs.History.{verdict_word};
+ghost use Rattle.gate_types.specs.BuildText.{outcome_word};
 
 use gate_types::edits::Counter;
 use gate_types::records::{Outcome, Stage, Verdict};

@@ -22,7 +22,9 @@ use Rattle.gate_types.specs.declared.rows.ChangeRow.{ChangeRow}
 use Rattle.gate_types.specs.declared.rows.LandingRow.{LandingRow}
 use Rattle.gate_types.specs.declared.rows.ReportRow.{ReportRow}
 use Rattle.gate_schema.specs.Schema.{gate_schema}
-use Rattle.gate_schema.specs.Words.{stage_word, outcome_word, verdict_word, verdict_place, ahead_text}
+use Rattle.gate_schema.specs.Words.{stage_word, ahead_text}
+use Rattle.gate_types.specs.History.{verdict_word, landing_place}
+use Rattle.gate_types.specs.BuildText.{outcome_word}
 
 -- ---- the rows, where a record of the gate isn't one
 
@@ -146,7 +148,7 @@ abbrev pub report_columns : QueueReport → Row
 report_columns r =
     Words r.queue ∷ Int (pos r.row.place) ∷ Int (pos r.row.report.serial) ∷ Int (pos r.row.report.change) ∷
     Int (pos r.row.report.revision) ∷ Words (verdict_word r.row.report.verdict) ∷
-    number_or_null (verdict_place r.row.report.verdict) ∷ []
+    number_or_null (landing_place r.row.report.verdict) ∷ []
 
 abbrev pub kept_columns : Kept → Row
 kept_columns k = Octets k.id.0 ∷ Words k.said ∷ Words k.reply ∷ []

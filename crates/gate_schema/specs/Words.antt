@@ -1,43 +1,17 @@
--- The words of the tables, and the text of what is ahead of a build.
-use Rattle.std.specs.Prelude.{ℕ, List, [], ◌∷◌, ◌++◌, codes, Option, Some, None, Bool, true, false, if◌then◌else◌}
+-- The words that only the tables have, and the text of what is ahead of a build.
+use Rattle.std.specs.Prelude.{ℕ, List, [], ◌∷◌, ◌++◌, codes, Bool, true, false, if◌then◌else◌}
 use Rattle.std.specs.Fmt.{decimal}
 use Rattle.gate_types.specs.declared.edits.Counter.{Counter}
 use Rattle.gate_types.specs.declared.edits.Counter.TheVariants as counter
 use Rattle.gate_types.specs.declared.records.Entry.{Entry}
 use Rattle.gate_types.specs.declared.records.Stage.{Stage}
 use Rattle.gate_types.specs.declared.records.Stage.TheVariants as stage
-use Rattle.gate_types.specs.declared.records.Verdict.{Verdict}
-use Rattle.gate_types.specs.declared.records.Verdict.TheVariants as verdict
-use Rattle.gate_types.specs.declared.records.Outcome.{Outcome}
-use Rattle.gate_types.specs.declared.records.Outcome.TheVariants as outcome
 
 -- what has become of a change
 abbrev pub stage_word : Stage → List ℕ
 stage_word stage.Open = codes "open"
 stage_word stage.Landed = codes "landed"
 stage_word stage.Closed = codes "closed"
-
--- how far a build has come
-abbrev pub outcome_word : Outcome → List ℕ
-outcome_word outcome.Running = codes "running"
-outcome_word outcome.Success = codes "success"
-outcome_word outcome.Failure = codes "failure"
-outcome_word outcome.Lost = codes "lost"
-
--- why an item left its queue
-abbrev pub verdict_word : Verdict → List ℕ
-verdict_word (verdict.Landed n) = codes "landed"
-verdict_word verdict.Failed = codes "failed"
-verdict_word verdict.Refused = codes "refused"
-verdict_word verdict.Needs = codes "needs"
-verdict_word verdict.Superseded = codes "superseded"
-verdict_word verdict.Withdrawn = codes "withdrawn"
-verdict_word verdict.Closed = codes "closed"
-
--- the landing's place, where it landed
-abbrev pub verdict_place : Verdict → Option ℕ
-verdict_place (verdict.Landed n) = Some n
-verdict_place _ = None
 
 -- the name of a counter
 abbrev pub counter_word : Counter → List ℕ

@@ -7,7 +7,7 @@ use Rattle.std.proofs.lemmas.List.Concat.{flat_map-cons}
 use Rattle.gate_types.specs.declared.config.Queue.{Queue as QueueSetting}
 use Rattle.gate_types.specs.Settings.{Settings}
 use Rattle.gate_types.specs.State.{State}
-use Rattle.gate_types.specs.Status.{queue_rows}
+use Rattle.gate_types.specs.Status.{status_rows}
 use Rattle.gate_types.specs.Lawful.{IsSound}
 use Rattle.gate_reads.proofs.Queues.{IsThere}
 
@@ -36,11 +36,11 @@ no_queue_left c s k rs h e l =
 -- one queue more
 pub queue_more : {c : Settings} {s : State} {k : ℕ} {name : List ℕ} → (there : IsThere c s k name) →
     (text rows new : List ℕ) →
-    text ++ flat_map (queue_rows c s) (drop k s.queues) ≡ flat_map (queue_rows c s) s.queues →
-    rows ≡ queue_rows c s there.queue → new ≡ text ++ rows →
-    new ++ flat_map (queue_rows c s) (drop (k + 1) s.queues) ≡ flat_map (queue_rows c s) s.queues
+    text ++ flat_map (status_rows c s) (drop k s.queues) ≡ flat_map (status_rows c s) s.queues →
+    rows ≡ status_rows c s there.queue → new ≡ text ++ rows →
+    new ++ flat_map (status_rows c s) (drop (k + 1) s.queues) ≡ flat_map (status_rows c s) s.queues
 queue_more {c} {s} {k} there text rows new h r e =
     let step : k + 1 ≡ suc k = omega arith in
-    ap (λ n. new ++ flat_map (queue_rows c s) (drop n s.queues)) step
-    ∙ one_more (queue_rows c s) there.queue (drop (suc k) s.queues) text rows new (flat_map (queue_rows c s) s.queues)
-    (ap (λ qs. text ++ flat_map (queue_rows c s) qs) (sym there.here) ∙ h) r e
+    ap (λ n. new ++ flat_map (status_rows c s) (drop n s.queues)) step
+    ∙ one_more (status_rows c s) there.queue (drop (suc k) s.queues) text rows new (flat_map (status_rows c s) s.queues)
+    (ap (λ qs. text ++ flat_map (status_rows c s) qs) (sym there.here) ∙ h) r e

@@ -3,7 +3,7 @@ ghost use Rattle.std.specs.Prelude.{◌≡◌, ◌&&◌, not, ℕ, List, Some, I
 ghost use Rattle.gate_types.specs.State.{Queue};
 ghost use Rattle.gate_types.specs.Line.{Place};
 ghost use Rattle.gate_types.specs.Standing.{places};
-ghost use Rattle.gate_types.specs.Status.{item_row, queue_rows, waiting_row, status_text};
+ghost use Rattle.gate_types.specs.Status.{item_row, status_rows, waiting_row, status_text};
 ghost use Rattle.gate_book.specs.Faults.{MayAnswer};
 ghost use Rattle.gate_book.specs.Kept.{OfHeld, OfHeldUnder, IsKept};
 ghost use Rattle.gate_book.specs.Reads.{queue_named};
@@ -89,7 +89,7 @@ fn queue_text<B: Book>(
 ) -> Result<String, BookFault>
     ensures found { OfHeldUnder B.IsTrusted B.Holds book.old book.new config.now (λ x. (q : Queue) →
         queue_named x.state queue.now ≡ Some q →
-        IfOk result (λ text. string_bytes text ≡ queue_rows config.now x.state q)) }
+        IfOk result (λ text. string_bytes text ≡ status_rows config.now x.state q)) }
     ensures kept { IsKept B.IsTrusted B.Holds B.LeavesOneOf book.old book.new }
     ensures fault { IfErr result (MayAnswer B.MayFault) }
 {
@@ -106,7 +106,7 @@ fn queue_text<B: Book>(
 /// The queues, in the order of the settings.
 fn queues_text<B: Book>(alloc: Global, book: &mut B, config: &Config) -> Result<String, BookFault>
     ensures found { OfHeldUnder B.IsTrusted B.Holds book.old book.new config.now (λ x. IfOk result (λ text.
-        string_bytes text ≡ flat_map (queue_rows config.now x.state) x.state.queues)) }
+        string_bytes text ≡ flat_map (status_rows config.now x.state) x.state.queues)) }
     ensures kept { IsKept B.IsTrusted B.Holds B.LeavesOneOf book.old book.new }
     ensures fault { IfErr result (MayAnswer B.MayFault) }
 {

@@ -23,12 +23,12 @@ is_one_on landings on (b ∷ []) = same_entries (ran_on landings b) on
 is_one_on landings on _ = false
 
 -- each voting job of a landing's plan has passed just once, on the first n landings
-abbrev pub is_shown : Settings → State → Queue → ℕ → Landing → Bool
-is_shown c s q n l =
+abbrev pub has_evidence : Settings → State → Queue → ℕ → Landing → Bool
+has_evidence c s q n l =
     list_all (λ j. not j.voting ||
     is_one_on q.landings (map landed_entry (take n q.landings)) (passed_builds s.builds l.serial j))
     (plan_of s l.serial).jobs
 
 -- the landing at a place, from 0, is shown: its builds ran on the landings before it, then itself
 abbrev pub IsShown : Settings → State → Queue → ℕ → Type 0
-IsShown c s q k = IsTrue (option_map_or (is_shown c s q (k + 1)) (slice_get q.landings k) true)
+IsShown c s q k = IsTrue (option_map_or (has_evidence c s q (k + 1)) (slice_get q.landings k) true)

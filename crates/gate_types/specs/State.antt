@@ -6,6 +6,7 @@ use Rattle.gate_types.specs.Settings.{Settings}
 use Rattle.gate_types.specs.declared.config.Project.{Project}
 use Rattle.gate_types.specs.declared.records.Change.{Change}
 use Rattle.gate_types.specs.declared.records.Landing.{Landing}
+use Rattle.gate_types.specs.declared.records.Need.{Need}
 use Rattle.gate_types.specs.declared.records.Plan.{Plan}
 use Rattle.gate_types.specs.declared.records.Ready.{Ready}
 use Rattle.gate_types.specs.declared.records.Build.{Build}
@@ -76,6 +77,10 @@ abbrev pub change_of : State → ℕ → Change
 change_of s n =
     unwrap_or (known_change s n) (record { number = n; project = []; revision = 0; stage = stage.Closed; needs = [] })
 
+-- a change that is known, or a closed one of no project
+abbrev pub known_or_closed : Option Change → Change
+known_or_closed k = unwrap_or k (record { number = 0; project = []; revision = 0; stage = stage.Closed; needs = [] })
+
 -- whether a change is open
 abbrev pub is_open : Change → Bool
 is_open k = elim k.stage [ stage.Open ↦ true | stage.Landed ↦ false | stage.Closed ↦ false ]
@@ -83,6 +88,10 @@ is_open k = elim k.stage [ stage.Open ↦ true | stage.Landed ↦ false | stage.
 -- whether a change has landed
 abbrev pub is_landed : Change → Bool
 is_landed k = elim k.stage [ stage.Landed ↦ true | stage.Open ↦ false | stage.Closed ↦ false ]
+
+-- a need, with whether it has landed
+abbrev pub need_of : State → ℕ → Need
+need_of s n = record { change = n; landed = is_landed (change_of s n) }
 
 -- the project of a change, and one without jobs where there is none
 abbrev pub project_of : Settings → State → ℕ → Project

@@ -41,8 +41,8 @@ queue_row q =
     row (codes "queue" ∷ q.name ∷ codes "window" ∷ decimal q.window ∷ codes "landed" ∷ decimal (length q.landings) ∷ [])
 
 -- a queue and its items
-abbrev pub queue_rows : Settings → State → Queue → List ℕ
-queue_rows c s q = queue_row q ++ flat_map (item_row s.builds) (places c s q)
+abbrev pub status_rows : Settings → State → Queue → List ℕ
+status_rows c s q = queue_row q ++ flat_map (item_row s.builds) (places c s q)
 
 -- the line of a ready change
 abbrev pub waiting_row : State → Ready → List ℕ
@@ -50,4 +50,4 @@ waiting_row s r = row (codes "waiting" ∷ decimal r.change ∷ decimal (change_
 
 -- the text
 abbrev pub status_text : Settings → State → List ℕ
-status_text c s = flat_map (queue_rows c s) s.queues ++ (flat_map (waiting_row s) s.ready ++ row (codes "end" ∷ []))
+status_text c s = flat_map (status_rows c s) s.queues ++ (flat_map (waiting_row s) s.ready ++ row (codes "end" ∷ []))

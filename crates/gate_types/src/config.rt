@@ -162,6 +162,19 @@ impl Model for Config {
 }
 
 impl Config {
+    ghost use Rattle.std.specs.Prelude.{◌≡◌, find, option_copied, IfOk};
+    ghost use Rattle.gate_types.specs.Names.{same_name};
+
+    /// The project of a name.
+    pub fn project(&self, name: &str) -> Option<&Project>
+        ensures { option_copied result ≡ find (λ p. same_name p.name name.now) self.now.projects }
+    {
+        self.projects
+            .as_slice()
+            .iter()
+            .find(|project| project.name.as_str() == name)
+    }
+
     pub fn copy(&self) -> Result<Config, NoMemory>
         ensures { IfOk result (λ config. config ≡ self.now) }
     {

@@ -66,6 +66,23 @@ pub struct Change {
 
 impl Change {
     ghost use Rattle.std.specs.Prelude.{◌≡◌, IfOk};
+    ghost use Rattle.gate_types.specs.State.{is_landed, known_or_closed};
+
+    pub fn is_landed(&self) -> bool
+        ensures { result ≡ is_landed self.now }
+    {
+        matches!(self.stage, Stage::Landed)
+    }
+
+    /// Whether it is known that a change has landed.
+    pub fn has_landed(known: &Option<Change>) -> bool
+        ensures { result ≡ is_landed (known_or_closed known.now) }
+    {
+        match known {
+            Some(change) => change.is_landed(),
+            None => false,
+        }
+    }
 
     pub fn copy(&self) -> Result<Change, NoMemory>
         ensures { IfOk result (λ change. change ≡ self.now) }

@@ -8,6 +8,7 @@ ghost use Rattle.gate_types.specs.SettingsText.{job_text, project_text, pace_wor
 use crate::config::{Config, Job, Pace, Project, Queue};
 use crate::json_text::quote;
 use crate::names::NoMemory;
+use crate::words::truth_word;
 use std::alloc::Global;
 
 impl Config {
@@ -23,12 +24,6 @@ impl Config {
         let queues = queue_texts(alloc, self.queues.as_slice())?;
         format!(in alloc; "{{\"base\":{base},\"projects\":[{projects}],\"queues\":[{queues}]}}")
     }
-}
-
-fn truth_word(truth: bool) -> &'static str
-    ensures { result.now ≡ (if truth then codes "true" else codes "false") }
-{
-    if truth { "true" } else { "false" }
 }
 
 fn job_text(alloc: Global, job: &Job) -> Result<String, NoMemory>

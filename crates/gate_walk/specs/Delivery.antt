@@ -124,7 +124,7 @@ pub record IsWalked (c : Settings) (s : State) (d : Delivery) (t : State) (q : Q
 
 -- ---- the laws
 
--- the reply says that nothing changed
+-- what was said had been overtaken, and nothing changes
 abbrev pub is_stale : Reply → Bool
 is_stale reply.Stale = true
 is_stale _ = false
