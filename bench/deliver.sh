@@ -7,7 +7,7 @@ set -eu
 if [ $# -eq 0 ]; then
     set -- 1000:10 10000:10
 fi
-scratch "$top/bench/deliver/noted" gate_types gate_laws gate_config gate_queue gate_walk gate_wire gate_book gate_raw \
+scratch "$top/bench/deliver/noted" gate_types gate_laws gate_config gate_queue gate_walk gate_wire gate_book gate_unsettled \
     gate_reads gate_settling gate_admission gate_ruling gate_deliver gate_texts gate_core
 run_timed
 noted=$work/crates/timed/out/timed

@@ -9,7 +9,7 @@ set -eu
 . "$(dirname "$0")/scratch.sh"
 LIBRARIES=sqlite
 scratch "$top/bench/refused" gate_types gate_laws gate_config gate_settings gate_queue gate_walk gate_wire gate_book \
-    gate_raw gate_reads gate_settling gate_admission gate_ruling gate_deliver gate_texts gate_core gate_schema \
+    gate_unsettled gate_reads gate_settling gate_admission gate_ruling gate_deliver gate_texts gate_core gate_schema \
     gate_rows gate_queries gate_sql gate_http
 cp "$top/crates/worked_examples/src/stored/first_schema.rt" "$work/crates/timed/src"
 cp "$top/HANDLES" "$work"

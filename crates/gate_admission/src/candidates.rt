@@ -13,8 +13,7 @@ ghost use Rattle.gate_admission.specs.Candidates.{AreCandidates, AreOthers, Ente
 
 use crate::ready::{ready_list, ready_put};
 use crate::room::make_room;
-use gate_book::book::Book;
-use gate_book::fault::BookFault;
+use gate_book::{Book, BookFault};
 use gate_types::edits::Edit;
 use gate_types::names::NoMemory;
 use gate_types::numbers::ChangeNo;

@@ -14,10 +14,9 @@ ghost use Rattle.gate_admission.specs.Known.{IsQueue, has_place};
 ghost use Rattle.gate_admission.specs.Enters.{is_met_by_rows, ahead_after, ahead_behind, entering_row, entering_edits};
 
 use crate::items::{item_in, last_item};
-use crate::known::{known, needs_of, project_of};
+use crate::known_changes::{known, needs_of, project_of};
 use crate::room::has_room;
-use gate_book::book::Book;
-use gate_book::fault::BookFault;
+use gate_book::{Book, BookFault};
 use gate_types::config::Config;
 use gate_types::edits::{Counter, Edit};
 use gate_types::names::{Name, NoMemory};

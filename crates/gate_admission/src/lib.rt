@@ -7,12 +7,16 @@
 //! ```
 #![tactic(auto)]
 
-pub mod admitting;
+mod admit;
 mod candidates;
 mod counted;
 mod entering;
-pub mod items;
-pub mod known;
+mod items;
+mod known_changes;
 mod passing;
 mod ready;
 mod room;
+
+pub use admit::admitting;
+pub use items::item_in;
+pub use known_changes::{known, project_of};

@@ -9,8 +9,7 @@ ghost use Rattle.gate_admission.specs.Led.{OfLedUnder};
 ghost use Rattle.gate_admission.specs.Candidates.{if_so, IsAmong, AreCandidates, EntersFirst};
 
 use crate::entering::may_enter;
-use gate_book::book::Book;
-use gate_book::fault::BookFault;
+use gate_book::{Book, BookFault};
 use gate_types::config::Config;
 use gate_types::edits::Edit;
 use gate_types::numbers::ChangeNo;

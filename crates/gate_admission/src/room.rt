@@ -12,9 +12,8 @@ ghost use Rattle.gate_admission.specs.Known.{IsQueue, has_room};
 ghost use Rattle.gate_admission.specs.Candidates as candidate;
 
 use crate::items::item_at;
-use crate::known::same_name;
-use gate_book::book::Book;
-use gate_book::fault::BookFault;
+use crate::known_changes::same_name;
+use gate_book::{Book, BookFault};
 use gate_types::edits::Edit;
 use gate_types::names::Name;
 use gate_types::numbers::Serial;

@@ -8,20 +8,27 @@
 #![tactic(auto)]
 
 mod adopting;
-pub mod book;
+mod book;
 mod builds;
 mod changes;
 mod collecting;
-pub mod fault;
-pub mod history;
-pub mod memory;
+mod fault;
+mod history;
+mod memory;
 mod needs;
 mod pairs;
-pub mod planned;
+mod planned;
 mod plans;
 mod queues;
 mod replies;
-pub mod rows;
+mod rows;
 mod sorted;
 mod tables;
 mod writing;
+
+pub use book::Book;
+pub use fault::{BookFault, HistoryFault};
+pub use history::{history_end, history_head, report_line};
+pub use memory::MemBook;
+pub use planned::plan_of;
+pub use rows::QueuedItem;

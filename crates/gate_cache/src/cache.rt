@@ -6,7 +6,7 @@ ghost use Rattle.gate_types.specs.State.{known_change};
 ghost use Rattle.gate_book.specs.Reads as read;
 ghost use Rattle.gate_cache.specs.Cached.{Agrees};
 
-use gate_book::rows::QueuedItem;
+use gate_book::QueuedItem;
 use gate_types::names::{Name, NoMemory};
 use gate_types::numbers::{ChangeNo, Serial};
 use gate_types::records::{Build, Change, Counters, Plan, Ready};

@@ -8,4 +8,6 @@
 #![tactic(auto)]
 
 mod cache;
-pub mod cached;
+mod cached;
+
+pub use cached::CachedBook;

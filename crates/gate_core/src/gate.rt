@@ -11,13 +11,10 @@ ghost use Rattle.gate_book.specs.Writes.{WritesHistory, Stops};
 ghost use Rattle.gate_deliver.specs.Answered.{Answered, call};
 ghost use Rattle.gate_core.specs.Landing.{LandsRightly};
 
-use gate_book::book::Book;
-use gate_book::fault::HistoryFault;
-use gate_deliver::delivering::deliver;
+use gate_book::{Book, HistoryFault};
+use gate_deliver::deliver;
 use gate_laws::orders;
-use gate_texts::build::build_text;
-use gate_texts::orders::order_list;
-use gate_texts::status::status;
+use gate_texts::{build_text, order_list, status};
 use gate_types::config::Config;
 use gate_types::deliveries::{Answer, Delivery, Refusal};
 use gate_types::numbers::BuildNo;

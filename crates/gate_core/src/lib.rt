@@ -8,8 +8,12 @@
 #![tactic(auto)]
 
 mod engine;
-pub mod fault;
-pub mod gate;
+mod fault;
+mod gate;
 mod line;
-pub mod replay;
+mod replaying;
 mod respond;
+
+pub use fault::IoFault;
+pub use gate::Gate;
+pub use replaying::replay;

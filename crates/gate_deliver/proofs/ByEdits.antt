@@ -42,7 +42,7 @@ use Rattle.gate_laws.proofs.EachAccepted.{on_accepted, each_revision, each_appro
 use Rattle.gate_laws.proofs.IdleSweep.{judged_items}
 use Rattle.gate_laws.proofs.Told.{report_on}
 use Rattle.gate_laws.proofs.Members.{In, every, from_map, any_from, any_to, none_from, from_filter, map_map, contains_in}
-use Rattle.gate_raw.specs.Moves.{in_state, swept}
+use Rattle.gate_unsettled.specs.Moves.{in_state, swept}
 use Rattle.gate_book.specs.Reads.{queue_named}
 use Rattle.gate_admission.specs.Led.{IsLed}
 use Rattle.gate_admission.specs.Seen.{change_put, last_put}

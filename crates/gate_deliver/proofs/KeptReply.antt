@@ -12,7 +12,7 @@ use Rattle.gate_types.specs.Settings.{Settings}
 use Rattle.gate_types.specs.State.{State}
 use Rattle.gate_types.specs.Once.{Content}
 use Rattle.gate_types.specs.Tables.{Tables, tables, edited_tables, Leads}
-use Rattle.gate_raw.specs.Moves.{in_state}
+use Rattle.gate_unsettled.specs.Moves.{in_state}
 use Rattle.gate_deliver.specs.Ruled.{kept_on}
 
 -- a reply that is kept leaves the other tables

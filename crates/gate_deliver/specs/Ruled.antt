@@ -12,7 +12,7 @@ use Rattle.gate_types.specs.State.{State}
 use Rattle.gate_types.specs.Step.{step, accepted, refused}
 use Rattle.gate_types.specs.Once.{Content, is_unavailable}
 use Rattle.gate_types.specs.Tables.{Leads}
-use Rattle.gate_raw.specs.Moves.{in_state}
+use Rattle.gate_unsettled.specs.Moves.{in_state}
 use Rattle.gate_deliver.specs.declared.ruled.Ruled.{Ruled}
 use Rattle.gate_deliver.specs.declared.ruled.Ruled.TheVariants as ruled
 

@@ -7,11 +7,10 @@ ghost use Rattle.gate_types.specs.Forms.{IsLawfulContent};
 ghost use Rattle.gate_types.specs.Tables.{Leads};
 ghost use Rattle.gate_book.specs.Faults.{MayAnswer};
 ghost use Rattle.gate_book.specs.Kept.{OfHeld};
-ghost use Rattle.gate_raw.specs.Moves.{in_state};
+ghost use Rattle.gate_unsettled.specs.Moves.{in_state};
 ghost use Rattle.gate_deliver.specs.Ruled.{kept_on, IsAccepted, IsSpared};
 
-use gate_book::book::Book;
-use gate_book::fault::BookFault;
+use gate_book::{Book, BookFault};
 use gate_types::deliveries::{Answer, Reply};
 use gate_types::edits::Edit;
 use gate_types::names::{NoMemory, Text};

@@ -9,11 +9,10 @@ ghost use Rattle.gate_types.specs.Tables.{Leads};
 ghost use Rattle.gate_types.specs.declared.deliveries.Delivery.{Delivery as DeliveryOf};
 ghost use Rattle.gate_book.specs.Faults.{MayAnswer};
 ghost use Rattle.gate_book.specs.Kept.{OfHeldUnder, IsKept};
-ghost use Rattle.gate_raw.specs.Moves.{in_state, swept};
+ghost use Rattle.gate_unsettled.specs.Moves.{in_state, swept};
 
-use gate_admission::admitting::admitting;
-use gate_book::book::Book;
-use gate_book::fault::BookFault;
+use gate_admission::admitting;
+use gate_book::{Book, BookFault};
 use gate_laws::rest;
 use gate_types::config::Config;
 use gate_types::edits::Edit;

@@ -10,8 +10,7 @@ ghost use Rattle.gate_deliver.specs.Answered.{Answered, call};
 
 use crate::accepting::accept;
 use crate::ruled::{Ruled, rule};
-use gate_book::book::Book;
-use gate_book::fault::BookFault;
+use gate_book::{Book, BookFault};
 use gate_laws::{forms, typed};
 use gate_types::canonical::canonical;
 use gate_types::config::Config;

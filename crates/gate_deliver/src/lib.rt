@@ -9,7 +9,9 @@
 
 mod accepting;
 mod admitted;
-pub mod delivering;
+mod delivering;
 mod ruled;
 mod speaking;
 mod thinned;
+
+pub use delivering::deliver;

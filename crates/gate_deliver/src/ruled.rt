@@ -3,23 +3,22 @@ ghost use Rattle.std.specs.Prelude.{◌≡◌, ◌++◌, IfOk, IfErr};
 ghost use Rattle.gate_types.specs.declared.deliveries.Delivery.{Delivery as DeliveryOf};
 ghost use Rattle.gate_book.specs.Faults.{MayAnswer};
 ghost use Rattle.gate_book.specs.Kept.{OfHeldUnder, IsKept};
-ghost use Rattle.gate_raw.specs.Raw.{IsMoved};
+ghost use Rattle.gate_unsettled.specs.Raw.{IsMoved};
 ghost use Rattle.gate_ruling.specs.Faults.{MayRule};
 ghost use Rattle.gate_deliver.specs.Ruled.{IsRuled};
 
 use crate::admitted::admitted;
 use crate::speaking::speak;
 use crate::thinned::thinned;
-use gate_book::book::Book;
-use gate_book::fault::BookFault;
+use gate_book::{Book, BookFault};
 use gate_laws::{runs, settling as settling_laws};
-use gate_raw::raw::{Moved, Raw};
-use gate_ruling::raw::raw;
-use gate_settling::settling::settling;
+use gate_ruling::raw;
+use gate_settling::settling;
 use gate_types::config::Config;
 use gate_types::deliveries::{Delivery, Refusal, Reply};
 use gate_types::edits::Edit;
 use gate_types::names::NoMemory;
+use gate_unsettled::{Moved, Raw};
 use std::alloc::Global;
 
 /// A delivery is refused; or it is accepted, with its reply, and these edits lead to its state.

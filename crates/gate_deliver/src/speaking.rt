@@ -6,18 +6,16 @@ ghost use Rattle.gate_types.specs.Lawful.{IsSound};
 ghost use Rattle.gate_types.specs.Tables.{Leads};
 ghost use Rattle.gate_book.specs.Faults.{MayAnswer};
 ghost use Rattle.gate_book.specs.Kept.{OfHeldUnder, IsKept};
-ghost use Rattle.gate_raw.specs.Moves.{in_state};
-ghost use Rattle.gate_raw.specs.Raw.{reply_by};
+ghost use Rattle.gate_unsettled.specs.Moves.{in_state};
+ghost use Rattle.gate_unsettled.specs.Raw.{reply_by};
 
-use gate_admission::items::item_in;
-use gate_admission::known::{known, project_of};
-use gate_book::book::Book;
-use gate_book::fault::BookFault;
-use gate_raw::raw::Said;
+use gate_admission::{item_in, known, project_of};
+use gate_book::{Book, BookFault};
 use gate_types::config::Config;
 use gate_types::deliveries::Reply;
 use gate_types::edits::Edit;
 use gate_types::numbers::ChangeNo;
+use gate_unsettled::Said;
 
 /// The reply to an approval: the place of the change once the edits are applied.
 fn place_of<B: Book>(

@@ -10,11 +10,10 @@ ghost use Rattle.gate_http.specs.Exchange.{IsRead};
 ghost use Rattle.gate_http.specs.Serving.{ServesBy};
 ghost use Rattle.gate_http.specs.Connections.{IsCalled, fault_line, AreTold};
 
-use crate::serve::serve_one;
 use crate::served::Served;
-use gate_book::book::Book;
-use gate_core::fault::IoFault;
-use gate_core::gate::Gate;
+use crate::serving::serve_one;
+use gate_book::Book;
+use gate_core::{Gate, IoFault};
 use gate_types::tap::{Failed, Tap};
 use std::alloc::Global;
 use std::io::{BufReader, BufWriter, Read, Write};

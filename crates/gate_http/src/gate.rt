@@ -4,9 +4,8 @@ ghost use Rattle.gate_http.specs.Answer.{build_number};
 
 use crate::digits::number_of;
 use crate::respond::{Page, Respond};
-use gate_book::book::Book;
-use gate_book::fault::HistoryFault;
-use gate_core::gate::Gate;
+use gate_book::{Book, HistoryFault};
+use gate_core::Gate;
 use gate_types::deliveries::{Answer, Refusal};
 use gate_types::names::Text;
 use gate_types::numbers::BuildNo;

@@ -8,17 +8,23 @@
 #![tactic(auto)]
 
 mod body;
-pub mod connections;
+mod connections;
 mod digits;
-pub mod engine;
+mod engine;
 mod fault;
 mod fields;
 mod gate;
 mod head;
 pub mod laws;
 mod request;
-pub mod respond;
+mod respond;
 mod response;
 mod routes;
-pub mod serve;
-pub mod served;
+mod served;
+mod serving;
+
+pub use connections::{NotListening, serve};
+pub use engine::answer_request;
+pub use respond::{Page, Respond};
+pub use served::Served;
+pub use serving::serve_one;

@@ -8,7 +8,7 @@ ghost use Rattle.gate_http.specs.Asked.{Asked, delivery, page, build, answer_sta
 ghost use Rattle.gate_http.specs.Exchange.{HasText};
 ghost use Rattle.gate_http.specs.Fields.{body_limit};
 
-use gate_book::fault::HistoryFault;
+use gate_book::HistoryFault;
 use gate_types::deliveries::Answer;
 use gate_types::tap::Tap;
 use gate_wire::Door;

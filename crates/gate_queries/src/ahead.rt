@@ -8,7 +8,7 @@ ghost use Rattle.gate_types.specs.Forms.{is_entry_in_form};
 ghost use Rattle.gate_schema.specs.Words.{ahead_text};
 ghost use Rattle.gate_queries.specs.Ahead.{digit_of, ended, go, grown, step, step_in_change, step_in_revision};
 
-use gate_book::fault::BookFault;
+use gate_book::BookFault;
 use gate_rows::write_ahead;
 use gate_types::numbers::{ChangeNo, Revision};
 use gate_types::records::Entry;

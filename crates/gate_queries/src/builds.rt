@@ -14,7 +14,7 @@ use crate::columns::{build_in, change_in, flag_in, name_in, number_in, revision_
 use crate::item_reads::capped;
 use crate::read::read_rows;
 use crate::words::outcome_in;
-use gate_book::fault::BookFault;
+use gate_book::BookFault;
 use gate_rows::values;
 use gate_types::names::Name;
 use gate_types::numbers::{BuildNo, Serial};

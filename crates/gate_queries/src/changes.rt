@@ -14,7 +14,7 @@ ghost use Rattle.gate_queries.specs.Shown.{approval_shown, change_shown, number_
 use crate::columns::{change_in, number_if_any_in, path_name_in, revision_in};
 use crate::read::read_rows;
 use crate::words::stage_in;
-use gate_book::fault::BookFault;
+use gate_book::BookFault;
 use gate_rows::values;
 use gate_types::numbers::ChangeNo;
 use gate_types::records::Change;

@@ -7,7 +7,7 @@ ghost use Rattle.gate_types.specs.Names.{is_name, is_path_name};
 ghost use Rattle.gate_schema.specs.Rows.{bit, number_or_null};
 ghost use Rattle.std.specs.Option.{option_map_or};
 
-use gate_book::fault::BookFault;
+use gate_book::BookFault;
 use gate_types::names::{Name, PathName};
 use gate_types::numbers::{BuildNo, ChangeNo, Revision, Serial};
 use sqlite::types::ValueRef;

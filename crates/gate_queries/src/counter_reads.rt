@@ -11,7 +11,7 @@ ghost use Rattle.gate_queries.specs.Reads.{IsOnlyRead, Opened, Tells};
 
 use crate::columns::number_in;
 use crate::read::read_rows;
-use gate_book::fault::BookFault;
+use gate_book::BookFault;
 use gate_types::records::Counters;
 use sqlite::types::ValueRef;
 use sqlite::{Alter, Connection, Row};

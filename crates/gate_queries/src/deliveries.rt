@@ -11,7 +11,7 @@ ghost use Rattle.gate_queries.specs.Shown.{kept_shown};
 
 use crate::columns::text_in;
 use crate::read::read_rows;
-use gate_book::fault::BookFault;
+use gate_book::BookFault;
 use gate_rows::values;
 use gate_types::names::Text;
 use gate_types::records::{Id, Kept};

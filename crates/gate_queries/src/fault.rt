@@ -1,7 +1,7 @@
 //! Why a statement on the tables failed, as a fault of a book.
 ghost use Rattle.std.specs.Prelude.{◌≢◌};
 
-use gate_book::fault::BookFault;
+use gate_book::BookFault;
 use sqlite::{Error, ErrorCode};
 
 /// Memory where memory was refused, else the store: an error of a statement never blames a row.

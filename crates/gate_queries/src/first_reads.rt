@@ -16,7 +16,7 @@ ghost use Rattle.gate_queries.specs.Reads.{IsOnlyRead};
 use crate::columns::path_name_in;
 use crate::fault::book_fault;
 use crate::read::read_all;
-use gate_book::fault::BookFault;
+use gate_book::BookFault;
 use gate_rows::values;
 use gate_types::names::{Name, PathName};
 use gate_types::numbers::ChangeNo;

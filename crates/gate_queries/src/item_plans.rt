@@ -13,7 +13,7 @@ ghost use Rattle.gate_queries.specs.Whole.{is_planned_in_form};
 use crate::columns::{flag_in, name_in, number_in, serial_in};
 use crate::item_reads::capped;
 use crate::read::read_rows;
-use gate_book::fault::BookFault;
+use gate_book::BookFault;
 use gate_rows::values;
 use gate_types::config::Job;
 use gate_types::names::Name;

@@ -10,8 +10,7 @@ ghost use Rattle.gate_queries.specs.Reads.{IsOnlyRead, Opened, Tells};
 
 use crate::item_rows::{all_items, first_above, first_below, first_item, first_queued};
 use crate::read::read_rows;
-use gate_book::fault::BookFault;
-use gate_book::rows::QueuedItem;
+use gate_book::{BookFault, QueuedItem};
 use gate_rows::values::{change, number, serial, text};
 use gate_types::names::Name;
 use gate_types::numbers::{ChangeNo, Serial};

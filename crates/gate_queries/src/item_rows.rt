@@ -8,8 +8,7 @@ ghost use Rattle.gate_queries.specs.Asked.{queued};
 ghost use Rattle.gate_queries.specs.Whole.{is_item_row_in_form};
 
 use crate::columns::{change_in, flag_in, name_in, revision_in, serial_if_any_in, serial_in};
-use gate_book::fault::BookFault;
-use gate_book::rows::QueuedItem;
+use gate_book::{BookFault, QueuedItem};
 use gate_types::records::Item;
 use gate_types::sequence::Sequence;
 use sqlite::Row;

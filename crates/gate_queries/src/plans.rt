@@ -11,7 +11,7 @@ ghost use Rattle.gate_queries.specs.Shown.{job_shown};
 
 use crate::columns::{flag_in, name_in};
 use crate::read::read_rows;
-use gate_book::fault::BookFault;
+use gate_book::BookFault;
 use gate_rows::values;
 use gate_types::config::Job;
 use gate_types::numbers::Serial;

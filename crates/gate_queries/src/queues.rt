@@ -10,7 +10,7 @@ ghost use Rattle.gate_queries.specs.Shown.{number_shown};
 
 use crate::columns::number_in;
 use crate::read::read_rows;
-use gate_book::fault::BookFault;
+use gate_book::BookFault;
 use gate_rows::values::{serial, text};
 use gate_types::names::Name;
 use gate_types::numbers::Serial;

@@ -10,7 +10,7 @@ ghost use Rattle.gate_queries.specs.Finds.{Finds, OnlyReads, Stays};
 ghost use Rattle.gate_queries.specs.Reads.{IsOnlyRead};
 
 use crate::fault::book_fault;
-use gate_book::fault::BookFault;
+use gate_book::BookFault;
 use sqlite::types::ValueRef;
 use sqlite::{Alter, Connection, Error, Row};
 

@@ -10,7 +10,7 @@ ghost use Rattle.gate_queries.specs.Shown.{ready_shown};
 
 use crate::columns::{change_in, number_in};
 use crate::read::read_rows;
-use gate_book::fault::BookFault;
+use gate_book::BookFault;
 use gate_rows::values::change;
 use gate_types::numbers::ChangeNo;
 use gate_types::records::Ready;

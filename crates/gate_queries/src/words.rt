@@ -8,7 +8,7 @@ ghost use Rattle.gate_types.specs.History.{verdict_word, landing_place};
 ghost use Rattle.gate_types.specs.BuildText.{outcome_word};
 
 use crate::columns::number_if_any_in;
-use gate_book::fault::BookFault;
+use gate_book::BookFault;
 use gate_types::records::{Outcome, Stage, Verdict};
 use sqlite::Row;
 use sqlite::types::ValueRef;

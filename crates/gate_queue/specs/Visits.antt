@@ -6,7 +6,7 @@ use Rattle.gate_types.specs.Standing.{next_ahead}
 use Rattle.gate_types.specs.Window.{bounds_by}
 use Rattle.gate_types.specs.Sweep.{verdict_of, judge, next_staying}
 use Rattle.gate_queue.specs.declared.facts.Facts.{Facts}
-use Rattle.gate_queue.specs.declared.settle.Pass.{Pass}
+use Rattle.gate_queue.specs.declared.settling.Pass.{Pass}
 use Rattle.gate_queue.specs.Edits.{edits_at, next_reports, window_behind}
 
 -- the item of a place is added to each part of the pass

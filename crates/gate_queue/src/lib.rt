@@ -9,15 +9,24 @@
 //! ```
 #![tactic(auto)]
 
-pub mod choose;
+mod choice;
 mod context;
-pub mod edits;
-pub mod facts;
-pub mod judge;
+mod edits;
+mod facts;
+mod judge;
 pub mod laws;
 mod line;
-pub mod outcomes;
-pub mod settle;
+mod outcomes;
+mod settling;
 mod shared;
-pub mod slots;
-pub mod window;
+mod slots;
+mod window;
+
+pub use choice::choose;
+pub use edits::{push_item, push_window};
+pub use facts::{Facts, ItemFacts, ItemJobs, Jobs};
+pub use judge::verdict_of;
+pub use outcomes::{is_failed, is_finished, slot_among, slot_where};
+pub use settling::{reports_behind, settle, window_behind};
+pub use slots::{Marks, same_name};
+pub use window::{grow, shrink};

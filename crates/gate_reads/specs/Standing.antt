@@ -5,8 +5,8 @@ use Rattle.gate_types.specs.State.{State, is_queued, is_ready}
 use Rattle.gate_laws.specs.Touch.{queue_of_change}
 use Rattle.gate_book.specs.declared.rows.QueuedItem.{QueuedItem}
 use Rattle.gate_book.specs.Reads.{items_in}
-use Rattle.gate_reads.specs.declared.standing.Stand.{Stand}
-use Rattle.gate_reads.specs.declared.standing.Stand.TheVariants as stand
+use Rattle.gate_reads.specs.declared.stands.Stand.{Stand}
+use Rattle.gate_reads.specs.declared.stands.Stand.TheVariants as stand
 
 -- the change is that of this row of this queue
 pub record IsQueuedAs (c : Settings) (s : State) (n : ℕ) (k : QueuedItem) : Type 0 where

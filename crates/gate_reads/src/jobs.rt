@@ -4,7 +4,7 @@ ghost use Rattle.std.specs.List.{list_all};
 ghost use Rattle.gate_types.specs.Slot.{is_waiting_slot, is_finished};
 ghost use Rattle.gate_queue.specs.Outcomes.{slot_among};
 
-use gate_queue::outcomes::{is_finished, slot_among};
+use gate_queue::{is_finished, slot_among};
 use gate_types::config::Job;
 use gate_types::names::NoMemory;
 use gate_types::records::{Build, Slot};

@@ -5,8 +5,7 @@ ghost use Rattle.gate_book.specs.Faults.{MayAnswer};
 ghost use Rattle.gate_book.specs.Kept.{OfHeld, IsKept};
 ghost use Rattle.gate_reads.specs.Known as known;
 
-use gate_book::book::Book;
-use gate_book::fault::BookFault;
+use gate_book::{Book, BookFault};
 use gate_types::names::NoMemory;
 use gate_types::numbers::ChangeNo;
 use gate_types::records::{Change, Need, Stage};

@@ -8,11 +8,17 @@
 //! ```
 #![tactic(auto)]
 
-pub mod due;
+mod choosing;
+mod due;
 mod jobs;
-pub mod known;
-pub mod next_build;
-pub mod orders;
+mod known;
+mod orders;
 mod part;
 mod shown;
-pub mod standing;
+mod stands;
+
+pub use choosing::{next_build, push_unless_failing};
+pub use due::are_met_among;
+pub use known::needs_of;
+pub use orders::{is_submitting, order_of_queue, shown_order};
+pub use stands::{Stand, standing};

@@ -6,9 +6,7 @@ ghost use Rattle.gate_book.specs.Kept.{OfHeldUnder, IsKept};
 ghost use Rattle.gate_reads.specs.Orders.{order_in, TellsOrder, TellsShown};
 
 use crate::shown::{have_jobs_ended, is_shown};
-use gate_book::book::Book;
-use gate_book::fault::BookFault;
-use gate_book::rows::QueuedItem;
+use gate_book::{Book, BookFault, QueuedItem};
 use gate_types::config::Config;
 use gate_types::names::Name;
 use gate_types::numbers::{ChangeNo, Serial};

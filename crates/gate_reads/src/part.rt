@@ -9,10 +9,9 @@ ghost use Rattle.gate_book.specs.Kept.{OfHeld, OfHeldUnder, IsKept};
 ghost use Rattle.gate_reads.specs.NextBuild.{with_number};
 ghost use Rattle.gate_reads.specs.Parts.{last_serial, ahead_behind, AreBehind, AreTold, TellsPart};
 
+use crate::choosing::push_unless_failing;
 use crate::due::{ToldItem, build_of_item};
-use crate::next_build::push_unless_failing;
-use gate_book::book::Book;
-use gate_book::fault::BookFault;
+use gate_book::{Book, BookFault};
 use gate_types::config::Config;
 use gate_types::names::Name;
 use gate_types::numbers::{BuildNo, Serial};

@@ -7,9 +7,7 @@ ghost use Rattle.gate_book.specs.Kept.{OfHeldUnder, IsKept};
 ghost use Rattle.gate_reads.specs.Places.{IsAt, is_shown};
 
 use crate::jobs;
-use gate_book::book::Book;
-use gate_book::fault::BookFault;
-use gate_book::planned::plan_of;
+use gate_book::{Book, BookFault, plan_of};
 use gate_types::config::Config;
 use gate_types::records::Item;
 use std::alloc::Global;

@@ -11,8 +11,8 @@ use Rattle.gate_types.specs.Settle.{settle}
 use Rattle.gate_types.specs.Step.{Stepped, raw_approved, accepted, made_ready, approval_reply}
 use Rattle.gate_walk.specs.Delivery.{is_stale}
 use Rattle.gate_reads.specs.Standing.{StandsSo}
-use Rattle.gate_reads.specs.declared.standing.Stand.{Stand}
-use Rattle.gate_reads.specs.declared.standing.Stand.TheVariants as stand
+use Rattle.gate_reads.specs.declared.stands.Stand.{Stand}
+use Rattle.gate_reads.specs.declared.stands.Stand.TheVariants as stand
 use Rattle.gate_ruling.specs.Approving.{is_nowhere}
 use Rattle.gate_ruling.specs.Guards.{GoesOn}
 use Rattle.gate_ruling.proofs.Guarded.{open_goes}

@@ -28,9 +28,9 @@ use Rattle.gate_laws.proofs.Alone.{serial_alone, name_alone, same_name_is}
 use Rattle.gate_types.specs.Names.{same_name}
 use Rattle.gate_laws.proofs.Touches.{name_itself}
 use Rattle.gate_laws.proofs.Places.{item_of_place}
-use Rattle.gate_raw.specs.Moves.{Moves}
-use Rattle.gate_raw.specs.Touches.{Touches}
-use Rattle.gate_raw.specs.declared.touched.Event.TheVariants as event
+use Rattle.gate_unsettled.specs.Moves.{Moves}
+use Rattle.gate_unsettled.specs.Touches.{Touches}
+use Rattle.gate_unsettled.specs.declared.touched.Event.TheVariants as event
 use Rattle.gate_ruling.proofs.Folded.{by_parts}
 
 -- the row of a serial is one of a queue of the state

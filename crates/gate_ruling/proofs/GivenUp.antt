@@ -24,12 +24,12 @@ use Rattle.gate_laws.proofs.Plans.{plans_all_stay}
 use Rattle.gate_laws.proofs.LeaveIsSound.{leaving}
 use Rattle.gate_laws.proofs.LeaveTouches.{left_same}
 use Rattle.gate_walk.specs.Delivery.{is_on}
-use Rattle.gate_raw.specs.Moves.{tables_by, in_state, Moves}
-use Rattle.gate_raw.specs.Touches.{event_of, Touches}
-use Rattle.gate_raw.specs.declared.touched.Event.TheVariants as event
+use Rattle.gate_unsettled.specs.Moves.{tables_by, in_state, Moves}
+use Rattle.gate_unsettled.specs.Touches.{event_of, Touches}
+use Rattle.gate_unsettled.specs.declared.touched.Event.TheVariants as event
 use Rattle.gate_reads.specs.Standing.{StandsSo}
-use Rattle.gate_reads.specs.declared.standing.Stand.{Stand}
-use Rattle.gate_reads.specs.declared.standing.Stand.TheVariants as stand
+use Rattle.gate_reads.specs.declared.stands.Stand.{Stand}
+use Rattle.gate_reads.specs.declared.stands.Stand.TheVariants as stand
 use Rattle.gate_ruling.specs.Leaving.{touched_of}
 
 -- a change in no queue leaves nothing

@@ -27,7 +27,7 @@ use Rattle.gate_laws.proofs.Members.{In, every, map_same, map_map, filter_same, 
 use Rattle.gate_laws.proofs.Rising.{Rising, rising}
 use Rattle.gate_laws.proofs.Alone.{serial_alone, change_alone, name_alone, same_name_is, same_name_of}
 use Rattle.gate_walk.proofs.Leaving.{one_leaves}
-use Rattle.gate_raw.specs.Moves.{Columns, row_by, in_state, Moves}
+use Rattle.gate_unsettled.specs.Moves.{Columns, row_by, in_state, Moves}
 use Rattle.gate_ruling.specs.Leaving.{stop_of, out_of_queue}
 use Rattle.gate_ruling.proofs.Folded.{shown, shown_after, by_parts, leave_it, moves_on}
 use Rattle.gate_ruling.proofs.Few.{few_reports}

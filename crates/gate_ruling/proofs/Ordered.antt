@@ -29,9 +29,9 @@ use Rattle.gate_book.specs.declared.rows.QueuedItem.{QueuedItem}
 use Rattle.gate_laws.proofs.Members.{In, map_same, map_map, from_map, found, filter_all}
 use Rattle.gate_laws.proofs.Alone.{name_alone, same_name_is, same_name_of, queued_unready}
 use Rattle.gate_laws.proofs.OrderFacts.{shows}
-use Rattle.gate_raw.specs.Moves.{Columns, in_state, Moves}
-use Rattle.gate_raw.specs.Touches.{Touches}
-use Rattle.gate_raw.specs.declared.touched.Event.TheVariants as event
+use Rattle.gate_unsettled.specs.Moves.{Columns, in_state, Moves}
+use Rattle.gate_unsettled.specs.Touches.{Touches}
+use Rattle.gate_unsettled.specs.declared.touched.Event.TheVariants as event
 use Rattle.gate_queue.specs.Edits.{window_edits}
 use Rattle.gate_ruling.specs.Guards.{HasOrder}
 use Rattle.gate_ruling.specs.Landing.{landing_of, landing_edits}

@@ -1,7 +1,7 @@
 -- For the inside alone: where a change may be approved.
 use Rattle.std.specs.Prelude.{Bool, true, false}
-use Rattle.gate_reads.specs.declared.standing.Stand.{Stand}
-use Rattle.gate_reads.specs.declared.standing.Stand.TheVariants as stand
+use Rattle.gate_reads.specs.declared.stands.Stand.{Stand}
+use Rattle.gate_reads.specs.declared.stands.Stand.TheVariants as stand
 
 -- it waits nowhere
 abbrev pub is_nowhere : Stand → Bool

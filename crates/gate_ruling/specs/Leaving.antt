@@ -7,10 +7,10 @@ use Rattle.gate_types.specs.declared.edits.Edit.TheVariants as edit
 use Rattle.gate_types.specs.Rows.{item_of}
 use Rattle.gate_types.specs.Sweep.{report_of}
 use Rattle.gate_book.specs.declared.rows.QueuedItem.{QueuedItem}
-use Rattle.gate_raw.specs.declared.touched.Event.TheVariants as event
-use Rattle.gate_raw.specs.declared.touched.TouchedItem.{TouchedItem}
-use Rattle.gate_reads.specs.declared.standing.Stand.{Stand}
-use Rattle.gate_reads.specs.declared.standing.Stand.TheVariants as stand
+use Rattle.gate_unsettled.specs.declared.touched.Event.TheVariants as event
+use Rattle.gate_unsettled.specs.declared.touched.TouchedItem.{TouchedItem}
+use Rattle.gate_reads.specs.declared.stands.Stand.{Stand}
+use Rattle.gate_reads.specs.declared.stands.Stand.TheVariants as stand
 
 -- a build stops
 abbrev pub stop_of : Build → Edit

@@ -4,15 +4,13 @@ ghost use Rattle.gate_book.specs.Faults.{MayAnswer};
 ghost use Rattle.gate_book.specs.Kept.{OfHeld, OfHeldUnder, IsKept};
 ghost use Rattle.gate_ruling.specs.Guards.{IsLatest, IsOrdered};
 
-use gate_book::book::Book;
-use gate_book::fault::BookFault;
-use gate_book::rows::QueuedItem;
-use gate_raw::raw::Raw;
-use gate_reads::orders::shown_order;
+use gate_book::{Book, BookFault, QueuedItem};
+use gate_reads::shown_order;
 use gate_types::config::Config;
 use gate_types::deliveries::{Refusal, Reply};
 use gate_types::numbers::{ChangeNo, Revision, Serial};
 use gate_types::records::Change;
+use gate_unsettled::Raw;
 use std::alloc::Global;
 
 /// The change of this number, if this is its latest revision; else what a delivery that names it comes to.

@@ -5,19 +5,17 @@ ghost use Rattle.gate_types.specs.Step.{leave};
 ghost use Rattle.gate_book.specs.Faults.{MayAnswer};
 ghost use Rattle.gate_book.specs.Kept.{OfHeldUnder, IsKept};
 ghost use Rattle.gate_book.specs.Reads.{items_in};
-ghost use Rattle.gate_raw.specs.Moves.{Moves};
+ghost use Rattle.gate_unsettled.specs.Moves.{Moves};
 ghost use Rattle.gate_reads.specs.Standing.{StandsSo};
 ghost use Rattle.gate_ruling.specs.Leaving.{stop_of, out_of_queue, touched_of};
 
-use gate_book::book::Book;
-use gate_book::fault::BookFault;
-use gate_book::rows::QueuedItem;
-use gate_raw::touched::{Event, TouchedItem};
-use gate_reads::standing::Stand;
+use gate_book::{Book, BookFault, QueuedItem};
+use gate_reads::Stand;
 use gate_types::config::Config;
 use gate_types::edits::Edit;
 use gate_types::names::NoMemory;
 use gate_types::records::{Build, Outcome, Report, Verdict};
+use gate_unsettled::{Event, TouchedItem};
 use std::alloc::Global;
 
 /// Edits, and the item that they touch, if they touch one.

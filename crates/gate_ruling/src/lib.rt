@@ -8,10 +8,12 @@
 #![tactic(auto)]
 
 mod changing;
+mod dispatch;
 mod edits;
 mod guards;
 mod kinds;
 mod leaving;
 mod numbers;
-pub mod raw;
 mod windows;
+
+pub use dispatch::raw;

@@ -4,7 +4,7 @@ ghost use Rattle.gate_types.specs.Names.{same_name};
 ghost use Rattle.gate_types.specs.Window as rules;
 ghost use Rattle.gate_ruling.specs.Windows.{bounds_named};
 
-use gate_queue::window::{grow, shrink};
+use gate_queue::{grow, shrink};
 use gate_types::config::{Config, Queue, WindowRule};
 
 fn setting_of<'c>(config: &'c Config, name: &str) -> Option<&'c Queue>

@@ -17,7 +17,7 @@ use Rattle.gate_walk.specs.Next.{Next, from, go, need, stop, wanted}
 use Rattle.gate_walk.specs.Views.{next_of_code}
 use Rattle.gate_walk.specs.UnderWay.{stale_rows, rows_seen, next_by, row_wanted, Starts, GoesOn}
 use Rattle.gate_book.specs.Reads.{queue_named, items_in, first_above}
-use Rattle.gate_raw.specs.declared.touched.TouchedItem.{TouchedItem}
+use Rattle.gate_unsettled.specs.declared.touched.TouchedItem.{TouchedItem}
 use Rattle.gate_laws.proofs.Members.{In, every, from_map, found}
 use Rattle.gate_laws.proofs.Parts.{ItemsRise}
 use Rattle.gate_laws.proofs.Tests.{not_and_false}

@@ -10,15 +10,13 @@ ghost use Rattle.gate_settling.specs.Touching.{Touching, delivered};
 ghost use Rattle.gate_book.specs.Faults.{MayAnswer};
 
 use crate::rows::{has_landed, is_out};
-use gate_book::book::Book;
-use gate_book::fault::BookFault;
-use gate_queue::slots::same_name;
-use gate_queue::window::{grow, shrink};
-use gate_raw::touched::{Event, TouchedItem};
+use gate_book::{Book, BookFault};
+use gate_queue::{grow, same_name, shrink};
 use gate_types::config::{Config, Queue};
 use gate_types::names::Name;
 use gate_types::records::Verdict;
-use gate_walk::walk::{QueueFacts, TakenOut, Touched, Walk};
+use gate_unsettled::{Event, TouchedItem};
+use gate_walk::{QueueFacts, TakenOut, Touched, Walk};
 use std::alloc::Global;
 
 fn queue_named<'c>(config: &'c Config, name: &Name) -> Option<&'c Queue>

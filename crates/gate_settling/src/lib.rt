@@ -16,6 +16,8 @@
 mod begun;
 mod needing;
 mod rows;
-pub mod settling;
+mod settle;
 mod walking;
 mod wanted;
+
+pub use settle::settling;

@@ -5,8 +5,7 @@ ghost use Rattle.gate_book.specs.Reads as read;
 ghost use Rattle.gate_book.specs.Faults.{MayAnswer};
 ghost use Rattle.gate_settling.specs.Rows as rows;
 
-use gate_book::book::Book;
-use gate_book::fault::BookFault;
+use gate_book::{Book, BookFault};
 use gate_types::names::{Name, NoMemory};
 use gate_types::numbers::ChangeNo;
 use gate_types::records::Item;

@@ -7,17 +7,14 @@ ghost use Rattle.gate_book.specs.Reads as read;
 ghost use Rattle.gate_settling.specs.Rows as rows;
 ghost use Rattle.gate_book.specs.Faults.{MayAnswer};
 
-use gate_book::book::Book;
-use gate_book::fault::BookFault;
-use gate_book::planned::plan_of;
-use gate_book::rows::QueuedItem;
-use gate_queue::slots::same_name;
-use gate_raw::touched::{Event, TouchedItem};
+use gate_book::{Book, BookFault, QueuedItem, plan_of};
+use gate_queue::same_name;
 use gate_types::deliveries::Ending;
 use gate_types::names::NoMemory;
 use gate_types::numbers::{ChangeNo, Serial};
 use gate_types::records::{Build, Change, Outcome, Plan, Stage};
-use gate_walk::seen::SeenNeed;
+use gate_unsettled::{Event, TouchedItem};
+use gate_walk::SeenNeed;
 use std::alloc::Global;
 
 /// Whether the item left its queue.

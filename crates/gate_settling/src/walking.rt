@@ -10,12 +10,11 @@ ghost use Rattle.gate_book.specs.Faults.{MayAnswer};
 use crate::needing::Needing;
 use crate::rows::facts_now;
 use crate::wanted::{first_wanted, wanted};
-use gate_book::book::Book;
-use gate_book::fault::BookFault;
-use gate_raw::touched::TouchedItem;
+use gate_book::{Book, BookFault};
 use gate_types::config::Config;
 use gate_types::records::Item;
-use gate_walk::walk::{Next, Seen, Walk};
+use gate_unsettled::TouchedItem;
+use gate_walk::{Next, Seen, Walk};
 use std::alloc::Global;
 
 /// Visits the row that is wanted.

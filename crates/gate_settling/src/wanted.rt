@@ -8,13 +8,12 @@ ghost use Rattle.gate_book.specs.Faults.{MayAnswer};
 
 use crate::needing::Needing;
 use crate::rows::is_out;
-use gate_book::book::Book;
-use gate_book::fault::BookFault;
-use gate_raw::touched::TouchedItem;
+use gate_book::{Book, BookFault};
 use gate_types::names::Name;
 use gate_types::numbers::ChangeNo;
 use gate_types::records::Item;
-use gate_walk::walk::Next;
+use gate_unsettled::TouchedItem;
+use gate_walk::Next;
 use std::alloc::Global;
 
 /// The first row that a walk wants: that of the touched item, or the one behind it.

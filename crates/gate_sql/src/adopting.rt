@@ -18,7 +18,7 @@ ghost use Rattle.gate_sql.specs.Held.{IsShownFor};
 ghost use Rattle.gate_sql.specs.Making.{IsFilled, IsInside, IsSettled, KeepsInside, Turns, with_rows};
 
 use crate::filling::add_queues;
-use gate_book::fault::BookFault;
+use gate_book::BookFault;
 use gate_queries::read::check_open;
 use gate_queries::window;
 use gate_rows::values::text;

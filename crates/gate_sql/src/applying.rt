@@ -13,7 +13,7 @@ ghost use Rattle.gate_queries.specs.Finds.{Stays};
 ghost use Rattle.gate_sql.specs.Applies.{CanLead, LeavesOrStands, OfLawful, OfLed, Settles, Steps, Turns, are_known, is_among, is_known};
 ghost use Rattle.gate_sql.specs.Held.{IsShownFor, ShowsFor};
 
-use gate_book::fault::BookFault;
+use gate_book::BookFault;
 use gate_queries::fault::book_fault;
 use gate_queries::read::check_open;
 use gate_rows::apply_one;

@@ -9,16 +9,17 @@
 
 mod adopting;
 mod applying;
-pub mod book;
+mod book;
 mod creating;
 mod filling;
 pub mod laws;
 mod making;
-pub mod migrating;
+mod migrating;
 mod opening;
 mod planning;
 mod reads;
 mod reopening;
 mod upgrading;
 
+pub use book::SqlBook;
 pub use migrating::{Migrated, migrate};

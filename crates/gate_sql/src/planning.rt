@@ -12,7 +12,7 @@ ghost use Rattle.gate_queries.specs.First.{IsFirstOf, pair_shown};
 ghost use Rattle.gate_queries.specs.Reads.{IsOnlyRead};
 ghost use Rattle.gate_sql.specs.Migrates.{TellsQueue, TellsState, plan_for, puts};
 
-use gate_book::fault::BookFault;
+use gate_book::BookFault;
 use gate_queries::columns::{change_in, serial_in};
 use gate_queries::first_reads::{item_pairs, landing_pairs, project_name};
 use gate_types::config::{Config, Job, Project};

@@ -1,9 +1,7 @@
 //! A book's reads and edits, from the tables of a file.
 use crate::applying::{apply, is_among};
 use crate::book::SqlBook;
-use gate_book::book::Book;
-use gate_book::fault::{BookFault, HistoryFault};
-use gate_book::rows::QueuedItem;
+use gate_book::{Book, BookFault, HistoryFault, QueuedItem};
 use gate_types::edits::Edit;
 use gate_types::names::Name;
 use gate_types::numbers::{BuildNo, ChangeNo, Serial};

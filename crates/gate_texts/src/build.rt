@@ -5,8 +5,7 @@ ghost use Rattle.gate_types.specs.Step.{build_of};
 ghost use Rattle.gate_book.specs.Faults.{MayAnswer};
 ghost use Rattle.gate_book.specs.Kept.{OfHeld, IsKept};
 
-use gate_book::book::Book;
-use gate_book::fault::BookFault;
+use gate_book::{Book, BookFault};
 use gate_types::names::{NoMemory, Text};
 use gate_types::numbers::BuildNo;
 use gate_types::records::{Build, Outcome};

@@ -7,7 +7,11 @@
 //! ```
 #![tactic(auto)]
 
-pub mod build;
+mod build;
 mod lines;
-pub mod orders;
-pub mod status;
+mod orders;
+mod status_text;
+
+pub use build::build_text;
+pub use orders::order_list;
+pub use status_text::status;

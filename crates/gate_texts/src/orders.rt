@@ -8,9 +8,8 @@ ghost use Rattle.gate_reads.specs.Known.{known_or_closed};
 ghost use Rattle.gate_reads.specs.Orders.{order_in, IsRowOf};
 ghost use Rattle.gate_texts.specs.Listed.{order_piece, comma_behind, with_order};
 
-use gate_book::book::Book;
-use gate_book::fault::BookFault;
-use gate_reads::orders::order_of_queue;
+use gate_book::{Book, BookFault};
+use gate_reads::order_of_queue;
 use gate_types::config::Config;
 use gate_types::names::{Name, NoMemory, Text};
 use gate_types::records::{Change, Item};

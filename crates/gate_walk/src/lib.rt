@@ -26,6 +26,9 @@
 #![tactic(auto)]
 
 pub mod laws;
-pub mod seen;
+mod seen;
 mod told;
-pub mod walk;
+mod walk;
+
+pub use seen::SeenNeed;
+pub use walk::{Next, QueueFacts, Seen, TakenOut, Touched, Walk};

@@ -5,9 +5,7 @@ ghost use Rattle.gate_types.specs.Slot as rules;
 ghost use Rattle.gate_queue.specs.Outcomes.{slot_among};
 ghost use Rattle.gate_walk.specs.Walk as walk;
 
-use gate_queue::judge::verdict_of;
-use gate_queue::outcomes::{is_failed, is_finished, slot_among};
-use gate_queue::slots::Marks;
+use gate_queue::{Marks, is_failed, is_finished, slot_among, verdict_of};
 use gate_types::config::Job;
 use gate_types::names::NoMemory;
 use gate_types::numbers::ChangeNo;

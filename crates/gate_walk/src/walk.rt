@@ -9,7 +9,7 @@ ghost use Rattle.gate_walk.specs.TakenOut.{out_of};
 
 use crate::seen::{Mark, SeenNeed, judge};
 use crate::told::{Beside, edits_of_visit};
-use gate_queue::settle::{reports_behind, window_behind};
+use gate_queue::{reports_behind, window_behind};
 use gate_types::config::{Job, Queue, WindowRule};
 use gate_types::edits::Edit;
 use gate_types::names::{Name, NoMemory};

@@ -1,6 +1,6 @@
 //! The program as a process: what `main` does.
 use gate_types::tap::Tap;
-use gated_cli::program::{program, unread};
+use gated_cli::{program, unread};
 use std::process::ExitCode;
 use std::{env, io};
 

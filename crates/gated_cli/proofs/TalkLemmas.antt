@@ -11,8 +11,8 @@ use Rattle.std.proofs.lemmas.Bool.{true≢false}
 use Rattle.gated_cli.specs.Ending.{Tells}
 use Rattle.gated_cli.specs.Faults.{line_of}
 use Rattle.gated_cli.specs.Telling.{TellsUpTo, ToldBy, TellsBy}
-use Rattle.gated_command.specs.declared.command.Cmd.{Cmd}
-use Rattle.gated_command.specs.declared.command.Cmd.TheVariants.{Check, Init, Replay, Deliver, Status, History, Serve, Migrate}
+use Rattle.gated_command.specs.declared.words.Cmd.{Cmd}
+use Rattle.gated_command.specs.declared.words.Cmd.TheVariants.{Check, Init, Replay, Deliver, Status, History, Serve, Migrate}
 use Rattle.gated_cli.specs.declared.run.fault.Fault.{Fault}
 use Rattle.gated_cli.proofs.TellLemmas.{writes_sooner}
 

@@ -7,8 +7,8 @@ use Rattle.gate_types.specs.Status.{status_text}
 use Rattle.gate_types.specs.Tap.{inside, has_failed}
 use Rattle.gate_types.specs.declared.tap.Tap.{Tap}
 use Rattle.gate_config.specs.Reading.{said_by}
-use Rattle.gated_command.specs.declared.command.Cmd.{Cmd}
-use Rattle.gated_command.specs.declared.command.Cmd.TheVariants.{Check, Init, Replay, Deliver, Status, History, Serve, Migrate}
+use Rattle.gated_command.specs.declared.words.Cmd.{Cmd}
+use Rattle.gated_command.specs.declared.words.Cmd.TheVariants.{Check, Init, Replay, Deliver, Status, History, Serve, Migrate}
 use Rattle.gate_sql.specs.declared.migrating.Migrated.{Migrated}
 use Rattle.gate_sql.specs.declared.migrating.Migrated.TheVariants as migrated
 use Rattle.gate_core.specs.Gated.{Gated, opened}

@@ -8,7 +8,7 @@ use Rattle.gated_cli.specs.Doing.{Streams, Does}
 use Rattle.gated_cli.specs.Ending.{EndsBy, Tells}
 use Rattle.gated_cli.specs.Faults.{line_of}
 use Rattle.gated_cli.specs.Telling.{ToldBy, TellsBy}
-use Rattle.gated_command.specs.declared.command.Cmd.{Cmd}
+use Rattle.gated_command.specs.declared.words.Cmd.{Cmd}
 use Rattle.gated_cli.specs.declared.run.fault.Fault.{Fault}
 use Rattle.gated_cli.specs.declared.run.fault.Fault.TheVariants as fault
 

@@ -5,8 +5,8 @@ use Rattle.gate_core.specs.declared.fault.IoFault.{IoFault}
 use Rattle.gate_http.specs.Connections.{AreTold, fault_lines}
 use Rattle.gated_cli.specs.Ending.{Tells}
 use Rattle.gated_cli.specs.Faults.{line_of}
-use Rattle.gated_command.specs.declared.command.Cmd.{Cmd}
-use Rattle.gated_command.specs.declared.command.Cmd.TheVariants.{Check, Init, Replay, Deliver, Status, History, Serve, Migrate}
+use Rattle.gated_command.specs.declared.words.Cmd.{Cmd}
+use Rattle.gated_command.specs.declared.words.Cmd.TheVariants.{Check, Init, Replay, Deliver, Status, History, Serve, Migrate}
 use Rattle.gated_cli.specs.declared.run.fault.Fault.{Fault}
 
 -- at most so many faults of connections are told, by a line each; a writer that failed took a beginning

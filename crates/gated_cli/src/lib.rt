@@ -7,6 +7,10 @@
 //! ```
 #![tactic(auto)]
 
-pub mod machine;
-pub mod program;
-pub mod run;
+mod entry;
+mod machine;
+mod run;
+
+pub use entry::{program, unread};
+pub use machine::Databases;
+pub use run::{Fault, ended};

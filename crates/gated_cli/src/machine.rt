@@ -2,7 +2,7 @@
 ghost use Rattle.std.specs.Prelude.{◌≡◌, IfErr, OnErr, OnOk};
 
 use crate::run::{Fault, over_file};
-use gate_sql::migrating::Migrated;
+use gate_sql::Migrated;
 use gate_types::config::Config;
 use gate_types::open_fault::OpenFault;
 use gate_types::tap::Tap;
@@ -90,7 +90,7 @@ pub trait GateFiles {
             (beside W.contents left failed output.old) (beside W.contents left failed output.new)) };
 
     /// Makes a file of schema 1 one of schema 2. `File` where the file isn't there or can't be opened, and as for
-    /// `gate_sql::migrating::migrate`; `Store` where it can't be closed.
+    /// `gate_sql::migrate`; `Store` where it can't be closed.
     fn migrate(&self, file: &str, config: &Config) -> Result<Migrated, Fault>
         ensures { IfErr result IsOfMaking };
 }

@@ -14,8 +14,8 @@ use Rattle.clap.specs.declared.error.kind.ErrorKind.TheVariants as kind
 use Rattle.clap.specs.declared.builder.action.ArgAction.TheVariants.{SetTrue}
 use Rattle.clap.specs.declared.builder.value_parser.ValueParser.TheVariants.{Unsigned}
 use Rattle.clap.specs.ValueTests.{is_unsigned_in}
-use Rattle.gated_command.specs.declared.command.Cmd.{Cmd}
-use Rattle.gated_command.specs.declared.command.Cmd.TheVariants.{Check, Init, Replay, Deliver, Status, History, Serve, Migrate}
+use Rattle.gated_command.specs.declared.words.Cmd.{Cmd}
+use Rattle.gated_command.specs.declared.words.Cmd.TheVariants.{Check, Init, Replay, Deliver, Status, History, Serve, Migrate}
 
 -- the command, none of whose options goes for its subcommands too
 abbrev pub IsCommand : App → Command → Type 0

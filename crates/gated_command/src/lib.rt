@@ -7,4 +7,6 @@
 //! ```
 #![tactic(auto)]
 
-pub mod command;
+mod words;
+
+pub use words::{Cmd, Usage, command};

@@ -4,8 +4,8 @@ use crate::claims::is;
 use crate::settings::config;
 use crate::stored::files::{conn_of, gate_under, made_under, opened_under, outcome};
 use crate::talks::goes_on;
-use gate_book::memory::MemBook;
-use gate_core::gate::Gate;
+use gate_book::MemBook;
+use gate_core::Gate;
 use sqlite::{Alter, Connection};
 use std::process::Abort;
 

@@ -2,10 +2,8 @@
 use crate::claims::{holds_at, is_at};
 use crate::scenes::gate_in_memory;
 use crate::streams::{Failing, Narrow};
-use gate_book::book::Book;
-use gate_core::fault::IoFault;
-use gate_core::gate::Gate;
-use gate_core::replay::replay;
+use gate_book::Book;
+use gate_core::{Gate, IoFault, replay};
 use gate_types::tap::Tap;
 use std::process::Abort;
 

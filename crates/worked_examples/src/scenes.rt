@@ -12,8 +12,8 @@
 //! Each function here holds one gate, and hands it on at once: what a gate is asked stands in functions over any book.
 use crate::chapters::{goes_on_in_file, goes_on_in_memory};
 use crate::settings::config;
-use gate_book::memory::MemBook;
-use gate_core::gate::Gate;
+use gate_book::MemBook;
+use gate_core::Gate;
 use gate_types::config::Config;
 use gate_types::records::Counters;
 use sqlite::Connection;

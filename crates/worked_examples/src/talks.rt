@@ -12,10 +12,8 @@
 use crate::beginnings::beginning;
 use crate::claims::{holds, is};
 use crate::streams::Narrow;
-use gate_book::book::Book;
-use gate_book::fault::HistoryFault;
-use gate_core::gate::Gate;
-use gate_core::replay::replay;
+use gate_book::{Book, HistoryFault};
+use gate_core::{Gate, replay};
 use gate_types::deliveries::Refusal;
 use gate_types::numbers::BuildNo;
 use gate_types::tap::Tap;

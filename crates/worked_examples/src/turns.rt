@@ -1,8 +1,7 @@
 //! Who speaks when: over pipes the other side waits for an answer before it sends its next line.
 use crate::scenes::gate_in_memory;
-use gate_book::book::Book;
-use gate_core::gate::Gate;
-use gate_core::replay::replay;
+use gate_book::Book;
+use gate_core::{Gate, replay};
 use gate_types::tap::Tap;
 use std::cell::Cell;
 use std::io;

@@ -5,23 +5,22 @@ ghost use Rattle.gate_types.specs.declared.edits.Edit.TheVariants as edit;
 ghost use Rattle.gate_types.specs.declared.edits.Counter.TheVariants as counter;
 ghost use Rattle.gate_book.specs.Faults.{MayAnswer};
 ghost use Rattle.gate_book.specs.Kept.{OfHeldUnder, IsKept};
-ghost use Rattle.gate_raw.specs.Raw.{IsRaw};
+ghost use Rattle.gate_unsettled.specs.Raw.{IsRaw};
 ghost use Rattle.gate_ruling.specs.Approving.{is_nowhere};
 
 use crate::changing::is_open;
 use crate::edits::with_edit;
 use crate::guards::latest;
 use crate::numbers::LAST_NUMBER;
-use gate_book::book::Book;
-use gate_book::fault::BookFault;
-use gate_raw::raw::{Moved, Raw, Said};
-use gate_reads::standing::{Stand, standing};
+use gate_book::{Book, BookFault};
+use gate_reads::{Stand, standing};
 use gate_types::config::Config;
 use gate_types::deliveries::{Refusal, Reply};
 use gate_types::edits::{Counter, Edit};
 use gate_types::names::NoMemory;
 use gate_types::numbers::{ChangeNo, Revision};
 use gate_types::records::Change;
+use gate_unsettled::{Moved, Raw, Said};
 use std::alloc::Global;
 
 fn is_nowhere(stand: &Stand) -> bool

@@ -4,20 +4,18 @@ ghost use Rattle.gate_types.specs.declared.deliveries.Reply.TheVariants as reply
 ghost use Rattle.gate_types.specs.declared.deliveries.Delivery.TheVariants as delivery;
 ghost use Rattle.gate_book.specs.Faults.{MayAnswer};
 ghost use Rattle.gate_book.specs.Kept.{OfHeldUnder, IsKept};
-ghost use Rattle.gate_raw.specs.Raw.{IsRaw};
+ghost use Rattle.gate_unsettled.specs.Raw.{IsRaw};
 
 use crate::changing::{is_open, put_anew};
 use crate::guards::latest;
 use crate::leaving::{Left, give_up_place};
-use gate_book::book::Book;
-use gate_book::fault::BookFault;
-use gate_raw::raw::{Moved, Raw, Said};
-use gate_reads::orders::is_submitting;
-use gate_reads::standing::standing;
+use gate_book::{Book, BookFault};
+use gate_reads::{is_submitting, standing};
 use gate_types::config::Config;
 use gate_types::deliveries::{Refusal, Reply};
 use gate_types::numbers::{ChangeNo, Revision};
 use gate_types::records::{Change, Stage, Verdict};
+use gate_unsettled::{Moved, Raw, Said};
 use std::alloc::Global;
 
 /// An item is removed from its queue; of a change that is none this is recorded.

@@ -5,7 +5,7 @@ ghost use Rattle.gate_types.specs.State.{known_change};
 ghost use Rattle.gate_types.specs.Step.{landed_plan};
 ghost use Rattle.gate_book.specs.Faults.{MayAnswer};
 ghost use Rattle.gate_book.specs.Kept.{OfHeld, OfHeldUnder, IsKept};
-ghost use Rattle.gate_raw.specs.Raw.{IsRaw};
+ghost use Rattle.gate_unsettled.specs.Raw.{IsRaw};
 ghost use Rattle.gate_ruling.specs.Landing.{landing_edits};
 ghost use Rattle.gate_ruling.specs.Faults.{MayRule};
 
@@ -14,18 +14,14 @@ use crate::edits::{with_edit, with_window};
 use crate::guards::ordered;
 use crate::leaving::{leaving, touched};
 use crate::windows::grown;
-use gate_book::book::Book;
-use gate_book::fault::BookFault;
-use gate_book::planned::plan_of;
-use gate_book::rows::QueuedItem;
-use gate_raw::raw::{Moved, Raw, Said};
-use gate_raw::touched::Event;
+use gate_book::{Book, BookFault, QueuedItem, plan_of};
 use gate_types::config::Config;
 use gate_types::deliveries::Reply;
 use gate_types::edits::Edit;
 use gate_types::names::NoMemory;
 use gate_types::numbers::Serial;
 use gate_types::records::{Change, Landing, Plan, Stage, Verdict};
+use gate_unsettled::{Event, Moved, Raw, Said};
 use std::alloc::Global;
 
 /// The item's landing at a place of its queue, and the window that follows the old one.

@@ -7,21 +7,19 @@ ghost use Rattle.gate_types.specs.State.{is_landed};
 ghost use Rattle.gate_types.specs.Step.{has_project};
 ghost use Rattle.gate_book.specs.Faults.{MayAnswer};
 ghost use Rattle.gate_book.specs.Kept.{OfHeldUnder, IsKept};
-ghost use Rattle.gate_raw.specs.Raw.{IsRaw};
+ghost use Rattle.gate_unsettled.specs.Raw.{IsRaw};
 
 use crate::changing::{is_landed, put_anew};
 use crate::leaving::give_up_place;
-use gate_book::book::Book;
-use gate_book::fault::BookFault;
-use gate_raw::raw::{Moved, Raw, Said};
-use gate_reads::orders::is_submitting;
-use gate_reads::standing::standing;
+use gate_book::{Book, BookFault};
+use gate_reads::{is_submitting, standing};
 use gate_types::config::Config;
 use gate_types::deliveries::{Refusal, Reply};
 use gate_types::names::{Message, PathName};
 use gate_types::numbers::{ChangeNo, Revision};
 use gate_types::records::{Change, Stage, Verdict};
 use gate_types::sequence::Sequence;
+use gate_unsettled::{Moved, Raw, Said};
 use gate_wire::needs;
 use std::alloc::Global;
 

@@ -5,20 +5,19 @@ ghost use Rattle.gate_types.specs.declared.edits.Edit.TheVariants as edit;
 ghost use Rattle.gate_types.specs.declared.edits.Counter.TheVariants as counter;
 ghost use Rattle.gate_book.specs.Faults.{MayAnswer};
 ghost use Rattle.gate_book.specs.Kept.{OfHeldUnder, IsKept};
-ghost use Rattle.gate_raw.specs.Raw.{IsRaw};
+ghost use Rattle.gate_unsettled.specs.Raw.{IsRaw};
 
 use crate::edits::with_edit;
 use crate::numbers::LAST_NUMBER;
-use gate_book::book::Book;
-use gate_book::fault::BookFault;
-use gate_raw::raw::{Moved, Raw, Said};
-use gate_reads::next_build::next_build;
+use gate_book::{Book, BookFault};
+use gate_reads::next_build;
 use gate_types::config::Config;
 use gate_types::deliveries::{Refusal, Reply};
 use gate_types::edits::{Counter, Edit};
 use gate_types::names::{NoMemory, PathName};
 use gate_types::numbers::BuildNo;
 use gate_types::records::Build;
+use gate_unsettled::{Moved, Raw, Said};
 use std::alloc::Global;
 
 /// The number after those that were drawn; the last one again where all were.

@@ -3,21 +3,18 @@ ghost use Rattle.std.specs.Prelude.{IfOk, IfErr};
 ghost use Rattle.gate_types.specs.declared.deliveries.Delivery.TheVariants as delivery;
 ghost use Rattle.gate_book.specs.Faults.{MayAnswer};
 ghost use Rattle.gate_book.specs.Kept.{OfHeldUnder, IsKept};
-ghost use Rattle.gate_raw.specs.Raw.{IsRaw};
+ghost use Rattle.gate_unsettled.specs.Raw.{IsRaw};
 
 use crate::changing::put_anew;
 use crate::guards::latest;
 use crate::leaving::{leaving, touched};
-use gate_book::book::Book;
-use gate_book::fault::BookFault;
-use gate_raw::raw::{Moved, Raw, Said};
-use gate_raw::touched::Event;
-use gate_reads::orders::is_submitting;
-use gate_reads::standing::{Stand, standing};
+use gate_book::{Book, BookFault};
+use gate_reads::{Stand, is_submitting, standing};
 use gate_types::config::Config;
 use gate_types::deliveries::{Refusal, Reply};
 use gate_types::numbers::{ChangeNo, Revision};
 use gate_types::records::Verdict;
+use gate_unsettled::{Event, Moved, Raw, Said};
 use std::alloc::Global;
 
 /// An item leaves its queue; a ready change is so no longer; anything else is stale.

@@ -3,8 +3,7 @@ use crate::process::started;
 use crate::tests::claims::holds;
 use gate_config::ConfigFault;
 use gate_types::tap::Tap;
-use gated_cli::program::unread;
-use gated_cli::run::{Fault, ended};
+use gated_cli::{Fault, ended, unread};
 use std::io;
 use std::process::ExitCode;
 

@@ -1,6 +1,5 @@
 //! The machine that the program is run on.
-use gated_cli::machine::Databases;
-use gated_cli::run::Fault;
+use gated_cli::{Databases, Fault};
 use sqlite::{Connection, File, FileStore};
 use std::alloc::{AllocError, Allocator, Global};
 use std::fs::{Metadata, OpenFile, OpenOptions};

@@ -3,7 +3,7 @@ use crate::tests::machine::Machine;
 use crate::tests::streams::{Input, Output};
 use crate::tests::texts::text_of;
 use gate_types::tap::Tap;
-use gated_cli::program::program;
+use gated_cli::program;
 use sqlite::Connection;
 use std::fs;
 use std::process::Abort;

@@ -1,7 +1,7 @@
 //! Command lines, and what they ask for.
 use crate::tests::claims::{holds, is};
 use crate::tests::sessions::words_of;
-use gated_command::command::command;
+use gated_command::command;
 use std::process::Abort;
 
 /// What a line asks for, or else why it is refused, and with which status.

@@ -2,10 +2,10 @@
 ghost use Rattle.std.specs.Prelude.{◌≡◌};
 ghost use Rattle.gated_cli.specs.Faults.{text_of, file_text, settings_text};
 
-use gate_book::fault::HistoryFault;
+use gate_book::HistoryFault;
 use gate_config::ConfigFault;
-use gate_core::fault::IoFault;
-use gate_http::connections::NotListening;
+use gate_core::IoFault;
+use gate_http::NotListening;
 use gate_types::open_fault::OpenFault;
 use gate_types::tap::Failed;
 use std::alloc::AllocError;

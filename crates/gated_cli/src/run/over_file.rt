@@ -29,13 +29,11 @@ ghost use Rattle.gated_cli.specs.Telling.{TellsUpTo};
 use crate::run::fault::Fault;
 use crate::run::listening;
 use crate::run::showing::{write_history, write_status};
-use gate_cache::cached::CachedBook;
-use gate_core::gate::Gate;
-use gate_core::replay::replay;
+use gate_cache::CachedBook;
+use gate_core::{Gate, replay};
 use gate_laws::adoption::adopted_content_is_lawful;
 use gate_laws::typed::settings_are_in_form;
-use gate_sql::book::SqlBook;
-use gate_sql::migrating::Migrated;
+use gate_sql::{Migrated, SqlBook};
 use gate_types::config::Config;
 use gate_types::open_fault::OpenFault;
 use gate_types::tap::Tap;
@@ -102,7 +100,7 @@ pub fn migrate<S: Alter + Drop>(
     ensures fault { IfErr result.1 IsOfFile }
 {
     let mut conn = conn;
-    match gate_sql::migrating::migrate(alloc, &mut conn, config) {
+    match gate_sql::migrate(alloc, &mut conn, config) {
         Ok(done) => (conn, Ok(done)),
         Err(fault) => (conn, Err(Fault::File(fault))),
     }

@@ -2,8 +2,7 @@
 use crate::books::memory::{changes_and_builds_are_told, items_are_told, plans_are_told};
 use crate::books::scene::{apply, first_edits, name};
 use crate::claims::is;
-use gate_book::book::Book;
-use gate_book::memory::MemBook;
+use gate_book::{Book, MemBook};
 use gate_config::read;
 use gate_types::config::Config;
 use gate_types::open_fault::OpenFault;

@@ -1,7 +1,7 @@
 //! What a book answers, compared with what it has to answer.
 use crate::books::scene::{change_no, id, name, serial_no};
 use crate::claims::is;
-use gate_book::book::Book;
+use gate_book::Book;
 use gate_types::numbers::ChangeNo;
 use gate_types::records::{Counters, Item, Plan, Ready};
 use std::process::Abort;

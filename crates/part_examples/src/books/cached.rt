@@ -5,9 +5,8 @@ use crate::books::asked::{
 };
 use crate::books::counting::Counting;
 use crate::books::scene::{apply, change_no, first_book, item, later_edits};
-use gate_book::book::Book;
-use gate_book::memory::MemBook;
-use gate_cache::cached::CachedBook;
+use gate_book::{Book, MemBook};
+use gate_cache::CachedBook;
 use gate_types::records::{Counters, Ready};
 use std::process::Abort;
 

@@ -1,7 +1,5 @@
 //! A book that counts what it is asked for.
-use gate_book::book::Book;
-use gate_book::fault::{BookFault, HistoryFault};
-use gate_book::rows::QueuedItem;
+use gate_book::{Book, BookFault, HistoryFault, QueuedItem};
 use gate_types::edits::Edit;
 use gate_types::names::Name;
 use gate_types::numbers::{BuildNo, ChangeNo, Serial};

@@ -9,9 +9,7 @@ use crate::books::scene::{
     apply, book_of, build_no, change_no, first_book, item, keep, later_edits, put_plan, put_report,
     serial_no, settings,
 };
-use gate_book::book::Book;
-use gate_book::fault::HistoryFault;
-use gate_book::memory::MemBook;
+use gate_book::{Book, HistoryFault, MemBook};
 use gate_types::edits::Edit;
 use gate_types::records::{Counters, Outcome, Ready, Verdict};
 use gate_types::tap::Tap;

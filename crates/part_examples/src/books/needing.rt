@@ -2,9 +2,8 @@
 use crate::books::asked::{ready_are, ready_needing_is};
 use crate::books::counting::Counting;
 use crate::books::scene::{apply, book_of, change_no, put_change};
-use gate_book::book::Book;
-use gate_book::memory::MemBook;
-use gate_cache::cached::CachedBook;
+use gate_book::{Book, MemBook};
+use gate_cache::CachedBook;
 use gate_types::records::Ready;
 use std::process::Abort;
 

@@ -2,8 +2,7 @@
 ghost use Rattle.std.specs.Prelude.{◌≡◌, [], ◌∷◌, true, false};
 ghost use Rattle.gate_types.specs.Settings.{default_rule};
 
-use gate_book::book::Book;
-use gate_book::memory::MemBook;
+use gate_book::{Book, MemBook};
 use gate_types::config::{Config, Job, Project, Queue, WindowRule};
 use gate_types::edits::{Counter, Edit};
 use gate_types::names::{Base, Name, PathName, Text};

@@ -1,10 +1,8 @@
 //! A book in memory where one allocation is refused: what was asked leaves it as it was, and is done the next time.
 //! Each test passes whichever allocation of its run that is, and where there is none.
 use crate::claims::holds;
-use gate_book::book::Book;
-use gate_book::fault::BookFault;
-use gate_book::memory::MemBook;
-use gate_cache::cached::CachedBook;
+use gate_book::{Book, BookFault, MemBook};
+use gate_cache::CachedBook;
 use gate_config::read;
 use gate_types::config::Config;
 use gate_types::edits::Edit;

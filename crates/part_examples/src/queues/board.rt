@@ -3,12 +3,12 @@ use crate::queues::told::{tell_edit, tell_item};
 use crate::queues::words::{
     build, landing, name, needs, number, outcome, plan, rule, serial, size, word,
 };
-use gate_queue::window::grow;
+use gate_queue::grow;
 use gate_types::config::{Job, Queue, WindowRule};
 use gate_types::edits::Edit;
 use gate_types::numbers::{ChangeNo, Serial};
 use gate_types::records::{Build, Item, Landing, Need, Outcome};
-use gate_walk::walk::{TakenOut, Touched};
+use gate_walk::{TakenOut, Touched};
 use std::process::Abort;
 use std::str::SplitWhitespace;
 

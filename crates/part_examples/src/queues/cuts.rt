@@ -1,7 +1,7 @@
 //! Items that fail fast: what a voting job's failure ends of them, worked out by hand from the rules.
 use crate::claims::holds;
 use crate::queues::scenes::scenes_hold;
-use gate_queue::outcomes::{is_finished, slot_where};
+use gate_queue::{is_finished, slot_where};
 use gate_types::records::Slot;
 
 const SCENES: &str =

@@ -6,7 +6,7 @@ use crate::queues::board::{Board, Row, is_blocked};
 use gate_types::config::WindowRule;
 use gate_types::numbers::Serial;
 use gate_types::records::{Build, Outcome};
-use gate_walk::walk::Touched;
+use gate_walk::Touched;
 use std::process::Abort;
 
 /// Numbers that look thrown, by a linear congruence; with the last serial and the last number of a build.

@@ -5,7 +5,7 @@ use crate::claims::is;
 use crate::queues::board::Board;
 use crate::queues::told::tell_edit;
 use crate::queues::words::{number, size, word};
-use gate_queue::window::{grow, shrink};
+use gate_queue::{grow, shrink};
 use gate_types::edits::Edit;
 use std::process::Abort;
 

@@ -2,8 +2,7 @@
 use crate::queues::board::{Board, Row, standing};
 use gate_types::numbers::{ChangeNo, Serial};
 use gate_types::records::Build;
-use gate_walk::seen::SeenNeed;
-use gate_walk::walk::{Next, QueueFacts, Seen, Touched, Walk};
+use gate_walk::{Next, QueueFacts, Seen, SeenNeed, Touched, Walk};
 use std::process::Abort;
 
 /// Whether a row needs one of these changes.

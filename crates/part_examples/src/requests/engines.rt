@@ -1,7 +1,7 @@
 //! An engine with fixed answers, and scenes of what it is asked.
 use crate::requests::scenes::{Fresh, each_plays};
-use gate_book::fault::HistoryFault;
-use gate_http::respond::{Page, Respond};
+use gate_book::HistoryFault;
+use gate_http::{Page, Respond};
 use gate_types::deliveries::{Answer, Refusal};
 use gate_types::names::Text;
 use gate_types::tap::Tap;

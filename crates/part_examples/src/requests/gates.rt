@@ -1,12 +1,10 @@
 //! A gate over settings, and scenes of what it is sent.
 use crate::requests::scenes::{Fresh, drips, each_plays, stops, tell};
 use crate::requests::texts::{request, response};
-use gate_book::book::Book;
-use gate_book::memory::MemBook;
+use gate_book::{Book, MemBook};
 use gate_config::read;
-use gate_core::gate::Gate;
-use gate_http::serve::serve_one;
-use gate_http::served::Served;
+use gate_core::Gate;
+use gate_http::{Served, serve_one};
 use gate_types::tap::Tap;
 use std::process::Abort;
 

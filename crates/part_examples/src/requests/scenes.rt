@@ -2,10 +2,8 @@
 use crate::claims::holds;
 use crate::requests::streams::{Pace, Stream};
 use crate::requests::texts::{halves, request, response};
-use gate_core::fault::IoFault;
-use gate_http::engine::answer_request;
-use gate_http::respond::Respond;
-use gate_http::served::Served;
+use gate_core::IoFault;
+use gate_http::{Respond, Served, answer_request};
 use gate_types::tap::Tap;
 use gate_wire::Door;
 use std::alloc::Global;

@@ -2,7 +2,7 @@
 use crate::chapters::goes_on_over;
 use crate::stored::files::{FileGate, SETTINGS, gate_in, made_under};
 use crate::stored::tables::empty;
-use gate_book::book::Book;
+use gate_book::Book;
 use gate_types::numbers::ChangeNo;
 use sqlite::{Alter, Connection};
 use std::process::Abort;

@@ -2,12 +2,10 @@
 //! `settings`.
 use crate::claims::is;
 use crate::settings::config;
-use gate_book::book::Book;
-use gate_cache::cached::CachedBook;
-use gate_core::fault::IoFault;
-use gate_core::gate::Gate;
-use gate_core::replay::replay;
-use gate_sql::book::SqlBook;
+use gate_book::Book;
+use gate_cache::CachedBook;
+use gate_core::{Gate, IoFault, replay};
+use gate_sql::SqlBook;
 use gate_types::open_fault::OpenFault;
 use gate_types::tap::Tap;
 use sqlite::{Alter, Connection};

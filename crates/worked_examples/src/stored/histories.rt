@@ -2,9 +2,8 @@
 use crate::claims::both_came;
 use crate::stored::disks::{Disks, Stop, copied, empty_files};
 use crate::stored::files::{SETTINGS, conn_of, gate_in, gate_under, new_file, said_over};
-use gate_book::book::Book;
-use gate_book::fault::HistoryFault;
-use gate_core::gate::Gate;
+use gate_book::{Book, HistoryFault};
+use gate_core::Gate;
 use gate_types::tap::Tap;
 use sqlite::{Alter, Connection, Files, Options};
 use sqlite_disk::{Fuse, Memory};

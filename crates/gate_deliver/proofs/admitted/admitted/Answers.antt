@@ -2,7 +2,7 @@ use Rattle.std.proofs.Common.{◌≡◌, ◌∙◌, true, ap, sym, rules}
 use Rattle.std.specs.Prelude.{map}
 use Rattle.gate_types.specs.Settings.{are_sound, are_distinct}
 use Rattle.gate_laws.proofs.Alone.{names_differ}
-use Rattle.gate_raw.specs.Moves.{swept}
+use Rattle.gate_unsettled.specs.Moves.{swept}
 use Rattle.gate_deliver.proofs.ByEdits.{enters_by_edits}
 use Rattle.gate_deliver.proofs.admitted.admitted.Goals as goal
 

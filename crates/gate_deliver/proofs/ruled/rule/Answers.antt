@@ -1,7 +1,7 @@
 use Rattle.std.proofs.Common.{sym, subst, refl}
 use Rattle.gate_types.specs.Tables.{Leads}
-use Rattle.gate_raw.specs.Raw.{IsRaw}
-use Rattle.gate_raw.specs.Moves.{in_state}
+use Rattle.gate_unsettled.specs.Raw.{IsRaw}
+use Rattle.gate_unsettled.specs.Moves.{in_state}
 use Rattle.gate_deliver.proofs.Steps.{stands_steps}
 use Rattle.gate_deliver.proofs.ruled.rule.Goals as goal
 

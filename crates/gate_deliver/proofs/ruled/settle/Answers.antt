@@ -4,7 +4,7 @@ use Rattle.gate_types.specs.Rebase.{rebase}
 use Rattle.gate_types.specs.Settle.{settle}
 use Rattle.gate_types.specs.Step.{accepted}
 use Rattle.gate_types.specs.Tables.{Leads}
-use Rattle.gate_raw.specs.Moves.{in_state, swept}
+use Rattle.gate_unsettled.specs.Moves.{in_state, swept}
 use Rattle.gate_deliver.proofs.Results.{at_some, at_none}
 use Rattle.gate_deliver.proofs.Steps.{moved_steps, exhausted_steps}
 use Rattle.gate_deliver.proofs.Thinning.{thinned_leads}

@@ -1,6 +1,6 @@
 use Rattle.std.proofs.Common.{◌∙◌, ap, sym}
 use Rattle.std.proofs.lemmas.Result.{IfOk-weaker}
-use Rattle.gate_raw.specs.Raw.{reply_by}
+use Rattle.gate_unsettled.specs.Raw.{reply_by}
 use Rattle.gate_deliver.proofs.speaking.speak.Goals as goal
 
 pub returns-in-PlaceOf-clause-said : goal.returns-in-PlaceOf-clause-said

@@ -7,7 +7,7 @@ use Rattle.gate_walk.specs.declared.walk.Next.{Next}
 use Rattle.gate_walk.specs.Walk.{Seen, Walk, behind_visit}
 use Rattle.gate_walk.specs.UnderWay.{HasVisited, GoesOn}
 use Rattle.gate_book.specs.Reads.{items_in}
-use Rattle.gate_raw.specs.declared.touched.TouchedItem.{TouchedItem}
+use Rattle.gate_unsettled.specs.declared.touched.TouchedItem.{TouchedItem}
 use Rattle.gate_settling.specs.Touching.{Touching, delivered, sees}
 use Rattle.gate_settling.specs.Rows.{row_for, AreKept}
 use Rattle.gate_settling.proofs.KeptLemmas.{then}

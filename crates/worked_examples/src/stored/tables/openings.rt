@@ -2,7 +2,7 @@
 use crate::settings::config;
 use crate::stored::files::SETTINGS;
 use crate::stored::tables::{after, empty};
-use gate_sql::book::SqlBook;
+use gate_sql::SqlBook;
 use sqlite::{Connection, MemStore};
 use std::process::Abort;
 

@@ -1,0 +1,143 @@
+//! What is known of a change after edits: its needs, and its project.
+ghost use Rattle.std.specs.Prelude.{◌≡◌, ◌++◌, ◌∷◌, [], IfOk, IfErr, map, find, option_copied};
+ghost use Rattle.gate_types.specs.Names.{same_name};
+ghost use Rattle.gate_types.specs.State.{known_change, is_landed};
+ghost use Rattle.gate_book.specs.Faults.{MayAnswer};
+ghost use Rattle.gate_book.specs.Kept.{IsKept};
+ghost use Rattle.gate_admission.specs.Led.{OfLed};
+ghost use Rattle.gate_admission.specs.Seen.{last_put};
+ghost use Rattle.gate_admission.specs.Known.{known_or_closed, need_of};
+
+use gate_book::{Book, BookFault};
+use gate_types::config::{Config, Project};
+use gate_types::edits::Edit;
+use gate_types::names::{Name, NoMemory};
+use gate_types::numbers::ChangeNo;
+use gate_types::records::{Change, Need, Stage};
+use std::alloc::Global;
+
+/// Whether two names are the same.
+pub(crate) fn same_name(a: &Name, b: &Name) -> bool
+    ensures { result ≡ same_name a.now b.now }
+{
+    a.as_str() == b.as_str()
+}
+
+fn last_put(edits: &[Edit], number: ChangeNo) -> Option<&Change>
+    ensures { option_copied result ≡ last_put number edits.now }
+{
+    let mut found = None;
+    for edit in edits {
+        if let Edit::PutChange { change, .. } = edit {
+            if change.number == number {
+                found = Some(change);
+            }
+        }
+    }
+    found
+}
+
+/// What is known of a change after the edits.
+pub fn known<B: Book>(
+    book: &mut B,
+    edits: &[Edit],
+    number: ChangeNo,
+) -> Result<Option<Change>, BookFault>
+    ensures found { OfLed B.IsTrusted B.Holds book.old book.new edits.now (λ c v.
+        IfOk result (λ found. found ≡ known_change v number)) }
+    ensures kept { IsKept B.IsTrusted B.Holds B.LeavesOneOf book.old book.new }
+    ensures fault { IfErr result (MayAnswer B.MayFault) }
+{
+    match last_put(edits, number) {
+        Some(change) => Ok(Some(change.copy()?)),
+        None => book.change(number),
+    }
+}
+
+fn is_landed(change: &Option<Change>) -> bool
+    ensures { result ≡ is_landed (known_or_closed change.now) }
+{
+    match change {
+        Some(change) => matches!(change.stage, Stage::Landed),
+        None => false,
+    }
+}
+
+fn project_named<'c>(config: &'c Config, name: &str) -> Option<&'c Project>
+    ensures { option_copied result ≡ find (λ p. same_name p.name name.now) config.now.projects }
+{
+    config
+        .projects
+        .as_slice()
+        .iter()
+        .find(|project| project.name.as_str() == name)
+}
+
+/// The project of a change; none where the change isn't known.
+pub fn project_of<'c>(config: &'c Config, change: &Option<Change>) -> Option<&'c Project>
+    ensures { option_copied result ≡
+        find (λ p. same_name p.name (known_or_closed change.now).project) config.now.projects }
+{
+    match change {
+        Some(change) => project_named(config, change.project.as_str()),
+        None => project_named(config, ""),
+    }
+}
+
+fn need<B: Book>(book: &mut B, edits: &[Edit], number: ChangeNo) -> Result<Need, BookFault>
+    ensures found { OfLed B.IsTrusted B.Holds book.old book.new edits.now (λ c v.
+        IfOk result (λ need. need ≡ need_of v number)) }
+    ensures kept { IsKept B.IsTrusted B.Holds B.LeavesOneOf book.old book.new }
+    ensures fault { IfErr result (MayAnswer B.MayFault) }
+{
+    let known = known(book, edits, number)?;
+    Ok(Need {
+        change: number,
+        landed: is_landed(&known),
+    })
+}
+
+fn with_need(needs: Vec<Need>, need: Need) -> Result<Vec<Need>, NoMemory>
+    ensures { IfOk result (λ all. all.items ≡ needs.items ++ need ∷ []) }
+{
+    let mut needs = needs;
+    needs.push(need)?;
+    Ok(needs)
+}
+
+fn needs_with<B: Book>(
+    alloc: Global,
+    book: &mut B,
+    edits: &[Edit],
+    numbers: &[ChangeNo],
+) -> Result<Vec<Need>, BookFault>
+    ensures found { OfLed B.IsTrusted B.Holds book.old book.new edits.now (λ c v.
+        IfOk result (λ needs. needs.items ≡ map (need_of v) numbers.now)) }
+    ensures kept { IsKept B.IsTrusted B.Holds B.LeavesOneOf book.old book.new }
+    ensures fault { IfErr result (MayAnswer B.MayFault) }
+{
+    let mut needs = Vec::new(alloc);
+    for number in numbers {
+        let next = need(book, edits, *number)?;
+        needs = with_need(needs, next)?;
+    }
+    Ok(needs)
+}
+
+/// The needs of a change; none where it isn't known.
+pub(crate) fn needs_of<B: Book>(
+    alloc: Global,
+    book: &mut B,
+    edits: &[Edit],
+    change: &Option<Change>,
+) -> Result<Vec<Need>, BookFault>
+    ensures found { OfLed B.IsTrusted B.Holds book.old book.new edits.now (λ c v.
+        IfOk result (λ needs. needs.items ≡ map (need_of v) (known_or_closed change.now).needs)) }
+    ensures kept { IsKept B.IsTrusted B.Holds B.LeavesOneOf book.old book.new }
+    ensures fault { IfErr result (MayAnswer B.MayFault) }
+{
+    match change {
+        Some(change) => needs_with(alloc, book, edits, change.needs.as_slice()),
+        None => Ok(Vec::new(alloc)),
+    }
+}

@@ -1,5 +1,0 @@
-use Rattle.std.proofs.Common.{rules}
-use Rattle.gate_reads.proofs.next_build.push_unless_failing.Goals as goal
-
-pub returns : goal.returns
-returns c = search rules

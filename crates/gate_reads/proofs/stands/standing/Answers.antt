@@ -1,0 +1,32 @@
+use Rattle.std.proofs.Common.{◌≡◌, ◌∙◌, sym, ap, subst, true}
+use Rattle.std.specs.Prelude.{is_some}
+use Rattle.gate_types.specs.Settings.{Settings, are_sound}
+use Rattle.gate_reads.proofs.Told.{queued_so, not_queued, ready_so}
+use Rattle.gate_reads.proofs.stands.standing.Goals as goal
+
+pub returns-in-Some-clause-found : goal.returns-in-Some-clause-found
+returns-in-Some-clause-found g c trusted x holds lawful =
+    queued_so c.args.config.now x.state (subst
+    (λ (k : Settings). are_sound k ≡ true) c.config.view_is c.config.invariant)
+    lawful.lawful.sound c.args.change c.in-Some.queued
+    (sym (c.in_ok-queued.ensures.found trusted _ x holds lawful) ∙ c.in-Some.is)
+
+pub returns-in-Some-2-clause-found : goal.returns-in-Some-2-clause-found
+returns-in-Some-2-clause-found g c trusted x holds lawful =
+    let before = c.in_ok-approval.ensures.kept.trusted_before trusted in
+    let held = c.in_ok-queued.ensures.kept.holds_on before _ x holds in (
+      not_queued c.args.config.now x.state c.args.change
+          (sym (c.in_ok-queued.ensures.found before _ x holds lawful) ∙ c.in_default.is),
+      ready_so x.state c.args.change
+          ∙ ap is_some (sym (c.in_ok-approval.ensures.found trusted _ x held lawful) ∙ c.in-Some-2.is),
+    )
+
+pub returns-in-None-clause-found : goal.returns-in-None-clause-found
+returns-in-None-clause-found g c trusted x holds lawful =
+    let before = c.in_ok-approval.ensures.kept.trusted_before trusted in
+    let held = c.in_ok-queued.ensures.kept.holds_on before _ x holds in (
+      not_queued c.args.config.now x.state c.args.change
+          (sym (c.in_ok-queued.ensures.found before _ x holds lawful) ∙ c.in_default.is),
+      ready_so x.state c.args.change
+          ∙ ap is_some (sym (c.in_ok-approval.ensures.found trusted _ x held lawful) ∙ c.in-None.is),
+    )
