@@ -19,13 +19,13 @@ use Rattle.gate_types.specs.Forms.{IsLawfulContent, is_queue_in_form}
 use Rattle.gate_laws.proofs.Members.{In, every}
 use Rattle.gate_laws.proofs.Alone.{names_differ}
 use Rattle.gate_types.specs.Settings.{Settings, are_sound, are_distinct}
-use Rattle.gate_types.specs.State.{Item, Queue, State, has_change, change_of, known_change, project_of}
+use Rattle.gate_types.specs.State.{Item, Queue, State, has_change, change_of, known_change, project_of, known_or_closed, need_of}
 use Rattle.gate_types.specs.Slot.{are_met_by}
 use Rattle.gate_types.specs.Standing.{needs_of, with_ahead, place_of, places_after, next_ahead}
 use Rattle.gate_types.specs.Rows.{row_of, item_rows}
 use Rattle.gate_types.specs.Admit.{may_enter, next_plan, entered, admit_one, admit}
 use Rattle.gate_book.specs.Reads.{queue_named, items_in}
-use Rattle.gate_admission.specs.Known.{IsQueue, known_or_closed, need_of, has_room, has_place}
+use Rattle.gate_admission.specs.Known.{IsQueue, has_room, has_place}
 use Rattle.gate_admission.specs.Enters.{item_in}
 
 -- the names of the queues differ, and none is empty

@@ -7,10 +7,9 @@ use Rattle.gate_types.specs.declared.records.Need.{Need}
 use Rattle.gate_types.specs.Names.{same_name}
 use Rattle.gate_types.specs.Settings.{Settings}
 use Rattle.gate_types.specs.declared.records.Ready.{Ready}
-use Rattle.gate_types.specs.State.{Item, Queue, State, change_of, project_of, has_change}
+use Rattle.gate_types.specs.State.{Item, Queue, State, change_of, project_of, has_change, need_of}
 use Rattle.gate_types.specs.Slot.{are_met_by}
 use Rattle.gate_types.specs.Admit.{may_enter, entered, with_item, next_item}
-use Rattle.gate_admission.specs.Known.{need_of}
 
 -- a queue with room in which the needs are met
 abbrev fits : List Need → Queue → Bool

@@ -45,7 +45,8 @@ lets_in v r _ = false
 -- whoever may enter v may by edits of s, where nobody might
 abbrev pub EntersByEdits : Settings → State → List Edit → State → Type 0
 EntersByEdits c s edits v =
-    (r : Ready) → Contains v.ready r → may_enter c v r ≡ true → list_any (λ e. makes_room s e || lets_in v r e) edits ≡ true
+    (r : Ready) → Contains v.ready r → may_enter c v r ≡ true →
+    list_any (λ e. makes_room s e || lets_in v r e) edits ≡ true
 
 -- ---- who is looked at
 

@@ -35,9 +35,10 @@ fn is_idle(waiting: &BTreeMap<u64, ChangeNo>, edits: &[Edit]) -> bool
     }
 }
 
-/// The edits so far, and behind them those that let ready changes enter; none where a counter would pass 10^15. Before
-/// the edits nobody might enter. This only reads, by key: of those who are ready it asks about those whom the edits put,
-/// and those who need a change that lands or enters; about all where a queue of 1,000 items lost one.
+/// The edits so far, and behind them those that let ready changes enter; none where a counter would pass
+/// 10^15. Before the edits nobody might enter. This only reads, by key: of those who are ready it asks about
+/// those whom the edits put, and those who need a change that lands or enters; about all where a queue of
+/// 1,000 items lost one.
 pub fn admitting<B: Book>(
     alloc: Global,
     book: &mut B,
@@ -53,6 +54,7 @@ pub fn admitting<B: Book>(
     ensures kept { IsKept B.IsTrusted B.Holds B.LeavesOneOf book.old book.new }
     ensures fault { IfErr result (MayAnswer B.MayFault) }
 {
+    // This shows the prover that the settings are sound.
     let _settings = &config.base;
     let mut waiting = candidates(alloc, book, edits.as_slice())?;
     if is_idle(&waiting, edits.as_slice()) {

@@ -17,7 +17,7 @@ use gate_book::{Book, BookFault};
 use gate_types::edits::Edit;
 use gate_types::names::NoMemory;
 use gate_types::numbers::ChangeNo;
-use gate_types::records::{Change, Ready, Stage};
+use gate_types::records::Ready;
 use std::alloc::Global;
 use std::collections::BTreeMap;
 
@@ -48,7 +48,8 @@ fn with_left(left: Vec<Ready>, edits: &[Edit], row: Ready) -> Result<Vec<Ready>,
 }
 
 fn without_put(alloc: Global, rows: &[Ready], edits: &[Edit]) -> Result<Vec<Ready>, NoMemory>
-    ensures { IfOk result (λ left. left.items ≡ filter (λ r. not (list_any (candidate.puts r.change) edits.now)) rows.now) }
+    ensures { IfOk result (λ left. left.items
+        ≡ filter (λ r. not (list_any (candidate.puts r.change) edits.now)) rows.now) }
 {
     let mut left = Vec::new(alloc);
     for row in rows {
@@ -73,12 +74,6 @@ fn left_needing<B: Book>(
     Ok(without_put(alloc, rows.as_slice(), edits)?)
 }
 
-fn is_landed(change: &Change) -> bool
-    ensures { result ≡ is_landed change.now }
-{
-    matches!(change.stage, Stage::Landed)
-}
-
 /// Those that need a change that an edit puts as landed.
 fn let_in_by<B: Book>(
     alloc: Global,
@@ -93,7 +88,7 @@ fn let_in_by<B: Book>(
 {
     match edit {
         Edit::PutChange { change, .. } => {
-            if is_landed(change) {
+            if change.is_landed() {
                 left_needing(alloc, book, edits, change.number)
             } else {
                 Ok(Vec::new(alloc))
@@ -103,7 +98,7 @@ fn let_in_by<B: Book>(
     }
 }
 
-fn joined(front: Vec<Ready>, back: &[Ready]) -> Result<Vec<Ready>, NoMemory>
+fn with_rows(front: Vec<Ready>, back: &[Ready]) -> Result<Vec<Ready>, NoMemory>
     ensures { IfOk result (λ all. all.items ≡ front.items ++ back.now) }
 {
     let mut all = front;
@@ -123,7 +118,7 @@ fn let_in<B: Book>(alloc: Global, book: &mut B, edits: &[Edit]) -> Result<Vec<Re
     let mut all = ready_put(alloc, edits)?;
     for edit in edits {
         let more = let_in_by(alloc, book, edits, edit)?;
-        all = joined(all, more.as_slice())?;
+        all = with_rows(all, more.as_slice())?;
     }
     Ok(all)
 }

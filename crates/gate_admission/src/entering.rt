@@ -1,5 +1,5 @@
 //! A ready change enters its queue: whether it may, and the edits that stand for it.
-ghost use Rattle.std.specs.Prelude.{◌≡◌, ◌+◌, ◌++◌, ◌∷◌, [], ◌||◌, not, false, Some, find, option_and_then, IfOk, IfErr};
+ghost use Rattle.std.specs.Prelude.{◌≡◌, ◌+◌, ◌++◌, ◌||◌, not, false, Some, find, option_and_then, IfOk, IfErr};
 ghost use Rattle.std.specs.List.{list_all};
 ghost use Rattle.std.specs.Option.{option_map_or};
 ghost use Rattle.gate_types.specs.State.{Queue, State, known_change, has_change};
@@ -19,6 +19,7 @@ use crate::room::has_room;
 use gate_book::{Book, BookFault};
 use gate_types::config::Config;
 use gate_types::edits::{Counter, Edit};
+use gate_types::lists::with_one;
 use gate_types::names::{Name, NoMemory};
 use gate_types::numbers::Serial;
 use gate_types::records::{Change, Item, Need, Plan, Ready};
@@ -94,6 +95,7 @@ pub(crate) fn may_enter<B: Book>(
     ensures kept { IsKept B.IsTrusted B.Holds B.LeavesOneOf book.old book.new }
     ensures fault { IfErr result (MayAnswer B.MayFault) }
 {
+    // This shows the prover that the settings are sound.
     let _settings = &config.base;
     let known = known(book, edits, ready.change)?;
     let Some(project) = project_of(config, &known) else {
@@ -209,14 +211,6 @@ fn entering_row<B: Book>(
     })
 }
 
-fn with_edit(edits: Vec<Edit>, edit: Edit) -> Result<Vec<Edit>, NoMemory>
-    ensures { IfOk result (λ all. all.items ≡ edits.items ++ edit ∷ []) }
-{
-    let mut edits = edits;
-    edits.push(edit)?;
-    Ok(edits)
-}
-
 fn with_entering(
     edits: Vec<Edit>,
     queue: Name,
@@ -227,16 +221,16 @@ fn with_entering(
     ensures { IfOk result (λ all. all.items ≡ edits.items ++ entering_edits queue change row plan) }
 {
     let Item { serial, .. } = row;
-    let edits = with_edit(edits, Edit::PutItem { queue, item: row })?;
-    let edits = with_edit(edits, Edit::PutPlan(plan))?;
-    let edits = with_edit(
+    let edits = with_one(edits, Edit::PutItem { queue, item: row })?;
+    let edits = with_one(edits, Edit::PutPlan(plan))?;
+    let edits = with_one(
         edits,
         Edit::PutChange {
             change,
             approval: None,
         },
     )?;
-    with_edit(
+    with_one(
         edits,
         Edit::SetCounter {
             counter: Counter::Order,
@@ -261,6 +255,7 @@ pub(crate) fn enter<B: Book>(
     ensures kept { IsKept B.IsTrusted B.Holds B.LeavesOneOf book.old book.new }
     ensures fault { IfErr result (MayAnswer B.MayFault) }
 {
+    // This shows the prover that the settings are sound.
     let _settings = &config.base;
     let known = known(book, edits.as_slice(), ready.change)?;
     let Some(project) = project_of(config, &known) else {

@@ -9,10 +9,9 @@ ghost use Rattle.gate_admission.specs.declared.items.Fate.TheVariants as fate;
 ghost use Rattle.gate_admission.specs.Known.{IsQueue};
 ghost use Rattle.gate_admission.specs.Enters.{item_in, last_row};
 
-use crate::known_changes::same_name;
 use gate_book::{Book, BookFault};
 use gate_types::edits::Edit;
-use gate_types::names::Name;
+use gate_types::names::{Name, same_name};
 use gate_types::numbers::{ChangeNo, Serial};
 use gate_types::records::Item;
 

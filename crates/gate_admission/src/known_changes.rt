@@ -1,27 +1,19 @@
 //! What is known of a change after edits: its needs, and its project.
-ghost use Rattle.std.specs.Prelude.{◌≡◌, ◌++◌, ◌∷◌, [], IfOk, IfErr, map, find, option_copied};
+ghost use Rattle.std.specs.Prelude.{◌≡◌, IfOk, IfErr, map, find, option_copied};
 ghost use Rattle.gate_types.specs.Names.{same_name};
-ghost use Rattle.gate_types.specs.State.{known_change, is_landed};
+ghost use Rattle.gate_types.specs.State.{known_change, known_or_closed, need_of};
 ghost use Rattle.gate_book.specs.Faults.{MayAnswer};
 ghost use Rattle.gate_book.specs.Kept.{IsKept};
 ghost use Rattle.gate_admission.specs.Led.{OfLed};
 ghost use Rattle.gate_admission.specs.Seen.{last_put};
-ghost use Rattle.gate_admission.specs.Known.{known_or_closed, need_of};
 
 use gate_book::{Book, BookFault};
 use gate_types::config::{Config, Project};
 use gate_types::edits::Edit;
-use gate_types::names::{Name, NoMemory};
+use gate_types::lists::with_one;
 use gate_types::numbers::ChangeNo;
-use gate_types::records::{Change, Need, Stage};
+use gate_types::records::{Change, Need};
 use std::alloc::Global;
-
-/// Whether two names are the same.
-pub(crate) fn same_name(a: &Name, b: &Name) -> bool
-    ensures { result ≡ same_name a.now b.now }
-{
-    a.as_str() == b.as_str()
-}
 
 fn last_put(edits: &[Edit], number: ChangeNo) -> Option<&Change>
     ensures { option_copied result ≡ last_put number edits.now }
@@ -54,33 +46,14 @@ pub fn known<B: Book>(
     }
 }
 
-fn is_landed(change: &Option<Change>) -> bool
-    ensures { result ≡ is_landed (known_or_closed change.now) }
-{
-    match change {
-        Some(change) => matches!(change.stage, Stage::Landed),
-        None => false,
-    }
-}
-
-fn project_named<'c>(config: &'c Config, name: &str) -> Option<&'c Project>
-    ensures { option_copied result ≡ find (λ p. same_name p.name name.now) config.now.projects }
-{
-    config
-        .projects
-        .as_slice()
-        .iter()
-        .find(|project| project.name.as_str() == name)
-}
-
 /// The project of a change; none where the change isn't known.
 pub fn project_of<'c>(config: &'c Config, change: &Option<Change>) -> Option<&'c Project>
     ensures { option_copied result ≡
         find (λ p. same_name p.name (known_or_closed change.now).project) config.now.projects }
 {
     match change {
-        Some(change) => project_named(config, change.project.as_str()),
-        None => project_named(config, ""),
+        Some(change) => config.project(change.project.as_str()),
+        None => config.project(""),
     }
 }
 
@@ -93,16 +66,8 @@ fn need<B: Book>(book: &mut B, edits: &[Edit], number: ChangeNo) -> Result<Need,
     let known = known(book, edits, number)?;
     Ok(Need {
         change: number,
-        landed: is_landed(&known),
+        landed: Change::has_landed(&known),
     })
-}
-
-fn with_need(needs: Vec<Need>, need: Need) -> Result<Vec<Need>, NoMemory>
-    ensures { IfOk result (λ all. all.items ≡ needs.items ++ need ∷ []) }
-{
-    let mut needs = needs;
-    needs.push(need)?;
-    Ok(needs)
 }
 
 fn needs_with<B: Book>(
@@ -119,7 +84,7 @@ fn needs_with<B: Book>(
     let mut needs = Vec::new(alloc);
     for number in numbers {
         let next = need(book, edits, *number)?;
-        needs = with_need(needs, next)?;
+        needs = with_one(needs, next)?;
     }
     Ok(needs)
 }

@@ -12,10 +12,9 @@ ghost use Rattle.gate_admission.specs.Known.{IsQueue, has_room};
 ghost use Rattle.gate_admission.specs.Candidates as candidate;
 
 use crate::items::item_at;
-use crate::known_changes::same_name;
 use gate_book::{Book, BookFault};
 use gate_types::edits::Edit;
-use gate_types::names::Name;
+use gate_types::names::{Name, same_name};
 use gate_types::numbers::Serial;
 
 /// Whether an edit after others puts an item into a queue where none had its serial.

@@ -15,7 +15,7 @@ use Rattle.gate_types.specs.declared.rows.ChangeRow.{ChangeRow}
 use Rattle.gate_book.specs.declared.pairs.Pair.{Pair}
 use Rattle.gate_book.specs.Sorted.{In}
 use Rattle.gate_book.specs.Pairs.{IsFit}
-use Rattle.gate_book.specs.Needs.{TellsNeeds, TellsSerials, IsSmall, need_of, needs_of, needs_of_all}
+use Rattle.gate_book.specs.Needs.{TellsNeeds, TellsSerials, IsSmall, pair_of_need, needs_of, needs_of_all}
 use Rattle.gate_book.specs.TableReads.{needs_in}
 use Rattle.gate_book.proofs.BuildLemmas.{all_in, in_weaker}
 use Rattle.gate_book.proofs.LoopLemmas.{all_push}
@@ -78,21 +78,21 @@ all_more P xs k x l at all p = all_next P xs k x l all (subst P at p)
 pub small_fit : (ps : List Pair) → AllByRecursion IsSmall ps → AllByRecursion IsFit ps
 small_fit ps small = in_weaker IsSmall IsFit (λ p h. omega (arith, h)) ps small
 
-any_told : (needs : List Pair) (j n : ℕ) (ms : List ℕ) → AllByRecursion (λ m. In (need_of m j) needs) ms → list_any (λ m. m == n) ms ≡ true → In (need_of n j) needs
+any_told : (needs : List Pair) (j n : ℕ) (ms : List ℕ) → AllByRecursion (λ m. In (pair_of_need m j) needs) ms → list_any (λ m. m == n) ms ≡ true → In (pair_of_need n j) needs
 any_told needs j n [] told any = absurd (false≢true any)
 any_told needs j n (m ∷ ms) told any = by_number (m == n) refl any (any_told needs j n ms told.1)
   where
-    by_number : (t : Bool) → m == n ≡ t → t || list_any (λ i. i == n) ms ≡ true → (list_any (λ i. i == n) ms ≡ true → In (need_of n j) needs) → In (need_of n j) needs
-    by_number true e any rest = subst (λ i. In (need_of i j) needs) (eqb-true m n e) told.0
+    by_number : (t : Bool) → m == n ≡ t → t || list_any (λ i. i == n) ms ≡ true → (list_any (λ i. i == n) ms ≡ true → In (pair_of_need n j) needs) → In (pair_of_need n j) needs
+    by_number true e any rest = subst (λ i. In (pair_of_need i j) needs) (eqb-true m n e) told.0
     by_number false e any rest = rest any
 
 -- a change that needs another tells so
-pub needed_told : (needs : List Pair) (n k : ℕ) (rows : List ChangeRow) → TellsNeeds needs rows → list_any (λ m. m == n) (needs_in rows k) ≡ true → In (need_of n k) needs
+pub needed_told : (needs : List Pair) (n k : ℕ) (rows : List ChangeRow) → TellsNeeds needs rows → list_any (λ m. m == n) (needs_in rows k) ≡ true → In (pair_of_need n k) needs
 needed_told needs n k [] told any = absurd (false≢true any)
 needed_told needs n k (r ∷ rs) told any = by_number (r.change.number == k) refl any (needed_told needs n k rs told.1)
   where
-    by_number : (t : Bool) → r.change.number == k ≡ t → list_any (λ m. m == n) (option_map_or (λ c. c.needs) (option_map (λ (r : ChangeRow). r.change) (cond t (Some r) (find (λ r. r.change.number == k) rs))) []) ≡ true → (list_any (λ m. m == n) (needs_in rs k) ≡ true → In (need_of n k) needs) → In (need_of n k) needs
-    by_number true e any rest = subst (λ j. In (need_of n j) needs) (eqb-true r.change.number k e) (any_told needs r.change.number n r.change.needs told.0 any)
+    by_number : (t : Bool) → r.change.number == k ≡ t → list_any (λ m. m == n) (option_map_or (λ c. c.needs) (option_map (λ (r : ChangeRow). r.change) (cond t (Some r) (find (λ r. r.change.number == k) rs))) []) ≡ true → (list_any (λ m. m == n) (needs_in rs k) ≡ true → In (pair_of_need n k) needs) → In (pair_of_need n k) needs
+    by_number true e any rest = subst (λ j. In (pair_of_need n j) needs) (eqb-true r.change.number k e) (any_told needs r.change.number n r.change.needs told.0 any)
     by_number false e any rest = rest any
 
 -- more serials tell what some did

@@ -16,7 +16,7 @@ use Rattle.gate_types.specs.declared.rows.ChangeRow.{ChangeRow}
 use Rattle.gate_types.specs.Tables.{approval_of}
 use Rattle.gate_book.specs.declared.pairs.Pair.{Pair}
 use Rattle.gate_book.specs.Changes.{AreReady, number_of}
-use Rattle.gate_book.specs.Needs.{need_of}
+use Rattle.gate_book.specs.Needs.{pair_of_need}
 use Rattle.gate_book.specs.Sorted.{RisesFrom, In}
 use Rattle.gate_book.specs.TableReads.{row_of, needs_in, if_needing, needing_by, is_ready_needing, ready_needing_in}
 use Rattle.gate_book.proofs.BuildLemmas.{all_in}
@@ -91,13 +91,13 @@ pair_is rows rs n p r ready told = by_row (row_of rows p.second) refl told
                 (in_filter (is_ready_needing rows n) r rs (ap (list_any (λ m. m == n)) needs ∙ h) there, change)
 
 -- who is ready and needs the change is told by its pair
-pair_tells : (rows : List ChangeRow) (rs : List Ready) (n : ℕ) (r : Ready) → AreReady rows rs → In r (ready_needing_in rows n rs) → needing_by rows n (need_of n r.change) ≡ Some r
+pair_tells : (rows : List ChangeRow) (rs : List Ready) (n : ℕ) (r : Ready) → AreReady rows rs → In r (ready_needing_in rows n rs) → needing_by rows n (pair_of_need n r.change) ≡ Some r
 pair_tells rows rs n r ready there = by_row (row_of rows r.change) refl (all_in (λ (s : Ready). IsSome (row_of rows s.change)) rs r ready.known kept.0)
   where
     kept : In r rs × (is_ready_needing rows n r ≡ true)
     kept = from_filter (is_ready_needing rows n) r rs there
 
-    by_row : (o : Option ChangeRow) → row_of rows r.change ≡ o → IsSome o → needing_by rows n (need_of n r.change) ≡ Some r
+    by_row : (o : Option ChangeRow) → row_of rows r.change ≡ o → IsSome o → needing_by rows n (pair_of_need n r.change) ≡ Some r
     by_row None e some = absurd (false≢true some)
     by_row (Some k) e some =
         let number : k.change.number ≡ r.change = found_has number_of r.change k rows (sym e) in
@@ -147,7 +147,7 @@ all_so rows rs n (p ∷ ps) ready = by_told (needing_by rows n p) refl (all_so r
     by_told (Some r) e rest = ((pair_is rows rs n p r ready e).0, rest)
 
 -- what the pairs tell, in order of approval, are the ready changes that need the change
-pub needing_is : (rows : List ChangeRow) (rs : List Ready) (n : ℕ) (ps : List Pair) (sorted : List Ready) → AreReady rows rs → RisesFrom (λ (m : ℕ). m) 0 (map (λ (p : Pair). p.second) ps) → ((k : ℕ) → list_any (λ m. m == n) (needs_in rows k) ≡ true → In (need_of n k) ps) → IsPermutation (filter_map (needing_by rows n) ps) sorted → IsNonDecreasingBy (λ (r : Ready). r.approval) sorted → sorted ≡ ready_needing_in rows n rs
+pub needing_is : (rows : List ChangeRow) (rs : List Ready) (n : ℕ) (ps : List Pair) (sorted : List Ready) → AreReady rows rs → RisesFrom (λ (m : ℕ). m) 0 (map (λ (p : Pair). p.second) ps) → ((k : ℕ) → list_any (λ m. m == n) (needs_in rows k) ≡ true → In (pair_of_need n k) ps) → IsPermutation (filter_map (needing_by rows n) ps) sorted → IsNonDecreasingBy (λ (r : Ready). r.approval) sorted → sorted ≡ ready_needing_in rows n rs
 needing_is rows rs n ps sorted ready rise told same order = same_rows (λ (r : Ready). r.approval) 0 0 sorted (ready_needing_in rows n rs) up (rises-filter (λ (r : Ready). r.approval) (is_ready_needing rows n) 0 rs ready.rise) so all
   where
     up : RisesFrom (λ (r : Ready). r.approval) 0 sorted
@@ -157,4 +157,4 @@ needing_is rows rs n ps sorted ready rise told same order = same_rows (λ (r : R
     so r t = all_in (λ q. In q (ready_needing_in rows n rs)) (filter_map (needing_by rows n) ps) r (all_so rows rs n ps ready) (moved_in sorted (filter_map (needing_by rows n) ps) (IsPermutation-sym (filter_map (needing_by rows n) ps) sorted same) r t)
 
     all : (r : Ready) → In r (ready_needing_in rows n rs) → In r sorted
-    all r t = moved_in (filter_map (needing_by rows n) ps) sorted same r (in_given (needing_by rows n) (need_of n r.change) r ps (told r.change (from_filter (is_ready_needing rows n) r rs t).1) (pair_tells rows rs n r ready t))
+    all r t = moved_in (filter_map (needing_by rows n) ps) sorted same r (in_given (needing_by rows n) (pair_of_need n r.change) r ps (told r.change (from_filter (is_ready_needing rows n) r rs t).1) (pair_tells rows rs n r ready t))

@@ -10,12 +10,12 @@ use Rattle.gate_book.specs.Pairs.{pair_key}
 use Rattle.gate_book.specs.declared.pairs.Pair.{Pair}
 
 -- what the index keeps of a need
-abbrev pub need_of : ℕ → ℕ → Pair
-need_of needed n = record { first = needed; second = n }
+abbrev pub pair_of_need : ℕ → ℕ → Pair
+pair_of_need needed n = record { first = needed; second = n }
 
 -- these needs of a change stand in the index
 abbrev pub TellsNeedsOf : List Pair → ℕ → List ℕ → Type 0
-TellsNeedsOf needs n ms = AllByRecursion (λ m. In (need_of m n) needs) ms
+TellsNeedsOf needs n ms = AllByRecursion (λ m. In (pair_of_need m n) needs) ms
 
 -- those of each change do
 abbrev pub TellsNeeds : List Pair → List ChangeRow → Type 0

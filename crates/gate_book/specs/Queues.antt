@@ -15,8 +15,8 @@ abbrev pub serial_of : Item → ℕ
 serial_of i = i.serial
 
 -- the place of a landing
-abbrev pub landing_place : LandingRow → ℕ
-landing_place r = r.place
+abbrev pub place_of_landing : LandingRow → ℕ
+place_of_landing r = r.place
 
 -- the serial of a landing
 abbrev pub landing_serial : LandingRow → ℕ
@@ -44,7 +44,7 @@ pub record IsKept (t : QueueTable) : Type 0 where
   pub entries_rise : RisesFrom pair_key 0 t.entries.items
   pub entries_fit : AllByRecursion IsFit t.entries.items
   pub items_told : TellsItems t.entries.items t.items.items
-  pub landings_rise : RisesFrom landing_place 0 t.landings.items
+  pub landings_rise : RisesFrom place_of_landing 0 t.landings.items
   pub reports_rise : RisesFrom report_place 0 t.reports.items
 
 -- room for n more rows of each kind

@@ -168,12 +168,13 @@ pub trait Book {
         last: Serial,
     ) -> Result<Sequence<Plan>, BookFault>
         ensures found { OfHeld IsTrusted Holds self.old self.new (λ c x.
-            read.Answers (read.plans_of_items x.state (read.items_between above last (read.items_in c x.state queue.now)))
-            result) }
+            let items = read.items_between above last (read.items_in c x.state queue.now) in
+            read.Answers (read.plans_of_items x.state items) result) }
         ensures kept { IsKept IsTrusted Holds LeavesOneOf self.old self.new }
         ensures fault { IfErr result MayFault };
 
-    /// The live builds of a queue's items with serials above `above` up to `last`, front to back, each item's by number.
+    /// The live builds of a queue's items with serials above `above` up to `last`, front to back, each item's
+    /// by number.
     fn builds_between(
         &mut self,
         queue: &Name,
@@ -181,8 +182,8 @@ pub trait Book {
         last: Serial,
     ) -> Result<Sequence<Build>, BookFault>
         ensures found { OfHeld IsTrusted Holds self.old self.new (λ c x.
-            read.Answers (read.builds_of_items x.state (read.items_between above last (read.items_in c x.state queue.now)))
-            result) }
+            let items = read.items_between above last (read.items_in c x.state queue.now) in
+            read.Answers (read.builds_of_items x.state items) result) }
         ensures kept { IsKept IsTrusted Holds LeavesOneOf self.old self.new }
         ensures fault { IfErr result MayFault };
 

@@ -9,7 +9,7 @@ ghost use Rattle.gate_book.specs.Sorted.{RisesFrom, without, In};
 ghost use Rattle.gate_book.specs.TableReads.{change_in, needs_in, needing_by, IsWhatRowsTellOf};
 ghost use Rattle.gate_book.specs.Pairs.{pair_key, IsFit};
 ghost use Rattle.gate_book.specs.declared.pairs.Pair.{Pair};
-ghost use Rattle.gate_book.specs.Needs.{AreInOrder, IsRising, IsSmall, TellsNeedsOf, need_of};
+ghost use Rattle.gate_book.specs.Needs.{AreInOrder, IsRising, IsSmall, TellsNeedsOf, pair_of_need};
 ghost use Rattle.gate_book.specs.Changes.{FindsNumbers, IsKept, HasRoom, IsWhatRowsTell, ready_by, number_of, in_order, changes_of, approval_in, entry_of};
 
 use crate::needs::note_needs;
@@ -335,7 +335,7 @@ impl ChangeTable {
         ensures rising { IsRising (map (λ p. p.second) result.now) }
         ensures small { AllByRecursion IsSmall result.now }
         ensures told { (n : ℕ) → list_any (λ m. m == change) (needs_in (changes_of self.now) n) ≡ true →
-            In (need_of change n) result.now }
+            In (pair_of_need change n) result.now }
     {
         of_first(&self.needs, change.get())
     }

@@ -18,7 +18,7 @@ use crate::rows::QueuedItem;
 use crate::sorted;
 use crate::sorted::Keyed;
 use gate_types::edits::Edit;
-use gate_types::names::{Name, NoMemory};
+use gate_types::names::{Name, NoMemory, same_name};
 use gate_types::numbers::{ChangeNo, Serial};
 use gate_types::records::Item;
 use gate_types::rows::{LandingRow, ReportRow};
@@ -48,9 +48,9 @@ impl Keyed for Item {
 }
 
 impl Keyed for LandingRow {
-    ghost use Rattle.gate_book.specs.Queues.{landing_place};
+    ghost use Rattle.gate_book.specs.Queues.{place_of_landing};
 
-    ghost key = { landing_place };
+    ghost key = { place_of_landing };
 
     fn key(&self) -> u128 {
         self.place as u128
@@ -65,12 +65,6 @@ impl Keyed for ReportRow {
     fn key(&self) -> u128 {
         self.place as u128
     }
-}
-
-fn same_name(name: &Name, other: &Name) -> bool
-    ensures { result ≡ same_name name.now other.now }
-{
-    name.as_str() == other.as_str()
 }
 
 fn entry_of(item: &Item) -> Pair

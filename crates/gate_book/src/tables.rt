@@ -410,8 +410,8 @@ impl MemTables {
         above: u64,
     ) -> Result<Sequence<Item>, NoMemory>
         requires { IsKept self.now }
-        ensures { IfOk result (λ found. found
-            ≡ needing_in (tables_of self.now).changes change above (items_named (tables_of self.now).queues queue.now)) }
+        ensures { let tables = tables_of self.now in IfOk result (λ found. found
+            ≡ needing_in tables.changes change above (items_named tables.queues queue.now)) }
     {
         match self.queue_named(queue) {
             Some(queue) => {

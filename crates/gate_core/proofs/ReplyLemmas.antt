@@ -23,7 +23,7 @@ use Rattle.gate_core.specs.Limit.{limit, too_large}
 use Rattle.gate_wire.specs.declared.door.Door.TheVariants as door
 use Rattle.gate_wire.specs.Reading.{says}
 use Rattle.gate_core.specs.Runs.{Answers, Runs, Broke}
-use Rattle.gate_core.specs.Replies.{CallsAreAnswered, call_replies, Marked, is_too_long, call_read, call_of, calls_of, gate_after, text_read, reply_to, replies, Told, Replayed, Cut}
+use Rattle.gate_core.specs.Replies.{CallsAreAnswered, call_replies, Marked, is_too_long, call_read, call_of, calls_of_lines, gate_after_lines, text_read, reply_to, replies, Told, Replayed, Cut}
 use Rattle.gate_core.specs.Held.{IsOver, Goes, Tells}
 
 -- the reply to a line, by whether it is too long, its mark and what was read
@@ -93,9 +93,9 @@ long : (line : List ℕ) → limit < length line → is_too_long line ≡ true
 long line h = search rules
 
 -- lines in two parts, one after the other
-pub gate_after-append : (g : Gated) (ms ns : List Marked) → gate_after (gate_after g ms) ns ≡ gate_after g (ms ++ ns)
-gate_after-append g ms ns = ap (λ x. record g { content = x })
-    (sym (ap (once g.settings g.content) (flat_map-append call_of ms ns) ∙ fold-append (next_content g.settings) g.content (calls_of ms) (calls_of ns)))
+pub gate_after_lines-append : (g : Gated) (ms ns : List Marked) → gate_after_lines (gate_after_lines g ms) ns ≡ gate_after_lines g (ms ++ ns)
+gate_after_lines-append g ms ns = ap (λ x. record g { content = x })
+    (sym (ap (once g.settings g.content) (flat_map-append call_of ms ns) ∙ fold-append (next_content g.settings) g.content (calls_of_lines ms) (calls_of_lines ns)))
 
 -- ---- gates over books
 
@@ -165,8 +165,8 @@ replayed_cons g mid after line said lines more text joined told later =
       every_line = ap (λ l. line ∷ l) later.every_line;
       said = joined ∙ ap (λ s. (s ++ 10 ∷ []) ++ more) told.said
           ∙ ap (λ s. (reply_to g m ++ 10 ∷ []) ++ s) (later.said ∙ ap (λ h. replies h later.marked) told.stands);
-      stands = later.stands ∙ ap (λ h. gate_after h later.marked) told.stands
-          ∙ gate_after-append g (m ∷ []) later.marked;
+      stands = later.stands ∙ ap (λ h. gate_after_lines h later.marked) told.stands
+          ∙ gate_after_lines-append g (m ∷ []) later.marked;
     }
 
 -- what the engine ran through is replayed
@@ -189,7 +189,7 @@ cut_behind : (g mid after : Gated) (lines front : List (List ℕ)) (line : List 
     (cut : Cut g lines (text ++ take at (said ++ 10 ∷ [])) after) × (length cut.done ≡ length front)
 cut_behind g mid after lines front line more text said at split short done told =
     let m : Marked = record { line = line; unavailable = told.unavailable } in
-    let reply : said ≡ reply_to (gate_after g done.marked) m = told.said ∙ ap (λ h. reply_to h m) done.stands in (
+    let reply : said ≡ reply_to (gate_after_lines g done.marked) m = told.said ∙ ap (λ h. reply_to h m) done.stands in (
       record {
         done = done.marked;
         last = m;
@@ -199,8 +199,8 @@ cut_behind g mid after lines front line more text said at split short done told 
         short = subst (λ s. at < length (s ++ 10 ∷ [])) reply short;
         said = ap (λ s. s ++ take at (said ++ 10 ∷ [])) done.said
             ∙ ap (λ s. replies g done.marked ++ take at (s ++ 10 ∷ [])) reply;
-        stands = told.stands ∙ ap (λ h. gate_after h (m ∷ [])) done.stands
-            ∙ gate_after-append g done.marked (m ∷ []);
+        stands = told.stands ∙ ap (λ h. gate_after_lines h (m ∷ [])) done.stands
+            ∙ gate_after_lines-append g done.marked (m ∷ []);
       },
       sym (length-map done.marked (λ m. m.line)) ∙ ap length done.every_line,
     )
@@ -223,7 +223,7 @@ abbrev AddsAnswer : Gated → List Marked → Bool → Bool → Result (Id × De
 AddsAnswer g ms over u r =
     let calls = if over then [] else call_read u r in
     map (λ k. reply_by over u g r) calls ++ call_replies (gate_by over u g r) ms
-    ≡ map answer_text (answers g.settings g.content (calls ++ calls_of ms))
+    ≡ map answer_text (answers g.settings g.content (calls ++ calls_of_lines ms))
 
 adds_answer : (g : Gated) (ms : List Marked) (over u : Bool) (r : Result (Id × Delivery) Refusal) → ((h : Gated) → CallsAreAnswered h ms) → AddsAnswer g ms over u r
 adds_answer g ms true u r rest = rest g

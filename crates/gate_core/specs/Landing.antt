@@ -18,4 +18,5 @@ pub record LandsRightly (c : Settings) (x : Content) (k : Call) (a : Answer) : T
   pub stays : (o : Order) → Contains (orders c x.state) o →
       acts c x k && answers_order k.delivery o.item.serial ≡ false → IsStillShown c (next_content c x k).state o
   pub unshown : kept_for k.id x.kept ≡ None → (n : ℕ) → is_order_shown c x.state n ≡ false →
-      answers_order k.delivery n ≡ true → (a ≡ answer.Refused refusal.NoOrder) ⊎ (a ≡ answer.Refused refusal.Unavailable)
+      answers_order k.delivery n ≡ true →
+      (a ≡ answer.Refused refusal.NoOrder) ⊎ (a ≡ answer.Refused refusal.Unavailable)

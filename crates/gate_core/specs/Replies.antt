@@ -31,12 +31,12 @@ abbrev pub call_of : Marked → List Call
 call_of m = if is_too_long m.line then [] else call_read m.unavailable (says door.Any m.line)
 
 -- the calls of lines, in order
-abbrev pub calls_of : List Marked → List Call
-calls_of ms = flat_map call_of ms
+abbrev pub calls_of_lines : List Marked → List Call
+calls_of_lines ms = flat_map call_of ms
 
 -- the gate after lines: each id acts once
-abbrev pub gate_after : Gated → List Marked → Gated
-gate_after g ms = record g { content = once g.settings g.content (calls_of ms) }
+abbrev pub gate_after_lines : Gated → List Marked → Gated
+gate_after_lines g ms = record g { content = once g.settings g.content (calls_of_lines ms) }
 
 -- the text for what was read: the answer to a delivery, or why there is none
 abbrev pub text_read : Gated → Result (Id × Delivery) Refusal → List ℕ
@@ -54,20 +54,20 @@ reply_to g m =
 -- the replies to lines, one after another, each with an LF
 abbrev pub replies : Gated → List Marked → List ℕ
 replies g [] = []
-replies g (m ∷ ms) = (reply_to g m ++ 10 ∷ []) ++ replies (gate_after g (m ∷ [])) ms
+replies g (m ∷ ms) = (reply_to g m ++ 10 ∷ []) ++ replies (gate_after_lines g (m ∷ [])) ms
 
 -- a line may be answered by this text, and the gate is this one then
 pub record Told (g : Gated) (line text : List ℕ) (after : Gated) : Type 0 where
   pub unavailable : Bool
   pub said : text ≡ reply_to g (record { line = line; unavailable = unavailable })
-  pub stands : after ≡ gate_after g (record { line = line; unavailable = unavailable } ∷ [])
+  pub stands : after ≡ gate_after_lines g (record { line = line; unavailable = unavailable } ∷ [])
 
 -- the lines, some of them marked, are replied to by this text, and each of their calls acts once
 pub record Replayed (g : Gated) (lines : List (List ℕ)) (text : List ℕ) (after : Gated) : Type 0 where
   pub marked : List Marked
   pub every_line : map (λ m. m.line) marked ≡ lines
   pub said : text ≡ replies g marked
-  pub stands : after ≡ gate_after g marked
+  pub stands : after ≡ gate_after_lines g marked
 
 -- the first of the lines are replied to, the last of these replies is cut, and its call stands
 pub record Cut (g : Gated) (lines : List (List ℕ)) (text : List ℕ) (after : Gated) : Type 0 where
@@ -76,15 +76,15 @@ pub record Cut (g : Gated) (lines : List (List ℕ)) (text : List ℕ) (after : 
   pub unanswered : List (List ℕ)
   pub every_line : map (λ m. m.line) done ++ last.line ∷ unanswered ≡ lines
   pub at : ℕ
-  pub short : at < length (reply_to (gate_after g done) last ++ 10 ∷ [])
-  pub said : text ≡ replies g done ++ take at (reply_to (gate_after g done) last ++ 10 ∷ [])
-  pub stands : after ≡ gate_after g (done ++ last ∷ [])
+  pub short : at < length (reply_to (gate_after_lines g done) last ++ 10 ∷ [])
+  pub said : text ≡ replies g done ++ take at (reply_to (gate_after_lines g done) last ++ 10 ∷ [])
+  pub stands : after ≡ gate_after_lines g (done ++ last ∷ [])
 
 -- the replies to those of the lines that are calls
 abbrev pub call_replies : Gated → List Marked → List (List ℕ)
 call_replies g [] = []
-call_replies g (m ∷ ms) = map (λ k. reply_to g m) (call_of m) ++ call_replies (gate_after g (m ∷ [])) ms
+call_replies g (m ∷ ms) = map (λ k. reply_to g m) (call_of m) ++ call_replies (gate_after_lines g (m ∷ [])) ms
 
 -- they are the answers to these calls, each id acting once
 abbrev pub CallsAreAnswered : Gated → List Marked → Type 0
-CallsAreAnswered g ms = call_replies g ms ≡ map answer_text (answers g.settings g.content (calls_of ms))
+CallsAreAnswered g ms = call_replies g ms ≡ map answer_text (answers g.settings g.content (calls_of_lines ms))

@@ -1,8 +1,6 @@
 //! An accepted delivery: its reply is kept, and all edits are applied at once.
-ghost use Rattle.std.specs.Prelude.{◌≡◌, ◌++◌, ◌∷◌, [], IfOk, IfErr, OnErr};
-ghost use Rattle.gate_types.specs.Settings.{Settings};
+ghost use Rattle.std.specs.Prelude.{IfOk, IfErr, OnErr};
 ghost use Rattle.gate_types.specs.State.{State};
-ghost use Rattle.gate_types.specs.Once.{Content};
 ghost use Rattle.gate_types.specs.Forms.{IsLawfulContent};
 ghost use Rattle.gate_types.specs.Tables.{Leads};
 ghost use Rattle.gate_book.specs.Faults.{MayAnswer};
@@ -13,7 +11,8 @@ ghost use Rattle.gate_deliver.specs.Ruled.{kept_on, IsAccepted, IsSpared};
 use gate_book::{Book, BookFault};
 use gate_types::deliveries::{Answer, Reply};
 use gate_types::edits::Edit;
-use gate_types::names::{NoMemory, Text};
+use gate_types::lists::with_one;
+use gate_types::names::Text;
 use gate_types::records::{Id, Kept};
 use gate_wire::write_reply;
 use std::alloc::Global;
@@ -40,16 +39,7 @@ pub(crate) fn accept<B: Book>(
 {
     let text = Text::new(write_reply(alloc, reply)?);
     let reply = text.copy()?;
-    let edits = with_edit(edits, Edit::Keep(Kept { id, said, reply }))?;
+    let edits = with_one(edits, Edit::Keep(Kept { id, said, reply }))?;
     book.apply(&edits)?;
     Ok(Answer::Said(text))
-}
-
-/// The edits and one more.
-fn with_edit(edits: Vec<Edit>, edit: Edit) -> Result<Vec<Edit>, NoMemory>
-    ensures { IfOk result (λ all. all.items ≡ edits.items ++ edit ∷ []) }
-{
-    let mut all = edits;
-    all.push(edit)?;
-    Ok(all)
 }

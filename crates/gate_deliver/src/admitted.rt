@@ -18,9 +18,9 @@ use gate_types::config::Config;
 use gate_types::edits::Edit;
 use std::alloc::Global;
 
-/// The edits so far, which settle what a delivery left but for admission, and behind them those that let ready changes
-/// enter; none where a counter would pass 10^15. Before the delivery nobody might enter, so whoever may now may by these
-/// edits.
+/// The edits so far, which settle what a delivery left but for admission, and behind them those that let ready
+/// changes enter; none where a counter would pass 10^15. Before the delivery nobody might enter, so whoever may
+/// now may by these edits.
 pub(crate) fn admitted<B: Book>(
     alloc: Global,
     book: &mut B,
@@ -37,6 +37,7 @@ pub(crate) fn admitted<B: Book>(
     ensures kept { IsKept B.IsTrusted B.Holds B.LeavesOneOf book.old book.new }
     ensures fault { IfErr result (MayAnswer B.MayFault) }
 {
+    // This shows the prover that the settings are sound.
     let _settings = &config.base;
     rest::settled_is_at_rest();
     admitting(alloc, book, config, edits)

@@ -28,7 +28,7 @@ use Rattle.gate_http.specs.declared.served.Served.{Served}
 use Rattle.gate_http.specs.declared.served.Served.TheVariants.{Answered}
 use Rattle.gate_http.specs.Asked.{delivery, page, build}
 use Rattle.gate_http.specs.Way.{Way, silence, refusal, question, history, Request, way_of}
-use Rattle.gate_http.specs.Answer.{calls_of, gate_after, is_unavailable as is_503}
+use Rattle.gate_http.specs.Answer.{calls_made, gate_after, is_503}
 use Rattle.gate_http.specs.Serving.{Serves, ServesHistory, ServesBy}
 use Rattle.gate_http.specs.Connections.{IsCalled, fault_line, fault_lines, AreTold}
 use Rattle.gate_http.proofs.ResponseLemmas.{writes_later}
@@ -41,7 +41,7 @@ one_read u (Ok x) = omega arith
 one_read u (Err e) = omega arith
 
 -- a request is at most one
-one_call : (u : Bool) (w : Way) → length (calls_of u w) ≤ 1
+one_call : (u : Bool) (w : Way) → length (calls_made u w) ≤ 1
 one_call u silence = omega arith
 one_call u (refusal f bodiless) = omega arith
 one_call u (question (delivery door body)) = one_read u (says door body)
@@ -75,7 +75,7 @@ module _ {B : Type 0} (trusted : B → Type 0) (holds : B → Settings → Conte
         let p = s.answers.passes t g over in (
           p.0,
           p.1,
-          record { calls = calls_of (is_503 served) w; few = one_call (is_503 served) w; stands = p.2.stands },
+          record { calls = calls_made (is_503 served) w; few = one_call (is_503 served) w; stands = p.2.stands },
         );
   }
 

@@ -34,7 +34,7 @@ use Rattle.gate_http.specs.Asked.{Asked, delivery, answer_status, is_status_page
 use Rattle.gate_http.specs.Response.{answer_response, history_response}
 use Rattle.gate_http.specs.Way.{Way, silence, refusal as refusing, question, history, Request, way_of}
 use Rattle.gate_http.specs.Exchange.{Meant, IsRead, Exchange, Recalled, recited, missing, failed, Recall, HasText, OfHistory}
-use Rattle.gate_http.specs.Answer.{build_number, answer_read, answer_found, answer_to, calls_asked, gate_after, calls_of, served_as, answer, Answers, history_of, history_status, is_unavailable as is_503}
+use Rattle.gate_http.specs.Answer.{build_number, answer_read, answer_found, answer_to, calls_asked, gate_after, calls_made, served_as, answer, Answers, history_of, history_status, is_503}
 use Rattle.gate_http.specs.Serving.{CrashLeaves, Responds, Recalls, Serves, ServesHistory, ServesBy}
 
 -- an answer by its mark
@@ -257,7 +257,7 @@ module _ {B : Type 0} (trusted : B → Type 0) (holds : B → Settings → Conte
 
   -- a request that is answered by HTTP alone leaves all as it was
   serves_nothing : (old : Gate B) (w : Way) (served : Served) (text : List ℕ)
-      → calls_of (is_503 served) w ≡ [] → ((g : Gated) → Answers g w served text g)
+      → calls_made (is_503 served) w ≡ [] → ((g : Gated) → Answers g w served text g)
       → Serves trusted holds leaves old old w served text
   serves_nothing old w served text none at = record {
     answers = stands old _ at;

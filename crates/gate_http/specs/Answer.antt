@@ -76,11 +76,11 @@ abbrev pub gate_after : Gated → List Call → Gated
 gate_after g calls = record g { content = once g.settings g.content calls }
 
 -- the call that a request makes
-abbrev pub calls_of : Bool → Way → List Call
-calls_of unavailable silence = []
-calls_of unavailable (refusal f bodiless) = []
-calls_of unavailable (question asked) = calls_asked unavailable asked
-calls_of unavailable (history name) = []
+abbrev pub calls_made : Bool → Way → List Call
+calls_made unavailable silence = []
+calls_made unavailable (refusal f bodiless) = []
+calls_made unavailable (question asked) = calls_asked unavailable asked
+calls_made unavailable (history name) = []
 
 -- whether a request is answered, and by which status
 abbrev pub served_as : Bool → Gated → Way → Served
@@ -100,12 +100,12 @@ answer unavailable g (history name) =
     else history_response (history_of g.content.state name)
 
 -- no other status than 503 is `unavailable`
-abbrev pub is_unavailable : Served → Bool
-is_unavailable Nothing = false
-is_unavailable (Answered status) = status == 503
+abbrev pub is_503 : Served → Bool
+is_503 Nothing = false
+is_503 (Answered status) = status == 503
 
 -- a request may be answered by this text, and the gate is this one then
 pub record Answers (g : Gated) (w : Way) (served : Served) (text : List ℕ) (after : Gated) : Type 0 where
-  pub status : served ≡ served_as (is_unavailable served) g w
-  pub said : text ≡ answer (is_unavailable served) g w
-  pub stands : after ≡ gate_after g (calls_of (is_unavailable served) w)
+  pub status : served ≡ served_as (is_503 served) g w
+  pub said : text ≡ answer (is_503 served) g w
+  pub stands : after ≡ gate_after g (calls_made (is_503 served) w)

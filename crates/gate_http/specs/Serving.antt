@@ -10,10 +10,10 @@ use Rattle.gate_core.specs.Held.{Goes}
 use Rattle.gate_http.specs.declared.served.Served.{Served}
 use Rattle.gate_http.specs.Asked.{Asked}
 use Rattle.gate_http.specs.Way.{Way, history}
-use Rattle.gate_http.specs.Answer.{Answers, answer_to, calls_asked, calls_of, gate_after, history_of, is_unavailable as is_503}
+use Rattle.gate_http.specs.Answer.{Answers, answer_to, calls_asked, calls_made, gate_after, history_of, is_503}
 
--- what a crash leaves after a call: the content after it alone, after a first reply; what it could leave before, after a
--- kept reply or a refusal; and after `unavailable` one content more: what the delivery would have given
+-- what a crash leaves after a call: the content after it alone, after a first reply; what it could leave before,
+-- after a kept reply or a refusal; and after `unavailable` one content more: what the delivery would have given
 pub record Survives (c : Settings) (x : Content) (k : Call) (left leaves : List Content → Type 0) : Type 0 where
   pub acted : acts c x k ≡ true → leaves (next_content c x k ∷ [])
   pub stood : k.unavailable ≡ false → acts c x k ≡ false → (ys : List Content) → left ys → leaves ys
@@ -48,7 +48,7 @@ pub record Serves {B : Type 0} (trusted : B → Type 0) (holds : B → Settings 
     : Type 0 where
   pub answers : Goes trusted holds old new (λ g after. Answers g w served text after)
   pub crash : OfHeldUnder trusted holds old.book new.book old.config (λ x.
-      CrashLeaves old.config x (calls_of (is_503 served) w) (leaves old.book old.config)
+      CrashLeaves old.config x (calls_made (is_503 served) w) (leaves old.book old.config)
       (leaves new.book old.config))
 
 -- a request for a history came to a text of which this is so: the plain gate's answer and content, and what a crash

@@ -51,7 +51,7 @@ fn find_named(head: &[u8], headers: &[HeaderSpan], name: &[u8]) -> Named
 }
 
 /// The length that a value says.
-fn said(value: &[u8]) -> BodyLength
+fn length_said(value: &[u8]) -> BodyLength
     ensures { result ≡ length_said value.now }
 {
     match number_of(value, 65536) {
@@ -69,7 +69,7 @@ pub(crate) fn body_length(head: &[u8], headers: &[HeaderSpan]) -> BodyLength
     match find_named(head, headers, b"transfer-encoding") {
         Named::None => match find_named(head, headers, b"content-length") {
             Named::None => BodyLength::Missing,
-            Named::One(value) => said(value.of(head)),
+            Named::One(value) => length_said(value.of(head)),
             Named::Several => BodyLength::Bad,
         },
         _ => BodyLength::Missing,

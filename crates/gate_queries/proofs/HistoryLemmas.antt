@@ -100,9 +100,9 @@ lines_more n (x ∷ xs) ys =
     ap (λ l. report_row (n, x) ++ l) (lines_more (n + 1) xs ys ∙ ap (λ m. lines_from (n + 1) xs ++ lines_from m ys) e)
     ∙ sym (append_assoc (report_row (n, x)) (lines_from (n + 1) xs) _)
 
--- five texts, joined in another order
-joined : (a b c d e : List ℕ) → a ++ (b ++ ((c ++ d) ++ e)) ≡ (a ++ (b ++ c)) ++ (d ++ e)
-joined a b c d e = simp append_assoc refl
+-- five texts, moved_round in another order
+moved_round : (a b c d e : List ℕ) → a ++ (b ++ ((c ++ d) ++ e)) ≡ (a ++ (b ++ c)) ++ (d ++ e)
+moved_round a b c d e = simp append_assoc refl
 
 -- what is written before a report
 abbrev pub text_to : List ℕ → List ℕ → List Report → List ℕ
@@ -117,7 +117,7 @@ text_cut : (front name : List ℕ) (done rest : List Report) →
     front ++ reports_text name (done ++ rest) ≡ text_to front name done ++ text_from (length done) rest (length (done ++ rest))
 text_cut front name done rest =
     ap (λ l. front ++ (first_line name ++ (l ++ last_line (length (done ++ rest))))) (lines_more 1 done rest)
-    ∙ joined front (first_line name) (lines_from 1 done) (lines_from (1 + length done) rest) (last_line (length (done ++ rest)))
+    ∙ moved_round front (first_line name) (lines_from 1 done) (lines_from (1 + length done) rest) (last_line (length (done ++ rest)))
 
 -- with the line of a report more
 text_more : (front name : List ℕ) (done : List Report) (r : Report) (count : ℕ) → length done ≡ count →

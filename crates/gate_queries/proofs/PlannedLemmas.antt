@@ -12,15 +12,15 @@ use Rattle.gate_types.specs.declared.records.Item.{Item}
 use Rattle.gate_types.specs.declared.records.Plan.{Plan}
 use Rattle.gate_schema.specs.Rows.{JobRow}
 use Rattle.gate_queries.specs.Asked.{plan_with}
-use Rattle.gate_queries.specs.Planned.{joined, plan_of_one, plans_of, with_job}
+use Rattle.gate_queries.specs.Planned.{plans_joined, plan_of_one, plans_of, with_job}
 use Rattle.gate_queries.proofs.DistinctLemmas.{has_in, has_of}
 use Rattle.gate_queries.proofs.ListFacts.{passing}
 
 -- ---- a job more
 
--- where the last plan was taken out, it is joined
-pub with_job_behind : (ps : List Plan) (o : Option Plan) (n : ℕ) (fast : Bool) (j : Job) → (o ≡ None → ps ≡ []) → with_job (ps ++ option_to_list o) n fast j ≡ ps ++ joined o n fast j
-with_job_behind ps None n fast j none = ap (λ qs. with_job (qs ++ []) n fast j) (none refl) ∙ ap (λ qs. qs ++ joined None n fast j) (sym (none refl))
+-- where the last plan was taken out, it is plans_joined
+pub with_job_behind : (ps : List Plan) (o : Option Plan) (n : ℕ) (fast : Bool) (j : Job) → (o ≡ None → ps ≡ []) → with_job (ps ++ option_to_list o) n fast j ≡ ps ++ plans_joined o n fast j
+with_job_behind ps None n fast j none = ap (λ qs. with_job (qs ++ []) n fast j) (none refl) ∙ ap (λ qs. qs ++ plans_joined None n fast j) (sym (none refl))
 with_job_behind [] (Some p) n fast j none = refl
 with_job_behind (q ∷ []) (Some p) n fast j none = refl
 with_job_behind (q ∷ r ∷ ps) (Some p) n fast j none = ap (λ l. q ∷ l) (with_job_behind (r ∷ ps) (Some p) n fast j (λ e. absurd cc))

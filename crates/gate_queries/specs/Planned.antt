@@ -28,15 +28,15 @@ abbrev pub plan_of_one : ℕ → Bool → Job → Plan
 plan_of_one n fast j = record { serial = n; jobs = j ∷ []; fast = fast }
 
 -- a plan with a job more, or it and a new one where it is under another serial
-abbrev pub joined : Option Plan → ℕ → Bool → Job → List Plan
-joined None n fast j = plan_of_one n fast j ∷ []
-joined (Some p) n fast j =
+abbrev pub plans_joined : Option Plan → ℕ → Bool → Job → List Plan
+plans_joined None n fast j = plan_of_one n fast j ∷ []
+plans_joined (Some p) n fast j =
     if p.serial == n then (record p { jobs = p.jobs ++ j ∷ [] }) ∷ [] else p ∷ plan_of_one n fast j ∷ []
 
 -- the last of these plans with a job more, or a new one behind them where that is under another serial
 abbrev pub with_job : List Plan → ℕ → Bool → Job → List Plan
-with_job [] n fast j = joined None n fast j
-with_job (p ∷ []) n fast j = joined (Some p) n fast j
+with_job [] n fast j = plans_joined None n fast j
+with_job (p ∷ []) n fast j = plans_joined (Some p) n fast j
 with_job (p ∷ q ∷ ps) n fast j = p ∷ with_job (q ∷ ps) n fast j
 
 -- the plans of these jobs, those of each plan in turn; those of the marked serials fail fast

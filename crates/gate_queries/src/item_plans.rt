@@ -5,7 +5,7 @@ ghost use Rattle.sqlite.specs.Held.{state};
 ghost use Rattle.gate_book.specs.Reads.{Answers};
 ghost use Rattle.gate_schema.specs.Rows.{JobRow};
 ghost use Rattle.gate_queries.specs.Asked.{plans_between};
-ghost use Rattle.gate_queries.specs.Planned.{joined, jobs_between, marked_between, plans_of, with_job};
+ghost use Rattle.gate_queries.specs.Planned.{plans_joined, jobs_between, marked_between, plans_of, with_job};
 ghost use Rattle.gate_queries.specs.Reads.{IsOnlyRead, Opened, Tells};
 ghost use Rattle.gate_queries.specs.Shown.{number_shown, planned_shown};
 ghost use Rattle.gate_queries.specs.Whole.{is_planned_in_form};
@@ -48,7 +48,7 @@ fn join_job(
     fast: bool,
     job: Job,
 ) -> Result<(), AllocError>
-    ensures { OnOk result (plans.new.items ≡ plans.old.items ++ joined last serial fast job) }
+    ensures { OnOk result (plans.new.items ≡ plans.old.items ++ plans_joined last serial fast job) }
 {
     let Some(plan) = last else {
         return push_plan(plans, serial, fast, Sequence::new(alloc), job);

@@ -7,8 +7,8 @@ ghost use Rattle.gate_queue.specs.Chooses.{Chooses};
 ghost use Rattle.gate_queue.specs.Waiting as waiting;
 
 use crate::facts::{ItemJobs, Jobs};
-use crate::slots::same_name;
 use gate_types::config::Job;
+use gate_types::names::same_name;
 use gate_types::numbers::Serial;
 use gate_types::records::{Build, Item, Outcome};
 

@@ -4,9 +4,8 @@ ghost use Rattle.std.specs.List.{list_any};
 ghost use Rattle.gate_types.specs.Slot as rules;
 ghost use Rattle.gate_queue.specs.Outcomes.{outcomes_among, slot_among};
 
-use crate::slots::same_name;
 use gate_types::config::Job;
-use gate_types::names::NoMemory;
+use gate_types::names::{NoMemory, same_name};
 use gate_types::records::{Build, Outcome, Slot};
 use std::alloc::Global;
 

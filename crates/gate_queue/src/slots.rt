@@ -1,7 +1,6 @@
 //! What the jobs of an item have come to.
 ghost use Rattle.std.specs.Prelude.{◌≡◌, false, IfOk};
 ghost use Rattle.std.specs.List.{list_all};
-ghost use Rattle.gate_types.specs.Names.{same_name};
 ghost use Rattle.gate_types.specs.Slot as rules;
 ghost use Rattle.gate_queue.specs.Facts.{place_of};
 
@@ -9,16 +8,9 @@ use crate::context::ItemContext;
 use crate::line::ran_on_line;
 use crate::outcomes::{is_failed, is_finished, slot_of_outcomes};
 use gate_types::config::Job;
-use gate_types::names::{Name, NoMemory};
+use gate_types::names::{NoMemory, same_name};
 use gate_types::records::{Build, Outcome, Slot};
 use std::alloc::Global;
-
-/// Whether two names are the same bytes.
-pub fn same_name(a: &Name, b: &Name) -> bool
-    ensures { result ≡ same_name a.now b.now }
-{
-    a.as_str() == b.as_str()
-}
 
 /// Whether a build counts for an item that isn't blocked.
 pub(crate) fn counts(context: &ItemContext, build: &Build) -> bool

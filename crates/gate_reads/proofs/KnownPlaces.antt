@@ -11,7 +11,7 @@ use Rattle.gate_types.specs.declared.records.Need.{Need}
 use Rattle.gate_types.specs.declared.records.Plan.{Plan}
 use Rattle.gate_types.specs.declared.records.Stage.TheVariants as stage
 use Rattle.gate_types.specs.Settings.{Settings}
-use Rattle.gate_types.specs.State.{Item, Queue, State, known_change, plan_of, has_change}
+use Rattle.gate_types.specs.State.{Item, Queue, State, known_change, plan_of, has_change, known_or_closed, need_of}
 use Rattle.gate_types.specs.Line.{Place, item_entry, landings_below}
 use Rattle.gate_types.specs.Slot.{are_met_by, is_blocked, has_failure, is_cut, is_waiting_slot}
 use Rattle.gate_types.specs.Standing.{needs_of, places, all_places}
@@ -22,7 +22,6 @@ use Rattle.gate_types.specs.Names.{same_name}
 use Rattle.gate_laws.proofs.Members.{In, contains_in, found, from_flat, to_flat}
 use Rattle.gate_laws.proofs.Alone.{same_name_is}
 use Rattle.gate_laws.proofs.Places.{item_of_place}
-use Rattle.gate_reads.specs.Known.{known_or_closed, need_of}
 use Rattle.gate_book.specs.Reads.{queue_named, landings_in, landings_before, live_builds}
 use Rattle.gate_reads.specs.NextBuild.{with_number}
 use Rattle.gate_queue.specs.Outcomes.{slot_among}

@@ -15,7 +15,7 @@ use Rattle.gate_book.specs.declared.fault.BookFault.{BookFault}
 use Rattle.gate_book.specs.declared.rows.QueuedItem.{QueuedItem}
 use Rattle.gate_book.specs.Reads.{queued_of, Answers}
 use Rattle.gate_reads.specs.Orders.{TellsShown}
-use Rattle.gate_reads.specs.Standing.{IsQueuedAs}
+use Rattle.gate_reads.specs.Stands.{IsQueuedAs}
 use Rattle.gate_reads.proofs.Found.{any_found, found_itself, some_before, none_before}
 use Rattle.gate_reads.proofs.Stood.{Stood, stood, stood_there, queued_as, serial_of, change_of, change_once, queued_is, queue_is, is_queued_is}
 use Rattle.gate_reads.proofs.ShownOrders.{shows, if_shown, order_as, shown_is}

@@ -1,6 +1,5 @@
 pub mod Orders
-pub mod Standing
+pub mod Stands
 pub mod NextBuild
-pub mod Known
 pub mod Places
 pub mod Parts

@@ -4,7 +4,7 @@
 //! ```text
 //! let build = next_build(alloc, book, &config, number)?;
 //! let order = order_of_queue(alloc, book, &config, &queue)?;
-//! let stand = standing(alloc, book, &config, change)?;
+//! let stand = stand_of(alloc, book, &config, change)?;
 //! ```
 #![tactic(auto)]
 
@@ -21,4 +21,4 @@ pub use choosing::{next_build, push_unless_failing};
 pub use due::are_met_among;
 pub use known::needs_of;
 pub use orders::{is_submitting, order_of_queue, shown_order};
-pub use stands::{Stand, standing};
+pub use stands::{Stand, stand_of};

@@ -2,7 +2,7 @@
 ghost use Rattle.std.specs.Prelude.{IfOk, IfErr};
 ghost use Rattle.gate_book.specs.Faults.{MayAnswer};
 ghost use Rattle.gate_book.specs.Kept.{OfHeldUnder, IsKept};
-ghost use Rattle.gate_reads.specs.Standing.{StandsSo};
+ghost use Rattle.gate_reads.specs.Stands.{StandsSo};
 
 use gate_book::{Book, BookFault, QueuedItem};
 use gate_types::config::Config;
@@ -21,7 +21,7 @@ pub enum Stand {
 }
 
 /// Where a change stands. Its approval is asked for only where it is no item.
-pub fn standing<B: Book>(
+pub fn stand_of<B: Book>(
     alloc: Global,
     book: &mut B,
     config: &Config,
@@ -32,7 +32,7 @@ pub fn standing<B: Book>(
     ensures kept { IsKept B.IsTrusted B.Holds B.LeavesOneOf book.old book.new }
     ensures fault { IfErr result (MayAnswer B.MayFault) }
 {
-    // No two queues have one name.
+    // This shows the prover that the settings are sound.
     let _settings = &config.base;
     if let Some(queued) = book.queued(change)? {
         return Ok(Stand::Queued(queued));

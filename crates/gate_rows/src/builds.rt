@@ -1,5 +1,5 @@
 //! Edits of builds, within a transaction.
-ghost use Rattle.std.specs.Prelude.{◌≡◌, false};
+ghost use Rattle.std.specs.Prelude.{◌≡◌};
 ghost use Rattle.sqlite.specs.Held.{state};
 ghost use Rattle.gate_schema.specs.Words.{ahead_text};
 ghost use Rattle.gate_schema.specs.Edits as edits;
@@ -7,9 +7,9 @@ ghost use Rattle.gate_rows.specs.Writes.{Keeps, LeavesNothing, Makes};
 
 use crate::ahead::write_ahead;
 use crate::values::{any_number, build, change, flag, revision, serial, text, too_large};
-use crate::words::outcome_text;
 use gate_types::numbers::BuildNo;
 use gate_types::records::{Build, Outcome};
+use gate_types::words::outcome_word;
 use sqlite::{Alter, Error, ErrorCode, Transaction};
 use std::alloc::Global;
 
@@ -49,7 +49,7 @@ fn add_build<S: Alter>(tx: &mut Transaction<'_, S>, b: &Build, ahead: &str) -> R
             text(b.job.as_str()),
             after,
             text(ahead),
-            text(outcome_text(b.outcome)),
+            text(outcome_word(b.outcome)),
             flag(b.live),
         ],
     )?;
@@ -106,7 +106,7 @@ pub(crate) fn set_outcome<S: Alter>(
 {
     tx.execute(
         "UPDATE build SET outcome = ?2 WHERE num = ?1",
-        &[build(n), text(outcome_text(outcome))],
+        &[build(n), text(outcome_word(outcome))],
     )?;
     Ok(())
 }

@@ -1,11 +1,10 @@
-//! The words of the tables.
+//! The words of the tables, but those of outcomes, which texts have too.
 ghost use Rattle.std.specs.Prelude.{◌≡◌};
 ghost use Rattle.gate_schema.specs.Words.{counter_word, stage_word};
 ghost use Rattle.gate_types.specs.History.{verdict_word};
-ghost use Rattle.gate_types.specs.BuildText.{outcome_word};
 
 use gate_types::edits::Counter;
-use gate_types::records::{Outcome, Stage, Verdict};
+use gate_types::records::{Stage, Verdict};
 
 pub(crate) fn stage_text(stage: Stage) -> &'static str
     ensures { result.now ≡ stage_word stage }
@@ -14,17 +13,6 @@ pub(crate) fn stage_text(stage: Stage) -> &'static str
         Stage::Open => "open",
         Stage::Landed => "landed",
         Stage::Closed => "closed",
-    }
-}
-
-pub(crate) fn outcome_text(outcome: Outcome) -> &'static str
-    ensures { result.now ≡ outcome_word outcome }
-{
-    match outcome {
-        Outcome::Running => "running",
-        Outcome::Success => "success",
-        Outcome::Failure => "failure",
-        Outcome::Lost => "lost",
     }
 }
 

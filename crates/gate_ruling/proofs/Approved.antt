@@ -10,7 +10,7 @@ use Rattle.gate_types.specs.State.{Item, State, is_open, is_queued, is_ready}
 use Rattle.gate_types.specs.Settle.{settle}
 use Rattle.gate_types.specs.Step.{Stepped, raw_approved, accepted, made_ready, approval_reply}
 use Rattle.gate_walk.specs.Delivery.{is_stale}
-use Rattle.gate_reads.specs.Standing.{StandsSo}
+use Rattle.gate_reads.specs.Stands.{StandsSo}
 use Rattle.gate_reads.specs.declared.stands.Stand.{Stand}
 use Rattle.gate_reads.specs.declared.stands.Stand.TheVariants as stand
 use Rattle.gate_ruling.specs.Approving.{is_nowhere}

@@ -27,7 +27,7 @@ use Rattle.gate_walk.specs.Delivery.{is_on}
 use Rattle.gate_unsettled.specs.Moves.{tables_by, in_state, Moves}
 use Rattle.gate_unsettled.specs.Touches.{event_of, Touches}
 use Rattle.gate_unsettled.specs.declared.touched.Event.TheVariants as event
-use Rattle.gate_reads.specs.Standing.{StandsSo}
+use Rattle.gate_reads.specs.Stands.{StandsSo}
 use Rattle.gate_reads.specs.declared.stands.Stand.{Stand}
 use Rattle.gate_reads.specs.declared.stands.Stand.TheVariants as stand
 use Rattle.gate_ruling.specs.Leaving.{touched_of}

@@ -1,7 +1,7 @@
 //! A change is recorded anew.
 ghost use Rattle.std.specs.Prelude.{◌≡◌, ℕ, map, IfOk};
 ghost use Rattle.std.specs.List.Sorted.{IsStrictlyIncreasing};
-ghost use Rattle.gate_types.specs.State.{State, put_change, is_open, is_landed};
+ghost use Rattle.gate_types.specs.State.{State, put_change, is_open};
 ghost use Rattle.gate_types.specs.Admit.{without_ready};
 ghost use Rattle.gate_types.specs.Once.{Content};
 ghost use Rattle.gate_unsettled.specs.Moves.{Moves};
@@ -15,13 +15,6 @@ pub(crate) fn is_open(change: &Change) -> bool
     ensures { result ≡ is_open change.now }
 {
     matches!(change.stage, Stage::Open)
-}
-
-/// Whether a change has landed.
-pub(crate) fn is_landed(change: &Change) -> bool
-    ensures { result ≡ is_landed change.now }
-{
-    matches!(change.stage, Stage::Landed)
 }
 
 /// Edits, and then the change's row anew: it is ready no longer.

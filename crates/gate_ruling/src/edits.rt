@@ -1,18 +1,10 @@
 //! Edits, one after another.
-ghost use Rattle.std.specs.Prelude.{◌≡◌, ◌++◌, ◌∷◌, [], IfOk};
+ghost use Rattle.std.specs.Prelude.{◌≡◌, ◌++◌, IfOk};
 ghost use Rattle.gate_queue.specs.Edits.{window_edits};
 
 use gate_types::edits::Edit;
+use gate_types::lists::with_one;
 use gate_types::names::{Name, NoMemory};
-
-/// Edits, and one more.
-pub(crate) fn with_edit(edits: Vec<Edit>, edit: Edit) -> Result<Vec<Edit>, NoMemory>
-    ensures { IfOk result (λ all. all.items ≡ edits.items ++ edit ∷ []) }
-{
-    let mut edits = edits;
-    edits.push(edit)?;
-    Ok(edits)
-}
 
 /// Edits, and one more that sets the window of a queue, where it changes.
 pub(crate) fn with_window(
@@ -27,5 +19,5 @@ pub(crate) fn with_window(
         return Ok(edits);
     }
     let queue = queue.copy()?;
-    with_edit(edits, Edit::SetWindow { queue, window: new })
+    with_one(edits, Edit::SetWindow { queue, window: new })
 }

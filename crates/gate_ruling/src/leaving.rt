@@ -6,7 +6,7 @@ ghost use Rattle.gate_book.specs.Faults.{MayAnswer};
 ghost use Rattle.gate_book.specs.Kept.{OfHeldUnder, IsKept};
 ghost use Rattle.gate_book.specs.Reads.{items_in};
 ghost use Rattle.gate_unsettled.specs.Moves.{Moves};
-ghost use Rattle.gate_reads.specs.Standing.{StandsSo};
+ghost use Rattle.gate_reads.specs.Stands.{StandsSo};
 ghost use Rattle.gate_ruling.specs.Leaving.{stop_of, out_of_queue, touched_of};
 
 use gate_book::{Book, BookFault, QueuedItem};
@@ -88,6 +88,7 @@ pub(crate) fn leaving<B: Book>(
     ensures kept { IsKept B.IsTrusted B.Holds B.LeavesOneOf book.old book.new }
     ensures fault { IfErr result (MayAnswer B.MayFault) }
 {
+    // This shows the prover that the settings are sound.
     let _settings = &config.base;
     let reports = book.reports(&queued.queue)?;
     let builds = book.live_builds(queued.item.serial)?;

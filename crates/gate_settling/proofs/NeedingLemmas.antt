@@ -11,49 +11,49 @@ use Rattle.gate_walk.specs.Walk.{Seen, Walk, behind_visit, verdict_by}
 use Rattle.gate_book.specs.Reads.{first_above, items_needing}
 use Rattle.gate_laws.proofs.Members.{In, from_filter, filter_same, found}
 use Rattle.gate_queue.proofs.Ordered.{RiseFrom, row_serial}
-use Rattle.gate_settling.specs.Rows.{is_needing, first_needing_any, needing_any, joined, joined_behind, AreKept}
+use Rattle.gate_settling.specs.Rows.{is_needing, first_needing_any, needing_any, merged, joined_behind, AreKept}
 use Rattle.gate_settling.proofs.ListLemmas.{and_false, or_false, find_same, find_kept, filter_twice}
 use Rattle.gate_settling.proofs.WantedLemmas.{low_in}
 
 -- ---- rows of two lists
 
--- rows that rise, kept by two tests and joined, are those that pass one of them
+-- rows that rise, kept by two tests and merged, are those that pass one of them
 pub joined_is : (p q : ItemRow → Bool) (n : ℕ) (rows : List ItemRow) → RiseFrom row_serial n rows →
-    joined (filter p rows) (filter q rows) ≡ filter (λ r. p r || q r) rows
+    merged (filter p rows) (filter q rows) ≡ filter (λ r. p r || q r) rows
 joined_is p q n [] h = refl
 joined_is p q n (y ∷ rows) h = by_both (p y) (q y) (joined_is p q (suc y.serial) rows h.1)
   where
     behind : (t : ItemRow → Bool) (r : ItemRow) → In r (filter t rows) → y.serial < r.serial
     behind t r m = let more = low_in (suc y.serial) rows h.1 r (from_filter t rows r m).0 in omega (arith, more)
 
-    in_both : joined (y ∷ filter p rows) (y ∷ filter q rows) ≡ y ∷ joined (filter p rows) (filter q rows)
+    in_both : merged (y ∷ filter p rows) (y ∷ filter q rows) ≡ y ∷ merged (filter p rows) (filter q rows)
     in_both =
-        let join = joined (filter p rows) in
+        let join = merged (filter p rows) in
         let bs = filter q rows in
         ap (λ b. cond b (y ∷ joined_behind y join bs) (cond (y.serial == y.serial) (y ∷ join bs) (y ∷ join (y ∷ bs))))
         (le-ltb y.serial y.serial (omega arith))
         ∙ ap (λ b. cond b (y ∷ join bs) (y ∷ join (y ∷ bs))) (eq-eqb y.serial y.serial refl)
 
-    in_first : (bs : List ItemRow) → filter q rows ≡ bs → joined (y ∷ filter p rows) bs ≡ y ∷ joined (filter p rows) bs
+    in_first : (bs : List ItemRow) → filter q rows ≡ bs → merged (y ∷ filter p rows) bs ≡ y ∷ merged (filter p rows) bs
     in_first [] e = refl
     in_first (b ∷ bs) e =
-        let join = joined (filter p rows) in
+        let join = merged (filter p rows) in
         let more = behind q b (subst (In b) (sym e) (inl refl)) in
         ap (λ t. cond t (b ∷ joined_behind y join bs) (cond (b.serial == y.serial) (y ∷ join bs) (y ∷ join (b ∷ bs))))
         (le-ltb b.serial y.serial (omega (arith, more)))
         ∙ ap (λ t. cond t (y ∷ join bs) (y ∷ join (b ∷ bs)))
         (ne_eqb b.serial y.serial (λ s. absurd (omega (arith, more, s))))
 
-    in_second : (ys : List ItemRow) → filter p rows ≡ ys → joined ys (y ∷ filter q rows) ≡ y ∷ joined ys (filter q rows)
+    in_second : (ys : List ItemRow) → filter p rows ≡ ys → merged ys (y ∷ filter q rows) ≡ y ∷ merged ys (filter q rows)
     in_second [] e = refl
     in_second (a ∷ ys) e =
-        let join = joined ys in
+        let join = merged ys in
         let bs = filter q rows in
         ap (λ t. cond t (y ∷ joined_behind a join bs) (cond (y.serial == a.serial) (a ∷ join bs) (a ∷ join (y ∷ bs))))
         (lt-ltb y.serial a.serial (behind p a (subst (In a) (sym e) (inl refl))))
 
-    by_both : (s t : Bool) → joined (filter p rows) (filter q rows) ≡ filter (λ r. p r || q r) rows →
-        joined (cond s (y ∷ filter p rows) (filter p rows)) (cond t (y ∷ filter q rows) (filter q rows))
+    by_both : (s t : Bool) → merged (filter p rows) (filter q rows) ≡ filter (λ r. p r || q r) rows →
+        merged (cond s (y ∷ filter p rows) (filter p rows)) (cond t (y ∷ filter q rows) (filter q rows))
         ≡ cond (s || t) (y ∷ filter (λ r. p r || q r) rows) (filter (λ r. p r || q r) rows)
     by_both true true rest = in_both ∙ ap (λ l. y ∷ l) rest
     by_both true false rest = in_first (filter q rows) refl ∙ ap (λ l. y ∷ l) rest
@@ -64,7 +64,7 @@ joined_is p q n (y ∷ rows) h = by_both (p y) (q y) (joined_is p q (suc y.seria
 
 -- one change more
 pub needing_more : (s : State) (gone : List ℕ) (g n : ℕ) (rows : List ItemRow) → RiseFrom row_serial 0 rows →
-    joined (needing_any s gone n rows) (items_needing s g n rows) ≡ needing_any s (gone ++ g ∷ []) n rows
+    merged (needing_any s gone n rows) (items_needing s g n rows) ≡ needing_any s (gone ++ g ∷ []) n rows
 needing_more s gone g n rows h =
     joined_is (λ r. nat_lt n r.serial && is_needing s gone r) (λ r. nat_lt n r.serial && needs r g) 0 rows h
     ∙ filter_same _ _ rows (λ r m. by_lt r (nat_lt n r.serial))

@@ -8,7 +8,7 @@ use Rattle.gate_types.specs.declared.records.Need.{Need}
 use Rattle.gate_types.specs.declared.records.Stage.TheVariants as stage
 use Rattle.gate_types.specs.Names.{same_name}
 use Rattle.gate_types.specs.Settings.{Settings}
-use Rattle.gate_types.specs.State.{Item, Queue, State, known_change, change_of, is_landed}
+use Rattle.gate_types.specs.State.{Item, Queue, State, known_change, known_or_closed, change_of, is_landed}
 use Rattle.gate_types.specs.Standing.{needs_of}
 use Rattle.gate_types.specs.Rows.{item_of, item_rows}
 use Rattle.gate_types.specs.Once.{Content}
@@ -22,7 +22,7 @@ use Rattle.gate_unsettled.specs.declared.touched.TouchedItem.{TouchedItem}
 use Rattle.gate_laws.proofs.Members.{In, from_map, to_map, map_map, map_same, from_flat, to_flat, found, not_found}
 use Rattle.gate_laws.proofs.Alone.{change_alone, name_alone, same_name_of, same_name_is}
 use Rattle.gate_settling.specs.Touching.{Touching, delivered, sees}
-use Rattle.gate_settling.specs.Rows.{has_landed, is_landed_known, stands_still, standing_by, need_now, needs_known, row_now}
+use Rattle.gate_settling.specs.Rows.{has_landed, stands_still, standing_by, need_now, needs_known, row_now}
 use Rattle.gate_settling.proofs.ColumnLemmas.{columns_found, found_alone}
 use Rattle.gate_settling.proofs.LeftLemmas.{need_after, left}
 use Rattle.gate_settling.proofs.StandingLemmas.{queue_there, stands, stale_in, in_stale}
@@ -36,7 +36,7 @@ needs_are : (n : ℕ) (known : Option Change) → (unwrap_or known (closed n)).n
 needs_are n None = refl
 needs_are n (Some j) = refl
 
-landed_is : (n : ℕ) (known : Option Change) → is_landed (unwrap_or known (closed n)) ≡ is_landed_known known
+landed_is : (n : ℕ) (known : Option Change) → is_landed (unwrap_or known (closed n)) ≡ is_landed (known_or_closed known)
 landed_is n None = refl
 landed_is n (Some j) = refl
 

@@ -8,7 +8,7 @@ use Rattle.gate_types.specs.declared.records.Build.{Build}
 use Rattle.gate_types.specs.declared.records.Verdict.TheVariants as verdict
 use Rattle.gate_types.specs.Names.{same_name}
 use Rattle.gate_types.specs.Settings.{Settings}
-use Rattle.gate_types.specs.State.{State, known_change, change_of, is_landed, plan_of}
+use Rattle.gate_types.specs.State.{State, known_change, known_or_closed, change_of, is_landed, plan_of}
 use Rattle.gate_types.specs.Step.{with_ending}
 use Rattle.gate_types.specs.Window.{Bounds, grow, shrink}
 use Rattle.gate_walk.specs.declared.walk.Next.{Next}
@@ -52,13 +52,9 @@ window_now _ bounds w = w
 
 -- ---- a row
 
--- what is known of a change has landed
-abbrev pub is_landed_known : Option Change → Bool
-is_landed_known known = option_map_or is_landed known false
-
 -- a change has landed, the touched one by the delivery
 abbrev pub landed_now : State → TouchedItem → ℕ → Bool
-landed_now s k n = is_landed_known (known_change s n) || has_landed k.event && k.item.change == n
+landed_now s k n = is_landed (known_or_closed (known_change s n)) || has_landed k.event && k.item.change == n
 
 -- an item stands in the touched queue still
 abbrev pub stands_still : TouchedItem → QueuedItem → Bool
@@ -131,16 +127,16 @@ IsAbove n next.Stop = ⊥
 abbrev pub needing_any : State → List ℕ → ℕ → List ItemRow → List ItemRow
 needing_any s gone serial rows = filter (λ r. nat_lt serial r.serial && is_needing s gone r) rows
 
--- a row before others, joined with rows, where `join` joins those others
+-- a row before others, merged with rows, where `join` joins those others
 abbrev pub joined_behind : ItemRow → (List ItemRow → List ItemRow) → List ItemRow → List ItemRow
 joined_behind a join [] = a ∷ join []
 joined_behind a join (b ∷ bs) = if nat_lt b.serial a.serial then b ∷ joined_behind a join bs
     else (if b.serial == a.serial then a ∷ join bs else a ∷ join (b ∷ bs))
 
 -- the rows of two lists by their serials, a row of both once
-abbrev pub joined : List ItemRow → List ItemRow → List ItemRow
-joined [] bs = bs
-joined (a ∷ rest) bs = joined_behind a (joined rest) bs
+abbrev pub merged : List ItemRow → List ItemRow → List ItemRow
+merged [] bs = bs
+merged (a ∷ rest) bs = joined_behind a (merged rest) bs
 
 -- of a queue's rows those are kept that lie above a serial, no higher than this one, and whose change needs one of the
 -- first changes that have gone, as many as were asked about

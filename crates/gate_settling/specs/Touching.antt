@@ -13,7 +13,7 @@ use Rattle.gate_types.specs.Forms.{IsLawfulContent}
 use Rattle.gate_walk.specs.Walk.{Seen, Walk}
 use Rattle.gate_walk.specs.Rescan.{row_seen}
 use Rattle.gate_walk.specs.Delivery.{is_on, is_stale}
-use Rattle.gate_walk.specs.UnderWay.{Delivered, HasVisited, row_wanted, stale_rows, tables_by, tables_settled}
+use Rattle.gate_walk.specs.UnderWay.{Delivered, HasVisited, row_wanted, stale_rows, rows_walked, tables_settled}
 use Rattle.gate_unsettled.specs.declared.touched.TouchedItem.{TouchedItem}
 use Rattle.gate_unsettled.specs.Touches.{event_of}
 
@@ -76,7 +76,7 @@ pub record IsUnderWay {c : Settings} {x : Content} {k : TouchedItem} (h : Touchi
 pub record IsWalked {c : Settings} {x : Content} {k : TouchedItem} (h : Touching c x k) (w : Walk) : Type 0 where
   pub visits : List Seen
   pub visited : HasVisited (delivered h) w visits
-  pub settled : tables_by (delivered h) w ≡ tables_settled (delivered h)
+  pub settled : rows_walked (delivered h) w ≡ tables_settled (delivered h)
 
 -- these are the edits of such a walk
 pub record AreToldOf {c : Settings} {x : Content} {k : TouchedItem} (h : Touching c x k)

@@ -11,9 +11,9 @@ ghost use Rattle.gate_book.specs.Faults.{MayAnswer};
 
 use crate::rows::{has_landed, is_out};
 use gate_book::{Book, BookFault};
-use gate_queue::{grow, same_name, shrink};
+use gate_queue::{grow, shrink};
 use gate_types::config::{Config, Queue};
-use gate_types::names::Name;
+use gate_types::names::{Name, same_name};
 use gate_types::records::Verdict;
 use gate_unsettled::{Event, TouchedItem};
 use gate_walk::{QueueFacts, TakenOut, Touched, Walk};

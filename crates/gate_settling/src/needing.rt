@@ -1,11 +1,12 @@
 //! Who needs what has gone: each change that has gone is asked about once, and the rows that are told are kept.
-ghost use Rattle.std.specs.Prelude.{◌≡◌, ◌<◌, ◌≤◌, ◌+◌, ◌++◌, ◌∷◌, [], length, nat_lt, filter, option_copied, take, IfOk, OnOk, IfErr, IfSome, IfNone};
+ghost use Rattle.std.specs.Prelude.{◌≡◌, ◌<◌, ◌≤◌, ◌+◌, ◌∷◌, [], length, nat_lt, filter, option_copied, take, IfOk, OnOk, IfErr, IfSome, IfNone};
 ghost use Rattle.gate_book.specs.Kept.{OfHeld, IsKept};
 ghost use Rattle.gate_book.specs.Reads as read;
 ghost use Rattle.gate_book.specs.Faults.{MayAnswer};
 ghost use Rattle.gate_settling.specs.Rows as rows;
 
 use gate_book::{Book, BookFault};
+use gate_types::lists::with_one;
 use gate_types::names::{Name, NoMemory};
 use gate_types::numbers::ChangeNo;
 use gate_types::records::Item;
@@ -13,8 +14,8 @@ use std::alloc::Global;
 
 /// Of the rows of two lists the first, and what is left of each. A row of both is taken from both.
 fn first_of<'a>(one: &'a [Item], other: &'a [Item]) -> Option<(Item, &'a [Item], &'a [Item])>
-    ensures none { IfNone result (rows.joined one.now other.now ≡ []) }
-    ensures first { IfSome result (λ f. rows.joined one.now other.now ≡ f.0 ∷ rows.joined f.1.now f.2.now) }
+    ensures none { IfNone result (rows.merged one.now other.now ≡ []) }
+    ensures first { IfSome result (λ f. rows.merged one.now other.now ≡ f.0 ∷ rows.merged f.1.now f.2.now) }
     ensures fewer { IfSome result (λ f. length f.1.now + length f.2.now < length one.now + length other.now) }
 {
     match (one.split_first(), other.split_first()) {
@@ -33,25 +34,15 @@ fn first_of<'a>(one: &'a [Item], other: &'a [Item]) -> Option<(Item, &'a [Item],
     }
 }
 
-fn with_row(rows: Vec<Item>, row: Item) -> Result<Vec<Item>, NoMemory>
-    ensures { IfOk result (λ all. all.items ≡ rows.items ++ row ∷ []) }
-{
-    let mut rows = rows;
-    // the borrow checker has to meet the types that a row is made of
-    let _ahead = row.ahead;
-    rows.push(row)?;
-    Ok(rows)
-}
-
 /// The rows of two lists in the order of the queue, each once.
-fn joined(alloc: Global, one: &[Item], other: &[Item]) -> Result<Vec<Item>, NoMemory>
-    ensures { IfOk result (λ all. all.items ≡ rows.joined one.now other.now) }
+fn merged(alloc: Global, one: &[Item], other: &[Item]) -> Result<Vec<Item>, NoMemory>
+    ensures { IfOk result (λ all. all.items ≡ rows.merged one.now other.now) }
 {
     let mut all = Vec::new(alloc);
     let mut one = one;
     let mut other = other;
     while let Some((row, behind_one, behind_other)) = first_of(one, other) {
-        all = with_row(all, row)?;
+        all = with_one(all, row)?;
         one = behind_one;
         other = behind_other;
     }
@@ -110,7 +101,7 @@ impl Needing {
         keep_above(&mut self.rows, above);
         for index in self.asked..gone.len() {
             let found = book.needing(queue, gone[index], above)?;
-            self.rows = joined(alloc, self.rows.as_slice(), found.as_slice())?;
+            self.rows = merged(alloc, self.rows.as_slice(), found.as_slice())?;
         }
         self.asked = gone.len();
         Ok(())

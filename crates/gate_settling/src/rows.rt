@@ -8,11 +8,11 @@ ghost use Rattle.gate_settling.specs.Rows as rows;
 ghost use Rattle.gate_book.specs.Faults.{MayAnswer};
 
 use gate_book::{Book, BookFault, QueuedItem, plan_of};
-use gate_queue::same_name;
 use gate_types::deliveries::Ending;
-use gate_types::names::NoMemory;
+use gate_types::lists::with_one;
+use gate_types::names::{NoMemory, same_name};
 use gate_types::numbers::{ChangeNo, Serial};
-use gate_types::records::{Build, Change, Outcome, Plan, Stage};
+use gate_types::records::{Build, Change, Outcome, Plan};
 use gate_unsettled::{Event, TouchedItem};
 use gate_walk::SeenNeed;
 use std::alloc::Global;
@@ -36,15 +36,6 @@ pub(crate) fn has_landed(event: Event) -> bool
         Event::Ended { .. } => false,
         Event::Left(_) => false,
         Event::Landed => true,
-    }
-}
-
-fn is_landed(known: &Option<Change>) -> bool
-    ensures { result ≡ rows.is_landed_known known.now }
-{
-    match known {
-        Some(change) => matches!(change.stage, Stage::Landed),
-        None => false,
     }
 }
 
@@ -86,17 +77,10 @@ fn need_now<B: Book>(
     let queued = book.queued(change)?;
     Ok(SeenNeed {
         change,
-        landed: is_landed(&known) || has_landed(touched.event) && touched.item.change == change,
+        landed: Change::has_landed(&known)
+            || has_landed(touched.event) && touched.item.change == change,
         standing: standing_by(touched, &queued),
     })
-}
-
-fn with_need(needs: Vec<SeenNeed>, need: SeenNeed) -> Result<Vec<SeenNeed>, NoMemory>
-    ensures { IfOk result (λ all. all.items ≡ needs.items ++ need ∷ []) }
-{
-    let mut needs = needs;
-    needs.push(need)?;
-    Ok(needs)
 }
 
 /// Needs of an item in the touched queue.
@@ -114,7 +98,7 @@ fn needs_now<B: Book>(
     let mut needs = Vec::new(alloc);
     for change in changes {
         let need = need_now(book, touched, *change)?;
-        needs = with_need(needs, need)?;
+        needs = with_one(needs, need)?;
     }
     Ok(needs)
 }

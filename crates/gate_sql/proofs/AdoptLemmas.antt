@@ -19,7 +19,7 @@ use Rattle.gate_types.proofs.AdoptedLemmas.{tables_adopted}
 use Rattle.gate_rows.specs.Tells.{StandsFor, Tells, of_queue, placed}
 use Rattle.gate_schema.specs.Rows.{QueueRow, Stands, Stored}
 use Rattle.gate_sql.specs.Adopts.{CanAdopt, resized, rewritten, window_in}
-use Rattle.gate_sql.specs.Making.{queue_rows}
+use Rattle.gate_sql.specs.Making.{first_queue_rows}
 
 -- ---- names
 
@@ -98,11 +98,11 @@ adopted_window_is c told r =
     by_found (Some q) = refl
 
 -- the rows of the queues, in their new places
-places_adopted : (c : Settings) (told : List QueueRows) (n : ℕ) (rs : List QueueSetting) → queue_rows n (map (resized c (placed 0 told)) rs) ≡ placed n (map (adopted_rows c told) rs)
+places_adopted : (c : Settings) (told : List QueueRows) (n : ℕ) (rs : List QueueSetting) → first_queue_rows n (map (resized c (placed 0 told)) rs) ≡ placed n (map (adopted_rows c told) rs)
 places_adopted c told n [] = refl
 places_adopted c told n (r ∷ rs) =
-    ap (λ w. record { name = r.name; place = n; window = w } ∷ queue_rows (suc n) (map (resized c (placed 0 told)) rs)) (adopted_window_is c told r)
-    ∙ ap (λ name. record { name = name; place = n; window = (adopted_rows c told r).window } ∷ queue_rows (suc n) (map (resized c (placed 0 told)) rs)) (sym (adopted_name c told r))
+    ap (λ w. record { name = r.name; place = n; window = w } ∷ first_queue_rows (suc n) (map (resized c (placed 0 told)) rs)) (adopted_window_is c told r)
+    ∙ ap (λ name. record { name = name; place = n; window = (adopted_rows c told r).window } ∷ first_queue_rows (suc n) (map (resized c (placed 0 told)) rs)) (sym (adopted_name c told r))
     ∙ ap (λ l. record { name = (adopted_rows c told r).name; place = n; window = (adopted_rows c told r).window } ∷ l) (places_adopted c told (suc n) rs)
 
 -- ---- the lists of a queue
@@ -183,7 +183,7 @@ tells_adopted c d x b its may h =
     subst (Tells (rewritten (settings_text d) (map (resized c b.queues) d.queues) b)) (sym (tables_adopted c d x)) (record {
       counters_are = h.counters_are;
       queues_are = record {
-        places = ap (λ rows. queue_rows 0 (map (resized c rows) d.queues)) are.places ∙ places_adopted c told 0 d.queues;
+        places = ap (λ rows. first_queue_rows 0 (map (resized c rows) d.queues)) are.places ∙ places_adopted c told 0 d.queues;
         items_are = λ name. are.items_are name ∙ sym (still_there (λ q. q.items) (record { resized_same = λ q w. refl; none_there = λ r. refl }) c told d.queues there name);
         landings_are = λ name. subst (IsPermutation _) (sym (still_there (λ q. q.landings) (record { resized_same = λ q w. refl; none_there = λ r. refl }) c told d.queues there name)) (are.landings_are name);
         reports_are = λ name. subst (IsPermutation _) (sym (still_there (λ q. q.reports) (record { resized_same = λ q w. refl; none_there = λ r. refl }) c told d.queues there name)) (are.reports_are name);

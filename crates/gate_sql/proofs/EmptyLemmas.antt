@@ -14,14 +14,14 @@ use Rattle.gate_types.specs.Tables.{QueueRows, queue_rows as rows_of, tables}
 use Rattle.gate_types.specs.declared.config.Queue.{Queue}
 use Rattle.gate_rows.specs.Tells.{StandsFor, Tells, of_queue, placed}
 use Rattle.gate_schema.specs.Rows.{Stands}
-use Rattle.gate_sql.specs.Making.{first_stored, queue_row, queue_rows}
+use Rattle.gate_sql.specs.Making.{first_stored, queue_row, first_queue_rows}
 
 -- what stands of the queues before the first delivery
 abbrev first_told : Settings → List Queue → List QueueRows
 first_told c qs = map (λ q. rows_of (item_rows c (start c) q) q) (map empty_queue qs)
 
 -- each is in its place
-first_places : (c : Settings) (n : ℕ) (qs : List Queue) → queue_rows n qs ≡ placed n (first_told c qs)
+first_places : (c : Settings) (n : ℕ) (qs : List Queue) → first_queue_rows n qs ≡ placed n (first_told c qs)
 first_places c n [] = refl
 first_places c n (q ∷ qs) = ap (λ l. queue_row n q ∷ l) (first_places c (suc n) qs)
 
@@ -33,7 +33,7 @@ none_of list c none name (q ∷ qs) =
     [ true ↦ none q | false ↦ none_of list c none name qs ]
 
 -- the first rows tell of no change, item, landing, report and build
-pub tells_empty : (c : Settings) → Tells (first_stored (settings_text c) (queue_rows 0 c.queues)) (tables c (empty c))
+pub tells_empty : (c : Settings) → Tells (first_stored (settings_text c) (first_queue_rows 0 c.queues)) (tables c (empty c))
 tells_empty c = record {
   counters_are = refl;
   queues_are = record {
@@ -50,10 +50,10 @@ tells_empty c = record {
 }
 
 -- tables that hold the first rows stand for the empty gate
-pub stands_for_empty : (db : Trees) (c : Settings) (text : List ℕ) (queues : List Queue) → text ≡ settings_text c → queues ≡ c.queues → Stands db (first_stored text (queue_rows 0 queues)) → StandsFor db c (empty c)
+pub stands_for_empty : (db : Trees) (c : Settings) (text : List ℕ) (queues : List Queue) → text ≡ settings_text c → queues ≡ c.queues → Stands db (first_stored text (first_queue_rows 0 queues)) → StandsFor db c (empty c)
 stands_for_empty db c text queues is are stands = record {
-  stored = first_stored (settings_text c) (queue_rows 0 c.queues);
-  stands = subst (λ qs. Stands db (first_stored (settings_text c) (queue_rows 0 qs))) are (subst (λ t. Stands db (first_stored t (queue_rows 0 queues))) is stands);
+  stored = first_stored (settings_text c) (first_queue_rows 0 c.queues);
+  stands = subst (λ qs. Stands db (first_stored (settings_text c) (first_queue_rows 0 qs))) are (subst (λ t. Stands db (first_stored t (first_queue_rows 0 queues))) is stands);
   settings = refl;
   tells = tells_empty c;
 }

@@ -24,7 +24,7 @@ use Rattle.sqlite_trees.specs.declared.error.StoreError.TheVariants as why
 use Rattle.sqlite_typing.specs.Types.{accepts_program}
 use Rattle.sqlite_value.specs.declared.keys.Key.{Key}
 use Rattle.gate_schema.proofs.QueryLemmas.{over_table}
-use Rattle.gate_sql.specs.Reading.{is_unavailable}
+use Rattle.gate_sql.specs.Reading.{says_nothing}
 
 -- the text is this query
 abbrev pub selects : Query → List (List ℕ) → Command
@@ -36,7 +36,7 @@ Fits sql count (Ok c) = (nat_le (length sql) c.tail ≡ true) × (length c.names
 Fits sql count (Err e) = ⊥
 
 -- a failure of the store is one of memory, the disk or its size
-store_unavailable : (e : StoreError) → IsTrue (is_unavailable (store_error e))
+store_unavailable : (e : StoreError) → IsTrue (says_nothing (store_error e))
 store_unavailable why.OutOfMemory = refl
 store_unavailable why.Io = refl
 store_unavailable why.Corrupt = refl
@@ -54,16 +54,16 @@ at_most a b h = grind (arith, nat_tests)
 
 -- a query that types well and adds up nothing fails so alone
 refused_unavailable : (limit : Option ℕ) (db : Database) (q : Query) (params : Row) (e : Error) → accepts_program db.schema [] q params ≡ true → ¬ QueryOverflows q (overlay db.trees []) params
-    → RefusesQuery limit db (record { lets = []; body = q }) params e → IsTrue (is_unavailable e)
+    → RefusesQuery limit db (record { lets = []; body = q }) params e → IsTrue (says_nothing e)
 refused_unavailable limit db q params e typed small (inl h) = absurd (true≢false (sym typed ∙ h.1))
 refused_unavailable limit db q params e typed small (inr (inl h)) = absurd (small h.1)
-refused_unavailable limit db q params e typed small (inr (inr h)) = subst (λ x. IsTrue (is_unavailable x)) (sym h.0) refl
+refused_unavailable limit db q params e typed small (inr (inr h)) = subst (λ x. IsTrue (says_nothing x)) (sym h.0) refl
 
 -- A plain query of the tables fails for memory, the disk or its size alone.
 module _ (sql : List ℕ) (params : Row) (old new : State) (schema : Schema) (has : old.now.schema ≡ schema) (q : Query) (names : List (List ℕ)) (is : command_of (understood schema sql) ≡ selects q names)
     (plain : IsPlain (understood schema sql)) (unlisted : reads_listing schema sql ≡ false) (fits : Fits sql (length params) (understood schema sql))
     (typed : accepts_program schema [] q params ≡ true) (small : (db : Trees) → ¬ QueryOverflows q db params) where
-  pub query_unavailable : (e : Error) → FailsToQuery sql params old new e → IsTrue (is_unavailable e)
+  pub query_unavailable : (e : Error) → FailsToQuery sql params old new e → IsTrue (says_nothing e)
   unfolding FailsToQuery IsNotRun
   query_unavailable e (inl (inl (inl h, same))) = absurd (subst IsPlain (sym (ap (λ s. understood s sql) has) ∙ h.1) plain)
   query_unavailable e (inl (inl (inr h, same))) =
@@ -71,7 +71,7 @@ module _ (sql : List ℕ) (params : Row) (old new : State) (schema : Schema) (ha
       let fit = subst (Fits sql (length params)) known fits in
       let bare = subst IsPlain known plain in
       elim h.2 [ inl multi ↦ absurd (multi.0 (at_most _ _ fit.0)) | inr more ↦ elim more [ inl given ↦ absurd (given.0 (sym fit.1)) | inr clock ↦ absurd (clock.0 bare.1) ] ]
-  query_unavailable e (inl (inr h)) = subst (λ x. IsTrue (is_unavailable x)) (sym h.1) (store_unavailable h.0)
+  query_unavailable e (inl (inr h)) = subst (λ x. IsTrue (says_nothing x)) (sym h.1) (store_unavailable h.0)
   query_unavailable e (inr h) =
       let known = sym (ap (λ s. understood s sql) has) ∙ h.1.is in
       let bare = subst IsPlain known plain in

@@ -31,7 +31,7 @@ use Rattle.gate_queries.proofs.SilentLemmas.{plain_only_reads}
 use Rattle.gate_schema.proofs.QueryLemmas.{over_table, passes, kept_is}
 use Rattle.gate_schema.proofs.Statements.{no_limit}
 use Rattle.gate_sql.specs.Opens.{IsMeta, with_meta}
-use Rattle.gate_sql.specs.Reading.{HasNoMeta, HoldsMeta, ShowsMeta, Yields, is_unavailable, meta_rows, meta_sql}
+use Rattle.gate_sql.specs.Reading.{HasNoMeta, HoldsMeta, ShowsMeta, Yields, says_nothing, meta_rows, meta_sql}
 use Rattle.gate_sql.proofs.FailLemmas.{Fits, never_over, query_unavailable, selects}
 
 -- ---- what the text means
@@ -72,7 +72,7 @@ unfolding understood everything
 meta_fits tables indexes views = ((refl, refl), refl)
 
 -- It fails for memory, the disk or its size alone.
-pub meta_unavailable : (old new : State) (tables : List Table) (indexes : List Index) (views : List View) (e : Error) → old.now.schema ≡ with_meta tables indexes views → FailsToQuery meta_sql [] old new e → IsTrue (is_unavailable e)
+pub meta_unavailable : (old new : State) (tables : List Table) (indexes : List Index) (views : List View) (e : Error) → old.now.schema ≡ with_meta tables indexes views → FailsToQuery meta_sql [] old new e → IsTrue (says_nothing e)
 meta_unavailable old new tables indexes views e has h =
     let is = meta_is tables indexes views in
     let fits = meta_fits tables indexes views in

@@ -10,7 +10,7 @@ use Rattle.gate_types.specs.Settings.{Settings, are_sound}
 use Rattle.gate_types.specs.declared.config.Queue.{Queue as QueueSetting}
 use Rattle.gate_rows.specs.Tells.{StandsFor}
 use Rattle.gate_schema.specs.Rows.{QueueRow, Stored}
-use Rattle.gate_sql.specs.Making.{queue_rows}
+use Rattle.gate_sql.specs.Making.{first_queue_rows}
 
 -- the window under which the rows keep a queue, if they keep it
 abbrev pub window_in : List QueueRow → List ℕ → Option ℕ
@@ -26,7 +26,7 @@ with_settings text b = record b { settings = text }
 
 -- this text, and the rows of these queues; nothing else changes
 abbrev pub rewritten : List ℕ → List QueueSetting → Stored → Stored
-rewritten text queues b = record b { settings = text; queues = queue_rows 0 queues }
+rewritten text queues b = record b { settings = text; queues = first_queue_rows 0 queues }
 
 -- tables that stand for a lawful content, under settings in whose place others may be taken
 pub record CanAdopt (db : Trees) (c d : Settings) (x : Content) : Type 0 where

@@ -17,9 +17,9 @@ abbrev pub queue_row : ℕ → Queue → QueueRow
 queue_row place q = record { name = q.name; place = place; window = q.window }
 
 -- the queues' rows, by their places from n on
-abbrev pub queue_rows : ℕ → List Queue → List QueueRow
-queue_rows n [] = []
-queue_rows n (q ∷ qs) = queue_row n q ∷ queue_rows (suc n) qs
+abbrev pub first_queue_rows : ℕ → List Queue → List QueueRow
+first_queue_rows n [] = []
+first_queue_rows n (q ∷ qs) = queue_row n q ∷ first_queue_rows (suc n) qs
 
 -- these rows of queues, and this text of the settings; nothing else
 abbrev pub first_stored : List ℕ → List QueueRow → Stored

@@ -97,8 +97,8 @@ IsMet (Ok c) kept d = Tells kept c × (may_adopt c d ≡ true)
 IsMet (Err fault.OtherSettings) kept d = (c : Settings) → Tells kept c → may_adopt c d ≡ true → ⊥
 IsMet (Err f) kept d = f ≡ fault.Unavailable
 
--- where `Are v k` says that the file is of version v and keeps settings of text k: how it stands is told only where it is
--- so
+-- where `Are v k` says that the file is of version v and keeps settings of text k: how it stands is told only where
+-- it is so
 abbrev pub IsStandingOf : Result Bool OpenFault → (List ℕ → List ℕ → Type 0) → List ℕ → Type 0
 IsStandingOf (Err fault.WrongFile) Are settings = ⊤
 IsStandingOf (Err fault.Unavailable) Are settings = ⊤
@@ -127,12 +127,12 @@ IsUnread None = ⊥
 IsUnread (Some f) = (f ≡ fault.WrongFile) ⊎ (f ≡ fault.Unavailable)
 
 -- the errors that say nothing of the file: memory, the disk, its size or the limit of steps failed
-abbrev pub is_unavailable : Error → Bool
-is_unavailable (SqliteFailure code.OutOfMemory) = true
-is_unavailable (SqliteFailure code.SystemIoFailure) = true
-is_unavailable (SqliteFailure code.DatabaseCorrupt) = true
-is_unavailable (SqliteFailure code.DiskFull) = true
-is_unavailable (SqliteFailure code.Closed) = true
-is_unavailable (SqliteFailure code.TooBig) = true
-is_unavailable (SqliteFailure code.OperationInterrupted) = true
-is_unavailable _ = false
+abbrev pub says_nothing : Error → Bool
+says_nothing (SqliteFailure code.OutOfMemory) = true
+says_nothing (SqliteFailure code.SystemIoFailure) = true
+says_nothing (SqliteFailure code.DatabaseCorrupt) = true
+says_nothing (SqliteFailure code.DiskFull) = true
+says_nothing (SqliteFailure code.Closed) = true
+says_nothing (SqliteFailure code.TooBig) = true
+says_nothing (SqliteFailure code.OperationInterrupted) = true
+says_nothing _ = false

@@ -13,7 +13,7 @@ ghost use Rattle.gate_queries.specs.Finds.{Stays};
 ghost use Rattle.gate_queries.specs.Reads.{IsShown};
 ghost use Rattle.gate_sql.specs.Handed.{answered, handed};
 ghost use Rattle.gate_sql.specs.Held.{HoldsFor, names_of};
-ghost use Rattle.gate_sql.specs.Making.{IsSettled, first_stored, queue_rows};
+ghost use Rattle.gate_sql.specs.Making.{IsSettled, first_stored, first_queue_rows};
 ghost use Rattle.gate_sql.specs.Opens.{IsMade, is_taken};
 
 use crate::book::{SqlBook, texts_of};
@@ -64,7 +64,7 @@ fn has_names(schema: &Schema) -> bool
 fn fill<S: Alter>(conn: &mut Connection<S>, settings: &str, queues: &[Queue]) -> Result<(), Error>
     requires { conn.old.in_transaction ≡ false }
     ensures all { HasCleanDisk (state S.Store conn.new) → (state S.Store conn.old).now.schema ≡ schema_with 0 0 →
-        OnOk result (IsShown (state S.Store conn.new) (first_stored settings.now (queue_rows 0 queues.now))) }
+        OnOk result (IsShown (state S.Store conn.new) (first_stored settings.now (first_queue_rows 0 queues.now))) }
     ensures settled { HasCleanDisk (state S.Store conn.new) → OnOk result (IsSettled (state S.Store conn.new)) }
     ensures none { HasCleanDisk (state S.Store conn.new) →
         OnErr result (Stays (state S.Store conn.old) (state S.Store conn.new)) }
@@ -72,7 +72,7 @@ fn fill<S: Alter>(conn: &mut Connection<S>, settings: &str, queues: &[Queue]) ->
     ensures mode { conn.new.in_transaction ≡ false }
     ensures crash { (state S.Store conn.old).now.schema ≡ schema_with 0 0 →
         Survives (state S.Store conn.old) (state S.Store conn.new)
-        (λ db. Stands db (first_stored settings.now (queue_rows 0 queues.now))) }
+        (λ db. Stands db (first_stored settings.now (first_queue_rows 0 queues.now))) }
 {
     let _ = conn.is_autocommit();
     let mut tx = conn.transaction();

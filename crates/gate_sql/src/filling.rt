@@ -6,7 +6,7 @@ ghost use Rattle.sqlite.specs.declared.types.Value.TheVariants.{Int};
 ghost use Rattle.gate_rows.specs.Writes.{LeavesNothing};
 ghost use Rattle.gate_schema.specs.Schema.{gate_schema};
 ghost use Rattle.gate_sql.specs.Making.{HasMeta, IsBare, IsFilled, IsInside, KeepsInside, Turns};
-ghost use Rattle.gate_sql.specs.Making.{first_stored, queue_row, queue_rows, with_queue, with_rows};
+ghost use Rattle.gate_sql.specs.Making.{first_stored, queue_row, first_queue_rows, with_queue, with_rows};
 
 use gate_types::config::Queue;
 use sqlite::types::{ToSql, ValueRef};
@@ -84,7 +84,7 @@ pub(crate) fn add_queues<S: Alter>(
 ) -> Result<(), Error>
     ensures same_reference { tx.new.conn.ghost_name ≡ tx.old.conn.ghost_name }
     ensures made { (b : _) → Turns (state S.Store tx.old.conn.now) (state S.Store tx.new.conn.now) result
-        (IsFilled (with_rows [] b)) (IsFilled (with_rows (queue_rows 0 queues.now) b)) }
+        (IsFilled (with_rows [] b)) (IsFilled (with_rows (first_queue_rows 0 queues.now) b)) }
     ensures inside { Turns (state S.Store tx.old.conn.now) (state S.Store tx.new.conn.now) result IsInside IsInside }
     ensures kept { KeepsInside (state S.Store tx.old.conn.now) (state S.Store tx.new.conn.now) }
     ensures crash { LeavesNothing (state S.Store tx.old.conn.now) (state S.Store tx.new.conn.now) }
@@ -103,7 +103,7 @@ pub(crate) fn write_first<S: Alter>(
 ) -> Result<(), Error>
     ensures same_reference { tx.new.conn.ghost_name ≡ tx.old.conn.ghost_name }
     ensures made { Turns (state S.Store tx.old.conn.now) (state S.Store tx.new.conn.now) result
-        (IsBare gate_schema) (IsFilled (first_stored settings.now (queue_rows 0 queues.now))) }
+        (IsBare gate_schema) (IsFilled (first_stored settings.now (first_queue_rows 0 queues.now))) }
     ensures inside { Turns (state S.Store tx.old.conn.now) (state S.Store tx.new.conn.now) result IsInside IsInside }
     ensures kept { KeepsInside (state S.Store tx.old.conn.now) (state S.Store tx.new.conn.now) }
     ensures crash { LeavesNothing (state S.Store tx.old.conn.now) (state S.Store tx.new.conn.now) }

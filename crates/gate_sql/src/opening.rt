@@ -19,7 +19,7 @@ ghost use Rattle.gate_sql.specs.Handed.{answered, handed};
 ghost use Rattle.gate_sql.specs.Held.{HoldsFor, names_of};
 ghost use Rattle.gate_sql.specs.Opens.{IsJudged, IsMeta, with_meta};
 ghost use Rattle.gate_sql.specs.Adopts.{IsKept};
-ghost use Rattle.gate_sql.specs.Reading.{HasNoMeta, HasNoneToAdopt, HoldsMeta, IsFound, IsFoundOf, IsMet, IsTold, IsUnread, ShowsMeta, is_unavailable, met, meta_rows, meta_sql};
+ghost use Rattle.gate_sql.specs.Reading.{HasNoMeta, HasNoneToAdopt, HoldsMeta, IsFound, IsFoundOf, IsMet, IsTold, IsUnread, ShowsMeta, says_nothing, met, meta_rows, meta_sql};
 
 use crate::adopting::adopt;
 use crate::book::{SqlBook, texts_of};
@@ -146,8 +146,8 @@ fn judge(
 
 /// Why `meta` wasn't read.
 pub(crate) fn fault_of(error: &Error) -> OpenFault
-    ensures unavailable { IsTrue (is_unavailable error.now) → result ≡ OpenFault.Unavailable }
-    ensures other { is_unavailable error.now ≡ false → result ≡ OpenFault.WrongFile }
+    ensures unavailable { IsTrue (says_nothing error.now) → result ≡ OpenFault.Unavailable }
+    ensures other { says_nothing error.now ≡ false → result ≡ OpenFault.WrongFile }
     ensures unread { IsUnread (Some result) }
 {
     match error {
@@ -262,6 +262,7 @@ impl<S: Alter> SqlBook<S> {
         ensures clean { HasCleanDisk (handed S.Store result) → HasCleanDisk (state S.Store conn) }
         ensures mode { IfOk result (λ book. book.conn.in_transaction ≡ false) }
     {
+        // This shows the prover that the settings are sound.
         let _settings = &config.base;
         one_text_a_setting();
         settings_are_in_form(config);

@@ -1,10 +1,8 @@
 //! The plans that a file of schema 1 gets, read of it with its settings.
-ghost use Rattle.std.specs.Prelude.{◌≡◌, ◌&&◌, ◌++◌, ◌∷◌, [], ℕ, List, find, flat_map, map, IfOk, OnOk};
-ghost use Rattle.std.specs.Option.{option_copied};
+ghost use Rattle.std.specs.Prelude.{◌≡◌, ◌&&◌, ◌++◌, ◌∷◌, [], ℕ, List, flat_map, map, IfOk, OnOk};
 ghost use Rattle.sqlite.specs.Held.{state};
 ghost use Rattle.sqlite.specs.State.{HasCleanDisk};
 ghost use Rattle.gate_types.specs.Migrate.{plans_of_queue};
-ghost use Rattle.gate_types.specs.Names.{same_name};
 ghost use Rattle.gate_types.specs.State.{State as GateState, Queue as GateQueue};
 ghost use Rattle.gate_types.specs.Tables.{change_row};
 ghost use Rattle.gate_schema.specs.Rows.{Stored};
@@ -33,16 +31,6 @@ fn copied(alloc: Global, jobs: &[Job]) -> Result<Sequence<Job>, NoMemory>
         copies.push(job.copy()?)?;
     }
     Ok(Sequence::from_vec(copies))
-}
-
-fn project_named<'c>(config: &'c Config, name: &str) -> Option<&'c Project>
-    ensures { option_copied result ≡ find (λ p. same_name p.name name.now) config.now.projects }
-{
-    config
-        .projects
-        .as_slice()
-        .iter()
-        .find(|project| project.name.as_str() == name)
 }
 
 /// The plan of a serial by a project.
@@ -81,7 +69,7 @@ fn plan_for<S: Alter>(
     ensures only_reads { IsOnlyRead (state S.Store conn.old) (state S.Store conn.new) }
 {
     let name = project_name(conn, change)?;
-    match project_named(config, name.as_str()) {
+    match config.project(name.as_str()) {
         Some(project) => Ok(plan_by(alloc, project, serial, may_fail_fast)?),
         None => Err(BookFault::Damaged),
     }

@@ -20,9 +20,9 @@ use sqlite::{Alter, Connection};
 use std::alloc::Global;
 
 impl<S: Alter + Drop> SqlBook<S> {
-    /// The book over what a crash left: where that stands for one of some contents, the book holds one of them; other
-    /// settings are taken as `open` takes them. It hands the store back with a fault: those of `open`, and `Unavailable`
-    /// where SQL doesn't open the store.
+    /// The book over what a crash left: where that stands for one of some contents, the book holds one of them;
+    /// other settings are taken as `open` takes them. It hands the store back with a fault: those of `open`, and
+    /// `Unavailable` where SQL doesn't open the store.
     pub fn open_store(
         alloc: Global,
         store: S,

@@ -6,11 +6,10 @@ use Rattle.gate_types.specs.declared.records.Item.{Item as ItemRow}
 use Rattle.gate_types.specs.declared.records.Stage.TheVariants as stage
 use Rattle.std.specs.List.{cons_option}
 use Rattle.gate_types.specs.Settings.{Settings}
-use Rattle.gate_types.specs.State.{Item, State, known_change, change_of}
+use Rattle.gate_types.specs.State.{Item, State, known_change, change_of, known_or_closed}
 use Rattle.gate_types.specs.SubmitOrder.{Order, order_of, orders}
 use Rattle.gate_types.specs.JsonText.{joined, array}
 use Rattle.gate_types.specs.OrderList.{shown, order_list_text}
-use Rattle.gate_reads.specs.Known.{known_or_closed}
 use Rattle.gate_reads.specs.Orders.{order_in, IsRowOf, TellsOrder}
 use Rattle.gate_reads.proofs.Queues.{IsThere}
 use Rattle.gate_texts.specs.Listed.{order_piece, comma_behind, with_order}

@@ -10,7 +10,7 @@ use Rattle.gate_types.specs.declared.records.Need.{Need}
 use Rattle.gate_types.specs.declared.records.Plan.{Plan}
 use Rattle.gate_types.specs.declared.records.Stage.TheVariants as stage
 use Rattle.gate_types.specs.Settings.{Settings}
-use Rattle.gate_types.specs.State.{Item, Queue, State, known_change, change_of, plan_of}
+use Rattle.gate_types.specs.State.{Item, Queue, State, known_change, change_of, plan_of, known_or_closed, need_of}
 use Rattle.gate_types.specs.Line.{Place, item_entry}
 use Rattle.gate_types.specs.Slot.{is_blocked, has_failure, cut_slot}
 use Rattle.gate_types.specs.Standing.{next_ahead, places}
@@ -20,7 +20,6 @@ use Rattle.gate_types.specs.Rows.{item_rows}
 use Rattle.gate_types.specs.Lawful.{IsLawful}
 use Rattle.gate_laws.proofs.Members.{contains_in, in_contains}
 use Rattle.gate_book.specs.Reads.{queue_named, first_above, live_builds}
-use Rattle.gate_reads.specs.Known.{known_or_closed, need_of}
 use Rattle.gate_reads.specs.Places.{IsBehind, are_met_among}
 use Rattle.gate_reads.proofs.Walking.{IsLeft, IsNext, places_from, step_along, end_along}
 use Rattle.gate_reads.proofs.Trying.{place_next, with_row, longer_is}

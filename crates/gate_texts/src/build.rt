@@ -9,25 +9,9 @@ use gate_book::{Book, BookFault};
 use gate_types::names::{NoMemory, Text};
 use gate_types::numbers::BuildNo;
 use gate_types::records::{Build, Outcome};
+use gate_types::words::{outcome_word, truth_word};
 use gate_wire::{ahead_text, build_front};
 use std::alloc::Global;
-
-fn outcome_word(outcome: Outcome) -> &'static str
-    ensures { result.now ≡ outcome_word outcome }
-{
-    match outcome {
-        Outcome::Running => "running",
-        Outcome::Success => "success",
-        Outcome::Failure => "failure",
-        Outcome::Lost => "lost",
-    }
-}
-
-fn truth_word(truth: bool) -> &'static str
-    ensures { result.now ≡ (if truth then codes "true" else codes "false") }
-{
-    if truth { "true" } else { "false" }
-}
 
 /// The members behind the job.
 fn build_back(

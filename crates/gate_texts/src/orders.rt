@@ -4,7 +4,7 @@ ghost use Rattle.gate_types.specs.SubmitOrder.{Order};
 ghost use Rattle.gate_types.specs.OrderList.{shown, order_list_text};
 ghost use Rattle.gate_book.specs.Faults.{MayAnswer};
 ghost use Rattle.gate_book.specs.Kept.{OfHeld, OfHeldUnder, IsKept};
-ghost use Rattle.gate_reads.specs.Known.{known_or_closed};
+ghost use Rattle.gate_types.specs.State.{known_or_closed};
 ghost use Rattle.gate_reads.specs.Orders.{order_in, IsRowOf};
 ghost use Rattle.gate_texts.specs.Listed.{order_piece, comma_behind, with_order};
 

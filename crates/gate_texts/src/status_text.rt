@@ -1,13 +1,12 @@
 //! The status text.
 ghost use Rattle.std.specs.Prelude.{◌≡◌, ◌&&◌, not, ℕ, List, Some, IfOk, IfErr, string_bytes, flat_map};
-ghost use Rattle.gate_types.specs.State.{Queue};
+ghost use Rattle.gate_types.specs.State.{Queue, known_or_closed};
 ghost use Rattle.gate_types.specs.Line.{Place};
 ghost use Rattle.gate_types.specs.Standing.{places};
 ghost use Rattle.gate_types.specs.Status.{item_row, status_rows, waiting_row, status_text};
 ghost use Rattle.gate_book.specs.Faults.{MayAnswer};
 ghost use Rattle.gate_book.specs.Kept.{OfHeld, OfHeldUnder, IsKept};
 ghost use Rattle.gate_book.specs.Reads.{queue_named};
-ghost use Rattle.gate_reads.specs.Known.{known_or_closed};
 ghost use Rattle.gate_reads.specs.Places.{IsBehind};
 
 use crate::lines::{item_line, queue_line, waiting_line};

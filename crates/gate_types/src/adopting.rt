@@ -7,13 +7,7 @@ ghost use Rattle.gate_types.specs.Adopt.{may_adopt, keeps_window};
 ghost use Rattle.gate_types.specs.AdoptedTables.{adopted_window};
 
 use crate::config::{Config, Project, Queue};
-use crate::names::{Name, PathName};
-
-fn same_name(name: &Name, other: &Name) -> bool
-    ensures { result ≡ same_name name.now other.now }
-{
-    name.as_str() == other.as_str()
-}
+use crate::names::{Name, PathName, same_name};
 
 fn same_path(name: &PathName, other: &PathName) -> bool
     ensures { result ≡ same_name name.now other.now }

@@ -1,6 +1,6 @@
 //! Names and texts within their limits, each made from a `String`.
 ghost use Rattle.std.specs.Prelude.{◌≡◌, is_some, IfSome, IfOk, IsTrue, true, string_bytes};
-ghost use Rattle.gate_types.specs.Names.{is_name, is_path_name, is_base, is_message, is_letter_or_digit, is_name_byte, is_path_byte, is_base_byte};
+ghost use Rattle.gate_types.specs.Names.{is_name, is_path_name, is_base, is_message, is_letter_or_digit, is_name_byte, is_path_byte, is_base_byte, same_name};
 ghost use Rattle.std.specs.List.{list_all};
 
 use std::alloc::AllocError;
@@ -53,6 +53,13 @@ impl Name {
         let text = self.text.clone()?;
         Ok(Name { text })
     }
+}
+
+/// Whether two names are the same.
+pub fn same_name(name: &Name, other: &Name) -> bool
+    ensures { result ≡ same_name name.now other.now }
+{
+    name.as_str() == other.as_str()
 }
 
 /// The name of a project or a worker: as the name of a queue, but `/` may stand behind

@@ -16,7 +16,7 @@ use Rattle.gate_walk.specs.declared.walk.Touched.{Touched}
 use Rattle.gate_walk.specs.TakenOut.{out_of}
 use Rattle.gate_walk.specs.declared.walk.Next.{Next as CodeNext}
 use Rattle.gate_walk.specs.Views.{next_of_code}
-use Rattle.gate_walk.specs.UnderWay.{Delivered, queue_after, bounds_after, stale_rows, tables, places_of, tables_settled, tables_settled_below, begun, rows_seen, walk_by, next_by, row_wanted, AreWanted, HasVisited, IsBehind, tables_by, IsFor, Starts, GoesOn, Ends, Visits}
+use Rattle.gate_walk.specs.UnderWay.{Delivered, queue_after, bounds_after, stale_rows, tables, places_of, tables_settled, tables_settled_below, begun, rows_seen, walk_by, next_by, row_wanted, AreWanted, HasVisited, IsBehind, rows_walked, IsFor, Starts, GoesOn, Ends, Visits}
 use Rattle.gate_laws.proofs.Members.{found}
 use Rattle.gate_queue.proofs.Ordered.{RiseFrom, row_serial, place_serial, rises}
 use Rattle.gate_walk.proofs.Parting.{none_under, all_onward, under, onward, cut, under_at, under_behind, rise_at, low_at, onward_onward, onward_many, found_first, none_found, find_in, AllFail, all_fail, parts_at}
@@ -362,9 +362,9 @@ goes_on x old new v vs next visits answers h e =
     let is : new ≡ walk_by x (v ∷ vs) = visits ∙ ap (λ w. behind_visit w v) h.is in
     let wanted_all : AreWanted x (v ∷ vs) = (e, h.were_wanted) in
     let wants : next_of_code next ≡ next_by x (v ∷ vs) = answers ∙ ap (λ (w : Walk). next_of w.carry v.row.serial) is in
-    let tells : tables_by x new ≡ fold_edits (tables x) (edits_by x (v ∷ vs)) = ap (tables_by x) is in
+    let tells : rows_walked x new ≡ fold_edits (tables x) (edits_by x (v ∷ vs)) = ap (rows_walked x) is in
     record {
-      before = ap (tables_by x) h.is ∙ settled_before x vs v h.were_wanted e;
+      before = ap (rows_walked x) h.is ∙ settled_before x vs v h.were_wanted e;
       behind = tells ∙ settled_behind x vs v h.were_wanted e;
       at_stop = λ s. tells ∙ settled_at_end x (v ∷ vs) wanted_all (ap (λ n. wanted (carry_by x (v ∷ vs)).gone n (rows_seen x)) (sym wants ∙ ap next_of_code s));
       visited = record { is = is; were_wanted = wanted_all };
@@ -387,7 +387,7 @@ goes_on x old new v vs next visits answers h e =
 
 -- no row is wanted
 pub ends : (x : Delivered) (old : Walk) (vs : List Seen) → HasVisited x old vs → row_wanted x vs ≡ None → Ends x old old vs
-ends x old vs h e = record { settled = ap (tables_by x) h.is ∙ settled_at_end x vs h.were_wanted e; same = refl; visited = h }
+ends x old vs h e = record { settled = ap (rows_walked x) h.is ∙ settled_at_end x vs h.were_wanted e; same = refl; visited = h }
 
 -- what a visit answers, where the row is there
 pub visit_settles : {X E : Type 0} (see_by : X → Seen) (old new : Walk) (seen : Option X) (v : X) (answer : Result CodeNext E) → seen ≡ Some v →

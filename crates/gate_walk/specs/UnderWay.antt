@@ -117,14 +117,14 @@ pub record HasVisited (x : Delivered) (w : Walk) (vs : List Seen) : Type 0 where
   pub were_wanted : AreWanted x vs
 
 -- the queue as the walk's edits leave it
-abbrev pub tables_by : Delivered → Walk → Rows
-tables_by x w = fold_edits (tables x) w.told
+abbrev pub rows_walked : Delivered → Walk → Rows
+rows_walked x w = fold_edits (tables x) w.told
 
 -- a walk that has visited nothing: only what the items below the touched serial are to be is settled, and that is
 -- what they were
 pub record Starts (x : Delivered) (w : Walk) : Type 0 where
   pub visited : HasVisited x w []
-  pub settled : tables_by x w ≡ tables_settled_below x x.item.serial
+  pub settled : rows_walked x w ≡ tables_settled_below x x.item.serial
 
 -- a walk is begun as it is to be for the delivery: in its queue, at its item, behind the one ahead, told of what was
 -- taken out
@@ -150,9 +150,9 @@ pub record Stops (x : Delivered) (old new : Walk) (vs : List Seen) (v : Seen) (n
 -- a visit of the row that is wanted: before it the queue is settled below that row, behind it up to that row, and at
 -- a stop all of it
 pub record GoesOn (x : Delivered) (old new : Walk) (v : Seen) (vs : List Seen) (next : CodeNext) : Type 0 where
-  pub before : tables_by x old ≡ tables_settled_below x v.row.serial
-  pub behind : tables_by x new ≡ tables_settled_below x (v.row.serial + 1)
-  pub at_stop : next ≡ code.Stop → tables_by x new ≡ tables_settled x
+  pub before : rows_walked x old ≡ tables_settled_below x v.row.serial
+  pub behind : rows_walked x new ≡ tables_settled_below x (v.row.serial + 1)
+  pub at_stop : next ≡ code.Stop → rows_walked x new ≡ tables_settled x
   pub visited : HasVisited x new (v ∷ vs)
   pub wants : next_of_code next ≡ next_by x (v ∷ vs)
   pub is_behind : IsBehind x vs v
@@ -160,8 +160,8 @@ pub record GoesOn (x : Delivered) (old new : Walk) (v : Seen) (vs : List Seen) (
 
 -- a visit by which the walk learns that no row is wanted: the queue is settled
 pub record Ends (x : Delivered) (old new : Walk) (vs : List Seen) : Type 0 where
-  pub settled : tables_by x old ≡ tables_settled x
-  pub same : tables_by x new ≡ tables_by x old
+  pub settled : rows_walked x old ≡ tables_settled x
+  pub same : rows_walked x new ≡ rows_walked x old
   pub visited : HasVisited x new vs
 
 -- what a visit does to a walk, by whether the wanted row is there

@@ -118,28 +118,28 @@ fn perform<F: Files + GateFiles + AllocGlobal, R: Read, W: Write, E: Write>(
         (streams R.remaining W.contents input.new output.new)) }
 {
     match cmd {
-        Cmd::Check { settings } => checked(rt, settings, output)?,
-        Cmd::Init { settings, file } => made(rt, settings, file)?,
-        Cmd::Replay { settings, status } => replayed(rt, settings, status, input, output)?,
-        Cmd::Deliver { settings, file } => delivered(rt, settings, file, input, output)?,
-        Cmd::Status { settings, file } => shown(rt, settings, file, output)?,
+        Cmd::Check { settings } => run_check(rt, settings, output)?,
+        Cmd::Init { settings, file } => run_init(rt, settings, file)?,
+        Cmd::Replay { settings, status } => run_replay(rt, settings, status, input, output)?,
+        Cmd::Deliver { settings, file } => run_deliver(rt, settings, file, input, output)?,
+        Cmd::Status { settings, file } => run_status(rt, settings, file, output)?,
         Cmd::History {
             settings,
             file,
             queue,
-        } => told(rt, settings, file, queue, output)?,
+        } => run_history(rt, settings, file, queue, output)?,
         Cmd::Serve {
             settings,
             file,
             port,
             count,
-        } => served(rt, settings, file, port, count, output, errors)?,
-        Cmd::Migrate { settings, file } => migrated(rt, settings, file, output)?,
+        } => run_serve(rt, settings, file, port, count, output, errors)?,
+        Cmd::Migrate { settings, file } => run_migrate(rt, settings, file, output)?,
     }
     Ok(())
 }
 
-fn checked<F: Files + GateFiles + AllocGlobal, W: Write>(
+fn run_check<F: Files + GateFiles + AllocGlobal, W: Write>(
     rt: &F,
     path: &str,
     output: &mut Tap<W>,
@@ -156,7 +156,7 @@ fn checked<F: Files + GateFiles + AllocGlobal, W: Write>(
     Ok(())
 }
 
-fn replayed<F: Files + GateFiles + AllocGlobal, R: Read, W: Write>(
+fn run_replay<F: Files + GateFiles + AllocGlobal, R: Read, W: Write>(
     rt: &F,
     settings: &str,
     status: bool,
@@ -185,6 +185,7 @@ fn replayed<F: Files + GateFiles + AllocGlobal, R: Read, W: Write>(
 fn opened(alloc: Global, config: Config) -> Result<Gate<MemBook>, NoMemory>
     ensures { IfOk result (λ gate. IsGate gate.config gate.book (opened config)) }
 {
+    // This shows the prover that the settings are sound.
     let _settings = &config.base;
     settings_are_in_form(&config);
     start_is_lawful();
@@ -194,7 +195,11 @@ fn opened(alloc: Global, config: Config) -> Result<Gate<MemBook>, NoMemory>
 }
 
 /// Makes the tables of a new gate in a file.
-fn made<F: Files + GateFiles + AllocGlobal>(rt: &F, settings: &str, file: &str) -> Result<(), Fault>
+fn run_init<F: Files + GateFiles + AllocGlobal>(
+    rt: &F,
+    settings: &str,
+    file: &str,
+) -> Result<(), Fault>
     ensures { IfErr result IsOfMaking }
 {
     let config = settings_of(rt, settings)?;
@@ -202,7 +207,7 @@ fn made<F: Files + GateFiles + AllocGlobal>(rt: &F, settings: &str, file: &str) 
 }
 
 /// Answers the input over the gate that a file keeps.
-fn delivered<F: Files + GateFiles + AllocGlobal, R: Read, W: Write>(
+fn run_deliver<F: Files + GateFiles + AllocGlobal, R: Read, W: Write>(
     rt: &F,
     settings: &str,
     file: &str,
@@ -223,7 +228,7 @@ fn delivered<F: Files + GateFiles + AllocGlobal, R: Read, W: Write>(
 }
 
 /// Prints the status of the gate that a file keeps.
-fn shown<F: Files + GateFiles + AllocGlobal, W: Write>(
+fn run_status<F: Files + GateFiles + AllocGlobal, W: Write>(
     rt: &F,
     settings: &str,
     file: &str,
@@ -240,7 +245,7 @@ fn shown<F: Files + GateFiles + AllocGlobal, W: Write>(
 }
 
 /// Prints the history of a queue of the gate that a file keeps.
-fn told<F: Files + GateFiles + AllocGlobal, W: Write>(
+fn run_history<F: Files + GateFiles + AllocGlobal, W: Write>(
     rt: &F,
     settings: &str,
     file: &str,
@@ -258,7 +263,7 @@ fn told<F: Files + GateFiles + AllocGlobal, W: Write>(
 }
 
 /// Serves connections over the gate that a file keeps.
-fn served<F: Files + GateFiles + AllocGlobal, W: Write, E: Write>(
+fn run_serve<F: Files + GateFiles + AllocGlobal, W: Write, E: Write>(
     rt: &F,
     settings: &str,
     file: &str,
@@ -280,7 +285,7 @@ fn served<F: Files + GateFiles + AllocGlobal, W: Write, E: Write>(
 }
 
 /// Makes a file of schema 1 one of schema 2, and tells which it was.
-fn migrated<F: Files + GateFiles + AllocGlobal, W: Write>(
+fn run_migrate<F: Files + GateFiles + AllocGlobal, W: Write>(
     rt: &F,
     settings: &str,
     file: &str,

@@ -98,8 +98,9 @@ bare = new_app (codes "gated")
 -- the program's command line, which has a version, and where a command has to be given
 abbrev pub gated : App
 gated = with_subcommand (with_subcommand (with_subcommand (with_subcommand (with_subcommand (with_subcommand
-    (with_subcommand (with_subcommand (record bare { top = record bare.top { has_version = true; subcommand_required = true } })
-    check.top) init.top) replay.top) deliver.top) status.top) history.top) serve.top) migrate.top
+    (with_subcommand (with_subcommand (record bare {
+      top = record bare.top { has_version = true; subcommand_required = true };
+    }) check.top) init.top) replay.top) deliver.top) status.top) history.top) serve.top) migrate.top
 
 -- what a command line says
 pub data Said : Type 0 where
@@ -112,16 +113,17 @@ pub data Said : Type 0 where
   serve_of : Text × Text → ℕ → ℕ → Said
   migrate_of : Text × Text → Said
 
-abbrev pub said : Option Cmd → Option Said
-said None = None
-said (Some (Check settings)) = Some (check_of settings.now)
-said (Some (Init settings file)) = Some (init_of (settings.now, file.now))
-said (Some (Replay settings status)) = Some (replay_of settings.now status)
-said (Some (Deliver settings file)) = Some (deliver_of (settings.now, file.now))
-said (Some (Status settings file)) = Some (showing_of (settings.now, file.now))
-said (Some (History settings file queue)) = Some (history_of (settings.now, file.now) queue.now)
-said (Some (Serve settings file port count)) = Some (serve_of (settings.now, file.now) port count)
-said (Some (Migrate settings file)) = Some (migrate_of (settings.now, file.now))
+-- what a command asks for
+abbrev pub asks_for : Option Cmd → Option Said
+asks_for None = None
+asks_for (Some (Check settings)) = Some (check_of settings.now)
+asks_for (Some (Init settings file)) = Some (init_of (settings.now, file.now))
+asks_for (Some (Replay settings status)) = Some (replay_of settings.now status)
+asks_for (Some (Deliver settings file)) = Some (deliver_of (settings.now, file.now))
+asks_for (Some (Status settings file)) = Some (showing_of (settings.now, file.now))
+asks_for (Some (History settings file queue)) = Some (history_of (settings.now, file.now) queue.now)
+asks_for (Some (Serve settings file port count)) = Some (serve_of (settings.now, file.now) port count)
+asks_for (Some (Migrate settings file)) = Some (migrate_of (settings.now, file.now))
 
 -- a flag was given
 abbrev pub is_set : Option Text → Bool
@@ -167,7 +169,7 @@ said_of (name, rows) =
     if bytes_eq name (codes "migrate") then option_map migrate_of (files_of rows) else None)))))))
 
 abbrev pub says : Option Cmd → Option (Text × List Row) → Type 0
-says cmd rows = said cmd ≡ option_and_then said_of rows
+says cmd rows = asks_for cmd ≡ option_and_then said_of rows
 
 -- what the words ask for, if they name a command
 abbrev pub asked : List Text → Option Said
@@ -176,7 +178,7 @@ asked words = option_and_then said_of (subcommand_of gated words)
 -- `clap` takes the words, and they name this command
 pub record Names (words : List Text) (cmd : Cmd) : Type 0 where
   pub taken : fault_of gated words ≡ []
-  pub named : said (Some cmd) ≡ asked words
+  pub named : asks_for (Some cmd) ≡ asked words
 
 -- an error has a kind that `clap` finds in the words, or they name no command; or memory is refused
 abbrev pub IsExplained : List Text → Error → Type 0

@@ -4,7 +4,7 @@ ghost use Rattle.clap.specs.Words.{App, app_of, rule_of, with_subcommand, subcom
 ghost use Rattle.clap.specs.Words.{kind_of, takes};
 ghost use Rattle.gated_command.specs.CommandLine.{gated, check, init, replay, deliver, status, over_file, history, serve, migrate};
 ghost use Rattle.gated_command.specs.CommandLine.{settings_rule, file_rule, queue_rule, status_rule};
-ghost use Rattle.gated_command.specs.CommandLine.{number_rule, most_port, most_count, is_set, said, says, said_of, number_in};
+ghost use Rattle.gated_command.specs.CommandLine.{number_rule, most_port, most_count, is_set, asks_for, says, said_of, number_in};
 ghost use Rattle.gated_command.specs.CommandLine.{asked, files_of, Names, IsCommand, IsExplained};
 
 use clap::builder::ValueParser;
@@ -321,7 +321,7 @@ fn read<'a>(matches: &ArgMatches<'a>) -> Option<Cmd<'a>>
 }
 
 fn entered<'a>(name: &str, inner: &ArgMatches<'a>) -> Option<Cmd<'a>>
-    ensures { said result ≡ said_of (name.now, rows_of (found_of inner.now)) }
+    ensures { asks_for result ≡ said_of (name.now, rows_of (found_of inner.now)) }
 {
     if name == "check" {
         checking(inner)
@@ -345,7 +345,7 @@ fn entered<'a>(name: &str, inner: &ArgMatches<'a>) -> Option<Cmd<'a>>
 }
 
 fn checking<'a>(inner: &ArgMatches<'a>) -> Option<Cmd<'a>>
-    ensures { said result ≡ said_of (codes "check", rows_of (found_of inner.now)) }
+    ensures { asks_for result ≡ said_of (codes "check", rows_of (found_of inner.now)) }
 {
     match value(inner, "settings") {
         Some(settings) => Some(Cmd::Check { settings }),
@@ -354,7 +354,7 @@ fn checking<'a>(inner: &ArgMatches<'a>) -> Option<Cmd<'a>>
 }
 
 fn replaying<'a>(inner: &ArgMatches<'a>) -> Option<Cmd<'a>>
-    ensures { said result ≡ said_of (codes "replay", rows_of (found_of inner.now)) }
+    ensures { asks_for result ≡ said_of (codes "replay", rows_of (found_of inner.now)) }
 {
     match value(inner, "settings") {
         Some(settings) => Some(Cmd::Replay {
@@ -366,28 +366,28 @@ fn replaying<'a>(inner: &ArgMatches<'a>) -> Option<Cmd<'a>>
 }
 
 fn initing<'a>(inner: &ArgMatches<'a>) -> Option<Cmd<'a>>
-    ensures { said result ≡ said_of (codes "init", rows_of (found_of inner.now)) }
+    ensures { asks_for result ≡ said_of (codes "init", rows_of (found_of inner.now)) }
 {
     let (settings, file) = files(inner)?;
     Some(Cmd::Init { settings, file })
 }
 
 fn delivering<'a>(inner: &ArgMatches<'a>) -> Option<Cmd<'a>>
-    ensures { said result ≡ said_of (codes "deliver", rows_of (found_of inner.now)) }
+    ensures { asks_for result ≡ said_of (codes "deliver", rows_of (found_of inner.now)) }
 {
     let (settings, file) = files(inner)?;
     Some(Cmd::Deliver { settings, file })
 }
 
 fn showing<'a>(inner: &ArgMatches<'a>) -> Option<Cmd<'a>>
-    ensures { said result ≡ said_of (codes "status", rows_of (found_of inner.now)) }
+    ensures { asks_for result ≡ said_of (codes "status", rows_of (found_of inner.now)) }
 {
     let (settings, file) = files(inner)?;
     Some(Cmd::Status { settings, file })
 }
 
 fn telling<'a>(inner: &ArgMatches<'a>) -> Option<Cmd<'a>>
-    ensures { said result ≡ said_of (codes "history", rows_of (found_of inner.now)) }
+    ensures { asks_for result ≡ said_of (codes "history", rows_of (found_of inner.now)) }
 {
     let (settings, file) = files(inner)?;
     let queue = value(inner, "queue")?;
@@ -399,7 +399,7 @@ fn telling<'a>(inner: &ArgMatches<'a>) -> Option<Cmd<'a>>
 }
 
 fn serving<'a>(inner: &ArgMatches<'a>) -> Option<Cmd<'a>>
-    ensures { said result ≡ said_of (codes "serve", rows_of (found_of inner.now)) }
+    ensures { asks_for result ≡ said_of (codes "serve", rows_of (found_of inner.now)) }
 {
     let (settings, file) = files(inner)?;
     let port = number(inner, "port", 0, MOST_PORT)?;
@@ -413,7 +413,7 @@ fn serving<'a>(inner: &ArgMatches<'a>) -> Option<Cmd<'a>>
 }
 
 fn migrating<'a>(inner: &ArgMatches<'a>) -> Option<Cmd<'a>>
-    ensures { said result ≡ said_of (codes "migrate", rows_of (found_of inner.now)) }
+    ensures { asks_for result ≡ said_of (codes "migrate", rows_of (found_of inner.now)) }
 {
     let (settings, file) = files(inner)?;
     Some(Cmd::Migrate { settings, file })

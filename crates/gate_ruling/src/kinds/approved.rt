@@ -9,14 +9,14 @@ ghost use Rattle.gate_unsettled.specs.Raw.{IsRaw};
 ghost use Rattle.gate_ruling.specs.Approving.{is_nowhere};
 
 use crate::changing::is_open;
-use crate::edits::with_edit;
 use crate::guards::latest;
 use crate::numbers::LAST_NUMBER;
 use gate_book::{Book, BookFault};
-use gate_reads::{Stand, standing};
+use gate_reads::{Stand, stand_of};
 use gate_types::config::Config;
 use gate_types::deliveries::{Refusal, Reply};
 use gate_types::edits::{Counter, Edit};
+use gate_types::lists::with_one;
 use gate_types::names::NoMemory;
 use gate_types::numbers::{ChangeNo, Revision};
 use gate_types::records::Change;
@@ -42,7 +42,7 @@ fn made_ready(alloc: Global, known: Change, approval: u64) -> Result<Vec<Edit>, 
         counter: Counter::Approval,
         drawn: approval,
     };
-    with_edit(with_edit(Vec::new(alloc), change)?, counter)
+    with_one(with_one(Vec::new(alloc), change)?, counter)
 }
 
 /// An open change that waits nowhere becomes ready; where it stands once all is settled is the reply.
@@ -65,7 +65,7 @@ pub(crate) fn approved<B: Book>(
     if !is_open(&known) {
         return Ok(Raw::Stands(Reply::Stale));
     }
-    if !is_nowhere(&standing(alloc, book, config, change)?) {
+    if !is_nowhere(&stand_of(alloc, book, config, change)?) {
         return Ok(Raw::Stands(Reply::Already));
     }
     let drawn = book.counters()?.approval;

@@ -10,7 +10,7 @@ use crate::changing::{is_open, put_anew};
 use crate::guards::latest;
 use crate::leaving::{Left, give_up_place};
 use gate_book::{Book, BookFault};
-use gate_reads::{is_submitting, standing};
+use gate_reads::{is_submitting, stand_of};
 use gate_types::config::Config;
 use gate_types::deliveries::{Refusal, Reply};
 use gate_types::numbers::{ChangeNo, Revision};
@@ -52,7 +52,7 @@ pub(crate) fn closed<B: Book>(
     if is_submitting(alloc, book, config, change)? {
         return Ok(Raw::Refused(Refusal::Submitting));
     }
-    let stand = standing(alloc, book, config, change)?;
+    let stand = stand_of(alloc, book, config, change)?;
     let left = give_up_place(alloc, book, config, stand, Verdict::Closed)?;
     let reply = removed_or_recorded(&left);
     let edits = put_anew(

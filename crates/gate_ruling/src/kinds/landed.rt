@@ -10,7 +10,7 @@ ghost use Rattle.gate_ruling.specs.Landing.{landing_edits};
 ghost use Rattle.gate_ruling.specs.Faults.{MayRule};
 
 use crate::changing::put_anew;
-use crate::edits::{with_edit, with_window};
+use crate::edits::with_window;
 use crate::guards::ordered;
 use crate::leaving::{leaving, touched};
 use crate::windows::grown;
@@ -18,6 +18,7 @@ use gate_book::{Book, BookFault, QueuedItem, plan_of};
 use gate_types::config::Config;
 use gate_types::deliveries::Reply;
 use gate_types::edits::Edit;
+use gate_types::lists::with_one;
 use gate_types::names::NoMemory;
 use gate_types::numbers::Serial;
 use gate_types::records::{Change, Landing, Plan, Stage, Verdict};
@@ -46,7 +47,7 @@ fn with_landing(
         place,
         landing,
     };
-    with_window(with_edit(edits, landed)?, &queued.queue, old, window)
+    with_window(with_one(edits, landed)?, &queued.queue, old, window)
 }
 
 /// What a landing keeps of the plan of an item: its jobs.
@@ -89,6 +90,7 @@ pub(crate) fn landed<B: Book>(
     ensures undamaged { OfHeldUnder B.IsTrusted B.Holds book.old book.new config.now (λ x.
         IfErr result (MayAnswer B.MayFault)) }
 {
+    // This shows the prover that the settings are sound.
     let _settings = &config.base;
     let queued = match ordered(alloc, book, config, order)? {
         Ok(queued) => queued,
@@ -106,7 +108,7 @@ pub(crate) fn landed<B: Book>(
     let edits = leaving(alloc, book, config, &queued, Verdict::Landed(place))?;
     let resized = grown(config, queued.queue.as_str(), window);
     let edits = with_landing(edits, &queued, place, window, resized)?;
-    let edits = with_edit(edits, Edit::PutPlan(plan))?;
+    let edits = with_one(edits, Edit::PutPlan(plan))?;
     let edits = put_anew(
         edits,
         Change {

@@ -32,6 +32,7 @@ pub(crate) fn refused<B: Book>(
     ensures undamaged { OfHeldUnder B.IsTrusted B.Holds book.old book.new config.now (λ x.
         IfErr result (MayAnswer B.MayFault)) }
 {
+    // This shows the prover that the settings are sound.
     let _settings = &config.base;
     let queued = match ordered(alloc, book, config, order)? {
         Ok(queued) => queued,

@@ -7,12 +7,12 @@ ghost use Rattle.gate_book.specs.Kept.{OfHeldUnder, IsKept};
 ghost use Rattle.gate_unsettled.specs.Raw.{IsRaw};
 ghost use Rattle.gate_ruling.specs.Faults.{MayRule};
 
-use crate::edits::with_edit;
 use crate::leaving::is_running;
 use gate_book::{Book, BookFault};
 use gate_types::config::Config;
 use gate_types::deliveries::{Ending, Refusal, Reply};
 use gate_types::edits::Edit;
+use gate_types::lists::with_one;
 use gate_types::numbers::BuildNo;
 use gate_types::records::Build;
 use gate_unsettled::{Event, Moved, Raw, Said, TouchedItem};
@@ -40,6 +40,7 @@ pub(crate) fn result<B: Book>(
     ensures undamaged { OfHeldUnder B.IsTrusted B.Holds book.old book.new config.now (λ x.
         IfErr result (MayAnswer B.MayFault)) }
 {
+    // This shows the prover that the settings are sound.
     let _settings = &config.base;
     let Some(known) = book.build(build)? else {
         return Ok(Raw::Refused(Refusal::UnknownBuild));
@@ -56,7 +57,7 @@ pub(crate) fn result<B: Book>(
     };
     Ok(Raw::Moved(Moved {
         said: Said::Now(Reply::Noted),
-        edits: with_edit(Vec::new(alloc), outcome)?,
+        edits: with_one(Vec::new(alloc), outcome)?,
         touched: Some(TouchedItem {
             queue: known.queue,
             item,

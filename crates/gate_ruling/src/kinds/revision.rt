@@ -9,10 +9,10 @@ ghost use Rattle.gate_book.specs.Faults.{MayAnswer};
 ghost use Rattle.gate_book.specs.Kept.{OfHeldUnder, IsKept};
 ghost use Rattle.gate_unsettled.specs.Raw.{IsRaw};
 
-use crate::changing::{is_landed, put_anew};
+use crate::changing::put_anew;
 use crate::leaving::give_up_place;
 use gate_book::{Book, BookFault};
-use gate_reads::{is_submitting, standing};
+use gate_reads::{is_submitting, stand_of};
 use gate_types::config::Config;
 use gate_types::deliveries::{Refusal, Reply};
 use gate_types::names::{Message, PathName};
@@ -47,7 +47,7 @@ fn is_late(known: &Option<Change>, revision: Revision) -> bool
     ensures { result ≡ option_map_or (λ k. nat_le revision k.revision || is_landed k) known.now false }
 {
     match known {
-        Some(known) => revision.get() <= known.revision.get() || is_landed(known),
+        Some(known) => revision.get() <= known.revision.get() || known.is_landed(),
         None => false,
     }
 }
@@ -87,7 +87,7 @@ pub(crate) fn revision<B: Book>(
         Err(Refusal::TooManyNeeds) => return Ok(Raw::Refused(Refusal::TooManyNeeds)),
         Err(_) => return Err(BookFault::NoMemory),
     };
-    let stand = standing(alloc, book, config, change)?;
+    let stand = stand_of(alloc, book, config, change)?;
     let left = give_up_place(alloc, book, config, stand, Verdict::Superseded)?;
     let edits = put_anew(
         left.edits,

@@ -7,13 +7,13 @@ ghost use Rattle.gate_book.specs.Faults.{MayAnswer};
 ghost use Rattle.gate_book.specs.Kept.{OfHeldUnder, IsKept};
 ghost use Rattle.gate_unsettled.specs.Raw.{IsRaw};
 
-use crate::edits::with_edit;
 use crate::numbers::LAST_NUMBER;
 use gate_book::{Book, BookFault};
 use gate_reads::next_build;
 use gate_types::config::Config;
 use gate_types::deliveries::{Refusal, Reply};
 use gate_types::edits::{Counter, Edit};
+use gate_types::lists::with_one;
 use gate_types::names::{NoMemory, PathName};
 use gate_types::numbers::BuildNo;
 use gate_types::records::Build;
@@ -37,7 +37,7 @@ fn started(alloc: Global, build: &Build) -> Result<Vec<Edit>, NoMemory>
         counter: Counter::Build,
         drawn: build.number.get(),
     };
-    with_edit(with_edit(Vec::new(alloc), started)?, counter)
+    with_one(with_one(Vec::new(alloc), started)?, counter)
 }
 
 /// The next build starts, if a job waits for one.

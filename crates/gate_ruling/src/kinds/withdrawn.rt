@@ -9,7 +9,7 @@ use crate::changing::put_anew;
 use crate::guards::latest;
 use crate::leaving::{leaving, touched};
 use gate_book::{Book, BookFault};
-use gate_reads::{Stand, is_submitting, standing};
+use gate_reads::{Stand, is_submitting, stand_of};
 use gate_types::config::Config;
 use gate_types::deliveries::{Refusal, Reply};
 use gate_types::numbers::{ChangeNo, Revision};
@@ -37,7 +37,7 @@ pub(crate) fn withdrawn<B: Book>(
     if is_submitting(alloc, book, config, change)? {
         return Ok(Raw::Refused(Refusal::Submitting));
     }
-    match standing(alloc, book, config, change)? {
+    match stand_of(alloc, book, config, change)? {
         Stand::Queued(queued) => {
             let edits = leaving(alloc, book, config, &queued, Verdict::Withdrawn)?;
             Ok(Raw::Moved(Moved {

@@ -17,6 +17,7 @@ use Rattle.gate_types.specs.State.{Queue, State}
 use Rattle.gate_types.specs.Tables.{QueueRows, numbered_landings, tables}
 use Rattle.gate_schema.specs.Rows.{QueueRow, Stored}
 use Rattle.gate_rows.specs.Tells.{Tells, landings_of, of_queue, placed, reports_of}
+use Rattle.gate_book.specs.Queues.{place_of_landing, report_place}
 use Rattle.gate_book.specs.Reads as content
 use Rattle.gate_book.proofs.ReadLemmas as read
 use Rattle.gate_queries.specs.Asked as file
@@ -26,14 +27,6 @@ use Rattle.gate_sql.proofs.told.Lists.{filtered_same, mapped_same, permuted_same
 
 -- ---- places from 1 on
 
--- the place of a landing's row
-abbrev landing_place : LandingRow → ℕ
-landing_place r = r.place
-
--- and of a report's
-abbrev report_place : ReportRow → ℕ
-report_place r = r.place
-
 -- as many places as rows, from the one after n
 abbrev places_from : {X : Type 0} → ℕ → List X → List ℕ
 places_from n [] = []
@@ -41,7 +34,7 @@ places_from n (x ∷ xs) = suc n ∷ places_from (suc n) xs
 
 -- the places of numbered landings
 landing_places : (n : ℕ) (ls : List Landing) →
-    map landing_place (numbered_landings n ls) ≡ places_from n ls
+    map place_of_landing (numbered_landings n ls) ≡ places_from n ls
 landing_places n [] = refl
 landing_places n (l ∷ ls) = ap (λ ms. suc n ∷ ms) (landing_places (suc n) ls)
 
@@ -72,7 +65,7 @@ none_below serial n (l ∷ ls) h =
 
 -- the last place below a serial is how many are below it
 last_below : (serial n : ℕ) (ls : List Landing) → Rising (λ (l : Landing). l.serial) ls →
-    fold pick n (map landing_place
+    fold pick n (map place_of_landing
     (filter (λ (r : LandingRow). nat_lt r.landing.serial serial) (numbered_landings n ls))) ≡
     n + length (filter (λ (l : Landing). nat_lt l.serial serial) ls)
 last_below serial n [] up = omega arith
@@ -96,13 +89,13 @@ last_below serial n (l ∷ ls) up = by_serial (nat_lt l.serial serial) refl (las
         by_test false d = refl
 
     by_serial : (t : Bool) → nat_lt l.serial serial ≡ t →
-        fold pick (suc n) (map landing_place rows) ≡ suc n + length below →
-        fold pick n (map landing_place (cond t ((record { place = suc n; landing = l }) ∷ rows) rows)) ≡
+        fold pick (suc n) (map place_of_landing rows) ≡ suc n + length below →
+        fold pick n (map place_of_landing (cond t ((record { place = suc n; landing = l }) ∷ rows) rows)) ≡
         n + length (cond t (l ∷ below) below)
     by_serial true e rest =
-        ap (λ m. fold pick m (map landing_place rows)) (next_picked n) ∙ omega (arith, rest)
+        ap (λ m. fold pick m (map place_of_landing rows)) (next_picked n) ∙ omega (arith, rest)
     by_serial false e rest =
-        ap (λ l. fold pick n (map landing_place l)) (none_below serial (suc n) ls (above e))
+        ap (λ l. fold pick n (map place_of_landing l)) (none_below serial (suc n) ls (above e))
         ∙ zero_more ∙ sym (ap (λ l. n + length l) (filter_none (λ (k : Landing). nat_lt k.serial serial) ls (above e)))
       where
         zero_more : n ≡ n + 0
@@ -165,9 +158,9 @@ module _ (c : Settings) (x : Content) (b : Stored) (told : Tells b (tables c x))
   landings_count name =
       let rows = of_queue (λ q. q.landings) name (tables c x).queues in
       let here = landings_of name b.landings in
-      same_greatest (map landing_place here) (map landing_place rows)
-      (mapped_same landing_place here rows (permuted_same here rows (told.queues_are.landings_are name)))
-      ∙ ap (λ l. file.greatest (map landing_place l)) (landing_rows name)
+      same_greatest (map place_of_landing here) (map place_of_landing rows)
+      (mapped_same place_of_landing here rows (permuted_same here rows (told.queues_are.landings_are name)))
+      ∙ ap (λ l. file.greatest (map place_of_landing l)) (landing_rows name)
       ∙ ap file.greatest (landing_places 0 (content.landings_in x.state name))
       ∙ last_place 0 (content.landings_in x.state name) ∙ omega arith
 
@@ -200,10 +193,10 @@ module _ (c : Settings) (x : Content) (b : Stored) (told : Tells b (tables c x))
       let t = λ (r : LandingRow). nat_lt r.landing.serial serial in
       let rows = of_queue (λ q. q.landings) name (tables c x).queues in
       let here = landings_of name b.landings in
-      same_greatest (map landing_place (filter t here)) (map landing_place (filter t rows))
-      (mapped_same landing_place (filter t here) (filter t rows)
+      same_greatest (map place_of_landing (filter t here)) (map place_of_landing (filter t rows))
+      (mapped_same place_of_landing (filter t here) (filter t rows)
       (filtered_same t here rows (permuted_same here rows (told.queues_are.landings_are name))))
-      ∙ ap (λ l. file.greatest (map landing_place (filter t l))) (landing_rows name)
+      ∙ ap (λ l. file.greatest (map place_of_landing (filter t l))) (landing_rows name)
       ∙ last_below serial 0 (content.landings_in x.state name) (by_queue (content.queue_named x.state name) refl)
       ∙ omega arith
     where

@@ -10,7 +10,6 @@ ghost use Rattle.gated_cli.specs.Telling.{TellsUpTo};
 use crate::run::fault::Fault;
 use gate_book::Book;
 use gate_core::Gate;
-use gate_http::connections;
 use gate_types::tap::Tap;
 use std::alloc::Global;
 use std::io::{Read, Write};
@@ -73,7 +72,7 @@ where
         (beside W.contents left failed output.old) (beside W.contents left failed output.new))) }
 {
     announce(alloc, listener, port, output)?;
-    match connections::serve(alloc, listener, gate, count, errors) {
+    match gate_http::serve(alloc, listener, gate, count, errors) {
         Ok(()) => Ok(()),
         Err(fault) => Err(Fault::from(fault)),
     }

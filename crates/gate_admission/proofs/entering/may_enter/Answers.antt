@@ -3,7 +3,8 @@ use Rattle.std.specs.Prelude.{find, option_copied}
 use Rattle.std.proofs.lemmas.Result.{IfOk-weaker}
 use Rattle.gate_types.specs.Names.{same_name}
 use Rattle.gate_types.specs.Settings.{are_sound}
-use Rattle.gate_admission.specs.Known.{has_place, known_or_closed}
+use Rattle.gate_admission.specs.Known.{has_place}
+use Rattle.gate_types.specs.State.{known_or_closed}
 use Rattle.gate_admission.proofs.Admitted.{are_named, no_project, in_project, project_is, needs_are}
 use Rattle.gate_admission.proofs.ProjectQueue.{queue_there}
 use Rattle.gate_admission.proofs.entering.may_enter.Goals as goal

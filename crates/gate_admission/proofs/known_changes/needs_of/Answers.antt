@@ -1,6 +1,6 @@
 use Rattle.std.proofs.Common.{◌∙◌, sym, ap, map}
 use Rattle.std.proofs.lemmas.Result.{IfOk-weaker}
-use Rattle.gate_admission.specs.Known.{need_of, known_or_closed}
+use Rattle.gate_types.specs.State.{known_or_closed, need_of}
 use Rattle.gate_admission.proofs.known_changes.needs_of.Goals as goal
 
 pub returns-in-Some-clause-found : goal.returns-in-Some-clause-found

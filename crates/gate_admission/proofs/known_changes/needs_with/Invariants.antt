@@ -1,7 +1,7 @@
 use Rattle.std.proofs.Common.{◌≡◌, map, take}
 use Rattle.gate_book.specs.Kept.{IsKept}
 use Rattle.gate_admission.specs.Led.{OfLed}
-use Rattle.gate_admission.specs.Known.{need_of}
+use Rattle.gate_types.specs.State.{need_of}
 use Rattle.gate_admission.proofs.known_changes.needs_with.Given as goal
 
 abbrev pub invariant-loop-number : goal.invariant-loop-number

@@ -3,7 +3,7 @@ use Rattle.std.specs.Prelude.{nat_lt}
 use Rattle.gate_types.specs.declared.records.Item.{Item}
 use Rattle.gate_book.specs.declared.pairs.Pair.{Pair}
 use Rattle.gate_book.specs.Changes.{changes_of}
-use Rattle.gate_book.specs.Needs.{TellsSerials, need_of}
+use Rattle.gate_book.specs.Needs.{TellsSerials, pair_of_need}
 use Rattle.gate_book.specs.Queues.{serial_of}
 use Rattle.gate_book.specs.Sorted.{In}
 use Rattle.gate_book.specs.TableReads.{is_needing_in}
@@ -21,7 +21,7 @@ returns c =
     let serials = c.in_ok-serials.serials.items in
     let told : AreTold serial_of test items serials = all_from (λ (i : Item). test i ≡ true → In i.serial serials) items (λ i there e.
     let pair = c.needing.ensures.told i.change (and_second (nat_lt c.args.above i.serial) _ e) in
-    let of_pair : TellsSerials i.change serials items = all_in (λ (p : Pair). TellsSerials p.second serials items) c.needing.result.now (need_of n i.change) c.in_ok-serials.ensures.told pair in
+    let of_pair : TellsSerials i.change serials items = all_in (λ (p : Pair). TellsSerials p.second serials items) c.needing.result.now (pair_of_need n i.change) c.in_ok-serials.ensures.told pair in
     all_in (λ (j : Item). j.change ≡ i.change → In j.serial serials) items i of_pair there refl) in
     (rw (c.item_rows.ensures.rows, c.deref.ensures.value) at c.in_ok-found.ensures)
     ∙ collected serial_of test 0 items c.requires.queue.items_rise 0 serials c.in_ok-serials.ensures.rising told

@@ -1,6 +1,6 @@
 use Rattle.std.proofs.Common.{◌≡◌, map, take}
 use Rattle.gate_book.specs.Kept.{OfHeld, IsKept}
-use Rattle.gate_reads.specs.Known.{need_of}
+use Rattle.gate_types.specs.State.{need_of}
 use Rattle.gate_reads.proofs.known.needs_with.Given as goal
 
 abbrev pub invariant-loop-number : goal.invariant-loop-number

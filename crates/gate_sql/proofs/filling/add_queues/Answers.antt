@@ -3,7 +3,7 @@ use Rattle.std.proofs.lemmas.List.{take_all}
 use Rattle.sqlite.specs.State.{HasCleanDisk}
 use Rattle.sqlite.specs.Held.{state}
 use Rattle.sqlite.proofs.StateLemmas.{survives_then}
-use Rattle.gate_sql.specs.Making.{IsFilled, queue_rows, with_rows}
+use Rattle.gate_sql.specs.Making.{IsFilled, first_queue_rows, with_rows}
 use Rattle.gate_sql.proofs.BareLemmas.{kept_then, survives_itself}
 use Rattle.gate_sql.proofs.QueueLemmas.{rows_more}
 use Rattle.gate_sql.proofs.filling.add_queues.Goals as goal
@@ -40,5 +40,5 @@ loop-place-preserved g c =
 
 pub returns-clause-made : goal.returns-clause-made
 returns-clause-made g c b clean had =
-    subst (λ qs. IsFilled (with_rows (queue_rows 0 qs) b) (state g.S.Store c.loop-place.tx.conn.now))
+    subst (λ qs. IsFilled (with_rows (first_queue_rows 0 qs) b) (state g.S.Store c.loop-place.tx.conn.now))
     (take_all c.loop-place.place c.args.queues.now (omega arith)) (c.loop-place.invariant.made b clean had)

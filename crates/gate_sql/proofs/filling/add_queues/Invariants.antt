@@ -3,7 +3,7 @@ use Rattle.sqlite.specs.State.{HasCleanDisk}
 use Rattle.sqlite.specs.Held.{state}
 use Rattle.gate_rows.specs.Writes.{LeavesNothing}
 use Rattle.gate_schema.specs.Rows.{Stored}
-use Rattle.gate_sql.specs.Making.{IsFilled, IsInside, KeepsInside, queue_rows, with_rows}
+use Rattle.gate_sql.specs.Making.{IsFilled, IsInside, KeepsInside, first_queue_rows, with_rows}
 use Rattle.gate_sql.proofs.filling.add_queues.Given as goal
 
 abbrev pub invariant-loop-place : goal.invariant-loop-place
@@ -13,7 +13,7 @@ invariant-loop-place g l =
     record {
       same_reference : l.tx.conn.ghost_name ≡ l.fn.tx.conn.ghost_name;
       made : (b : Stored) → HasCleanDisk new → IsFilled (with_rows [] b) old →
-          IsFilled (with_rows (queue_rows 0 (take l.place l.queues)) b) new;
+          IsFilled (with_rows (first_queue_rows 0 (take l.place l.queues)) b) new;
       inside : HasCleanDisk new → IsInside old → IsInside new;
       kept : KeepsInside old new;
       crash : LeavesNothing old new;

@@ -3,7 +3,7 @@ use Rattle.std.specs.Prelude.{◌==◌, filter}
 use Rattle.std.proofs.lemmas.Bool.{eq-eqb}
 use Rattle.gate_book.specs.declared.pairs.Pair.{Pair}
 use Rattle.gate_book.specs.Changes.{changes_of}
-use Rattle.gate_book.specs.Needs.{IsSmall, need_of}
+use Rattle.gate_book.specs.Needs.{IsSmall, pair_of_need}
 use Rattle.gate_book.proofs.NeedLemmas.{all_filter, in_filter, needed_told, small_fit}
 use Rattle.gate_book.proofs.PairLemmas.{seconds_rise}
 use Rattle.gate_book.proofs.changes.ChangeTable.needing.Goals as goal
@@ -25,5 +25,5 @@ returns-clause-small c =
 pub returns-clause-told : goal.returns-clause-told
 returns-clause-told c n any =
     let needs = c.args.self.now.needs.items in
-    rw (pairs c) (in_filter (λ (p : Pair). p.first == c.args.change) (need_of c.args.change n) needs (eq-eqb c.args.change c.args.change refl)
+    rw (pairs c) (in_filter (λ (p : Pair). p.first == c.args.change) (pair_of_need c.args.change n) needs (eq-eqb c.args.change c.args.change refl)
     (needed_told needs c.args.change n (changes_of c.args.self.now) c.requires.needs_told any))

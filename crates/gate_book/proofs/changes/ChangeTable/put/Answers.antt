@@ -4,7 +4,7 @@ use Rattle.gate_book.specs.Pairs.{IsFit}
 use Rattle.gate_book.specs.Changes.{TellsReady, number_of, in_order}
 use Rattle.gate_types.specs.declared.rows.ChangeRow.{ChangeRow}
 use Rattle.gate_book.specs.declared.pairs.Pair.{Pair}
-use Rattle.gate_book.specs.Needs.{TellsNeeds, TellsNeedsOf, need_of}
+use Rattle.gate_book.specs.Needs.{TellsNeeds, TellsNeedsOf, pair_of_need}
 use Rattle.gate_book.specs.Sorted.{In}
 use Rattle.gate_book.proofs.BuildLemmas.{in_weaker, all_put}
 use Rattle.gate_book.proofs.ChangeLemmas.{in_order_rises, dropped, noted, put_ready, fit_dropped, fit_noted, tells_put}
@@ -29,8 +29,8 @@ returns-clause-kept c =
     let itself : TellsNeedsOf needs row.change.number row.change.needs = c.note_row.ensures.told in
     let before : TellsNeeds needs rows = in_weaker
     (λ (r : ChangeRow). TellsNeedsOf old.needs.items r.change.number r.change.needs) (λ (r : ChangeRow). TellsNeedsOf needs r.change.number r.change.needs)
-    (λ r all. in_weaker (λ m. In (need_of m r.change.number) old.needs.items) (λ m. In (need_of m r.change.number) needs)
-    (λ m t. c.note_row.ensures.others (need_of m r.change.number) t) r.change.needs all) rows kept.needs_told in
+    (λ r all. in_weaker (λ m. In (pair_of_need m r.change.number) old.needs.items) (λ m. In (pair_of_need m r.change.number) needs)
+    (λ m t. c.note_row.ensures.others (pair_of_need m r.change.number) t) r.change.needs all) rows kept.needs_told in
     let needs_told : TellsNeeds needs (in_order number_of c.put_row.new.rows.items) = rw c.put_row.ensures.rows
     (all_put (λ (r : ChangeRow). TellsNeedsOf needs r.change.number r.change.needs) number_of row rows itself before) in
     record {

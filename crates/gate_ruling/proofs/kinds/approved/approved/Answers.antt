@@ -19,12 +19,12 @@ returns-then-drawn-ge-LAST_NUMBER-clause-raw g c trusted x holds lawful =
     let r = c.args.revision in
     let k = c.in-Ok.known in
     let two = c.in_ok-drawn.ensures.kept.trusted_before trusted in
-    let one = c.in_ok-standing.ensures.kept.trusted_before two in
+    let one = c.in_ok-stand_of.ensures.kept.trusted_before two in
     let at_one = c.in_ok-known.ensures.kept.holds_on one _ x holds in
-    let at_two = c.in_ok-standing.ensures.kept.holds_on two _ x at_one in
+    let at_two = c.in_ok-stand_of.ensures.kept.holds_on two _ x at_one in
     let latest = subst (IsLatest s x n r) c.in-Ok.is (c.in_ok-known.ensures.latest one s x holds lawful) in
     let opens : is_open k ≡ true = sym c.is_open.ensures ∙ c.if-not-is_open.false in
-    let away = nowhere s x.state n c.in_ok-standing.field-0 (c.in_ok-standing.ensures.found two x at_one lawful)
+    let away = nowhere s x.state n c.in_ok-stand_of.field-0 (c.in_ok-stand_of.ensures.found two x at_one lawful)
     (sym c.is_nowhere.ensures ∙ c.if-not-is_nowhere.false) in
     let drawn = ap (λ (d : Drawn). d.approval) (c.drawn.view_is
     ∙ c.in_ok-drawn.ensures.found trusted s x at_two lawful) in
@@ -43,12 +43,12 @@ returns-clause-raw g c trusted x holds lawful =
     let r = c.args.revision in
     let k = c.in-Ok.known in
     let two = c.in_ok-drawn.ensures.kept.trusted_before trusted in
-    let one = c.in_ok-standing.ensures.kept.trusted_before two in
+    let one = c.in_ok-stand_of.ensures.kept.trusted_before two in
     let at_one = c.in_ok-known.ensures.kept.holds_on one _ x holds in
-    let at_two = c.in_ok-standing.ensures.kept.holds_on two _ x at_one in
+    let at_two = c.in_ok-stand_of.ensures.kept.holds_on two _ x at_one in
     let latest = subst (IsLatest s x n r) c.in-Ok.is (c.in_ok-known.ensures.latest one s x holds lawful) in
     let opens : is_open k ≡ true = sym c.is_open.ensures ∙ c.if-not-is_open.false in
-    let away = nowhere s x.state n c.in_ok-standing.field-0 (c.in_ok-standing.ensures.found two x at_one lawful)
+    let away = nowhere s x.state n c.in_ok-stand_of.field-0 (c.in_ok-stand_of.ensures.found two x at_one lawful)
     (sym c.is_nowhere.ensures ∙ c.if-not-is_nowhere.false) in
     let drawn = ap (λ (d : Drawn). d.approval) (c.drawn.view_is
     ∙ c.in_ok-drawn.ensures.found trusted s x at_two lawful) in
@@ -86,10 +86,10 @@ returns-then-not-is_nowhere-clause-raw g c trusted x holds lawful =
     let n = c.args.change in
     let r = c.args.revision in
     let k = c.in-Ok.known in
-    let one = c.in_ok-standing.ensures.kept.trusted_before trusted in
+    let one = c.in_ok-stand_of.ensures.kept.trusted_before trusted in
     let at_one = c.in_ok-known.ensures.kept.holds_on one _ x holds in
     let latest = subst (IsLatest s x n r) c.in-Ok.is (c.in_ok-known.ensures.latest one s x holds lawful) in
     let opens : is_open k ≡ true = sym c.is_open.ensures ∙ c.if-not-is_open.false in
     already_raw s x.state n r k latest.1 opens
-    (somewhere s x.state n c.in_ok-standing.field-0 (c.in_ok-standing.ensures.found trusted x at_one lawful)
+    (somewhere s x.state n c.in_ok-stand_of.field-0 (c.in_ok-stand_of.ensures.found trusted x at_one lawful)
     (sym c.is_nowhere.ensures ∙ c.if-not-is_nowhere.true))

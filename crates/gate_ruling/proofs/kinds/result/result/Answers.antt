@@ -23,7 +23,7 @@ returns-clause-raw g c trusted x holds lawful =
     let item : item_at s x.state b.serial ≡ Some c.in-Some-2.item =
     sym (c.in_ok-item.ensures.found trusted s x held lawful) ∙ c.in-Some-2.is in
     let runs : b.live && is_running b.outcome ≡ true = sym c.is_under_way.ensures ∙ c.if-not-is_under_way.false in
-    let edits = c.in_ok-with_edit.ensures
+    let edits = c.in_ok-with_one.ensures
     ∙ (λ i. c.new.ensures.items i ++ edit.SetOutcome n (c.into.ensures i) ∷ []) in
     record {
       after = end_build e n x.state;

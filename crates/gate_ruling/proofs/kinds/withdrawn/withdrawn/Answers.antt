@@ -8,7 +8,7 @@ use Rattle.gate_types.specs.SubmitOrder.{is_submitting}
 use Rattle.gate_types.specs.Step.{leave, refused, settled_step, step}
 use Rattle.gate_unsettled.specs.Moves.{Moves}
 use Rattle.gate_unsettled.specs.Touches.{Touches}
-use Rattle.gate_reads.specs.Standing.{StandsSo}
+use Rattle.gate_reads.specs.Stands.{StandsSo}
 use Rattle.gate_reads.specs.declared.stands.Stand.TheVariants as stand
 use Rattle.gate_ruling.specs.Guards.{IsLatest}
 use Rattle.gate_ruling.proofs.GivenUp.{given_up, in_no_queue}

@@ -1,7 +1,7 @@
 use Rattle.std.proofs.Common.{◌≡◌, ◌∙◌, ◌++◌, [], ◌∷◌, List, ℕ, take, sym, ap, rules}
 use Rattle.std.proofs.lemmas.List.{take_more}
 use Rattle.gate_book.specs.Reads.{items_in, items_needing}
-use Rattle.gate_settling.specs.Rows.{needing_any, joined}
+use Rattle.gate_settling.specs.Rows.{needing_any, merged}
 use Rattle.gate_settling.proofs.KeptLemmas.{then}
 use Rattle.gate_settling.proofs.NeedingLemmas.{needing_more, kept_above}
 use Rattle.gate_settling.proofs.WantedLemmas.{items_in_rise}
@@ -29,7 +29,7 @@ loop-index-preserved g c = record {
       c.as_slice-in-loop-index.ensures ∙ c.in_ok-found.ensures.found trusted s x held lawful in
       let more = take_more gone c.loop-index.index change c.loop-index-test.true
       ∙ ap (λ k. take c.loop-index.index gone ++ k ∷ []) (sym c.index-gone-index.is) in
-      c.in_ok-self.ensures ∙ (λ t. joined (so_far t) (next t))
+      c.in_ok-self.ensures ∙ (λ t. merged (so_far t) (next t))
       ∙ needing_more x.state (take c.loop-index.index gone) change n rows
       (items_in_rise s x.state lawful.lawful.sound c.args.queue.now)
       ∙ ap (λ (k : List ℕ). needing_any x.state k n rows) (sym more);

@@ -5,7 +5,7 @@ use Rattle.sqlite.proofs.StateLemmas.{survives_weaker}
 use Rattle.gate_types.specs.Settings.{Settings, are_sound}
 use Rattle.gate_types.specs.SettingsText.{settings_text}
 use Rattle.gate_schema.specs.Rows.{Stands}
-use Rattle.gate_sql.specs.Making.{first_stored, queue_rows}
+use Rattle.gate_sql.specs.Making.{first_stored, first_queue_rows}
 use Rattle.gate_sql.proofs.EmptyLemmas.{stands_for_empty}
 use Rattle.gate_sql.proofs.book.SqlBook.create.Goals as goal
 
@@ -32,7 +32,7 @@ returns-in-Ok-fill-clause-settled g c bare clean db left =
     let queues : c.as_slice.result.now ≡ c.args.config.now.queues = c.as_slice.ensures ∙ ap (λ (s : Settings). s.queues) c.config.view_is in
     let shown = c.in-Ok-fill.ensures.settled clean in
     let is = g.met.S.Store.settled c.fill.new.conn.store db shown.0 left ∙ ap (λ (d : Database). d.trees) shown.1 in
-    stands_for_empty db _ _ _ text queues (subst (λ trees. Stands trees (first_stored c.as_str.result.now (queue_rows 0 c.as_slice.result.now))) (sym is) (c.in-Ok-fill.ensures.all clean bare).stands)
+    stands_for_empty db _ _ _ text queues (subst (λ trees. Stands trees (first_stored c.as_str.result.now (first_queue_rows 0 c.as_slice.result.now))) (sym is) (c.in-Ok-fill.ensures.all clean bare).stands)
 
 pub returns-clause-crash : goal.returns-clause-crash
 returns-clause-crash g c bare =

@@ -7,8 +7,8 @@ use Rattle.gated_cli.specs.InMemory.{IsGate}
 use Rattle.gated_cli.proofs.TellLemmas.{with_status, without_status}
 use Rattle.gated_cli.proofs.EndLemmas.{replay_ends, made_from, refused_status, cut_status, read_for}
 use Rattle.gated_cli.proofs.ShowLemmas.{status_breaks, status_shown}
-use Rattle.gated_cli.proofs.run.replayed.Goals as goal
-use Rattle.gated_cli.proofs.run.replayed.Goals.{then-status+in_ok-write_status, else-status}
+use Rattle.gated_cli.proofs.run.run_replay.Goals as goal
+use Rattle.gated_cli.proofs.run.run_replay.Goals.{then-status+in_ok-write_status, else-status}
 
 pub returns-clause-ok : goal.returns-clause-ok
 returns-clause-ok g c =

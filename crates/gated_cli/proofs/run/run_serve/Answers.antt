@@ -1,6 +1,6 @@
 use Rattle.std.proofs.Common.{refl}
 use Rattle.gated_cli.proofs.TalkLemmas.{none_so_far}
-use Rattle.gated_cli.proofs.run.served.Goals as goal
+use Rattle.gated_cli.proofs.run.run_serve.Goals as goal
 
 pub returns-in_err-config-clause-told : goal.returns-in_err-config-clause-told
 returns-in_err-config-clause-told g c =
