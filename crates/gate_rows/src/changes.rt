@@ -2,7 +2,7 @@
 ghost use Rattle.std.specs.Prelude.{◌≡◌, ◌<◌, ◌^◌, ◌∷◌, []};
 ghost use Rattle.sqlite.specs.Held.{state};
 ghost use Rattle.gate_schema.specs.Edits as edits;
-ghost use Rattle.gate_rows.specs.Writes.{Keeps, LeavesNothing, Makes, MakesAs};
+ghost use Rattle.gate_rows.specs.Writes.{Keeps, LeavesNothing, Makes};
 
 use crate::values::{change, number, number_if_any, revision, text, too_large};
 use crate::words::stage_text;
@@ -10,64 +10,8 @@ use gate_types::numbers::ChangeNo;
 use gate_types::records::Change;
 use sqlite::{Alter, Error, Transaction};
 
-/// Sets the row of a change in place of the one of its number. Tells whether there is one. An Err where
-/// no column can hold the number of its approval.
-fn set_change<S: Alter>(
-    tx: &mut Transaction<'_, S>,
-    k: &Change,
-    approval: Option<u64>,
-) -> Result<bool, Error>
-    ensures same_reference { tx.new.conn.ghost_name ≡ tx.old.conn.ghost_name }
-    ensures changes { MakesAs (state S.Store tx.old.conn.now) (state S.Store tx.new.conn.now) result
-        (λ found. edits.set_change found (edits.change_with k.now approval)) }
-    ensures kept { Keeps (state S.Store tx.old.conn.now) (state S.Store tx.new.conn.now) }
-    ensures crash { LeavesNothing (state S.Store tx.old.conn.now) (state S.Store tx.new.conn.now) }
-{
-    let Some(approval) = number_if_any(approval) else {
-        return Err(too_large());
-    };
-    let rows = tx.execute(
-        "UPDATE change SET project = ?2, revision = ?3, state = ?4, approval = ?5 WHERE num = ?1",
-        &[
-            change(k.number),
-            text(k.project.as_str()),
-            revision(k.revision),
-            text(stage_text(k.stage)),
-            approval,
-        ],
-    )?;
-    Ok(rows > 0)
-}
-
-/// Adds the row of a change. An Err where no column can hold the number of its approval.
-fn add_change<S: Alter>(
-    tx: &mut Transaction<'_, S>,
-    k: &Change,
-    approval: Option<u64>,
-) -> Result<(), Error>
-    ensures same_reference { tx.new.conn.ghost_name ≡ tx.old.conn.ghost_name }
-    ensures changes { Makes (state S.Store tx.old.conn.now) (state S.Store tx.new.conn.now) result
-        (edits.add_change (edits.change_with k.now approval)) }
-    ensures kept { Keeps (state S.Store tx.old.conn.now) (state S.Store tx.new.conn.now) }
-    ensures crash { LeavesNothing (state S.Store tx.old.conn.now) (state S.Store tx.new.conn.now) }
-{
-    let Some(approval) = number_if_any(approval) else {
-        return Err(too_large());
-    };
-    tx.execute(
-        "INSERT INTO change (num, project, revision, state, approval) VALUES (?1, ?2, ?3, ?4, ?5)",
-        &[
-            change(k.number),
-            text(k.project.as_str()),
-            revision(k.revision),
-            text(stage_text(k.stage)),
-            approval,
-        ],
-    )?;
-    Ok(())
-}
-
-/// The row of a change, in place of the old one.
+/// The row of a change, in place of the old one. An Err where no column can hold the number of its
+/// approval.
 fn renew_change<S: Alter>(
     tx: &mut Transaction<'_, S>,
     k: &Change,
@@ -79,10 +23,20 @@ fn renew_change<S: Alter>(
     ensures kept { Keeps (state S.Store tx.old.conn.now) (state S.Store tx.new.conn.now) }
     ensures crash { LeavesNothing (state S.Store tx.old.conn.now) (state S.Store tx.new.conn.now) }
 {
-    if set_change(tx, k, approval)? {
-        return Ok(());
-    }
-    add_change(tx, k, approval)
+    let Some(approval) = number_if_any(approval) else {
+        return Err(too_large());
+    };
+    tx.execute(
+        "INSERT OR REPLACE INTO change (num, project, revision, state, approval) VALUES (?1, ?2, ?3, ?4, ?5)",
+        &[
+            change(k.number),
+            text(k.project.as_str()),
+            revision(k.revision),
+            text(stage_text(k.stage)),
+            approval,
+        ],
+    )?;
+    Ok(())
 }
 
 /// Takes the needs of a change out.

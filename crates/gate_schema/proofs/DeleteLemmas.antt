@@ -109,3 +109,19 @@ pub leaves_others : (p : Row → Bool) (rows : List Row) (ids : List ℤ) → Is
 leaves_others p rows ids numbered same =
     without_is ids rows ∙ filter_same _ _ (λ r. ap not (sym (list_any-IsPermutation (λ id. has_rowid id r) _ ids same))) rows
     ∙ filter_same_on _ _ rows (deleted_rows p rows numbered)
+
+-- Taking one rowid out more than once is taking it out.
+pub without_one : (id i : ℤ) (ids : List ℤ) (rows : List Row) → AllByRecursion (λ j. j ≡ id) (i ∷ ids) → without_all rows (i ∷ ids) ≡ filter (λ r. not (has_rowid id r)) rows
+without_one id i ids rows all = without_is (i ∷ ids) rows ∙ filter_same _ _ (λ r. ap not (among i ids r all)) rows
+  where
+    again : (a : Bool) → (a || a) ≡ a
+    again true = refl
+    again false = refl
+
+    alone : (a : Bool) → (a || false) ≡ a
+    alone true = refl
+    alone false = refl
+
+    among : (i : ℤ) (ids : List ℤ) (r : Row) → AllByRecursion (λ j. j ≡ id) (i ∷ ids) → is_among (i ∷ ids) r ≡ has_rowid id r
+    among i [] r all = alone (has_rowid i r) ∙ ap (λ j. has_rowid j r) all.0
+    among i (j ∷ ids) r all = ap (λ k. has_rowid k r || is_among (j ∷ ids) r) all.0 ∙ ap (λ b. has_rowid id r || b) (among j ids r all.1) ∙ again (has_rowid id r)

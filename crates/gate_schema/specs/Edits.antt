@@ -73,11 +73,6 @@ drop_change n b = record b { changes = filter (λ y. not (change_key y == n)) b.
 abbrev pub add_change : ChangeRow → Stored → Stored
 add_change x b = record b { changes = insert_by (λ y. pos (change_key y)) b.changes x }
 
--- a change set in place of the one of its number; where none was found, none is set
-abbrev pub set_change : Bool → ChangeRow → Stored → Stored
-set_change found x b =
-    record b { changes = insert_if found change_key (filter (λ y. not (change_key y == change_key x)) b.changes) x }
-
 -- the needs of a change taken out
 abbrev pub drop_needs : ℕ → Stored → Stored
 drop_needs n b = record b { needs = filter (λ y. not (y.change == n)) b.needs }

@@ -1,15 +1,10 @@
-use Rattle.std.proofs.Common.{arith}
-use Rattle.std.proofs.lemmas.Result.{on_ok_weaker}
-use Rattle.sqlite.specs.State.{HasCleanDisk}
 use Rattle.sqlite.specs.Held.{state}
 use Rattle.gate_schema.specs.Edits as edits
-use Rattle.gate_rows.proofs.ThenLemmas.{changes_then}
+use Rattle.gate_schema.proofs.ChangeTable.{renews_change}
+use Rattle.gate_schema.proofs.RowLemmas.{bound_or_null}
 use Rattle.gate_rows.proofs.changes.renew_change.Goals as goal
 
 pub returns-clause-changes : goal.returns-clause-changes
 returns-clause-changes g c clean ready =
-    let early : HasCleanDisk (state g.S.Store c.set_change.new.tx.conn.now) = omega (arith, c.add_change.ensures.crash.clean) in
-    let first = rw c.if-branch.false at (c.in_ok-set_change.ensures.changes early ready) in
-    on_ok_weaker c.add_change.result
-    (changes_then (state g.S.Store c.args.tx.now.conn.now) (state g.S.Store c.set_change.new.tx.conn.now) (state g.S.Store c.add_change.new.tx.conn.now) (edits.drop_change c.args.k.now.number) (edits.add_change (edits.change_with c.args.k.now c.args.approval)) first)
-    (c.add_change.ensures.changes clean first.ready)
+    renews_change (edits.change_with c.args.k.now c.args.approval) (state g.S.Store c.args.tx.now.conn.now) (state g.S.Store c.execute.new.self.conn.now) _ ready
+    (rw (c.change.ensures, c.text.ensures, c.text-2.ensures, c.as_str.ensures.value, c.revision.ensures, c.stage_text.ensures, c.in-Some.ensures, bound_or_null) at (c.in_ok-execute.ensures.runs clean ready.inside))
