@@ -5,6 +5,7 @@ mod RouteLemmas
 mod RequestLemmas
 mod BoundLemmas
 mod ResponseLemmas
+mod PhraseLemmas
 mod ExchangeLemmas
 mod WriteLemmas
 mod ServingLemmas

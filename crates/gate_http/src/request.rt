@@ -11,6 +11,7 @@ use crate::fields::{BodyLength, body_length};
 use crate::respond::Page;
 use crate::routes::{Route, cut_query, find_route, parameter};
 use gate_wire::Door;
+use http::Method;
 use httparse::Status;
 use httparse::spans::{EMPTY_HEADER_SPAN, HeaderSpan, RequestSpans, parse_request};
 use matchit::Router;
@@ -73,7 +74,7 @@ fn ask<'a>(
     ensures { (h : RequestHead) → IsRequestAt head.now headers.now spans h → view result ≡ decided_of (Some h) }
 {
     let method = spans.method.of(head);
-    let bodiless = method == b"HEAD".as_slice();
+    let bodiless = method == Method::HEAD.as_str().as_bytes();
     let Ok(target) = from_utf8(spans.path.of(head)) else {
         return Decision::Refuse(Fault::NoRoute, bodiless);
     };
@@ -83,12 +84,12 @@ fn ask<'a>(
     };
     let fields = &headers[..spans.headers];
     match route {
-        Route::Forge | Route::Worker if method != b"POST".as_slice() => {
+        Route::Forge | Route::Worker if method != Method::POST.as_str().as_bytes() => {
             Decision::Refuse(Fault::NotPost, bodiless)
         }
         Route::Forge => posted(Door::Forge, body_length(head, fields)),
         Route::Worker => posted(Door::Worker, body_length(head, fields)),
-        _ if method != b"GET".as_slice() => Decision::Refuse(Fault::NotGet, bodiless),
+        _ if method != Method::GET.as_str().as_bytes() => Decision::Refuse(Fault::NotGet, bodiless),
         Route::Status => Decision::Show(Page::Status),
         Route::Orders => Decision::Show(Page::Orders),
         Route::Builds => {

@@ -5,30 +5,27 @@ ghost use Rattle.gate_http.specs.Response.{phrase, line, status_line, head_text,
 
 use crate::fault::Fault;
 use gate_types::tap::{Failed, Tap};
+use http::StatusCode;
 use itoa::Buffer;
 use std::io::Write;
 
 /// The room that the head of a response needs at most.
 pub(crate) const HEAD_ROOM: usize = 256;
 
-/// The phrase of a status.
+/// The statuses that are answered.
+const STATUSES: [u16; 11] = [200, 400, 404, 405, 409, 411, 413, 422, 431, 503, 507];
+
+/// The phrase of a status that is answered. Any other has none here, whatever the crate has for it.
 fn phrase_of(status: u16) -> &'static str
     ensures value { result.now ≡ phrase status }
     ensures short { length result.now ≤ 31 }
 {
-    match status {
-        200 => "OK",
-        400 => "Bad Request",
-        404 => "Not Found",
-        405 => "Method Not Allowed",
-        409 => "Conflict",
-        411 => "Length Required",
-        413 => "Payload Too Large",
-        422 => "Unprocessable Entity",
-        431 => "Request Header Fields Too Large",
-        503 => "Service Unavailable",
-        507 => "Insufficient Storage",
-        _ => "",
+    if !STATUSES.contains(&status) {
+        return "";
+    }
+    match StatusCode::from_u16(status) {
+        Ok(code) => code.canonical_reason().unwrap_or(""),
+        Err(_) => "",
     }
 }
 
