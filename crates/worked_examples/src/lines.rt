@@ -71,10 +71,17 @@ gate core 2 1 in memory
 
 >> {"id":"0a000000-0000-4000-8000-000000000002","kind":"revision","change":2,"project":"lib","revision":1,"message":"<a*16385>"}
 < {"code":"E2","error":"bad-delivery"}
+"#;
 
+#[test]
+fn lines(rt: HostRuntime) {
+    plays(&rt, SCENES);
+}
+
+const MANY: &str = r#"
 # each of 20,000 replies is kept
 Acted on anew, the first revision of a known change would be stale.
-gate core 2 1 in memory
+gate core 2 1
 
 for n from 1 to 20000
 > {"id":"0a000000-0000-4000-8000-<000n>","kind":"revision","change":<n>,"project":"lib","revision":1,"message":""}
@@ -90,7 +97,8 @@ for n from 1 to 20000
 < {"reply":"recorded"}
 "#;
 
+/// Apart from the others, since the tables of a file keep as many.
 #[test]
-fn lines(rt: HostRuntime) {
-    plays(&rt, SCENES);
+fn each_of_many_replies_is_kept(rt: HostRuntime) {
+    plays(&rt, MANY);
 }
