@@ -1,4 +1,5 @@
-//! The reads of a gate's book as queries of its tables, each by key.
+//! The reads of a gate's book as queries of its tables. One row is searched for by its key; `items`, `needing`,
+//! `ready`, the histories and the counts go through all rows that they give or count.
 //!
 //! ```text
 //! let items = items(&mut conn, &queue)?;
