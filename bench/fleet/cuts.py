@@ -47,7 +47,7 @@ def gates_of_families(count, stream):
     return [families for _, families in gates]
 
 
-def gate_settings(families, stream, outage=None):
+def gate_kept_settings(families, stream, outage=None):
     """The forge as this gate sees it."""
     is_folded = len(families) > QUEUES
     queue = {family: f"q{place % QUEUES if is_folded else place}" for place, family in enumerate(families)}
@@ -88,9 +88,9 @@ def ask_for_all(suite):
     for count in GATES:
         cut = gates_of_families(count, stream)
         for gate, families in enumerate(cut):
-            suite.ask(("cut", count, gate), gate_settings(families, stream), f"gate {gate + 1} of {count}")
+            suite.ask(("cut", count, gate), gate_kept_settings(families, stream), f"gate {gate + 1} of {count}")
         lost = busiest(cut, stream)
-        suite.ask(("lost", count), gate_settings(cut[lost], stream, OUTAGE), f"{count} gates, one lost")
+        suite.ask(("lost", count), gate_kept_settings(cut[lost], stream, OUTAGE), f"{count} gates, one lost")
 
 
 def runs(suite):

@@ -24,7 +24,7 @@ use Rattle.gate_types.specs.Slot.{are_met_by}
 use Rattle.gate_types.specs.Standing.{needs_of, with_ahead, place_of, places_after, next_ahead}
 use Rattle.gate_types.specs.Rows.{row_of, item_rows}
 use Rattle.gate_types.specs.Admit.{may_enter, next_plan, entered, admit_one, admit}
-use Rattle.gate_book.specs.Reads.{queue_named, items_in}
+use Rattle.gate_book_trait.specs.Reads.{queue_named, items_in}
 use Rattle.gate_admission.specs.Known.{IsQueue, has_room, has_place}
 use Rattle.gate_admission.specs.Enters.{item_in}
 

@@ -7,7 +7,7 @@ use Rattle.std.proofs.lemmas.Option.{none-some}
 use Rattle.gate_types.specs.declared.records.Item.{Item as ItemRow}
 use Rattle.gate_types.specs.declared.edits.Edit.{Edit}
 use Rattle.gate_types.specs.declared.edits.Edit.TheVariants as edit
-use Rattle.gate_book.specs.declared.rows.QueuedItem.{QueuedItem}
+use Rattle.gate_book_trait.specs.declared.rows.QueuedItem.{QueuedItem}
 use Rattle.gate_laws.proofs.Members.{In, found, not_found}
 use Rattle.gate_laws.proofs.Rising.{Rising}
 use Rattle.gate_admission.specs.Seen.{items_after, item_at, if_of, item_if, item_if_at, serial_put, item_put, item_left}

@@ -1,9 +1,9 @@
 -- Calls that only read, one after another.
 use Rattle.std.proofs.Common.{◌≡◌}
 use Rattle.std.specs.Prelude.{Result, Ok, Err, IfOk}
-use Rattle.gate_book.specs.declared.fault.BookFault.{BookFault}
-use Rattle.gate_book.specs.Kept.{IsKept}
-use Rattle.gate_book.specs.Reads.{Answers}
+use Rattle.gate_book_trait.specs.declared.fault.BookFault.{BookFault}
+use Rattle.gate_book_trait.specs.Kept.{IsKept}
+use Rattle.gate_book_trait.specs.Reads.{Answers}
 
 pub then : {B : Type 0} → {trusted : B → Type 0} → {holds : _} → {leaves : _} → {a b d : B} →
     IsKept trusted holds leaves a b → IsKept trusted holds leaves b d → IsKept trusted holds leaves a d

@@ -22,7 +22,7 @@ use Rattle.gate_types.specs.Rows.{item_rows}
 use Rattle.gate_types.specs.Admit.{may_enter, with_item, next_item, next_plan, entered}
 use Rattle.gate_types.specs.Lawful.{IsSound, serials_of, drawn_serials}
 use Rattle.gate_types.specs.Tables.{Tables, QueueRows, tables, queue_rows, change_row, approval_of, edited_queue, edited_tables, fold_all}
-use Rattle.gate_book.specs.Reads.{queue_named}
+use Rattle.gate_book_trait.specs.Reads.{queue_named}
 use Rattle.gate_laws.proofs.Members.{In, every, all, found, map_map, map_same, to_map, to_right}
 use Rattle.gate_laws.proofs.Rising.{Rising, rising}
 use Rattle.gate_laws.proofs.Counts.{times, times-append, distinct_to}

@@ -11,7 +11,7 @@ use Rattle.gate_types.specs.State.{Queue, State}
 use Rattle.gate_types.specs.Once.{Content}
 use Rattle.gate_types.specs.Rows.{item_rows}
 use Rattle.gate_types.specs.Lawful.{IsSound}
-use Rattle.gate_book.specs.Reads.{items_in, queued_of, queue_named, window_of, item_count, last_below}
+use Rattle.gate_book_trait.specs.Reads.{items_in, queued_of, queue_named, window_of, item_count, last_below}
 use Rattle.gate_laws.proofs.Rising.{Rising}
 use Rattle.gate_admission.specs.Led.{IsLed}
 use Rattle.gate_admission.specs.Known.{IsQueue, has_room}

@@ -12,7 +12,7 @@ use Rattle.gate_types.specs.Names.{same_name}
 use Rattle.gate_types.specs.State.{put_by}
 use Rattle.gate_types.specs.Rows.{edited_items}
 use Rattle.gate_types.specs.Tables.{edited_changes}
-use Rattle.gate_book.specs.TableReads.{change_in, row_of}
+use Rattle.gate_book_trait.specs.RowReads.{change_in, row_of}
 use Rattle.gate_admission.specs.Seen.{change_put, last_put, item_after, items_after, item_at, fate_after, by_fate}
 use Rattle.gate_admission.specs.declared.items.Fate.{Fate}
 use Rattle.gate_admission.specs.declared.items.Fate.TheVariants as fate

@@ -12,7 +12,7 @@ use Rattle.gate_types.specs.Step.{is_exhausted}
 use Rattle.gate_types.specs.Rows.{item_rows, edited_items}
 use Rattle.gate_types.specs.Once.{Content}
 use Rattle.gate_types.specs.Forms.{IsLawfulContent, is_queue_in_form, is_item_in_form}
-use Rattle.gate_book.specs.Reads.{queue_named, items_in, item_count, first_above, last_below}
+use Rattle.gate_book_trait.specs.Reads.{queue_named, items_in, item_count, first_above, last_below}
 use Rattle.gate_laws.proofs.Members.{In, every, all_from, not_found, filter_all}
 use Rattle.gate_laws.proofs.Rising.{Rising}
 use Rattle.gate_admission.specs.Led.{IsLed}

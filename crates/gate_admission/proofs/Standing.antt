@@ -1,7 +1,6 @@
 -- The rows of a sound state's queue: in order, and each of an item.
-use Rattle.std.proofs.Common.{◌≡◌, ℕ, ◌≤◌, Bool, Option, Some, None, List, [], ◌∷◌, map, refl, sym, ap, ◌∙◌, subst, arith, inl, inr, flat_map}
+use Rattle.std.proofs.Common.{◌≡◌, ℕ, ◌≤◌, Bool, Option, Some, None, List, [], ◌∷◌, map, refl, sym, ap, ◌∙◌, subst, arith, inl, inr, flat_map, true≢false, length}
 use Rattle.std.specs.Prelude.{find, ◌==◌, nat_le, true}
-use Rattle.std.proofs.Common.{true≢false, length}
 use Rattle.std.proofs.lemmas.List.{length-map}
 use Rattle.std.specs.List.Sorted.{IsStrictlyIncreasing}
 use Rattle.std.specs.Option.{option_map_or}
@@ -15,8 +14,8 @@ use Rattle.gate_types.specs.Line.{Place}
 use Rattle.gate_types.specs.Standing.{place_of, places_after, with_ahead, next_ahead}
 use Rattle.gate_types.specs.Rows.{row_of, item_rows}
 use Rattle.gate_types.specs.Lawful.{IsSound, serials_of, drawn_serials}
-use Rattle.gate_book.specs.declared.rows.QueuedItem.{QueuedItem}
-use Rattle.gate_book.specs.Reads.{queue_named, items_in, queued_items, queued_of}
+use Rattle.gate_book_trait.specs.declared.rows.QueuedItem.{QueuedItem}
+use Rattle.gate_book_trait.specs.Reads.{queue_named, items_in, queued_items, queued_of}
 use Rattle.gate_laws.proofs.Members.{In, every, found, not_found, from_map, to_map, from_flat, to_flat, to_left}
 use Rattle.gate_laws.proofs.Rising.{Rising, rising}
 use Rattle.gate_laws.proofs.Alone.{change_alone}

@@ -10,7 +10,7 @@ use Rattle.gate_types.specs.declared.edits.Edit.TheVariants as edit
 use Rattle.gate_types.specs.Settings.{Settings}
 use Rattle.gate_types.specs.State.{State, change_of, is_landed}
 use Rattle.gate_types.specs.Admit.{may_enter, entered}
-use Rattle.gate_book.specs.Reads.{queue_named, ready_needing}
+use Rattle.gate_book_trait.specs.Reads.{queue_named, ready_needing}
 use Rattle.gate_admission.specs.Seen.{ready_after}
 
 -- ---- what edits let in

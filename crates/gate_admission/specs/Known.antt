@@ -4,7 +4,7 @@ use Rattle.std.specs.Option.{option_map_or}
 use Rattle.gate_types.specs.declared.records.Need.{Need}
 use Rattle.gate_types.specs.State.{Queue, State}
 use Rattle.gate_types.specs.Slot.{are_met_by}
-use Rattle.gate_book.specs.Reads.{queue_named}
+use Rattle.gate_book_trait.specs.Reads.{queue_named}
 
 -- there is a queue of this name
 pub record IsQueue (s : State) (name : List ℕ) : Type 0 where

@@ -6,8 +6,8 @@ use Rattle.gate_types.specs.State.{State}
 use Rattle.gate_types.specs.Once.{Content}
 use Rattle.gate_types.specs.Lawful.{IsSound}
 use Rattle.gate_types.specs.Tables.{Leads}
-use Rattle.gate_book.specs.Kept.{OfHeld, OfHeldUnder}
-use Rattle.gate_unsettled.specs.Moves.{in_state}
+use Rattle.gate_book_trait.specs.Kept.{OfHeld, OfHeldUnder}
+use Rattle.gate_reads.specs.Moves.{in_state}
 
 -- the edits lead from the content to this sound state
 pub record IsLed (c : Settings) (x : Content) (edits : List Edit) (v : State) : Type 0 where

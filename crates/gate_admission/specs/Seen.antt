@@ -7,7 +7,7 @@ use Rattle.gate_types.specs.declared.records.Ready.{Ready}
 use Rattle.gate_types.specs.declared.edits.Edit.{Edit}
 use Rattle.gate_types.specs.declared.edits.Edit.TheVariants as edit
 use Rattle.gate_types.specs.Names.{same_name}
-use Rattle.gate_book.specs.declared.rows.QueuedItem.{QueuedItem}
+use Rattle.gate_book_trait.specs.declared.rows.QueuedItem.{QueuedItem}
 use Rattle.gate_types.specs.Rows.{edited_items}
 use Rattle.gate_admission.specs.declared.items.Fate.{Fate}
 use Rattle.gate_admission.specs.declared.items.Fate.TheVariants as fate

@@ -4,8 +4,8 @@ ghost use Rattle.std.specs.List.{list_any};
 ghost use Rattle.std.specs.Ordering.{nat_cmp};
 ghost use Rattle.std.specs.BTreeMap.{get};
 ghost use Rattle.gate_types.specs.State.{State, is_landed};
-ghost use Rattle.gate_book.specs.Faults.{MayAnswer};
-ghost use Rattle.gate_book.specs.Kept.{OfHeld, IsKept};
+ghost use Rattle.gate_book_trait.specs.Faults.{MayAnswer};
+ghost use Rattle.gate_book_trait.specs.Kept.{OfHeld, IsKept};
 ghost use Rattle.gate_admission.specs.Led.{IsLed};
 ghost use Rattle.gate_admission.specs.Seen.{ready_after};
 ghost use Rattle.gate_admission.specs.Candidates as candidate;
@@ -13,7 +13,7 @@ ghost use Rattle.gate_admission.specs.Candidates.{AreCandidates, AreOthers, Ente
 
 use crate::ready::{ready_list, ready_put};
 use crate::room::make_room;
-use gate_book::{Book, BookFault};
+use gate_book_trait::{Book, BookFault};
 use gate_types::edits::Edit;
 use gate_types::names::NoMemory;
 use gate_types::numbers::ChangeNo;

@@ -3,12 +3,12 @@ ghost use Rattle.std.specs.Prelude.{◌≡◌, ◌||◌, nat_lt, fold, IfOk, IfE
 ghost use Rattle.std.specs.List.{list_any};
 ghost use Rattle.gate_types.specs.Counters.{Drawn};
 ghost use Rattle.gate_types.specs.Tables.{edited_counters};
-ghost use Rattle.gate_book.specs.Faults.{MayAnswer};
-ghost use Rattle.gate_book.specs.Kept.{IsKept};
+ghost use Rattle.gate_book_trait.specs.Faults.{MayAnswer};
+ghost use Rattle.gate_book_trait.specs.Kept.{IsKept};
 ghost use Rattle.gate_admission.specs.Led.{OfLed};
 ghost use Rattle.gate_admission.specs.Counted as counting;
 
-use gate_book::{Book, BookFault};
+use gate_book_trait::{Book, BookFault};
 use gate_types::edits::{Counter, Edit};
 use std::marker::Model;
 

@@ -6,9 +6,9 @@ ghost use Rattle.gate_types.specs.State.{Queue, State, known_change, has_change}
 ghost use Rattle.gate_types.specs.Slot.{are_met_by};
 ghost use Rattle.gate_types.specs.Standing.{needs_of};
 ghost use Rattle.gate_types.specs.Admit.{may_enter, entered};
-ghost use Rattle.gate_book.specs.Faults.{MayAnswer};
-ghost use Rattle.gate_book.specs.Kept.{OfHeldUnder, IsKept};
-ghost use Rattle.gate_book.specs.Reads.{items_in, queue_named};
+ghost use Rattle.gate_book_trait.specs.Faults.{MayAnswer};
+ghost use Rattle.gate_book_trait.specs.Kept.{OfHeldUnder, IsKept};
+ghost use Rattle.gate_book_trait.specs.Reads.{items_in, queue_named};
 ghost use Rattle.gate_admission.specs.Led.{IsLed, OfLed, OfLedUnder};
 ghost use Rattle.gate_admission.specs.Known.{IsQueue, has_place};
 ghost use Rattle.gate_admission.specs.Enters.{is_met_by_rows, ahead_after, ahead_behind, entering_row, entering_edits};
@@ -16,7 +16,7 @@ ghost use Rattle.gate_admission.specs.Enters.{is_met_by_rows, ahead_after, ahead
 use crate::items::{item_in, last_item};
 use crate::known_changes::{known, needs_of, project_of};
 use crate::room::has_room;
-use gate_book::{Book, BookFault};
+use gate_book_trait::{Book, BookFault};
 use gate_types::config::Config;
 use gate_types::edits::{Counter, Edit};
 use gate_types::lists::with_one;

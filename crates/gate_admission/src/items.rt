@@ -1,15 +1,15 @@
 //! The items of a queue, as they are after edits.
 ghost use Rattle.std.specs.Prelude.{◌≡◌, ◌<◌, ◌+◌, fold, IfOk, IfErr, IfSome, option_map, option_and_then};
-ghost use Rattle.gate_book.specs.Faults.{MayAnswer};
-ghost use Rattle.gate_book.specs.Kept.{OfHeld, IsKept};
-ghost use Rattle.gate_book.specs.Reads.{items_in, last_below, queued_of};
+ghost use Rattle.gate_book_trait.specs.Faults.{MayAnswer};
+ghost use Rattle.gate_book_trait.specs.Kept.{OfHeld, IsKept};
+ghost use Rattle.gate_book_trait.specs.Reads.{items_in, last_below, queued_of};
 ghost use Rattle.gate_admission.specs.Led.{OfLed};
 ghost use Rattle.gate_admission.specs.Seen as seen;
 ghost use Rattle.gate_admission.specs.declared.items.Fate.TheVariants as fate;
 ghost use Rattle.gate_admission.specs.Known.{IsQueue};
 ghost use Rattle.gate_admission.specs.Enters.{item_in, last_row};
 
-use gate_book::{Book, BookFault};
+use gate_book_trait::{Book, BookFault};
 use gate_types::edits::Edit;
 use gate_types::names::{Name, same_name};
 use gate_types::numbers::{ChangeNo, Serial};

@@ -3,13 +3,13 @@ ghost use Rattle.std.specs.Prelude.{◌≡◌, ◌<◌, None, find, IfOk, IfErr,
 ghost use Rattle.std.specs.Ordering.{nat_cmp};
 ghost use Rattle.std.specs.BTreeMap.{IsEmpty, IsLowerBound, Updates, btree_map_len};
 ghost use Rattle.gate_types.specs.Admit.{may_enter};
-ghost use Rattle.gate_book.specs.Faults.{MayAnswer};
-ghost use Rattle.gate_book.specs.Kept.{IsKept};
+ghost use Rattle.gate_book_trait.specs.Faults.{MayAnswer};
+ghost use Rattle.gate_book_trait.specs.Kept.{IsKept};
 ghost use Rattle.gate_admission.specs.Led.{OfLedUnder};
 ghost use Rattle.gate_admission.specs.Candidates.{if_so, IsAmong, AreCandidates, EntersFirst};
 
 use crate::entering::may_enter;
-use gate_book::{Book, BookFault};
+use gate_book_trait::{Book, BookFault};
 use gate_types::config::Config;
 use gate_types::edits::Edit;
 use gate_types::numbers::ChangeNo;

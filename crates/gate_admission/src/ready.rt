@@ -1,12 +1,12 @@
 //! The ready list, as it is after edits.
 ghost use Rattle.std.specs.Prelude.{◌≡◌, ◌++◌, ◌∷◌, [], not, ◌==◌, nat_lt, fold, filter, IfOk, IfErr};
-ghost use Rattle.gate_book.specs.Faults.{MayAnswer};
-ghost use Rattle.gate_book.specs.Kept.{IsKept};
+ghost use Rattle.gate_book_trait.specs.Faults.{MayAnswer};
+ghost use Rattle.gate_book_trait.specs.Kept.{IsKept};
 ghost use Rattle.gate_admission.specs.Led.{OfLed};
 ghost use Rattle.gate_admission.specs.Seen.{ready_without, with_approval, ready_after};
 ghost use Rattle.gate_admission.specs.Candidates.{put_ready};
 
-use gate_book::{Book, BookFault};
+use gate_book_trait::{Book, BookFault};
 use gate_types::edits::Edit;
 use gate_types::names::NoMemory;
 use gate_types::numbers::ChangeNo;

@@ -14,7 +14,7 @@ use Rattle.gate_types.specs.Settings.{Settings, are_distinct}
 use Rattle.gate_types.specs.Tables.{QueueRows}
 use Rattle.gate_types.specs.AdoptedTables.{adopted_rows, empty_rows, resized_rows}
 use Rattle.gate_types.specs.declared.config.Queue.{Queue as QueueSetting}
-use Rattle.gate_book.specs.TableReads.{rows_named}
+use Rattle.gate_book_trait.specs.RowReads.{rows_named}
 
 -- ---- one is taken out
 

@@ -17,19 +17,13 @@ use Rattle.gate_types.specs.declared.records.Report.{Report}
 use Rattle.gate_types.specs.declared.rows.ReportRow.{ReportRow}
 use Rattle.gate_types.specs.declared.tap.Tap.{Tap}
 use Rattle.gate_types.proofs.TapLemmas.{writes_later}
-use Rattle.gate_book.specs.declared.fault.HistoryFault.{HistoryFault}
-use Rattle.gate_book.specs.declared.fault.HistoryFault.TheVariants as fault
-use Rattle.gate_book.specs.Reads.{queue_named}
-use Rattle.gate_book.specs.TableReads.{rows_named}
-use Rattle.gate_book.specs.Text.{first_line, report_lines, last_line, rows_text, IsWritten, BreaksOff, LeavesTap, LeavesText, WritesText}
-use Rattle.gate_book.specs.Writes.{WritesHistory, Stops}
-use Rattle.gate_book.proofs.ReadLemmas.{rows_of_queue, named_is, length_reports}
-
--- the line of a report, of its six columns
-pub report_joined : (a b c d e f : List ℕ) →
-    (a ++ 32 ∷ (b ++ 32 ∷ (c ++ 32 ∷ (d ++ 32 ∷ (e ++ 32 ∷ f))))) ++ 10 ∷ []
-    ≡ (a ++ (32 ∷ (b ++ (32 ∷ (c ++ (32 ∷ d)))))) ++ (32 ∷ (e ++ (32 ∷ (f ++ 10 ∷ []))))
-report_joined a b c d e f = simp append_assoc
+use Rattle.gate_book_trait.specs.declared.fault.HistoryFault.{HistoryFault}
+use Rattle.gate_book_trait.specs.declared.fault.HistoryFault.TheVariants as fault
+use Rattle.gate_book_trait.specs.Reads.{queue_named}
+use Rattle.gate_book_trait.specs.RowReads.{rows_named}
+use Rattle.gate_book_trait.specs.Text.{first_line, report_lines, last_line, rows_text, IsWritten, BreaksOff, LeavesTap, LeavesText, WritesText}
+use Rattle.gate_book_trait.specs.Writes.{WritesHistory, Stops}
+use Rattle.gate_book_trait.proofs.ReadLemmas.{rows_of_queue, named_is, length_reports}
 
 -- the line of a row
 abbrev line_of : ReportRow → List ℕ

@@ -1,28 +1,26 @@
 -- The queues of a book in memory: changed one by one, and looked through.
-use Rattle.std.proofs.Common.{◌≡◌, ℕ, zero, suc, ◌+◌, ◌<◌, ◌≤◌, Bool, true, false, cond, Option, Some, List, [], ◌∷◌, length, drop, get_or, map, refl, sym, ap, subst, ◌∙◌, arith}
+use Rattle.std.proofs.Common.{◌≡◌, ℕ, suc, ◌+◌, ◌<◌, Bool, Option, List, ◌∷◌, length, drop, get_or, map, sym, ap, ◌∙◌, arith}
 use Rattle.std.specs.Prelude.{find, option_map}
 use Rattle.std.specs.Option.{option_or}
-use Rattle.std.specs.List.{AllByRecursion}
 use Rattle.std.proofs.lemmas.List.Folds.{find-append}
-use Rattle.std.proofs.lemmas.Option.{none-some}
 use Rattle.gate_types.specs.declared.records.Item.{Item}
-use Rattle.gate_book.specs.declared.rows.QueuedItem.{QueuedItem}
-use Rattle.gate_book.specs.TableReads.{queued_rows, all_queued}
+use Rattle.gate_book_trait.specs.declared.rows.QueuedItem.{QueuedItem}
+use Rattle.gate_book_trait.specs.RowReads.{queued_rows, all_queued}
 use Rattle.gate_types.specs.declared.edits.Edit.{Edit}
 use Rattle.gate_types.specs.Tables.{edited_queue}
-use Rattle.gate_book.specs.declared.queues.QueueTable.{QueueTable}
-use Rattle.gate_book.specs.Builds.{HaveRoom}
-use Rattle.gate_book.specs.Changes as change
-use Rattle.gate_book.specs.Queues as queue
-use Rattle.gate_book.specs.Replies as reply
-use Rattle.gate_book.specs.Plans as plan
+use Rattle.gate_memory.specs.declared.queues.QueueTable.{QueueTable}
+use Rattle.gate_memory.specs.Builds.{HaveRoom}
+use Rattle.gate_memory.specs.Changes as change
+use Rattle.gate_memory.specs.Queues as queue
+use Rattle.gate_memory.specs.Replies as reply
+use Rattle.gate_memory.specs.Plans as plan
 use Rattle.gate_book.specs.Memory.{HasRoom}
-use Rattle.gate_book.specs.declared.builds.BuildTable.{BuildTable}
-use Rattle.gate_book.specs.declared.changes.ChangeTable.{ChangeTable}
-use Rattle.gate_book.specs.declared.plans.PlanTable.{PlanTable}
-use Rattle.gate_book.specs.declared.replies.ReplyTable.{ReplyTable}
+use Rattle.gate_memory.specs.declared.builds.BuildTable.{BuildTable}
+use Rattle.gate_memory.specs.declared.changes.ChangeTable.{ChangeTable}
+use Rattle.gate_memory.specs.declared.plans.PlanTable.{PlanTable}
+use Rattle.gate_memory.specs.declared.replies.ReplyTable.{ReplyTable}
 use Rattle.gate_book.specs.declared.tables.MemTables.{MemTables}
-use Rattle.gate_book.proofs.BuildLemmas.{in_weaker}
+use Rattle.gate_book_trait.proofs.Finding.{in_weaker, rest_at, find_map}
 
 -- a queue after an edit
 pub record Edited (e : Edit) (old new : QueueTable) : Type 0 where
@@ -42,40 +40,6 @@ pub record Roomy (n : ℕ) (old new : QueueTable) : Type 0 where
   pub room : queue.HasRoom n new
 
 -- ---- looks
-
--- what is found among the images
-pub find_map : {X Y : Type 0} (f : X → Y) (test : Y → Bool) (xs : List X) → find test (map f xs) ≡ option_map f (find (λ x. test (f x)) xs)
-find_map f test [] = refl
-find_map f test (x ∷ xs) = by_test (test (f x)) (find_map f test xs)
-  where
-    by_test : (t : Bool) → find test (map f xs) ≡ option_map f (find (λ y. test (f y)) xs) → cond t (Some (f x)) (find test (map f xs)) ≡ option_map f (cond t (Some x) (find (λ y. test (f y)) xs))
-    by_test true rest = refl
-    by_test false rest = rest
-
--- what is so of all is so of what is found
-pub all_found : {X : Type 0} (P : X → Type 0) (test : X → Bool) (xs : List X) (x : X) → AllByRecursion P xs → Some x ≡ find test xs → P x
-all_found P test [] x all e = absurd (none-some x (sym e))
-all_found P test (y ∷ ys) x all e = by_test (test y) e (λ f. all_found P test ys x all.1 f)
-  where
-    by_test : (t : Bool) → Some x ≡ cond t (Some y) (find test ys) → (Some x ≡ find test ys → P x) → P x
-    by_test true e rest = let same : y ≡ x = cc in subst P same all.0
-    by_test false e rest = rest e
-
--- the rest of a list, from a place on
-pub rest_at : {X : Type 0} (xs : List X) (k : ℕ) (d : X) → k < length xs → drop k xs ≡ get_or xs k d ∷ drop (suc k) xs
-rest_at [] k d l = absurd (omega arith)
-rest_at (x ∷ xs) zero d l = refl
-rest_at (x ∷ xs) (suc k) d l = rest_at xs k d (omega arith)
-
-pub rest_none : {X : Type 0} (xs : List X) (k : ℕ) → length xs ≤ k → drop k xs ≡ []
-rest_none [] zero l = refl
-rest_none [] (suc k) l = refl
-rest_none (x ∷ xs) zero l = absurd (omega arith)
-rest_none (x ∷ xs) (suc k) l = rest_none xs k (omega arith)
-
--- a look from a row on
-pub find_rest : {X : Type 0} (test : X → Bool) (xs : List X) (k : ℕ) (x : X) → k < length xs → x ≡ get_or xs k x → find test (drop k xs) ≡ cond (test x) (Some x) (find test (drop (suc k) xs))
-find_rest test xs k x l at = ap (find test) (rest_at xs k x l ∙ ap (λ y. y ∷ drop (suc k) xs) (sym at))
 
 -- a look through the items of the queues from one on
 find_queued : (test : QueuedItem → Bool) (queues : List QueueTable) (k : ℕ) (t : QueueTable) → k < length queues → t ≡ get_or queues k t → find test (all_queued (map queue.rows_of (drop k queues))) ≡ option_or (find test (queued_rows (queue.rows_of t))) (find test (all_queued (map queue.rows_of (drop (suc k) queues))))

@@ -1,15 +1,1 @@
-pub mod Sorted
-pub mod Pairs
-pub mod Plans
-pub mod Builds
-pub mod Needs
-pub mod Changes
-pub mod Queues
-pub mod Replies
 pub mod Memory
-pub mod Reads
-pub mod Text
-pub mod Writes
-pub mod TableReads
-pub mod Kept
-pub mod Faults

@@ -1,5 +1,5 @@
 -- How a book in memory keeps all tables.
-use Rattle.std.specs.Prelude.{◌≡◌, ⊤, ℕ, Bool, false, [], map}
+use Rattle.std.specs.Prelude.{◌≡◌, ⊤, ℕ, Bool, false, [], map, min}
 use Rattle.std.specs.List.{AllByRecursion}
 use Rattle.gate_types.specs.Settings.{Settings}
 use Rattle.gate_types.specs.Counters.{Drawn}
@@ -9,17 +9,25 @@ use Rattle.gate_types.specs.Once.{Content}
 use Rattle.gate_types.specs.declared.open_fault.OpenFault.{OpenFault}
 use Rattle.gate_types.specs.declared.open_fault.OpenFault.TheVariants as fault
 use Rattle.gate_types.specs.Tables.{Tables, tables}
-use Rattle.gate_book.specs.Builds.{AreKept, HaveRoom}
-use Rattle.gate_book.specs.Plans as plan
-use Rattle.gate_book.specs.Changes as change
-use Rattle.gate_book.specs.Queues as queue
-use Rattle.gate_book.specs.Replies as reply
+use Rattle.gate_memory.specs.Builds.{AreKept, HaveRoom}
+use Rattle.gate_memory.specs.Plans as plan
+use Rattle.gate_memory.specs.Changes as change
+use Rattle.gate_memory.specs.Queues as queue
+use Rattle.gate_memory.specs.Replies as reply
 use Rattle.gate_book.specs.declared.tables.LastNumbers.{LastNumbers}
 use Rattle.gate_book.specs.declared.tables.MemTables.{MemTables}
 
 -- the last numbers drawn
 abbrev pub drawn_of : LastNumbers → Drawn
 drawn_of d = record { approval = d.approval; build = d.build; order = d.order }
+
+-- the counters, none above the last number
+abbrev pub within : Drawn → Drawn
+within d = record {
+  approval = min d.approval 1000000000000000;
+  build = min d.build 1000000000000000;
+  order = min d.order 1000000000000000;
+}
 
 -- the content before the first delivery, with these numbers drawn
 abbrev pub start_with : Settings → Drawn → Content

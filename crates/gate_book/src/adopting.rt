@@ -4,11 +4,10 @@ ghost use Rattle.std.specs.List.{AllByRecursion, position};
 ghost use Rattle.gate_types.specs.Names.{same_name};
 ghost use Rattle.gate_types.specs.Settings.{are_distinct};
 ghost use Rattle.gate_types.specs.AdoptedTables.{adopted_rows, empty_rows, resized_rows};
-ghost use Rattle.gate_book.specs.Queues as queue;
-ghost use Rattle.gate_book.specs.TableReads.{rows_named};
+ghost use Rattle.gate_memory.specs.Queues as queue;
+ghost use Rattle.gate_book_trait.specs.RowReads.{rows_named};
 
-use crate::queues::QueueTable;
-use crate::sorted::put_at;
+use gate_memory::{QueueTable, put_at};
 use gate_types::adopting::adopted_window;
 use gate_types::config::{Config, Queue};
 

@@ -8,27 +8,9 @@
 #![tactic(auto)]
 
 mod adopting;
-mod book;
-mod builds;
-mod changes;
-mod collecting;
-mod fault;
-mod history;
 mod memory;
-mod needs;
-mod pairs;
-mod planned;
-mod plans;
-mod queues;
-mod replies;
-mod rows;
-mod sorted;
 mod tables;
 mod writing;
 
-pub use book::Book;
-pub use fault::{BookFault, HistoryFault};
-pub use history::{history_end, history_head, report_line};
+pub use gate_book_trait::{Book, BookFault, HistoryFault, QueuedItem};
 pub use memory::MemBook;
-pub use planned::plan_of;
-pub use rows::QueuedItem;

@@ -5,12 +5,10 @@ ghost use Rattle.gate_types.specs.Adopt.{may_adopt, adopted_content};
 ghost use Rattle.gate_types.specs.Settings.{Settings};
 ghost use Rattle.gate_book.specs.Memory.{IsRefused, adopted, held, start_with};
 
-use crate::book::Book;
-use crate::fault::{BookFault, HistoryFault};
-use crate::needs::count_needs;
-use crate::rows::QueuedItem;
 use crate::tables::MemTables;
 use crate::writing::write_history;
+use gate_book_trait::{Book, BookFault, HistoryFault, QueuedItem};
+use gate_memory::count_needs;
 use gate_types::adopting::may_adopt;
 use gate_types::config::Config;
 use gate_types::edits::Edit;
@@ -117,7 +115,7 @@ impl MemBook {
 impl Book for MemBook {
     ghost use Rattle.std.specs.Prelude.{◌≡◌};
     ghost use Rattle.gate_book.specs.Memory.{held};
-    ghost use Rattle.gate_book.specs.declared.fault.BookFault.TheVariants as fault;
+    ghost use Rattle.gate_book_trait.specs.declared.fault.BookFault.TheVariants as fault;
 
     ghost Holds = { λ m c x. m ≡ held c x };
 

@@ -5,23 +5,21 @@ ghost use Rattle.std.specs.Option.{option_copied, option_map_or};
 ghost use Rattle.gate_types.specs.Names.{same_name};
 ghost use Rattle.gate_types.specs.Once.{kept_for};
 ghost use Rattle.gate_types.specs.Tables.{edited_queue, set_counter, edited_tables, fold_all, tables};
-ghost use Rattle.gate_book.specs.Changes as change_table;
-ghost use Rattle.gate_book.specs.Queues as queue;
-ghost use Rattle.gate_book.specs.Builds.{is_live_of};
-ghost use Rattle.gate_book.specs.Needs.{needs_of, needs_of_all};
-ghost use Rattle.gate_book.specs.Reads as read;
-ghost use Rattle.gate_book.specs.TableReads.{change_in, rows_named, items_named, needing_in, IsWhatRowsTellOf, plans_of_rows, builds_of_rows, all_queued, landings_below, LandingsRise, within};
+ghost use Rattle.gate_memory.specs.Changes as change_table;
+ghost use Rattle.gate_memory.specs.Queues as queue;
+ghost use Rattle.gate_memory.specs.Builds.{is_live_of};
+ghost use Rattle.gate_memory.specs.Needs.{needs_of, needs_of_all};
+ghost use Rattle.gate_book_trait.specs.Reads as read;
+ghost use Rattle.gate_book_trait.specs.RowReads.{approval_in, change_in, rows_named, items_named, needing_in, plans_of_rows, all_queued, landings_below, LandingsRise};
+ghost use Rattle.gate_memory.specs.TableReads.{IsWhatRowsTellOf, builds_of_rows};
+ghost use Rattle.gate_book.specs.Memory.{within, tables_of, IsKept, HasRoom, HasRoomBeside, drawn_of, start_with};
 ghost use Rattle.gate_types.specs.AdoptedTables.{adopted_tables, empty_rows};
-ghost use Rattle.gate_book.specs.Memory.{tables_of, IsKept, HasRoom, HasRoomBeside, drawn_of, start_with};
 
 use crate::adopting::adopt_queues;
-use crate::builds::BuildTable;
-use crate::changes::ChangeTable;
-use crate::collecting::{builds_of, needing_of, plans_of};
-use crate::plans::PlanTable;
-use crate::queues::QueueTable;
-use crate::replies::ReplyTable;
-use crate::rows::QueuedItem;
+use gate_book_trait::QueuedItem;
+use gate_memory::{
+    BuildTable, ChangeTable, PlanTable, QueueTable, ReplyTable, builds_of, needing_of, plans_of,
+};
 use gate_types::config::{Config, Queue};
 use gate_types::edits::{Counter, Edit};
 use gate_types::names::{Name, NoMemory};
@@ -509,7 +507,7 @@ impl MemTables {
     /// The number of a change's approval, while it is ready.
     pub(crate) fn approval(&self, change: ChangeNo) -> Option<u64>
         requires { IsKept self.now }
-        ensures { result ≡ change_table.approval_in (tables_of self.now).changes change }
+        ensures { result ≡ approval_in (tables_of self.now).changes change }
     {
         self.changes.approval(change)
     }

@@ -1,10 +1,9 @@
 //! The history text of a queue's rows is written, line by line.
 ghost use Rattle.std.specs.Prelude.{◌≡◌, ◌++◌, ℕ, false, IfOk, string_bytes};
 ghost use Rattle.gate_types.specs.Tap.{has_failed};
-ghost use Rattle.gate_book.specs.Text.{first_line, report_lines, last_line, rows_text, IsWritten, LeavesTap, WritesText};
+ghost use Rattle.gate_book_trait.specs.Text.{first_line, report_lines, last_line, rows_text, IsWritten, LeavesTap, WritesText};
 
-use crate::fault::HistoryFault;
-use crate::history::{history_end, history_head, report_line};
+use gate_book_trait::{HistoryFault, history_end, history_head, report_line};
 use gate_types::names::NoMemory;
 use gate_types::rows::ReportRow;
 use gate_types::tap::Tap;

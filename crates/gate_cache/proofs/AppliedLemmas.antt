@@ -3,8 +3,8 @@ use Rattle.std.specs.Prelude.{List, Result, Ok, Err}
 use Rattle.gate_types.specs.Once.{Content}
 use Rattle.gate_types.specs.Settings.{Settings}
 use Rattle.gate_types.specs.declared.edits.Edit.{Edit}
-use Rattle.gate_book.specs.Kept.{IsApplied}
-use Rattle.gate_book.specs.declared.fault.BookFault.{BookFault}
+use Rattle.gate_book_trait.specs.Kept.{IsApplied}
+use Rattle.gate_book_trait.specs.declared.fault.BookFault.{BookFault}
 use Rattle.gate_cache.specs.Cached.{HoldsBelow, Agrees}
 use Rattle.gate_cache.specs.declared.cached.CachedBook.{CachedBook}
 

@@ -4,7 +4,7 @@ use Rattle.gate_types.specs.Forms.{IsLawfulContent}
 use Rattle.gate_types.specs.Once.{Content}
 use Rattle.gate_types.specs.Settings.{Settings}
 use Rattle.gate_types.specs.State.{known_change}
-use Rattle.gate_book.specs.Reads as read
+use Rattle.gate_book_trait.specs.Reads as read
 use Rattle.gate_cache.specs.declared.cache.Cache.{Cache}
 use Rattle.gate_cache.specs.declared.cached.CachedBook.{CachedBook}
 

@@ -3,10 +3,10 @@ ghost use Rattle.std.specs.Prelude.{◌≡◌, IfOk, IfSome, Some, option_map};
 ghost use Rattle.gate_types.specs.Once.{Content};
 ghost use Rattle.gate_types.specs.Settings.{Settings};
 ghost use Rattle.gate_types.specs.State.{known_change};
-ghost use Rattle.gate_book.specs.Reads as read;
+ghost use Rattle.gate_book_trait.specs.Reads as read;
 ghost use Rattle.gate_cache.specs.Cached.{Agrees};
 
-use gate_book::QueuedItem;
+use gate_book_trait::QueuedItem;
 use gate_types::names::{Name, NoMemory};
 use gate_types::numbers::{ChangeNo, Serial};
 use gate_types::records::{Build, Change, Counters, Plan, Ready};

@@ -5,7 +5,7 @@ ghost use Rattle.gate_types.specs.Settings.{Settings};
 ghost use Rattle.gate_cache.specs.Cached.{Agrees};
 
 use crate::cache::Cache;
-use gate_book::{Book, BookFault, HistoryFault, QueuedItem};
+use gate_book_trait::{Book, BookFault, HistoryFault, QueuedItem};
 use gate_types::edits::Edit;
 use gate_types::names::Name;
 use gate_types::numbers::{BuildNo, ChangeNo, Serial};

@@ -1,3 +1,12 @@
+mod Results
+mod KeptReply
+mod NextContents
+mod Steps
+mod Placed
+-- who may enter by the edits
+mod ByEdits
+-- where a put of a change is left out
+mod Thinning
 pub mod LineLemmas
 pub mod RunLemmas
 pub mod ReplyLemmas

@@ -15,8 +15,8 @@ use Rattle.gate_types.specs.Settings.{Settings}
 use Rattle.gate_types.specs.Once.{Content, Call, once, next_content, answer_of, answer_text, answers, is_unavailable}
 use Rattle.gate_types.specs.Refusals.{refusal_text}
 use Rattle.gate_types.specs.Forms.{IsLawfulContent}
-use Rattle.gate_book.specs.Kept.{OfHeldUnder}
-use Rattle.gate_deliver.specs.Answered.{Answered, call}
+use Rattle.gate_book_trait.specs.Kept.{OfHeldUnder}
+use Rattle.gate_core.specs.Answered.{Answered, call}
 use Rattle.gate_core.specs.declared.gate.Gate.{Gate}
 use Rattle.gate_core.specs.Gated.{Gated}
 use Rattle.gate_core.specs.Limit.{limit, too_large}

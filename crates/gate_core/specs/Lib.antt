@@ -1,3 +1,6 @@
+pub mod Answered
+pub mod Ruled
+pub mod Thinned
 pub mod Gated
 pub mod Limit
 pub mod Lines

@@ -6,13 +6,13 @@ ghost use Rattle.gate_types.specs.OrderList.{order_list_text};
 ghost use Rattle.gate_types.specs.Status.{status_text};
 ghost use Rattle.gate_types.specs.Step.{build_of};
 ghost use Rattle.gate_types.specs.Tap.{has_failed};
-ghost use Rattle.gate_book.specs.Kept.{OfHeldUnder, IsKept};
-ghost use Rattle.gate_book.specs.Writes.{WritesHistory, Stops};
-ghost use Rattle.gate_deliver.specs.Answered.{Answered, call};
+ghost use Rattle.gate_book_trait.specs.Kept.{OfHeldUnder, IsKept};
+ghost use Rattle.gate_book_trait.specs.Writes.{WritesHistory, Stops};
+ghost use Rattle.gate_core.specs.Answered.{Answered, call};
 ghost use Rattle.gate_core.specs.Landing.{LandsRightly};
 
-use gate_book::{Book, HistoryFault};
-use gate_deliver::deliver;
+use crate::delivering::deliver;
+use gate_book_trait::{Book, HistoryFault};
 use gate_laws::orders;
 use gate_texts::{build_text, order_list, status};
 use gate_types::config::Config;

@@ -7,12 +7,18 @@
 //! ```
 #![tactic(auto)]
 
+mod accepting;
+mod admitted;
+mod delivering;
 mod engine;
 mod fault;
 mod gate;
 mod line;
 mod replaying;
 mod respond;
+mod ruled;
+mod speaking;
+mod thinned;
 
 pub use fault::IoFault;
 pub use gate::Gate;

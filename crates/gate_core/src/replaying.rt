@@ -10,7 +10,7 @@ ghost use Rattle.gate_core.specs.Held.{Goes};
 use crate::engine::answer_lines;
 use crate::fault::IoFault;
 use crate::gate::Gate;
-use gate_book::Book;
+use gate_book_trait::Book;
 use gate_types::tap::Tap;
 use std::alloc::Global;
 use std::io::{Read, Write};

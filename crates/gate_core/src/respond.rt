@@ -1,7 +1,7 @@
 //! The gate as what answers lines.
 use crate::engine::{Respond, Said};
 use crate::gate::Gate;
-use gate_book::Book;
+use gate_book_trait::Book;
 use gate_types::deliveries::Answer;
 use gate_wire::{Door, read_delivery};
 use std::alloc::Global;

@@ -19,11 +19,11 @@ use Rattle.gate_types.specs.declared.tap.Tap.{Tap}
 use Rattle.gate_types.specs.Step.{build_of}
 use Rattle.gate_wire.specs.declared.door.Door.{Door}
 use Rattle.gate_wire.specs.Reading.{says}
-use Rattle.gate_book.specs.Kept.{OfHeldUnder, IsKept}
-use Rattle.gate_book.specs.Writes.{OfQueue, WritesHistory}
-use Rattle.gate_book.specs.declared.fault.HistoryFault.{HistoryFault}
-use Rattle.gate_book.specs.declared.fault.HistoryFault.TheVariants as broken
-use Rattle.gate_deliver.specs.Answered.{Answered, call, spared}
+use Rattle.gate_book_trait.specs.Kept.{OfHeldUnder, IsKept}
+use Rattle.gate_book_trait.specs.Writes.{OfQueue, WritesHistory}
+use Rattle.gate_book_trait.specs.declared.fault.HistoryFault.{HistoryFault}
+use Rattle.gate_book_trait.specs.declared.fault.HistoryFault.TheVariants as broken
+use Rattle.gate_core.specs.Answered.{Answered, call, spared}
 use Rattle.gate_core.specs.declared.gate.Gate.{Gate}
 use Rattle.gate_core.specs.Gated.{Gated}
 use Rattle.gate_core.specs.Replies.{call_read}

@@ -17,7 +17,7 @@ use Rattle.gate_types.specs.OrderList.{order_list_text}
 use Rattle.gate_types.specs.BuildText.{build_text}
 use Rattle.gate_types.specs.History.{history_text}
 use Rattle.gate_wire.specs.Reading.{says, passing}
-use Rattle.gate_book.specs.Reads.{queue_named}
+use Rattle.gate_book_trait.specs.Reads.{queue_named}
 use Rattle.gate_core.specs.Gated.{Gated}
 use Rattle.gate_core.specs.Replies.{call_read}
 use Rattle.gate_http.specs.declared.respond.Page.TheVariants as pages

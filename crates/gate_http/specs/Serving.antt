@@ -3,8 +3,8 @@ use Rattle.std.specs.Prelude.{ℕ, ◌≡◌, true, false, List, [], ◌∷◌, 
 use Rattle.gate_types.specs.declared.deliveries.Answer.{Answer}
 use Rattle.gate_types.specs.Settings.{Settings}
 use Rattle.gate_types.specs.Once.{Content, Call, acts, next_content, is_unavailable}
-use Rattle.gate_book.specs.Kept.{OfHeldUnder}
-use Rattle.gate_deliver.specs.Answered.{spared}
+use Rattle.gate_book_trait.specs.Kept.{OfHeldUnder}
+use Rattle.gate_core.specs.Answered.{spared}
 use Rattle.gate_core.specs.declared.gate.Gate.{Gate}
 use Rattle.gate_core.specs.Held.{Goes}
 use Rattle.gate_http.specs.declared.served.Served.{Served}

@@ -12,7 +12,7 @@ ghost use Rattle.gate_http.specs.Connections.{IsCalled, fault_line, AreTold};
 
 use crate::served::Served;
 use crate::serving::serve_one;
-use gate_book::Book;
+use gate_book_trait::Book;
 use gate_core::{Gate, IoFault};
 use gate_types::tap::{Failed, Tap};
 use std::alloc::Global;

@@ -15,7 +15,7 @@ use crate::respond::{Page, Respond, status_of, text_of};
 use crate::response::{HEAD_ROOM, allow_of, history_head, write_response};
 use crate::routes::{Route, router};
 use crate::served::Served;
-use gate_book::HistoryFault;
+use gate_book_trait::HistoryFault;
 use gate_core::IoFault;
 use gate_types::deliveries::{Answer, Refusal};
 use gate_types::tap::Tap;

@@ -4,7 +4,7 @@ ghost use Rattle.gate_http.specs.Answer.{build_number};
 
 use crate::digits::number_of;
 use crate::respond::{Page, Respond};
-use gate_book::{Book, HistoryFault};
+use gate_book_trait::{Book, HistoryFault};
 use gate_core::Gate;
 use gate_types::deliveries::{Answer, Refusal};
 use gate_types::names::Text;

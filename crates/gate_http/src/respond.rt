@@ -3,12 +3,12 @@ ghost use Rattle.std.specs.Prelude.{◌≡◌, ◌≤◌, ◌++◌, ℕ, List, O
 ghost use Rattle.gate_types.specs.declared.deliveries.Answer.{Answer};
 ghost use Rattle.gate_types.specs.Once.{answer_text};
 ghost use Rattle.gate_types.specs.Tap.{has_failed, Took, TookFront};
-ghost use Rattle.gate_book.specs.Writes.{Stops};
+ghost use Rattle.gate_book_trait.specs.Writes.{Stops};
 ghost use Rattle.gate_http.specs.Asked.{Asked, delivery, page, build, answer_status};
 ghost use Rattle.gate_http.specs.Exchange.{HasText};
 ghost use Rattle.gate_http.specs.Fields.{body_limit};
 
-use gate_book::HistoryFault;
+use gate_book_trait::HistoryFault;
 use gate_types::deliveries::Answer;
 use gate_types::tap::Tap;
 use gate_wire::Door;

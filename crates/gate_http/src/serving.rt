@@ -7,7 +7,7 @@ ghost use Rattle.gate_http.specs.Serving.{ServesBy, ServesHistory};
 
 use crate::engine::answer_request;
 use crate::served::Served;
-use gate_book::Book;
+use gate_book_trait::Book;
 use gate_core::{Gate, IoFault};
 use gate_types::tap::Tap;
 use std::alloc::Global;

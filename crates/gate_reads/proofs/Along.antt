@@ -18,7 +18,7 @@ use Rattle.gate_types.specs.Choice.{builds_for}
 use Rattle.gate_types.specs.Rows.{row_of}
 use Rattle.gate_laws.proofs.Members.{In, got}
 use Rattle.gate_laws.proofs.Rising.{Rising, rising}
-use Rattle.gate_book.specs.Reads.{live_builds, plans_of_items, builds_of_items}
+use Rattle.gate_book_trait.specs.Reads.{live_builds, plans_of_items, builds_of_items}
 use Rattle.gate_reads.specs.NextBuild.{with_number}
 use Rattle.gate_reads.specs.Parts.{ahead_behind_one, AreBehind, IsTold, AreTold}
 use Rattle.gate_reads.specs.Places.{IsBehind}

@@ -1,5 +1,5 @@
 -- Calls that only read, one after another.
-use Rattle.gate_book.specs.Kept.{IsKept}
+use Rattle.gate_book_trait.specs.Kept.{IsKept}
 
 pub then : {B : Type 0} → {trusted : B → Type 0} → {holds : _} → {leaves : _} → {a b d : B} →
     IsKept trusted holds leaves a b → IsKept trusted holds leaves b d → IsKept trusted holds leaves a d

@@ -22,7 +22,7 @@ use Rattle.gate_types.specs.Names.{same_name}
 use Rattle.gate_laws.proofs.Members.{In, contains_in, found, from_flat, to_flat}
 use Rattle.gate_laws.proofs.Alone.{same_name_is}
 use Rattle.gate_laws.proofs.Places.{item_of_place}
-use Rattle.gate_book.specs.Reads.{queue_named, landings_in, landings_before, live_builds}
+use Rattle.gate_book_trait.specs.Reads.{queue_named, landings_in, landings_before, live_builds}
 use Rattle.gate_reads.specs.NextBuild.{with_number}
 use Rattle.gate_queue.specs.Outcomes.{slot_among}
 use Rattle.gate_reads.specs.Parts.{IsTold}

@@ -17,7 +17,7 @@ use Rattle.gate_types.specs.Lawful.{IsLawful}
 use Rattle.gate_laws.proofs.Members.{In, every}
 use Rattle.gate_laws.proofs.LiveBuildsCount.{live_builds_count}
 use Rattle.gate_laws.proofs.Cuts.{uncut, finished_is, waiting_cut}
-use Rattle.gate_book.specs.Reads.{live_builds}
+use Rattle.gate_book_trait.specs.Reads.{live_builds}
 use Rattle.gate_queue.specs.Outcomes.{outcomes_among, slot_among}
 
 -- whether a build is a live one of an item

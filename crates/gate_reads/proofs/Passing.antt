@@ -13,7 +13,7 @@ use Rattle.gate_types.specs.Standing.{is_failing, are_finished, next_ahead, plac
 use Rattle.gate_types.specs.SubmitOrder.{Order, order_of}
 use Rattle.gate_types.specs.Rows.{row_of, item_of, item_rows}
 use Rattle.gate_laws.proofs.Members.{In, in_contains, to_map}
-use Rattle.gate_book.specs.Reads.{queue_named, items_in, first_above}
+use Rattle.gate_book_trait.specs.Reads.{queue_named, items_in, first_above}
 use Rattle.gate_reads.specs.Orders.{order_in, IsRowOf, TellsOrder}
 use Rattle.gate_reads.specs.Places.{IsAt}
 use Rattle.gate_reads.proofs.KnownPlaces.{named_is, there_too}

@@ -12,7 +12,7 @@ use Rattle.gate_types.specs.Choice.{choices, choose}
 use Rattle.gate_types.specs.Lawful.{IsSound}
 use Rattle.gate_laws.proofs.Members.{In, found, not_found}
 use Rattle.gate_laws.proofs.Alone.{name_alone, same_name_of}
-use Rattle.gate_book.specs.Reads.{queue_named}
+use Rattle.gate_book_trait.specs.Reads.{queue_named}
 use Rattle.gate_reads.specs.NextBuild.{with_number}
 use Rattle.gate_reads.proofs.Trying.{first_some, first_none}
 

@@ -7,7 +7,7 @@ use Rattle.std.proofs.lemmas.Option.{none-some, same_Some}
 use Rattle.gate_types.specs.declared.records.Item.{Item as ItemRow}
 use Rattle.gate_laws.proofs.Members.{In}
 use Rattle.gate_laws.proofs.Rising.{Rising, increasing}
-use Rattle.gate_book.specs.Reads.{first_items_above, items_between}
+use Rattle.gate_book_trait.specs.Reads.{first_items_above, items_between}
 use Rattle.gate_reads.specs.Parts.{last_serial}
 
 -- all are above this serial, and rise

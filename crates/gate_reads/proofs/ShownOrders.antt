@@ -14,7 +14,7 @@ use Rattle.gate_types.specs.Line.{Place}
 use Rattle.gate_types.specs.Standing.{is_failing, are_finished, with_ahead, next_ahead, places_after, place_of}
 use Rattle.gate_types.specs.SubmitOrder.{Order, order_of, orders, shown_order, is_submitting}
 use Rattle.gate_types.specs.Lawful.{IsSound}
-use Rattle.gate_book.proofs.MemoryLemmas.{find_map}
+use Rattle.gate_book_trait.proofs.Finding.{find_map}
 use Rattle.gate_reads.specs.Places.{is_shown}
 use Rattle.gate_reads.proofs.Found.{any_found, some_mapped, found_passing}
 use Rattle.gate_reads.proofs.Stood.{Stood, stood_in, stood, serial_of, change_of, serial_once, change_once}

@@ -17,9 +17,9 @@ use Rattle.gate_laws.specs.Touch.{queue_of_change}
 use Rattle.gate_laws.proofs.Members.{In, map_map, flat_same, from_flat, from_map, to_flat, in_contains}
 use Rattle.gate_laws.proofs.Counts.{times}
 use Rattle.gate_laws.proofs.Alone.{map-flat, serials_once, changes_once}
-use Rattle.gate_book.specs.declared.rows.QueuedItem.{QueuedItem}
-use Rattle.gate_book.specs.Reads.{queued_items, queued_of, item_at}
-use Rattle.gate_book.proofs.MemoryLemmas.{find_map}
+use Rattle.gate_book_trait.specs.declared.rows.QueuedItem.{QueuedItem}
+use Rattle.gate_book_trait.specs.Reads.{queued_items, queued_of, item_at}
+use Rattle.gate_book_trait.proofs.Finding.{find_map}
 use Rattle.gate_reads.specs.Places.{IsAt}
 use Rattle.gate_reads.proofs.Found.{any_found, some_mapped}
 

@@ -11,9 +11,9 @@ use Rattle.gate_types.specs.Tables.{approval_of}
 use Rattle.gate_types.specs.Rows.{row_of}
 use Rattle.gate_types.specs.Lawful.{IsSound}
 use Rattle.gate_laws.proofs.Members.{found}
-use Rattle.gate_book.specs.declared.fault.BookFault.{BookFault}
-use Rattle.gate_book.specs.declared.rows.QueuedItem.{QueuedItem}
-use Rattle.gate_book.specs.Reads.{queued_of, Answers}
+use Rattle.gate_book_trait.specs.declared.fault.BookFault.{BookFault}
+use Rattle.gate_book_trait.specs.declared.rows.QueuedItem.{QueuedItem}
+use Rattle.gate_book_trait.specs.Reads.{queued_of, Answers}
 use Rattle.gate_reads.specs.Orders.{TellsShown}
 use Rattle.gate_reads.specs.Stands.{IsQueuedAs}
 use Rattle.gate_reads.proofs.Found.{any_found, found_itself, some_before, none_before}

@@ -17,7 +17,7 @@ use Rattle.gate_types.specs.Forms.{IsLawfulContent, is_drawn_number, is_revision
 use Rattle.gate_laws.proofs.Members.{In, all_from, every, found}
 use Rattle.gate_laws.proofs.Parts.{ItemsRise}
 use Rattle.gate_laws.proofs.Rising.{Rising, rising}
-use Rattle.gate_book.specs.Reads.{queue_named, items_in, first_above}
+use Rattle.gate_book_trait.specs.Reads.{queue_named, items_in, first_above}
 use Rattle.gate_reads.proofs.RisingRows.{RiseAbove, rows_above, all_above}
 
 -- the places of what is left of a queue, with these items ahead

@@ -5,8 +5,8 @@ use Rattle.gate_types.specs.Settings.{Settings}
 use Rattle.gate_types.specs.State.{State}
 use Rattle.gate_types.specs.SubmitOrder.{Order, order_of}
 use Rattle.gate_types.specs.Rows.{item_of}
-use Rattle.gate_book.specs.declared.rows.QueuedItem.{QueuedItem}
-use Rattle.gate_book.specs.Reads.{queue_named, items_in}
+use Rattle.gate_book_trait.specs.declared.rows.QueuedItem.{QueuedItem}
+use Rattle.gate_book_trait.specs.Reads.{queue_named, items_in}
 
 -- the order that the queue of a name shows; none where there is no such queue
 abbrev pub order_in : Settings → State → List ℕ → Option Order

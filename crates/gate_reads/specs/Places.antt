@@ -11,7 +11,7 @@ use Rattle.gate_types.specs.State.{Queue, State}
 use Rattle.gate_types.specs.Line.{Place, item_entry}
 use Rattle.gate_types.specs.Standing.{is_failing, are_finished, places, all_places}
 use Rattle.gate_types.specs.Rows.{row_of}
-use Rattle.gate_book.specs.Reads.{queue_named}
+use Rattle.gate_book_trait.specs.Reads.{queue_named}
 
 -- the row of a place
 pub record IsAt (c : Settings) (s : State) (row : ItemRow) (p : Place) : Type 0 where

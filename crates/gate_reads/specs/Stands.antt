@@ -3,8 +3,8 @@ use Rattle.std.specs.Prelude.{ℕ, ◌≡◌, true, false, Some, Contains}
 use Rattle.gate_types.specs.Settings.{Settings}
 use Rattle.gate_types.specs.State.{State, is_queued, is_ready}
 use Rattle.gate_laws.specs.Touch.{queue_of_change}
-use Rattle.gate_book.specs.declared.rows.QueuedItem.{QueuedItem}
-use Rattle.gate_book.specs.Reads.{items_in}
+use Rattle.gate_book_trait.specs.declared.rows.QueuedItem.{QueuedItem}
+use Rattle.gate_book_trait.specs.Reads.{items_in}
 use Rattle.gate_reads.specs.declared.stands.Stand.{Stand}
 use Rattle.gate_reads.specs.declared.stands.Stand.TheVariants as stand
 

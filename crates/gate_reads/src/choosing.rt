@@ -2,13 +2,13 @@
 ghost use Rattle.std.specs.Prelude.{◌≡◌, ◌==◌, ◌||◌, ◌++◌, ◌∷◌, [], nat_lt, IfOk, IfErr, OnOk, Some, if◌then◌else◌, option_map, slice_get, length};
 ghost use Rattle.gate_types.specs.State.{Queue};
 ghost use Rattle.gate_types.specs.Choice.{choices, choose};
-ghost use Rattle.gate_book.specs.Faults.{MayAnswer};
-ghost use Rattle.gate_book.specs.Kept.{OfHeldUnder, IsKept};
-ghost use Rattle.gate_book.specs.Reads.{queue_named};
+ghost use Rattle.gate_book_trait.specs.Faults.{MayAnswer};
+ghost use Rattle.gate_book_trait.specs.Kept.{OfHeldUnder, IsKept};
+ghost use Rattle.gate_book_trait.specs.Reads.{queue_named};
 ghost use Rattle.gate_reads.specs.NextBuild.{with_number};
 
 use crate::part::{Part, build_of_part, read_part, size_of_part};
-use gate_book::{Book, BookFault};
+use gate_book_trait::{Book, BookFault};
 use gate_types::config::Config;
 use gate_types::names::{Name, NoMemory};
 use gate_types::numbers::BuildNo;

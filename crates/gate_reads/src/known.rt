@@ -1,10 +1,10 @@
 //! What is known of a change: its needs, each with whether it has landed.
 ghost use Rattle.std.specs.Prelude.{◌≡◌, IfOk, IfErr, map};
 ghost use Rattle.gate_types.specs.State.{known_or_closed, need_of};
-ghost use Rattle.gate_book.specs.Faults.{MayAnswer};
-ghost use Rattle.gate_book.specs.Kept.{OfHeld, IsKept};
+ghost use Rattle.gate_book_trait.specs.Faults.{MayAnswer};
+ghost use Rattle.gate_book_trait.specs.Kept.{OfHeld, IsKept};
 
-use gate_book::{Book, BookFault};
+use gate_book_trait::{Book, BookFault};
 use gate_types::lists::with_one;
 use gate_types::numbers::ChangeNo;
 use gate_types::records::{Change, Need};

@@ -14,11 +14,15 @@ mod jobs;
 mod known;
 mod orders;
 mod part;
+mod raw;
 mod shown;
 mod stands;
+mod touched;
 
 pub use choosing::{next_build, push_unless_failing};
 pub use due::are_met_among;
 pub use known::needs_of;
 pub use orders::{is_submitting, order_of_queue, shown_order};
+pub use raw::{Moved, Raw, Said};
 pub use stands::{Stand, stand_of};
+pub use touched::{Event, TouchedItem};

@@ -1,12 +1,12 @@
 //! The orders that are shown.
 ghost use Rattle.std.specs.Prelude.{◌≡◌, IfOk, IfErr};
 ghost use Rattle.gate_types.specs.SubmitOrder.{shown_order, is_submitting};
-ghost use Rattle.gate_book.specs.Faults.{MayAnswer};
-ghost use Rattle.gate_book.specs.Kept.{OfHeldUnder, IsKept};
+ghost use Rattle.gate_book_trait.specs.Faults.{MayAnswer};
+ghost use Rattle.gate_book_trait.specs.Kept.{OfHeldUnder, IsKept};
 ghost use Rattle.gate_reads.specs.Orders.{order_in, TellsOrder, TellsShown};
 
 use crate::shown::{have_jobs_ended, is_shown};
-use gate_book::{Book, BookFault, QueuedItem};
+use gate_book_trait::{Book, BookFault, QueuedItem};
 use gate_types::config::Config;
 use gate_types::names::Name;
 use gate_types::numbers::{ChangeNo, Serial};

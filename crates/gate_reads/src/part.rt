@@ -4,14 +4,14 @@ ghost use Rattle.std.specs.List.{prefix_len, take_while, flat_map};
 ghost use Rattle.gate_types.specs.State.{Queue, plan_in};
 ghost use Rattle.gate_types.specs.Line.{Place};
 ghost use Rattle.gate_types.specs.Choice.{builds_for};
-ghost use Rattle.gate_book.specs.Faults.{MayAnswer};
-ghost use Rattle.gate_book.specs.Kept.{OfHeld, OfHeldUnder, IsKept};
+ghost use Rattle.gate_book_trait.specs.Faults.{MayAnswer};
+ghost use Rattle.gate_book_trait.specs.Kept.{OfHeld, OfHeldUnder, IsKept};
 ghost use Rattle.gate_reads.specs.NextBuild.{with_number};
 ghost use Rattle.gate_reads.specs.Parts.{last_serial, ahead_behind, AreBehind, AreTold, TellsPart};
 
 use crate::choosing::push_unless_failing;
 use crate::due::{ToldItem, build_of_item};
-use gate_book::{Book, BookFault};
+use gate_book_trait::{Book, BookFault};
 use gate_types::config::Config;
 use gate_types::names::Name;
 use gate_types::numbers::{BuildNo, Serial};

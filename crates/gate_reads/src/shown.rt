@@ -2,12 +2,12 @@
 ghost use Rattle.std.specs.Prelude.{◌≡◌, false, IfOk, IfErr};
 ghost use Rattle.gate_types.specs.Line.{Place};
 ghost use Rattle.gate_types.specs.Standing.{are_finished};
-ghost use Rattle.gate_book.specs.Faults.{MayAnswer};
-ghost use Rattle.gate_book.specs.Kept.{OfHeldUnder, IsKept};
+ghost use Rattle.gate_book_trait.specs.Faults.{MayAnswer};
+ghost use Rattle.gate_book_trait.specs.Kept.{OfHeldUnder, IsKept};
 ghost use Rattle.gate_reads.specs.Places.{IsAt, is_shown};
 
 use crate::jobs;
-use gate_book::{Book, BookFault, plan_of};
+use gate_book_trait::{Book, BookFault, plan_of};
 use gate_types::config::Config;
 use gate_types::records::Item;
 use std::alloc::Global;

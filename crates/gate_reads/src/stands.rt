@@ -1,10 +1,10 @@
 //! Where a change stands.
 ghost use Rattle.std.specs.Prelude.{IfOk, IfErr};
-ghost use Rattle.gate_book.specs.Faults.{MayAnswer};
-ghost use Rattle.gate_book.specs.Kept.{OfHeldUnder, IsKept};
+ghost use Rattle.gate_book_trait.specs.Faults.{MayAnswer};
+ghost use Rattle.gate_book_trait.specs.Kept.{OfHeldUnder, IsKept};
 ghost use Rattle.gate_reads.specs.Stands.{StandsSo};
 
-use gate_book::{Book, BookFault, QueuedItem};
+use gate_book_trait::{Book, BookFault, QueuedItem};
 use gate_types::config::Config;
 use gate_types::numbers::ChangeNo;
 use std::alloc::Global;

@@ -18,8 +18,8 @@ use Rattle.gate_types.specs.Step.{build_of, end_build, outcome_of_ending, raw_re
 use Rattle.gate_types.specs.Rows.{item_of, row_of, item_rows}
 use Rattle.gate_types.specs.Once.{Content}
 use Rattle.gate_types.specs.Lawful.{IsSound, is_sound_build}
-use Rattle.gate_book.specs.Reads.{queue_named, queued_items, item_at, items_in}
-use Rattle.gate_book.specs.declared.rows.QueuedItem.{QueuedItem}
+use Rattle.gate_book_trait.specs.Reads.{queue_named, queued_items, item_at, items_in}
+use Rattle.gate_book_trait.specs.declared.rows.QueuedItem.{QueuedItem}
 use Rattle.gate_laws.specs.Touch.{has_serial, queue_of_serial}
 use Rattle.gate_laws.proofs.Members.{In, every, found, not_found, from_map, from_flat, in_contains, any_from, any_to}
 use Rattle.gate_laws.proofs.Facts.{build_facts}
@@ -28,9 +28,9 @@ use Rattle.gate_laws.proofs.Alone.{serial_alone, name_alone, same_name_is}
 use Rattle.gate_types.specs.Names.{same_name}
 use Rattle.gate_laws.proofs.Touches.{name_itself}
 use Rattle.gate_laws.proofs.Places.{item_of_place}
-use Rattle.gate_unsettled.specs.Moves.{Moves}
-use Rattle.gate_unsettled.specs.Touches.{Touches}
-use Rattle.gate_unsettled.specs.declared.touched.Event.TheVariants as event
+use Rattle.gate_reads.specs.Moves.{Moves}
+use Rattle.gate_reads.specs.Touches.{Touches}
+use Rattle.gate_reads.specs.declared.touched.Event.TheVariants as event
 use Rattle.gate_ruling.proofs.Folded.{by_parts}
 
 -- the row of a serial is one of a queue of the state

@@ -8,7 +8,7 @@ use Rattle.gate_types.specs.State.{Queue, State}
 use Rattle.gate_types.specs.Once.{Content}
 use Rattle.gate_types.specs.Tables.{Tables, QueueRows, change_row, queue_rows, edited_changes, edited_queue, edited_plans, edited_build_rows, edited_counters, edited_kept, edited_tables, fold_all}
 use Rattle.gate_laws.proofs.Members.{map_map}
-use Rattle.gate_unsettled.specs.Moves.{Columns, row_by, tables_by, in_state, Moves}
+use Rattle.gate_reads.specs.Moves.{Columns, row_by, tables_by, in_state, Moves}
 
 -- edits that move to t, then edits that move on from there
 pub moves_on : (x : Content) (t u : State) (first more : List Edit) → Moves x first t → Moves (in_state x t) more u →

@@ -21,13 +21,13 @@ use Rattle.gate_types.specs.Once.{Content}
 use Rattle.gate_types.specs.Tables.{change_row, edited_changes, edited_counters, edited_kept, edited_plans, edited_queue}
 use Rattle.gate_types.specs.Lawful.{IsSound}
 use Rattle.gate_types.specs.Forms.{IsLawfulContent}
-use Rattle.gate_book.specs.Reads.{items_in, reports_in, live_builds}
-use Rattle.gate_book.specs.declared.rows.QueuedItem.{QueuedItem}
+use Rattle.gate_book_trait.specs.Reads.{items_in, reports_in, live_builds}
+use Rattle.gate_book_trait.specs.declared.rows.QueuedItem.{QueuedItem}
 use Rattle.gate_laws.proofs.Members.{In, every, map_same, map_map, filter_same, filter_none}
 use Rattle.gate_laws.proofs.Rising.{Rising, rising}
 use Rattle.gate_laws.proofs.Alone.{serial_alone, change_alone, name_alone, same_name_is, same_name_of}
 use Rattle.gate_walk.proofs.Leaving.{one_leaves}
-use Rattle.gate_unsettled.specs.Moves.{Columns, row_by, in_state, Moves}
+use Rattle.gate_reads.specs.Moves.{Columns, row_by, in_state, Moves}
 use Rattle.gate_ruling.specs.Leaving.{stop_of, out_of_queue}
 use Rattle.gate_ruling.proofs.Folded.{shown, shown_after, by_parts, leave_it, moves_on}
 use Rattle.gate_ruling.proofs.Few.{few_reports}

@@ -17,8 +17,8 @@ use Rattle.gate_types.specs.Standing.{places, with_ahead, place_of}
 use Rattle.gate_types.specs.Step.{build_of}
 use Rattle.gate_types.specs.Rows.{item_of, row_of, item_rows}
 use Rattle.gate_types.specs.Lawful.{IsSound, is_sound_item, is_sound_build}
-use Rattle.gate_book.specs.declared.rows.QueuedItem.{QueuedItem}
-use Rattle.gate_book.specs.Reads.{queued_items, item_at, window_of, landing_count}
+use Rattle.gate_book_trait.specs.declared.rows.QueuedItem.{QueuedItem}
+use Rattle.gate_book_trait.specs.Reads.{queued_items, item_at, window_of, landing_count}
 use Rattle.gate_laws.proofs.Members.{every, found, not_found, to_flat, to_map}
 use Rattle.gate_laws.proofs.Facts.{build_facts}
 use Rattle.gate_laws.proofs.Places.{place_of_item}

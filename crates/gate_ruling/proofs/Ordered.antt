@@ -25,13 +25,13 @@ use Rattle.gate_types.specs.Step.{left_queue, leave, landed_queue, landed_plan, 
 use Rattle.gate_types.specs.Once.{Content}
 use Rattle.gate_types.specs.Tables.{numbered_landings}
 use Rattle.gate_types.specs.Lawful.{IsSound}
-use Rattle.gate_book.specs.declared.rows.QueuedItem.{QueuedItem}
+use Rattle.gate_book_trait.specs.declared.rows.QueuedItem.{QueuedItem}
 use Rattle.gate_laws.proofs.Members.{In, map_same, map_map, from_map, found, filter_all}
 use Rattle.gate_laws.proofs.Alone.{name_alone, same_name_is, same_name_of, queued_unready}
 use Rattle.gate_laws.proofs.OrderFacts.{shows}
-use Rattle.gate_unsettled.specs.Moves.{Columns, in_state, Moves}
-use Rattle.gate_unsettled.specs.Touches.{Touches}
-use Rattle.gate_unsettled.specs.declared.touched.Event.TheVariants as event
+use Rattle.gate_reads.specs.Moves.{Columns, in_state, Moves}
+use Rattle.gate_reads.specs.Touches.{Touches}
+use Rattle.gate_reads.specs.declared.touched.Event.TheVariants as event
 use Rattle.gate_queue.specs.Edits.{window_edits}
 use Rattle.gate_ruling.specs.Guards.{HasOrder}
 use Rattle.gate_ruling.specs.Landing.{landing_of, landing_edits}

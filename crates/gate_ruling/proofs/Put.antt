@@ -16,7 +16,7 @@ use Rattle.gate_types.specs.Once.{Content}
 use Rattle.gate_types.specs.Tables.{approval_of, change_row}
 use Rattle.gate_laws.proofs.Members.{In, map_same, found}
 use Rattle.gate_laws.proofs.Rising.{Rising, rising}
-use Rattle.gate_unsettled.specs.Moves.{in_state, Moves}
+use Rattle.gate_reads.specs.Moves.{in_state, Moves}
 use Rattle.gate_ruling.proofs.Folded.{by_parts}
 
 abbrev number_of : Change → ℕ

@@ -17,7 +17,7 @@ use Rattle.gate_types.specs.Once.{Content}
 use Rattle.gate_types.specs.Lawful.{IsSound}
 use Rattle.gate_laws.proofs.Members.{In, every}
 use Rattle.gate_laws.proofs.Chosen.{chosen}
-use Rattle.gate_unsettled.specs.Moves.{Moves}
+use Rattle.gate_reads.specs.Moves.{Moves}
 use Rattle.gate_reads.specs.NextBuild.{with_number}
 use Rattle.gate_ruling.proofs.Folded.{by_parts}
 

@@ -8,9 +8,9 @@ use Rattle.gate_types.specs.State.{State, known_change}
 use Rattle.gate_types.specs.SubmitOrder.{Order, shown_order}
 use Rattle.gate_types.specs.Step.{Stepped, accepted, on_known, on_order, raw_step}
 use Rattle.gate_types.specs.Once.{Content}
-use Rattle.gate_book.specs.declared.rows.QueuedItem.{QueuedItem}
-use Rattle.gate_unsettled.specs.Raw.{IsRaw}
-use Rattle.gate_unsettled.specs.declared.raw.Raw.{Raw}
+use Rattle.gate_book_trait.specs.declared.rows.QueuedItem.{QueuedItem}
+use Rattle.gate_reads.specs.Raw.{IsRaw}
+use Rattle.gate_reads.specs.declared.raw.Raw.{Raw}
 use Rattle.gate_reads.specs.Orders.{IsRowOf}
 
 -- stale where a later revision of the change is known, else as the other lines say

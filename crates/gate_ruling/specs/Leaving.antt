@@ -6,9 +6,9 @@ use Rattle.gate_types.specs.declared.edits.Edit.{Edit}
 use Rattle.gate_types.specs.declared.edits.Edit.TheVariants as edit
 use Rattle.gate_types.specs.Rows.{item_of}
 use Rattle.gate_types.specs.Sweep.{report_of}
-use Rattle.gate_book.specs.declared.rows.QueuedItem.{QueuedItem}
-use Rattle.gate_unsettled.specs.declared.touched.Event.TheVariants as event
-use Rattle.gate_unsettled.specs.declared.touched.TouchedItem.{TouchedItem}
+use Rattle.gate_book_trait.specs.declared.rows.QueuedItem.{QueuedItem}
+use Rattle.gate_reads.specs.declared.touched.Event.TheVariants as event
+use Rattle.gate_reads.specs.declared.touched.TouchedItem.{TouchedItem}
 use Rattle.gate_reads.specs.declared.stands.Stand.{Stand}
 use Rattle.gate_reads.specs.declared.stands.Stand.TheVariants as stand
 

@@ -4,7 +4,7 @@ ghost use Rattle.std.specs.List.Sorted.{IsStrictlyIncreasing};
 ghost use Rattle.gate_types.specs.State.{State, put_change, is_open};
 ghost use Rattle.gate_types.specs.Admit.{without_ready};
 ghost use Rattle.gate_types.specs.Once.{Content};
-ghost use Rattle.gate_unsettled.specs.Moves.{Moves};
+ghost use Rattle.gate_reads.specs.Moves.{Moves};
 
 use gate_types::edits::Edit;
 use gate_types::names::NoMemory;

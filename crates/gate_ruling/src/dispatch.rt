@@ -1,8 +1,8 @@
 //! What a delivery comes to, before settling.
 ghost use Rattle.std.specs.Prelude.{IfOk, IfErr};
-ghost use Rattle.gate_book.specs.Faults.{MayAnswer};
-ghost use Rattle.gate_book.specs.Kept.{OfHeldUnder, IsKept};
-ghost use Rattle.gate_unsettled.specs.Raw.{IsRaw};
+ghost use Rattle.gate_book_trait.specs.Faults.{MayAnswer};
+ghost use Rattle.gate_book_trait.specs.Kept.{OfHeldUnder, IsKept};
+ghost use Rattle.gate_reads.specs.Raw.{IsRaw};
 ghost use Rattle.gate_ruling.specs.Faults.{MayRule};
 
 use crate::kinds::approved::approved;
@@ -13,10 +13,10 @@ use crate::kinds::result::result;
 use crate::kinds::revision::revision;
 use crate::kinds::take::take;
 use crate::kinds::withdrawn::withdrawn;
-use gate_book::{Book, BookFault};
+use gate_book_trait::{Book, BookFault};
+use gate_reads::Raw;
 use gate_types::config::Config;
 use gate_types::deliveries::Delivery;
-use gate_unsettled::Raw;
 use std::alloc::Global;
 
 /// What a delivery under a new id comes to, before settling. This only reads.

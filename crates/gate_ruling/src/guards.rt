@@ -1,16 +1,15 @@
 //! The lines that several kinds of deliveries begin with: what a delivery has to name before anything else is asked.
 ghost use Rattle.std.specs.Prelude.{IfOk, IfErr};
-ghost use Rattle.gate_book.specs.Faults.{MayAnswer};
-ghost use Rattle.gate_book.specs.Kept.{OfHeld, OfHeldUnder, IsKept};
+ghost use Rattle.gate_book_trait.specs.Faults.{MayAnswer};
+ghost use Rattle.gate_book_trait.specs.Kept.{OfHeld, OfHeldUnder, IsKept};
 ghost use Rattle.gate_ruling.specs.Guards.{IsLatest, IsOrdered};
 
-use gate_book::{Book, BookFault, QueuedItem};
-use gate_reads::shown_order;
+use gate_book_trait::{Book, BookFault, QueuedItem};
+use gate_reads::{Raw, shown_order};
 use gate_types::config::Config;
 use gate_types::deliveries::{Refusal, Reply};
 use gate_types::numbers::{ChangeNo, Revision, Serial};
 use gate_types::records::Change;
-use gate_unsettled::Raw;
 use std::alloc::Global;
 
 /// The change of this number, if this is its latest revision; else what a delivery that names it comes to.

@@ -2,20 +2,19 @@
 ghost use Rattle.std.specs.Prelude.{◌≡◌, ℕ, ◌++◌, ◌∷◌, [], map, filter, IfOk, IfErr, Contains};
 ghost use Rattle.gate_types.specs.Slot.{is_running};
 ghost use Rattle.gate_types.specs.Step.{leave};
-ghost use Rattle.gate_book.specs.Faults.{MayAnswer};
-ghost use Rattle.gate_book.specs.Kept.{OfHeldUnder, IsKept};
-ghost use Rattle.gate_book.specs.Reads.{items_in};
-ghost use Rattle.gate_unsettled.specs.Moves.{Moves};
+ghost use Rattle.gate_book_trait.specs.Faults.{MayAnswer};
+ghost use Rattle.gate_book_trait.specs.Kept.{OfHeldUnder, IsKept};
+ghost use Rattle.gate_book_trait.specs.Reads.{items_in};
+ghost use Rattle.gate_reads.specs.Moves.{Moves};
 ghost use Rattle.gate_reads.specs.Stands.{StandsSo};
 ghost use Rattle.gate_ruling.specs.Leaving.{stop_of, out_of_queue, touched_of};
 
-use gate_book::{Book, BookFault, QueuedItem};
-use gate_reads::Stand;
+use gate_book_trait::{Book, BookFault, QueuedItem};
+use gate_reads::{Event, Stand, TouchedItem};
 use gate_types::config::Config;
 use gate_types::edits::Edit;
 use gate_types::names::NoMemory;
 use gate_types::records::{Build, Outcome, Report, Verdict};
-use gate_unsettled::{Event, TouchedItem};
 use std::alloc::Global;
 
 /// Edits, and the item that they touch, if they touch one.

@@ -24,10 +24,10 @@ use Rattle.gate_walk.specs.Rescan.{TakenOut, start, fails_at}
 use Rattle.gate_walk.specs.TakenOut.{out_of}
 use Rattle.gate_walk.specs.Delivery.{touch_of, out_by}
 use Rattle.gate_walk.specs.UnderWay.{IsFor, queue_after}
-use Rattle.gate_book.specs.Reads.{window_of, reports_in}
-use Rattle.gate_unsettled.specs.Touches.{event_of}
-use Rattle.gate_unsettled.specs.declared.touched.Event.{Event}
-use Rattle.gate_unsettled.specs.declared.touched.TouchedItem.{TouchedItem}
+use Rattle.gate_book_trait.specs.Reads.{window_of, reports_in}
+use Rattle.gate_reads.specs.Touches.{event_of}
+use Rattle.gate_reads.specs.declared.touched.Event.{Event}
+use Rattle.gate_reads.specs.declared.touched.TouchedItem.{TouchedItem}
 use Rattle.gate_laws.proofs.Members.{In, from_map, to_map, from_append, found, not_found}
 use Rattle.gate_laws.proofs.Counts.{times, in_times, distinct_from, one_part}
 use Rattle.gate_laws.proofs.Alone.{same_name_of, same_name_is}

@@ -25,11 +25,11 @@ use Rattle.gate_laws.specs.Touch.{has_serial}
 use Rattle.gate_walk.specs.Rescan.{HasLeft, HasLanded, live_under, place_behind, without_row}
 use Rattle.gate_walk.specs.Kinds.{IsIn}
 use Rattle.gate_walk.specs.Delivery.{Touch, build_ended, item_left, item_landed, moved, touch_of, standing_rows}
-use Rattle.gate_unsettled.specs.Moves.{Columns, columns_of, row_by}
-use Rattle.gate_unsettled.specs.Touches.{event_of}
-use Rattle.gate_unsettled.specs.declared.touched.TouchedItem.{TouchedItem}
-use Rattle.gate_unsettled.specs.declared.touched.Event.{Event}
-use Rattle.gate_unsettled.specs.declared.touched.Event.TheVariants as event
+use Rattle.gate_reads.specs.Moves.{Columns, columns_of, row_by}
+use Rattle.gate_reads.specs.Touches.{event_of}
+use Rattle.gate_reads.specs.declared.touched.TouchedItem.{TouchedItem}
+use Rattle.gate_reads.specs.declared.touched.Event.{Event}
+use Rattle.gate_reads.specs.declared.touched.Event.TheVariants as event
 use Rattle.gate_laws.proofs.Members.{In, every, map_map, from_append, to_left, to_right, none_to}
 use Rattle.gate_laws.proofs.Parts.{ItemsRise}
 use Rattle.gate_queue.proofs.Ordered.{RiseFrom, AllBelow, rises}

@@ -8,7 +8,7 @@ use Rattle.std.proofs.lemmas.List.Folds.{list_any-append}
 use Rattle.gate_types.specs.declared.records.Item.{Item as ItemRow}
 use Rattle.gate_types.specs.State.{State, change_of}
 use Rattle.gate_walk.specs.Walk.{Seen, Walk, behind_visit, verdict_by}
-use Rattle.gate_book.specs.Reads.{first_above, items_needing}
+use Rattle.gate_book_trait.specs.Reads.{first_above, items_needing}
 use Rattle.gate_laws.proofs.Members.{In, from_filter, filter_same, found}
 use Rattle.gate_queue.proofs.Ordered.{RiseFrom, row_serial}
 use Rattle.gate_settling.specs.Rows.{is_needing, first_needing_any, needing_any, merged, joined_behind, AreKept}

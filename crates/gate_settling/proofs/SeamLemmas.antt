@@ -21,7 +21,7 @@ use Rattle.gate_types.specs.Tables.{QueueRows, Tables, tables, queue_rows, edite
 use Rattle.gate_laws.specs.Touch.{has_serial, rebase_one, settle_one}
 use Rattle.gate_queue.specs.Whole.{swept_of, rows_in}
 use Rattle.gate_walk.specs.Rescan.{rows_with}
-use Rattle.gate_unsettled.specs.Moves.{Columns, row_by, tables_by, columns_of, swept, in_state, Moves}
+use Rattle.gate_reads.specs.Moves.{Columns, row_by, tables_by, columns_of, swept, in_state, Moves}
 use Rattle.gate_laws.proofs.Members.{In, map_map}
 use Rattle.gate_laws.proofs.Alone.{same_name_is}
 use Rattle.gate_settling.proofs.ListLemmas.{first_or, rest_of}

@@ -15,10 +15,10 @@ use Rattle.gate_types.specs.Once.{Content}
 use Rattle.gate_walk.specs.Rescan.{standing_in, need_seen}
 use Rattle.gate_walk.specs.Delivery.{moved}
 use Rattle.gate_walk.specs.UnderWay.{stale_rows}
-use Rattle.gate_book.specs.Reads.{queued_items, queued_of}
-use Rattle.gate_book.specs.declared.rows.QueuedItem.{QueuedItem}
-use Rattle.gate_unsettled.specs.Moves.{columns_of, row_by}
-use Rattle.gate_unsettled.specs.declared.touched.TouchedItem.{TouchedItem}
+use Rattle.gate_book_trait.specs.Reads.{queued_items, queued_of}
+use Rattle.gate_book_trait.specs.declared.rows.QueuedItem.{QueuedItem}
+use Rattle.gate_reads.specs.Moves.{columns_of, row_by}
+use Rattle.gate_reads.specs.declared.touched.TouchedItem.{TouchedItem}
 use Rattle.gate_laws.proofs.Members.{In, from_map, to_map, map_map, map_same, from_flat, to_flat, found, not_found}
 use Rattle.gate_laws.proofs.Alone.{change_alone, name_alone, same_name_of, same_name_is}
 use Rattle.gate_settling.specs.Touching.{Touching, delivered, sees}

@@ -27,8 +27,8 @@ use Rattle.gate_queue.specs.Edits.{window_behind}
 use Rattle.gate_walk.specs.Walk.{Seen, Carry, Walk, is_same_row, row_by as row_of_visit, row_edits, verdict_by, stopped_by, window_edits_by, visit_edits}
 use Rattle.gate_walk.specs.Rescan.{rows_with}
 use Rattle.gate_walk.specs.UnderWay.{Delivered, queue_after, stale_rows, rows_seen, walk_by, next_by, AreWanted}
-use Rattle.gate_unsettled.specs.Moves.{Columns, columns_of, row_by, swept}
-use Rattle.gate_unsettled.specs.declared.touched.TouchedItem.{TouchedItem}
+use Rattle.gate_reads.specs.Moves.{Columns, columns_of, row_by, swept}
+use Rattle.gate_reads.specs.declared.touched.TouchedItem.{TouchedItem}
 use Rattle.gate_laws.proofs.Members.{In, every, from_map, to_map, from_flat, any_from, any_to, all_to, contains_in}
 use Rattle.gate_laws.proofs.Counts.{distinct_from}
 use Rattle.gate_laws.proofs.Stays.{Tells}

@@ -16,12 +16,12 @@ use Rattle.gate_walk.specs.Walk.{SeenNeed, Seen, Walk, is_gone, needs_gone}
 use Rattle.gate_walk.specs.Next.{Next, from, go, need, stop, wanted}
 use Rattle.gate_walk.specs.Views.{next_of_code}
 use Rattle.gate_walk.specs.UnderWay.{stale_rows, rows_seen, next_by, row_wanted, Starts, GoesOn}
-use Rattle.gate_book.specs.Reads.{queue_named, items_in, first_above}
-use Rattle.gate_unsettled.specs.declared.touched.TouchedItem.{TouchedItem}
+use Rattle.gate_book_trait.specs.Reads.{queue_named, items_in, first_above}
+use Rattle.gate_reads.specs.declared.touched.TouchedItem.{TouchedItem}
 use Rattle.gate_laws.proofs.Members.{In, every, from_map, found}
 use Rattle.gate_laws.proofs.Parts.{ItemsRise}
 use Rattle.gate_laws.proofs.Tests.{not_and_false}
-use Rattle.gate_book.proofs.MemoryLemmas.{find_map}
+use Rattle.gate_book_trait.proofs.Finding.{find_map}
 use Rattle.gate_queue.proofs.Ordered.{RiseFrom, row_serial, rises}
 use Rattle.gate_walk.proofs.Visits.{stored_rise}
 use Rattle.gate_walk.proofs.Swept.{items_rise}

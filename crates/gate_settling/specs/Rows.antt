@@ -15,11 +15,11 @@ use Rattle.gate_walk.specs.declared.walk.Next.{Next}
 use Rattle.gate_walk.specs.declared.walk.Next.TheVariants as next
 use Rattle.gate_walk.specs.Walk.{SeenNeed, Seen}
 use Rattle.gate_walk.specs.Rescan.{TakenOut}
-use Rattle.gate_book.specs.Reads.{items_in, queued_of, first_above, live_builds}
-use Rattle.gate_book.specs.declared.rows.QueuedItem.{QueuedItem}
-use Rattle.gate_unsettled.specs.declared.touched.Event.{Event}
-use Rattle.gate_unsettled.specs.declared.touched.Event.TheVariants as event
-use Rattle.gate_unsettled.specs.declared.touched.TouchedItem.{TouchedItem}
+use Rattle.gate_book_trait.specs.Reads.{items_in, queued_of, first_above, live_builds}
+use Rattle.gate_book_trait.specs.declared.rows.QueuedItem.{QueuedItem}
+use Rattle.gate_reads.specs.declared.touched.Event.{Event}
+use Rattle.gate_reads.specs.declared.touched.Event.TheVariants as event
+use Rattle.gate_reads.specs.declared.touched.TouchedItem.{TouchedItem}
 
 -- ---- what befell the touched item
 

@@ -14,8 +14,8 @@ use Rattle.gate_walk.specs.Walk.{Seen, Walk}
 use Rattle.gate_walk.specs.Rescan.{row_seen}
 use Rattle.gate_walk.specs.Delivery.{is_on, is_stale}
 use Rattle.gate_walk.specs.UnderWay.{Delivered, HasVisited, row_wanted, stale_rows, rows_walked, tables_settled}
-use Rattle.gate_unsettled.specs.declared.touched.TouchedItem.{TouchedItem}
-use Rattle.gate_unsettled.specs.Touches.{event_of}
+use Rattle.gate_reads.specs.declared.touched.TouchedItem.{TouchedItem}
+use Rattle.gate_reads.specs.Touches.{event_of}
 
 -- a delivery that is accepted and not stale, on this item of a lawful content
 pub record Touching (c : Settings) (x : Content) (k : TouchedItem) : Type 0 where

@@ -4,18 +4,18 @@ ghost use Rattle.gate_types.specs.Names.{same_name};
 ghost use Rattle.gate_types.specs.Window.{bounds_by};
 ghost use Rattle.gate_walk.specs.TakenOut.{out_of};
 ghost use Rattle.gate_walk.specs.UnderWay.{Starts};
-ghost use Rattle.gate_book.specs.Kept.{OfHeldUnder, IsKept};
+ghost use Rattle.gate_book_trait.specs.Kept.{OfHeldUnder, IsKept};
 ghost use Rattle.gate_settling.specs.Rows as rows;
 ghost use Rattle.gate_settling.specs.Touching.{Touching, delivered};
-ghost use Rattle.gate_book.specs.Faults.{MayAnswer};
+ghost use Rattle.gate_book_trait.specs.Faults.{MayAnswer};
 
 use crate::rows::{has_landed, is_out};
-use gate_book::{Book, BookFault};
+use gate_book_trait::{Book, BookFault};
 use gate_queue::{grow, shrink};
+use gate_reads::{Event, TouchedItem};
 use gate_types::config::{Config, Queue};
 use gate_types::names::{Name, same_name};
 use gate_types::records::Verdict;
-use gate_unsettled::{Event, TouchedItem};
 use gate_walk::{QueueFacts, TakenOut, Touched, Walk};
 use std::alloc::Global;
 

@@ -1,11 +1,11 @@
 //! Who needs what has gone: each change that has gone is asked about once, and the rows that are told are kept.
 ghost use Rattle.std.specs.Prelude.{◌≡◌, ◌<◌, ◌≤◌, ◌+◌, ◌∷◌, [], length, nat_lt, filter, option_copied, take, IfOk, OnOk, IfErr, IfSome, IfNone};
-ghost use Rattle.gate_book.specs.Kept.{OfHeld, IsKept};
-ghost use Rattle.gate_book.specs.Reads as read;
-ghost use Rattle.gate_book.specs.Faults.{MayAnswer};
+ghost use Rattle.gate_book_trait.specs.Kept.{OfHeld, IsKept};
+ghost use Rattle.gate_book_trait.specs.Reads as read;
+ghost use Rattle.gate_book_trait.specs.Faults.{MayAnswer};
 ghost use Rattle.gate_settling.specs.Rows as rows;
 
-use gate_book::{Book, BookFault};
+use gate_book_trait::{Book, BookFault};
 use gate_types::lists::with_one;
 use gate_types::names::{Name, NoMemory};
 use gate_types::numbers::ChangeNo;

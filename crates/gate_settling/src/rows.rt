@@ -2,18 +2,18 @@
 ghost use Rattle.std.specs.Prelude.{◌≡◌, ◌++◌, ◌∷◌, [], IfOk, map, IfErr};
 ghost use Rattle.gate_types.specs.State.{known_change, plan_of};
 ghost use Rattle.gate_types.specs.Step.{outcome_of_ending};
-ghost use Rattle.gate_book.specs.Kept.{OfHeld, IsKept};
-ghost use Rattle.gate_book.specs.Reads as read;
+ghost use Rattle.gate_book_trait.specs.Kept.{OfHeld, IsKept};
+ghost use Rattle.gate_book_trait.specs.Reads as read;
 ghost use Rattle.gate_settling.specs.Rows as rows;
-ghost use Rattle.gate_book.specs.Faults.{MayAnswer};
+ghost use Rattle.gate_book_trait.specs.Faults.{MayAnswer};
 
-use gate_book::{Book, BookFault, QueuedItem, plan_of};
+use gate_book_trait::{Book, BookFault, QueuedItem, plan_of};
+use gate_reads::{Event, TouchedItem};
 use gate_types::deliveries::Ending;
 use gate_types::lists::with_one;
 use gate_types::names::{NoMemory, same_name};
 use gate_types::numbers::{ChangeNo, Serial};
 use gate_types::records::{Build, Change, Outcome, Plan};
-use gate_unsettled::{Event, TouchedItem};
 use gate_walk::SeenNeed;
 use std::alloc::Global;
 

@@ -7,18 +7,18 @@ ghost use Rattle.gate_types.specs.declared.deliveries.Reply.{Reply};
 ghost use Rattle.gate_types.specs.declared.edits.Edit.{Edit as EditOf};
 ghost use Rattle.gate_types.specs.Tables.{Leads};
 ghost use Rattle.gate_walk.specs.Delivery.{is_stale};
-ghost use Rattle.gate_book.specs.Kept.{OfHeldUnder, IsKept};
-ghost use Rattle.gate_unsettled.specs.Moves.{Moves, in_state, swept};
-ghost use Rattle.gate_unsettled.specs.Touches.{Touches};
+ghost use Rattle.gate_book_trait.specs.Kept.{OfHeldUnder, IsKept};
+ghost use Rattle.gate_reads.specs.Moves.{Moves, in_state, swept};
+ghost use Rattle.gate_reads.specs.Touches.{Touches};
 ghost use Rattle.gate_settling.specs.Touching.{Touching, AreToldOf};
-ghost use Rattle.gate_book.specs.Faults.{MayAnswer};
+ghost use Rattle.gate_book_trait.specs.Faults.{MayAnswer};
 
 use crate::begun::begun;
 use crate::walking::walked;
-use gate_book::{Book, BookFault};
+use gate_book_trait::{Book, BookFault};
+use gate_reads::TouchedItem;
 use gate_types::config::Config;
 use gate_types::edits::Edit;
-use gate_unsettled::TouchedItem;
 use std::alloc::Global;
 
 /// The edits that settle the queue of the touched item, behind those that the delivery makes: all of them lead to the

@@ -2,18 +2,18 @@
 ghost use Rattle.std.specs.Prelude.{◌≡◌, ◌∷◌, Some, List, IfOk, OnOk, IfErr};
 ghost use Rattle.gate_walk.specs.Walk as walks;
 ghost use Rattle.gate_walk.specs.UnderWay.{HasVisited, GoesOn, Starts, row_wanted};
-ghost use Rattle.gate_book.specs.Kept.{OfHeldUnder, IsKept};
+ghost use Rattle.gate_book_trait.specs.Kept.{OfHeldUnder, IsKept};
 ghost use Rattle.gate_settling.specs.Rows as rows;
 ghost use Rattle.gate_settling.specs.Touching.{Touching, delivered, sees, IsWalked};
-ghost use Rattle.gate_book.specs.Faults.{MayAnswer};
+ghost use Rattle.gate_book_trait.specs.Faults.{MayAnswer};
 
 use crate::needing::Needing;
 use crate::rows::facts_now;
 use crate::wanted::{first_wanted, wanted};
-use gate_book::{Book, BookFault};
+use gate_book_trait::{Book, BookFault};
+use gate_reads::TouchedItem;
 use gate_types::config::Config;
 use gate_types::records::Item;
-use gate_unsettled::TouchedItem;
 use gate_walk::{Next, Seen, Walk};
 use std::alloc::Global;
 

@@ -1,18 +1,18 @@
 //! The row that a walk wants next.
 ghost use Rattle.std.specs.Prelude.{◌≡◌, ◌<◌, ◌≤◌, ◌-◌, ℕ, IfOk, IfSome, OnOk, IfErr};
 ghost use Rattle.gate_types.specs.State.{State};
-ghost use Rattle.gate_book.specs.Kept.{OfHeld, IsKept};
-ghost use Rattle.gate_book.specs.Reads as read;
+ghost use Rattle.gate_book_trait.specs.Kept.{OfHeld, IsKept};
+ghost use Rattle.gate_book_trait.specs.Reads as read;
 ghost use Rattle.gate_settling.specs.Rows as rows;
-ghost use Rattle.gate_book.specs.Faults.{MayAnswer};
+ghost use Rattle.gate_book_trait.specs.Faults.{MayAnswer};
 
 use crate::needing::Needing;
 use crate::rows::is_out;
-use gate_book::{Book, BookFault};
+use gate_book_trait::{Book, BookFault};
+use gate_reads::TouchedItem;
 use gate_types::names::Name;
 use gate_types::numbers::ChangeNo;
 use gate_types::records::Item;
-use gate_unsettled::TouchedItem;
 use gate_walk::Next;
 use std::alloc::Global;
 

@@ -14,7 +14,7 @@ use Rattle.gate_types.specs.Tables.{QueueRows, queue_rows as rows_of, tables}
 use Rattle.gate_types.specs.declared.config.Queue.{Queue}
 use Rattle.gate_rows.specs.Tells.{StandsFor, Tells, of_queue, placed}
 use Rattle.gate_schema.specs.Rows.{Stands}
-use Rattle.gate_sql.specs.Making.{first_stored, queue_row, first_queue_rows}
+use Rattle.gate_file_changes.specs.Making.{first_stored, queue_row, first_queue_rows}
 
 -- what stands of the queues before the first delivery
 abbrev first_told : Settings → List Queue → List QueueRows

@@ -11,16 +11,16 @@ use Rattle.gate_types.specs.Settings.{Settings}
 use Rattle.gate_types.specs.State.{Queue}
 use Rattle.gate_types.specs.Tap.{Took, TookFront}
 use Rattle.gate_types.specs.declared.tap.Tap.{Tap}
-use Rattle.gate_book.specs.Reads.{queue_named}
-use Rattle.gate_book.specs.Writes.{OfQueue, WritesHistory}
-use Rattle.gate_book.specs.declared.fault.HistoryFault.{HistoryFault}
-use Rattle.gate_book.specs.declared.fault.HistoryFault.TheVariants as fault
+use Rattle.gate_book_trait.specs.Reads.{queue_named}
+use Rattle.gate_book_trait.specs.Writes.{OfQueue, WritesHistory}
+use Rattle.gate_book_trait.specs.declared.fault.HistoryFault.{HistoryFault}
+use Rattle.gate_book_trait.specs.declared.fault.HistoryFault.TheVariants as fault
 use Rattle.gate_laws.proofs.Alone.{same_name_is}
 use Rattle.gate_rows.specs.Tells.{reports_of}
-use Rattle.gate_queries.specs.History.{OfReports, WritesReports, reports_text}
-use Rattle.gate_sql.specs.Applies.{is_among}
-use Rattle.gate_sql.specs.Held.{HoldsFor}
-use Rattle.gate_sql.proofs.told.QueueReads.{report_rows}
+use Rattle.gate_queue_queries.specs.History.{OfReports, WritesReports, reports_text}
+use Rattle.gate_file_changes.specs.Applies.{is_among}
+use Rattle.gate_content_reads.specs.Held.{HoldsFor}
+use Rattle.gate_content_reads.proofs.told.QueueReads.{report_rows}
 
 -- ---- the queue of a name
 

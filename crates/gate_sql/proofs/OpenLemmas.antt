@@ -11,11 +11,11 @@ use Rattle.gate_types.specs.Once.{Content}
 use Rattle.gate_types.specs.Settings.{Settings, are_sound}
 use Rattle.gate_types.specs.SettingsText.{settings_text}
 use Rattle.gate_types.specs.declared.open_fault.OpenFault.{OpenFault}
-use Rattle.gate_settings.specs.Told.{OneTextASetting, Tells}
+use Rattle.gate_kept_settings.specs.Told.{OneTextASetting, Tells}
 use Rattle.gate_laws.proofs.SameSettingsStay.{same_settings_stay}
-use Rattle.gate_sql.specs.Adopts.{CanAdopt, IsKept}
-use Rattle.gate_sql.specs.Opens.{MayOpen}
-use Rattle.gate_sql.specs.Reading.{HasNoneToAdopt, IsFoundOf, IsTold, IsToldOf, ShowsMeta}
+use Rattle.gate_file_changes.specs.Adopts.{CanAdopt, IsKept}
+use Rattle.gate_file_meta.specs.Opens.{MayOpen}
+use Rattle.gate_file_meta.specs.Reading.{HasNoneToAdopt, IsFoundOf, IsTold, IsToldOf, ShowsMeta}
 
 -- the settings that are kept tell their text
 told : (db : Trees) (c d : Settings) (x : Content) (keeps : IsKept db c x) → Tells keeps.stands.stored.settings c

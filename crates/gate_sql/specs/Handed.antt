@@ -1,5 +1,5 @@
 -- What a call that makes a book over a connection, or opens one, hands back.
-use Rattle.std.specs.Prelude.{Option, Some, None, Result, Ok, Err}
+use Rattle.std.specs.Prelude.{ℕ, List, Option, Some, None, Result, Ok, Err}
 use Rattle.sqlite.specs.Held.{Held, state}
 use Rattle.sqlite.specs.State.{State}
 use Rattle.sqlite_trees.specs.declared.store.Store.{Ghosts}
@@ -15,3 +15,7 @@ answered (Err e) = Some e.0
 abbrev pub handed : {S : Type 0} → Ghosts S → Result (SqlBook S) (OpenFault × Held S) → State
 handed g (Ok book) = state g book.conn
 handed g (Err e) = state g e.1
+
+-- the names of the queues that a book knows
+abbrev pub names_of : {S : Type 0} → SqlBook S → List (List ℕ)
+names_of book = book.queues.items

@@ -1,10 +1,1 @@
-pub mod Held
-pub mod Answers
-pub mod Opens
-pub mod Making
-pub mod Adopts
-pub mod Reading
-pub mod Applies
-pub mod Upgrade
-pub mod Migrates
 pub mod Handed

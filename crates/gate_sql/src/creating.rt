@@ -1,37 +1,28 @@
 //! A gate's file made: the tables of an empty gate, all or none.
 ghost use Rattle.std.specs.Prelude.{◌≡◌, false, IfErr, IfOk, OnErr, OnOk};
-ghost use Rattle.std.specs.List.{list_any};
 ghost use Rattle.sqlite.specs.Held.{state};
 ghost use Rattle.sqlite.specs.State.{HasCleanDisk, Survives};
 ghost use Rattle.sqlite.specs.Tree.{Trees};
-ghost use Rattle.sqlite_catalog.specs.Change.{is_used as has_name};
 ghost use Rattle.gate_types.specs.Once.{empty};
 ghost use Rattle.gate_rows.specs.Tells.{StandsFor};
 ghost use Rattle.gate_schema.specs.Rows.{Stands};
 ghost use Rattle.gate_schema.specs.Schema.{schema_with};
-ghost use Rattle.gate_queries.specs.Finds.{Stays};
-ghost use Rattle.gate_queries.specs.Reads.{IsShown};
+ghost use Rattle.gate_found_rows.specs.Finds.{Stays};
+ghost use Rattle.gate_found_rows.specs.Reads.{IsShown};
 ghost use Rattle.gate_sql.specs.Handed.{answered, handed};
-ghost use Rattle.gate_sql.specs.Held.{HoldsFor, names_of};
-ghost use Rattle.gate_sql.specs.Making.{IsSettled, first_stored, first_queue_rows};
-ghost use Rattle.gate_sql.specs.Opens.{IsMade, is_taken};
+ghost use Rattle.gate_content_reads.specs.Held.{HoldsFor};
+ghost use Rattle.gate_sql.specs.Handed.{names_of};
+ghost use Rattle.gate_file_changes.specs.Making.{IsSettled, first_stored, first_queue_rows};
+ghost use Rattle.gate_file_meta.specs.Opens.{IsMade, is_taken};
 
 use crate::book::{SqlBook, texts_of};
-use crate::filling::write_first;
-use crate::making::make_tables;
+use gate_file_changes::{make_tables, write_first};
+use gate_file_meta::is_any_used;
 use gate_types::config::{Config, Queue};
 use gate_types::open_fault::OpenFault;
 use sqlite::{Alter, Connection, Error};
-use sqlite_catalog::layout::is_used;
 use sqlite_schema::schema::Schema;
 use std::alloc::Global;
-
-/// Whether a table, an index or a view has one of these names.
-pub(crate) fn is_any_used(schema: &Schema, names: &[&str]) -> bool
-    ensures { result ≡ list_any (λ x. has_name schema.now x.now) names.now }
-{
-    names.iter().any(|name| is_used(schema, name.as_bytes()))
-}
 
 /// Whether the name of one of the gate's tables and indexes is there already.
 fn has_names(schema: &Schema) -> bool

@@ -7,19 +7,12 @@
 //! ```
 #![tactic(auto)]
 
-mod adopting;
-mod applying;
 mod book;
 mod creating;
-mod filling;
 pub mod laws;
-mod making;
-mod migrating;
 mod opening;
-mod planning;
 mod reads;
 mod reopening;
-mod upgrading;
 
 pub use book::SqlBook;
-pub use migrating::{Migrated, migrate};
+pub use gate_migration::{Migrated, migrate};

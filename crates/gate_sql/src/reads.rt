@@ -1,7 +1,7 @@
 //! A book's reads and edits, from the tables of a file.
-use crate::applying::{apply, is_among};
 use crate::book::SqlBook;
-use gate_book::{Book, BookFault, HistoryFault, QueuedItem};
+use gate_book_trait::{Book, BookFault, HistoryFault, QueuedItem};
+use gate_file_changes::{apply, is_among};
 use gate_types::edits::Edit;
 use gate_types::names::Name;
 use gate_types::numbers::{BuildNo, ChangeNo, Serial};
@@ -15,7 +15,7 @@ impl<S: Alter> Book for SqlBook<S> {
     ghost use Rattle.std.specs.Prelude.{⊤};
     ghost use Rattle.sqlite.specs.Held.{state};
     ghost use Rattle.sqlite.specs.State.{HasCleanDisk};
-    ghost use Rattle.gate_sql.specs.Held.{HoldsFor, LeavesFor, one_more};
+    ghost use Rattle.gate_content_reads.specs.Held.{HoldsFor, LeavesFor, one_more};
 
     ghost Holds = { λ book c x. HoldsFor (state S.Store book.conn) book.queues.items c x };
 
@@ -28,51 +28,51 @@ impl<S: Alter> Book for SqlBook<S> {
     ghost leaves_more = { λ book c xs x leaves db may. one_more db c xs x (leaves db may) };
 
     fn delivery(&mut self, id: &Id) -> Result<Option<Kept>, BookFault> {
-        gate_queries::delivery(&mut self.conn, id)
+        gate_change_queries::delivery(&mut self.conn, id)
     }
 
     fn change(&mut self, number: ChangeNo) -> Result<Option<Change>, BookFault> {
-        gate_queries::change(&mut self.conn, number)
+        gate_change_queries::change(&mut self.conn, number)
     }
 
     fn window(&mut self, queue: &Name) -> Result<Option<u32>, BookFault> {
-        gate_queries::window(&mut self.conn, queue)
+        gate_queue_queries::window(&mut self.conn, queue)
     }
 
     fn item_count(&mut self, queue: &Name) -> Result<u64, BookFault> {
-        gate_queries::item_count(&mut self.conn, queue)
+        gate_queue_queries::item_count(&mut self.conn, queue)
     }
 
     fn landing_count(&mut self, queue: &Name) -> Result<u64, BookFault> {
-        gate_queries::landing_count(&mut self.conn, queue)
+        gate_queue_queries::landing_count(&mut self.conn, queue)
     }
 
     fn reports(&mut self, queue: &Name) -> Result<u64, BookFault> {
-        gate_queries::reports(&mut self.conn, queue)
+        gate_queue_queries::reports(&mut self.conn, queue)
     }
 
     fn landing_before(&mut self, queue: &Name, serial: Serial) -> Result<u64, BookFault> {
-        gate_queries::landing_before(&mut self.conn, queue, serial)
+        gate_queue_queries::landing_before(&mut self.conn, queue, serial)
     }
 
     fn items(&mut self, queue: &Name) -> Result<Sequence<Item>, BookFault> {
-        gate_queries::items(&mut self.conn, queue)
+        gate_item_queries::items(&mut self.conn, queue)
     }
 
     fn item(&mut self, serial: Serial) -> Result<Option<Item>, BookFault> {
-        gate_queries::item(&mut self.conn, serial)
+        gate_item_queries::item(&mut self.conn, serial)
     }
 
     fn queued(&mut self, change: ChangeNo) -> Result<Option<QueuedItem>, BookFault> {
-        gate_queries::queued(&mut self.conn, change)
+        gate_item_queries::queued(&mut self.conn, change)
     }
 
     fn next_item(&mut self, queue: &Name, above: u64) -> Result<Option<Item>, BookFault> {
-        gate_queries::next_item(&mut self.conn, queue, above)
+        gate_item_queries::next_item(&mut self.conn, queue, above)
     }
 
     fn last_item(&mut self, queue: &Name, below: u64) -> Result<Option<Item>, BookFault> {
-        gate_queries::last_item(&mut self.conn, queue, below)
+        gate_item_queries::last_item(&mut self.conn, queue, below)
     }
 
     fn next_items(
@@ -81,7 +81,7 @@ impl<S: Alter> Book for SqlBook<S> {
         above: u64,
         most: u32,
     ) -> Result<Sequence<Item>, BookFault> {
-        gate_queries::next_items(&mut self.conn, queue, above, most)
+        gate_item_queries::next_items(&mut self.conn, queue, above, most)
     }
 
     fn needing(
@@ -90,15 +90,15 @@ impl<S: Alter> Book for SqlBook<S> {
         change: ChangeNo,
         above: u64,
     ) -> Result<Sequence<Item>, BookFault> {
-        gate_queries::needing(&mut self.conn, queue, change, above)
+        gate_item_queries::needing(&mut self.conn, queue, change, above)
     }
 
     fn plan(&mut self, serial: Serial) -> Result<Option<Plan>, BookFault> {
-        gate_queries::plan(&mut self.conn, serial)
+        gate_build_queries::plan(&mut self.conn, serial)
     }
 
     fn live_builds(&mut self, serial: Serial) -> Result<Sequence<Build>, BookFault> {
-        gate_queries::live_builds(&mut self.conn, serial)
+        gate_build_queries::live_builds(&mut self.conn, serial)
     }
 
     fn plans_between(
@@ -107,7 +107,7 @@ impl<S: Alter> Book for SqlBook<S> {
         above: u64,
         last: Serial,
     ) -> Result<Sequence<Plan>, BookFault> {
-        gate_queries::plans_between(&mut self.conn, queue, above, last)
+        gate_build_queries::plans_between(&mut self.conn, queue, above, last)
     }
 
     fn builds_between(
@@ -116,27 +116,27 @@ impl<S: Alter> Book for SqlBook<S> {
         above: u64,
         last: Serial,
     ) -> Result<Sequence<Build>, BookFault> {
-        gate_queries::builds_between(&mut self.conn, queue, above, last)
+        gate_build_queries::builds_between(&mut self.conn, queue, above, last)
     }
 
     fn build(&mut self, number: BuildNo) -> Result<Option<Build>, BookFault> {
-        gate_queries::build(&mut self.conn, number)
+        gate_build_queries::build(&mut self.conn, number)
     }
 
     fn ready(&mut self) -> Result<Sequence<Ready>, BookFault> {
-        gate_queries::ready(&mut self.conn)
+        gate_change_queries::ready(&mut self.conn)
     }
 
     fn approval(&mut self, change: ChangeNo) -> Result<Option<u64>, BookFault> {
-        gate_queries::approval(&mut self.conn, change)
+        gate_change_queries::approval(&mut self.conn, change)
     }
 
     fn ready_needing(&mut self, change: ChangeNo) -> Result<Sequence<Ready>, BookFault> {
-        gate_queries::ready_needing(&mut self.conn, change)
+        gate_change_queries::ready_needing(&mut self.conn, change)
     }
 
     fn counters(&mut self) -> Result<Counters, BookFault> {
-        gate_queries::counters(&mut self.conn)
+        gate_queue_queries::counters(&mut self.conn)
     }
 
     fn history<W: Write>(
@@ -148,7 +148,7 @@ impl<S: Alter> Book for SqlBook<S> {
         if !is_among(self.queues.as_slice(), queue) {
             return Err(HistoryFault::NoQueue);
         }
-        gate_queries::history(self.alloc, &mut self.conn, queue, front, w)
+        gate_queue_queries::history(self.alloc, &mut self.conn, queue, front, w)
     }
 
     fn apply(&mut self, edits: &[Edit]) -> Result<(), BookFault> {

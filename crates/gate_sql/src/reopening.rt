@@ -9,9 +9,10 @@ ghost use Rattle.gate_types.specs.Adopt.{may_adopt, adopted_content};
 ghost use Rattle.gate_types.specs.Once.{Content};
 ghost use Rattle.gate_types.specs.Settings.{Settings};
 ghost use Rattle.gate_rows.specs.Tells.{StandsFor};
-ghost use Rattle.gate_sql.specs.Adopts.{IsKept};
-ghost use Rattle.gate_sql.specs.Held.{HoldsFor, HoldsForOne, StandsForOne, names_of};
-ghost use Rattle.gate_sql.specs.Reading.{IsToldOf};
+ghost use Rattle.gate_file_changes.specs.Adopts.{IsKept};
+ghost use Rattle.gate_content_reads.specs.Held.{HoldsFor, HoldsForOne, StandsForOne};
+ghost use Rattle.gate_sql.specs.Handed.{names_of};
+ghost use Rattle.gate_file_meta.specs.Reading.{IsToldOf};
 
 use crate::book::SqlBook;
 use gate_types::config::Config;

@@ -19,7 +19,7 @@ use Rattle.gate_types.specs.Status.{slot_word, item_row}
 use Rattle.gate_types.specs.Rows.{item_rows}
 use Rattle.gate_types.specs.Lawful.{IsLawful}
 use Rattle.gate_laws.proofs.Members.{contains_in, in_contains}
-use Rattle.gate_book.specs.Reads.{queue_named, first_above, live_builds}
+use Rattle.gate_book_trait.specs.Reads.{queue_named, first_above, live_builds}
 use Rattle.gate_reads.specs.Places.{IsBehind, are_met_among}
 use Rattle.gate_reads.proofs.Walking.{IsLeft, IsNext, places_from, step_along, end_along}
 use Rattle.gate_reads.proofs.Trying.{place_next, with_row, longer_is}

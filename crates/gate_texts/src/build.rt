@@ -2,10 +2,10 @@
 ghost use Rattle.std.specs.Prelude.{◌≡◌, ◌++◌, if◌then◌else◌, codes, decimal, IfOk, IfErr, option_map, string_bytes};
 ghost use Rattle.gate_types.specs.BuildText.{build_text, outcome_word};
 ghost use Rattle.gate_types.specs.Step.{build_of};
-ghost use Rattle.gate_book.specs.Faults.{MayAnswer};
-ghost use Rattle.gate_book.specs.Kept.{OfHeld, IsKept};
+ghost use Rattle.gate_book_trait.specs.Faults.{MayAnswer};
+ghost use Rattle.gate_book_trait.specs.Kept.{OfHeld, IsKept};
 
-use gate_book::{Book, BookFault};
+use gate_book_trait::{Book, BookFault};
 use gate_types::names::{NoMemory, Text};
 use gate_types::numbers::BuildNo;
 use gate_types::records::{Build, Outcome};

@@ -2,13 +2,13 @@
 ghost use Rattle.std.specs.Prelude.{◌≡◌, ◌++◌, [], IfOk, IfErr, OnOk, option_map, string_bytes};
 ghost use Rattle.gate_types.specs.SubmitOrder.{Order};
 ghost use Rattle.gate_types.specs.OrderList.{shown, order_list_text};
-ghost use Rattle.gate_book.specs.Faults.{MayAnswer};
-ghost use Rattle.gate_book.specs.Kept.{OfHeld, OfHeldUnder, IsKept};
+ghost use Rattle.gate_book_trait.specs.Faults.{MayAnswer};
+ghost use Rattle.gate_book_trait.specs.Kept.{OfHeld, OfHeldUnder, IsKept};
 ghost use Rattle.gate_types.specs.State.{known_or_closed};
 ghost use Rattle.gate_reads.specs.Orders.{order_in, IsRowOf};
 ghost use Rattle.gate_texts.specs.Listed.{order_piece, comma_behind, with_order};
 
-use gate_book::{Book, BookFault};
+use gate_book_trait::{Book, BookFault};
 use gate_reads::order_of_queue;
 use gate_types::config::Config;
 use gate_types::names::{Name, NoMemory, Text};

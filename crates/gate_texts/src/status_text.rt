@@ -4,13 +4,13 @@ ghost use Rattle.gate_types.specs.State.{Queue, known_or_closed};
 ghost use Rattle.gate_types.specs.Line.{Place};
 ghost use Rattle.gate_types.specs.Standing.{places};
 ghost use Rattle.gate_types.specs.Status.{item_row, status_rows, waiting_row, status_text};
-ghost use Rattle.gate_book.specs.Faults.{MayAnswer};
-ghost use Rattle.gate_book.specs.Kept.{OfHeld, OfHeldUnder, IsKept};
-ghost use Rattle.gate_book.specs.Reads.{queue_named};
+ghost use Rattle.gate_book_trait.specs.Faults.{MayAnswer};
+ghost use Rattle.gate_book_trait.specs.Kept.{OfHeld, OfHeldUnder, IsKept};
+ghost use Rattle.gate_book_trait.specs.Reads.{queue_named};
 ghost use Rattle.gate_reads.specs.Places.{IsBehind};
 
 use crate::lines::{item_line, queue_line, waiting_line};
-use gate_book::{Book, BookFault, plan_of};
+use gate_book_trait::{Book, BookFault, plan_of};
 use gate_reads::{are_met_among, needs_of, push_unless_failing};
 use gate_types::config::Config;
 use gate_types::names::{Name, Text};

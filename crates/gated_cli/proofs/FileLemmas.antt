@@ -13,8 +13,8 @@ use Rattle.gate_core.specs.declared.fault.IoFault.TheVariants as io
 use Rattle.gate_cache.specs.Cached.{HoldsBelow, Agrees}
 use Rattle.gate_cache.specs.declared.cached.CachedBook.{CachedBook}
 use Rattle.gate_rows.specs.Tells.{StandsFor}
-use Rattle.gate_sql.specs.Adopts.{IsKept}
-use Rattle.gate_sql.specs.Held.{ShowsFor}
+use Rattle.gate_file_changes.specs.Adopts.{IsKept}
+use Rattle.gate_content_reads.specs.Held.{ShowsFor}
 use Rattle.gated_cli.specs.Doing.{Announces, Delivers, Streams}
 use Rattle.gated_cli.specs.Ending.{AnnouncementIsCut, DeliveryEnds, DeliveryIsCut, DeliveryStops, IsOfFile, IsOfMaking, IsOfServing, ServingEnds}
 use Rattle.gated_cli.specs.Faults.{of_replay}

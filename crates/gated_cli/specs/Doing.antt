@@ -9,8 +9,8 @@ use Rattle.gate_types.specs.declared.tap.Tap.{Tap}
 use Rattle.gate_config.specs.Reading.{said_by}
 use Rattle.gated_command.specs.declared.words.Cmd.{Cmd}
 use Rattle.gated_command.specs.declared.words.Cmd.TheVariants.{Check, Init, Replay, Deliver, Status, History, Serve, Migrate}
-use Rattle.gate_sql.specs.declared.migrating.Migrated.{Migrated}
-use Rattle.gate_sql.specs.declared.migrating.Migrated.TheVariants as migrated
+use Rattle.gate_migration.specs.declared.migrating.Migrated.{Migrated}
+use Rattle.gate_migration.specs.declared.migrating.Migrated.TheVariants as migrated
 use Rattle.gate_core.specs.Gated.{Gated, opened}
 use Rattle.gate_core.specs.Lines.{lines_of}
 use Rattle.gate_core.specs.Replies.{Replayed}

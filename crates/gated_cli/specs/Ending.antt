@@ -11,7 +11,7 @@ use Rattle.gate_core.specs.Lines.{whole_lines, ReadFor}
 use Rattle.gate_core.specs.Replies.{Replayed, Cut}
 use Rattle.gated_cli.specs.Doing.{Streams, Answers, Delivers, HasSettings, settings_limit, status_of, check_text}
 use Rattle.gated_cli.specs.Doing.{Announces, IsPortFor, Looks, Prints, listening_line, migrated_text}
-use Rattle.gate_sql.specs.declared.migrating.Migrated.{Migrated}
+use Rattle.gate_migration.specs.declared.migrating.Migrated.{Migrated}
 use Rattle.gated_command.specs.declared.words.Cmd.{Cmd}
 use Rattle.gated_command.specs.declared.words.Cmd.TheVariants.{Check, Init, Replay, Deliver, Status, History, Serve, Migrate}
 use Rattle.gated_cli.specs.declared.run.fault.Fault.{Fault}

@@ -3,8 +3,8 @@ use Rattle.std.specs.Prelude.{ℕ, List, [], ◌∷◌, ◌++◌, codes}
 use Rattle.gate_config.specs.Words.{word_of}
 use Rattle.gate_config.specs.declared.fault.ConfigFault.{ConfigFault}
 use Rattle.gate_config.specs.declared.fault.ConfigFault.TheVariants as config
-use Rattle.gate_book.specs.declared.fault.HistoryFault.{HistoryFault}
-use Rattle.gate_book.specs.declared.fault.HistoryFault.TheVariants as history
+use Rattle.gate_book_trait.specs.declared.fault.HistoryFault.{HistoryFault}
+use Rattle.gate_book_trait.specs.declared.fault.HistoryFault.TheVariants as history
 use Rattle.gate_core.specs.declared.fault.IoFault.{IoFault}
 use Rattle.gate_core.specs.declared.fault.IoFault.TheVariants as io
 use Rattle.gate_types.specs.declared.open_fault.OpenFault.{OpenFault}

@@ -2,8 +2,8 @@
 use Rattle.std.specs.Prelude.{◌≡◌, ⊤, true, false, ℕ, List, [], Option, None, Result, MatchResult}
 use Rattle.gate_types.specs.Tap.{has_failed, Took, TookFront}
 use Rattle.gate_types.specs.declared.tap.Tap.{Tap}
-use Rattle.gate_book.specs.Reads.{queue_named}
-use Rattle.gate_book.specs.Writes.{OfQueue}
+use Rattle.gate_book_trait.specs.Reads.{queue_named}
+use Rattle.gate_book_trait.specs.Writes.{OfQueue}
 use Rattle.gate_core.specs.Gated.{Gated}
 use Rattle.gated_cli.specs.Doing.{status_of}
 use Rattle.gated_cli.specs.declared.run.fault.Fault.{Fault}

@@ -3,16 +3,16 @@ ghost use Rattle.std.specs.Prelude.{◌≡◌, ◌∷◌, [], Some, IfOk, IfErr}
 ghost use Rattle.gate_types.specs.declared.deliveries.Delivery.TheVariants as delivery;
 ghost use Rattle.gate_types.specs.declared.edits.Edit.TheVariants as edit;
 ghost use Rattle.gate_types.specs.declared.edits.Counter.TheVariants as counter;
-ghost use Rattle.gate_book.specs.Faults.{MayAnswer};
-ghost use Rattle.gate_book.specs.Kept.{OfHeldUnder, IsKept};
-ghost use Rattle.gate_unsettled.specs.Raw.{IsRaw};
+ghost use Rattle.gate_book_trait.specs.Faults.{MayAnswer};
+ghost use Rattle.gate_book_trait.specs.Kept.{OfHeldUnder, IsKept};
+ghost use Rattle.gate_reads.specs.Raw.{IsRaw};
 ghost use Rattle.gate_ruling.specs.Approving.{is_nowhere};
 
 use crate::changing::is_open;
 use crate::guards::latest;
 use crate::numbers::LAST_NUMBER;
-use gate_book::{Book, BookFault};
-use gate_reads::{Stand, stand_of};
+use gate_book_trait::{Book, BookFault};
+use gate_reads::{Moved, Raw, Said, Stand, stand_of};
 use gate_types::config::Config;
 use gate_types::deliveries::{Refusal, Reply};
 use gate_types::edits::{Counter, Edit};
@@ -20,7 +20,6 @@ use gate_types::lists::with_one;
 use gate_types::names::NoMemory;
 use gate_types::numbers::{ChangeNo, Revision};
 use gate_types::records::Change;
-use gate_unsettled::{Moved, Raw, Said};
 use std::alloc::Global;
 
 fn is_nowhere(stand: &Stand) -> bool

@@ -2,20 +2,19 @@
 ghost use Rattle.std.specs.Prelude.{◌≡◌, if◌then◌else◌, is_some, IfOk, IfErr};
 ghost use Rattle.gate_types.specs.declared.deliveries.Reply.TheVariants as reply;
 ghost use Rattle.gate_types.specs.declared.deliveries.Delivery.TheVariants as delivery;
-ghost use Rattle.gate_book.specs.Faults.{MayAnswer};
-ghost use Rattle.gate_book.specs.Kept.{OfHeldUnder, IsKept};
-ghost use Rattle.gate_unsettled.specs.Raw.{IsRaw};
+ghost use Rattle.gate_book_trait.specs.Faults.{MayAnswer};
+ghost use Rattle.gate_book_trait.specs.Kept.{OfHeldUnder, IsKept};
+ghost use Rattle.gate_reads.specs.Raw.{IsRaw};
 
 use crate::changing::{is_open, put_anew};
 use crate::guards::latest;
 use crate::leaving::{Left, give_up_place};
-use gate_book::{Book, BookFault};
-use gate_reads::{is_submitting, stand_of};
+use gate_book_trait::{Book, BookFault};
+use gate_reads::{Moved, Raw, Said, is_submitting, stand_of};
 use gate_types::config::Config;
 use gate_types::deliveries::{Refusal, Reply};
 use gate_types::numbers::{ChangeNo, Revision};
 use gate_types::records::{Change, Stage, Verdict};
-use gate_unsettled::{Moved, Raw, Said};
 use std::alloc::Global;
 
 /// An item is removed from its queue; of a change that is none this is recorded.

@@ -3,9 +3,9 @@ ghost use Rattle.std.specs.Prelude.{◌≡◌, ◌++◌, IfOk, IfErr};
 ghost use Rattle.gate_types.specs.declared.deliveries.Delivery.TheVariants as delivery;
 ghost use Rattle.gate_types.specs.State.{known_change};
 ghost use Rattle.gate_types.specs.Step.{landed_plan};
-ghost use Rattle.gate_book.specs.Faults.{MayAnswer};
-ghost use Rattle.gate_book.specs.Kept.{OfHeld, OfHeldUnder, IsKept};
-ghost use Rattle.gate_unsettled.specs.Raw.{IsRaw};
+ghost use Rattle.gate_book_trait.specs.Faults.{MayAnswer};
+ghost use Rattle.gate_book_trait.specs.Kept.{OfHeld, OfHeldUnder, IsKept};
+ghost use Rattle.gate_reads.specs.Raw.{IsRaw};
 ghost use Rattle.gate_ruling.specs.Landing.{landing_edits};
 ghost use Rattle.gate_ruling.specs.Faults.{MayRule};
 
@@ -14,7 +14,8 @@ use crate::edits::with_window;
 use crate::guards::ordered;
 use crate::leaving::{leaving, touched};
 use crate::windows::grown;
-use gate_book::{Book, BookFault, QueuedItem, plan_of};
+use gate_book_trait::{Book, BookFault, QueuedItem, plan_of};
+use gate_reads::{Event, Moved, Raw, Said};
 use gate_types::config::Config;
 use gate_types::deliveries::Reply;
 use gate_types::edits::Edit;
@@ -22,7 +23,6 @@ use gate_types::lists::with_one;
 use gate_types::names::NoMemory;
 use gate_types::numbers::Serial;
 use gate_types::records::{Change, Landing, Plan, Stage, Verdict};
-use gate_unsettled::{Event, Moved, Raw, Said};
 use std::alloc::Global;
 
 /// The item's landing at a place of its queue, and the window that follows the old one.

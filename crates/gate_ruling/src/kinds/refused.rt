@@ -1,21 +1,21 @@
 //! `refused`: the forge did not land an order.
 ghost use Rattle.std.specs.Prelude.{IfOk, IfErr};
 ghost use Rattle.gate_types.specs.declared.deliveries.Delivery.TheVariants as delivery;
-ghost use Rattle.gate_book.specs.Faults.{MayAnswer};
-ghost use Rattle.gate_book.specs.Kept.{OfHeldUnder, IsKept};
-ghost use Rattle.gate_unsettled.specs.Raw.{IsRaw};
+ghost use Rattle.gate_book_trait.specs.Faults.{MayAnswer};
+ghost use Rattle.gate_book_trait.specs.Kept.{OfHeldUnder, IsKept};
+ghost use Rattle.gate_reads.specs.Raw.{IsRaw};
 ghost use Rattle.gate_ruling.specs.Faults.{MayRule};
 
 use crate::edits::with_window;
 use crate::guards::ordered;
 use crate::leaving::{leaving, touched};
 use crate::windows::shrunk;
-use gate_book::{Book, BookFault};
+use gate_book_trait::{Book, BookFault};
+use gate_reads::{Event, Moved, Raw, Said};
 use gate_types::config::Config;
 use gate_types::deliveries::Reply;
 use gate_types::numbers::Serial;
 use gate_types::records::Verdict;
-use gate_unsettled::{Event, Moved, Raw, Said};
 use std::alloc::Global;
 
 /// The item of a shown order leaves its queue, and the window shrinks.

@@ -2,20 +2,20 @@
 ghost use Rattle.std.specs.Prelude.{◌≡◌, ◌&&◌, IfOk, IfErr};
 ghost use Rattle.gate_types.specs.Slot.{is_running};
 ghost use Rattle.gate_types.specs.declared.deliveries.Delivery.TheVariants as delivery;
-ghost use Rattle.gate_book.specs.Faults.{MayAnswer};
-ghost use Rattle.gate_book.specs.Kept.{OfHeldUnder, IsKept};
-ghost use Rattle.gate_unsettled.specs.Raw.{IsRaw};
+ghost use Rattle.gate_book_trait.specs.Faults.{MayAnswer};
+ghost use Rattle.gate_book_trait.specs.Kept.{OfHeldUnder, IsKept};
+ghost use Rattle.gate_reads.specs.Raw.{IsRaw};
 ghost use Rattle.gate_ruling.specs.Faults.{MayRule};
 
 use crate::leaving::is_running;
-use gate_book::{Book, BookFault};
+use gate_book_trait::{Book, BookFault};
+use gate_reads::{Event, Moved, Raw, Said, TouchedItem};
 use gate_types::config::Config;
 use gate_types::deliveries::{Ending, Refusal, Reply};
 use gate_types::edits::Edit;
 use gate_types::lists::with_one;
 use gate_types::numbers::BuildNo;
 use gate_types::records::Build;
-use gate_unsettled::{Event, Moved, Raw, Said, TouchedItem};
 use std::alloc::Global;
 
 /// Whether a build runs and its outcome still counts.

@@ -5,21 +5,20 @@ ghost use Rattle.gate_types.specs.declared.deliveries.Delivery.TheVariants as de
 ghost use Rattle.gate_types.specs.Names.{same_name};
 ghost use Rattle.gate_types.specs.State.{is_landed};
 ghost use Rattle.gate_types.specs.Step.{has_project};
-ghost use Rattle.gate_book.specs.Faults.{MayAnswer};
-ghost use Rattle.gate_book.specs.Kept.{OfHeldUnder, IsKept};
-ghost use Rattle.gate_unsettled.specs.Raw.{IsRaw};
+ghost use Rattle.gate_book_trait.specs.Faults.{MayAnswer};
+ghost use Rattle.gate_book_trait.specs.Kept.{OfHeldUnder, IsKept};
+ghost use Rattle.gate_reads.specs.Raw.{IsRaw};
 
 use crate::changing::put_anew;
 use crate::leaving::give_up_place;
-use gate_book::{Book, BookFault};
-use gate_reads::{is_submitting, stand_of};
+use gate_book_trait::{Book, BookFault};
+use gate_reads::{Moved, Raw, Said, is_submitting, stand_of};
 use gate_types::config::Config;
 use gate_types::deliveries::{Refusal, Reply};
 use gate_types::names::{Message, PathName};
 use gate_types::numbers::{ChangeNo, Revision};
 use gate_types::records::{Change, Stage, Verdict};
 use gate_types::sequence::Sequence;
-use gate_unsettled::{Moved, Raw, Said};
 use gate_wire::needs;
 use std::alloc::Global;
 

@@ -3,13 +3,13 @@ ghost use Rattle.std.specs.Prelude.{◌≡◌, ◌≤◌, ◌+◌, ◌∷◌, []
 ghost use Rattle.gate_types.specs.declared.deliveries.Delivery.TheVariants as delivery;
 ghost use Rattle.gate_types.specs.declared.edits.Edit.TheVariants as edit;
 ghost use Rattle.gate_types.specs.declared.edits.Counter.TheVariants as counter;
-ghost use Rattle.gate_book.specs.Faults.{MayAnswer};
-ghost use Rattle.gate_book.specs.Kept.{OfHeldUnder, IsKept};
-ghost use Rattle.gate_unsettled.specs.Raw.{IsRaw};
+ghost use Rattle.gate_book_trait.specs.Faults.{MayAnswer};
+ghost use Rattle.gate_book_trait.specs.Kept.{OfHeldUnder, IsKept};
+ghost use Rattle.gate_reads.specs.Raw.{IsRaw};
 
 use crate::numbers::LAST_NUMBER;
-use gate_book::{Book, BookFault};
-use gate_reads::next_build;
+use gate_book_trait::{Book, BookFault};
+use gate_reads::{Moved, Raw, Said, next_build};
 use gate_types::config::Config;
 use gate_types::deliveries::{Refusal, Reply};
 use gate_types::edits::{Counter, Edit};
@@ -17,7 +17,6 @@ use gate_types::lists::with_one;
 use gate_types::names::{NoMemory, PathName};
 use gate_types::numbers::BuildNo;
 use gate_types::records::Build;
-use gate_unsettled::{Moved, Raw, Said};
 use std::alloc::Global;
 
 /// The number after those that were drawn; the last one again where all were.

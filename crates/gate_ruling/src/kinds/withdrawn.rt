@@ -1,20 +1,19 @@
 //! `withdrawn`: a change gives up its place.
 ghost use Rattle.std.specs.Prelude.{IfOk, IfErr};
 ghost use Rattle.gate_types.specs.declared.deliveries.Delivery.TheVariants as delivery;
-ghost use Rattle.gate_book.specs.Faults.{MayAnswer};
-ghost use Rattle.gate_book.specs.Kept.{OfHeldUnder, IsKept};
-ghost use Rattle.gate_unsettled.specs.Raw.{IsRaw};
+ghost use Rattle.gate_book_trait.specs.Faults.{MayAnswer};
+ghost use Rattle.gate_book_trait.specs.Kept.{OfHeldUnder, IsKept};
+ghost use Rattle.gate_reads.specs.Raw.{IsRaw};
 
 use crate::changing::put_anew;
 use crate::guards::latest;
 use crate::leaving::{leaving, touched};
-use gate_book::{Book, BookFault};
-use gate_reads::{Stand, is_submitting, stand_of};
+use gate_book_trait::{Book, BookFault};
+use gate_reads::{Event, Moved, Raw, Said, Stand, is_submitting, stand_of};
 use gate_types::config::Config;
 use gate_types::deliveries::{Refusal, Reply};
 use gate_types::numbers::{ChangeNo, Revision};
 use gate_types::records::Verdict;
-use gate_unsettled::{Event, Moved, Raw, Said};
 use std::alloc::Global;
 
 /// An item leaves its queue; a ready change is so no longer; anything else is stale.

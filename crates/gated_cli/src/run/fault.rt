@@ -2,7 +2,7 @@
 ghost use Rattle.std.specs.Prelude.{◌≡◌};
 ghost use Rattle.gated_cli.specs.Faults.{text_of, file_text, settings_text};
 
-use gate_book::HistoryFault;
+use gate_book_trait::HistoryFault;
 use gate_config::ConfigFault;
 use gate_core::IoFault;
 use gate_http::NotListening;

@@ -8,7 +8,7 @@ ghost use Rattle.gated_cli.specs.Ending.{ServingEnds, IsOfServing};
 ghost use Rattle.gated_cli.specs.Telling.{TellsUpTo};
 
 use crate::run::fault::Fault;
-use gate_book::Book;
+use gate_book_trait::Book;
 use gate_core::Gate;
 use gate_types::tap::Tap;
 use std::alloc::Global;

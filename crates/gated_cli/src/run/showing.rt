@@ -6,7 +6,7 @@ ghost use Rattle.gated_cli.specs.OverFile.{file_fault};
 ghost use Rattle.gated_cli.specs.Showing.{WritesStatus, StopsStatus, WritesHistory, StopsHistory};
 
 use crate::run::fault::Fault;
-use gate_book::Book;
+use gate_book_trait::Book;
 use gate_core::Gate;
 use gate_types::tap::Tap;
 use std::alloc::Global;

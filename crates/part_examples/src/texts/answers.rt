@@ -1,7 +1,7 @@
 //! What is answered to a text, as a text: none where memory was refused, or where there is no such way to ask.
 use crate::texts::replied::replied;
 use gate_config::{ConfigFault, read};
-use gate_settings::{TextFault, read_text};
+use gate_kept_settings::{TextFault, read_text};
 use gate_types::canonical::canonical;
 use gate_types::config::Config;
 use gate_types::deliveries::Refusal;

@@ -1,6 +1,6 @@
 use Rattle.std.proofs.Common.{◌≡◌, ◌≤◌}
 use Rattle.gate_types.specs.State.{State}
-use Rattle.gate_book.specs.Kept.{IsKept, OfHeldUnder}
+use Rattle.gate_book_trait.specs.Kept.{IsKept, OfHeldUnder}
 use Rattle.gate_admission.specs.Led.{IsLed}
 use Rattle.gate_admission.specs.Candidates.{EntersByEdits}
 use Rattle.gate_admission.proofs.Tries.{AreEntering}

@@ -1,5 +1,5 @@
 use Rattle.std.proofs.Common.{◌≡◌, ◌++◌, flat_map, take}
-use Rattle.gate_book.specs.Kept.{OfHeld, IsKept}
+use Rattle.gate_book_trait.specs.Kept.{OfHeld, IsKept}
 use Rattle.gate_admission.specs.Candidates.{put_ready, let_in_by}
 use Rattle.gate_admission.proofs.candidates.let_in.Given as goal
 

@@ -1,7 +1,7 @@
 use Rattle.std.proofs.Common.{◌+◌, ◌∙◌, ◌&&◌, Bool, drop, sym, ap}
 use Rattle.std.specs.List.{list_all}
 use Rattle.gate_types.specs.declared.records.Need.{Need}
-use Rattle.gate_book.specs.Reads.{items_in}
+use Rattle.gate_book_trait.specs.Reads.{items_in}
 use Rattle.gate_admission.specs.Enters.{is_met_by_rows}
 use Rattle.gate_admission.proofs.Calls.{then}
 use Rattle.gate_admission.proofs.Along.{all_step, all_end}

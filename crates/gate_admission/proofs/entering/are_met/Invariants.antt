@@ -1,7 +1,7 @@
 use Rattle.std.proofs.Common.{◌≡◌, drop}
 use Rattle.std.specs.List.{list_all}
-use Rattle.gate_book.specs.Kept.{IsKept}
-use Rattle.gate_book.specs.Reads.{items_in}
+use Rattle.gate_book_trait.specs.Kept.{IsKept}
+use Rattle.gate_book_trait.specs.Reads.{items_in}
 use Rattle.gate_admission.specs.Led.{OfLed}
 use Rattle.gate_admission.specs.Known.{IsQueue}
 use Rattle.gate_admission.specs.Enters.{is_met_by_rows}

@@ -1,8 +1,8 @@
 use Rattle.std.proofs.Common.{◌≡◌, Some, drop}
 use Rattle.gate_types.specs.State.{Queue}
 use Rattle.gate_types.specs.Slot.{are_met_by}
-use Rattle.gate_book.specs.Kept.{IsKept}
-use Rattle.gate_book.specs.Reads.{queue_named}
+use Rattle.gate_book_trait.specs.Kept.{IsKept}
+use Rattle.gate_book_trait.specs.Reads.{queue_named}
 use Rattle.gate_admission.specs.Led.{OfLed}
 use Rattle.gate_admission.proofs.entering.are_met_in.Given as goal
 

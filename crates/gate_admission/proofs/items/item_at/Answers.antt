@@ -1,6 +1,6 @@
 use Rattle.std.proofs.Common.{◌≡◌, ◌∙◌, ap, sym}
 use Rattle.std.proofs.lemmas.Result.{IfOk-weaker}
-use Rattle.gate_book.specs.Reads.{items_in}
+use Rattle.gate_book_trait.specs.Reads.{items_in}
 use Rattle.gate_admission.specs.Seen.{item_at, by_fate}
 use Rattle.gate_admission.proofs.Rows.{item_by_fate}
 use Rattle.gate_admission.proofs.items.item_at.Goals as goal

@@ -1,7 +1,7 @@
 use Rattle.std.proofs.Common.{◌∙◌, sym, ap}
 use Rattle.std.specs.Option.{option_or}
 use Rattle.std.proofs.lemmas.Result.{IfOk-weaker}
-use Rattle.gate_book.specs.Reads.{items_in}
+use Rattle.gate_book_trait.specs.Reads.{items_in}
 use Rattle.gate_admission.specs.Seen.{items_after, item_put}
 use Rattle.gate_admission.proofs.LedItems.{change_led}
 use Rattle.gate_admission.proofs.items.item_in.Goals as goal

@@ -1,6 +1,6 @@
 use Rattle.std.proofs.Common.{◌≡◌, drop}
-use Rattle.gate_book.specs.Kept.{OfHeld, IsKept}
-use Rattle.gate_book.specs.Reads.{items_in}
+use Rattle.gate_book_trait.specs.Kept.{OfHeld, IsKept}
+use Rattle.gate_book_trait.specs.Reads.{items_in}
 use Rattle.gate_admission.specs.Seen.{item_put, items_after}
 use Rattle.gate_admission.proofs.items.item_put.Given as goal
 

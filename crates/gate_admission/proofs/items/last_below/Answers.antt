@@ -1,6 +1,6 @@
 use Rattle.std.proofs.Common.{◌<◌, ◌∙◌, sym, ap, subst}
 use Rattle.std.specs.Prelude.{IfSome}
-use Rattle.gate_book.specs.Reads.{items_in, last_below}
+use Rattle.gate_book_trait.specs.Reads.{items_in, last_below}
 use Rattle.gate_admission.specs.Seen.{items_after}
 use Rattle.gate_admission.proofs.Calls.{then}
 use Rattle.gate_admission.proofs.QueueItems.{rising_after}

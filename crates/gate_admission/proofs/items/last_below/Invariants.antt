@@ -1,6 +1,6 @@
 use Rattle.std.proofs.Common.{◌≡◌}
-use Rattle.gate_book.specs.Kept.{OfHeld, IsKept}
-use Rattle.gate_book.specs.Reads.{items_in, last_below}
+use Rattle.gate_book_trait.specs.Kept.{OfHeld, IsKept}
+use Rattle.gate_book_trait.specs.Reads.{items_in, last_below}
 use Rattle.gate_admission.specs.Seen.{items_after}
 use Rattle.gate_admission.proofs.items.last_below.Given as goal
 

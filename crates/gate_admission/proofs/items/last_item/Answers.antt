@@ -1,6 +1,6 @@
 use Rattle.std.proofs.Common.{◌∙◌, ap}
 use Rattle.std.proofs.lemmas.Result.{IfOk-weaker}
-use Rattle.gate_book.specs.Reads.{last_below, items_in}
+use Rattle.gate_book_trait.specs.Reads.{last_below, items_in}
 use Rattle.gate_admission.specs.Seen.{items_after}
 use Rattle.gate_admission.proofs.LedItems.{last_led}
 use Rattle.gate_admission.proofs.items.last_item.Goals as goal

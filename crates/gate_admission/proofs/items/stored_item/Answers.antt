@@ -1,6 +1,6 @@
 use Rattle.std.proofs.Common.{◌∙◌, sym, ap}
 use Rattle.std.specs.Prelude.{option_and_then, ◌-◌}
-use Rattle.gate_book.specs.Reads.{first_above, items_in}
+use Rattle.gate_book_trait.specs.Reads.{first_above, items_in}
 use Rattle.gate_admission.specs.Seen.{if_at}
 use Rattle.gate_admission.proofs.QueueItems.{at_by_above}
 use Rattle.gate_admission.proofs.Standing.{items_rise}

@@ -1,5 +1,5 @@
 use Rattle.std.proofs.Common.{◌≡◌, map, take}
-use Rattle.gate_book.specs.Kept.{IsKept}
+use Rattle.gate_book_trait.specs.Kept.{IsKept}
 use Rattle.gate_admission.specs.Led.{OfLed}
 use Rattle.gate_types.specs.State.{need_of}
 use Rattle.gate_admission.proofs.known_changes.needs_with.Given as goal

@@ -1,5 +1,5 @@
 use Rattle.std.specs.BTreeMap.{btree_map_len}
-use Rattle.gate_book.specs.Kept.{IsKept}
+use Rattle.gate_book_trait.specs.Kept.{IsKept}
 use Rattle.gate_admission.specs.Led.{OfLedUnder}
 use Rattle.gate_admission.specs.Candidates.{AreCandidates}
 use Rattle.gate_admission.proofs.passing.first_to_enter.Given as goal

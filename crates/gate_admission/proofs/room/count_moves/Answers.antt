@@ -1,5 +1,5 @@
 use Rattle.std.proofs.Common.{◌≡◌, ◌+◌, length, take, ap, arith}
-use Rattle.gate_book.specs.Reads.{items_in}
+use Rattle.gate_book_trait.specs.Reads.{items_in}
 use Rattle.gate_types.specs.Rows.{edited_items}
 use Rattle.gate_admission.specs.Seen.{items_after, grows, shrinks, one_if}
 use Rattle.gate_admission.proofs.Calls.{then}

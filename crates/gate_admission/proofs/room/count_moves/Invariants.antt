@@ -1,6 +1,6 @@
 use Rattle.std.proofs.Common.{◌≡◌, ◌+◌, ◌≤◌, length, take}
-use Rattle.gate_book.specs.Kept.{OfHeld, IsKept}
-use Rattle.gate_book.specs.Reads.{items_in}
+use Rattle.gate_book_trait.specs.Kept.{OfHeld, IsKept}
+use Rattle.gate_book_trait.specs.Reads.{items_in}
 use Rattle.gate_admission.specs.Seen.{items_after}
 use Rattle.gate_admission.proofs.room.count_moves.Given as goal
 

@@ -1,6 +1,6 @@
 use Rattle.std.proofs.Common.{ℕ, ◌≡◌, ◌∙◌, ◌≤◌, ◌<◌, ap, sym, false, arith}
 use Rattle.std.specs.Prelude.{nat_le}
-use Rattle.gate_book.specs.Reads.{item_count}
+use Rattle.gate_book_trait.specs.Reads.{item_count}
 use Rattle.gate_admission.proofs.Spans.{full_is}
 use Rattle.gate_admission.proofs.room.is_full.Goals as goal
 

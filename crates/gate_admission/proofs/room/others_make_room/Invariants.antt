@@ -1,6 +1,6 @@
 use Rattle.std.proofs.Common.{◌≡◌, false, take}
 use Rattle.std.specs.List.{list_any}
-use Rattle.gate_book.specs.Kept.{OfHeld, IsKept}
+use Rattle.gate_book_trait.specs.Kept.{OfHeld, IsKept}
 use Rattle.gate_admission.specs.Candidates.{is_full, makes_room}
 use Rattle.gate_admission.proofs.room.others_make_room.Given as goal
 

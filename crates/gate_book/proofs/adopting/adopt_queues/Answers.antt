@@ -2,8 +2,8 @@ use Rattle.std.proofs.Common.{◌≡◌, ◌∙◌, ◌<◌, ◌+◌, List, ℕ,
 use Rattle.std.specs.Prelude.{option_map}
 use Rattle.std.specs.List.{AllByRecursion}
 use Rattle.gate_types.specs.Names.{same_name}
-use Rattle.gate_book.specs.Queues as queue
-use Rattle.gate_book.specs.TableReads.{rows_named}
+use Rattle.gate_memory.specs.Queues as queue
+use Rattle.gate_book_trait.specs.RowReads.{rows_named}
 use Rattle.gate_book.proofs.AdoptLemmas.{AreLeft, all_set, left_more, map_set, not_before, rows_so_far, so_far_none, so_far_one}
 use Rattle.gate_book.proofs.adopting.adopt_queues.Goals as goal
 use Rattle.gate_book.proofs.adopting.adopt_queues.Goals.{in-Some, in_default}

@@ -1,6 +1,6 @@
 use Rattle.std.proofs.Common.{◌≡◌, map}
 use Rattle.std.specs.List.{AllByRecursion}
-use Rattle.gate_book.specs.Queues as queue
+use Rattle.gate_memory.specs.Queues as queue
 use Rattle.gate_book.proofs.AdoptLemmas.{AreLeft, rows_so_far}
 use Rattle.gate_book.proofs.adopting.adopt_queues.Given as goal
 

@@ -2,9 +2,9 @@ use Rattle.std.proofs.Common.{◌≡◌, ◌∙◌, Some, None, ap, map, refl, s
 use Rattle.std.specs.List.{position}
 use Rattle.gate_types.specs.Names.{same_name}
 use Rattle.gate_types.specs.Tables.{QueueRows}
-use Rattle.gate_book.specs.Queues as queue
-use Rattle.gate_book.specs.TableReads.{rows_named}
-use Rattle.gate_book.specs.declared.queues.QueueTable.{QueueTable}
+use Rattle.gate_memory.specs.Queues as queue
+use Rattle.gate_book_trait.specs.RowReads.{rows_named}
+use Rattle.gate_memory.specs.declared.queues.QueueTable.{QueueTable}
 use Rattle.gate_book.proofs.AdoptLemmas.{found_first, found_none, named_apart, others_found}
 use Rattle.gate_book.proofs.adopting.take_named.Goals as goal
 

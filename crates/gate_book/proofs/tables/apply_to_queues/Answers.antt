@@ -1,8 +1,8 @@
 use Rattle.std.proofs.Common.{◌≡◌, ◌∙◌, ◌<◌, ◌≤◌, ◌+◌, suc, length, take, drop, ◌++◌, map, set, sym, ap, subst, arith}
 use Rattle.std.proofs.lemmas.Simd.{map-map}
 use Rattle.gate_types.specs.Tables.{edited_queue}
-use Rattle.gate_book.specs.Queues as queue
-use Rattle.gate_book.proofs.LoopLemmas.{Done, done_at, done_length, done_next, done_map, done_all, all_at, whole}
+use Rattle.gate_memory.specs.Queues as queue
+use Rattle.gate_memory.proofs.LoopLemmas.{Done, done_at, done_length, done_next, done_map, done_all, all_at, whole}
 use Rattle.gate_book.proofs.MemoryLemmas.{Edited}
 use Rattle.gate_book.proofs.tables.apply_to_queues.Goals as goal
 

@@ -1,4 +1,4 @@
-use Rattle.gate_book.proofs.LoopLemmas.{Done}
+use Rattle.gate_memory.proofs.LoopLemmas.{Done}
 use Rattle.gate_book.proofs.MemoryLemmas.{Edited}
 use Rattle.gate_book.proofs.tables.apply_to_queues.Given as goal
 

@@ -1,6 +1,6 @@
 use Rattle.std.proofs.Common.{◌≡◌, map, take}
 use Rattle.std.specs.List.{AllByRecursion}
-use Rattle.gate_book.specs.Queues as queue
+use Rattle.gate_memory.specs.Queues as queue
 use Rattle.gate_types.specs.AdoptedTables.{empty_rows}
 use Rattle.gate_book.proofs.tables.empty_queues.Given as goal
 

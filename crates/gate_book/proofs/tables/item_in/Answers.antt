@@ -1,9 +1,9 @@
 use Rattle.std.proofs.Common.{◌≡◌, ◌∙◌, ◌+◌, suc, drop, map, None, Some, ap, sym, arith}
 use Rattle.std.specs.Prelude.{◌==◌, find, option_map, Bool}
 use Rattle.gate_types.specs.declared.records.Item.{Item}
-use Rattle.gate_book.specs.declared.rows.QueuedItem.{QueuedItem}
-use Rattle.gate_book.specs.Queues as queue
-use Rattle.gate_book.specs.TableReads.{all_queued}
+use Rattle.gate_book_trait.specs.declared.rows.QueuedItem.{QueuedItem}
+use Rattle.gate_memory.specs.Queues as queue
+use Rattle.gate_book_trait.specs.RowReads.{all_queued}
 use Rattle.gate_book.proofs.MemoryLemmas.{queued_at}
 use Rattle.gate_book.proofs.tables.item_in.Goals as goal
 

@@ -1,7 +1,7 @@
 use Rattle.std.proofs.Common.{◌≡◌, map, drop}
 use Rattle.std.specs.Prelude.{◌==◌, find}
-use Rattle.gate_book.specs.Queues as queue
-use Rattle.gate_book.specs.TableReads.{all_queued}
+use Rattle.gate_memory.specs.Queues as queue
+use Rattle.gate_book_trait.specs.RowReads.{all_queued}
 use Rattle.gate_book.proofs.tables.item_in.Given as goal
 
 abbrev pub invariant-loop-queue : goal.invariant-loop-queue

@@ -1,4 +1,4 @@
-use Rattle.gate_book.proofs.LoopLemmas.{Done}
+use Rattle.gate_memory.proofs.LoopLemmas.{Done}
 use Rattle.gate_book.proofs.MemoryLemmas.{Roomy}
 use Rattle.gate_book.proofs.tables.make_queues_room.Given as goal
 

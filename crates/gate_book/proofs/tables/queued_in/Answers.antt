@@ -2,9 +2,9 @@ use Rattle.std.proofs.Common.{◌≡◌, ◌∙◌, ◌+◌, suc, drop, map, Non
 use Rattle.std.specs.Prelude.{◌==◌, find, option_map, Bool, Option}
 use Rattle.std.specs.Option.{option_or}
 use Rattle.gate_types.specs.declared.records.Item.{Item}
-use Rattle.gate_book.specs.declared.rows.QueuedItem.{QueuedItem}
-use Rattle.gate_book.specs.Queues as queue
-use Rattle.gate_book.specs.TableReads.{all_queued}
+use Rattle.gate_book_trait.specs.declared.rows.QueuedItem.{QueuedItem}
+use Rattle.gate_memory.specs.Queues as queue
+use Rattle.gate_book_trait.specs.RowReads.{all_queued}
 use Rattle.gate_book.proofs.MemoryLemmas.{queued_at, with_name}
 use Rattle.gate_book.proofs.tables.queued_in.Goals as goal
 

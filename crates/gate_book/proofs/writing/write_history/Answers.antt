@@ -1,6 +1,6 @@
 use Rattle.std.proofs.Common.{◌++◌, length, take, drop}
 use Rattle.std.proofs.lemmas.Result.{err_from_is_err_and}
-use Rattle.gate_book.specs.Text.{first_line, report_lines, last_line}
+use Rattle.gate_book_trait.specs.Text.{first_line, report_lines, last_line}
 use Rattle.gate_book.proofs.HistoryLemmas.{text_cut, text_written, parts_joined}
 use Rattle.gate_book.proofs.writing.write_history.Goals as goal
 

@@ -1,6 +1,6 @@
 use Rattle.std.proofs.Common.{◌≡◌, take, false}
 use Rattle.std.specs.Io.KnownBytes.{Appends}
-use Rattle.gate_book.specs.Text.{report_lines}
+use Rattle.gate_book_trait.specs.Text.{report_lines}
 use Rattle.gate_book.proofs.writing.write_lines.Given as goal
 
 abbrev pub invariant-loop-row : goal.invariant-loop-row

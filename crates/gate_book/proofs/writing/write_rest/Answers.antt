@@ -1,4 +1,4 @@
-use Rattle.gate_book.specs.Text.{report_lines, last_line}
+use Rattle.gate_book_trait.specs.Text.{report_lines, last_line}
 use Rattle.gate_book.proofs.HistoryLemmas.{written_later}
 use Rattle.gate_book.proofs.writing.write_rest.Goals as goal
 

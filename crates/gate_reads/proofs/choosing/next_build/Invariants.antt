@@ -1,6 +1,6 @@
 use Rattle.std.proofs.Common.{◌≡◌}
 use Rattle.gate_types.specs.Choice.{choose}
-use Rattle.gate_book.specs.Kept.{OfHeldUnder, IsKept}
+use Rattle.gate_book_trait.specs.Kept.{OfHeldUnder, IsKept}
 use Rattle.gate_reads.proofs.Queues.{choice_from}
 use Rattle.gate_reads.proofs.choosing.next_build.Given as goal
 

@@ -1,5 +1,5 @@
 use Rattle.std.proofs.Common.{◌≡◌, map, take}
-use Rattle.gate_book.specs.Kept.{OfHeld, IsKept}
+use Rattle.gate_book_trait.specs.Kept.{OfHeld, IsKept}
 use Rattle.gate_types.specs.State.{need_of}
 use Rattle.gate_reads.proofs.known.needs_with.Given as goal
 

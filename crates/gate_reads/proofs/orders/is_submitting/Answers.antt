@@ -1,7 +1,7 @@
 use Rattle.std.proofs.Common.{◌∙◌, sym, ap}
 use Rattle.std.specs.Prelude.{◌==◌, is_some}
 use Rattle.std.proofs.lemmas.Result.{IfOk-weaker}
-use Rattle.gate_book.specs.declared.rows.QueuedItem.{QueuedItem}
+use Rattle.gate_book_trait.specs.declared.rows.QueuedItem.{QueuedItem}
 use Rattle.gate_laws.proofs.Members.{found}
 use Rattle.gate_reads.proofs.Found.{none_before, some_before, some_then}
 use Rattle.gate_reads.proofs.Stood.{stood, queued_as, change_of, queued_is, at_stood}

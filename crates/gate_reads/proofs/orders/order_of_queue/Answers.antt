@@ -1,5 +1,5 @@
 use Rattle.std.proofs.Common.{◌∙◌, sym, ap, subst, rules}
-use Rattle.gate_book.specs.Reads.{first_above}
+use Rattle.gate_book_trait.specs.Reads.{first_above}
 use Rattle.gate_reads.specs.Orders.{order_in, TellsOrder}
 use Rattle.gate_reads.proofs.Kept.{then}
 use Rattle.gate_reads.proofs.Walking.{lawful_front, rows_are}

@@ -1,7 +1,7 @@
 use Rattle.std.proofs.Common.{◌≡◌, Some, ◌-◌}
 use Rattle.gate_types.specs.State.{Queue}
-use Rattle.gate_book.specs.Kept.{OfHeldUnder, IsKept}
-use Rattle.gate_book.specs.Reads.{queue_named}
+use Rattle.gate_book_trait.specs.Kept.{OfHeldUnder, IsKept}
+use Rattle.gate_book_trait.specs.Reads.{queue_named}
 use Rattle.gate_reads.proofs.Passing.{Passed}
 use Rattle.gate_reads.proofs.orders.order_of_queue.Given as goal
 

@@ -1,7 +1,7 @@
 use Rattle.std.proofs.Common.{◌≡◌, List, drop}
 use Rattle.gate_types.specs.State.{Queue}
 use Rattle.gate_types.specs.Line.{Place}
-use Rattle.gate_book.specs.Kept.{OfHeldUnder, IsKept}
+use Rattle.gate_book_trait.specs.Kept.{OfHeldUnder, IsKept}
 use Rattle.gate_reads.specs.Parts.{ahead_behind, AreBehind, AreTold}
 use Rattle.gate_reads.proofs.Along.{Along}
 use Rattle.gate_reads.proofs.part.build_of_part.Given as goal

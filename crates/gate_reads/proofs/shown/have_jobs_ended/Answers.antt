@@ -2,7 +2,7 @@ use Rattle.std.proofs.Common.{◌∙◌, sym, ap}
 use Rattle.gate_types.specs.declared.records.Item.{Item as ItemRow}
 use Rattle.gate_types.specs.Standing.{all_places}
 use Rattle.gate_laws.proofs.Members.{contains_in}
-use Rattle.gate_book.specs.Reads.{live_builds}
+use Rattle.gate_book_trait.specs.Reads.{live_builds}
 use Rattle.gate_reads.proofs.OwnBuilds.{all_count, ended_is}
 use Rattle.gate_reads.proofs.KnownPlaces.{jobs_at}
 use Rattle.gate_reads.proofs.shown.have_jobs_ended.Goals as goal

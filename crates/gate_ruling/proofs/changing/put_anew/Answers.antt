@@ -3,7 +3,7 @@ use Rattle.gate_types.specs.declared.edits.Edit.{Edit}
 use Rattle.gate_types.specs.declared.edits.Edit.TheVariants as edit
 use Rattle.gate_types.specs.State.{put_change}
 use Rattle.gate_types.specs.Admit.{without_ready}
-use Rattle.gate_unsettled.specs.Moves.{Moves}
+use Rattle.gate_reads.specs.Moves.{Moves}
 use Rattle.gate_ruling.proofs.Folded.{moves_on}
 use Rattle.gate_ruling.proofs.Put.{anew_moves}
 use Rattle.gate_ruling.proofs.changing.put_anew.Goals as goal

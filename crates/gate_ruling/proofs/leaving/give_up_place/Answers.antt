@@ -1,6 +1,6 @@
 use Rattle.std.proofs.Common.{subst, rules}
 use Rattle.gate_types.specs.Step.{leave}
-use Rattle.gate_unsettled.specs.Moves.{Moves}
+use Rattle.gate_reads.specs.Moves.{Moves}
 use Rattle.gate_reads.specs.Stands.{StandsSo}
 use Rattle.gate_ruling.proofs.GivenUp.{nothing_moves, none_touched, unqueued}
 use Rattle.gate_ruling.proofs.leaving.give_up_place.Goals as goal

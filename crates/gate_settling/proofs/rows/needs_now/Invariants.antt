@@ -1,5 +1,5 @@
 use Rattle.std.proofs.Common.{◌≡◌, map, take}
-use Rattle.gate_book.specs.Kept.{OfHeld, IsKept}
+use Rattle.gate_book_trait.specs.Kept.{OfHeld, IsKept}
 use Rattle.gate_settling.specs.Rows.{need_now}
 use Rattle.gate_settling.proofs.rows.needs_now.Given as goal
 

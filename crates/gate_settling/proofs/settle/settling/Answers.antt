@@ -1,7 +1,7 @@
 use Rattle.std.proofs.Common.{◌++◌, sym, subst, rules}
 use Rattle.gate_types.specs.Tables.{Leads}
-use Rattle.gate_unsettled.specs.Moves.{in_state, swept}
-use Rattle.gate_unsettled.specs.Touches.{Touches}
+use Rattle.gate_reads.specs.Moves.{in_state, swept}
+use Rattle.gate_reads.specs.Touches.{Touches}
 use Rattle.gate_settling.specs.Touching.{AreToldOf}
 use Rattle.gate_settling.proofs.KeptLemmas.{if_ok_so}
 use Rattle.gate_settling.proofs.TouchingLemmas.{touching, settled_some, settled_none}

@@ -6,8 +6,8 @@ use Rattle.gate_types.specs.Once.{Content}
 use Rattle.gate_walk.specs.declared.walk.Next.{Next}
 use Rattle.gate_walk.specs.Walk.{Seen, Walk, behind_visit}
 use Rattle.gate_walk.specs.UnderWay.{HasVisited, GoesOn}
-use Rattle.gate_book.specs.Reads.{items_in}
-use Rattle.gate_unsettled.specs.declared.touched.TouchedItem.{TouchedItem}
+use Rattle.gate_book_trait.specs.Reads.{items_in}
+use Rattle.gate_reads.specs.declared.touched.TouchedItem.{TouchedItem}
 use Rattle.gate_settling.specs.Touching.{Touching, delivered, sees}
 use Rattle.gate_settling.specs.Rows.{row_for, AreKept}
 use Rattle.gate_settling.proofs.KeptLemmas.{then}

@@ -2,8 +2,8 @@ use Rattle.std.proofs.Common.{◌≤◌, ◌-◌}
 use Rattle.std.specs.Prelude.{IfSome}
 use Rattle.std.specs.Option.{option_map_or}
 use Rattle.gate_walk.specs.UnderWay.{Starts}
-use Rattle.gate_book.specs.Kept.{OfHeldUnder, IsKept}
-use Rattle.gate_book.specs.Reads.{items_in}
+use Rattle.gate_book_trait.specs.Kept.{OfHeldUnder, IsKept}
+use Rattle.gate_book_trait.specs.Reads.{items_in}
 use Rattle.gate_settling.specs.Rows.{AreKept}
 use Rattle.gate_settling.specs.Touching.{Touching, delivered, IsUnderWay}
 use Rattle.gate_settling.proofs.walking.walked.Given as goal

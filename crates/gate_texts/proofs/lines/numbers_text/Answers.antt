@@ -1,5 +1,5 @@
 use Rattle.std.proofs.Common.{rules}
-use Rattle.gate_book.proofs.Padding.{right_in}
+use Rattle.gate_book_trait.proofs.Padding.{right_in}
 use Rattle.gate_texts.proofs.lines.numbers_text.Goals as goal
 
 pub returns : goal.returns

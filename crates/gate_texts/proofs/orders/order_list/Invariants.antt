@@ -1,5 +1,5 @@
 use Rattle.std.specs.Prelude.{string_bytes}
-use Rattle.gate_book.specs.Kept.{OfHeldUnder, IsKept}
+use Rattle.gate_book_trait.specs.Kept.{OfHeldUnder, IsKept}
 use Rattle.gate_texts.proofs.Listed.{Listed}
 use Rattle.gate_texts.proofs.orders.order_list.Given as goal
 

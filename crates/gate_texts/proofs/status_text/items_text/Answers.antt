@@ -1,6 +1,6 @@
 use Rattle.std.proofs.Common.{◌++◌, ◌∙◌, sym, ap, subst, rules}
 use Rattle.std.specs.Prelude.{string_bytes}
-use Rattle.gate_book.specs.Reads.{first_above}
+use Rattle.gate_book_trait.specs.Reads.{first_above}
 use Rattle.gate_reads.specs.Places.{IsBehind}
 use Rattle.gate_reads.proofs.Kept.{then}
 use Rattle.gate_reads.proofs.Walking.{lawful_front, rows_are}

@@ -1,8 +1,8 @@
 use Rattle.std.proofs.Common.{◌≡◌, Some, ◌-◌}
 use Rattle.std.specs.Prelude.{string_bytes}
 use Rattle.gate_types.specs.State.{Queue}
-use Rattle.gate_book.specs.Kept.{OfHeldUnder, IsKept}
-use Rattle.gate_book.specs.Reads.{queue_named}
+use Rattle.gate_book_trait.specs.Kept.{OfHeldUnder, IsKept}
+use Rattle.gate_book_trait.specs.Reads.{queue_named}
 use Rattle.gate_texts.proofs.Shown.{Shown}
 use Rattle.gate_texts.proofs.status_text.items_text.Given as goal
 

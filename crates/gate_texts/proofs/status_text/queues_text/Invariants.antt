@@ -1,7 +1,7 @@
 use Rattle.std.proofs.Common.{◌≡◌, ◌++◌, drop}
 use Rattle.std.specs.Prelude.{string_bytes, flat_map}
 use Rattle.gate_types.specs.Status.{status_rows}
-use Rattle.gate_book.specs.Kept.{OfHeldUnder, IsKept}
+use Rattle.gate_book_trait.specs.Kept.{OfHeldUnder, IsKept}
 use Rattle.gate_texts.proofs.status_text.queues_text.Given as goal
 
 abbrev pub invariant-loop-queue : goal.invariant-loop-queue

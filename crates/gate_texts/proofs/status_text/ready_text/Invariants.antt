@@ -1,7 +1,7 @@
 use Rattle.std.proofs.Common.{◌≡◌, take}
 use Rattle.std.specs.Prelude.{string_bytes, flat_map}
 use Rattle.gate_types.specs.Status.{waiting_row}
-use Rattle.gate_book.specs.Kept.{OfHeld, IsKept}
+use Rattle.gate_book_trait.specs.Kept.{OfHeld, IsKept}
 use Rattle.gate_texts.proofs.status_text.ready_text.Given as goal
 
 abbrev pub invariant-loop-waiting : goal.invariant-loop-waiting

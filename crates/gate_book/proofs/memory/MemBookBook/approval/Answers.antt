@@ -1,8 +1,8 @@
 use Rattle.std.proofs.Common.{◌∙◌, ap}
 use Rattle.gate_types.specs.Tables.{Tables}
-use Rattle.gate_book.specs.Changes.{approval_in}
+use Rattle.gate_book_trait.specs.RowReads.{approval_in}
 use Rattle.gate_book.specs.Memory.{Held}
-use Rattle.gate_book.proofs.ReadLemmas.{approval_is}
+use Rattle.gate_book_trait.proofs.ReadLemmas.{approval_is}
 use Rattle.gate_book.proofs.memory.MemBookBook.approval.Goals as goal
 
 pub returns-clause-found : goal.returns-clause-found

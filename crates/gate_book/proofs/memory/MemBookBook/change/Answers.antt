@@ -1,7 +1,7 @@
 use Rattle.std.proofs.Common.{◌∙◌, ap}
 use Rattle.gate_types.specs.Tables.{Tables}
-use Rattle.gate_book.specs.TableReads.{change_in}
-use Rattle.gate_book.proofs.ReadLemmas.{change_is}
+use Rattle.gate_book_trait.specs.RowReads.{change_in}
+use Rattle.gate_book_trait.proofs.ReadLemmas.{change_is}
 use Rattle.gate_book.specs.Memory.{Held}
 use Rattle.gate_book.proofs.memory.MemBookBook.change.Goals as goal
 

@@ -1,7 +1,7 @@
 use Rattle.std.proofs.Common.{◌∙◌, ap}
 use Rattle.gate_types.specs.Tables.{Tables}
-use Rattle.gate_book.specs.Queues.{rows_of}
-use Rattle.gate_book.specs.TableReads.{rows_named}
+use Rattle.gate_memory.specs.Queues.{rows_of}
+use Rattle.gate_book_trait.specs.RowReads.{rows_named}
 use Rattle.gate_book.proofs.HistoryLemmas.{of_rows, not_there}
 use Rattle.gate_book.proofs.memory.MemBookBook.history.Goals as goal
 use Rattle.gate_book.specs.Memory.{Held}

@@ -1,6 +1,6 @@
 use Rattle.std.proofs.Common.{◌∙◌, ap, length}
-use Rattle.gate_book.specs.TableReads.{items_named}
-use Rattle.gate_book.proofs.ReadLemmas.{items_are}
+use Rattle.gate_book_trait.specs.RowReads.{items_named}
+use Rattle.gate_book_trait.proofs.ReadLemmas.{items_are}
 use Rattle.gate_types.specs.Tables.{Tables}
 use Rattle.gate_book.specs.Memory.{Held}
 use Rattle.gate_book.proofs.memory.MemBookBook.item_count.Goals as goal

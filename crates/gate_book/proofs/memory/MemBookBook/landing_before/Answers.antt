@@ -2,8 +2,8 @@ use Rattle.std.proofs.Common.{◌∙◌, ap}
 use Rattle.std.specs.List.{AllByRecursion}
 use Rattle.std.specs.Option.{option_map_or}
 use Rattle.gate_types.specs.Tables.{Tables, tables}
-use Rattle.gate_book.specs.TableReads.{rows_named, landings_below, LandingsRise}
-use Rattle.gate_book.proofs.ReadLemmas.{landings_are, landings_all_rise}
+use Rattle.gate_book_trait.specs.RowReads.{rows_named, landings_below, LandingsRise}
+use Rattle.gate_book_trait.proofs.ReadLemmas.{landings_are, landings_all_rise}
 use Rattle.gate_book.specs.Memory.{Held}
 use Rattle.gate_book.proofs.memory.MemBookBook.landing_before.Goals as goal
 

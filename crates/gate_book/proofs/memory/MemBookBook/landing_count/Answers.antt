@@ -1,7 +1,7 @@
 use Rattle.std.proofs.Common.{◌∙◌, ap, length}
 use Rattle.std.specs.Option.{option_map_or}
-use Rattle.gate_book.specs.TableReads.{rows_named}
-use Rattle.gate_book.proofs.ReadLemmas.{landing_count_is}
+use Rattle.gate_book_trait.specs.RowReads.{rows_named}
+use Rattle.gate_book_trait.proofs.ReadLemmas.{landing_count_is}
 use Rattle.gate_types.specs.Tables.{Tables}
 use Rattle.gate_book.specs.Memory.{Held}
 use Rattle.gate_book.proofs.memory.MemBookBook.landing_count.Goals as goal

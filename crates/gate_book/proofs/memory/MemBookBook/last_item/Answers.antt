@@ -3,11 +3,10 @@ use Rattle.std.specs.Prelude.{nat_lt}
 use borrow.Author.Tests.{ltb-true}
 use Rattle.gate_types.specs.declared.records.Item.{Item}
 use Rattle.gate_types.specs.Tables.{Tables}
-use Rattle.gate_book.specs.Reads as read
-use Rattle.gate_book.specs.TableReads.{items_named}
-use Rattle.gate_book.specs.Memory.{tables_of}
-use Rattle.gate_book.proofs.ReadLemmas.{items_are, last_passes, weaker_if}
-use Rattle.gate_book.specs.Memory.{Held}
+use Rattle.gate_book_trait.specs.Reads as read
+use Rattle.gate_book_trait.specs.RowReads.{items_named}
+use Rattle.gate_book.specs.Memory.{tables_of, Held}
+use Rattle.gate_book_trait.proofs.ReadLemmas.{items_are, last_passes, weaker_if}
 use Rattle.gate_book.proofs.memory.MemBookBook.last_item.Goals as goal
 
 pub returns-clause-found : goal.returns-clause-found

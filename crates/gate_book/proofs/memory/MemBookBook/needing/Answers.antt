@@ -1,9 +1,8 @@
 use Rattle.std.proofs.Common.{◌∙◌, ap}
-use Rattle.gate_types.specs.Tables.{tables}
-use Rattle.gate_book.specs.Reads as read
-use Rattle.gate_book.specs.TableReads.{items_named, needing_in}
-use Rattle.gate_book.proofs.ReadLemmas.{items_are, needing_are}
-use Rattle.gate_types.specs.Tables.{Tables}
+use Rattle.gate_types.specs.Tables.{tables, Tables}
+use Rattle.gate_book_trait.specs.Reads as read
+use Rattle.gate_book_trait.specs.RowReads.{items_named, needing_in}
+use Rattle.gate_book_trait.proofs.ReadLemmas.{items_are, needing_are}
 use Rattle.gate_book.specs.Memory.{Held}
 use Rattle.gate_book.proofs.memory.MemBookBook.needing.Goals as goal
 

@@ -1,10 +1,9 @@
 use Rattle.std.proofs.Common.{◌∙◌, List, ap}
 use Rattle.gate_types.specs.declared.records.Item.{Item}
-use Rattle.gate_types.specs.Tables.{tables}
-use Rattle.gate_book.specs.Reads as read
-use Rattle.gate_book.specs.TableReads.{items_named, plans_of_rows}
-use Rattle.gate_book.proofs.ReadLemmas.{items_are}
-use Rattle.gate_types.specs.Tables.{Tables}
+use Rattle.gate_types.specs.Tables.{tables, Tables}
+use Rattle.gate_book_trait.specs.Reads as read
+use Rattle.gate_book_trait.specs.RowReads.{items_named, plans_of_rows}
+use Rattle.gate_book_trait.proofs.ReadLemmas.{items_are}
 use Rattle.gate_book.specs.Memory.{Held}
 use Rattle.gate_book.proofs.memory.MemBookBook.plans_between.Goals as goal
 

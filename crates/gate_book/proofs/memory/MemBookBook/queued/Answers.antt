@@ -1,9 +1,9 @@
 use Rattle.std.proofs.Common.{◌∙◌, List, ap}
 use Rattle.std.specs.Prelude.{◌==◌, find}
 use Rattle.gate_types.specs.Tables.{Tables}
-use Rattle.gate_book.specs.declared.rows.QueuedItem.{QueuedItem}
-use Rattle.gate_book.specs.TableReads.{all_queued}
-use Rattle.gate_book.proofs.ReadLemmas.{queued_are}
+use Rattle.gate_book_trait.specs.declared.rows.QueuedItem.{QueuedItem}
+use Rattle.gate_book_trait.specs.RowReads.{all_queued}
+use Rattle.gate_book_trait.proofs.ReadLemmas.{queued_are}
 use Rattle.gate_book.specs.Memory.{Held}
 use Rattle.gate_book.proofs.memory.MemBookBook.queued.Goals as goal
 

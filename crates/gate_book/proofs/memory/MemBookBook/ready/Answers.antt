@@ -1,6 +1,6 @@
 use Rattle.std.proofs.Common.{◌∙◌, ap}
 use Rattle.gate_types.specs.Tables.{Tables}
-use Rattle.gate_book.proofs.ReadLemmas.{ready_are}
+use Rattle.gate_book_trait.proofs.ReadLemmas.{ready_are}
 use Rattle.gate_book.specs.Memory.{Held}
 use Rattle.gate_book.proofs.memory.MemBookBook.ready.Goals as goal
 

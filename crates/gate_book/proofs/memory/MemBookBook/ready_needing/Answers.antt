@@ -1,9 +1,8 @@
 use Rattle.std.proofs.Common.{◌∙◌, ap}
 use Rattle.gate_types.specs.Tables.{Tables}
-use Rattle.gate_book.specs.Changes.{AreReady}
+use Rattle.gate_book_trait.specs.RowReads.{AreReady, ready_needing_in}
 use Rattle.gate_book.specs.Memory.{Held, tables_of}
-use Rattle.gate_book.specs.TableReads.{ready_needing_in}
-use Rattle.gate_book.proofs.ReadLemmas.{ready_are, ready_needing_are}
+use Rattle.gate_book_trait.proofs.ReadLemmas.{ready_are, ready_needing_are}
 use Rattle.gate_book.proofs.memory.MemBookBook.ready_needing.Goals as goal
 
 pub returns-clause-found : goal.returns-clause-found

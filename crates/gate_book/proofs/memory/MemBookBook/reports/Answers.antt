@@ -1,8 +1,8 @@
 use Rattle.std.proofs.Common.{◌∙◌, ap, length}
 use Rattle.std.specs.Option.{option_map_or}
 use Rattle.gate_types.specs.Tables.{Tables}
-use Rattle.gate_book.specs.TableReads.{rows_named}
-use Rattle.gate_book.proofs.ReadLemmas.{reports_are}
+use Rattle.gate_book_trait.specs.RowReads.{rows_named}
+use Rattle.gate_book_trait.proofs.ReadLemmas.{reports_are}
 use Rattle.gate_book.specs.Memory.{Held}
 use Rattle.gate_book.proofs.memory.MemBookBook.reports.Goals as goal
 

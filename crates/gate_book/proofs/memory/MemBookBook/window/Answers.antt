@@ -1,7 +1,7 @@
 use Rattle.std.proofs.Common.{◌∙◌, ap}
 use Rattle.std.specs.Prelude.{option_map}
-use Rattle.gate_book.specs.TableReads.{rows_named}
-use Rattle.gate_book.proofs.ReadLemmas.{window_is}
+use Rattle.gate_book_trait.specs.RowReads.{rows_named}
+use Rattle.gate_book_trait.proofs.ReadLemmas.{window_is}
 use Rattle.gate_types.specs.Tables.{Tables}
 use Rattle.gate_book.specs.Memory.{Held}
 use Rattle.gate_book.proofs.memory.MemBookBook.window.Goals as goal

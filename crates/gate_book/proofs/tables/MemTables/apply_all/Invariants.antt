@@ -1,7 +1,7 @@
 use Rattle.std.proofs.Common.{◌≡◌, length}
 use Rattle.std.specs.Vec.Iter.{into_iter_items}
 use Rattle.gate_types.specs.Tables.{fold_all}
-use Rattle.gate_book.specs.Needs.{needs_of_all}
+use Rattle.gate_memory.specs.Needs.{needs_of_all}
 use Rattle.gate_book.specs.Memory.{IsKept, HasRoom, tables_of}
 use Rattle.gate_book.proofs.tables.MemTables.apply_all.Given as goal
 

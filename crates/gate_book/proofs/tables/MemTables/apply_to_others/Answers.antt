@@ -1,5 +1,5 @@
 use Rattle.std.proofs.Common.{suc}
-use Rattle.gate_book.specs.Needs.{needs_of}
+use Rattle.gate_memory.specs.Needs.{needs_of}
 use Rattle.gate_book.proofs.MemoryLemmas.{changes_less, plans_less, builds_less, replies_less}
 use Rattle.gate_book.proofs.tables.MemTables.apply_to_others.Goals as goal
 

@@ -1,9 +1,9 @@
 use Rattle.std.proofs.Common.{◌∙◌, map, ap}
 use Rattle.gate_types.specs.Names.{same_name}
 use Rattle.std.specs.Option.{option_map_or}
-use Rattle.gate_book.specs.Queues as queue
-use Rattle.gate_book.specs.TableReads.{LandingsRise, landings_below}
-use Rattle.gate_book.proofs.MemoryLemmas.{all_found}
+use Rattle.gate_memory.specs.Queues as queue
+use Rattle.gate_book_trait.specs.RowReads.{LandingsRise, landings_below}
+use Rattle.gate_book_trait.proofs.Finding.{all_found}
 use Rattle.gate_book.proofs.tables.MemTables.landing_before.Goals as goal
 
 pub returns-in-Some : goal.returns-in-Some

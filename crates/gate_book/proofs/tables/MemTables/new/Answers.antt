@@ -6,7 +6,7 @@ use Rattle.gate_types.specs.Rows.{item_rows}
 use Rattle.gate_types.specs.Tables.{queue_rows}
 use Rattle.gate_types.specs.AdoptedTables.{empty_rows}
 use Rattle.gate_book.specs.Memory.{start_with}
-use Rattle.gate_book.specs.Queues as queue
+use Rattle.gate_memory.specs.Queues as queue
 use Rattle.gate_book.proofs.tables.MemTables.new.Goals as goal
 
 pub returns-clause-rows : goal.returns-clause-rows

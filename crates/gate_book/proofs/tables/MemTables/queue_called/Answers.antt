@@ -2,8 +2,8 @@ use Rattle.std.proofs.Common.{◌≡◌, ◌∙◌, ap, sym}
 use Rattle.std.specs.Prelude.{find, option_map}
 use Rattle.std.specs.Option.{option_copied}
 use Rattle.gate_types.specs.Names.{same_name}
-use Rattle.gate_book.specs.Queues as queue
-use Rattle.gate_book.proofs.MemoryLemmas.{find_map}
+use Rattle.gate_memory.specs.Queues as queue
+use Rattle.gate_book_trait.proofs.Finding.{find_map}
 use Rattle.gate_book.proofs.tables.MemTables.queue_called.Goals as goal
 
 pub returns-clause-found : goal.returns-clause-found

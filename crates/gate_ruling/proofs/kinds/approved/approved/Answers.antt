@@ -4,7 +4,7 @@ use Rattle.gate_types.specs.declared.deliveries.Delivery.TheVariants as delivery
 use Rattle.gate_types.specs.State.{is_open}
 use Rattle.gate_types.specs.Settle.{settle}
 use Rattle.gate_types.specs.Step.{made_ready, approval_reply, settled_step}
-use Rattle.gate_unsettled.specs.Moves.{Moves}
+use Rattle.gate_reads.specs.Moves.{Moves}
 use Rattle.gate_ruling.specs.Guards.{IsLatest}
 use Rattle.gate_ruling.proofs.Guarded.{unless_closed, past_or_closed, closed_stale}
 use Rattle.gate_ruling.proofs.Drawn.{approval_past}

@@ -6,8 +6,8 @@ use Rattle.gate_types.specs.declared.records.Verdict.TheVariants as verdict
 use Rattle.gate_types.specs.State.{is_open, is_queued}
 use Rattle.gate_types.specs.SubmitOrder.{is_submitting}
 use Rattle.gate_types.specs.Step.{leave, refused, settled_step, step}
-use Rattle.gate_unsettled.specs.Moves.{Moves}
-use Rattle.gate_unsettled.specs.Touches.{Touches}
+use Rattle.gate_reads.specs.Moves.{Moves}
+use Rattle.gate_reads.specs.Touches.{Touches}
 use Rattle.gate_ruling.specs.Guards.{IsLatest}
 use Rattle.gate_ruling.proofs.Guarded.{unless_closed, past_or_closed, closed_stale}
 use Rattle.gate_ruling.proofs.GivenUp.{given_up, queued_by}

@@ -9,8 +9,8 @@ use Rattle.gate_types.specs.State.{change_queue, put_plan, known_change}
 use Rattle.gate_types.specs.Window.{grow}
 use Rattle.gate_types.specs.Rows.{item_of}
 use Rattle.gate_types.specs.Step.{leave, landed_queue, landed_plan}
-use Rattle.gate_unsettled.specs.Moves.{Moves}
-use Rattle.gate_unsettled.specs.Touches.{Touches}
+use Rattle.gate_reads.specs.Moves.{Moves}
+use Rattle.gate_reads.specs.Touches.{Touches}
 use Rattle.gate_ruling.specs.Guards.{IsOrdered}
 use Rattle.gate_ruling.specs.Landing.{landing_edits}
 use Rattle.gate_ruling.specs.Windows.{bounds_named}

@@ -7,8 +7,8 @@ use Rattle.gate_types.specs.State.{change_queue}
 use Rattle.gate_types.specs.Window.{shrink}
 use Rattle.gate_types.specs.Step.{leave, shrunk_queue}
 use Rattle.gate_queue.specs.Edits.{window_edits}
-use Rattle.gate_unsettled.specs.Moves.{Moves}
-use Rattle.gate_unsettled.specs.Touches.{Touches}
+use Rattle.gate_reads.specs.Moves.{Moves}
+use Rattle.gate_reads.specs.Touches.{Touches}
 use Rattle.gate_ruling.specs.Guards.{IsOrdered}
 use Rattle.gate_ruling.specs.Windows.{bounds_named}
 use Rattle.gate_ruling.proofs.Folded.{moves_on}

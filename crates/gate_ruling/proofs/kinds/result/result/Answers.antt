@@ -3,8 +3,8 @@ use Rattle.gate_types.specs.declared.edits.Edit.TheVariants as edit
 use Rattle.gate_types.specs.Settings.{are_sound}
 use Rattle.gate_types.specs.Slot.{is_running}
 use Rattle.gate_types.specs.Step.{build_of, end_build}
-use Rattle.gate_book.specs.Reads.{item_at}
-use Rattle.gate_unsettled.specs.Moves.{Moves}
+use Rattle.gate_book_trait.specs.Reads.{item_at}
+use Rattle.gate_reads.specs.Moves.{Moves}
 use Rattle.gate_ruling.proofs.Ended.{ended_raw, ended_touches, ended_moves}
 use Rattle.gate_ruling.proofs.Missing.{item_there}
 use Rattle.gate_ruling.proofs.kinds.result.result.Goals as goal

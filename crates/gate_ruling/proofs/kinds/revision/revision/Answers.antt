@@ -11,7 +11,7 @@ use Rattle.gate_types.specs.Settings.{Settings}
 use Rattle.gate_types.specs.State.{known_change, is_landed}
 use Rattle.gate_types.specs.SubmitOrder.{is_submitting}
 use Rattle.gate_types.specs.Step.{leave, revised, has_project, is_known_and}
-use Rattle.gate_unsettled.specs.Touches.{Touches}
+use Rattle.gate_reads.specs.Touches.{Touches}
 use Rattle.gate_ruling.proofs.GivenUp.{given_up}
 use Rattle.gate_ruling.proofs.Closed.{revision_raw}
 use Rattle.gate_ruling.proofs.kinds.revision.revision.Goals as goal

@@ -4,7 +4,7 @@ use Rattle.gate_types.specs.Counters.{Drawn}
 use Rattle.gate_types.specs.declared.deliveries.Reply.TheVariants as reply
 use Rattle.gate_types.specs.Choice.{choose}
 use Rattle.gate_types.specs.Step.{with_build, settled_step}
-use Rattle.gate_unsettled.specs.Moves.{Moves}
+use Rattle.gate_reads.specs.Moves.{Moves}
 use Rattle.gate_reads.specs.NextBuild.{with_number}
 use Rattle.gate_ruling.proofs.Drawn.{build_past}
 use Rattle.gate_ruling.proofs.Taken.{choice, some_choice, taken_raw, taken_moves}

@@ -6,8 +6,8 @@ use Rattle.gate_types.specs.declared.records.Verdict.TheVariants as verdict
 use Rattle.gate_types.specs.Admit.{without_ready}
 use Rattle.gate_types.specs.SubmitOrder.{is_submitting}
 use Rattle.gate_types.specs.Step.{leave, refused, settled_step, step}
-use Rattle.gate_unsettled.specs.Moves.{Moves}
-use Rattle.gate_unsettled.specs.Touches.{Touches}
+use Rattle.gate_reads.specs.Moves.{Moves}
+use Rattle.gate_reads.specs.Touches.{Touches}
 use Rattle.gate_reads.specs.Stands.{StandsSo}
 use Rattle.gate_reads.specs.declared.stands.Stand.TheVariants as stand
 use Rattle.gate_ruling.specs.Guards.{IsLatest}

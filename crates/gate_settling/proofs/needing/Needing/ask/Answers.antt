@@ -1,6 +1,6 @@
 use Rattle.std.proofs.Common.{◌≡◌, ◌∙◌, ◌++◌, [], ◌∷◌, List, ℕ, take, sym, ap, rules}
 use Rattle.std.proofs.lemmas.List.{take_more}
-use Rattle.gate_book.specs.Reads.{items_in, items_needing}
+use Rattle.gate_book_trait.specs.Reads.{items_in, items_needing}
 use Rattle.gate_settling.specs.Rows.{needing_any, merged}
 use Rattle.gate_settling.proofs.KeptLemmas.{then}
 use Rattle.gate_settling.proofs.NeedingLemmas.{needing_more, kept_above}

@@ -1,6 +1,6 @@
 use Rattle.std.proofs.Common.{◌≡◌, take}
-use Rattle.gate_book.specs.Kept.{OfHeld, IsKept}
-use Rattle.gate_book.specs.Reads.{items_in}
+use Rattle.gate_book_trait.specs.Kept.{OfHeld, IsKept}
+use Rattle.gate_book_trait.specs.Reads.{items_in}
 use Rattle.gate_settling.specs.Rows.{needing_any, AreKept}
 use Rattle.gate_settling.proofs.needing.Needing.ask.Given as goal
 

@@ -1,5 +1,5 @@
 use Rattle.std.proofs.Common.{◌∙◌, ap}
-use Rattle.gate_book.specs.Reads.{items_in, first_above}
+use Rattle.gate_book_trait.specs.Reads.{items_in, first_above}
 use Rattle.gate_settling.proofs.NeedingLemmas.{first_needing, above_rises}
 use Rattle.gate_settling.proofs.needing.Needing.first.Goals as goal
 

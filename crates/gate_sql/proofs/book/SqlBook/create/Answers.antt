@@ -5,7 +5,7 @@ use Rattle.sqlite.proofs.StateLemmas.{survives_weaker}
 use Rattle.gate_types.specs.Settings.{Settings, are_sound}
 use Rattle.gate_types.specs.SettingsText.{settings_text}
 use Rattle.gate_schema.specs.Rows.{Stands}
-use Rattle.gate_sql.specs.Making.{first_stored, first_queue_rows}
+use Rattle.gate_file_changes.specs.Making.{first_stored, first_queue_rows}
 use Rattle.gate_sql.proofs.EmptyLemmas.{stands_for_empty}
 use Rattle.gate_sql.proofs.book.SqlBook.create.Goals as goal
 

@@ -7,13 +7,13 @@ use Rattle.gate_types.specs.Settings.{Settings, are_sound}
 use Rattle.gate_types.specs.SettingsText.{settings_text}
 use Rattle.gate_rows.specs.Tells.{StandsFor}
 use Rattle.gate_schema.specs.Schema.{gate_schema}
-use Rattle.gate_queries.proofs.StayLemmas.{stays_then}
-use Rattle.gate_sql.specs.Held.{IsShownFor}
-use Rattle.gate_sql.specs.Reading.{HoldsMeta, ShowsMeta}
-use Rattle.gate_sql.proofs.JudgeLemmas.{found_of_others, found_of_same, found_others, found_same, only_refused, only_unavailable, told_so}
-use Rattle.gate_sql.proofs.MetaLemmas.{shown_held}
+use Rattle.gate_found_rows.proofs.StayLemmas.{stays_then}
+use Rattle.gate_content_reads.specs.Held.{IsShownFor}
+use Rattle.gate_file_meta.specs.Reading.{HoldsMeta, ShowsMeta}
+use Rattle.gate_file_meta.proofs.JudgeLemmas.{found_of_others, found_of_same, found_others, found_same, only_refused, only_unavailable, told_so}
+use Rattle.gate_file_meta.proofs.MetaLemmas.{shown_held}
 use Rattle.gate_sql.proofs.OpenLemmas.{can_adopt, kept_is, may_open, not_found, own_kept, own_refused, some_to_adopt}
-use Rattle.gate_sql.proofs.SchemaLemmas.{one_schema}
+use Rattle.gate_file_meta.proofs.SchemaLemmas.{one_schema}
 use Rattle.gate_sql.proofs.book.SqlBook.open.Goals as goal
 
 pub returns-in-Ok-None-clause-opens : goal.returns-in-Ok-None-clause-opens

@@ -1,6 +1,6 @@
 use Rattle.std.proofs.Common.{refl}
 use Rattle.sqlite.specs.Held.{state}
-use Rattle.gate_sql.proofs.ApplyLemmas.{applied}
+use Rattle.gate_file_changes.proofs.ApplyLemmas.{applied}
 use Rattle.gate_sql.proofs.reads.SqlBookBook.apply.Goals as goal
 
 pub returns-clause-applied : goal.returns-clause-applied

@@ -6,9 +6,9 @@ use Rattle.gate_cache.specs.Cached.{HoldsBelow}
 use Rattle.gate_core.specs.Gated.{Gated}
 use Rattle.gate_core.specs.Lines.{lines_of, whole_lines}
 use Rattle.gate_core.specs.Replies.{Cut, Replayed}
-use Rattle.gate_queries.specs.Finds.{Stays}
-use Rattle.gate_sql.specs.Held.{HoldsFor}
-use Rattle.gate_sql.specs.Opens.{IsJudged}
+use Rattle.gate_found_rows.specs.Finds.{Stays}
+use Rattle.gate_content_reads.specs.Held.{HoldsFor}
+use Rattle.gate_file_meta.specs.Opens.{IsJudged}
 use Rattle.gated_cli.specs.OverFile.{GoesOver}
 use Rattle.gated_cli.proofs.FileLemmas.{goes_over_cached, no_replay_fault, of_each, of_memory, of_no_memory, of_read, of_write, opens_to, same_passes}
 use Rattle.gated_cli.proofs.run.over_file.deliver.Goals as goal

@@ -3,9 +3,9 @@ use Rattle.std.specs.Prelude.{IfSome}
 use Rattle.sqlite.specs.Held.{state}
 use Rattle.sqlite.specs.State.{HasCleanDisk}
 use Rattle.gate_http.specs.Connections.{IsCalled}
-use Rattle.gate_queries.specs.Finds.{Stays}
-use Rattle.gate_sql.specs.Held.{HoldsFor}
-use Rattle.gate_sql.specs.Opens.{IsJudged}
+use Rattle.gate_found_rows.specs.Finds.{Stays}
+use Rattle.gate_content_reads.specs.Held.{HoldsFor}
+use Rattle.gate_file_meta.specs.Opens.{IsJudged}
 use Rattle.gated_cli.specs.OverFile.{GoesOver}
 use Rattle.gated_cli.proofs.FileLemmas.{goes_over_cached, no_file_fault, opens_to, serving_over_file}
 use Rattle.gated_cli.proofs.TalkLemmas.{none_so_far}

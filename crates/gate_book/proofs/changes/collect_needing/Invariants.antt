@@ -1,8 +1,0 @@
-use Rattle.std.proofs.Common.{◌≡◌, take}
-use Rattle.std.specs.List.{filter_map}
-use Rattle.gate_book.specs.Changes.{in_order, number_of}
-use Rattle.gate_book.specs.TableReads.{needing_by}
-use Rattle.gate_book.proofs.changes.collect_needing.Given as goal
-
-abbrev pub invariant-loop-pair : goal.invariant-loop-pair
-invariant-loop-pair l = l.found ≡ filter_map (needing_by (in_order number_of l.rows) l.change) (take l.pair-index l.pairs)

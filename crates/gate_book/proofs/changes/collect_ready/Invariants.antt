@@ -1,7 +1,0 @@
-use Rattle.std.proofs.Common.{◌≡◌, take}
-use Rattle.std.specs.List.{filter_map}
-use Rattle.gate_book.specs.Changes.{in_order, number_of, ready_by}
-use Rattle.gate_book.proofs.changes.collect_ready.Given as goal
-
-abbrev pub invariant-loop-pair : goal.invariant-loop-pair
-invariant-loop-pair l = l.found ≡ filter_map (ready_by (in_order number_of l.rows)) (take l.pair-index l.pairs)

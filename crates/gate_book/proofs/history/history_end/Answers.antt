@@ -1,5 +1,0 @@
-use Rattle.std.proofs.Common.{rules}
-use Rattle.gate_book.proofs.history.history_end.Goals as goal
-
-pub returns : goal.returns
-returns c = search rules

@@ -1,6 +1,0 @@
-use Rattle.std.proofs.Common.{rules}
-use Rattle.gate_book.proofs.Padding.{right_in}
-use Rattle.gate_book.proofs.history.landing_text.Goals as goal
-
-pub returns-in-Landed : goal.returns-in-Landed
-returns-in-Landed c = rw (c.in-Landed.is, right_in 6) (search rules)

@@ -1,6 +1,0 @@
-use Rattle.std.proofs.Common.{◌≡◌, take}
-use Rattle.gate_book.specs.Needs.{needs_of_all}
-use Rattle.gate_book.proofs.needs.count_needs.Given as goal
-
-abbrev pub invariant-loop-edit : goal.invariant-loop-edit
-invariant-loop-edit l = l.count ≡ needs_of_all (take l.edit-index l.edits)

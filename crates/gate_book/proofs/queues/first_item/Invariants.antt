@@ -1,8 +1,0 @@
-use Rattle.std.proofs.Common.{◌≡◌, take, []}
-use Rattle.std.specs.List.{filter_map}
-use Rattle.gate_book.specs.Sorted.{passing}
-use Rattle.gate_book.specs.Queues.{serial_of, is_of_change}
-use Rattle.gate_book.proofs.queues.first_item.Given as goal
-
-abbrev pub invariant-loop-entry : goal.invariant-loop-entry
-invariant-loop-entry l = filter_map (λ p. passing serial_of (is_of_change l.fn.change) l.items p.second) (take l.entry-index l.entries) ≡ []

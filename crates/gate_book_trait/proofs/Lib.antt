@@ -1,0 +1,4 @@
+pub mod Finding
+pub mod Padding
+pub mod ReportLines
+pub mod ReadLemmas

@@ -1,0 +1,7 @@
+pub mod Reads
+pub mod Kept
+pub mod Faults
+pub mod Text
+pub mod Writes
+pub mod Rising
+pub mod RowReads

@@ -1,0 +1,29 @@
+//! What an item was admitted with, asked of a book.
+ghost use Rattle.std.specs.Prelude.{◌≡◌, IfOk, IfErr};
+ghost use Rattle.gate_types.specs.State.{plan_of};
+ghost use Rattle.gate_book_trait.specs.Faults.{MayAnswer};
+ghost use Rattle.gate_book_trait.specs.Kept.{OfHeld, IsKept};
+
+use crate::book::Book;
+use crate::fault::BookFault;
+use gate_types::numbers::Serial;
+use gate_types::records::Plan;
+use gate_types::sequence::Sequence;
+use std::alloc::Global;
+
+/// The plan of the item or the landing of a serial; one without jobs where there is none.
+pub fn plan_of<B: Book>(alloc: Global, book: &mut B, serial: Serial) -> Result<Plan, BookFault>
+    ensures found { OfHeld B.IsTrusted B.Holds book.old book.new (λ c x.
+        IfOk result (λ plan. plan ≡ plan_of x.state serial)) }
+    ensures kept { IsKept B.IsTrusted B.Holds B.LeavesOneOf book.old book.new }
+    ensures fault { IfErr result (MayAnswer B.MayFault) }
+{
+    match book.plan(serial)? {
+        Some(plan) => Ok(plan),
+        None => Ok(Plan {
+            serial,
+            jobs: Sequence::new(alloc),
+            fast: false,
+        }),
+    }
+}

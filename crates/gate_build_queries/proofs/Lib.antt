@@ -1,0 +1,9 @@
+mod AheadLemmas
+mod BetweenReads
+mod BuildForms
+mod BuildReads
+mod BuildTexts
+mod PlanReads
+mod PlanTexts
+mod PlannedLemmas
+mod PlannedReads

@@ -1,0 +1,59 @@
+-- How the text of what is ahead of a build is read, byte by byte.
+use Rattle.std.specs.Prelude.{ℕ, ◌+◌, ◌*◌, ◌-◌, ◌&&◌, ◌||◌, ◌==◌, nat_lt, if◌then◌else◌, List, [], ◌∷◌, ◌++◌, Option, Some, None}
+use Rattle.gate_types.specs.Forms.{is_change_number, is_revision_number}
+use Rattle.gate_types.specs.declared.records.Entry.{Entry}
+use Rattle.gate_build_queries.specs.declared.ahead.Part.{Part}
+use Rattle.gate_build_queries.specs.declared.ahead.Part.TheVariants.{Start, Outer, Opened, InChange, Between, InRevision, Closed, Next, End, Bad}
+
+-- the value of a digit
+abbrev pub digit_of : ℕ → Option ℕ
+digit_of c = if nat_lt 47 c && nat_lt c 58 then Some (c - 48) else None
+
+-- a digit more, with no zero in front, up to 999,999,999
+abbrev pub grown : ℕ → ℕ → Option ℕ
+grown n d = if n == 0 || nat_lt 99999999 n then None else Some (n * 10 + d)
+
+-- the part of a number, if there is one
+abbrev pub or_bad : Option ℕ → (ℕ → Part) → Part
+or_bad None f = Bad
+or_bad (Some n) f = f n
+
+-- the number with this byte, if it is a digit
+abbrev pub more_of : ℕ → Option ℕ → Option ℕ
+more_of n None = None
+more_of n (Some d) = grown n d
+
+-- a byte within the number of a change
+abbrev pub step_in_change : ℕ → ℕ → Part
+step_in_change n c =
+    if c == 44 then (if is_change_number n then Between n else Bad)
+    else or_bad (more_of n (digit_of c)) (λ m. InChange m)
+
+-- a byte within a revision
+abbrev pub step_in_revision : ℕ → ℕ → ℕ → Part
+step_in_revision n r c =
+    if c == 93 then (if is_revision_number r then Closed (record { change = n; revision = r }) else Bad)
+    else or_bad (more_of r (digit_of c)) (λ m. InRevision n m)
+
+-- the part behind a byte
+abbrev pub step : Part → ℕ → Part
+step Start c = if c == 91 then Outer else Bad
+step Outer c = if c == 91 then Opened else (if c == 93 then End else Bad)
+step Opened c = or_bad (digit_of c) (λ n. InChange n)
+step (InChange n) c = step_in_change n c
+step (Between n) c = or_bad (digit_of c) (λ r. InRevision n r)
+step (InRevision n r) c = step_in_revision n r c
+step (Closed e) c = if c == 44 then Next else (if c == 93 then End else Bad)
+step Next c = if c == 91 then Opened else Bad
+step End c = Bad
+step Bad c = Bad
+
+-- the entry that has just ended
+abbrev pub ended : Part → List Entry
+ended (Closed e) = e ∷ []
+ended _ = []
+
+-- the part behind a text, and the entries that end in it
+abbrev pub go : Part → List Entry → List ℕ → Part × List Entry
+go p es [] = (p, es)
+go p es (c ∷ cs) = go (step p c) (es ++ ended (step p c)) cs

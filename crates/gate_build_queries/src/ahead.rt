@@ -1,0 +1,189 @@
+//! What is ahead of a build, read from the text of its column.
+ghost use Rattle.std.specs.Prelude.{◌≡◌, [], Some, IfOk, IfErr, IfSome, OnErr, IsTrue};
+ghost use Rattle.std.specs.List.{AllPass};
+ghost use Rattle.std.specs.Option.{option_to_list};
+ghost use Rattle.sqlite_value.specs.Order.{column};
+ghost use Rattle.sqlite.specs.declared.types.Value.TheVariants.{Text};
+ghost use Rattle.gate_types.specs.Forms.{is_entry_in_form};
+ghost use Rattle.gate_schema.specs.Words.{ahead_text};
+ghost use Rattle.gate_build_queries.specs.Ahead.{digit_of, ended, go, grown, step, step_in_change, step_in_revision};
+
+use gate_book_trait::BookFault;
+use gate_rows::write_ahead;
+use gate_types::numbers::{ChangeNo, Revision};
+use gate_types::records::Entry;
+use gate_types::sequence::Sequence;
+use sqlite::Row;
+use sqlite::types::ValueRef;
+use std::alloc::{AllocError, Global};
+
+/// How far the text has been read.
+#[derive(Clone, Copy, PartialEq, Eq)]
+pub(crate) enum Part {
+    Start,
+    /// Behind the outer bracket.
+    Outer,
+    /// Behind the bracket of an entry.
+    Opened,
+    /// Within the number of a change.
+    InChange(u64),
+    /// Behind the comma of an entry.
+    Between(ChangeNo),
+    /// Within a revision.
+    InRevision(ChangeNo, u64),
+    /// Behind an entry.
+    Closed(Entry),
+    /// Behind the comma between two entries.
+    Next,
+    End,
+    /// It isn't a text of entries.
+    Bad,
+}
+
+fn digit(byte: u8) -> Option<u8>
+    ensures { result ≡ digit_of byte }
+{
+    if byte.is_ascii_digit() {
+        Some(byte - b'0')
+    } else {
+        None
+    }
+}
+
+/// The number with a digit more. None where it began with 0, or grows past 999,999,999.
+fn grow(number: u64, digit: u8) -> Option<u64>
+    ensures { result ≡ grown number digit }
+{
+    if number == 0 || number > 99_999_999 {
+        None
+    } else {
+        Some(number * 10 + u64::from(digit))
+    }
+}
+
+/// The byte within the number of a change.
+fn next_in_change(number: u64, byte: u8) -> Part
+    ensures { result ≡ step_in_change number byte }
+{
+    if byte == b',' {
+        return match ChangeNo::new(number) {
+            Some(change) => Part::Between(change),
+            None => Part::Bad,
+        };
+    }
+    let Some(digit) = digit(byte) else {
+        return Part::Bad;
+    };
+    match grow(number, digit) {
+        Some(number) => Part::InChange(number),
+        None => Part::Bad,
+    }
+}
+
+/// The byte within a revision.
+fn next_in_revision(change: ChangeNo, number: u64, byte: u8) -> Part
+    ensures { result ≡ step_in_revision change number byte }
+{
+    if byte == b']' {
+        return match Revision::new(number) {
+            Some(revision) => Part::Closed(Entry { change, revision }),
+            None => Part::Bad,
+        };
+    }
+    let Some(digit) = digit(byte) else {
+        return Part::Bad;
+    };
+    match grow(number, digit) {
+        Some(number) => Part::InRevision(change, number),
+        None => Part::Bad,
+    }
+}
+
+/// The part behind a byte.
+fn next_part(part: Part, byte: u8) -> Part
+    ensures { result ≡ step part byte }
+{
+    match part {
+        Part::Start if byte == b'[' => Part::Outer,
+        Part::Outer | Part::Next if byte == b'[' => Part::Opened,
+        Part::Outer | Part::Closed(_) if byte == b']' => Part::End,
+        Part::Closed(_) if byte == b',' => Part::Next,
+        Part::Opened => match digit(byte) {
+            Some(digit) => Part::InChange(u64::from(digit)),
+            None => Part::Bad,
+        },
+        Part::InChange(number) => next_in_change(number, byte),
+        Part::Between(change) => match digit(byte) {
+            Some(digit) => Part::InRevision(change, u64::from(digit)),
+            None => Part::Bad,
+        },
+        Part::InRevision(change, number) => next_in_revision(change, number, byte),
+        _ => Part::Bad,
+    }
+}
+
+/// The entry that has just ended.
+fn ended_entry(part: &Part) -> Option<Entry>
+    ensures { option_to_list result ≡ ended part.now }
+{
+    match part {
+        Part::Closed(entry) => Some(*entry),
+        _ => None,
+    }
+}
+
+/// The entries that end within the text, and the part behind all of it.
+fn read_parts(alloc: Global, text: &[u8]) -> Result<(Part, Vec<Entry>), AllocError>
+    ensures { IfOk result (λ read. (read.0, read.1.items) ≡ go Part.Start [] text.now) }
+{
+    let mut part = Part::Start;
+    let mut entries = Vec::new(alloc);
+    for byte in text {
+        let next = next_part(part, *byte);
+        if let Some(entry) = ended_entry(&next) {
+            entries.push(entry)?;
+        }
+        part = next;
+    }
+    Ok((part, entries))
+}
+
+fn is_end(part: Part) -> bool
+    ensures { part ≡ Part.End → IsTrue result }
+{
+    part == Part::End
+}
+
+/// The entries of a text. `NoMemory` where memory is refused, `Damaged` where the text is of no entries: it
+/// has the one form that is written.
+fn read_ahead(alloc: Global, text: &[u8]) -> Result<Vec<Entry>, BookFault>
+    ensures told { (entries : _) → text.now ≡ ahead_text entries → AllPass is_entry_in_form entries →
+        IfOk result (λ read. read.items ≡ entries) }
+    ensures form { IfOk result (λ read. text.now ≡ ahead_text read.items) }
+    ensures damaged { (entries : _) → text.now ≡ ahead_text entries → AllPass is_entry_in_form entries →
+        IfErr result (λ fault. fault ≡ BookFault.NoMemory) }
+{
+    let (part, entries) = read_parts(alloc, text)?;
+    if !is_end(part) {
+        return Err(BookFault::Damaged);
+    }
+    let again = write_ahead(alloc, entries.as_slice())?;
+    if again.as_bytes() != text {
+        return Err(BookFault::Damaged);
+    }
+    Ok(entries)
+}
+
+/// The entries in a column. `NoMemory` where memory is refused, `Damaged` where it holds none.
+pub(crate) fn ahead_in(alloc: Global, row: &Row, at: usize) -> Result<Sequence<Entry>, BookFault>
+    ensures ok { (entries : _) → column row.now at ≡ Text (ahead_text entries) → AllPass is_entry_in_form entries →
+        IfOk result (λ read. read ≡ entries) }
+    ensures form { IfOk result (λ read. column row.now at ≡ Text (ahead_text read)) }
+    ensures err { (entries : _) → column row.now at ≡ Text (ahead_text entries) → AllPass is_entry_in_form entries →
+        IfErr result (λ fault. fault ≡ BookFault.NoMemory) }
+{
+    match row.get_ref(at) {
+        Ok(ValueRef::Text(text)) => Ok(Sequence::from_vec(read_ahead(alloc, text)?)),
+        _ => Err(BookFault::Damaged),
+    }
+}

@@ -1,0 +1,5 @@
+mod ChangeReads
+mod ChangeTexts
+mod DeliveryReads
+mod ReadyNeedingReads
+mod ReadyReads

@@ -1,0 +1,3 @@
+pub mod KeptLemmas
+pub mod ReadLemmas
+pub mod told

@@ -1,0 +1,48 @@
+use Rattle.std.proofs.Common.{rules, ◌≡◌, ◌∙◌, true, ap, sym, subst, refl}
+use Rattle.gate_types.specs.Settings.{are_sound}
+use Rattle.gate_types.specs.Rebase.{rebase}
+use Rattle.gate_types.specs.Settle.{settle}
+use Rattle.gate_types.specs.Step.{accepted}
+use Rattle.gate_types.specs.Tables.{Leads}
+use Rattle.gate_reads.specs.Moves.{in_state, swept}
+use Rattle.gate_core.proofs.Results.{at_some, at_none}
+use Rattle.gate_core.proofs.Steps.{moved_steps, exhausted_steps}
+use Rattle.gate_core.proofs.Thinning.{thinned_leads}
+use Rattle.gate_core.proofs.ruled.settle.Goals as goal
+
+pub returns-in_ok-reply-in-Some-clause-ruled : goal.returns-in_ok-reply-in-Some-clause-ruled
+returns-in_ok-reply-in-Some-clause-ruled g c trusted x holds lawful d moved =
+    let s = c.args.config.now in
+    let t = moved.after in
+    let sound : are_sound s ≡ true = search rules in
+    let admitted = c.in_ok-reply-in-Some.ensures.kept.trusted_before trusted in
+    let settled = c.in_ok-all.ensures.kept.trusted_before admitted in
+    let raw_sound = c.raw_step_is_sound.ensures s x.state d _ t sound lawful.lawful moved.accepted in
+    let swept_sound = c.sweep_is_sound.ensures s (rebase s t) (c.rebase_is_sound.ensures s t raw_sound) in
+    let led = c.in_ok-settling.ensures.settled settled x holds lawful d _ t c.args.moved.edits.items moved.accepted moved.acts moved.touches moved.moves in
+    let both = subst (λ es. Leads s x es (in_state x (swept s t))) (sym c.in_ok-settled.ensures) led in
+    let there = c.in_ok-settling.ensures.kept.holds_on settled _ x holds in
+    let done = at_some _ _ c.in_ok-all.field-0 c.in-Some.all c.in-Some.is (c.in_ok-all.ensures.admitted admitted x there lawful d _ t moved.accepted swept_sound both) in
+    let here = c.in_ok-all.ensures.kept.holds_on admitted _ x there in
+    let made = subst (λ es. Leads s x es (in_state x (settle s t))) (sym c.in_ok-made-in-Some.ensures) (thinned_leads s x c.in-Some.all.items _ done.0) in
+    let read = subst (λ es. Leads s x es (in_state x (settle s t))) (sym c.deref.ensures.value) made in
+    let spoken = c.in_ok-reply-in-Some.ensures.said trusted x here lawful (settle s t) (c.admit_is_sound.ensures s (swept s t) sound swept_sound) read in
+    record {
+      after = settle s t;
+      steps = moved_steps s x.state t d _ moved.accepted done.1 ∙ ap (λ r. accepted r (settle s t)) (sym spoken);
+      leads = made;
+    }
+
+pub returns-in-None-clause-ruled : goal.returns-in-None-clause-ruled
+returns-in-None-clause-ruled g c trusted x holds lawful d moved =
+    let s = c.args.config.now in
+    let t = moved.after in
+    let sound : are_sound s ≡ true = search rules in
+    let settled = c.in_ok-all.ensures.kept.trusted_before trusted in
+    let raw_sound = c.raw_step_is_sound.ensures s x.state d _ t sound lawful.lawful moved.accepted in
+    let swept_sound = c.sweep_is_sound.ensures s (rebase s t) (c.rebase_is_sound.ensures s t raw_sound) in
+    let led = c.in_ok-settling.ensures.settled settled x holds lawful d _ t c.args.moved.edits.items moved.accepted moved.acts moved.touches moved.moves in
+    let both = subst (λ es. Leads s x es (in_state x (swept s t))) (sym c.in_ok-settled.ensures) led in
+    let there = c.in_ok-settling.ensures.kept.holds_on settled _ x holds in
+    let past = at_none _ _ c.in_ok-all.field-0 c.in-None.is (c.in_ok-all.ensures.admitted trusted x there lawful d _ t moved.accepted swept_sound both) in
+    (exhausted_steps s x.state t d _ moved.accepted past, refl)

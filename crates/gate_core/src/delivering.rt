@@ -1,0 +1,121 @@
+//! The answer to a delivery.
+ghost use Rattle.std.specs.Prelude.{◌≡◌, None, true, false, IfOk, IfErr, OnErr};
+ghost use Rattle.gate_types.specs.declared.deliveries.Answer.TheVariants as answers;
+ghost use Rattle.gate_types.specs.Canonical.{canonical_text};
+ghost use Rattle.gate_types.specs.Once.{kept_for, kept_answer, is_unavailable};
+ghost use Rattle.gate_book_trait.specs.Faults.{MayAnswer};
+ghost use Rattle.gate_book_trait.specs.Kept.{OfHeldUnder};
+ghost use Rattle.gate_ruling.specs.Faults.{MayRule};
+ghost use Rattle.gate_core.specs.Answered.{Answered, call};
+
+use crate::accepting::accept;
+use crate::ruled::{Ruled, rule};
+use gate_book_trait::{Book, BookFault};
+use gate_laws::{forms, typed};
+use gate_types::canonical::canonical;
+use gate_types::config::Config;
+use gate_types::deliveries::{Answer, Delivery, Refusal};
+use gate_types::names::Text;
+use gate_types::records::{Id, Kept};
+use std::alloc::Global;
+
+/// The answer to a delivery. A first accepted delivery spends its id and its reply is kept; a spent id gets the kept
+/// reply again if the delivery is the same, and `id-reused` if it is another one. After a refusal nothing has changed;
+/// `unavailable` comes only where the book gave a fault or memory was refused.
+pub fn deliver<B: Book>(
+    alloc: Global,
+    book: &mut B,
+    config: &Config,
+    id: Id,
+    delivery: &Delivery,
+) -> Answer
+    ensures answered { OfHeldUnder B.IsTrusted B.Holds book.old book.new config.now (λ x.
+        Answered config.now x (call id delivery.now (is_unavailable result)) result
+        (B.Holds book.new config.now) (B.LeavesOneOf book.old config.now) (B.LeavesOneOf book.new config.now)) }
+    ensures trusted { B.IsTrusted book.new → B.IsTrusted book.old }
+{
+    match answer(alloc, book, config, id, delivery) {
+        Ok(answer) => answer,
+        Err(_) => Answer::Refused(Refusal::Unavailable),
+    }
+}
+
+/// The answer to a delivery, or why it is answered `unavailable`.
+fn answer<B: Book>(
+    alloc: Global,
+    book: &mut B,
+    config: &Config,
+    id: Id,
+    delivery: &Delivery,
+) -> Result<Answer, BookFault>
+    ensures ok { OfHeldUnder B.IsTrusted B.Holds book.old book.new config.now (λ x.
+        IfOk result (λ a. Answered config.now x (call id delivery.now false) a
+        (B.Holds book.new config.now) (B.LeavesOneOf book.old config.now) (B.LeavesOneOf book.new config.now))) }
+    ensures err { OfHeldUnder B.IsTrusted B.Holds book.old book.new config.now (λ x.
+        OnErr result (Answered config.now x (call id delivery.now true) (answers.Refused Refusal.Unavailable)
+        (B.Holds book.new config.now) (B.LeavesOneOf book.old config.now) (B.LeavesOneOf book.new config.now))) }
+    ensures told { OfHeldUnder B.IsTrusted B.Holds book.old book.new config.now (λ x.
+        IfOk result (λ a. is_unavailable a ≡ false)) }
+    ensures trusted { B.IsTrusted book.new → B.IsTrusted book.old }
+    ensures fault { IfErr result (MayRule B.MayFault) }
+    ensures undamaged { OfHeldUnder B.IsTrusted B.Holds book.old book.new config.now (λ x.
+        IfErr result (MayAnswer B.MayFault)) }
+{
+    let said = canonical(alloc, delivery)?;
+    match book.delivery(&id)? {
+        Some(kept) => Ok(answer_again(kept, said.as_str())),
+        None => act(alloc, book, config, id, Text::new(said), delivery),
+    }
+}
+
+/// The kept reply to the delivery that it was made for; another delivery is refused.
+fn answer_again(kept: Kept, said: &str) -> Answer
+    ensures answer { result ≡ kept_answer said.now kept }
+    ensures told { is_unavailable result ≡ false }
+{
+    let Kept {
+        id: _,
+        said: before,
+        reply,
+    } = kept;
+    if before.as_str() == said {
+        Answer::Said(reply)
+    } else {
+        Answer::Refused(Refusal::IdReused)
+    }
+}
+
+/// The answer to a delivery under a new id.
+fn act<B: Book>(
+    alloc: Global,
+    book: &mut B,
+    config: &Config,
+    id: Id,
+    said: Text,
+    delivery: &Delivery,
+) -> Result<Answer, BookFault>
+    requires { said ≡ canonical_text delivery.now }
+    ensures ok { OfHeldUnder B.IsTrusted B.Holds book.old book.new config.now (λ x. kept_for id x.kept ≡ None →
+        IfOk result (λ a. Answered config.now x (call id delivery.now false) a
+        (B.Holds book.new config.now) (B.LeavesOneOf book.old config.now) (B.LeavesOneOf book.new config.now))) }
+    ensures err { OfHeldUnder B.IsTrusted B.Holds book.old book.new config.now (λ x. kept_for id x.kept ≡ None →
+        OnErr result (Answered config.now x (call id delivery.now true) (answers.Refused Refusal.Unavailable)
+        (B.Holds book.new config.now) (B.LeavesOneOf book.old config.now) (B.LeavesOneOf book.new config.now))) }
+    ensures told { OfHeldUnder B.IsTrusted B.Holds book.old book.new config.now (λ x. kept_for id x.kept ≡ None →
+        IfOk result (λ a. is_unavailable a ≡ false)) }
+    ensures trusted { B.IsTrusted book.new → B.IsTrusted book.old }
+    ensures fault { IfErr result (MayRule B.MayFault) }
+    ensures undamaged { OfHeldUnder B.IsTrusted B.Holds book.old book.new config.now (λ x.
+        IfErr result (MayAnswer B.MayFault)) }
+{
+    // This shows the prover that the settings are sound.
+    let _settings = &config.base;
+    typed::settings_are_in_form(config);
+    typed::delivery_is_in_form(delivery);
+    typed::id_is_in_form(&id);
+    forms::next_content_is_lawful();
+    match rule(alloc, book, config, delivery)? {
+        Ruled::Refused(refusal) => Ok(Answer::Refused(refusal)),
+        Ruled::Accepted(reply, edits) => accept(alloc, book, id, said, &reply, edits),
+    }
+}

@@ -1,0 +1,4 @@
+pub mod FailLemmas
+pub mod JudgeLemmas
+pub mod MetaLemmas
+pub mod SchemaLemmas

@@ -1,0 +1,14 @@
+pub mod DecodeLemmas
+pub mod DistinctLemmas
+pub mod GreatestLemmas
+pub mod JoinLemmas
+pub mod KeyedReads
+pub mod ListFacts
+pub mod ListedReads
+pub mod NameLemmas
+pub mod NeedLemmas
+pub mod ReadLemmas
+pub mod ShownLemmas
+pub mod SilentLemmas
+pub mod SortedLemmas
+pub mod StayLemmas

@@ -1,0 +1,5 @@
+pub mod Finds
+pub mod Asked
+pub mod Whole
+pub mod Reads
+pub mod Shown

@@ -1,0 +1,4 @@
+pub mod ItemReads
+mod ItemTexts
+mod NeedingReads
+pub mod NextReads

@@ -1,0 +1,21 @@
+use Rattle.std.proofs.Common.{◌∙◌, eqb, filter, subst}
+use Rattle.sqlite.specs.Held.{state}
+use Rattle.gate_book_trait.specs.Reads.{Answers}
+use Rattle.gate_schema.specs.Rows.{ItemRow, item_key}
+use Rattle.gate_item_queries.proofs.ItemReads.{first_is, item_found}
+use Rattle.gate_item_queries.proofs.ItemTexts.{item_is}
+use Rattle.gate_item_queries.proofs.item_reads.item.Goals as goal
+
+pub returns-in_err-rows-clause-only_reads : goal.returns-in_err-rows-clause-only_reads
+returns-in_err-rows-clause-only_reads g c = c.read_rows.ensures.only_reads item_is.0.1
+
+pub returns-clause-only_reads : goal.returns-clause-only_reads
+returns-clause-only_reads g c = c.read_rows.ensures.only_reads item_is.0.1
+
+pub returns-clause-found : goal.returns-clause-found
+returns-clause-found g c clean b shows whole =
+    let found = c.in_ok-rows.ensures.finds clean in
+    let n = c.args.number in
+    let shown = item_found (state g.S.Store c.args.conn.now) b n c.in_ok-rows.rows.items (shows found.0) whole (rw c.serial.ensures at found.1) in
+    subst (λ v. Answers v c.first_item.result) (first_is (λ (i : ItemRow). i.item) (λ i. eqb (item_key i) n) b.items)
+    (c.first_item.ensures (filter (λ i. eqb (item_key i) n) b.items) (c.deref.ensures.value ∙ shown.shown) shown.in_form)

@@ -1,0 +1,26 @@
+use Rattle.std.proofs.Common.{◌∙◌, ◌<◌, ltb}
+use Rattle.sqlite.specs.Held.{state}
+use Rattle.gate_types.specs.Names.{same_name}
+use Rattle.gate_types.specs.declared.records.Item.{Item}
+use Rattle.gate_schema.specs.Rows.{ItemRow}
+use Rattle.gate_item_queries.proofs.ItemTexts.{last_is}
+use Rattle.gate_found_rows.proofs.ListFacts.{last_in}
+use Rattle.gate_item_queries.proofs.NextReads.{first_answers, last_found, last_is_below}
+use Rattle.gate_item_queries.proofs.item_reads.last_item.Goals as goal
+
+pub returns-in_err-rows-clause-only_reads : goal.returns-in_err-rows-clause-only_reads
+returns-in_err-rows-clause-only_reads g c = c.read_rows.ensures.only_reads last_is.0.1
+
+pub returns-clause-only_reads : goal.returns-clause-only_reads
+returns-clause-only_reads g c = c.read_rows.ensures.only_reads last_is.0.1
+
+pub returns-clause-found : goal.returns-clause-found
+returns-clause-found g c clean b shows whole =
+    let found = c.in_ok-rows.ensures.finds clean in
+    let name = c.args.queue.now in
+    let below = c.args.below in
+    let leads = last_found (state g.S.Store c.args.conn.now) b name below c.in_ok-rows.rows.items (shows found.0) whole
+    (rw (c.text.ensures, c.as_str.ensures.value, c.capped.ensures) at found.1) in
+    first_answers c.in_ok-rows.rows.items _ (λ (i : ItemRow). i.item.serial < below) _ c.first_below.result leads
+    (last_in (λ (i : ItemRow). same_name i.queue name) (λ (i : Item). ltb i.serial below) (λ (i : ItemRow). i.item) b.items)
+    (last_is_below name below b.items) (λ is shown. c.first_below.ensures.found is (c.deref.ensures.value ∙ shown))

@@ -1,0 +1,137 @@
+//! Whether settings are sound.
+ghost use Rattle.std.specs.Prelude.{◌≡◌, true, map, List, ℕ};
+ghost use Rattle.std.specs.List.{list_any, list_all};
+ghost use Rattle.gate_types.specs.Names.{same_name};
+ghost use Rattle.gate_types.specs.Settings.{are_distinct, has_queue, is_factor, is_sound_rule, is_sound_window, are_sound_jobs, are_sound};
+ghost use Rattle.gate_kept_settings.specs.Reading.{is_sound_project};
+
+use gate_types::config::{Job, Project, Queue, WindowRule};
+
+/// What has a name.
+trait Named {
+    ghost use Rattle.std.specs.Prelude.{◌≡◌, ℕ, List};
+
+    ghost named: { Self → List ℕ };
+
+    fn name(&self) -> &str
+        ensures { result.now ≡ named self.now };
+}
+
+impl Named for Job {
+    ghost named = { λ j. j.name };
+
+    fn name(&self) -> &str {
+        self.name.as_str()
+    }
+}
+
+impl Named for Queue {
+    ghost named = { λ q. q.name };
+
+    fn name(&self) -> &str {
+        self.name.as_str()
+    }
+}
+
+impl Named for Project {
+    ghost named = { λ p. p.name };
+
+    fn name(&self) -> &str {
+        self.name.as_str()
+    }
+}
+
+fn any_is_named<T: Named>(name: &str, values: &[T]) -> bool
+    ensures { result ≡ list_any (λ v. same_name name.now (T.named v)) values.now }
+{
+    values.iter().any(|value| name == value.name())
+}
+
+/// Whether no name stands twice.
+fn are_distinct<T: Named>(values: &[T]) -> bool
+    ensures { result ≡ are_distinct (map T.named values.now) }
+{
+    let mut rest = values;
+    while let Some((first, later)) = rest.split_first() {
+        if any_is_named(first.name(), later) {
+            return false;
+        }
+        rest = later;
+    }
+    true
+}
+
+fn is_factor(number: u32) -> bool
+    ensures { result ≡ is_factor number }
+{
+    1 <= number && number <= 1000
+}
+
+fn is_sound_rule(rule: &WindowRule) -> bool
+    ensures { result ≡ is_sound_rule rule.now }
+{
+    is_factor(rule.increase_by) && is_factor(rule.decrease_by)
+}
+
+fn is_sound_window(queue: &Queue) -> bool
+    ensures { result ≡ is_sound_window queue.now }
+{
+    queue.window <= 1000
+        && 1 <= queue.floor
+        && queue.floor <= 1000
+        && (queue.window == 0 || queue.floor <= queue.window)
+        && is_sound_rule(&queue.rule)
+}
+
+fn are_sound_windows(queues: &[Queue]) -> bool
+    ensures { result ≡ list_all is_sound_window queues.now }
+{
+    queues.iter().all(|queue| is_sound_window(queue))
+}
+
+fn has_vote(jobs: &[Job]) -> bool
+    ensures { result ≡ list_any (λ j. j.voting) jobs.now }
+{
+    jobs.iter().any(|job| job.voting)
+}
+
+fn are_sound_jobs(jobs: &[Job]) -> bool
+    ensures { result ≡ are_sound_jobs jobs.now }
+{
+    jobs.len() <= 32 && are_distinct(jobs) && has_vote(jobs)
+}
+
+fn has_queue(queues: &[Queue], name: &str) -> bool
+    ensures { result ≡ has_queue queues.now name.now }
+{
+    queues.iter().any(|queue| queue.name.as_str() == name)
+}
+
+fn is_sound_project(queues: &[Queue], project: &Project) -> bool
+    ensures { result ≡ is_sound_project queues.now project.now }
+{
+    has_queue(queues, project.queue.as_str()) && are_sound_jobs(project.jobs.as_slice())
+}
+
+fn are_sound_projects(queues: &[Queue], projects: &[Project]) -> bool
+    ensures { result ≡ list_all (λ p. is_sound_project queues.now p) projects.now }
+{
+    projects
+        .iter()
+        .all(|project| is_sound_project(queues, project))
+}
+
+/// Whether settings of these queues and projects are sound, whatever their base.
+pub(crate) fn are_sound(queues: &[Queue], projects: &[Project]) -> bool
+    ensures { (base : List ℕ) → result
+        ≡ are_sound (record { base = base; queues = queues.now; projects = projects.now }) }
+{
+    1 <= queues.len()
+        && queues.len() <= 32
+        && 1 <= projects.len()
+        && projects.len() <= 256
+        && are_distinct(queues)
+        && are_distinct(projects)
+        && are_sound_windows(queues)
+        && are_sound_projects(queues, projects)
+}

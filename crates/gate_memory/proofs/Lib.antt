@@ -1,0 +1,12 @@
+pub mod SortedLemmas
+pub mod CollectLemmas
+pub mod PairLemmas
+pub mod BuildLemmas
+pub mod QueueLemmas
+pub mod ReplyLemmas
+pub mod TableLemmas
+pub mod ChangeLemmas
+pub mod LoopLemmas
+pub mod NeedLemmas
+pub mod ReadyLemmas
+pub mod NeedingLemmas

@@ -1,0 +1,83 @@
+-- How a book in memory keeps changes: in the order in which they came first, beside their places by number, and an
+-- index of the ready ones.
+use Rattle.std.specs.Prelude.{ℕ, Bool, false, ◌≡◌, ◌==◌, ◌≤◌, ◌+◌, if◌then◌else◌, suc, nat_eq, List, [], ◌∷◌, Option, Some, None, find, option_map, option_and_then, vec_len, vec_capacity}
+use Rattle.std.specs.List.{AllByRecursion}
+use Rattle.std.specs.HashMap.{get, spare, HashMap}
+use Rattle.std.specs.declared.hash.FoldHasher.{FoldHasher}
+use Rattle.std.specs.declared.hash.BuildHasherDefault.{BuildHasherDefault}
+use Rattle.gate_types.specs.declared.rows.ChangeRow.{ChangeRow}
+use Rattle.gate_types.specs.declared.records.Ready.{Ready}
+use Rattle.gate_types.specs.State.{put_by}
+use Rattle.gate_book_trait.specs.Rising.{RisesFrom, In}
+use Rattle.gate_memory.specs.Pairs.{pair_key, IsFit}
+use Rattle.gate_memory.specs.Needs.{AreInOrder, TellsNeeds}
+use Rattle.gate_memory.specs.declared.pairs.Pair.{Pair}
+use Rattle.gate_memory.specs.declared.changes.ChangeTable.{ChangeTable}
+use Rattle.gate_book_trait.specs.RowReads.{AreReady}
+
+-- the places of numbers
+abbrev pub Numbers : Type 0
+Numbers = HashMap ℕ ℕ (BuildHasherDefault FoldHasher)
+
+-- the number of a change
+abbrev pub number_of : ChangeRow → ℕ
+number_of r = r.change.number
+
+-- the rows by number
+abbrev pub in_order : {X : Type 0} → (X → ℕ) → List X → List X
+in_order key [] = []
+in_order key (x ∷ xs) = put_by key x (in_order key xs)
+
+-- the first place of a key
+abbrev pub place_at : {X : Type 0} → (X → ℕ) → ℕ → List X → Option ℕ
+place_at key n [] = None
+place_at key n (x ∷ xs) = if key x == n then Some 0 else option_map (λ i. suc i) (place_at key n xs)
+
+-- each number has the place of its row
+abbrev pub FindsNumbers : Numbers → List ChangeRow → Type 0
+FindsNumbers places rows = (n : ℕ) → get nat_eq places n ≡ place_at number_of n rows
+
+-- what the index keeps of a ready change: the number of its approval, and its own
+abbrev pub entry_of : ℕ → ℕ → Pair
+entry_of n a = record { first = a; second = n }
+
+-- each ready change stands in the index
+abbrev pub TellsReady : List Pair → List ChangeRow → Type 0
+TellsReady ready rows = AllByRecursion (λ r. (a : ℕ) → r.approval ≡ Some a → In (entry_of r.change.number a) ready) rows
+
+-- the approval number is this one
+abbrev pub same_number : Option ℕ → ℕ → Bool
+same_number None n = false
+same_number (Some m) n = m == n
+
+-- numbers find their rows, and the indexes, which rise, tell of each ready change and of each need
+pub record IsKept (t : ChangeTable) : Type 0 where
+  pub finds : FindsNumbers t.places t.rows.items
+  pub ready_rise : RisesFrom pair_key 0 t.ready.items
+  pub ready_fit : AllByRecursion IsFit t.ready.items
+  pub ready_told : TellsReady t.ready.items (in_order number_of t.rows.items)
+  pub needs_order : AreInOrder t.needs.items
+  pub needs_told : TellsNeeds t.needs.items (in_order number_of t.rows.items)
+
+-- room for n more, which have m needs
+pub record HasRoom (n m : ℕ) (t : ChangeTable) : Type 0 where
+  pub rows : vec_len t.rows + n ≤ vec_capacity t.rows
+  pub places : n ≤ spare t.places
+  pub ready : vec_len t.ready + n ≤ vec_capacity t.ready
+  pub needs : vec_len t.needs + m ≤ vec_capacity t.needs
+
+-- the rows of the changes, by number
+abbrev pub changes_of : ChangeTable → List ChangeRow
+changes_of t = in_order number_of t.rows.items
+
+-- a change as a ready one, if it has this approval
+abbrev pub if_ready : ℕ → ChangeRow → Option Ready
+if_ready a r = if same_number r.approval a then Some (record { approval = a; change = r.change.number }) else None
+
+-- what a pair of the index tells, if it is so
+abbrev pub ready_by : List ChangeRow → Pair → Option Ready
+ready_by rows p = option_and_then (if_ready p.first) (find (λ r. r.change.number == p.second) rows)
+
+-- a list is whatever the rows tell
+abbrev pub IsWhatRowsTell : List ChangeRow → List Ready → Type 0
+IsWhatRowsTell rows found = (ready : List Ready) → AreReady rows ready → found ≡ ready

@@ -1,0 +1,9 @@
+pub mod Sorted
+pub mod Pairs
+pub mod Plans
+pub mod Builds
+pub mod Needs
+pub mod Changes
+pub mod Queues
+pub mod Replies
+pub mod TableReads

@@ -1,0 +1,61 @@
+-- How a book in memory keeps a queue: its rows by their keys, beside an index of its items by change.
+use Rattle.std.specs.Prelude.{ℕ, Bool, ◌==◌, ◌≤◌, ◌+◌, List, vec_len, vec_capacity}
+use Rattle.std.specs.List.{AllByRecursion}
+use Rattle.gate_types.specs.declared.records.Item.{Item}
+use Rattle.gate_types.specs.declared.rows.LandingRow.{LandingRow}
+use Rattle.gate_types.specs.declared.rows.ReportRow.{ReportRow}
+use Rattle.gate_types.specs.Tables.{QueueRows}
+use Rattle.gate_book_trait.specs.Rising.{RisesFrom, In}
+use Rattle.gate_memory.specs.Pairs.{pair_key, IsFit}
+use Rattle.gate_memory.specs.declared.pairs.Pair.{Pair}
+use Rattle.gate_memory.specs.declared.queues.QueueTable.{QueueTable}
+
+-- the serial of an item
+abbrev pub serial_of : Item → ℕ
+serial_of i = i.serial
+
+-- the place of a landing
+abbrev pub place_of_landing : LandingRow → ℕ
+place_of_landing r = r.place
+
+-- the place of a report
+abbrev pub report_place : ReportRow → ℕ
+report_place r = r.place
+
+-- an item of a change
+abbrev pub is_of_change : ℕ → Item → Bool
+is_of_change n i = i.change == n
+
+-- what the index keeps of an item
+abbrev pub entry_of : Item → Pair
+entry_of i = record { first = i.change; second = i.serial }
+
+-- each item stands in the index
+abbrev pub TellsItems : List Pair → List Item → Type 0
+TellsItems entries items = AllByRecursion (λ i. In (entry_of i) entries) items
+
+-- all lists rise, and the index tells of each item
+pub record IsKept (t : QueueTable) : Type 0 where
+  pub items_rise : RisesFrom serial_of 0 t.items.items
+  pub entries_rise : RisesFrom pair_key 0 t.entries.items
+  pub entries_fit : AllByRecursion IsFit t.entries.items
+  pub items_told : TellsItems t.entries.items t.items.items
+  pub landings_rise : RisesFrom place_of_landing 0 t.landings.items
+  pub reports_rise : RisesFrom report_place 0 t.reports.items
+
+-- room for n more rows of each kind
+pub record HasRoom (n : ℕ) (t : QueueTable) : Type 0 where
+  pub items : vec_len t.items + n ≤ vec_capacity t.items
+  pub entries : vec_len t.entries + n ≤ vec_capacity t.entries
+  pub landings : vec_len t.landings + n ≤ vec_capacity t.landings
+  pub reports : vec_len t.reports + n ≤ vec_capacity t.reports
+
+-- its rows
+abbrev pub rows_of : QueueTable → QueueRows
+rows_of t = record {
+  name = t.name;
+  window = t.window;
+  items = t.items.items;
+  landings = t.landings.items;
+  reports = t.reports.items;
+}

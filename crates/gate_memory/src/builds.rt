@@ -1,0 +1,195 @@
+//! The builds of a book in memory.
+ghost use Rattle.std.specs.Prelude.{◌≡◌, ◌==◌, ◌++◌, ℕ, suc, [], find, filter, false, IfOk, OnOk, IfSome, vec_capacity};
+ghost use Rattle.std.specs.List.{filter_map, cons_option};
+ghost use Rattle.std.specs.Option.{option_copied};
+ghost use Rattle.gate_types.specs.State.{put_by};
+ghost use Rattle.gate_types.specs.Rebase.{with_live};
+ghost use Rattle.gate_types.specs.Rows.{with_outcome, change_build};
+ghost use Rattle.gate_book_trait.specs.Rising.{RisesFrom};
+ghost use Rattle.gate_memory.specs.Sorted.{passing};
+ghost use Rattle.gate_memory.specs.Pairs.{IsFit};
+ghost use Rattle.gate_memory.specs.Builds.{AreKept, HaveRoom, number_of, is_live_of};
+
+use crate::pairs::{Pair, of_first};
+use crate::sorted;
+use crate::sorted::Keyed;
+use gate_types::names::NoMemory;
+use gate_types::numbers::{BuildNo, Serial};
+use gate_types::records::{Build, Outcome};
+use gate_types::sequence::Sequence;
+use std::alloc::{AllocError, Global};
+
+/// All builds by number, and an index of the live ones: pairs of serial and number.
+#[derive(Drop)]
+pub struct BuildTable {
+    rows: Vec<Build>,
+    live: Vec<Pair>,
+}
+
+impl Keyed for Build {
+    ghost use Rattle.gate_memory.specs.Builds.{number_of};
+
+    ghost key = { number_of };
+
+    fn key(&self) -> u128 {
+        self.number.get() as u128
+    }
+}
+
+fn set_outcome(rows: &mut Vec<Build>, number: BuildNo, outcome: Outcome)
+    requires { RisesFrom number_of 0 rows.old.items }
+    ensures rows { rows.new.items ≡ change_build number (with_outcome outcome) rows.old.items }
+    ensures capacity { vec_capacity rows.new ≡ vec_capacity rows.old }
+{
+    if let Some(place) = sorted::place_at(rows, number.get() as u128) {
+        rows[place].outcome = outcome;
+    }
+}
+
+/// Stops a build, and gives what the index keeps of it.
+fn stop(rows: &mut Vec<Build>, number: BuildNo) -> Option<Pair>
+    requires { RisesFrom number_of 0 rows.old.items }
+    ensures rows { rows.new.items ≡ change_build number (with_live false) rows.old.items }
+    ensures capacity { vec_capacity rows.new ≡ vec_capacity rows.old }
+    ensures pair { IfSome result (λ pair. (pair.second ≡ number) × IsFit pair) }
+{
+    let Some(place) = sorted::place_at(rows, number.get() as u128) else {
+        return None;
+    };
+    let build = &mut rows[place];
+    build.live = false;
+    Some(Pair {
+        first: build.serial.get(),
+        second: build.number.get(),
+    })
+}
+
+/// The build of a number if it is a live one of this serial.
+fn live_one(rows: &[Build], number: u64, serial: Serial) -> Option<&Build>
+    requires { RisesFrom number_of 0 rows.now }
+    ensures { option_copied result ≡ passing number_of (is_live_of serial) rows.now number }
+{
+    let build = sorted::at(rows, number as u128)?;
+    if build.live && build.serial == serial {
+        Some(build)
+    } else {
+        None
+    }
+}
+
+fn push_copy(found: &mut Sequence<Build>, build: Option<&Build>) -> Result<(), NoMemory>
+    ensures { OnOk result (found.new ≡ found.old ++ cons_option (option_copied build.entry) []) }
+{
+    if let Some(build) = build {
+        found.push(build.copy()?)?;
+    }
+    Ok(())
+}
+
+/// Adds those builds that are live ones of this serial, of the numbers that the pairs tell.
+fn add_live(
+    found: &mut Sequence<Build>,
+    rows: &[Build],
+    pairs: &[Pair],
+    serial: Serial,
+) -> Result<(), NoMemory>
+    requires { RisesFrom number_of 0 rows.now }
+    ensures { OnOk result (found.new
+        ≡ found.old ++ filter_map (λ p. passing number_of (is_live_of serial) rows.now p.second) pairs.now) }
+{
+    for pair in pairs {
+        push_copy(found, live_one(rows, pair.second, serial))?;
+    }
+    Ok(())
+}
+
+impl BuildTable {
+    pub fn new(alloc: Global) -> Self
+        ensures rows { result.rows.items ≡ [] }
+        ensures kept { AreKept result }
+    {
+        BuildTable {
+            rows: Vec::new(alloc),
+            live: Vec::new(alloc),
+        }
+    }
+
+    /// Makes room for `n` more builds. The builds stay, whatever the result.
+    pub fn make_room(&mut self, n: usize) -> Result<(), AllocError>
+        requires { AreKept self.old }
+        ensures rows { self.new.rows.items ≡ self.old.rows.items }
+        ensures kept { AreKept self.new }
+        ensures room { OnOk result (HaveRoom n self.new) }
+    {
+        self.rows.reserve(n)?;
+        self.live.reserve(n)?;
+        Ok(())
+    }
+
+    /// Puts a build where there is room, in place of one with its number.
+    pub fn put(&mut self, build: Build)
+        requires kept { AreKept self.old }
+        requires room { HaveRoom 1 self.old }
+        ensures rows { self.new.rows.items ≡ put_by number_of build self.old.rows.items }
+        ensures kept { AreKept self.new }
+        ensures room { (n : ℕ) → HaveRoom (suc n) self.old → HaveRoom n self.new }
+    {
+        let pair = Pair {
+            first: build.serial.get(),
+            second: build.number.get(),
+        };
+        sorted::put(&mut self.live, pair);
+        sorted::put(&mut self.rows, build);
+    }
+
+    pub fn set_outcome(&mut self, number: BuildNo, outcome: Outcome)
+        requires kept { AreKept self.old }
+        ensures rows { self.new.rows.items ≡ change_build number (with_outcome outcome) self.old.rows.items }
+        ensures kept { AreKept self.new }
+        ensures room { (n : ℕ) → HaveRoom n self.old → HaveRoom n self.new }
+    {
+        set_outcome(&mut self.rows, number, outcome);
+    }
+
+    /// The build stops being live.
+    pub fn stop(&mut self, number: BuildNo)
+        requires kept { AreKept self.old }
+        ensures rows { self.new.rows.items ≡ change_build number (with_live false) self.old.rows.items }
+        ensures kept { AreKept self.new }
+        ensures room { (n : ℕ) → HaveRoom n self.old → HaveRoom n self.new }
+    {
+        if let Some(pair) = stop(&mut self.rows, number) {
+            sorted::remove(&mut self.live, pair.key());
+        }
+    }
+
+    pub fn get(&self, number: BuildNo) -> Result<Option<Build>, NoMemory>
+        requires { AreKept self.now }
+        ensures { IfOk result (λ found. found ≡ find (λ b. b.number == number) self.now.rows.items) }
+    {
+        match sorted::at(&self.rows, number.get() as u128) {
+            Some(build) => Ok(Some(build.copy()?)),
+            None => Ok(None),
+        }
+    }
+
+    /// Adds the live builds of a serial, by number.
+    pub fn add_live(&self, found: &mut Sequence<Build>, serial: Serial) -> Result<(), NoMemory>
+        requires { AreKept self.now }
+        ensures { OnOk result (found.new ≡ found.old ++ filter (is_live_of serial) self.now.rows.items) }
+    {
+        let pairs = of_first(&self.live, serial.get());
+        add_live(found, &self.rows, pairs, serial)?;
+        Ok(())
+    }
+
+    /// The live builds of a serial, by number.
+    pub fn live_of(&self, alloc: Global, serial: Serial) -> Result<Sequence<Build>, NoMemory>
+        requires { AreKept self.now }
+        ensures { IfOk result (λ found. found ≡ filter (is_live_of serial) self.now.rows.items) }
+    {
+        let mut found = Sequence::new(alloc);
+        self.add_live(&mut found, serial)?;
+        Ok(found)
+    }
+}

@@ -1,0 +1,379 @@
+//! The changes of a book in memory.
+ghost use Rattle.std.specs.Prelude.{◌≡◌, ◌==◌, ◌<◌, ◌≤◌, ◌+◌, ◌++◌, ℕ, suc, [], true, length, map, find, slice_get, nat_eq, IfOk, OnOk, vec_len, vec_capacity};
+ghost use Rattle.std.specs.List.{list_any, filter_map, cons_option, AllByRecursion};
+ghost use Rattle.std.specs.List.Sorted.{IsNonDecreasingBy, IsPermutation};
+ghost use Rattle.std.specs.Option.{option_copied, option_map_or};
+ghost use Rattle.std.specs.HashMap.{get, spare};
+ghost use Rattle.gate_types.specs.State.{put_by};
+ghost use Rattle.gate_book_trait.specs.Rising.{RisesFrom, In};
+ghost use Rattle.gate_memory.specs.Sorted.{without};
+ghost use Rattle.gate_book_trait.specs.RowReads.{change_in, needs_in, approval_in};
+ghost use Rattle.gate_memory.specs.TableReads.{needing_by, IsWhatRowsTellOf};
+ghost use Rattle.gate_memory.specs.Pairs.{pair_key, IsFit};
+ghost use Rattle.gate_memory.specs.declared.pairs.Pair.{Pair};
+ghost use Rattle.gate_memory.specs.Needs.{AreInOrder, IsRising, IsSmall, TellsNeedsOf, pair_of_need};
+ghost use Rattle.gate_memory.specs.Changes.{FindsNumbers, IsKept, HasRoom, IsWhatRowsTell, ready_by, number_of, in_order, changes_of, entry_of};
+
+use crate::needs::note_needs;
+use crate::pairs::{Pair, of_first};
+use crate::sorted;
+use crate::sorted::Keyed;
+use gate_types::names::NoMemory;
+use gate_types::numbers::ChangeNo;
+use gate_types::records::{Change, Ready};
+use gate_types::rows::ChangeRow;
+use gate_types::sequence::Sequence;
+use std::alloc::{AllocError, Global};
+use std::collections::HashMap;
+
+/// All changes in the order in which they came first, the place of each number, and two indexes: of
+/// the ready ones (pairs of the number of the approval and the change's own), and of needs (pairs of the
+/// needed change and one that needs it, or needed it at an earlier revision).
+#[derive(Drop)]
+pub struct ChangeTable {
+    rows: Vec<ChangeRow>,
+    places: HashMap<u64, usize>,
+    ready: Vec<Pair>,
+    needs: Vec<Pair>,
+}
+
+fn place_of(places: &HashMap<u64, usize>, number: u64) -> Option<usize>
+    ensures { result ≡ get nat_eq places.now number }
+{
+    match places.get(&number) {
+        Some(place) => Some(*place),
+        None => None,
+    }
+}
+
+/// Puts a row where there is room, in place of one with its number.
+fn put_row(rows: &mut Vec<ChangeRow>, places: &mut HashMap<u64, usize>, row: ChangeRow)
+    requires room { vec_len rows.old < vec_capacity rows.old }
+    requires spare { 0 < spare places.old }
+    requires finds { FindsNumbers places.old rows.old.items }
+    ensures rows { in_order number_of rows.new.items ≡ put_by number_of row (in_order number_of rows.old.items) }
+    ensures finds { FindsNumbers places.new rows.new.items }
+    ensures len { vec_len rows.new ≤ vec_len rows.old + 1 }
+    ensures capacity { vec_capacity rows.new ≡ vec_capacity rows.old }
+    ensures room { spare places.old ≤ spare places.new + 1 }
+{
+    let number = number_of_row(&row);
+    match place_of(places, number) {
+        Some(place) => sorted::put_at(rows, place, row),
+        None => {
+            let inserted: Result<_, _> = places.insert(number, rows.len());
+            let _old = inserted.unwrap();
+            rows.push_reserved(row);
+        }
+    }
+}
+
+fn number_of_row(row: &ChangeRow) -> u64
+    ensures { result ≡ number_of row.now }
+{
+    row.change.number.get()
+}
+
+fn row_in(rows: &[ChangeRow], place: usize) -> Option<&ChangeRow>
+    ensures { option_copied result ≡ slice_get rows.now place }
+{
+    rows.get(place)
+}
+
+/// The row of a number.
+fn row_of<'a>(
+    rows: &'a [ChangeRow],
+    places: &HashMap<u64, usize>,
+    number: u64,
+) -> Option<&'a ChangeRow>
+    requires { FindsNumbers places.now rows.now }
+    ensures { option_copied result ≡ find (λ r. r.change.number == number) (in_order number_of rows.now) }
+{
+    match place_of(places, number) {
+        Some(place) => row_in(rows, place),
+        None => None,
+    }
+}
+
+/// The approval number of a change, while it is ready.
+fn approval_of(rows: &[ChangeRow], places: &HashMap<u64, usize>, number: u64) -> Option<u64>
+    requires { FindsNumbers places.now rows.now }
+    ensures { result ≡ approval_in (in_order number_of rows.now) number }
+{
+    match row_of(rows, places, number) {
+        Some(row) => row.approval,
+        None => None,
+    }
+}
+
+fn drop_ready(ready: &mut Vec<Pair>, approval: Option<u64>, number: u64)
+    requires { RisesFrom pair_key 0 ready.old.items }
+    ensures ready { ready.new.items
+        ≡ option_map_or (λ a. without pair_key (pair_key (entry_of number a)) ready.old.items)
+        approval ready.old.items }
+    ensures rising { RisesFrom pair_key 0 ready.new.items }
+    ensures len { vec_len ready.new ≤ vec_len ready.old }
+    ensures capacity { vec_capacity ready.new ≡ vec_capacity ready.old }
+{
+    if let Some(first) = approval {
+        let entry = Pair {
+            first,
+            second: number,
+        };
+        sorted::remove(ready, entry.key());
+    }
+}
+
+fn note_ready(ready: &mut Vec<Pair>, approval: Option<u64>, number: u64)
+    requires room { vec_len ready.old < vec_capacity ready.old }
+    requires rising { RisesFrom pair_key 0 ready.old.items }
+    ensures ready { ready.new.items
+        ≡ option_map_or (λ a. put_by pair_key (entry_of number a) ready.old.items) approval ready.old.items }
+    ensures rising { RisesFrom pair_key 0 ready.new.items }
+    ensures len { vec_len ready.new ≤ vec_len ready.old + 1 }
+    ensures capacity { vec_capacity ready.new ≡ vec_capacity ready.old }
+{
+    if let Some(first) = approval {
+        let entry = Pair {
+            first,
+            second: number,
+        };
+        sorted::put(ready, entry);
+    }
+}
+
+/// Adds the needs of a change to the index, where there is room.
+fn note_row(index: &mut Vec<Pair>, row: &ChangeRow)
+    requires room { vec_len index.old + length row.now.change.needs ≤ vec_capacity index.old }
+    requires order { AreInOrder index.old.items }
+    ensures order { AreInOrder index.new.items }
+    ensures told { TellsNeedsOf index.new.items row.now.change.number row.now.change.needs }
+    ensures others { (p : Pair) → In p index.old.items → In p index.new.items }
+    ensures len { vec_len index.new ≤ vec_len index.old + length row.now.change.needs }
+    ensures capacity { vec_capacity index.new ≡ vec_capacity index.old }
+{
+    note_needs(index, row.change.number, row.change.needs.as_slice());
+}
+
+/// What a pair of the index tells, if it is still so.
+fn ready_at(rows: &[ChangeRow], places: &HashMap<u64, usize>, pair: Pair) -> Option<Ready>
+    requires { FindsNumbers places.now rows.now }
+    ensures { result ≡ ready_by (in_order number_of rows.now) pair }
+{
+    let row = row_of(rows, places, pair.second)?;
+    if row.approval == Some(pair.first) {
+        Some(Ready {
+            approval: pair.first,
+            change: row.change.number,
+        })
+    } else {
+        None
+    }
+}
+
+fn push_ready(found: &mut Sequence<Ready>, ready: Option<Ready>) -> Result<(), NoMemory>
+    ensures { OnOk result (found.new ≡ found.old ++ cons_option ready []) }
+{
+    if let Some(ready) = ready {
+        found.push(ready)?;
+    }
+    Ok(())
+}
+
+/// What the pairs of the index tell, those that are still so.
+fn collect_ready(
+    alloc: Global,
+    rows: &[ChangeRow],
+    places: &HashMap<u64, usize>,
+    pairs: &[Pair],
+) -> Result<Sequence<Ready>, NoMemory>
+    requires { FindsNumbers places.now rows.now }
+    ensures { IfOk result (λ found. found ≡ filter_map (ready_by (in_order number_of rows.now)) pairs.now) }
+{
+    let mut found = Sequence::new(alloc);
+    for pair in pairs {
+        push_ready(&mut found, ready_at(rows, places, *pair))?;
+    }
+    Ok(found)
+}
+
+/// Whether a change needs another.
+fn row_needs(row: &ChangeRow, other: ChangeNo) -> bool
+    ensures { result ≡ list_any (λ m. m == other) row.now.change.needs }
+{
+    row.change
+        .needs
+        .as_slice()
+        .iter()
+        .any(|need| *need == other)
+}
+
+/// The change that a pair names second, if it is ready and needs this one.
+fn ready_if_needing(
+    rows: &[ChangeRow],
+    places: &HashMap<u64, usize>,
+    pair: Pair,
+    change: ChangeNo,
+) -> Option<Ready>
+    requires { FindsNumbers places.now rows.now }
+    ensures { result ≡ needing_by (in_order number_of rows.now) change pair }
+{
+    let row = row_of(rows, places, pair.second)?;
+    let approval = row.approval?;
+    if row_needs(row, change) {
+        Some(Ready {
+            approval,
+            change: row.change.number,
+        })
+    } else {
+        None
+    }
+}
+
+/// Those of the changes that some pairs name second which are ready and need this one.
+fn collect_needing(
+    alloc: Global,
+    rows: &[ChangeRow],
+    places: &HashMap<u64, usize>,
+    pairs: &[Pair],
+    change: ChangeNo,
+) -> Result<Sequence<Ready>, NoMemory>
+    requires { FindsNumbers places.now rows.now }
+    ensures { IfOk result (λ found. found
+        ≡ filter_map (needing_by (in_order number_of rows.now) change) pairs.now) }
+{
+    let mut found = Sequence::new(alloc);
+    for pair in pairs {
+        push_ready(&mut found, ready_if_needing(rows, places, *pair, change))?;
+    }
+    Ok(found)
+}
+
+/// The same in order of approval.
+fn by_approval(ready: Sequence<Ready>) -> Sequence<Ready>
+    ensures same { IsPermutation ready result }
+    ensures order { IsNonDecreasingBy (λ r. r.approval) result }
+{
+    let mut ready = ready.into_vec();
+    ready.sort_unstable_by_key(|one| one.approval);
+    Sequence::from_vec(ready)
+}
+
+impl ChangeTable {
+    pub fn new(alloc: Global) -> Self
+        ensures rows { changes_of result ≡ [] }
+        ensures kept { IsKept result }
+    {
+        ChangeTable {
+            rows: Vec::new(alloc),
+            places: HashMap::new(alloc),
+            ready: Vec::new(alloc),
+            needs: Vec::new(alloc),
+        }
+    }
+
+    /// Makes room for `n` more changes, which have so many needs. The changes stay, whatever the result.
+    pub fn make_room(&mut self, n: usize, needs: usize) -> Result<(), AllocError>
+        requires { IsKept self.old }
+        ensures rows { changes_of self.new ≡ changes_of self.old }
+        ensures kept { IsKept self.new }
+        ensures room { OnOk result (HasRoom n needs self.new) }
+    {
+        self.rows.reserve(n)?;
+        self.places.reserve(n)?;
+        self.ready.reserve(n)?;
+        self.needs.reserve(needs)?;
+        Ok(())
+    }
+
+    /// Puts a row where there is room, in place of one with its number.
+    pub fn put(&mut self, row: ChangeRow)
+        requires kept { IsKept self.old }
+        requires room { HasRoom 1 (length row.change.needs) self.old }
+        ensures rows { changes_of self.new ≡ put_by number_of row (changes_of self.old) }
+        ensures kept { IsKept self.new }
+        ensures room { (n m : ℕ) → HasRoom (suc n) (length row.change.needs + m) self.old → HasRoom n m self.new }
+    {
+        let number = number_of_row(&row);
+        let approval = row.approval;
+        note_row(&mut self.needs, &row);
+        drop_ready(
+            &mut self.ready,
+            approval_of(&self.rows, &self.places, number),
+            number,
+        );
+        note_ready(&mut self.ready, approval, number);
+        put_row(&mut self.rows, &mut self.places, row);
+    }
+
+    fn row(&self, number: ChangeNo) -> Option<&ChangeRow>
+        requires { IsKept self.now }
+        ensures { option_copied result ≡ find (λ r. r.change.number == number) (changes_of self.now) }
+    {
+        row_of(&self.rows, &self.places, number.get())
+    }
+
+    pub fn get(&self, number: ChangeNo) -> Result<Option<Change>, NoMemory>
+        requires { IsKept self.now }
+        ensures { IfOk result (λ found. found ≡ change_in (changes_of self.now) number) }
+    {
+        match self.row(number) {
+            Some(row) => Ok(Some(row.change.copy()?)),
+            None => Ok(None),
+        }
+    }
+
+    /// The number of a change's approval, while it is ready.
+    pub fn approval(&self, number: ChangeNo) -> Option<u64>
+        requires { IsKept self.now }
+        ensures { result ≡ approval_in (changes_of self.now) number }
+    {
+        approval_of(&self.rows, &self.places, number.get())
+    }
+
+    /// Pairs of which the second numbers tell the changes that need this one, and maybe others.
+    pub fn needing(&self, change: ChangeNo) -> &[Pair]
+        requires { IsKept self.now }
+        ensures rising { IsRising (map (λ p. p.second) result.now) }
+        ensures small { AllByRecursion IsSmall result.now }
+        ensures told { (n : ℕ) → list_any (λ m. m == change) (needs_in (changes_of self.now) n) ≡ true →
+            In (pair_of_need change n) result.now }
+    {
+        of_first(&self.needs, change.get())
+    }
+
+    /// Whether a change needs another.
+    pub fn needs(&self, number: ChangeNo, other: ChangeNo) -> bool
+        requires { IsKept self.now }
+        ensures { result ≡ list_any (λ m. m == other) (needs_in (changes_of self.now) number) }
+    {
+        match self.row(number) {
+            Some(row) => row_needs(row, other),
+            None => false,
+        }
+    }
+
+    /// The ready changes in order of approval: exact for any list that the rows tell.
+    pub fn ready(&self, alloc: Global) -> Result<Sequence<Ready>, NoMemory>
+        requires { IsKept self.now }
+        ensures { IfOk result (IsWhatRowsTell (changes_of self.now)) }
+    {
+        let found = collect_ready(alloc, &self.rows, &self.places, &self.ready)?;
+        Ok(found)
+    }
+
+    /// The ready changes that need this one, in order of approval: exact for any list that the rows tell. Found by the
+    /// changes that need it, or did.
+    pub fn ready_needing(
+        &self,
+        alloc: Global,
+        change: ChangeNo,
+    ) -> Result<Sequence<Ready>, NoMemory>
+        requires { IsKept self.now }
+        ensures { IfOk result (IsWhatRowsTellOf (changes_of self.now) change) }
+    {
+        let pairs = self.needing(change);
+        let found = collect_needing(alloc, &self.rows, &self.places, pairs, change)?;
+        Ok(by_approval(found))
+    }
+}

@@ -1,0 +1,28 @@
+//! The tables of a book in memory: sorted rows beside the indexes by which they are found. A change of one is made in two
+//! steps: `make_room` takes all memory that it will need, and may be refused it; then the change itself can't fail.
+//!
+//! ```text
+//! plans.make_room(1)?;
+//! plans.put(plan); // takes no memory
+//! let plan = plans.get(serial)?;
+//! ```
+#![tactic(auto)]
+
+mod builds;
+mod changes;
+mod collecting;
+mod needs;
+mod pairs;
+mod plans;
+mod queues;
+mod replies;
+mod sorted;
+
+pub use builds::BuildTable;
+pub use changes::ChangeTable;
+pub use collecting::{builds_of, needing_of, plans_of};
+pub use needs::count_needs;
+pub use plans::PlanTable;
+pub use queues::QueueTable;
+pub use replies::ReplyTable;
+pub use sorted::{Keyed, put_at};

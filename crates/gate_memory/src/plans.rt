@@ -1,0 +1,81 @@
+//! The plans of a book in memory.
+ghost use Rattle.std.specs.Prelude.{◌≡◌, ◌==◌, ℕ, suc, [], find, IfOk, OnOk};
+ghost use Rattle.gate_types.specs.State.{put_by};
+ghost use Rattle.gate_memory.specs.Sorted.{without};
+ghost use Rattle.gate_memory.specs.Plans.{IsKept, HasRoom, serial_of};
+
+use crate::sorted;
+use crate::sorted::Keyed;
+use gate_types::names::NoMemory;
+use gate_types::numbers::Serial;
+use gate_types::records::Plan;
+use std::alloc::{AllocError, Global};
+
+/// The plans of all items and landings, by serial.
+#[derive(Drop)]
+pub struct PlanTable {
+    rows: Vec<Plan>,
+}
+
+impl Keyed for Plan {
+    ghost use Rattle.gate_memory.specs.Plans.{serial_of};
+
+    ghost key = { serial_of };
+
+    fn key(&self) -> u128 {
+        self.serial.get() as u128
+    }
+}
+
+impl PlanTable {
+    pub fn new(alloc: Global) -> Self
+        ensures rows { result.rows.items ≡ [] }
+        ensures kept { IsKept result }
+    {
+        PlanTable {
+            rows: Vec::new(alloc),
+        }
+    }
+
+    /// Makes room for `n` more plans. The plans stay, whatever the result.
+    pub fn make_room(&mut self, n: usize) -> Result<(), AllocError>
+        requires { IsKept self.old }
+        ensures rows { self.new.rows.items ≡ self.old.rows.items }
+        ensures kept { IsKept self.new }
+        ensures room { OnOk result (HasRoom n self.new) }
+    {
+        self.rows.reserve(n)?;
+        Ok(())
+    }
+
+    /// Puts a plan where there is room, in place of one under its serial.
+    pub fn put(&mut self, plan: Plan)
+        requires kept { IsKept self.old }
+        requires room { HasRoom 1 self.old }
+        ensures rows { self.new.rows.items ≡ put_by serial_of plan self.old.rows.items }
+        ensures kept { IsKept self.new }
+        ensures room { (n : ℕ) → HasRoom (suc n) self.old → HasRoom n self.new }
+    {
+        sorted::put(&mut self.rows, plan);
+    }
+
+    /// Drops the plan under a serial, if there is one.
+    pub fn remove(&mut self, serial: Serial)
+        requires { IsKept self.old }
+        ensures rows { self.new.rows.items ≡ without serial_of serial self.old.rows.items }
+        ensures kept { IsKept self.new }
+        ensures room { (n : ℕ) → HasRoom n self.old → HasRoom n self.new }
+    {
+        sorted::remove(&mut self.rows, serial.get() as u128);
+    }
+
+    pub fn get(&self, serial: Serial) -> Result<Option<Plan>, NoMemory>
+        requires { IsKept self.now }
+        ensures { IfOk result (λ found. found ≡ find (λ p. p.serial == serial) self.now.rows.items) }
+    {
+        match sorted::at(&self.rows, serial.get() as u128) {
+            Some(plan) => Ok(Some(plan.copy()?)),
+            None => Ok(None),
+        }
+    }
+}

@@ -1,0 +1,5 @@
+mod FirstTells
+pub mod MigrateLemmas
+mod PlanningLemmas
+mod StandingLemmas
+mod UpgradeLemmas

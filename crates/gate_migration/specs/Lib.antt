@@ -1,0 +1,3 @@
+pub mod Migrates
+pub mod Standing
+pub mod Upgrade

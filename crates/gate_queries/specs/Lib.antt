@@ -1,9 +1,0 @@
-pub mod Finds
-pub mod Asked
-pub mod Whole
-pub mod Reads
-pub mod First
-pub mod Shown
-pub mod Planned
-pub mod Ahead
-pub mod History

@@ -1,0 +1,44 @@
+-- What a delivery comes to before settling.
+use Rattle.std.specs.Prelude.{◌≡◌, false}
+use Rattle.gate_types.specs.declared.deliveries.Delivery.{Delivery}
+use Rattle.gate_types.specs.declared.deliveries.Reply.{Reply}
+use Rattle.gate_types.specs.declared.deliveries.Answer.TheVariants as answer
+use Rattle.gate_types.specs.Settings.{Settings}
+use Rattle.gate_types.specs.State.{State, is_queued}
+use Rattle.gate_types.specs.Settle.{settle}
+use Rattle.gate_types.specs.Step.{raw_step, step, accepted, refused, approval_reply}
+use Rattle.gate_types.specs.Once.{Content, is_unavailable}
+use Rattle.gate_walk.specs.Delivery.{is_stale}
+use Rattle.gate_reads.specs.Moves.{Moves}
+use Rattle.gate_reads.specs.Touches.{Touches}
+use Rattle.gate_reads.specs.declared.raw.Raw.{Raw}
+use Rattle.gate_reads.specs.declared.raw.Raw.TheVariants as raw
+use Rattle.gate_reads.specs.declared.raw.Moved.{Moved}
+use Rattle.gate_reads.specs.declared.raw.Said.{Said}
+use Rattle.gate_reads.specs.declared.raw.Said.TheVariants as said
+
+-- the reply, said at once or read from the settled state
+abbrev pub reply_by : Said → State → Reply
+reply_by (said.Now r) u = r
+reply_by (said.PlaceOf n) u = approval_reply n u
+
+-- a change whose place is told stands in no queue yet
+abbrev pub IsUnplaced : State → Said → Type 0
+IsUnplaced s (said.Now r) = Unit {0}
+IsUnplaced s (said.PlaceOf n) = is_queued s n ≡ false
+
+-- the delivery is accepted and changes something: the edits move the content to the state before settling, and the
+-- reply and the touched item are the delivery's
+pub record IsMoved (c : Settings) (x : Content) (d : Delivery) (m : Moved) : Type 0 where
+  pub after : State
+  pub accepted : raw_step c x.state d ≡ accepted (reply_by m.said (settle c after)) after
+  pub acts : is_stale (reply_by m.said (settle c after)) ≡ false
+  pub touches : Touches c x.state d m.touched
+  pub moves : Moves x m.edits.items after
+  pub unplaced : IsUnplaced x.state m.said
+
+-- a delivery is refused; or it is accepted and changes nothing; or edits move the content
+abbrev pub IsRaw : Settings → Content → Delivery → Raw → Type 0
+IsRaw c x d (raw.Refused r) = (step c x.state d ≡ refused r) × (is_unavailable (answer.Refused r) ≡ false)
+IsRaw c x d (raw.Stands r) = raw_step c x.state d ≡ accepted r x.state
+IsRaw c x d (raw.Moved m) = IsMoved c x d m

@@ -1,9 +1,0 @@
-use Rattle.std.proofs.Common.{◌≡◌, map, drop}
-use Rattle.serde_json.specs.View.{view}
-use Rattle.gate_settings.specs.Reading.{each, queue_at}
-use Rattle.gate_settings.proofs.ListLemmas.{more}
-use Rattle.gate_settings.proofs.reading.queues_of.Given as goal
-
--- what all say is what was read and what the rest says
-abbrev pub invariant-loop-value : goal.invariant-loop-value
-invariant-loop-value l = each queue_at (map view l.values) ≡ more l.queues.items (each queue_at (map view (drop l.value-index l.values)))

@@ -1,9 +1,0 @@
-use Rattle.sqlite.specs.Held.{state}
-use Rattle.gate_sql.proofs.AdoptTables.{drops_queues}
-use Rattle.gate_sql.proofs.adopting.drop_queues.Goals as goal
-
-pub returns-clause-made : goal.returns-clause-made
-returns-clause-made g c b clean had =
-    let done = drops_queues (state g.S.Store c.args.tx.now.conn.now) (state g.S.Store c.execute.new.self.conn.now) _ had.ready
-    (c.in_ok-execute.ensures.runs clean had.ready.inside) in
-    record { ready = done.0; stands = done.1 b had.stands }

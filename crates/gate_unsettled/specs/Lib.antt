@@ -1,3 +1,0 @@
-pub mod Moves
-pub mod Touches
-pub mod Raw
