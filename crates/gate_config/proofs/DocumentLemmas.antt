@@ -1,7 +1,7 @@
 -- Values beside their data.
-use Rattle.std.proofs.Common.{◌≡◌, ℕ, List, [], ◌∷◌, map, Bool, refl, ap, sym, ◌∙◌, ◌<◌, get_or, true, false, ◌||◌, ◌&&◌, not, String, Global, string_bytes, length}
+use Rattle.std.proofs.Common.{◌≡◌, ℕ, ◌+◌, List, [], ◌∷◌, ◌++◌, map, take, Bool, refl, ap, sym, ◌∙◌, ◌<◌, get_or, true, false, ◌||◌, ◌&&◌, not, String, Global, string_bytes, length}
 use Rattle.std.specs.List.{list_any, list_all}
-use Rattle.std.proofs.lemmas.List.{length-map}
+use Rattle.std.proofs.lemmas.List.{length-map, map_more}
 use Rattle.std.proofs.lemmas.List.Folds.{list_any_at}
 use Rattle.std.specs.Map.{keys_of}
 use Rattle.toml.specs.Data.{Data}
@@ -29,6 +29,12 @@ none_of_values p vs ds e h = sym (list_any_map p view vs) ∙ ap (list_any p) e 
 -- what is made of values is made of their data
 pub made_of_values : {Y : Type 0} (f : Data → Y) (vs : List Value) (ds : List Data) → map view vs ≡ ds → map (λ v. f (view v)) vs ≡ map f ds
 made_of_values f vs ds e = sym (map_view f vs) ∙ ap (map f) e
+
+-- one value more is made
+pub made_one : {X Y : Type 0} (f : X → Y) (xs : List X) (k : ℕ) (x : X) (y : Y) (done now : List Y)
+    → done ≡ map f (take k xs) → k < length xs → x ≡ get_or xs k x → y ≡ f x → now ≡ done ++ y ∷ [] → now ≡ map f (take (k + 1) xs)
+made_one f xs k x y done now so_far l is made added =
+    added ∙ ap (λ ys. ys ++ y ∷ []) so_far ∙ ap (λ z. map f (take k xs) ++ z ∷ []) (made ∙ ap f is) ∙ sym (map_more f xs k x l)
 
 none_by : (b c : Bool) → (b ≡ true → c ≡ true) → c ≡ false → b ≡ false
 none_by false c f h = refl

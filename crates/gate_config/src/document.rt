@@ -1,6 +1,7 @@
 //! What a document says at a place, and what stands for it where nothing of the kind is there.
 ghost use Rattle.std.specs.Prelude.{◌≡◌, map};
 ghost use Rattle.toml.specs.View.{view};
+ghost use Rattle.gate_types.specs.Names.{same_name};
 ghost use Rattle.gate_config.specs.Document.{items_at, queues_of, projects_of, jobs_of, text_at, name_of, queue_named_by, base_of, number_at, window_of, floor_of, pace_said, pace_at, increase_of, increase_by_of, decrease_of, decrease_by_of, is_fast, is_voting};
 
 use gate_types::config::Pace;
@@ -103,13 +104,20 @@ pub(crate) fn floor_of(queue: &Value) -> Option<u64>
     number_at(queue, "floor", 3)
 }
 
+/// Whether two texts are the same. A call of this is proved sooner than `==` in a chain of tests.
+pub(crate) fn is_same(text: &str, other: &str) -> bool
+    ensures { result ≡ same_name text.now other.now }
+{
+    text == other
+}
+
 /// The pace of a word, if it is one.
 fn pace_said(word: &str) -> Option<Pace>
     ensures { result ≡ pace_said word.now }
 {
-    if word == "linear" {
+    if is_same(word, "linear") {
         Some(Pace::Linear)
-    } else if word == "exponential" {
+    } else if is_same(word, "exponential") {
         Some(Pace::Exponential)
     } else {
         None

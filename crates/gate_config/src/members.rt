@@ -1,13 +1,14 @@
 //! Members that have to be there, and members that may.
-ghost use Rattle.std.specs.Prelude.{◌≡◌, codes, false, not, string_bytes};
+ghost use Rattle.std.specs.Prelude.{◌≡◌, ◌||◌, codes, false, not, string_bytes};
 ghost use Rattle.std.specs.BTreeMap.{keys};
 ghost use Rattle.std.specs.Option.{option_map_or};
 ghost use Rattle.toml.specs.Data.{get};
 ghost use Rattle.std.specs.List.{list_any};
 ghost use Rattle.toml.specs.View.{view, table_view};
+ghost use Rattle.gate_types.specs.Names.{same_name};
 ghost use Rattle.gate_config.specs.Members.{lacks, lacks_in_project, misses_member, knows, has_other_than, has_unknown, has_unknown_in_project, has_unknown_member};
 
-use crate::document::{jobs_of, projects_of, queues_of};
+use crate::document::{is_same, jobs_of, projects_of, queues_of};
 use toml::{Table, Value};
 
 fn lacks(value: &Value, key: &str) -> bool
@@ -67,27 +68,36 @@ enum Section {
     Job,
 }
 
+fn knows_of_a_rule(key: &str) -> bool
+    ensures { result ≡ same_name key.now (codes "increase") || same_name key.now (codes "increase_by")
+        || same_name key.now (codes "decrease") || same_name key.now (codes "decrease_by") }
+{
+    is_same(key, "increase")
+        || is_same(key, "increase_by")
+        || is_same(key, "decrease")
+        || is_same(key, "decrease_by")
+}
+
 fn knows_of_a_queue(key: &str) -> bool
     ensures { result ≡ knows Section.Queue key.now }
 {
-    key == "name"
-        || key == "window"
-        || key == "floor"
-        || key == "increase"
-        || key == "increase_by"
-        || key == "decrease"
-        || key == "decrease_by"
+    is_same(key, "name") || is_same(key, "window") || is_same(key, "floor") || knows_of_a_rule(key)
 }
 
 fn knows(section: Section, key: &str) -> bool
     ensures { result ≡ knows section key.now }
 {
     match section {
-        Section::Document => key == "forge" || key == "queue" || key == "project",
-        Section::Forge => key == "base",
+        Section::Document => is_same(key, "forge")
+            || is_same(key, "queue")
+            || is_same(key, "project"),
+        Section::Forge => is_same(key, "base"),
         Section::Queue => knows_of_a_queue(key),
-        Section::Project => key == "name" || key == "queue" || key == "job" || key == "fail_fast",
-        Section::Job => key == "name" || key == "voting",
+        Section::Project => is_same(key, "name")
+            || is_same(key, "queue")
+            || is_same(key, "job")
+            || is_same(key, "fail_fast"),
+        Section::Job => is_same(key, "name") || is_same(key, "voting"),
     }
 }
 

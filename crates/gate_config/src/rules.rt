@@ -8,8 +8,8 @@ ghost use Rattle.gate_config.specs.Document.{name_of, queue_named_by, base_of, j
 ghost use Rattle.gate_config.specs.Rules.{has_bad_name, has_bad_name_in_project, has_bad_name_anywhere, has_double, has_double_name, has_named, names_no_queue, is_bad_window, has_bad_window, has_no_voting_job, are_some_up_to, has_too_many_jobs, is_beyond_limits};
 
 use crate::document::{
-    base_of, decrease_by_of, decrease_of, floor_of, increase_by_of, increase_of, is_voting,
-    jobs_of, name_of, projects_of, queue_named_by, queues_of, window_of,
+    base_of, decrease_by_of, decrease_of, floor_of, increase_by_of, increase_of, is_same,
+    is_voting, jobs_of, name_of, projects_of, queue_named_by, queues_of, window_of,
 };
 use gate_types::names::{has_base_form, has_name_form, has_path_form};
 use toml::Value;
@@ -54,7 +54,7 @@ pub(crate) fn has_bad_name_anywhere(document: &Value) -> bool
 fn repeats(name: &str, values: &[Value]) -> bool
     ensures { result ≡ list_any (λ v. same_name name.now (name_of (view v))) values.now }
 {
-    values.iter().any(|value| name == name_of(value))
+    values.iter().any(|value| is_same(name, name_of(value)))
 }
 
 fn has_double(values: &[Value]) -> bool
@@ -89,7 +89,7 @@ pub(crate) fn has_double_name(document: &Value) -> bool
 fn any_is_named(name: &str, values: &[Value]) -> bool
     ensures { result ≡ list_any (λ v. same_name (name_of (view v)) name.now) values.now }
 {
-    values.iter().any(|value| name_of(value) == name)
+    values.iter().any(|value| is_same(name_of(value), name))
 }
 
 #[tactic(auto, using(crate::proofs::DocumentLemmas::list_any_map))]

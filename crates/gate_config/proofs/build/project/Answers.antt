@@ -1,10 +1,22 @@
-use Rattle.std.proofs.Common.{◌≡◌, ◌∙◌, map, refl}
-use Rattle.std.proofs.lemmas.Bool.{or_parts}
+use Rattle.std.proofs.Common.{◌≡◌, ap, ◌∙◌, map, refl}
+use Rattle.std.proofs.lemmas.Bool.{or_parts, not-false}
 use Rattle.toml.specs.View.{view}
+use Rattle.gate_types.specs.Names.{is_name, is_path_name}
 use Rattle.gate_config.specs.Document.{job_of, jobs_of, name_of, queue_named_by}
 use Rattle.gate_config.specs.Rules.{has_bad_name}
 use Rattle.gate_config.proofs.DocumentLemmas.{none_of_values, made_of_values}
 use Rattle.gate_config.proofs.build.project.Goals as goal
+
+pub path_name-requires : goal.path_name-requires
+path_name-requires c =
+    let (names, queue) = or_parts _ _ c.requires in
+    let (name, jobs) = or_parts _ _ names in
+    ap is_path_name c.name_of.ensures ∙ not-false _ name
+
+pub name-requires : goal.name-requires
+name-requires c =
+    let (names, queue) = or_parts _ _ c.requires in
+    ap is_name c.queue_named_by.ensures ∙ not-false _ queue
 
 pub jobs-requires : goal.jobs-requires
 jobs-requires c =
