@@ -49,8 +49,8 @@ none_taken n (y ∷ ys) none =
 
 -- an INSERT of an item finds no item of its serial
 pub serial_free : (x : ItemRow) (old new : State) (count : ℕ) → IsReady old → ExecutesInside 0 add_item_sql (item_params x) old new (Ok count)
-    → (b : Stored) → Stands old.now.trees b → AllByRecursion (λ (y : ItemRow). eqb y.item.serial x.item.serial ≡ false) b.items
-serial_free x old new count ready h b stands =
+    → (b : Stored) → AreNamed b → Stands old.now.trees b → AllByRecursion (λ (y : ItemRow). eqb y.item.serial x.item.serial ≡ false) b.items
+serial_free x old new count ready h b named stands =
     let params = item_params x in
     let w = runs_as add_item_sql params old new gate_schema ready.schema_is (Insert 5 (Values add_item_terms 7)) add_item_is.0 add_item_is.1 count h.0 in
     let e = inserts gate_schema (λ _ _ _. refl) old new ready.schema_is 5 (item_at 11) refl (statement_of add_item_sql (understood gate_schema add_item_sql)) params count refl (Values add_item_terms 7) w in

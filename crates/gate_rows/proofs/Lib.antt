@@ -10,3 +10,4 @@ mod HistoryTells
 mod ChangeTells
 pub mod PlanTells
 mod EveryTells
+mod RanLemmas

@@ -1,6 +1,7 @@
 -- What a call within a transaction does, where the disk has returned what was written.
-use Rattle.std.specs.Prelude.{◌≡◌, Bool, true, IfOk, OnOk, Result}
-use Rattle.sqlite.specs.State.{HasCleanDisk, KeepsCommit, State, Survives}
+use Rattle.std.specs.Prelude.{◌≡◌, ℕ, Bool, true, IfOk, List, Ok, OnOk, Result}
+use Rattle.sqlite.specs.Order.{Row}
+use Rattle.sqlite.specs.State.{ExecutesInside, HasCleanDisk, KeepsCommit, State, Survives}
 use Rattle.gate_schema.specs.Rows.{AreNamed, Changes, IsReady, Stands, Stored}
 
 -- on Ok, what the tables hold is changed so, and the transaction goes on
@@ -28,3 +29,7 @@ Keeps old new = HasCleanDisk new → IsReady old → KeepsCommit old new
 -- and a crash leaves nothing new
 abbrev pub LeavesNothing : State → State → Type 0
 LeavesNothing old new = Survives old new (λ _. ⊥)
+
+-- a statement ran, and wrote some number of rows
+abbrev pub Ran : State → State → List ℕ → Row → Type 0
+Ran old new sql params = (count : ℕ) × ExecutesInside 0 sql params old new (Ok count)

@@ -6,6 +6,7 @@ ghost use Rattle.gate_schema.specs.Edits as edits;
 ghost use Rattle.gate_rows.specs.Writes.{Keeps, LeavesNothing, Makes};
 
 use crate::ahead::write_ahead;
+use crate::statement::run;
 use crate::values::{any_number, build, change, flag, revision, serial, text, too_large};
 use gate_types::numbers::BuildNo;
 use gate_types::records::{Build, Outcome};
@@ -21,8 +22,7 @@ fn drop_build<S: Alter>(tx: &mut Transaction<'_, S>, n: BuildNo) -> Result<(), E
     ensures kept { Keeps (state S.Store tx.old.conn.now) (state S.Store tx.new.conn.now) }
     ensures crash { LeavesNothing (state S.Store tx.old.conn.now) (state S.Store tx.new.conn.now) }
 {
-    tx.execute("DELETE FROM build WHERE num = ?1", &[build(n)])?;
-    Ok(())
+    run(tx, "DELETE FROM build WHERE num = ?1", &[build(n)])
 }
 
 /// Adds a build, whose number no build has. An Err where no column can hold the number of landings
@@ -38,7 +38,8 @@ fn add_build<S: Alter>(tx: &mut Transaction<'_, S>, b: &Build, ahead: &str) -> R
     let Some(after) = any_number(b.after) else {
         return Err(too_large());
     };
-    tx.execute(
+    run(
+        tx,
         "INSERT INTO build (num, queue, serial, change, revision, job, base, ahead, outcome, live) VALUES (?1, ?2, ?3, ?4, ?5, ?6, ?7, ?8, ?9, ?10)",
         &[
             build(b.number),
@@ -52,8 +53,7 @@ fn add_build<S: Alter>(tx: &mut Transaction<'_, S>, b: &Build, ahead: &str) -> R
             text(outcome_word(b.outcome)),
             flag(b.live),
         ],
-    )?;
-    Ok(())
+    )
 }
 
 /// A build, in place of the old one, with the text of what is ahead of it.
@@ -104,11 +104,11 @@ pub(crate) fn set_outcome<S: Alter>(
     ensures kept { Keeps (state S.Store tx.old.conn.now) (state S.Store tx.new.conn.now) }
     ensures crash { LeavesNothing (state S.Store tx.old.conn.now) (state S.Store tx.new.conn.now) }
 {
-    tx.execute(
+    run(
+        tx,
         "UPDATE build SET outcome = ?2 WHERE num = ?1",
         &[build(n), text(outcome_word(outcome))],
-    )?;
-    Ok(())
+    )
 }
 
 /// The build stops being live.
@@ -119,6 +119,5 @@ pub(crate) fn stop_build<S: Alter>(tx: &mut Transaction<'_, S>, n: BuildNo) -> R
     ensures kept { Keeps (state S.Store tx.old.conn.now) (state S.Store tx.new.conn.now) }
     ensures crash { LeavesNothing (state S.Store tx.old.conn.now) (state S.Store tx.new.conn.now) }
 {
-    tx.execute("UPDATE build SET live = 0 WHERE num = ?1", &[build(n)])?;
-    Ok(())
+    run(tx, "UPDATE build SET live = 0 WHERE num = ?1", &[build(n)])
 }

@@ -4,6 +4,7 @@ ghost use Rattle.sqlite.specs.Held.{state};
 ghost use Rattle.gate_schema.specs.Edits as edits;
 ghost use Rattle.gate_rows.specs.Writes.{Keeps, LeavesNothing, Makes};
 
+use crate::statement::run;
 use crate::values::{change, number, number_if_any, revision, text, too_large};
 use crate::words::stage_text;
 use gate_types::numbers::ChangeNo;
@@ -26,7 +27,8 @@ fn renew_change<S: Alter>(
     let Some(approval) = number_if_any(approval) else {
         return Err(too_large());
     };
-    tx.execute(
+    run(
+        tx,
         "INSERT OR REPLACE INTO change (num, project, revision, state, approval) VALUES (?1, ?2, ?3, ?4, ?5)",
         &[
             change(k.number),
@@ -35,8 +37,7 @@ fn renew_change<S: Alter>(
             text(stage_text(k.stage)),
             approval,
         ],
-    )?;
-    Ok(())
+    )
 }
 
 /// Takes the needs of a change out.
@@ -47,8 +48,7 @@ fn drop_needs<S: Alter>(tx: &mut Transaction<'_, S>, n: ChangeNo) -> Result<(), 
     ensures kept { Keeps (state S.Store tx.old.conn.now) (state S.Store tx.new.conn.now) }
     ensures crash { LeavesNothing (state S.Store tx.old.conn.now) (state S.Store tx.new.conn.now) }
 {
-    tx.execute("DELETE FROM need WHERE change = ?1", &[change(n)])?;
-    Ok(())
+    run(tx, "DELETE FROM need WHERE change = ?1", &[change(n)])
 }
 
 /// Adds a need at its place.
@@ -65,11 +65,11 @@ fn add_need<S: Alter>(
     ensures kept { Keeps (state S.Store tx.old.conn.now) (state S.Store tx.new.conn.now) }
     ensures crash { LeavesNothing (state S.Store tx.old.conn.now) (state S.Store tx.new.conn.now) }
 {
-    tx.execute(
+    run(
+        tx,
         "INSERT INTO need (change, place, needed) VALUES (?1, ?2, ?3)",
         &[change(n), number(place as u64), change(needed)],
-    )?;
-    Ok(())
+    )
 }
 
 /// Adds the needs of a change, by their places.

@@ -6,6 +6,7 @@ ghost use Rattle.gate_schema.specs.Edits as edits;
 ghost use Rattle.gate_rows.specs.Tells.{FitsBeside};
 ghost use Rattle.gate_rows.specs.Writes.{Found, Keeps, LeavesNothing, Makes};
 
+use crate::statement::run;
 use crate::values::{any_number, bytes, change, landing_place, revision, serial, text, too_large};
 use crate::words::verdict_text;
 use gate_types::names::Name;
@@ -30,7 +31,8 @@ pub(crate) fn put_landing<S: Alter>(
     let Some(at) = any_number(place) else {
         return Err(too_large());
     };
-    tx.execute(
+    run(
+        tx,
         "INSERT INTO landing (queue, n, serial, change, revision) VALUES (?1, ?2, ?3, ?4, ?5)",
         &[
             text(queue.as_str()),
@@ -39,8 +41,7 @@ pub(crate) fn put_landing<S: Alter>(
             change(l.change),
             revision(l.revision),
         ],
-    )?;
-    Ok(())
+    )
 }
 
 /// The report at a place of its queue. An Err where one is there, or where no column can hold the place, or
@@ -65,7 +66,8 @@ pub(crate) fn put_report<S: Alter>(
     let Some(landed) = landing_place(r.verdict) else {
         return Err(too_large());
     };
-    tx.execute(
+    run(
+        tx,
         "INSERT INTO report (queue, place, serial, change, revision, verdict, n) VALUES (?1, ?2, ?3, ?4, ?5, ?6, ?7)",
         &[
             text(queue.as_str()),
@@ -76,8 +78,7 @@ pub(crate) fn put_report<S: Alter>(
             text(verdict_text(r.verdict)),
             landed,
         ],
-    )?;
-    Ok(())
+    )
 }
 
 /// An accepted delivery, where none is kept under its id.
@@ -88,13 +89,13 @@ pub(crate) fn keep<S: Alter>(tx: &mut Transaction<'_, S>, kept: &Kept) -> Result
     ensures kept { Keeps (state S.Store tx.old.conn.now) (state S.Store tx.new.conn.now) }
     ensures crash { LeavesNothing (state S.Store tx.old.conn.now) (state S.Store tx.new.conn.now) }
 {
-    tx.execute(
+    run(
+        tx,
         "INSERT INTO delivery (id, said, reply) VALUES (?1, ?2, ?3)",
         &[
             bytes(&kept.id.0),
             text(kept.said.as_str()),
             text(kept.reply.as_str()),
         ],
-    )?;
-    Ok(())
+    )
 }

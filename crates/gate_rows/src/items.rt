@@ -8,6 +8,7 @@ ghost use Rattle.gate_schema.specs.Rows.{ItemRow};
 ghost use Rattle.gate_rows.specs.Tells.{FitsBeside};
 ghost use Rattle.gate_rows.specs.Writes.{Found, FoundIf, Keeps, LeavesNothing, Makes, MakesAs};
 
+use crate::statement::run;
 use crate::values::{change, flag, revision, serial, serial_if_any, text};
 use gate_types::names::Name;
 use gate_types::numbers::Serial;
@@ -22,8 +23,7 @@ pub(crate) fn drop_item<S: Alter>(tx: &mut Transaction<'_, S>, number: Serial) -
     ensures kept { Keeps (state S.Store tx.old.conn.now) (state S.Store tx.new.conn.now) }
     ensures crash { LeavesNothing (state S.Store tx.old.conn.now) (state S.Store tx.new.conn.now) }
 {
-    tx.execute("DELETE FROM item WHERE serial = ?1", &[serial(number)])?;
-    Ok(())
+    run(tx, "DELETE FROM item WHERE serial = ?1", &[serial(number)])
 }
 
 /// Sets an item in place of the one of its serial in its queue. Tells whether there is one.
@@ -60,7 +60,8 @@ fn add_item<S: Alter>(tx: &mut Transaction<'_, S>, queue: &Name, item: &Item) ->
     ensures kept { Keeps (state S.Store tx.old.conn.now) (state S.Store tx.new.conn.now) }
     ensures crash { LeavesNothing (state S.Store tx.old.conn.now) (state S.Store tx.new.conn.now) }
 {
-    tx.execute(
+    run(
+        tx,
         "INSERT INTO item (serial, queue, change, revision, ahead, failing) VALUES (?1, ?2, ?3, ?4, ?5, ?6)",
         &[
             serial(item.serial),
@@ -70,8 +71,7 @@ fn add_item<S: Alter>(tx: &mut Transaction<'_, S>, queue: &Name, item: &Item) ->
             serial_if_any(item.ahead),
             flag(item.failing),
         ],
-    )?;
-    Ok(())
+    )
 }
 
 /// The item of a serial, put in its queue. An Err where another queue has that serial.

@@ -16,6 +16,7 @@ mod items;
 pub mod laws;
 mod numbers;
 mod plans;
+mod statement;
 pub mod values;
 mod words;
 

@@ -4,6 +4,7 @@ ghost use Rattle.sqlite.specs.Held.{state};
 ghost use Rattle.gate_schema.specs.Edits as edits;
 ghost use Rattle.gate_rows.specs.Writes.{Keeps, LeavesNothing, Makes};
 
+use crate::statement::run;
 use crate::values::{any_number, number, text, too_large};
 use crate::words::counter_text;
 use gate_types::edits::Counter;
@@ -22,11 +23,11 @@ pub(crate) fn set_window<S: Alter>(
     ensures kept { Keeps (state S.Store tx.old.conn.now) (state S.Store tx.new.conn.now) }
     ensures crash { LeavesNothing (state S.Store tx.old.conn.now) (state S.Store tx.new.conn.now) }
 {
-    tx.execute(
+    run(
+        tx,
         "UPDATE queue SET win = ?2 WHERE name = ?1",
         &[text(queue.as_str()), number(window as u64)],
-    )?;
-    Ok(())
+    )
 }
 
 /// A counter. An Err where no column can hold the number.
@@ -44,9 +45,9 @@ pub(crate) fn set_counter<S: Alter>(
     let Some(drawn) = any_number(drawn) else {
         return Err(too_large());
     };
-    tx.execute(
+    run(
+        tx,
         "UPDATE counter SET drawn = ?2 WHERE name = ?1",
         &[text(counter_text(counter)), drawn],
-    )?;
-    Ok(())
+    )
 }

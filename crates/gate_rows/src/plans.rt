@@ -7,6 +7,7 @@ ghost use Rattle.gate_rows.specs.Tells.{FitsBeside, IsFree};
 ghost use Rattle.gate_rows.specs.Writes.{Found, Keeps, LeavesNothing, Makes};
 
 use crate::items::drop_item;
+use crate::statement::run;
 use crate::values::{flag, number, serial, text};
 use gate_types::config::Job;
 use gate_types::numbers::Serial;
@@ -21,8 +22,7 @@ fn drop_jobs<S: Alter>(tx: &mut Transaction<'_, S>, n: Serial) -> Result<(), Err
     ensures kept { Keeps (state S.Store tx.old.conn.now) (state S.Store tx.new.conn.now) }
     ensures crash { LeavesNothing (state S.Store tx.old.conn.now) (state S.Store tx.new.conn.now) }
 {
-    tx.execute("DELETE FROM item_job WHERE serial = ?1", &[serial(n)])?;
-    Ok(())
+    run(tx, "DELETE FROM item_job WHERE serial = ?1", &[serial(n)])
 }
 
 /// Takes out that the item of a serial fails fast.
@@ -33,8 +33,7 @@ fn drop_fast<S: Alter>(tx: &mut Transaction<'_, S>, n: Serial) -> Result<(), Err
     ensures kept { Keeps (state S.Store tx.old.conn.now) (state S.Store tx.new.conn.now) }
     ensures crash { LeavesNothing (state S.Store tx.old.conn.now) (state S.Store tx.new.conn.now) }
 {
-    tx.execute("DELETE FROM item_fast WHERE serial = ?1", &[serial(n)])?;
-    Ok(())
+    run(tx, "DELETE FROM item_fast WHERE serial = ?1", &[serial(n)])
 }
 
 /// Takes the plan under a serial out.
@@ -76,7 +75,8 @@ fn add_job<S: Alter>(
     ensures kept { Keeps (state S.Store tx.old.conn.now) (state S.Store tx.new.conn.now) }
     ensures crash { LeavesNothing (state S.Store tx.old.conn.now) (state S.Store tx.new.conn.now) }
 {
-    tx.execute(
+    run(
+        tx,
         "INSERT INTO item_job (serial, place, name, voting) VALUES (?1, ?2, ?3, ?4)",
         &[
             serial(n),
@@ -84,8 +84,7 @@ fn add_job<S: Alter>(
             text(job.name.as_str()),
             flag(job.voting),
         ],
-    )?;
-    Ok(())
+    )
 }
 
 /// Adds the jobs of a plan, by their places. An Err where one of these is taken.
@@ -112,8 +111,11 @@ fn add_fast<S: Alter>(tx: &mut Transaction<'_, S>, n: Serial) -> Result<(), Erro
     ensures kept { Keeps (state S.Store tx.old.conn.now) (state S.Store tx.new.conn.now) }
     ensures crash { LeavesNothing (state S.Store tx.old.conn.now) (state S.Store tx.new.conn.now) }
 {
-    tx.execute("INSERT INTO item_fast (serial) VALUES (?1)", &[serial(n)])?;
-    Ok(())
+    run(
+        tx,
+        "INSERT INTO item_fast (serial) VALUES (?1)",
+        &[serial(n)],
+    )
 }
 
 /// The same, where it does.

@@ -1,8 +1,9 @@
 use Rattle.sqlite.specs.Held.{state}
 use Rattle.gate_schema.proofs.QueueTable.{sets_window}
+use Rattle.gate_rows.proofs.RanLemmas.{ran_so}
 use Rattle.gate_rows.proofs.numbers.set_window.Goals as goal
 
 pub returns-clause-changes : goal.returns-clause-changes
 returns-clause-changes g c clean ready =
-    sets_window c.args.queue.now c.args.window (state g.S.Store c.args.tx.now.conn.now) (state g.S.Store c.execute.new.self.conn.now) _ ready
-    (rw (c.text.ensures, c.as_str.ensures.value, c.number.ensures) at (c.in_ok-execute.ensures.runs clean ready.inside))
+    ran_so _ (λ ran. sets_window c.args.queue.now c.args.window (state g.S.Store c.args.tx.now.conn.now) (state g.S.Store c.run.new.tx.conn.now) ran.0 ready
+    (rw (c.text.ensures, c.as_str.ensures.value, c.number.ensures) at ran.1)) (c.run.ensures.ran clean ready)
