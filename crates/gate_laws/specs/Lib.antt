@@ -5,6 +5,7 @@ pub mod Landings
 pub mod Orders
 pub mod Adoption
 pub mod Sessions
+pub mod Feed
 pub mod Migration
 pub mod Touch
 pub mod InForm
