@@ -1,0 +1,57 @@
+-- What is known of a change, as JSON: who asks why it waits reads it here.
+use Rattle.std.specs.Prelude.{ℕ, Bool, nat_le, List, [], ◌∷◌, map, Option, option_map, codes}
+use Rattle.std.specs.Option.{option_map_or}
+use Rattle.gate_types.specs.declared.records.Change.{Change}
+use Rattle.gate_types.specs.declared.records.Stage.{Stage}
+use Rattle.gate_types.specs.declared.records.Stage.TheVariants as stage
+use Rattle.gate_types.specs.Settings.{Settings}
+use Rattle.gate_types.specs.State.{State, known_change, project_of}
+use Rattle.gate_types.specs.JsonText.{Piece, number, plain, boolean, array, member, object}
+use Rattle.gate_types.specs.Tables.{approval_of}
+use Rattle.gate_book_trait.specs.Reads.{queued_of, item_count}
+use Rattle.gate_archive.specs.OrNull.{or_null}
+
+-- the word of a stage
+abbrev pub stage_word : Stage → List ℕ
+stage_word stage.Open = codes "open"
+stage_word stage.Landed = codes "landed"
+stage_word stage.Closed = codes "closed"
+
+-- the queue in which a change is an item
+abbrev pub stands_in : Settings → State → ℕ → Option (List ℕ)
+stands_in c s n = option_map (λ k. k.queue) (queued_of c s n)
+
+-- the serial of its item
+abbrev pub serial_of : Settings → State → ℕ → Option ℕ
+serial_of c s n = option_map (λ k. k.item.serial) (queued_of c s n)
+
+-- what has become of a need, of which maybe no revision came
+abbrev pub need_word : Option Change → List ℕ
+need_word known = option_map_or (λ k. stage_word k.stage) known (codes "unknown")
+
+-- a need of a change: its approval while it waits, the queue in which it is an item, and what has become of it
+abbrev pub need_piece : Settings → State → ℕ → Piece
+need_piece c s n = object (
+    member (codes "approval") (or_null number (approval_of s.ready n)) ∷
+    member (codes "change") (number n) ∷
+    member (codes "stands") (or_null plain (stands_in c s n)) ∷
+    member (codes "state") (plain (need_word (known_change s n))) ∷ [])
+
+-- a queue takes no more items
+abbrev pub is_full : Settings → State → List ℕ → Bool
+is_full c s queue = nat_le 1000 (item_count c s queue)
+
+-- the text of a change at its latest revision, with the queue of its project
+abbrev pub change_text : Settings → State → Change → List ℕ
+change_text c s k =
+    let queue = (project_of c s k.number).queue in
+    object (
+    member (codes "approval") (or_null number (approval_of s.ready k.number)) ∷
+    member (codes "change") (number k.number) ∷
+    member (codes "full") (boolean (is_full c s queue)) ∷
+    member (codes "needs") (array (map (need_piece c s) k.needs)) ∷
+    member (codes "order") (or_null number (serial_of c s k.number)) ∷
+    member (codes "project") (plain k.project) ∷
+    member (codes "queue") (plain queue) ∷
+    member (codes "revision") (number k.revision) ∷
+    member (codes "state") (plain (stage_word k.stage)) ∷ []) []

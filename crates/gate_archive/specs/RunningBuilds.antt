@@ -1,0 +1,28 @@
+-- The builds that run, as JSON: queues in the order of the settings, items front to back, builds by number.
+use Rattle.std.specs.Prelude.{ℕ, List, [], ◌∷◌, map, filter, length, take, flat_map, codes}
+use Rattle.gate_types.specs.declared.records.Build.{Build}
+use Rattle.gate_types.specs.State.{State}
+use Rattle.gate_types.specs.Slot.{is_running}
+use Rattle.gate_types.specs.JsonText.{Piece, number, plain, array, member, object}
+use Rattle.gate_book_trait.specs.Reads.{live_builds}
+
+-- the live builds of an item that run, by number
+abbrev pub running_of : State → ℕ → List Build
+running_of s serial = filter (λ b. is_running b.outcome) (live_builds s serial)
+
+-- those of all items
+abbrev pub running_builds : State → List Build
+running_builds s = flat_map (λ q. flat_map (λ i. running_of s i.serial) q.items) s.queues
+
+-- a build that runs
+abbrev pub running_piece : Build → Piece
+running_piece b = object (
+    member (codes "build") (number b.number) ∷ member (codes "change") (number b.change) ∷
+    member (codes "job") (plain b.job) ∷ member (codes "order") (number b.serial) ∷
+    member (codes "queue") (plain b.queue) ∷ member (codes "revision") (number b.revision) ∷ [])
+
+-- the text: the first 1,000 of them, and how many there are
+abbrev pub running_text : State → List ℕ
+running_text s = object (
+    member (codes "builds") (array (map running_piece (take 1000 (running_builds s)))) ∷
+    member (codes "running") (number (length (running_builds s))) ∷ []) []
