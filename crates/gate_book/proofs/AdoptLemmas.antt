@@ -83,6 +83,13 @@ all_set P (x ∷ xs) (suc n) y all h = (all.0, all_set P xs n y all.1 h)
 abbrev pub rows_so_far : Settings → List QueueRows → ℕ → List QueueSetting → List QueueRows
 rows_so_far c told n rs = map (adopted_rows c told) (take n rs) ++ map empty_rows (drop n rs)
 
+-- they are as many as the settings
+pub so_far_length : (c : Settings) (told : List QueueRows) (n : ℕ) (rs : List QueueSetting) → length (rows_so_far c told n rs) ≡ length rs
+so_far_length c told zero [] = refl
+so_far_length c told zero (x ∷ xs) = ap (λ m. suc m) (so_far_length c told zero xs)
+so_far_length c told (suc n) [] = refl
+so_far_length c told (suc n) (x ∷ xs) = ap (λ m. suc m) (so_far_length c told n xs)
+
 -- a queue of none of the settings so far is there still
 abbrev pub AreLeft : List QueueRows → List QueueRows → ℕ → List QueueSetting → Type 0
 AreLeft told left n rs = (name : List ℕ) → list_any (λ (r : QueueSetting). same_name r.name name) (take n rs) ≡ false → rows_named left name ≡ rows_named told name

@@ -1,3 +1,5 @@
 pub mod MemoryLemmas
 mod AdoptLemmas
 mod HistoryLemmas
+mod FeedLemmas
+mod PastLemmas

@@ -13,6 +13,8 @@ use Rattle.gate_memory.specs.Builds.{HaveRoom}
 use Rattle.gate_memory.specs.Changes as change
 use Rattle.gate_memory.specs.Queues as queue
 use Rattle.gate_memory.specs.Replies as reply
+use Rattle.gate_memory.specs.Reports as report
+use Rattle.gate_memory.specs.declared.reports.ReportTable.{ReportTable}
 use Rattle.gate_memory.specs.Plans as plan
 use Rattle.gate_book.specs.Memory.{HasRoom}
 use Rattle.gate_memory.specs.declared.builds.BuildTable.{BuildTable}
@@ -67,7 +69,7 @@ pub plans_less : (n : ℕ) (t : PlanTable) → plan.HasRoom (suc n) t → plan.H
 plans_less n t room = omega (arith, room)
 
 pub builds_less : (n : ℕ) (t : BuildTable) → HaveRoom (suc n) t → HaveRoom n t
-builds_less n t room = let r = room.rows in let q = room.live in record { rows = omega (arith, r); live = omega (arith, q) }
+builds_less n t room = let r = room.rows in let q = room.live in let a = room.told in record { rows = omega (arith, r); live = omega (arith, q); told = omega (arith, a) }
 
 pub replies_less : (n : ℕ) (t : ReplyTable) → reply.HasRoom (suc n) t → reply.HasRoom n t
 replies_less n t room = let r = room.rows in let q = room.places in record { rows = omega (arith, r); places = omega (arith, q) }
@@ -79,13 +81,16 @@ plans_one : (n : ℕ) (t : PlanTable) → plan.HasRoom (suc n) t → plan.HasRoo
 plans_one n t room = omega (arith, room)
 
 builds_one : (n : ℕ) (t : BuildTable) → HaveRoom (suc n) t → HaveRoom 1 t
-builds_one n t room = let r = room.rows in let q = room.live in record { rows = omega (arith, r); live = omega (arith, q) }
+builds_one n t room = let r = room.rows in let q = room.live in let a = room.told in record { rows = omega (arith, r); live = omega (arith, q); told = omega (arith, a) }
 
 replies_one : (n : ℕ) (t : ReplyTable) → reply.HasRoom (suc n) t → reply.HasRoom 1 t
 replies_one n t room = let r = room.rows in let q = room.places in record { rows = omega (arith, r); places = omega (arith, q) }
 
+reports_one : (n : ℕ) (t : ReportTable) → report.HasRoom (suc n) t → report.HasRoom 1 t
+reports_one n t room = let r = room.rows in let e = room.entries in record { rows = omega (arith, r); entries = omega (arith, e) }
+
 queue_one : (n : ℕ) (t : QueueTable) → queue.HasRoom (suc n) t → queue.HasRoom 1 t
-queue_one n t room = let a = room.items in let b = room.entries in let d = room.landings in let e = room.reports in record { items = omega (arith, a); entries = omega (arith, b); landings = omega (arith, d); reports = omega (arith, e) }
+queue_one n t room = let a = room.items in let b = room.entries in let d = room.landings in record { items = omega (arith, a); entries = omega (arith, b); landings = omega (arith, d); reports = reports_one n t.reports room.reports }
 
 -- where there is room for more, there is room for one
 pub room_one : (n k m : ℕ) (t : MemTables) → HasRoom (suc n) (k + m) t → HasRoom 1 k t

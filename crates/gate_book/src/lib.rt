@@ -1,4 +1,4 @@
-//! What keeps a gate's content: the trait `Book`, and a book in memory.
+//! What keeps a gate's content: the trait `Book`, and a book in memory, which is an `Archive` too.
 //!
 //! ```text
 //! let mut book = MemBook::new(alloc, &config)?;
@@ -8,7 +8,10 @@
 #![tactic(auto)]
 
 mod adopting;
+mod archive;
+mod feeding;
 mod memory;
+mod past;
 mod tables;
 mod writing;
 

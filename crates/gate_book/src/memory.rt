@@ -27,10 +27,10 @@ use std::marker::Model;
 /// long ago. Now and then a table moves to a larger place.
 #[derive(Drop)]
 pub struct MemBook {
-    alloc: Global,
+    pub(crate) alloc: Global,
     // The settings in force: those that come are compared with them.
     config: Config,
-    tables: MemTables,
+    pub(crate) tables: MemTables,
 }
 
 impl Model for MemBook {

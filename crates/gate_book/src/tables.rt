@@ -44,11 +44,11 @@ struct LastNumbers {
 #[derive(Drop)]
 pub struct MemTables {
     changes: ChangeTable,
-    queues: Vec<QueueTable>,
+    pub(crate) queues: Vec<QueueTable>,
     plans: PlanTable,
-    builds: BuildTable,
+    pub(crate) builds: BuildTable,
     drawn: LastNumbers,
-    replies: ReplyTable,
+    pub(crate) replies: ReplyTable,
 }
 
 fn drawn_by(counters: Counters) -> LastNumbers

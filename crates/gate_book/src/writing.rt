@@ -80,8 +80,29 @@ fn write_beginning<W: Write>(front: &[u8], text: &str, w: &mut Tap<W>) -> Result
     Ok(())
 }
 
-/// Writes the front and then the text of a queue, its lines one after another. The first two lines are made before
-/// anything is written.
+/// Writes the front and then a text of a queue: the first line, the lines of these reports one after another, and the
+/// last line with this number. The first two lines are made before anything is written.
+pub(crate) fn write_rows<W: Write>(
+    alloc: Global,
+    name: &str,
+    rows: &[ReportRow],
+    count: u64,
+    front: &[u8],
+    w: &mut Tap<W>,
+) -> Result<(), HistoryFault>
+    requires { has_failed w.old ≡ false }
+    ensures { WritesText W.contents w.old w.new
+        (front.now ++ (first_line name.now ++ (report_lines rows.now ++ last_line count))) result }
+{
+    let (first, rest) = rows.split_at(rows.len().min(1));
+    let Ok(text) = beginning(alloc, name, first) else {
+        return Err(HistoryFault::Unavailable);
+    };
+    write_beginning(front, text.as_str(), w)?;
+    write_rest(alloc, rest, count, w)
+}
+
+/// Writes the front and then the text of a queue with all its reports.
 pub(crate) fn write_history<W: Write>(
     alloc: Global,
     name: &str,
@@ -92,10 +113,5 @@ pub(crate) fn write_history<W: Write>(
     requires { has_failed w.old ≡ false }
     ensures { WritesText W.contents w.old w.new (front.now ++ rows_text name.now rows.now) result }
 {
-    let (first, rest) = rows.split_at(rows.len().min(1));
-    let Ok(text) = beginning(alloc, name, first) else {
-        return Err(HistoryFault::Unavailable);
-    };
-    write_beginning(front, text.as_str(), w)?;
-    write_rest(alloc, rest, rows.len() as u64, w)
+    write_rows(alloc, name, rows, rows.len() as u64, front, w)
 }

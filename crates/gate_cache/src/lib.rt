@@ -7,6 +7,7 @@
 //! ```
 #![tactic(auto)]
 
+mod archived;
 mod cache;
 mod cached;
 

@@ -10,3 +10,5 @@ pub mod LoopLemmas
 pub mod NeedLemmas
 pub mod ReadyLemmas
 pub mod NeedingLemmas
+pub mod IndexLemmas
+pub mod ReportLemmas

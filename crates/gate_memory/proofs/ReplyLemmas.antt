@@ -1,8 +1,11 @@
 -- The places of kept deliveries.
-use Rattle.std.proofs.Common.{◌≡◌, ℕ, suc, Bool, true, false, cond, Option, Some, None, List, [], ◌∷◌, ◌++◌, length, refl, sym, ap, ◌∙◌}
-use Rattle.std.specs.Prelude.{slice_get, find}
+use Rattle.std.proofs.Common.{arith, ◌<◌, drop, ◌≡◌, ℕ, suc, Bool, true, false, cond, Option, Some, None, List, [], ◌∷◌, ◌++◌, length, refl, sym, ap, ◌∙◌}
+use Rattle.std.specs.Prelude.{slice_get, find, unwrap_or}
 use Rattle.std.specs.Option.{option_or, option_map}
 use Rattle.std.specs.HashMap.{get}
+use Rattle.std.proofs.lemmas.Option.{none-some}
+use Rattle.gate_types.specs.declared.records.Id.{Id}
+use Rattle.gate_archive.specs.Feed.{behind_id}
 use Rattle.gate_types.specs.declared.records.Kept.{Kept}
 use Rattle.gate_memory.specs.Replies.{Places, same_id, has_id, place_by}
 
@@ -43,3 +46,25 @@ at_step x xs (Some i) false r e = e
 pub kept_at : (p : Kept → Bool) (ks : List Kept) → at_place ks (place_by p ks) ≡ find p ks
 kept_at p [] = refl
 kept_at p (x ∷ xs) = at_step x xs (place_by p xs) (p x) (find p xs) (kept_at p xs)
+
+-- ---- behind an id
+
+pub place_within : (p : Kept → Bool) (ks : List Kept) (i : ℕ) → Some i ≡ place_by p ks → i < length ks
+place_within p [] i e = absurd (none-some i (sym e))
+place_within p (k ∷ ks) i e = by_test (p k) (place_by p ks) (λ j f. place_within p ks j f) e
+  where
+    by_test : (t : Bool) (o : Option ℕ) → ((j : ℕ) → Some j ≡ o → j < length ks) →
+        Some i ≡ cond t (Some 0) (option_map (λ j. suc j) o) → i < suc (length ks)
+    by_test true o rest f = let z : i ≡ 0 = ap (λ q. unwrap_or q 0) f in omega (arith, z)
+    by_test false None rest f = absurd (none-some i (sym f))
+    by_test false (Some j) rest f = let l : j < length ks = rest j refl in let z : i ≡ suc j = ap (λ q. unwrap_or q 0) f in omega (arith, l, z)
+
+pub behind_is : (id : Id) (ks : List Kept) → behind_id id ks ≡ option_map (λ i. drop (suc i) ks) (place_by (has_id id.0) ks)
+behind_is id [] = refl
+behind_is id (k ∷ ks) = by_test (has_id id.0 k) (place_by (has_id id.0) ks) (behind_is id ks)
+  where
+    by_test : (t : Bool) (o : Option ℕ) → behind_id id ks ≡ option_map (λ i. drop (suc i) ks) o →
+        cond t (Some ks) (behind_id id ks) ≡ option_map (λ i. drop (suc i) (k ∷ ks)) (cond t (Some 0) (option_map (λ i. suc i) o))
+    by_test true o e = refl
+    by_test false None e = e
+    by_test false (Some i) e = e

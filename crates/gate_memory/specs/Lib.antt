@@ -4,6 +4,7 @@ pub mod Plans
 pub mod Builds
 pub mod Needs
 pub mod Changes
+pub mod Reports
 pub mod Queues
 pub mod Replies
 pub mod TableReads

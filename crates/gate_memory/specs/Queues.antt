@@ -3,11 +3,11 @@ use Rattle.std.specs.Prelude.{ℕ, Bool, ◌==◌, ◌≤◌, ◌+◌, List, vec
 use Rattle.std.specs.List.{AllByRecursion}
 use Rattle.gate_types.specs.declared.records.Item.{Item}
 use Rattle.gate_types.specs.declared.rows.LandingRow.{LandingRow}
-use Rattle.gate_types.specs.declared.rows.ReportRow.{ReportRow}
 use Rattle.gate_types.specs.Tables.{QueueRows}
 use Rattle.gate_book_trait.specs.Rising.{RisesFrom, In}
 use Rattle.gate_memory.specs.Pairs.{pair_key, IsFit}
 use Rattle.gate_memory.specs.declared.pairs.Pair.{Pair}
+use Rattle.gate_memory.specs.Reports as report
 use Rattle.gate_memory.specs.declared.queues.QueueTable.{QueueTable}
 
 -- the serial of an item
@@ -17,10 +17,6 @@ serial_of i = i.serial
 -- the place of a landing
 abbrev pub place_of_landing : LandingRow → ℕ
 place_of_landing r = r.place
-
--- the place of a report
-abbrev pub report_place : ReportRow → ℕ
-report_place r = r.place
 
 -- an item of a change
 abbrev pub is_of_change : ℕ → Item → Bool
@@ -41,14 +37,14 @@ pub record IsKept (t : QueueTable) : Type 0 where
   pub entries_fit : AllByRecursion IsFit t.entries.items
   pub items_told : TellsItems t.entries.items t.items.items
   pub landings_rise : RisesFrom place_of_landing 0 t.landings.items
-  pub reports_rise : RisesFrom report_place 0 t.reports.items
+  pub reports : report.IsKept t.reports
 
 -- room for n more rows of each kind
 pub record HasRoom (n : ℕ) (t : QueueTable) : Type 0 where
   pub items : vec_len t.items + n ≤ vec_capacity t.items
   pub entries : vec_len t.entries + n ≤ vec_capacity t.entries
   pub landings : vec_len t.landings + n ≤ vec_capacity t.landings
-  pub reports : vec_len t.reports + n ≤ vec_capacity t.reports
+  pub reports : report.HasRoom n t.reports
 
 -- its rows
 abbrev pub rows_of : QueueTable → QueueRows
@@ -57,5 +53,5 @@ rows_of t = record {
   window = t.window;
   items = t.items.items;
   landings = t.landings.items;
-  reports = t.reports.items;
+  reports = t.reports.rows.items;
 }

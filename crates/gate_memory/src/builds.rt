@@ -1,28 +1,33 @@
 //! The builds of a book in memory.
-ghost use Rattle.std.specs.Prelude.{◌≡◌, ◌==◌, ◌++◌, ℕ, suc, [], find, filter, false, IfOk, OnOk, IfSome, vec_capacity};
+ghost use Rattle.std.specs.Prelude.{◌≡◌, ◌==◌, ◌<◌, ◌≤◌, ◌+◌, ◌++◌, ℕ, suc, [], find, filter, map, length, false, IfOk, OnOk, IfSome, vec_len, vec_capacity};
 ghost use Rattle.std.specs.List.{filter_map, cons_option};
 ghost use Rattle.std.specs.Option.{option_copied};
 ghost use Rattle.gate_types.specs.State.{put_by};
 ghost use Rattle.gate_types.specs.Rebase.{with_live};
 ghost use Rattle.gate_types.specs.Rows.{with_outcome, change_build};
 ghost use Rattle.gate_book_trait.specs.Rising.{RisesFrom};
-ghost use Rattle.gate_memory.specs.Sorted.{passing};
+ghost use Rattle.gate_archive.specs.ItemText.{last_of, summary_of};
+ghost use Rattle.gate_memory.specs.Sorted.{passing, without};
 ghost use Rattle.gate_memory.specs.Pairs.{IsFit};
-ghost use Rattle.gate_memory.specs.Builds.{AreKept, HaveRoom, number_of, is_live_of};
+ghost use Rattle.gate_memory.specs.Builds as index;
+ghost use Rattle.gate_memory.specs.Builds.{AreKept, HaveRoom, Indexes, number_of, is_live_of, is_of};
 
 use crate::pairs::{Pair, of_first};
 use crate::sorted;
 use crate::sorted::Keyed;
+use crate::telling::{last, summaries};
+use gate_archive::BuildSummary;
 use gate_types::names::NoMemory;
 use gate_types::numbers::{BuildNo, Serial};
 use gate_types::records::{Build, Outcome};
 use gate_types::sequence::Sequence;
 use std::alloc::{AllocError, Global};
 
-/// All builds by number, and an index of the live ones: pairs of serial and number.
+/// All builds by number, and two indexes, pairs of serial and number: of all, and of the live ones.
 #[derive(Drop)]
 pub struct BuildTable {
     rows: Vec<Build>,
+    told: Vec<Pair>,
     live: Vec<Pair>,
 }
 
@@ -34,6 +39,43 @@ impl Keyed for Build {
     fn key(&self) -> u128 {
         self.number.get() as u128
     }
+}
+
+/// What an index keeps of a build.
+fn pair_of(build: &Build) -> Pair
+    ensures pair { result ≡ index.pair_of build.now }
+    ensures fit { IsFit result }
+{
+    Pair {
+        first: build.serial.get(),
+        second: build.number.get(),
+    }
+}
+
+/// Drops from an index of builds what it keeps of the one of a number.
+fn forget(told: &mut Vec<Pair>, rows: &[Build], number: BuildNo)
+    requires rising { RisesFrom number_of 0 rows.now }
+    requires index { Indexes told.old.items rows.now }
+    ensures index { Indexes told.new.items (without number_of number rows.now) }
+    ensures len { vec_len told.new ≤ vec_len told.old }
+    ensures capacity { vec_capacity told.new ≡ vec_capacity told.old }
+{
+    if let Some(build) = sorted::at(rows, number.get() as u128) {
+        sorted::remove(told, pair_of(build).key());
+    }
+}
+
+/// Notes in an index of builds, where there is room, the one that is to be put.
+fn note(told: &mut Vec<Pair>, rows: &[Build], build: &Build)
+    requires room { vec_len told.old < vec_capacity told.old }
+    requires rising { RisesFrom number_of 0 rows.now }
+    requires index { Indexes told.old.items rows.now }
+    ensures index { Indexes told.new.items (put_by number_of build.now rows.now) }
+    ensures len { vec_len told.new ≤ vec_len told.old + 1 }
+    ensures capacity { vec_capacity told.new ≡ vec_capacity told.old }
+{
+    forget(told, rows, build.number);
+    sorted::put(told, pair_of(build));
 }
 
 fn set_outcome(rows: &mut Vec<Build>, number: BuildNo, outcome: Outcome)
@@ -110,6 +152,7 @@ impl BuildTable {
     {
         BuildTable {
             rows: Vec::new(alloc),
+            told: Vec::new(alloc),
             live: Vec::new(alloc),
         }
     }
@@ -122,6 +165,7 @@ impl BuildTable {
         ensures room { OnOk result (HaveRoom n self.new) }
     {
         self.rows.reserve(n)?;
+        self.told.reserve(n)?;
         self.live.reserve(n)?;
         Ok(())
     }
@@ -138,6 +182,7 @@ impl BuildTable {
             first: build.serial.get(),
             second: build.number.get(),
         };
+        note(&mut self.told, &self.rows, &build);
         sorted::put(&mut self.live, pair);
         sorted::put(&mut self.rows, build);
     }
@@ -191,5 +236,28 @@ impl BuildTable {
         let mut found = Sequence::new(alloc);
         self.add_live(&mut found, serial)?;
         Ok(found)
+    }
+
+    /// How many builds of a serial there are, live or not.
+    pub fn count_of(&self, serial: Serial) -> u64
+        requires { AreKept self.now }
+        ensures { result ≡ length (filter (is_of serial) self.now.rows.items) }
+    {
+        of_first(&self.told, serial.get()).len() as u64
+    }
+
+    /// The last builds of a serial, live or not, by number, no more than `most`.
+    pub fn last_of(
+        &self,
+        alloc: Global,
+        serial: Serial,
+        most: u32,
+    ) -> Result<Sequence<BuildSummary>, NoMemory>
+        requires { AreKept self.now }
+        ensures { IfOk result (λ found. found
+            ≡ map summary_of (last_of most (filter (is_of serial) self.now.rows.items))) }
+    {
+        let pairs = last(of_first(&self.told, serial.get()), most);
+        summaries(alloc, &self.rows, pairs)
     }
 }

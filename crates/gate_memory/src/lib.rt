@@ -16,7 +16,9 @@ mod pairs;
 mod plans;
 mod queues;
 mod replies;
+mod reports;
 mod sorted;
+mod telling;
 
 pub use builds::BuildTable;
 pub use changes::ChangeTable;

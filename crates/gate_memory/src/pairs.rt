@@ -23,6 +23,14 @@ impl Keyed for Pair {
     }
 }
 
+/// Two numbers as a pair.
+pub fn paired(first: u64, second: u64) -> Pair
+    ensures pair { result ≡ record { first = first; second = second } }
+    ensures fit { IsFit result }
+{
+    Pair { first, second }
+}
+
 /// The pairs with a first number.
 pub fn of_first(pairs: &[Pair], first: u64) -> &[Pair]
     requires rising { RisesFrom pair_key 0 pairs.now }

@@ -1,5 +1,5 @@
 //! One queue of a book in memory.
-ghost use Rattle.std.specs.Prelude.{◌≡◌, ◌==◌, ℕ, suc, [], find, filter, length, option_map, ◌<◌, ◌≤◌, ◌+◌, ◌^◌, nat_lt, IfOk, OnOk, vec_len, vec_capacity};
+ghost use Rattle.std.specs.Prelude.{◌≡◌, ◌==◌, ℕ, suc, [], find, filter, length, take, drop, option_map, ◌<◌, ◌≤◌, ◌+◌, ◌-◌, ◌^◌, nat_lt, IfOk, OnOk, vec_len, vec_capacity};
 ghost use Rattle.std.specs.List.{filter_map};
 ghost use Rattle.std.specs.Option.{option_copied};
 ghost use Rattle.gate_types.specs.Names.{same_name};
@@ -16,8 +16,10 @@ ghost use Rattle.gate_book_trait.specs.Reads as read;
 
 use crate::needs::add_seconds;
 use crate::pairs::{Pair, of_first};
+use crate::reports::ReportTable;
 use crate::sorted;
 use crate::sorted::Keyed;
+use gate_archive::LeftItem;
 use gate_book_trait::QueuedItem;
 use gate_types::edits::Edit;
 use gate_types::names::{Name, NoMemory, same_name};
@@ -36,7 +38,7 @@ pub struct QueueTable {
     items: Vec<Item>,
     entries: Vec<Pair>,
     landings: Vec<LandingRow>,
-    reports: Vec<ReportRow>,
+    reports: ReportTable,
 }
 
 impl Keyed for Item {
@@ -53,16 +55,6 @@ impl Keyed for LandingRow {
     ghost use Rattle.gate_memory.specs.Queues.{place_of_landing};
 
     ghost key = { place_of_landing };
-
-    fn key(&self) -> u128 {
-        self.place as u128
-    }
-}
-
-impl Keyed for ReportRow {
-    ghost use Rattle.gate_memory.specs.Queues.{report_place};
-
-    ghost key = { report_place };
 
     fn key(&self) -> u128 {
         self.place as u128
@@ -118,7 +110,7 @@ impl QueueTable {
             items: Vec::new(alloc),
             entries: Vec::new(alloc),
             landings: Vec::new(alloc),
-            reports: Vec::new(alloc),
+            reports: ReportTable::new(alloc),
         }
     }
 
@@ -132,7 +124,7 @@ impl QueueTable {
         self.items.reserve(n)?;
         self.entries.reserve(n)?;
         self.landings.reserve(n)?;
-        self.reports.reserve(n)?;
+        self.reports.make_room(n)?;
         Ok(())
     }
 
@@ -189,13 +181,10 @@ impl QueueTable {
                 queue,
                 place,
                 report,
-            } if same_name(queue, &self.name) => sorted::put(
-                &mut self.reports,
-                ReportRow {
-                    place: *place,
-                    report: *report,
-                },
-            ),
+            } if same_name(queue, &self.name) => self.reports.put(ReportRow {
+                place: *place,
+                report: *report,
+            }),
             Edit::SetWindow { queue, window } if same_name(queue, &self.name) => {
                 self.window = *window
             }
@@ -291,7 +280,7 @@ impl QueueTable {
     pub fn report_count(&self) -> u64
         ensures { result ≡ length (rows_of self.now).reports }
     {
-        self.reports.len() as u64
+        self.reports.rows().len() as u64
     }
 
     pub fn items(&self, alloc: Global) -> Result<Sequence<Item>, NoMemory>
@@ -312,7 +301,30 @@ impl QueueTable {
     pub fn report_rows(&self) -> &[ReportRow]
         ensures { result.now ≡ (rows_of self.now).reports }
     {
-        &self.reports
+        self.reports.rows()
+    }
+
+    /// The reports from the `from`th on, from 1, no more than 1,000.
+    pub fn reports_from(&self, from: u64) -> &[ReportRow]
+        ensures { result.now ≡ take 1000 (drop (from - 1) (rows_of self.now).reports) }
+    {
+        self.reports.page(from)
+    }
+
+    /// The report of the item of a serial that left, with the name of this queue.
+    pub fn left(&self, serial: Serial) -> Result<Option<LeftItem>, NoMemory>
+        requires { IsKept self.now }
+        ensures { IfOk result (λ found. found
+            ≡ option_map (λ r. record { queue = (rows_of self.now).name; report = r.report })
+            (find (λ r. r.report.serial == serial) (rows_of self.now).reports)) }
+    {
+        match self.reports.of_serial(serial) {
+            Some(row) => Ok(Some(LeftItem {
+                queue: self.name.copy()?,
+                report: row.report,
+            })),
+            None => Ok(None),
+        }
     }
 
     /// The first item above a serial.

@@ -1,8 +1,9 @@
 //! The kept deliveries of a book in memory.
-ghost use Rattle.std.specs.Prelude.{◌≡◌, ◌<◌, ◌≤◌, ◌+◌, ◌++◌, ◌∷◌, [], ℕ, suc, List, Some, None, if◌then◌else◌, slice_get, IfOk, OnOk};
+ghost use Rattle.std.specs.Prelude.{◌≡◌, ◌<◌, ◌≤◌, ◌+◌, ◌++◌, ◌∷◌, [], ℕ, suc, List, Some, None, if◌then◌else◌, length, drop, slice_get, IfOk, IfSome, IfNone, OnOk};
 ghost use Rattle.std.specs.Option.{option_or};
 ghost use Rattle.std.specs.HashMap.{get, spare};
 ghost use Rattle.gate_types.specs.Once.{kept_for};
+ghost use Rattle.gate_archive.specs.Feed.{behind_id};
 ghost use Rattle.gate_memory.specs.Replies.{same_id, IsKept, HasRoom};
 
 use gate_types::names::NoMemory;
@@ -38,6 +39,14 @@ fn copy_at(rows: &[Kept], place: usize) -> Result<Option<Kept>, NoMemory>
         Some(kept) => Ok(Some(kept.copy()?)),
         None => Ok(None),
     }
+}
+
+/// The rows behind a place.
+fn behind_place(rows: &[Kept], place: usize) -> &[Kept]
+    requires { place < length rows.now }
+    ensures { result.now ≡ drop (place + 1) rows.now }
+{
+    &rows[place + 1..]
 }
 
 impl ReplyTable {
@@ -83,6 +92,25 @@ impl ReplyTable {
         match self.places.get(&id.0) {
             Some(place) => copy_at(&self.rows, *place),
             None => Ok(None),
+        }
+    }
+
+    /// All deliveries, in the order in which they were accepted.
+    pub fn rows(&self) -> &[Kept]
+        ensures { result.now ≡ self.now.rows.items }
+    {
+        self.rows.as_slice()
+    }
+
+    /// What was kept behind the delivery of an id, if there is one.
+    pub fn behind(&self, id: &Id) -> Option<&[Kept]>
+        requires { IsKept self.now }
+        ensures there { IfSome result (λ ks. behind_id id.now self.now.rows.items ≡ Some ks.now) }
+        ensures missing { IfNone result (behind_id id.now self.now.rows.items ≡ None) }
+    {
+        match self.places.get(&id.0) {
+            Some(place) => Some(behind_place(&self.rows, *place)),
+            None => None,
         }
     }
 }

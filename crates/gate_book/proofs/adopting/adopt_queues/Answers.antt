@@ -1,12 +1,22 @@
 use Rattle.std.proofs.Common.{◌≡◌, ◌∙◌, ◌<◌, ◌+◌, List, ℕ, suc, false, ap, arith, length, map, set, subst, sym}
 use Rattle.std.specs.Prelude.{option_map}
 use Rattle.std.specs.List.{AllByRecursion}
+use Rattle.std.proofs.lemmas.List.{length-map}
 use Rattle.gate_types.specs.Names.{same_name}
 use Rattle.gate_memory.specs.Queues as queue
 use Rattle.gate_book_trait.specs.RowReads.{rows_named}
-use Rattle.gate_book.proofs.AdoptLemmas.{AreLeft, all_set, left_more, map_set, not_before, rows_so_far, so_far_none, so_far_one}
+use Rattle.gate_book.proofs.AdoptLemmas.{AreLeft, all_set, left_more, map_set, not_before, rows_so_far, so_far_length, so_far_none, so_far_one}
 use Rattle.gate_book.proofs.adopting.adopt_queues.Goals as goal
 use Rattle.gate_book.proofs.adopting.adopt_queues.Goals.{in-Some, in_default}
+
+pub put_at-requires : goal.put_at-requires
+put_at-requires c =
+    let told = map queue.rows_of c.args.queues.now.items in
+    let news = c.loop-place.new_queues.items in
+    let rs = c.args.settings.now in
+    let made = ap length c.loop-place.invariant.rows ∙ so_far_length c.args.kept.now told c.loop-place.place rs in
+    let many : length news ≡ length rs = sym (length-map news queue.rows_of) ∙ made in
+    omega (arith, many, c.loop-place.new_queues.ok.0, c.loop-place-test.true)
 
 pub loop-place-preserved : goal.loop-place-preserved
 loop-place-preserved c =

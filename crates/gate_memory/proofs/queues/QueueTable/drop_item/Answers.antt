@@ -29,11 +29,11 @@ returns-in-Some-clause-kept c =
       entries_fit = fit;
       items_told = told;
       landings_rise = kept.landings_rise;
-      reports_rise = kept.reports_rise;
+      reports = kept.reports;
     }
 
 pub returns-in_default-clause-rows : goal.returns-in_default-clause-rows
 returns-in_default-clause-rows c =
     let old = c.args.self.now in
     let missing : None ≡ find (λ j. serial_of j == c.args.serial) old.items.items = rw (c.get-key.ensures.value, c.deref.ensures.value) at c.in_default.ensures in
-    λ k. record { name = old.name; window = old.window; items = without_missing c.args.serial old.items.items (sym missing) k; landings = old.landings.items; reports = old.reports.items }
+    λ k. record { name = old.name; window = old.window; items = without_missing c.args.serial old.items.items (sym missing) k; landings = old.landings.items; reports = old.reports.rows.items }

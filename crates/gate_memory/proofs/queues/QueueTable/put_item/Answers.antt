@@ -23,5 +23,5 @@ returns-clause-kept c =
       entries_fit = fit;
       items_told = told;
       landings_rise = kept.landings_rise;
-      reports_rise = kept.reports_rise;
+      reports = kept.reports;
     }
