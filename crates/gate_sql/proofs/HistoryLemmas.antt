@@ -48,7 +48,7 @@ none_known name (q ∷ qs) none = by_name (same_name q.name name) none (none_kno
     by_name false e more = more e
 
 -- where some queue's name is, one is found
-some_known : (name : List ℕ) (qs : List Queue) → is_among (map (λ (q : Queue). q.name) qs) name ≡ true → (q : Queue) × (find (λ (q : Queue). same_name q.name name) qs ≡ Some q)
+pub some_known : (name : List ℕ) (qs : List Queue) → is_among (map (λ (q : Queue). q.name) qs) name ≡ true → (q : Queue) × (find (λ (q : Queue). same_name q.name name) qs ≡ Some q)
 some_known name [] some = absurd (true≢false (sym some))
 some_known name (q ∷ qs) some = by_name (same_name q.name name) some (some_known name qs)
   where
@@ -62,7 +62,7 @@ some_known name (q ∷ qs) some = by_name (same_name q.name name) some (some_kno
 
 module _ {c : Settings} {x : Content} {s : State} {names : List (List ℕ)} (holds : HoldsFor s names c x) (lawful : IsLawfulContent c x) (name : List ℕ) where
   -- the names that the book knows are those of the content's queues
-  names_told : names ≡ map (λ (q : Queue). q.name) x.state.queues
+  pub names_told : names ≡ map (λ (q : Queue). q.name) x.state.queues
   names_told = holds.names_are ∙ sym lawful.lawful.sound.queues_are_set
 
   -- a name that it doesn't know is no queue's

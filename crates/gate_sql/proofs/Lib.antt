@@ -1,4 +1,5 @@
 mod AgainLemmas
+mod ArchiveLemmas
 mod EmptyLemmas
 mod HistoryLemmas
 mod OpenLemmas

@@ -7,6 +7,7 @@
 //! ```
 #![tactic(auto)]
 
+mod archive;
 mod book;
 mod creating;
 pub mod laws;

@@ -1,0 +1,5 @@
+pub mod Asked
+pub mod Streamed
+pub mod HistoryFrom
+pub mod Deliveries
+pub mod Answers
