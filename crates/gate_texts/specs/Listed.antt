@@ -19,3 +19,7 @@ comma_behind (b ∷ bs) = 44 ∷ []
 abbrev pub with_order : List ℕ → Option (List ℕ) → List ℕ
 with_order list None = list
 with_order list (Some order) = list ++ (comma_behind list ++ order)
+
+-- a list with one more element
+abbrev pub with_entry : List ℕ → List ℕ → List ℕ
+with_entry list entry = list ++ (comma_behind list ++ entry)

@@ -74,7 +74,7 @@ fn standing_text(blocked: bool, failing: bool) -> &'static str
     }
 }
 
-fn slot_word(slot: Slot) -> &'static str
+pub(crate) fn slot_word(slot: Slot) -> &'static str
     ensures { result.now ≡ slot_word slot }
 {
     match slot {

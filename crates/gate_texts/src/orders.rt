@@ -6,8 +6,9 @@ ghost use Rattle.gate_book_trait.specs.Faults.{MayAnswer};
 ghost use Rattle.gate_book_trait.specs.Kept.{OfHeld, OfHeldUnder, IsKept};
 ghost use Rattle.gate_types.specs.State.{known_or_closed};
 ghost use Rattle.gate_reads.specs.Orders.{order_in, IsRowOf};
-ghost use Rattle.gate_texts.specs.Listed.{order_piece, comma_behind, with_order};
+ghost use Rattle.gate_texts.specs.Listed.{order_piece, with_order};
 
+use crate::values::comma_behind;
 use gate_book_trait::{Book, BookFault};
 use gate_reads::order_of_queue;
 use gate_types::config::Config;
@@ -71,12 +72,6 @@ fn order_of<B: Book>(
         Some(item) => Ok(Some(order_text(alloc, book, queue, &item)?)),
         None => Ok(None),
     }
-}
-
-fn comma_behind(list: &str) -> &'static str
-    ensures { result.now ≡ comma_behind list.now }
-{
-    if list.is_empty() { "" } else { "," }
 }
 
 fn push_order(list: &mut String, order: &Option<Text>) -> Result<(), NoMemory>

@@ -20,7 +20,7 @@ use gate_types::sequence::Sequence;
 use std::alloc::Global;
 
 /// Whether an item is cut: it fails by its jobs, and is to fail fast.
-fn is_cut(fast: bool, blocked: bool, failing: bool) -> bool
+pub(crate) fn is_cut(fast: bool, blocked: bool, failing: bool) -> bool
     ensures { result ≡ fast && not blocked && failing }
 {
     fast && !blocked && failing

@@ -1,0 +1,32 @@
+use Rattle.std.proofs.Common.{◌≡◌, ◌∙◌, sym, ap, subst, true}
+use Rattle.std.specs.Prelude.{string_bytes}
+use Rattle.gate_types.specs.Settings.{Settings, are_sound}
+use Rattle.gate_texts.specs.declared.item.ToldItem.{ToldItem}
+use Rattle.gate_texts.proofs.ItemTexts.{queued_told, left_told}
+use Rattle.gate_texts.proofs.item.told_item.Goals as goal
+
+pub returns-in-Some-clause-found : goal.returns-in-Some-clause-found
+returns-in-Some-clause-found g c trusted x holds lawful =
+    let config = c.args.config.now in
+    let before = c.in_ok-jobs.ensures.kept.trusted_before trusted in
+    let held = c.in_ok-queued.ensures.kept.holds_on before config x holds in
+    let told = c.of_queued.ensures in
+    queued_told config x (subst (λ (k : Settings). are_sound k ≡ true) c.config.view_is c.config.invariant) lawful
+    c.args.serial c.in-Some.queued c.of_queued.result
+    (sym c.in-Some.is ∙ c.in_ok-queued.ensures.found before config x holds lawful)
+    (ap (λ (t : ToldItem). t.queue) told) (ap (λ (t : ToldItem). t.change) told)
+    (ap (λ (t : ToldItem). t.revision) told) (ap (λ (t : ToldItem). t.verdict) told)
+    (ap (λ (t : ToldItem). string_bytes t.jobs) told ∙ c.in_ok-jobs.ensures.found trusted config x held lawful)
+
+pub returns-in_ok-from_str-in-Some-2-clause-found : goal.returns-in_ok-from_str-in-Some-2-clause-found
+returns-in_ok-from_str-in-Some-2-clause-found g c trusted x holds lawful =
+    let config = c.args.config.now in
+    let before = c.in_ok-left.ensures.kept.trusted_before trusted in
+    let held = c.in_ok-queued.ensures.kept.holds_on before config x holds in
+    let told = c.of_left.ensures in
+    left_told config x.state c.args.serial c.in-Some-2.left c.of_left.result
+    (sym c.in_default.is ∙ c.in_ok-queued.ensures.found before config x holds lawful)
+    (sym c.in-Some-2.is ∙ c.in_ok-left.ensures.found trusted config x held lawful)
+    (ap (λ (t : ToldItem). t.queue) told) (ap (λ (t : ToldItem). t.change) told)
+    (ap (λ (t : ToldItem). t.revision) told) (ap (λ (t : ToldItem). t.verdict) told)
+    (ap (λ (t : ToldItem). string_bytes t.jobs) told ∙ c.in_ok-from_str-in-Some-2.ensures.ok)

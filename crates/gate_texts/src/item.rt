@@ -1,0 +1,252 @@
+//! An item, there or gone, with its builds.
+ghost use Rattle.std.specs.Prelude.{◌≡◌, [], Some, None, IfOk, IfErr, map, string_bytes};
+ghost use Rattle.gate_types.specs.JsonText.{joined};
+ghost use Rattle.gate_types.specs.History.{verdict_word};
+ghost use Rattle.gate_archive.specs.ItemText.{queued_at, summary_piece, item_text};
+ghost use Rattle.gate_book_trait.specs.Faults.{MayAnswer};
+ghost use Rattle.gate_book_trait.specs.Kept.{OfHeld, OfHeldUnder, IsKept};
+ghost use Rattle.gate_texts.specs.Items as told;
+
+use crate::ahead::is_blocked;
+use crate::lines::slot_word;
+use crate::status_text::is_cut;
+use crate::values::{in_quotes, push_entry};
+use gate_archive::{Archive, BuildSummary, LeftItem};
+use gate_book_trait::{Book, BookFault, QueuedItem, plan_of};
+use gate_queue::{slot_among, slot_where};
+use gate_types::config::{Config, Job};
+use gate_types::names::{Name, NoMemory, Text};
+use gate_types::numbers::{ChangeNo, Revision, Serial};
+use gate_types::records::{Build, Verdict};
+use gate_types::words::{outcome_word, truth_word};
+use std::alloc::Global;
+
+/// What is told of an item beside its builds. `jobs` is written already, null for one that left.
+#[derive(Drop)]
+struct ToldItem {
+    queue: Name,
+    change: ChangeNo,
+    revision: Revision,
+    verdict: Option<Verdict>,
+    jobs: String,
+}
+
+// ---- its jobs
+
+fn job_text(alloc: Global, cut: bool, builds: &[Build], job: &Job) -> Result<String, NoMemory>
+    ensures { IfOk result (λ s. string_bytes s ≡ told.job_told cut builds.now job.now []) }
+{
+    let name = job.name.as_str();
+    let slot = slot_word(slot_where(cut, slot_among(alloc, builds, job)?));
+    let voting = truth_word(job.voting);
+    let text = format!(in alloc; "{{\"job\":\"{name}\",\"slot\":\"{slot}\",\"voting\":{voting}}}")?;
+    Ok(text)
+}
+
+/// Jobs with commas between.
+fn jobs_text(alloc: Global, cut: bool, builds: &[Build], jobs: &[Job]) -> Result<String, NoMemory>
+    ensures { IfOk result (λ s. string_bytes s ≡ told.jobs_told cut builds.now jobs.now) }
+{
+    let mut list = String::new(alloc);
+    for job in jobs {
+        let entry = job_text(alloc, cut, builds, job)?;
+        push_entry(&mut list, entry.as_str())?;
+    }
+    Ok(list)
+}
+
+/// The jobs of an item that is queued, each with what it has come to.
+fn item_jobs<B: Book>(alloc: Global, book: &mut B, queued: &QueuedItem) -> Result<String, BookFault>
+    ensures found { OfHeld B.IsTrusted B.Holds book.old book.new (λ c x.
+        IfOk result (λ s. string_bytes s ≡ told.jobs_by_key c x.state queued.now [])) }
+    ensures kept { IsKept B.IsTrusted B.Holds B.LeavesOneOf book.old book.new }
+    ensures fault { IfErr result (MayAnswer B.MayFault) }
+{
+    let blocked = is_blocked(book, queued)?;
+    let plan = plan_of(alloc, book, queued.item.serial)?;
+    let builds = book.live_builds(queued.item.serial)?;
+    let cut = is_cut(plan.fast, blocked, queued.item.failing);
+    let jobs = jobs_text(alloc, cut, builds.as_slice(), plan.jobs.as_slice())?;
+    let text = format!(in alloc; "[{jobs}]")?;
+    Ok(text)
+}
+
+// ---- what it is, or was
+
+/// The item of a serial, and its queue. A change is that of one item alone, so this is the item of its change.
+fn queued_at<B: Book>(book: &mut B, serial: Serial) -> Result<Option<QueuedItem>, BookFault>
+    ensures found { OfHeld B.IsTrusted B.Holds book.old book.new (λ c x.
+        IfOk result (λ found. found ≡ queued_at c x.state serial)) }
+    ensures kept { IsKept B.IsTrusted B.Holds B.LeavesOneOf book.old book.new }
+    ensures fault { IfErr result (MayAnswer B.MayFault) }
+{
+    match book.item(serial)? {
+        Some(item) => Ok(book.queued(item.change)?),
+        None => Ok(None),
+    }
+}
+
+fn of_queued(queued: QueuedItem, jobs: String) -> ToldItem
+    ensures { result ≡ record {
+      queue = queued.queue;
+      change = queued.item.change;
+      revision = queued.item.revision;
+      verdict = None;
+      jobs = jobs;
+    } }
+{
+    let QueuedItem { queue, item } = queued;
+    ToldItem {
+        queue,
+        change: item.change,
+        revision: item.revision,
+        verdict: None,
+        jobs,
+    }
+}
+
+fn of_left(left: LeftItem, jobs: String) -> ToldItem
+    ensures { result ≡ record {
+      queue = left.queue;
+      change = left.report.change;
+      revision = left.report.revision;
+      verdict = Some left.report.verdict;
+      jobs = jobs;
+    } }
+{
+    let LeftItem { queue, report } = left;
+    ToldItem {
+        queue,
+        change: report.change,
+        revision: report.revision,
+        verdict: Some(report.verdict),
+        jobs,
+    }
+}
+
+/// The item of a serial, queued or gone; none where no item had it.
+fn told_item<B: Archive>(
+    alloc: Global,
+    book: &mut B,
+    config: &Config,
+    serial: Serial,
+) -> Result<Option<ToldItem>, BookFault>
+    ensures found { OfHeldUnder B.IsTrusted B.Holds book.old book.new config.now (λ x.
+        IfOk result (λ found. told.TellsItem config.now x.state serial found)) }
+    ensures kept { IsKept B.IsTrusted B.Holds B.LeavesOneOf book.old book.new }
+    ensures fault { IfErr result (MayAnswer B.MayFault) }
+{
+    // This shows the prover that the settings are sound.
+    let _settings = &config.base;
+    if let Some(queued) = queued_at(book, serial)? {
+        let jobs = item_jobs(alloc, book, &queued)?;
+        return Ok(Some(of_queued(queued, jobs)));
+    }
+    match book.left(serial)? {
+        Some(left) => Ok(Some(of_left(left, String::from_str(alloc, "null")?))),
+        None => Ok(None),
+    }
+}
+
+// ---- its builds
+
+fn summary_text(alloc: Global, build: &BuildSummary) -> Result<String, NoMemory>
+    ensures { IfOk result (λ s. string_bytes s ≡ summary_piece build.now []) }
+{
+    let number = build.number.get();
+    let job = build.job.as_str();
+    let live = truth_word(build.live);
+    let outcome = outcome_word(build.outcome);
+    let text = format!(in alloc;
+        "{{\"build\":{number},\"job\":\"{job}\",\"live\":{live},\"outcome\":\"{outcome}\"}}"
+    )?;
+    Ok(text)
+}
+
+/// Builds with commas between.
+fn builds_text(alloc: Global, builds: &[BuildSummary]) -> Result<String, NoMemory>
+    ensures { IfOk result (λ s. string_bytes s ≡ joined (map summary_piece builds.now) []) }
+{
+    let mut list = String::new(alloc);
+    for build in builds {
+        let entry = summary_text(alloc, build)?;
+        push_entry(&mut list, entry.as_str())?;
+    }
+    Ok(list)
+}
+
+// ---- the text
+
+fn verdict_word(verdict: Verdict) -> &'static str
+    ensures { result.now ≡ verdict_word verdict }
+{
+    match verdict {
+        Verdict::Landed(_) => "landed",
+        Verdict::Failed => "failed",
+        Verdict::Refused => "refused",
+        Verdict::Needs => "needs",
+        Verdict::Superseded => "superseded",
+        Verdict::Withdrawn => "withdrawn",
+        Verdict::Closed => "closed",
+    }
+}
+
+/// The word of a verdict, or null.
+fn verdict_text(alloc: Global, verdict: Option<Verdict>) -> Result<String, NoMemory>
+    ensures { IfOk result (λ s. string_bytes s ≡ told.verdict_text verdict) }
+{
+    match verdict {
+        Some(verdict) => in_quotes(alloc, verdict_word(verdict)),
+        None => String::from_str(alloc, "null"),
+    }
+}
+
+/// The members up to how many builds are kept. They stand in byte order of their names.
+fn item_front(alloc: Global, item: &ToldItem, builds: &str, kept: u64) -> Result<String, NoMemory>
+    ensures { IfOk result (λ s. string_bytes s ≡ told.item_front item.now builds.now kept) }
+{
+    let change = item.change.get();
+    let jobs = item.jobs.as_str();
+    let text = format!(in alloc;
+        "{{\"builds\":[{builds}],\"change\":{change},\"jobs\":{jobs},\"kept\":{kept},"
+    )?;
+    Ok(text)
+}
+
+/// The members behind that.
+fn item_back(alloc: Global, serial: Serial, item: &ToldItem) -> Result<String, NoMemory>
+    ensures { IfOk result (λ s. string_bytes s ≡ told.item_back serial item.now) }
+{
+    let order = serial.get();
+    let queue = item.queue.as_str();
+    let revision = item.revision.get();
+    let verdict = verdict_text(alloc, item.verdict)?;
+    let text = format!(in alloc;
+        "\"order\":{order},\"queue\":\"{queue}\",\"revision\":{revision},\"verdict\":{verdict}}}"
+    )?;
+    Ok(text)
+}
+
+/// The item of a serial, queued or gone, with the last 1,000 of its builds; none where no item had the serial.
+pub fn item_text<B: Archive>(
+    alloc: Global,
+    book: &mut B,
+    config: &Config,
+    serial: Serial,
+) -> Result<Option<Text>, BookFault>
+    ensures found { OfHeldUnder B.IsTrusted B.Holds book.old book.new config.now (λ x.
+        IfOk result (λ found. found ≡ item_text config.now x.state serial)) }
+    ensures kept { IsKept B.IsTrusted B.Holds B.LeavesOneOf book.old book.new }
+    ensures fault { IfErr result (MayAnswer B.MayFault) }
+{
+    let Some(item) = told_item(alloc, book, config, serial)? else {
+        return Ok(None);
+    };
+    let kept = book.build_count(serial)?;
+    let last = book.last_builds(serial, 1000)?;
+    let builds = builds_text(alloc, last.as_slice())?;
+    let front = item_front(alloc, &item, builds.as_str(), kept)?;
+    let back = item_back(alloc, serial, &item)?;
+    let text = format!(in alloc; "{front}{back}")?;
+    Ok(Some(Text::new(text)))
+}
