@@ -11,3 +11,6 @@ pub mod LineLemmas
 pub mod RunLemmas
 pub mod ReplyLemmas
 pub mod LandingLemmas
+mod LineTrees
+mod LineUtf8
+pub mod LinesReadBack

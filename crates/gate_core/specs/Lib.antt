@@ -12,3 +12,4 @@ pub mod Said
 pub mod Line
 pub mod Runs
 pub mod Faults
+pub mod ReadBack

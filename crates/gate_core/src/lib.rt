@@ -9,10 +9,12 @@
 
 mod accepting;
 mod admitted;
+mod asking;
 mod delivering;
 mod engine;
 mod fault;
 mod gate;
+pub mod laws;
 mod line;
 mod replaying;
 mod respond;

@@ -1,5 +1,5 @@
 -- A body that is asked for is within the limit.
-use Rattle.std.proofs.Common.{◌≡◌, ℕ, ◌≤◌, Bool, true, false, cond, ltb, List, [], ◌∷◌, Option, Some, None, map, subst, sym, refl}
+use Rattle.std.proofs.Common.{◌≡◌, ℕ, ◌≤◌, Bool, true, false, cond, ltb, List, [], ◌∷◌, Option, Some, None, option_map, map, subst, sym, refl}
 use Rattle.std.specs.Prelude.{⊤, codes}
 use Rattle.std.specs.Str.Parse.{digits_value}
 use Rattle.std.proofs.lemmas.Bool.{ltb-false}
@@ -14,8 +14,9 @@ use Rattle.gate_wire.specs.declared.door.Door.{Door}
 use Rattle.gate_wire.specs.declared.door.Door.TheVariants as door
 use Rattle.gate_http.specs.Digits.{are_digits}
 use Rattle.gate_http.specs.Fields.{Pair, length_within, length_in, length_unless, length_of, named as named_of}
-use Rattle.gate_http.specs.Routes.{route_of, path_of}
-use Rattle.gate_http.specs.Way.{Decided, refused, posted, shown, named, recalled, posted_of, by_post, by_get, on_route, decided_of, decided, is_head}
+use Rattle.gate_http.specs.Asked.{later_history}
+use Rattle.gate_http.specs.Routes.{route_of, path_of, queue_in, place_in}
+use Rattle.gate_http.specs.Way.{Decided, refused, posted, shown, recalled, posted_of, by_post, by_get, read_at, on_route, decided_of, decided, is_head}
 
 abbrev pub FitsBody : BodyLength → Type 0
 FitsBody body.Missing = ⊤
@@ -26,9 +27,12 @@ FitsBody (body.Bytes n) = n ≤ 65536
 abbrev pub IsBounded : Decided → Type 0
 IsBounded (refused f b) = ⊤
 IsBounded (posted d n) = n ≤ 65536
-IsBounded (shown p) = ⊤
-IsBounded (named id) = ⊤
-IsBounded (recalled name) = ⊤
+IsBounded (shown asked) = ⊤
+IsBounded (recalled wanted) = ⊤
+
+abbrev pub IsBoundedIf : Option Decided → Type 0
+IsBoundedIf None = ⊤
+IsBoundedIf (Some d) = IsBounded d
 
 fits_either : (t : Bool) (n : ℕ) → ltb 65536 n ≡ t → FitsBody (cond t body.Long (body.Bytes n))
 fits_either true n e = tt
@@ -63,17 +67,24 @@ bounded_cond false a b h k = k
 bounded_by_post : (h : RequestHead) (d : Door) → IsBounded (by_post h d)
 bounded_by_post h d = bounded_cond _ (posted_of d (length_of (map name_and_value h.fields))) (refused fault.NotPost (is_head h)) (bounded_post d (length_of (map name_and_value h.fields)) (fits_unless (named_of (codes "transfer-encoding") (map name_and_value h.fields)) (named_of (codes "content-length") (map name_and_value h.fields)))) tt
 
-bounded_by_get : (h : RequestHead) (d : Decided) → IsBounded d → IsBounded (by_get h d)
-bounded_by_get h d k = bounded_cond _ d (refused fault.NotGet (is_head h)) k tt
+bounded_by_get : (h : RequestHead) (d : Option Decided) → IsBoundedIf d → IsBounded (by_get h d)
+bounded_by_get h None k = tt
+bounded_by_get h (Some d) k = bounded_cond _ d (refused fault.NotGet (is_head h)) k tt
+
+bounded_place : (name : List ℕ) (place : Option ℕ)
+    → IsBoundedIf (option_map (λ n. recalled (later_history name n)) place)
+bounded_place name None = tt
+bounded_place name (Some n) = tt
+
+bounded_read : (path : List ℕ) (r : Route) → IsBoundedIf (read_at path r)
+bounded_read path route.HistoryFrom = bounded_place (queue_in path) (place_in path)
+bounded_read path r = tt
 
 bounded_route : (h : RequestHead) (path : List ℕ) (r : Option Route) → IsBounded (on_route h path r)
 bounded_route h path None = tt
 bounded_route h path (Some route.Forge) = bounded_by_post h door.Forge
 bounded_route h path (Some route.Worker) = bounded_by_post h door.Worker
-bounded_route h path (Some route.Status) = bounded_by_get h _ tt
-bounded_route h path (Some route.Orders) = bounded_by_get h _ tt
-bounded_route h path (Some route.Builds) = bounded_by_get h _ tt
-bounded_route h path (Some route.History) = bounded_by_get h _ tt
+bounded_route h path (Some r) = bounded_by_get h (read_at path r) (bounded_read path r)
 
 bounded_of : (found : Option RequestHead) → IsBounded (decided_of found)
 bounded_of None = tt

@@ -26,10 +26,11 @@ use Rattle.gate_core.specs.Replies.{call_read}
 use Rattle.gate_core.proofs.ReplyLemmas.{goes_nowhere, goes_on}
 use Rattle.gate_http.specs.declared.served.Served.{Served}
 use Rattle.gate_http.specs.declared.served.Served.TheVariants.{Answered}
-use Rattle.gate_http.specs.Asked.{delivery, page, build}
-use Rattle.gate_http.specs.Way.{Way, silence, refusal, question, history, Request, way_of}
+use Rattle.gate_http.specs.Asked.{delivery, page, build, change, item, Streamed}
+use Rattle.gate_http.specs.declared.response.Form.TheVariants as form
+use Rattle.gate_http.specs.Way.{Way, silence, refusal, question, stream, Request, way_of}
 use Rattle.gate_http.specs.Answer.{calls_made, gate_after, is_503}
-use Rattle.gate_http.specs.Serving.{Serves, ServesHistory, ServesBy}
+use Rattle.gate_http.specs.Serving.{Serves, ServesStream, ServesBy}
 use Rattle.gate_http.specs.Connections.{IsCalled, fault_line, fault_lines, AreTold}
 use Rattle.gate_http.proofs.ResponseLemmas.{writes_later}
 
@@ -46,8 +47,10 @@ one_call u silence = omega arith
 one_call u (refusal f bodiless) = omega arith
 one_call u (question (delivery door body)) = one_read u (says door body)
 one_call u (question (page p)) = omega arith
-one_call u (question (build id)) = omega arith
-one_call u (history name) = omega arith
+one_call u (question (build text)) = omega arith
+one_call u (question (change text)) = omega arith
+one_call u (question (item text)) = omega arith
+one_call u (stream wanted) = omega arith
 
 -- calls, and then others
 more_calls : (m n : ℕ) (g h after : Gated) → IsCalled m g h → IsCalled n h after → IsCalled (m + n) g after
@@ -67,7 +70,7 @@ module _ {B : Type 0} (trusted : B → Type 0) (holds : B → Settings → Conte
 
   -- a request was served
   served_once : (old new : Gate B) (w : Way) (served : Served) (text : List ℕ)
-      → Serves trusted holds leaves old new w served text → Goes trusted holds old new (IsCalled 1)
+      → Serves trusted holds leaves form.Response old new w served text → Goes trusted holds old new (IsCalled 1)
   served_once old new w served text s = record {
     settings = s.answers.settings;
     trusted_before = s.answers.trusted_before;
@@ -79,10 +82,11 @@ module _ {B : Type 0} (trusted : B → Type 0) (holds : B → Settings → Conte
         );
   }
 
-  -- a history was asked for
-  recalled_once : (old new : Gate B) (name : List ℕ) (served : Served) (Takes : List ℕ → Type 0)
-      → ServesHistory trusted holds leaves old new name served Takes → Goes trusted holds old new (IsCalled 1)
-  recalled_once old new name served Takes s = record {
+  -- lines were asked for
+  recalled_once : (old new : Gate B) (wanted : Streamed) (served : Served) (Takes : List ℕ → Type 0)
+      → ServesStream trusted holds leaves form.Response old new wanted served Takes
+      → Goes trusted holds old new (IsCalled 1)
+  recalled_once old new wanted served Takes s = record {
     settings = s.answers.settings;
     trusted_before = s.answers.trusted_before;
     passes = λ t g over.
@@ -96,7 +100,7 @@ module _ {B : Type 0} (trusted : B → Type 0) (holds : B → Settings → Conte
   done_once old new silence served Takes h = served_once old new silence served h.0 h.2
   done_once old new (refusal f bodiless) served Takes h = served_once old new (refusal f bodiless) served h.0 h.2
   done_once old new (question asked) served Takes h = served_once old new (question asked) served h.0 h.2
-  done_once old new (history name) served Takes h = recalled_once old new name served Takes h
+  done_once old new (stream wanted) served Takes h = recalled_once old new wanted served Takes h
 
   -- however it was served
   pub called_once : (Read : Request → Type 0) (Wrote Broke Begun : List ℕ → Type 0)
@@ -105,8 +109,8 @@ module _ {B : Type 0} (trusted : B → Type 0) (holds : B → Settings → Conte
       → (IsErrOf r fault.Write → (q : Request) × Read q × (served : Served)
       × ServesBy trusted holds leaves old new (way_of q) served Broke)
       → (IsErrOf r fault.Read → new ≡ old) → (IsErrOf r fault.NoMemory → new ≡ old)
-      → (IsErrOf r fault.Store → (q : Request) × Read q × (name : List ℕ) × (way_of q ≡ history name)
-      × ServesHistory trusted holds leaves old new name (Answered 200) Begun)
+      → (IsErrOf r fault.Store → (q : Request) × Read q × (wanted : Streamed) × (way_of q ≡ stream wanted)
+      × ServesBy trusted holds leaves old new (stream wanted) (Answered 200) Begun)
       → Goes trusted holds old new (IsCalled 1)
   called_once Read Wrote Broke Begun old new (Ok served) ok write read memory store =
       done_once old new (way_of ok.0) served Wrote ok.2
@@ -140,20 +144,20 @@ pub sent_whole : {W A U : Type 0} (held : W → Option (List ℕ)) (Read : Reque
     (Does : Request → Served → (List ℕ → Type 0) → Type 0)
     (weaker : (r : Request) (s : Served) (P Q : List ℕ → Type 0) → ((text : List ℕ) → P text → Q text)
     → Does r s P → Does r s Q)
-    (a b : Option (List ℕ)) (new : BufWriter W A) (stream : W) (served : Result Served IoFault) (sent : Result U IoFault)
+    (a b : Option (List ℕ)) (new : BufWriter W A) (sink : W) (served : Result Served IoFault) (sent : Result U IoFault)
     → IfOk served (λ s. (r : Request) × Read r × Does r s (Appends a b))
-    → Keeps b (writer_contents held new) → OnOk sent (writer_buffer new ≡ []) → stream ≡ writer_inner new
-    → OnOk (result_and served sent) ((r : Request) × Read r × (s : Served) × Does r s (Appends a (held stream)))
-sent_whole held Read Does weaker a b new stream (Ok s) (Ok u) h keeps empty at = (
+    → Keeps b (writer_contents held new) → OnOk sent (writer_buffer new ≡ []) → sink ≡ writer_inner new
+    → OnOk (result_and served sent) ((r : Request) × Read r × (s : Served) × Does r s (Appends a (held sink)))
+sent_whole held Read Does weaker a b new sink (Ok s) (Ok u) h keeps empty at = (
   h.0,
   h.1,
   s,
-  weaker h.0 s (Appends a b) (Appends a (held stream))
+  weaker h.0 s (Appends a b) (Appends a (held sink))
       (λ text p. subst (λ w. Appends a (held w) text) (sym at)
       (passed_on a b (held (writer_inner new)) text (writer_buffer new) p keeps empty)) h.2,
 )
-sent_whole held Read Does weaker a b new stream (Ok s) (Err e) h keeps empty at = tt
-sent_whole held Read Does weaker a b new stream (Err e) sent h keeps empty at = tt
+sent_whole held Read Does weaker a b new sink (Ok s) (Err e) h keeps empty at = tt
+sent_whole held Read Does weaker a b new sink (Err e) sent h keeps empty at = tt
 
 -- the fault of what failed
 abbrev fault_in : {T : Type 0} → Result T IoFault → IoFault

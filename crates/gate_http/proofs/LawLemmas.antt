@@ -8,7 +8,7 @@ use Rattle.gate_http.specs.declared.fault.Fault.{Fault}
 use Rattle.gate_http.specs.declared.fault.Fault.TheVariants as fault
 use Rattle.gate_http.specs.Asked.{Asked, delivery}
 use Rattle.gate_http.specs.Head.{Front, empty, cut, too_large, whole, front_of, front_with, head_from}
-use Rattle.gate_http.specs.Way.{Finds, Decided, refused, posted, shown, named, recalled, decided, way_on, way_from, silence, refusal, question}
+use Rattle.gate_http.specs.Way.{Finds, Decided, refused, posted, shown, recalled, decided, way_on, way_from, silence, refusal, question}
 use Rattle.gate_http.specs.Laws.{FoundOnce, FewLinesFit, SilenceIsForNothing}
 
 found_one : (head : List ℕ) (a b : Option RequestHead) → Finds head a → Finds head b → a ≡ b
@@ -72,9 +72,8 @@ silent_if false f a e = cc
 silent_on : (rest : List ℕ) (d : Decided) → way_on rest d ≡ silence → ⊥
 silent_on rest (refused f b) e = cc
 silent_on rest (posted d n) e = silent_if (ltb (length rest) n) fault.Cut (delivery d (take n rest)) e
-silent_on rest (shown p) e = cc
-silent_on rest (named id) e = cc
-silent_on rest (recalled name) e = cc
+silent_on rest (shown asked) e = cc
+silent_on rest (recalled wanted) e = cc
 
 silent_short : (t : Bool) (found : Option RequestHead) → way_from (cond t cut too_large) found ≡ silence → ⊥
 silent_short true found e = cc

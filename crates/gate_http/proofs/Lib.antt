@@ -9,5 +9,9 @@ mod PhraseLemmas
 mod ExchangeLemmas
 mod WriteLemmas
 mod ServingLemmas
+mod GetStays
+mod AskedLemmas
+mod LinesLemmas
 mod LawLemmas
+mod GotLemmas
 mod ConnectionLemmas

@@ -1,76 +1,101 @@
--- A response that was written, or only begun.
-use Rattle.std.proofs.Common.{◌≡◌, List, ℕ, Option, Result, Ok, Err, IfOk, OnErr, inl, inr, refl}
-use Rattle.std.specs.Prelude.{◌⊎◌, IsErrOf}
-use Rattle.std.specs.Io.KnownBytes.{Appends}
-use Rattle.gate_types.specs.Tap.{WritesFront}
-use Rattle.gate_http.specs.declared.served.Served.{Served}
+-- An answer that was written, or only begun.
+use Rattle.std.proofs.Common.{◌≡◌, List, ℕ, Bool, Option, Result, Ok, Err, IfOk, OnErr, refl}
+use Rattle.std.specs.Prelude.{IsErrOf}
 use Rattle.gate_core.specs.declared.fault.IoFault.{IoFault}
 use Rattle.gate_core.specs.declared.fault.IoFault.TheVariants as io
-use Rattle.gate_http.specs.Way.{Request, way_of, history}
-use Rattle.gate_http.specs.Exchange.{Responding, Recalling, IsRead, Exchange, Recalled, Recall}
+use Rattle.gate_http.specs.declared.fault.Fault.{Fault}
+use Rattle.gate_http.specs.declared.respond.Told.{Told}
+use Rattle.gate_http.specs.declared.response.Form.{Form}
+use Rattle.gate_http.specs.declared.served.Served.{Served}
+use Rattle.gate_http.specs.declared.served.Served.TheVariants.{Answered}
+use Rattle.gate_http.specs.Asked.{Asked, is_status_page, told_status}
+use Rattle.gate_http.specs.Faults.{fault_status}
+use Rattle.gate_http.specs.Response.{fault_in, told_in}
+use Rattle.gate_http.specs.Way.{Way, refusal, question}
+use Rattle.gate_http.specs.Exchange.{Responding, Recalling, Comes, OfRead}
+use Rattle.gate_http.proofs.ExchangeLemmas.{Reads, read_as}
 
-module _ {S : Type 0} (responds : Responding S) (recalls : Recalling S) where
-  -- what a request comes to, whatever is written
-  abbrev pub Does : Option (List ℕ) → Option (List ℕ) → S → S → Served → List ℕ → Type 0
-  Does from left old new answered text =
-      (served : Served) → served ≡ answered → Exchange responds from left old served text new
+-- it was written
+pub written_whole : (P : Served → Type 0) (answered : Served) (T : Type 0) (r : Result Served IoFault)
+    → ((served : Served) → served ≡ answered → T → P served) → IfOk r (λ served. (served ≡ answered) × T) → IfOk r P
+written_whole P answered T (Ok served) by h = by served h.0 h.1
+written_whole P answered T (Err e) by h = tt
 
-  -- an answer, of which this is so
-  abbrev pub Comes : Option (List ℕ) → Option (List ℕ) → S → S → (List ℕ → Type 0) → Served → Type 0
-  Comes from left old new Takes served =
-      ((text : List ℕ) × Exchange responds from left old served text new × Takes text)
-      ⊎ Recall recalls from left old served Takes new
+-- a beginning of it was
+pub written_front : (P : Served → Type 0) (answered : Served) (T : Type 0) (r : Result Served IoFault)
+    → ((served : Served) → served ≡ answered → T → P served) → OnErr r T → IsErrOf r io.Write
+    → (served : Served) × P served
+written_front P answered T (Ok served) by h e = cc
+written_front P answered T (Err f) by h e = (answered, by answered refl h)
 
-  -- the response was written
-  pub answers : {from left : Option (List ℕ)} {old new : S} (held holds : Option (List ℕ)) (answered : Served)
-      (text : List ℕ) (r : Result Served IoFault) → Does from left old new answered text
-      → IfOk r (λ served. (served ≡ answered) × Appends held holds text)
-      → IfOk r (Comes from left old new (Appends held holds))
-  answers held holds answered text (Ok served) does h = inl (text, does served h.0, h.1)
-  answers held holds answered text (Err e) does h = tt
+-- it was written for a request that was read
+pub read_whole : (from left : Option (List ℕ)) (w : Way) (P : Way → Served → Type 0) (r : Result Served IoFault)
+    → Reads from left w → IfOk r (P w) → IfOk r (λ served. OfRead from left (λ v. P v served))
+read_whole from left w P (Ok served) reads h = read_as from left w (λ v. P v served) reads h
+read_whole from left w P (Err e) reads h = tt
 
-  -- a beginning of it was
-  pub breaks : {from left : Option (List ℕ)} {old new : S} (held holds : Option (List ℕ)) (answered : Served)
-      (text : List ℕ) (r : Result Served IoFault) → Does from left old new answered text
-      → OnErr r (WritesFront held holds text) → IsErrOf r io.Write
-      → (served : Served) × Comes from left old new (WritesFront held holds) served
-  breaks held holds answered text (Ok served) does h e = cc
-  breaks held holds answered text (Err f) does h e = (answered, inl (text, does answered refl, h))
+module _ {S : Type 0} (responds : Responding S) (recalls : Recalling S) (form : Form) where
+  -- an answer of HTTP's own
+  pub refused_whole : (old : S) (f : Fault) (bodiless : Bool) (Takes : List ℕ → Type 0) (r : Result Served IoFault)
+      → IfOk r (λ served. (served ≡ Answered (fault_status f)) × Takes (fault_in form f bodiless))
+      → IfOk r (Comes responds recalls form (refusal f bodiless) old Takes old)
+  refused_whole old f bodiless Takes r h =
+      written_whole (Comes responds recalls form (refusal f bodiless) old Takes old) (Answered (fault_status f))
+      (Takes (fault_in form f bodiless)) r (λ served e takes. (e, takes, refl)) h
 
-  -- a request for a history was read
-  abbrev pub Asks : Option (List ℕ) → Option (List ℕ) → List ℕ → Type 0
-  Asks from left name = (q : Request) × IsRead from left q × (way_of q ≡ history name)
+  -- its beginning
+  pub refused_front : (old : S) (f : Fault) (bodiless : Bool) (Takes : List ℕ → Type 0) (r : Result Served IoFault)
+      → OnErr r (Takes (fault_in form f bodiless)) → IsErrOf r io.Write
+      → (served : Served) × Comes responds recalls form (refusal f bodiless) old Takes old served
+  refused_front old f bodiless Takes r h e =
+      written_front (Comes responds recalls form (refusal f bodiless) old Takes old) (Answered (fault_status f))
+      (Takes (fault_in form f bodiless)) r (λ served e takes. (e, takes, refl)) h e
 
-  recalled_by : (from left : Option (List ℕ)) (old new : S) (name : List ℕ) (Takes : List ℕ → Type 0) (served : Served)
-      → Asks from left name → Recalled recalls old name Takes new served → Comes from left old new Takes served
-  recalled_by from left old new name Takes served q h =
-      inr (record { request = q.0; read = q.1; name = name; asks = q.2; recalled = h })
+  -- what is told
+  pub told_whole : (old new : S) (asked : Asked) (t : Told) (Takes : List ℕ → Type 0) (r : Result Served IoFault)
+      → responds old asked t new
+      → IfOk r (λ served. (served ≡ Answered (told_status t)) × Takes (told_in form (is_status_page asked) t))
+      → IfOk r (Comes responds recalls form (question asked) old Takes new)
+  told_whole old new asked t Takes r said h =
+      written_whole (Comes responds recalls form (question asked) old Takes new) (Answered (told_status t))
+      (Takes (told_in form (is_status_page asked) t)) r (λ served e takes. (t, said, e, takes)) h
 
-  -- the history was written
-  pub recalls_whole : (from left : Option (List ℕ)) (old new : S) (name : List ℕ) (Takes : List ℕ → Type 0)
-      (r : Result Served IoFault) → Asks from left name → IfOk r (λ served. Recalled recalls old name Takes new served)
-      → IfOk r (Comes from left old new Takes)
-  recalls_whole from left old new name Takes (Ok served) q h = recalled_by from left old new name Takes served q h
-  recalls_whole from left old new name Takes (Err e) q h = tt
+  -- its beginning
+  pub told_front : (old new : S) (asked : Asked) (t : Told) (Takes : List ℕ → Type 0) (r : Result Served IoFault)
+      → responds old asked t new → OnErr r (Takes (told_in form (is_status_page asked) t)) → IsErrOf r io.Write
+      → (served : Served) × Comes responds recalls form (question asked) old Takes new served
+  told_front old new asked t Takes r said h e =
+      written_front (Comes responds recalls form (question asked) old Takes new) (Answered (told_status t))
+      (Takes (told_in form (is_status_page asked) t)) r (λ served e takes. (t, said, e, takes)) h e
 
-  -- a beginning of it was
-  pub recalls_front : (from left : Option (List ℕ)) (old new : S) (name : List ℕ) (Takes : List ℕ → Type 0)
-      → Asks from left name → (served : Served) × Recalled recalls old name Takes new served
-      → (served : Served) × Comes from left old new Takes served
-  recalls_front from left old new name Takes q h = (h.0, recalled_by from left old new name Takes h.0 q h.1)
+  -- ---- for a request that was read
 
-  -- an answer in its place was written
-  pub told_whole : (old new : S) (name : List ℕ) (Takes : List ℕ → Type 0) (answered : Served) (text : List ℕ)
-      (r : Result Served IoFault)
-      → ((served : Served) → served ≡ answered → Takes text → Recalled recalls old name Takes new served)
-      → IfOk r (λ served. (served ≡ answered) × Takes text) → IfOk r (Recalled recalls old name Takes new)
-  told_whole old new name Takes answered text (Ok served) by h = by served h.0 h.1
-  told_whole old new name Takes answered text (Err e) by h = tt
+  -- what came of it
+  pub comes_read : (from left : Option (List ℕ)) (w : Way) (old new : S) (Takes : List ℕ → Type 0)
+      (r : Result Served IoFault) → Reads from left w → IfOk r (Comes responds recalls form w old Takes new)
+      → IfOk r (λ served. OfRead from left (λ v. Comes responds recalls form v old Takes new served))
+  comes_read from left w old new Takes r reads h =
+      read_whole from left w (λ v served. Comes responds recalls form v old Takes new served) r reads h
 
-  -- a beginning of it was
-  pub told_front : (old new : S) (name : List ℕ) (Takes : List ℕ → Type 0) (answered : Served) (text : List ℕ)
-      (r : Result Served IoFault)
-      → ((served : Served) → served ≡ answered → Takes text → Recalled recalls old name Takes new served)
-      → OnErr r (Takes text) → IsErrOf r io.Write → (served : Served) × Recalled recalls old name Takes new served
-  told_front old new name Takes answered text (Ok served) by h e = cc
-  told_front old new name Takes answered text (Err f) by h e = (answered, by answered refl h)
+  -- its beginning
+  pub comes_begun : (from left : Option (List ℕ)) (w : Way) (old new : S) (Takes : List ℕ → Type 0) → Reads from left w
+      → (served : Served) × Comes responds recalls form w old Takes new served
+      → OfRead from left (λ v. (served : Served) × Comes responds recalls form v old Takes new served)
+  comes_begun from left w old new Takes reads h =
+      read_as from left w (λ v. (served : Served) × Comes responds recalls form v old Takes new served) reads h
+
+  -- an answer of HTTP's own
+  pub refused_read : (from left : Option (List ℕ)) (old : S) (f : Fault) (bodiless : Bool) (Takes : List ℕ → Type 0)
+      (r : Result Served IoFault) → Reads from left (refusal f bodiless)
+      → IfOk r (λ served. (served ≡ Answered (fault_status f)) × Takes (fault_in form f bodiless))
+      → IfOk r (λ served. OfRead from left (λ v. Comes responds recalls form v old Takes old served))
+  refused_read from left old f bodiless Takes r reads h =
+      comes_read from left (refusal f bodiless) old old Takes r reads (refused_whole old f bodiless Takes r h)
+
+  -- its beginning
+  pub refused_begun : (from left : Option (List ℕ)) (old : S) (f : Fault) (bodiless : Bool) (Takes : List ℕ → Type 0)
+      (r : Result Served IoFault) → Reads from left (refusal f bodiless)
+      → OnErr r (Takes (fault_in form f bodiless)) → IsErrOf r io.Write
+      → OfRead from left (λ v. (served : Served) × Comes responds recalls form v old Takes old served)
+  refused_begun from left old f bodiless Takes r reads h e =
+      comes_begun from left (refusal f bodiless) old old Takes reads (refused_front old f bodiless Takes r h e)

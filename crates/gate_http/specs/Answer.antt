@@ -1,7 +1,5 @@
 -- What the plain gate answers to a request, and the gate after it.
-use Rattle.std.specs.Prelude.{ℕ, ◌≡◌, Bool, false, ◌&&◌, not, nat_eq, nat_le, ◌==◌, if◌then◌else◌, List, [], codes, Option, Some, None, option_map, option_and_then, Result, Ok, Err}
-use Rattle.std.specs.List.{starts_with}
-use Rattle.std.specs.Str.Parse.{digits_value}
+use Rattle.std.specs.Prelude.{ℕ, ◌≡◌, Bool, false, ◌==◌, if◌then◌else◌, List, [], Option, Some, None, option_map, option_and_then, Result, Ok, Err}
 use Rattle.gate_types.specs.declared.records.Id.{Id}
 use Rattle.gate_types.specs.declared.records.Build.{Build}
 use Rattle.gate_types.specs.declared.deliveries.Delivery.{Delivery}
@@ -9,31 +7,48 @@ use Rattle.gate_types.specs.declared.deliveries.Answer.{Answer}
 use Rattle.gate_types.specs.declared.deliveries.Answer.TheVariants.{Said, Refused}
 use Rattle.gate_types.specs.declared.deliveries.Refusal.{Refusal}
 use Rattle.gate_types.specs.declared.deliveries.Refusal.TheVariants as refusal
-use Rattle.gate_types.specs.Once.{Call, once, answer_of}
-use Rattle.gate_types.specs.State.{State}
+use Rattle.gate_types.specs.Once.{Call, Content, once, answer_of}
+use Rattle.gate_types.specs.State.{known_change}
 use Rattle.gate_types.specs.Step.{build_of}
 use Rattle.gate_types.specs.Status.{status_text}
 use Rattle.gate_types.specs.OrderList.{order_list_text}
 use Rattle.gate_types.specs.BuildText.{build_text}
 use Rattle.gate_types.specs.History.{history_text}
-use Rattle.gate_wire.specs.Reading.{says, passing}
+use Rattle.gate_wire.specs.Reading.{says}
 use Rattle.gate_book_trait.specs.Reads.{queue_named}
+use Rattle.gate_archive.specs.ChangeText.{change_text}
+use Rattle.gate_archive.specs.ItemText.{item_text}
+use Rattle.gate_archive.specs.RunningBuilds.{running_text}
+use Rattle.gate_archive.specs.HistoryFrom.{history_from}
+use Rattle.gate_archive.specs.Feed.{fed, feed_text, id_named}
+use Rattle.gate_archive.specs.Writes.{most_fed}
 use Rattle.gate_core.specs.Gated.{Gated}
 use Rattle.gate_core.specs.Replies.{call_read}
 use Rattle.gate_http.specs.declared.respond.Page.TheVariants as pages
+use Rattle.gate_http.specs.declared.respond.Told.{Told}
+use Rattle.gate_http.specs.declared.respond.Told.TheVariants as told
+use Rattle.gate_http.specs.declared.response.Form.{Form}
 use Rattle.gate_http.specs.declared.served.Served.{Served}
 use Rattle.gate_http.specs.declared.served.Served.TheVariants.{Nothing, Answered}
-use Rattle.gate_http.specs.Digits.{are_digits}
+use Rattle.gate_http.specs.Digits.{number_up_to}
 use Rattle.gate_http.specs.Faults.{fault_status}
-use Rattle.gate_http.specs.Asked.{Asked, delivery, page, build, answer_status, is_status_page}
-use Rattle.gate_http.specs.Way.{Way, silence, refusal, question, history}
-use Rattle.gate_http.specs.Response.{fault_response, answer_response, history_response}
+use Rattle.gate_http.specs.Asked.{Asked, delivery, page, build, change, item, is_status_page, told_status, Streamed, whole_history, later_history, all_deliveries, later_deliveries}
+use Rattle.gate_http.specs.Way.{Way, silence, refusal as refusing, question, stream}
+use Rattle.gate_http.specs.Response.{fault_in, told_in, stream_in, failure_in}
 
--- the number of a build in a path: from 1 to 10^15, in digits without a leading zero
+-- ---- what is told at once
+
+-- the number of a build in a path
 abbrev pub build_number : List ℕ → Option ℕ
-build_number id =
-    if are_digits id && not (starts_with nat_eq id (codes "0"))
-    then passing (λ n. nat_le 1 n && nat_le n 1000000000000000) (digits_value 10 id) else None
+build_number text = number_up_to 1000000000000000 text
+
+-- the number of a change in a path
+abbrev pub change_number : List ℕ → Option ℕ
+change_number text = number_up_to 999999999 text
+
+-- the serial of an item in a path
+abbrev pub item_serial : List ℕ → Option ℕ
+item_serial text = number_up_to 1000000000000000 text
 
 -- the answer to what was read of a delivery
 abbrev pub answer_read : Gated → Result (Id × Delivery) Refusal → Answer
@@ -45,31 +60,63 @@ abbrev pub answer_found : Option Build → Answer
 answer_found None = Refused refusal.UnknownBuild
 answer_found (Some b) = Said (build_text b)
 
+-- the text of a change that is known
+abbrev pub change_said : Gated → ℕ → Option (List ℕ)
+change_said g n = option_map (change_text g.settings g.content.state) (known_change g.content.state n)
+
+-- the answer with the text of a change that was looked for
+abbrev pub answer_known : Option (List ℕ) → Answer
+answer_known None = Refused refusal.UnknownChange
+answer_known (Some text) = Said text
+
+-- what is told with the text of an item that was looked for
+abbrev pub told_item : Option (List ℕ) → Told
+told_item None = told.NoItem
+told_item (Some text) = told.Answer (Said text)
+
 -- the answer to what is asked
-abbrev pub answer_asked : Gated → Asked → Answer
-answer_asked g (delivery door body) = answer_read g (says door body)
-answer_asked g (page pages.Status) = Said (status_text g.settings g.content.state)
-answer_asked g (page pages.Orders) = Said (order_list_text g.settings g.content.state)
-answer_asked g (build id) = answer_found (option_and_then (build_of g.content.state) (build_number id))
+abbrev pub answer_asked : Gated → Asked → Told
+answer_asked g (delivery door body) = told.Answer (answer_read g (says door body))
+answer_asked g (page pages.Status) = told.Answer (Said (status_text g.settings g.content.state))
+answer_asked g (page pages.Orders) = told.Answer (Said (order_list_text g.settings g.content.state))
+answer_asked g (page pages.Running) = told.Answer (Said (running_text g.content.state))
+answer_asked g (build text) =
+    told.Answer (answer_found (option_and_then (build_of g.content.state) (build_number text)))
+answer_asked g (change text) = told.Answer (answer_known (option_and_then (change_said g) (change_number text)))
+answer_asked g (item text) = told_item (option_and_then (item_text g.settings g.content.state) (item_serial text))
 
 -- the same, or `unavailable`
-abbrev pub answer_to : Bool → Gated → Asked → Answer
-answer_to unavailable g asked = if unavailable then Refused refusal.Unavailable else answer_asked g asked
+abbrev pub answer_to : Bool → Gated → Asked → Told
+answer_to unavailable g asked =
+    if unavailable then told.Answer (Refused refusal.Unavailable) else answer_asked g asked
 
--- the history text of the queue of a name
-abbrev pub history_of : State → List ℕ → Option (List ℕ)
-history_of s name = option_map history_text (queue_named s name)
+-- ---- what is written line by line
+
+-- the accepted deliveries behind that of an id, at most 1,000
+abbrev pub fed_behind : Content → Id → Option (List ℕ)
+fed_behind x id = option_map feed_text (fed (Some id) most_fed x.kept)
+
+-- the lines that are asked for, if there is such a queue, or such a delivery
+abbrev pub stream_of : Content → Streamed → Option (List ℕ)
+stream_of x (whole_history name) = option_map history_text (queue_named x.state name)
+stream_of x (later_history name place) = option_map (history_from place) (queue_named x.state name)
+stream_of x all_deliveries = option_map feed_text (fed None most_fed x.kept)
+stream_of x (later_deliveries text) = option_and_then (fed_behind x) (id_named text)
 
 -- the status of the answer with it
-abbrev pub history_status : Option (List ℕ) → ℕ
-history_status None = 404
-history_status (Some text) = 200
+abbrev pub stream_status : Option (List ℕ) → ℕ
+stream_status None = 404
+stream_status (Some text) = 200
+
+-- ---- the gate after it
 
 -- the call that is made by what is asked: none but by a delivery
 abbrev pub calls_asked : Bool → Asked → List Call
 calls_asked unavailable (delivery door body) = call_read unavailable (says door body)
 calls_asked unavailable (page p) = []
-calls_asked unavailable (build id) = []
+calls_asked unavailable (build text) = []
+calls_asked unavailable (change text) = []
+calls_asked unavailable (item text) = []
 
 -- the gate after calls
 abbrev pub gate_after : Gated → List Call → Gated
@@ -78,26 +125,27 @@ gate_after g calls = record g { content = once g.settings g.content calls }
 -- the call that a request makes
 abbrev pub calls_made : Bool → Way → List Call
 calls_made unavailable silence = []
-calls_made unavailable (refusal f bodiless) = []
+calls_made unavailable (refusing f bodiless) = []
 calls_made unavailable (question asked) = calls_asked unavailable asked
-calls_made unavailable (history name) = []
+calls_made unavailable (stream wanted) = []
+
+-- ---- the answer
 
 -- whether a request is answered, and by which status
 abbrev pub served_as : Bool → Gated → Way → Served
 served_as unavailable g silence = Nothing
-served_as unavailable g (refusal f bodiless) = Answered (fault_status f)
-served_as unavailable g (question asked) = Answered (answer_status (answer_to unavailable g asked))
-served_as unavailable g (history name) =
-    Answered (if unavailable then 503 else history_status (history_of g.content.state name))
+served_as unavailable g (refusing f bodiless) = Answered (fault_status f)
+served_as unavailable g (question asked) = Answered (told_status (answer_to unavailable g asked))
+served_as unavailable g (stream wanted) =
+    Answered (if unavailable then 503 else stream_status (stream_of g.content wanted))
 
--- the response to a request
-abbrev pub answer : Bool → Gated → Way → List ℕ
-answer unavailable g silence = []
-answer unavailable g (refusal f bodiless) = fault_response f bodiless
-answer unavailable g (question asked) = answer_response (is_status_page asked) (answer_to unavailable g asked)
-answer unavailable g (history name) =
-    if unavailable then answer_response false (Refused refusal.Unavailable)
-    else history_response (history_of g.content.state name)
+-- the answer to a request, as a response or its content alone
+abbrev pub answer : Form → Bool → Gated → Way → List ℕ
+answer form unavailable g silence = []
+answer form unavailable g (refusing f bodiless) = fault_in form f bodiless
+answer form unavailable g (question asked) = told_in form (is_status_page asked) (answer_to unavailable g asked)
+answer form unavailable g (stream wanted) =
+    if unavailable then failure_in form else stream_in form wanted (stream_of g.content wanted)
 
 -- no other status than 503 is `unavailable`
 abbrev pub is_503 : Served → Bool
@@ -105,7 +153,7 @@ is_503 Nothing = false
 is_503 (Answered status) = status == 503
 
 -- a request may be answered by this text, and the gate is this one then
-pub record Answers (g : Gated) (w : Way) (served : Served) (text : List ℕ) (after : Gated) : Type 0 where
+pub record Answers (form : Form) (g : Gated) (w : Way) (served : Served) (text : List ℕ) (after : Gated) : Type 0 where
   pub status : served ≡ served_as (is_503 served) g w
-  pub said : text ≡ answer (is_503 served) g w
+  pub said : text ≡ answer form (is_503 served) g w
   pub stands : after ≡ gate_after g (calls_made (is_503 served) w)

@@ -9,6 +9,7 @@ pub mod Response
 pub mod Exchange
 pub mod Answer
 pub mod Serving
+pub mod Got
 pub mod Parts
 pub mod Laws
 pub mod Connections

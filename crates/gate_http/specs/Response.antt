@@ -1,11 +1,15 @@
 -- The texts of responses.
 use Rattle.std.specs.Prelude.{ℕ, Bool, false, ◌&&◌, List, [], ◌++◌, length, ◌==◌, if◌then◌else◌, Option, None, Some, codes, decimal}
-use Rattle.gate_types.specs.declared.deliveries.Answer.{Answer}
-use Rattle.gate_types.specs.Once.{answer_text}
+use Rattle.gate_types.specs.declared.deliveries.Answer.TheVariants.{Refused}
+use Rattle.gate_types.specs.declared.deliveries.Refusal.TheVariants as refusal
 use Rattle.gate_http.specs.declared.fault.Fault.{Fault}
 use Rattle.gate_http.specs.declared.fault.Fault.TheVariants as fault
+use Rattle.gate_http.specs.declared.respond.Told.{Told}
+use Rattle.gate_http.specs.declared.respond.Told.TheVariants as told
+use Rattle.gate_http.specs.declared.response.Form.{Form}
+use Rattle.gate_http.specs.declared.response.Form.TheVariants as form
 use Rattle.gate_http.specs.Faults.{fault_status, fault_text}
-use Rattle.gate_http.specs.Asked.{answer_status}
+use Rattle.gate_http.specs.Asked.{Streamed, missing_of, told_status, told_text}
 
 -- the phrase of a status
 abbrev pub phrase : ℕ → List ℕ
@@ -33,6 +37,8 @@ allow_line fault.NoRoute = []
 allow_line fault.NoLength = []
 allow_line fault.TooLarge = []
 allow_line fault.NoQueue = []
+allow_line fault.NoItem = []
+allow_line fault.NoDelivery = []
 
 -- a line of a head
 unfoldable pub line : List ℕ → List ℕ → List ℕ
@@ -50,28 +56,63 @@ head_text status kind len allow =
     ++ (line (codes "Content-Length: ") (decimal len)
     ++ (allow ++ codes "Connection: close\r\n\r\n")))
 
+-- the type of JSON
 abbrev pub json : List ℕ
 json = codes "application/json"
 
+-- the type of plain text
 abbrev pub plain : List ℕ
 plain = codes "text/plain"
 
--- the response of HTTP's own, maybe without its body
-abbrev pub fault_response : Fault → Bool → List ℕ
-fault_response f bodiless =
-    head_text (fault_status f) json (length (fault_text f)) (allow_line f) ++ (if bodiless then [] else fault_text f)
+-- the content of an answer of HTTP's own, maybe without its body
+abbrev pub fault_content : Fault → Bool → List ℕ
+fault_content f bodiless = if bodiless then [] else fault_text f
 
--- the response with an answer of the gate; the status text is plain text, all else is JSON
-abbrev pub answer_response : Bool → Answer → List ℕ
-answer_response is_plain a =
-    head_text (answer_status a) (if is_plain && answer_status a == 200 then plain else json) (length (answer_text a)) []
-    ++ answer_text a
+-- the head of the response with it
+abbrev pub fault_head : Fault → List ℕ
+fault_head f = head_text (fault_status f) json (length (fault_text f)) (allow_line f)
 
--- the head of the response with a history, which has no length: its body ends where the connection is closed
-unfoldable pub history_head : List ℕ
-history_head = status_line 200 ++ (line (codes "Content-Type: ") plain ++ codes "Connection: close\r\n\r\n")
+-- the type of what is told; the status text is plain text, all else is JSON
+abbrev pub told_kind : Bool → Told → List ℕ
+told_kind is_plain t = if is_plain && told_status t == 200 then plain else json
 
--- the response with a history text, or where there is no such queue
-abbrev pub history_response : Option (List ℕ) → List ℕ
-history_response None = fault_response fault.NoQueue false
-history_response (Some text) = history_head ++ text
+-- the head of the response with it
+abbrev pub told_head : Bool → Told → List ℕ
+told_head is_plain t = head_text (told_status t) (told_kind is_plain t) (length (told_text t)) []
+
+-- the head of a response that is written line by line, which has no length: its body ends where the connection is
+-- closed
+unfoldable pub stream_head : List ℕ
+stream_head = status_line 200 ++ (line (codes "Content-Type: ") plain ++ codes "Connection: close\r\n\r\n")
+
+-- ---- an answer as a response, or its content alone
+
+-- the head that is written
+abbrev pub head_in : Form → List ℕ → List ℕ
+head_in form.Response head = head
+head_in form.Content head = []
+
+-- a head and a content
+abbrev pub written_in : Form → List ℕ → List ℕ → List ℕ
+written_in a head content = head_in a head ++ content
+
+-- the answer of HTTP's own
+abbrev pub fault_in : Form → Fault → Bool → List ℕ
+fault_in a f bodiless = written_in a (fault_head f) (fault_content f bodiless)
+
+-- the answer with what is told
+abbrev pub told_in : Form → Bool → Told → List ℕ
+told_in a is_plain t = written_in a (told_head is_plain t) (told_text t)
+
+-- what stands before the lines
+abbrev pub front_in : Form → List ℕ
+front_in a = head_in a stream_head
+
+-- the answer with lines, or where there is nothing of the kind
+abbrev pub stream_in : Form → Streamed → Option (List ℕ) → List ℕ
+stream_in a wanted None = fault_in a (missing_of wanted) false
+stream_in a wanted (Some text) = front_in a ++ text
+
+-- the answer where the gate fails
+abbrev pub failure_in : Form → List ℕ
+failure_in a = told_in a false (told.Answer (Refused refusal.Unavailable))

@@ -1,16 +1,19 @@
 -- What serving a request comes to, by what a gate's book held.
 use Rattle.std.specs.Prelude.{ℕ, ◌≡◌, true, false, List, [], ◌∷◌, ◌++◌, Option}
-use Rattle.gate_types.specs.declared.deliveries.Answer.{Answer}
 use Rattle.gate_types.specs.Settings.{Settings}
-use Rattle.gate_types.specs.Once.{Content, Call, acts, next_content, is_unavailable}
+use Rattle.gate_types.specs.Once.{Content, Call, acts, next_content}
 use Rattle.gate_book_trait.specs.Kept.{OfHeldUnder}
 use Rattle.gate_core.specs.Answered.{spared}
 use Rattle.gate_core.specs.declared.gate.Gate.{Gate}
 use Rattle.gate_core.specs.Held.{Goes}
+use Rattle.gate_http.specs.declared.respond.Told.{Told}
+use Rattle.gate_http.specs.declared.response.Form.{Form}
+use Rattle.gate_http.specs.declared.response.Form.TheVariants as form
 use Rattle.gate_http.specs.declared.served.Served.{Served}
-use Rattle.gate_http.specs.Asked.{Asked}
-use Rattle.gate_http.specs.Way.{Way, history}
-use Rattle.gate_http.specs.Answer.{Answers, answer_to, calls_asked, calls_made, gate_after, history_of, is_503}
+use Rattle.gate_http.specs.Asked.{Asked, Streamed, is_failure}
+use Rattle.gate_http.specs.Way.{Way, stream}
+use Rattle.gate_http.specs.Got.{way_got}
+use Rattle.gate_http.specs.Answer.{Answers, answer_to, calls_asked, calls_made, gate_after, stream_of, is_503}
 
 -- what a crash leaves after a call: the content after it alone, after a first reply; what it could leave before,
 -- after a kept reply or a refusal; and after `unavailable` one content more: what the delivery would have given
@@ -24,47 +27,59 @@ abbrev pub CrashLeaves : Settings → Content → List Call → (List Content �
 CrashLeaves c x [] left leaves = (ys : List Content) → left ys → leaves ys
 CrashLeaves c x (k ∷ ks) left leaves = Survives c x k left leaves
 
--- a gate was asked this and gave this answer: the answer and the content of the plain gate, and what a crash leaves
+-- a gate was asked this and told this: the answer and the content of the plain gate, and what a crash leaves
 pub record Responds {B : Type 0} (trusted : B → Type 0) (holds : B → Settings → Content → Type 0)
-    (leaves : B → Settings → List Content → Type 0) (old : Gate B) (asked : Asked) (a : Answer) (new : Gate B)
+    (leaves : B → Settings → List Content → Type 0) (old : Gate B) (asked : Asked) (t : Told) (new : Gate B)
     : Type 0 where
   pub answers : Goes trusted holds old new (λ g after.
-      (a ≡ answer_to (is_unavailable a) g asked) × (after ≡ gate_after g (calls_asked (is_unavailable a) asked)))
+      (t ≡ answer_to (is_failure t) g asked) × (after ≡ gate_after g (calls_asked (is_failure t) asked)))
   pub crash : OfHeldUnder trusted holds old.book new.book old.config (λ x.
-      CrashLeaves old.config x (calls_asked (is_unavailable a) asked) (leaves old.book old.config)
+      CrashLeaves old.config x (calls_asked (is_failure t) asked) (leaves old.book old.config)
       (leaves new.book old.config))
 
--- a gate was asked for a queue's history: what is so of it in the content, which stays; and what a crash leaves
+-- a gate was asked for lines: what is so of them in the content, which stays; and what a crash leaves
 pub record Recalls {B : Type 0} (trusted : B → Type 0) (holds : B → Settings → Content → Type 0)
-    (leaves : B → Settings → List Content → Type 0) (old : Gate B) (name : List ℕ) (P : Option (List ℕ) → Type 0)
+    (leaves : B → Settings → List Content → Type 0) (old : Gate B) (wanted : Streamed) (P : Option (List ℕ) → Type 0)
     (new : Gate B) : Type 0 where
-  pub answers : Goes trusted holds old new (λ g after. P (history_of g.content.state name) × (after ≡ g))
+  pub answers : Goes trusted holds old new (λ g after. P (stream_of g.content wanted) × (after ≡ g))
   pub crash : OfHeldUnder trusted holds old.book new.book old.config (λ x.
       CrashLeaves old.config x [] (leaves old.book old.config) (leaves new.book old.config))
 
 -- a request came to this text: the plain gate's answer and content, and what a crash leaves
 pub record Serves {B : Type 0} (trusted : B → Type 0) (holds : B → Settings → Content → Type 0)
-    (leaves : B → Settings → List Content → Type 0) (old new : Gate B) (w : Way) (served : Served) (text : List ℕ)
-    : Type 0 where
-  pub answers : Goes trusted holds old new (λ g after. Answers g w served text after)
+    (leaves : B → Settings → List Content → Type 0) (f : Form) (old new : Gate B) (w : Way) (served : Served)
+    (text : List ℕ) : Type 0 where
+  pub answers : Goes trusted holds old new (λ g after. Answers f g w served text after)
   pub crash : OfHeldUnder trusted holds old.book new.book old.config (λ x.
       CrashLeaves old.config x (calls_made (is_503 served) w) (leaves old.book old.config)
       (leaves new.book old.config))
 
--- a request for a history came to a text of which this is so: the plain gate's answer and content, and what a crash
+-- a request for lines came to a text of which this is so: the plain gate's answer and content, and what a crash
 -- leaves; which text it is, is told where the book is trusted as the call ends
-pub record ServesHistory {B : Type 0} (trusted : B → Type 0) (holds : B → Settings → Content → Type 0)
-    (leaves : B → Settings → List Content → Type 0) (old new : Gate B) (name : List ℕ) (served : Served)
+pub record ServesStream {B : Type 0} (trusted : B → Type 0) (holds : B → Settings → Content → Type 0)
+    (leaves : B → Settings → List Content → Type 0) (f : Form) (old new : Gate B) (wanted : Streamed) (served : Served)
     (Takes : List ℕ → Type 0) : Type 0 where
   pub answers : Goes trusted holds old new (λ g after.
-      (text : List ℕ) × Takes text × Answers g (history name) served text after)
+      (text : List ℕ) × Takes text × Answers f g (stream wanted) served text after)
   pub crash : OfHeldUnder trusted holds old.book new.book old.config (λ x.
       CrashLeaves old.config x [] (leaves old.book old.config) (leaves new.book old.config))
 
 -- a request came to a text of which this is so
+abbrev pub ServesAs : {B : Type 0} → (B → Type 0) → (B → Settings → Content → Type 0) →
+    (B → Settings → List Content → Type 0) → Form → Gate B → Gate B → Way → Served → (List ℕ → Type 0) → Type 0
+ServesAs trusted holds leaves f old new (stream wanted) served Takes =
+    ServesStream trusted holds leaves f old new wanted served Takes
+ServesAs trusted holds leaves f old new w served Takes =
+    (text : List ℕ) × Takes text × Serves trusted holds leaves f old new w served text
+
+-- a request came to a response of which this is so
 abbrev pub ServesBy : {B : Type 0} → (B → Type 0) → (B → Settings → Content → Type 0) →
     (B → Settings → List Content → Type 0) → Gate B → Gate B → Way → Served → (List ℕ → Type 0) → Type 0
-ServesBy trusted holds leaves old new (history name) served Takes =
-    ServesHistory trusted holds leaves old new name served Takes
 ServesBy trusted holds leaves old new w served Takes =
-    (text : List ℕ) × Takes text × Serves trusted holds leaves old new w served text
+    ServesAs trusted holds leaves form.Response old new w served Takes
+
+-- a GET of a path came to a content of which this is so: that of the plain gate's answer; and the gate stays
+abbrev pub ServesGet : {B : Type 0} → (B → Type 0) → (B → Settings → Content → Type 0) → Gate B → Gate B → List ℕ →
+    Served → (List ℕ → Type 0) → Type 0
+ServesGet trusted holds old new path served Takes = Goes trusted holds old new (λ g after.
+    (after ≡ g) × (text : List ℕ) × Takes text × Answers form.Content g (way_got path) served text after)

@@ -1,5 +1,5 @@
 -- What becomes of an input.
-use Rattle.std.specs.Prelude.{ℕ, ◌≡◌, ◌≤◌, Bool, false, List, [], ◌++◌, length, map, take, drop, count_by, Option, Some, None, nat_lt, ◌==◌, if◌then◌else◌, codes}
+use Rattle.std.specs.Prelude.{ℕ, ◌≡◌, ◌≤◌, Bool, false, List, [], ◌++◌, length, map, take, count_by, Option, Some, None, option_map, nat_lt, ◌==◌, if◌then◌else◌, codes}
 use Rattle.std.specs.Str.{bytes_eq}
 use Rattle.httparse.specs.Grammar.{RequestHead, ReadsRequest}
 use Rattle.httparse.specs.Spans.{name_and_value}
@@ -7,16 +7,15 @@ use Rattle.gate_http.specs.declared.fault.Fault.{Fault}
 use Rattle.gate_http.specs.declared.fault.Fault.TheVariants as fault
 use Rattle.gate_wire.specs.declared.door.Door.{Door}
 use Rattle.gate_wire.specs.declared.door.Door.TheVariants as door
-use Rattle.gate_http.specs.declared.respond.Page.{Page}
 use Rattle.gate_http.specs.declared.respond.Page.TheVariants as pages
 use Rattle.gate_http.specs.declared.routes.Route.{Route}
 use Rattle.gate_http.specs.declared.routes.Route.TheVariants as route
 use Rattle.gate_http.specs.declared.fields.BodyLength.{BodyLength}
 use Rattle.gate_http.specs.declared.fields.BodyLength.TheVariants as body
-use Rattle.gate_http.specs.Asked.{Asked, delivery, page, build}
+use Rattle.gate_http.specs.Asked.{Asked, delivery, page, build, change, item, Streamed, whole_history, later_history, all_deliveries, later_deliveries}
 use Rattle.gate_http.specs.Head.{Front, empty, cut, too_large, whole, front_of, head_limit}
 use Rattle.gate_http.specs.Fields.{length_of}
-use Rattle.gate_http.specs.Routes.{route_of, path_of, parameter_of}
+use Rattle.gate_http.specs.Routes.{route_of, path_of, parameter_of, queue_in, place_in}
 
 -- the bytes are a request head of at most 64 fields
 abbrev pub IsRequest : List ℕ → RequestHead → Type 0
@@ -27,15 +26,15 @@ abbrev pub Finds : List ℕ → Option RequestHead → Type 0
 Finds head None = (h : RequestHead) → IsRequest head h → ⊥
 Finds head (Some h) = IsRequest head h
 
--- what a head asks for: an answer of HTTP's own, maybe without its body; a delivery of so many bytes; a page; a build;
--- the history of a queue
+-- what a head asks for: an answer of HTTP's own, maybe without its body; a delivery of so many bytes; what is told at
+-- once; what is written line by line
 pub data Decided : Type 0 where
   refused : Fault → Bool → Decided
   posted : Door → ℕ → Decided
-  shown : Page → Decided
-  named : List ℕ → Decided
-  recalled : List ℕ → Decided
+  shown : Asked → Decided
+  recalled : Streamed → Decided
 
+-- the method is HEAD
 abbrev pub is_head : RequestHead → Bool
 is_head h = bytes_eq h.method (codes "HEAD")
 
@@ -52,18 +51,32 @@ by_post h d =
     if bytes_eq h.method (codes "POST") then posted_of d (length_of (map name_and_value h.fields))
     else refused fault.NotPost (is_head h)
 
--- this, if the method is GET
-abbrev pub by_get : RequestHead → Decided → Decided
-by_get h d = if bytes_eq h.method (codes "GET") then d else refused fault.NotGet (is_head h)
+-- what is read at a path of a route, if there is something to read
+abbrev pub read_at : List ℕ → Route → Option Decided
+read_at path route.Forge = None
+read_at path route.Worker = None
+read_at path route.Status = Some (shown (page pages.Status))
+read_at path route.Orders = Some (shown (page pages.Orders))
+read_at path route.Running = Some (shown (page pages.Running))
+read_at path route.Builds = Some (shown (build (parameter_of path)))
+read_at path route.Changes = Some (shown (change (parameter_of path)))
+read_at path route.Items = Some (shown (item (parameter_of path)))
+read_at path route.History = Some (recalled (whole_history (parameter_of path)))
+read_at path route.HistoryFrom = option_map (λ n. recalled (later_history (queue_in path) n)) (place_in path)
+read_at path route.Deliveries = Some (recalled all_deliveries)
+read_at path route.DeliveriesAfter = Some (recalled (later_deliveries (parameter_of path)))
 
+-- this, if there is something and the method is GET
+abbrev pub by_get : RequestHead → Option Decided → Decided
+by_get h None = refused fault.NoRoute (is_head h)
+by_get h (Some d) = if bytes_eq h.method (codes "GET") then d else refused fault.NotGet (is_head h)
+
+-- what is asked for at a path, by its route
 abbrev pub on_route : RequestHead → List ℕ → Option Route → Decided
 on_route h path None = refused fault.NoRoute (is_head h)
 on_route h path (Some route.Forge) = by_post h door.Forge
 on_route h path (Some route.Worker) = by_post h door.Worker
-on_route h path (Some route.Status) = by_get h (shown pages.Status)
-on_route h path (Some route.Orders) = by_get h (shown pages.Orders)
-on_route h path (Some route.Builds) = by_get h (named (drop 8 path))
-on_route h path (Some route.History) = by_get h (recalled (parameter_of path))
+on_route h path (Some r) = by_get h (read_at path r)
 
 -- a request
 abbrev pub decided_of : Option RequestHead → Decided
@@ -75,22 +88,22 @@ abbrev pub decided : List ℕ → Option RequestHead → Decided
 decided head found =
     if nat_lt 66 (count_by (λ b. b == 10) head) then refused fault.HeadTooLarge false else decided_of found
 
--- what becomes of an input: nothing, an answer of HTTP's own, a question to the gate, or the history of a queue
+-- what becomes of an input: nothing, an answer of HTTP's own, a question to the gate, or what is written line by line
 pub data Way : Type 0 where
   silence : Way
   refusal : Fault → Bool → Way
   question : Asked → Way
-  history : List ℕ → Way
+  stream : Streamed → Way
 
 -- by what the head asks for, and the bytes behind it
 abbrev pub way_on : List ℕ → Decided → Way
 way_on rest (refused f bodiless) = refusal f bodiless
 way_on rest (posted d n) =
     if nat_lt (length rest) n then refusal fault.Cut false else question (delivery d (take n rest))
-way_on rest (shown p) = question (page p)
-way_on rest (named id) = question (build id)
-way_on rest (recalled name) = history name
+way_on rest (shown asked) = question asked
+way_on rest (recalled wanted) = stream wanted
 
+-- by how the input begins
 abbrev pub way_from : Front → Option RequestHead → Way
 way_from empty found = silence
 way_from cut found = refusal fault.Cut false
@@ -104,9 +117,8 @@ way input found = way_from (front_of input) found
 abbrev pub body_on : List ℕ → Decided → List ℕ
 body_on rest (refused f bodiless) = []
 body_on rest (posted d n) = take n rest
-body_on rest (shown p) = []
-body_on rest (named id) = []
-body_on rest (recalled name) = []
+body_on rest (shown asked) = []
+body_on rest (recalled wanted) = []
 
 -- the bytes of an input that are read: no others are taken from the reader
 abbrev pub taken_from : List ℕ → Front → Option RequestHead → List ℕ

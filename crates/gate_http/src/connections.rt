@@ -1,18 +1,19 @@
 //! Connections are served, one after another.
-ghost use Rattle.std.specs.Prelude.{◌≡◌, ◌≤◌, ℕ, List, [], ◌∷◌, length, true, false, OnOk, OnErr, IfErr, IsErrOf};
+ghost use Rattle.std.specs.Prelude.{◌≡◌, ◌≤◌, List, [], ◌∷◌, length, true, false, OnOk, OnErr, IfErr, IsErrOf};
 ghost use Rattle.std.specs.Io.Buffered.{writer_buffer, writer_contents};
 ghost use Rattle.std.specs.Io.KnownBytes.{Appends, Keeps};
 ghost use Rattle.gate_types.specs.Tap.{inside, has_failed, Took, TookFront};
 ghost use Rattle.gate_core.specs.declared.fault.IoFault.{IoFault};
 ghost use Rattle.gate_core.specs.Held.{Goes};
-ghost use Rattle.gate_http.specs.Way.{Request, way_of, history};
+ghost use Rattle.gate_http.specs.Asked.{Streamed};
+ghost use Rattle.gate_http.specs.Way.{Request, way_of, stream};
 ghost use Rattle.gate_http.specs.Exchange.{IsRead};
 ghost use Rattle.gate_http.specs.Serving.{ServesBy};
 ghost use Rattle.gate_http.specs.Connections.{IsCalled, fault_line, AreTold};
 
 use crate::served::Served;
 use crate::serving::serve_one;
-use gate_book_trait::Book;
+use gate_archive::Archive;
 use gate_core::{Gate, IoFault};
 use gate_types::tap::{Failed, Tap};
 use std::alloc::Global;
@@ -63,7 +64,7 @@ fn send<W: Write + Drop>(writer: &mut BufWriter<W>) -> Result<(), IoFault>
 /// # Errors
 ///
 /// Those of `serve_one`; and `Write` where the end of the response could not be sent.
-fn serve_whole<B: Book, R: Read, W: Write + Drop>(
+fn serve_whole<B: Archive, R: Read, W: Write + Drop>(
     alloc: Global,
     gate: &mut Gate<B>,
     reader: &mut Tap<R>,
@@ -76,10 +77,10 @@ fn serve_whole<B: Book, R: Read, W: Write + Drop>(
         × IsRead (R.remaining (inside reader.old)) (R.remaining (inside reader.new)) r
         × (served : Served) × ServesBy B.IsTrusted B.Holds B.LeavesOneOf gate.old gate.new (way_of r) served
         (Appends (writer_contents W.contents writer) (W.contents result.1))) }
-    // a history broke off
+    // a history or the deliveries broke off
     ensures store { IsErrOf result.0 IoFault.Store → (r : Request)
         × IsRead (R.remaining (inside reader.old)) (R.remaining (inside reader.new)) r
-        × (name : List ℕ) × (way_of r ≡ history name) }
+        × (wanted : Streamed) × (way_of r ≡ stream wanted) }
 {
     let mut writer = Tap::new(writer);
     let served = serve_one(alloc, gate, reader, &mut writer);
@@ -93,8 +94,8 @@ fn serve_whole<B: Book, R: Read, W: Write + Drop>(
 /// # Errors
 ///
 /// `Read`: the stream gave an error, or could not be had twice. `Write`: the response could not be
-/// sent. `NoMemory`: there was none for a buffer or for the request. `Store`: a history broke off.
-fn serve_stream<S: Read + Write + OpenStream + Drop, B: Book>(
+/// sent. `NoMemory`: there was none for a buffer or for the request. `Store`: a history or the deliveries broke off.
+fn serve_stream<S: Read + Write + OpenStream + Drop, B: Archive>(
     alloc: Global,
     gate: &mut Gate<B>,
     stream: S,
@@ -123,7 +124,7 @@ fn serve_stream<S: Read + Write + OpenStream + Drop, B: Book>(
 /// # Errors
 ///
 /// The listener failed to accept a connection. What was served before stands.
-pub fn serve<L: OpenListener, B: Book, E: Write>(
+pub fn serve<L: OpenListener, B: Archive, E: Write>(
     alloc: Global,
     listener: &L,
     gate: &mut Gate<B>,

@@ -22,6 +22,10 @@ pub enum Fault {
     TooLarge,
     /// No queue has the name.
     NoQueue,
+    /// No item has the serial.
+    NoItem,
+    /// No accepted delivery has the id.
+    NoDelivery,
 }
 
 impl Fault {
@@ -38,7 +42,7 @@ impl Fault {
             Fault::NotPost | Fault::NotGet => 405,
             Fault::NoLength => 411,
             Fault::TooLarge => 413,
-            Fault::NoQueue => 404,
+            Fault::NoQueue | Fault::NoItem | Fault::NoDelivery => 404,
         }
     }
 
@@ -55,6 +59,8 @@ impl Fault {
             Fault::NoLength => "{\"error\":\"length\"}",
             Fault::TooLarge => "{\"error\":\"too-large\"}",
             Fault::NoQueue => "{\"error\":\"no-queue\"}",
+            Fault::NoItem => "{\"error\":\"no-item\"}",
+            Fault::NoDelivery => "{\"error\":\"no-delivery\"}",
         }
     }
 }

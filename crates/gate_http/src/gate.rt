@@ -1,28 +1,51 @@
 //! The gate as what answers requests.
-ghost use Rattle.std.specs.Prelude.{◌≡◌, MatchResult, string_bytes};
-ghost use Rattle.gate_http.specs.Answer.{build_number};
+ghost use Rattle.std.specs.Prelude.{◌≡◌, false, MatchResult, option_map, string_bytes};
+ghost use Rattle.gate_types.specs.Tap.{has_failed};
+ghost use Rattle.gate_book_trait.specs.Kept.{OfHeldUnder, IsKept};
+ghost use Rattle.gate_http.specs.Answer.{build_number, change_number, item_serial, told_item};
+ghost use Rattle.gate_http.specs.Asked.{streamed_by};
+ghost use Rattle.gate_http.specs.Exchange.{Stops};
+ghost use Rattle.gate_http.specs.Parts.{lines_of_history, lines_of_feed, WritesLines};
 
-use crate::digits::number_of;
-use crate::respond::{Page, Respond};
-use gate_book_trait::{Book, HistoryFault};
+use crate::digits::number_up_to;
+use crate::respond::{Page, Respond, Stream, StreamFault, Told};
+use gate_archive::{Archive, FeedFault, id_of};
+use gate_book_trait::HistoryFault;
 use gate_core::Gate;
 use gate_types::deliveries::{Answer, Refusal};
 use gate_types::names::Text;
-use gate_types::numbers::BuildNo;
+use gate_types::numbers::{BuildNo, ChangeNo, Serial};
 use gate_types::tap::Tap;
 use gate_wire::{Door, read_delivery};
 use std::alloc::Global;
 use std::io::Write;
 
 /// The number of a build, by what stands for it in a path.
-fn build_named(id: &[u8]) -> Option<BuildNo>
-    ensures { result ≡ build_number id.now }
+fn build_named(text: &[u8]) -> Option<BuildNo>
+    ensures { result ≡ build_number text.now }
 {
-    if id.starts_with(b"0") {
-        return None;
-    }
-    match number_of(id, 1_000_000_000_000_000) {
+    match number_up_to(text, 1_000_000_000_000_000) {
         Some(number) => BuildNo::new(number as u64),
+        None => None,
+    }
+}
+
+/// The number of a change, by what stands for it in a path.
+fn change_named(text: &[u8]) -> Option<ChangeNo>
+    ensures { result ≡ change_number text.now }
+{
+    match number_up_to(text, 999_999_999) {
+        Some(number) => ChangeNo::new(number as u64),
+        None => None,
+    }
+}
+
+/// The serial of an item, by what stands for it in a path.
+fn serial_named(text: &[u8]) -> Option<Serial>
+    ensures { result ≡ item_serial text.now }
+{
+    match number_up_to(text, 1_000_000_000_000_000) {
+        Some(number) => Serial::new(number as u64),
         None => None,
     }
 }
@@ -37,7 +60,77 @@ fn answer_with(shown: Result<String, Refusal>) -> Answer
     }
 }
 
-impl<B: Book> Respond for Gate<B> {
+/// What is told with the text of an item, or with the refusal in its place.
+fn told_with(shown: Result<Option<String>, Refusal>) -> Told
+    ensures { MatchResult shown (λ text. result ≡ told_item (option_map string_bytes text))
+        (λ e. result ≡ Told.Answer (Answer.Refused e)) }
+{
+    match shown {
+        Ok(Some(text)) => Told::Answer(Answer::Said(Text::new(text))),
+        Ok(None) => Told::NoItem,
+        Err(refusal) => Told::Answer(Answer::Refused(refusal)),
+    }
+}
+
+/// How lines were written, by how a history was.
+fn history_lines(written: Result<(), HistoryFault>) -> Result<(), StreamFault>
+    ensures { result ≡ lines_of_history written }
+{
+    match written {
+        Ok(()) => Ok(()),
+        Err(HistoryFault::NoQueue) => Err(StreamFault::Missing),
+        Err(HistoryFault::Unavailable) => Err(StreamFault::Unavailable),
+        Err(HistoryFault::Broken) => Err(StreamFault::Broken),
+        Err(HistoryFault::Write) => Err(StreamFault::Write),
+    }
+}
+
+/// How lines were written, by how deliveries were.
+fn feed_lines(written: Result<(), FeedFault>) -> Result<(), StreamFault>
+    ensures { result ≡ lines_of_feed written }
+{
+    match written {
+        Ok(()) => Ok(()),
+        Err(FeedFault::NoDelivery) => Err(StreamFault::Missing),
+        Err(FeedFault::Unavailable) => Err(StreamFault::Unavailable),
+        Err(FeedFault::Broken) => Err(StreamFault::Broken),
+        Err(FeedFault::Write) => Err(StreamFault::Write),
+    }
+}
+
+/// Writes the front and then the lines of a gate that are asked for.
+///
+/// # Errors
+///
+/// Those of `show_stream`.
+fn write_lines<B: Archive, W: Write>(
+    alloc: Global,
+    gate: &mut Gate<B>,
+    wanted: Stream<'_>,
+    front: &[u8],
+    w: &mut Tap<W>,
+) -> Result<(), StreamFault>
+    requires { has_failed w.old ≡ false }
+    ensures written { OfHeldUnder B.IsTrusted B.Holds gate.old.book gate.new.book gate.old.config (λ x.
+        WritesLines x (streamed_by wanted.entry) front.now W.contents w.old w.new result) }
+    ensures stops { Stops w.old w.new result }
+    ensures kept { IsKept B.IsTrusted B.Holds B.LeavesOneOf gate.old.book gate.new.book }
+    ensures settings { gate.new.config ≡ gate.old.config }
+{
+    match wanted {
+        Stream::History(queue) => history_lines(gate.history(queue, front, w)),
+        Stream::HistoryFrom(queue, place) => {
+            history_lines(gate.history_from(queue, place, front, w))
+        }
+        Stream::Deliveries => feed_lines(gate.feed(alloc, None, front, w)),
+        Stream::DeliveriesAfter(text) => match id_of(text) {
+            Some(id) => feed_lines(gate.feed(alloc, Some(id), front, w)),
+            None => Err(StreamFault::Missing),
+        },
+    }
+}
+
+impl<B: Archive> Respond for Gate<B> {
     ghost use Rattle.gate_http.specs.Serving.{Responds, Recalls};
 
     ghost responds = { Responds B.IsTrusted B.Holds B.LeavesOneOf };
@@ -55,22 +148,38 @@ impl<B: Book> Respond for Gate<B> {
         match wanted {
             Page::Status => answer_with(self.status(alloc)),
             Page::Orders => answer_with(self.orders(alloc)),
+            Page::Running => answer_with(self.running(alloc)),
         }
     }
 
-    fn show_build(&mut self, alloc: Global, id: &[u8]) -> Answer {
-        match build_named(id) {
+    fn show_build(&mut self, alloc: Global, number: &[u8]) -> Answer {
+        match build_named(number) {
             Some(number) => answer_with(self.build(alloc, number)),
             None => Answer::Refused(Refusal::UnknownBuild),
         }
     }
 
-    fn show_history<W: Write>(
+    fn show_change(&mut self, alloc: Global, number: &[u8]) -> Answer {
+        match change_named(number) {
+            Some(number) => answer_with(self.change(alloc, number)),
+            None => Answer::Refused(Refusal::UnknownChange),
+        }
+    }
+
+    fn show_item(&mut self, alloc: Global, number: &[u8]) -> Told {
+        match serial_named(number) {
+            Some(serial) => told_with(self.item(alloc, serial)),
+            None => Told::NoItem,
+        }
+    }
+
+    fn show_stream<W: Write>(
         &mut self,
-        queue: &str,
+        alloc: Global,
+        wanted: Stream<'_>,
         front: &[u8],
         w: &mut Tap<W>,
-    ) -> Result<(), HistoryFault> {
-        self.history(queue, front, w)
+    ) -> Result<(), StreamFault> {
+        write_lines(alloc, self, wanted, front, w)
     }
 }

@@ -4,9 +4,12 @@
 //! let served = serve_one(alloc, &mut gate, reader, writer)?;
 //! // or one connection after another, `count` of them:
 //! serve(alloc, &listener, &mut gate, count, errors)?;
+//! // or what a GET would answer, its content alone:
+//! let served = get(alloc, &mut gate, "/status", writer)?;
 //! ```
 #![tactic(auto)]
 
+mod answering;
 mod body;
 mod connections;
 mod digits;
@@ -14,6 +17,7 @@ mod engine;
 mod fault;
 mod fields;
 mod gate;
+mod getting;
 mod head;
 pub mod laws;
 mod request;
@@ -25,6 +29,7 @@ mod serving;
 
 pub use connections::{NotListening, serve};
 pub use engine::answer_request;
-pub use respond::{Page, Respond};
+pub use getting::{get, get_one};
+pub use respond::{Page, Respond, Stream, StreamFault, Told};
 pub use served::Served;
 pub use serving::serve_one;

@@ -1,15 +1,16 @@
 //! What a head asks for.
-ghost use Rattle.std.specs.Prelude.{◌≡◌, ◌==◌, Option, Some, length, count_by, IfSome, IfNone};
+ghost use Rattle.std.specs.Prelude.{◌≡◌, ◌==◌, Option, Some, option_map, length, count_by, codes, IfSome, IfNone};
+ghost use Rattle.std.specs.Str.{bytes_eq};
 ghost use Rattle.httparse.specs.Grammar.{RequestHead};
 ghost use Rattle.httparse.specs.Spans.{IsRequestAt, IsRequestWithin};
 ghost use Rattle.gate_http.specs.Routes.{routes};
-ghost use Rattle.gate_http.specs.Way.{IsRequest, Finds, decided, decided_of, posted_of};
-ghost use Rattle.gate_http.specs.Parts.{view};
+ghost use Rattle.gate_http.specs.Way.{IsRequest, Finds, decided, decided_of, posted_of, read_at, is_head};
+ghost use Rattle.gate_http.specs.Parts.{view, read_by, read_or, reading};
 
 use crate::fault::Fault;
 use crate::fields::{BodyLength, body_length};
-use crate::respond::Page;
-use crate::routes::{Route, cut_query, find_route, parameter};
+use crate::respond::{Page, Stream};
+use crate::routes::{Route, cut_query, find_route, parameter, place, queue};
 use gate_wire::Door;
 use http::Method;
 use httparse::Status;
@@ -23,17 +24,32 @@ const FIELDS: usize = 64;
 /// The most lines of a head: the request line, the fields, and the empty line.
 const LINES: usize = 66;
 
+/// A question that is answered at once.
+#[derive(Clone, Copy)]
+pub(crate) enum Question<'a> {
+    Page(Page),
+    /// A build, by what stands for its number.
+    Build(&'a [u8]),
+    /// A change, by what stands for its number.
+    Change(&'a [u8]),
+    /// An item, by what stands for its serial.
+    Item(&'a [u8]),
+}
+
+/// What is read of the gate.
+#[derive(Clone, Copy)]
+pub(crate) enum Wanted<'a> {
+    Ask(Question<'a>),
+    Lines(Stream<'a>),
+}
+
 /// What a head asks for.
 pub(crate) enum Decision<'a> {
     /// An answer of HTTP's own, without its body if that is said.
     Refuse(Fault, bool),
     /// A delivery of so many bytes.
     Post(Door, usize),
-    Show(Page),
-    /// A build, by what stands for its number.
-    ShowBuild(&'a [u8]),
-    /// The history of a queue, by what stands for its name.
-    ShowHistory(&'a str),
+    Read(Wanted<'a>),
 }
 
 /// The head of a request, where these bytes are one of at most 64 fields.
@@ -61,6 +77,55 @@ fn posted<'a>(door: Door, length: BodyLength) -> Decision<'a>
     }
 }
 
+/// What is read at a path of a route, if there is something to read.
+fn read_at<'a>(route: Route, path: &'a str) -> Option<Wanted<'a>>
+    ensures { option_map read_by result ≡ read_at path.now route }
+{
+    let text = parameter(path);
+    let number = text.as_bytes();
+    match route {
+        Route::Forge | Route::Worker => None,
+        Route::Status => Some(Wanted::Ask(Question::Page(Page::Status))),
+        Route::Orders => Some(Wanted::Ask(Question::Page(Page::Orders))),
+        Route::Running => Some(Wanted::Ask(Question::Page(Page::Running))),
+        Route::Builds => Some(Wanted::Ask(Question::Build(number))),
+        Route::Changes => Some(Wanted::Ask(Question::Change(number))),
+        Route::Items => Some(Wanted::Ask(Question::Item(number))),
+        Route::History => Some(Wanted::Lines(Stream::History(text))),
+        Route::HistoryFrom => match place(path) {
+            Some(place) => Some(Wanted::Lines(Stream::HistoryFrom(queue(path), place))),
+            None => None,
+        },
+        Route::Deliveries => Some(Wanted::Lines(Stream::Deliveries)),
+        Route::DeliveriesAfter => Some(Wanted::Lines(Stream::DeliveriesAfter(text))),
+    }
+}
+
+/// What who delivers nothing reads at a path, by its route.
+///
+/// # Errors
+///
+/// `NoRoute` where there is no such path; `NotPost` where it takes POST alone; `NotGet` where it takes GET alone, and
+/// the method is another one.
+pub(crate) fn read<'a>(
+    route: Option<Route>,
+    path: &'a str,
+    is_get: bool,
+) -> Result<Wanted<'a>, Fault>
+    ensures { (h : RequestHead) → bytes_eq h.method (codes "GET") ≡ is_get →
+        read_or (is_head h) result ≡ reading h path.now route }
+{
+    match route {
+        None => Err(Fault::NoRoute),
+        Some(Route::Forge | Route::Worker) => Err(Fault::NotPost),
+        Some(route) => match read_at(route, path) {
+            None => Err(Fault::NoRoute),
+            Some(wanted) if is_get => Ok(wanted),
+            Some(_) => Err(Fault::NotGet),
+        },
+    }
+}
+
 /// What a request asks for.
 fn ask<'a>(
     router: &Router<Route>,
@@ -79,24 +144,16 @@ fn ask<'a>(
         return Decision::Refuse(Fault::NoRoute, bodiless);
     };
     let path = cut_query(target);
-    let Some(route) = find_route(router, path) else {
-        return Decision::Refuse(Fault::NoRoute, bodiless);
-    };
+    let route = find_route(router, path);
     let fields = &headers[..spans.headers];
+    let is_post = method == Method::POST.as_str().as_bytes();
     match route {
-        Route::Forge | Route::Worker if method != Method::POST.as_str().as_bytes() => {
-            Decision::Refuse(Fault::NotPost, bodiless)
-        }
-        Route::Forge => posted(Door::Forge, body_length(head, fields)),
-        Route::Worker => posted(Door::Worker, body_length(head, fields)),
-        _ if method != Method::GET.as_str().as_bytes() => Decision::Refuse(Fault::NotGet, bodiless),
-        Route::Status => Decision::Show(Page::Status),
-        Route::Orders => Decision::Show(Page::Orders),
-        Route::Builds => {
-            let bytes = path.as_bytes();
-            Decision::ShowBuild(&bytes[bytes.len().min(8)..])
-        }
-        Route::History => Decision::ShowHistory(parameter(path)),
+        Some(Route::Forge) if is_post => posted(Door::Forge, body_length(head, fields)),
+        Some(Route::Worker) if is_post => posted(Door::Worker, body_length(head, fields)),
+        route => match read(route, path, method == Method::GET.as_str().as_bytes()) {
+            Ok(wanted) => Decision::Read(wanted),
+            Err(fault) => Decision::Refuse(fault, bodiless),
+        },
     }
 }
 

@@ -1,16 +1,17 @@
 //! What answers the requests that reach it.
-ghost use Rattle.std.specs.Prelude.{◌≡◌, ◌≤◌, ◌++◌, ℕ, List, Option, None, ⊤, false, length, OnOk, IsErrOf};
+ghost use Rattle.std.specs.Prelude.{◌≡◌, ◌≤◌, ◌++◌, List, ℕ, Option, None, ⊤, false, length, OnOk, IsErrOf};
 ghost use Rattle.gate_types.specs.declared.deliveries.Answer.{Answer};
 ghost use Rattle.gate_types.specs.Once.{answer_text};
 ghost use Rattle.gate_types.specs.Tap.{has_failed, Took, TookFront};
-ghost use Rattle.gate_book_trait.specs.Writes.{Stops};
-ghost use Rattle.gate_http.specs.Asked.{Asked, delivery, page, build, answer_status};
-ghost use Rattle.gate_http.specs.Exchange.{HasText};
+ghost use Rattle.gate_http.specs.declared.respond.Told.{Told};
+ghost use Rattle.gate_http.specs.Asked.{Asked, delivery, page, build, change, item, answer_status, told_status, told_text};
+ghost use Rattle.gate_http.specs.Asked.{Streamed, streamed_by};
+ghost use Rattle.gate_http.specs.Exchange.{HasText, Stops};
 ghost use Rattle.gate_http.specs.Fields.{body_limit};
 
-use gate_book_trait::HistoryFault;
+use crate::fault::Fault;
 use gate_types::deliveries::Answer;
-use gate_types::tap::Tap;
+use gate_types::tap::{Failed, Tap};
 use gate_wire::Door;
 use std::alloc::Global;
 use std::io::Write;
@@ -22,10 +23,58 @@ pub enum Page {
     Status,
     /// The orders that are shown.
     Orders,
+    /// The builds that run.
+    Running,
+}
+
+/// What is told to a question.
+#[derive(Drop)]
+pub enum Told {
+    /// An answer of the gate.
+    Answer(Answer),
+    /// No item has the serial.
+    NoItem,
+}
+
+/// What is written line by line.
+#[derive(Clone, Copy)]
+pub enum Stream<'a> {
+    /// The history of the queue of this name.
+    History(&'a str),
+    /// The same, from a place on.
+    HistoryFrom(&'a str, u64),
+    /// The accepted deliveries.
+    Deliveries,
+    /// Those behind the one of the id that this text writes.
+    DeliveriesAfter(&'a str),
+}
+
+/// Why lines were not written whole.
+#[derive(Clone, Copy, Debug, PartialEq, Eq)]
+pub enum StreamFault {
+    /// There is no such queue, or no such delivery; nothing was written.
+    Missing,
+    /// The store failed or memory was refused; nothing was written.
+    Unavailable,
+    /// The store failed or memory was refused later; a beginning was written.
+    Broken,
+    /// The writer failed; a beginning was written.
+    Write,
+}
+
+impl From<Failed> for StreamFault {
+    ghost use Rattle.std.specs.Prelude.{◌≡◌};
+    ghost use Rattle.gate_http.specs.declared.respond.StreamFault.TheVariants as fault;
+
+    ghost from_gives = { λ _ f. f ≡ fault.Write };
+
+    fn from(_failed: Failed) -> StreamFault {
+        StreamFault::Write
+    }
 }
 
 /// The status that an answer has over HTTP.
-pub(crate) fn status_of(answer: &Answer) -> u16
+fn answer_status(answer: &Answer) -> u16
     ensures { result ≡ answer_status answer.now }
 {
     match answer {
@@ -35,7 +84,7 @@ pub(crate) fn status_of(answer: &Answer) -> u16
 }
 
 /// The text of an answer.
-pub(crate) fn text_of(answer: &Answer) -> &str
+fn answer_text(answer: &Answer) -> &str
     ensures { result.now ≡ answer_text answer.now }
 {
     match answer {
@@ -44,49 +93,78 @@ pub(crate) fn text_of(answer: &Answer) -> &str
     }
 }
 
+/// The status of what is told.
+pub(crate) fn status_of(told: &Told) -> u16
+    ensures { result ≡ told_status told.now }
+{
+    match told {
+        Told::Answer(answer) => answer_status(answer),
+        Told::NoItem => Fault::NoItem.status(),
+    }
+}
+
+/// The text of what is told.
+pub(crate) fn text_of(told: &Told) -> &str
+    ensures { result.now ≡ told_text told.now }
+{
+    match told {
+        Told::Answer(answer) => answer_text(answer),
+        Told::NoItem => Fault::NoItem.text(),
+    }
+}
+
 /// What answers requests, one after another.
 pub trait Respond {
-    // the answer to what is asked in a state, and the state after it
-    ghost responds: { Self → Asked → Answer → Self → Type 0 };
+    // what is told to what is asked in a state, and the state after it
+    ghost responds: { Self → Asked → Told → Self → Type 0 };
 
-    // what is so of a queue's history text in a state, if there is such a queue, and the state after it was asked for
-    ghost recalls: { Self → List ℕ → (Option (List ℕ) → Type 0) → Self → Type 0 };
+    // what is so of the lines that are asked for in a state, if there are any, and the state after they were asked for
+    ghost recalls: { Self → Streamed → (Option (List ℕ) → Type 0) → Self → Type 0 };
 
     /// The answer to a delivery's bytes, by the door that they came in by.
     fn hear(&mut self, alloc: Global, door: Door, body: &[u8]) -> Answer
         requires { length body.now ≤ body_limit }
-        ensures { responds self.old (delivery door body.now) result self.new };
+        ensures { responds self.old (delivery door body.now) (Told.Answer result) self.new };
 
     /// A page.
     fn show(&mut self, alloc: Global, wanted: Page) -> Answer
-        ensures { responds self.old (page wanted) result self.new };
+        ensures { responds self.old (page wanted) (Told.Answer result) self.new };
 
     /// A build, by what stands for its number in the path.
-    fn show_build(&mut self, alloc: Global, id: &[u8]) -> Answer
-        ensures { responds self.old (build id.now) result self.new };
+    fn show_build(&mut self, alloc: Global, number: &[u8]) -> Answer
+        ensures { responds self.old (build number.now) (Told.Answer result) self.new };
 
-    /// Writes the front and then the history text of a queue.
+    /// A change, by what stands for its number in the path.
+    fn show_change(&mut self, alloc: Global, number: &[u8]) -> Answer
+        ensures { responds self.old (change number.now) (Told.Answer result) self.new };
+
+    /// An item, there or gone, by what stands for its serial in the path.
+    fn show_item(&mut self, alloc: Global, number: &[u8]) -> Told
+        ensures { responds self.old (item number.now) result self.new };
+
+    /// Writes the front and then the lines.
     ///
     /// # Errors
     ///
-    /// `NoQueue` where no queue has the name, and `Unavailable`: nothing was written. `Broken`, and `Write` where the
-    /// writer failed: a beginning was written.
-    fn show_history<W: Write>(
+    /// `Missing` where there is no such queue, or no such delivery, and `Unavailable`: nothing was written. `Broken`,
+    /// and `Write` where the writer failed: a beginning was written.
+    fn show_stream<W: Write>(
         &mut self,
-        queue: &str,
+        alloc: Global,
+        wanted: Stream<'_>,
         front: &[u8],
         w: &mut Tap<W>,
-    ) -> Result<(), HistoryFault>
+    ) -> Result<(), StreamFault>
         requires { has_failed w.old ≡ false }
-        ensures whole { OnOk result (recalls self.old queue.now
+        ensures whole { OnOk result (recalls self.old (streamed_by wanted.entry)
             (HasText (λ text. Took W.contents w.old w.new (front.now ++ text))) self.new) }
-        ensures missing { IsErrOf result HistoryFault.NoQueue →
-            recalls self.old queue.now (λ text. text ≡ None) self.new }
-        ensures unavailable { IsErrOf result HistoryFault.Unavailable →
-            recalls self.old queue.now (λ text. ⊤) self.new }
-        ensures broken { IsErrOf result HistoryFault.Broken → recalls self.old queue.now
+        ensures missing { IsErrOf result StreamFault.Missing →
+            recalls self.old (streamed_by wanted.entry) (λ text. text ≡ None) self.new }
+        ensures unavailable { IsErrOf result StreamFault.Unavailable →
+            recalls self.old (streamed_by wanted.entry) (λ text. ⊤) self.new }
+        ensures broken { IsErrOf result StreamFault.Broken → recalls self.old (streamed_by wanted.entry)
             (HasText (λ text. TookFront W.contents w.old w.new (front.now ++ text))) self.new }
-        ensures write { IsErrOf result HistoryFault.Write → recalls self.old queue.now
+        ensures write { IsErrOf result StreamFault.Write → recalls self.old (streamed_by wanted.entry)
             (HasText (λ text. TookFront W.contents w.old w.new (front.now ++ text))) self.new }
         ensures stops { Stops w.old w.new result };
 }

@@ -1,7 +1,7 @@
 //! The text of a response, and its writing.
 ghost use Rattle.std.specs.Prelude.{◌≡◌, ◌≤◌, ◌+◌, ◌++◌, [], false, true, OnOk, OnErr, length, vec_len, vec_capacity};
 ghost use Rattle.gate_types.specs.Tap.{inside, has_failed, Took, TookFront};
-ghost use Rattle.gate_http.specs.Response.{phrase, line, status_line, head_text, allow_line, history_head};
+ghost use Rattle.gate_http.specs.Response.{phrase, line, status_line, head_text, allow_line, stream_head, front_in, head_in, written_in};
 
 use crate::fault::Fault;
 use gate_types::tap::{Failed, Tap};
@@ -14,6 +14,15 @@ pub(crate) const HEAD_ROOM: usize = 256;
 
 /// The statuses that are answered.
 const STATUSES: [u16; 11] = [200, 400, 404, 405, 409, 411, 413, 422, 431, 503, 507];
+
+/// How an answer is written.
+#[derive(Clone, Copy)]
+pub enum Form {
+    /// A response: its head, and the content.
+    Response,
+    /// The content alone.
+    Content,
+}
 
 /// The phrase of a status that is answered. Any other has none here, whatever the crate has for it.
 fn phrase_of(status: u16) -> &'static str
@@ -94,38 +103,63 @@ fn put_head(room: &mut Vec<u8>, status: u16, kind: &str, len: usize, allow: &str
     put(room, "Connection: close\r\n\r\n");
 }
 
-/// The head of the response with a history.
-pub(crate) fn history_head() -> &'static str
-    ensures { result.now ≡ history_head }
+/// The head of an answer, which has one if it is a response.
+fn put_head_in(room: &mut Vec<u8>, form: Form, status: u16, kind: &str, len: usize, allow: &str)
+    requires empty { room.old.items ≡ [] }
+    requires room { 256 ≤ vec_capacity room.old }
+    requires kind { length kind.now ≤ 16 }
+    requires allow { length allow.now ≤ 13 }
+    ensures { room.new.items ≡ head_in form (head_text status kind.now len allow.now) }
+{
+    match form {
+        Form::Response => put_head(room, status, kind, len, allow),
+        Form::Content => {}
+    }
+}
+
+/// The head of a response that is written line by line.
+fn stream_head() -> &'static str
+    ensures { result.now ≡ stream_head }
 {
     "HTTP/1.1 200 OK\r\nContent-Type: text/plain\r\nConnection: close\r\n\r\n"
 }
 
-/// Writes a response: its head, which tells of a body of `len` bytes, and the body or nothing. The
-/// room is that for the head.
-pub(crate) fn write_response<W: Write>(
+/// What stands before the lines of an answer.
+pub(crate) fn front_of(form: Form) -> &'static str
+    ensures { result.now ≡ front_in form }
+{
+    match form {
+        Form::Response => stream_head(),
+        Form::Content => "",
+    }
+}
+
+/// Writes an answer: a head, which tells of a content of `len` bytes, if the answer is a response; and the content
+/// or nothing. The room is that for the head.
+pub(crate) fn write_answer<W: Write>(
     writer: &mut Tap<W>,
     room: &mut Vec<u8>,
+    form: Form,
     status: u16,
     kind: &str,
     len: usize,
     allow: &str,
-    body: &str,
+    content: &str,
 ) -> Result<(), Failed>
     requires writer { has_failed writer.old ≡ false }
     requires empty { room.old.items ≡ [] }
     requires room { 256 ≤ vec_capacity room.old }
     requires kind { length kind.now ≤ 16 }
     requires allow { length allow.now ≤ 13 }
-    ensures ok { OnOk result
-        (Took W.contents writer.old writer.new (head_text status kind.now len allow.now ++ body.now)) }
-    ensures err { OnErr result
-        (TookFront W.contents writer.old writer.new (head_text status kind.now len allow.now ++ body.now)) }
+    ensures ok { OnOk result (Took W.contents writer.old writer.new
+        (written_in form (head_text status kind.now len allow.now) content.now)) }
+    ensures err { OnErr result (TookFront W.contents writer.old writer.new
+        (written_in form (head_text status kind.now len allow.now) content.now)) }
     ensures unfailed { OnOk result (has_failed writer.new ≡ false) }
     ensures failed { OnErr result (has_failed writer.new ≡ true) }
 {
-    put_head(room, status, kind, len, allow);
+    put_head_in(room, form, status, kind, len, allow);
     writer.write_all(room.as_slice())?;
-    writer.write_all(body.as_bytes())?;
+    writer.write_all(content.as_bytes())?;
     Ok(())
 }

@@ -1,13 +1,14 @@
 //! One request of a connection is served.
-ghost use Rattle.std.specs.Prelude.{◌≡◌, ℕ, List, false, true, OnOk, IfOk, IsErrOf};
+ghost use Rattle.std.specs.Prelude.{◌≡◌, false, true, OnOk, IfOk, IsErrOf};
 ghost use Rattle.gate_types.specs.Tap.{inside, has_failed, Took, TookFront};
-ghost use Rattle.gate_http.specs.Way.{Request, way_of, history};
+ghost use Rattle.gate_http.specs.Asked.{Streamed};
+ghost use Rattle.gate_http.specs.Way.{Request, way_of, stream};
 ghost use Rattle.gate_http.specs.Exchange.{IsRead, Waits};
-ghost use Rattle.gate_http.specs.Serving.{ServesBy, ServesHistory};
+ghost use Rattle.gate_http.specs.Serving.{ServesBy};
 
 use crate::engine::answer_request;
 use crate::served::Served;
-use gate_book_trait::Book;
+use gate_archive::Archive;
 use gate_core::{Gate, IoFault};
 use gate_types::tap::Tap;
 use std::alloc::Global;
@@ -21,9 +22,9 @@ use std::io::{Read, Write};
 ///
 /// `Read`: the reader failed before the request was there; nothing was acted on or written.
 /// `Write`: the writer failed within the answer; a delivery stands, and is answered again if it is
-/// sent again under its id. `NoMemory`: nothing was read. `Store`: a history broke off, since the
-/// store failed or memory was refused behind its first line; a beginning of the answer was written.
-pub fn serve_one<B: Book, R: Read, W: Write>(
+/// sent again under its id. `NoMemory`: nothing was read. `Store`: a history or the deliveries broke off, since the
+/// store failed or memory was refused behind the first line; a beginning of the answer was written.
+pub fn serve_one<B: Archive, R: Read, W: Write>(
     alloc: Global,
     gate: &mut Gate<B>,
     reader: &mut Tap<R>,
@@ -46,11 +47,11 @@ pub fn serve_one<B: Book, R: Read, W: Write>(
         × (gate.new ≡ gate.old) × (writer.new ≡ writer.old) }
     ensures memory { IsErrOf result IoFault.NoMemory →
         (gate.new ≡ gate.old) × (reader.new ≡ reader.old) × (writer.new ≡ writer.old) }
-    // it was a history, of which a beginning was written, and the content stays
+    // it was lines, of which a beginning was written, and the content stays
     ensures store { IsErrOf result IoFault.Store → (r : Request)
         × IsRead (R.remaining (inside reader.old)) (R.remaining (inside reader.new)) r
-        × (name : List ℕ) × (way_of r ≡ history name)
-        × ServesHistory B.IsTrusted B.Holds B.LeavesOneOf gate.old gate.new name (Served.Answered 200)
+        × (wanted : Streamed) × (way_of r ≡ stream wanted)
+        × ServesBy B.IsTrusted B.Holds B.LeavesOneOf gate.old gate.new (stream wanted) (Served.Answered 200)
         (TookFront W.contents writer.old writer.new) }
     ensures unfailed { OnOk result (has_failed writer.new ≡ false) }
     ensures store_unfailed { IsErrOf result IoFault.Store → has_failed writer.new ≡ false }

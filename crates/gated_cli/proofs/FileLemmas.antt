@@ -144,6 +144,8 @@ no_file_fault X (Err fault.Listener) h = refl
 no_file_fault X (Err fault.SettingsFile) h = refl
 no_file_fault X (Err fault.NoQueue) h = refl
 no_file_fault X (Err fault.Store) h = refl
+no_file_fault X (Err fault.NoDelivery) h = refl
+no_file_fault X (Err fault.Refused) h = refl
 
 -- and one of serving over a file
 serving_over : (f : Fault) → IsOfServing f → IsOfServingOver f
@@ -157,6 +159,8 @@ serving_over fault.Read of = absurd of
 serving_over fault.SettingsFile of = absurd of
 serving_over fault.NoQueue of = absurd of
 serving_over fault.Store of = absurd of
+serving_over fault.NoDelivery of = absurd of
+serving_over fault.Refused of = absurd of
 
 pub serving_over_file : (X : Fault → Type 0) (r : Result (Unit {0}) Fault) → IfErr r (λ f. IsOfServing f × X f) → IfErr r (λ f. IsOfServingOver f × X f)
 serving_over_file X (Ok x) h = tt
@@ -183,6 +187,8 @@ making_of fault.SettingsFile of = absurd of
 making_of fault.Listener of = absurd of
 making_of fault.NoQueue of = absurd of
 making_of fault.Store of = absurd of
+making_of fault.NoDelivery of = absurd of
+making_of fault.Refused of = absurd of
 
 -- what was made, or why not, and then closed
 pub made_ends : (done result : Result (Unit {0}) Fault) → OnErr done (result ≡ done) → OnOk done (IfErr result (λ f. f ≡ fault.Store)) →
@@ -204,6 +210,8 @@ answering_of fault.SettingsFile b a stops cut other = absurd (other (λ e. cc) (
 answering_of fault.Listener b a stops cut other = absurd (other (λ e. cc) (λ e. cc)).0
 answering_of fault.NoQueue b a stops cut other = absurd (other (λ e. cc) (λ e. cc)).0
 answering_of fault.Store b a stops cut other = absurd (other (λ e. cc) (λ e. cc)).0
+answering_of fault.NoDelivery b a stops cut other = absurd (other (λ e. cc) (λ e. cc)).0
+answering_of fault.Refused b a stops cut other = absurd (other (λ e. cc) (λ e. cc)).0
 
 -- what was answered, or why not, and then closed
 pub delivery_ends : (done result : Result (Unit {0}) Fault) (b a : Streams) → OnErr done (result ≡ done) → OnOk done (IfErr result (λ f. f ≡ fault.Store)) →

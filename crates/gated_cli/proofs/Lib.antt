@@ -4,3 +4,4 @@ pub mod CheckLemmas
 mod FileLemmas
 pub mod ShowLemmas
 pub mod TalkLemmas
+mod AskLemmas

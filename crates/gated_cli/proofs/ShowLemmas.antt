@@ -4,10 +4,10 @@ use Rattle.std.specs.Prelude.{Err, IfErr, None, Ok, OnErr, OnOk, Result}
 use Rattle.gate_types.specs.Tap.{has_failed, Took, TookFront}
 use Rattle.gate_types.specs.declared.tap.Tap.{Tap}
 use Rattle.gate_core.specs.Gated.{Gated}
-use Rattle.gated_cli.specs.Doing.{Looks, Prints, beside, status_of}
-use Rattle.gated_cli.specs.Ending.{HistoryEnds, StatusEnds}
+use Rattle.gated_cli.specs.Doing.{Looks, Prints, Streams, beside, status_of}
+use Rattle.gated_cli.specs.Ending.{AskingEnds, HistoryEnds, LinesEnd, StatusEnds}
 use Rattle.gated_cli.specs.OverFile.{file_fault}
-use Rattle.gated_cli.specs.Showing.{LeavesStatus, StopsHistory, StopsStatus, WritesStatus}
+use Rattle.gated_cli.specs.Showing.{LeavesStatus, StopsContent, StopsHistory, StopsLines, StopsStatus, WritesStatus}
 use Rattle.gated_cli.specs.declared.run.fault.Fault.{Fault}
 use Rattle.gated_cli.specs.declared.run.fault.Fault.TheVariants as fault
 
@@ -37,6 +37,8 @@ status_breaks held r f g old new is writes opened stops =
     go fault.SettingsFile leaves opened stops = absurd stops
     go fault.NoQueue leaves opened stops = absurd stops
     go fault.Store leaves opened stops = absurd stops
+    go fault.NoDelivery leaves opened stops = absurd stops
+    go fault.Refused leaves opened stops = absurd stops
 
 -- a text is printed
 pub prints : {W : Type 0} (held : W → Option (List ℕ)) (old new : Tap W) → (has_failed new ≡ false) × (text : List ℕ) × Took held old new text →
@@ -60,6 +62,8 @@ status_ends held old new fault.Listener h left failed = absurd h
 status_ends held old new fault.SettingsFile h left failed = absurd h
 status_ends held old new fault.NoQueue h left failed = absurd h
 status_ends held old new fault.Store h left failed = absurd h
+status_ends held old new fault.NoDelivery h left failed = absurd h
+status_ends held old new fault.Refused h left failed = absurd h
 
 -- what was printed of it, or why not, and then closed
 pub status_closes : {W : Type 0} (held : W → Option (List ℕ)) (old new : Tap W) (done result : Result (Unit {0}) Fault) →
@@ -92,17 +96,79 @@ history_ends held old new fault.Read h left failed = absurd h
 history_ends held old new fault.NoMemory h left failed = absurd h
 history_ends held old new fault.Listener h left failed = absurd h
 history_ends held old new fault.SettingsFile h left failed = absurd h
+history_ends held old new fault.NoDelivery h left failed = absurd h
+history_ends held old new fault.Refused h left failed = absurd h
 
--- what was printed of it, or why not, and then closed
+-- what was printed, or why not, and then closed: how it ends is known of each fault of printing, and where it can't be closed
+pub look_closes : {W : Type 0} (held : W → Option (List ℕ)) (old new : Tap W) (Stops : Fault → Type 0) (Ends : Fault → Streams → Streams → Type 0)
+    (done result : Result (Unit {0}) Fault) → OnErr done (result ≡ done) → OnOk done (IfErr result (λ f. f ≡ fault.Store)) →
+    OnOk done (has_failed new ≡ false) → IfErr done Stops →
+    ((f : Fault) → Stops f → (left : Option (List ℕ)) → (failed : Bool) → Ends f (beside held left failed old) (beside held left failed new)) →
+    ((b a : Streams) → Looks b a → Ends fault.Store b a) →
+    IfErr result (λ f. (left : Option (List ℕ)) → (failed : Bool) → Ends f (beside held left failed old) (beside held left failed new))
+look_closes held old new Stops Ends (Ok x) (Ok y) kept store ok err stopped unclosed = tt
+look_closes held old new Stops Ends (Ok x) (Err f) kept store ok err stopped unclosed =
+    λ left failed. subst (λ f. Ends f (beside held left failed old) (beside held left failed new)) (sym store)
+    (unclosed (beside held left failed old) (beside held left failed new) (looks held old new ok left failed))
+look_closes held old new Stops Ends (Err f) result kept store ok err stopped unclosed =
+    subst (λ r. IfErr r (λ f. (left : Option (List ℕ)) → (failed : Bool) → Ends f (beside held left failed old) (beside held left failed new))) (sym kept) (stopped f err)
+
 pub history_closes : {W : Type 0} (held : W → Option (List ℕ)) (old new : Tap W) (done result : Result (Unit {0}) Fault) →
     OnErr done (result ≡ done) → OnOk done (IfErr result (λ f. f ≡ fault.Store)) →
     OnOk done (has_failed new ≡ false) → IfErr done (StopsHistory old new) →
     IfErr result (λ f. (left : Option (List ℕ)) → (failed : Bool) → HistoryEnds f (beside held left failed old) (beside held left failed new))
-history_closes held old new (Ok x) (Ok y) kept store ok err = tt
-history_closes held old new (Ok x) (Err f) kept store ok err =
-    λ left failed. subst (λ f. HistoryEnds f (beside held left failed old) (beside held left failed new)) (sym store) (looks held old new ok left failed)
-history_closes held old new (Err f) result kept store ok err =
-    subst (λ r. IfErr r (λ f. (left : Option (List ℕ)) → (failed : Bool) → HistoryEnds f (beside held left failed old) (beside held left failed new))) (sym kept) (history_ends held old new f err)
+history_closes held old new done result kept store ok err =
+    look_closes held old new (StopsHistory old new) HistoryEnds done result kept store ok err (history_ends held old new) (λ b a l. l)
+
+-- ---- deliveries
+
+-- a fault of printing deliveries, on the streams
+lines_end : {W : Type 0} (held : W → Option (List ℕ)) (old new : Tap W) (f : Fault) → StopsLines old new f →
+    (left : Option (List ℕ)) → (failed : Bool) → LinesEnd f (beside held left failed old) (beside held left failed new)
+lines_end held old new fault.Write h left failed = record { unread = refl; failed = h }
+lines_end held old new fault.Store h left failed = record { unread = refl; unfailed = h }
+lines_end held old new fault.Unavailable h left failed = ap (beside held left failed) h
+lines_end held old new fault.NoDelivery h left failed = ap (beside held left failed) h
+lines_end held old new (fault.File o) h left failed = (tt, ap (beside held left failed) h)
+lines_end held old new (fault.Settings s) h left failed = absurd h
+lines_end held old new fault.Read h left failed = absurd h
+lines_end held old new fault.NoMemory h left failed = absurd h
+lines_end held old new fault.Listener h left failed = absurd h
+lines_end held old new fault.SettingsFile h left failed = absurd h
+lines_end held old new fault.NoQueue h left failed = absurd h
+lines_end held old new fault.Refused h left failed = absurd h
+
+pub lines_close : {W : Type 0} (held : W → Option (List ℕ)) (old new : Tap W) (done result : Result (Unit {0}) Fault) →
+    OnErr done (result ≡ done) → OnOk done (IfErr result (λ f. f ≡ fault.Store)) →
+    OnOk done (has_failed new ≡ false) → IfErr done (StopsLines old new) →
+    IfErr result (λ f. (left : Option (List ℕ)) → (failed : Bool) → LinesEnd f (beside held left failed old) (beside held left failed new))
+lines_close held old new done result kept store ok err =
+    look_closes held old new (StopsLines old new) LinesEnd done result kept store ok err (lines_end held old new) (λ b a l. l)
+
+-- ---- what is asked as over HTTP
+
+-- a fault of it, on the streams
+asking_ends : {W : Type 0} (held : W → Option (List ℕ)) (old new : Tap W) (f : Fault) → StopsContent old new f →
+    (left : Option (List ℕ)) → (failed : Bool) → AskingEnds f (beside held left failed old) (beside held left failed new)
+asking_ends held old new fault.Write h left failed = record { unread = refl; failed = h }
+asking_ends held old new fault.Store h left failed = record { unread = refl; unfailed = h }
+asking_ends held old new fault.Refused h left failed = record { unread = refl; unfailed = h }
+asking_ends held old new fault.NoMemory h left failed = (tt, ap (beside held left failed) h)
+asking_ends held old new (fault.File o) h left failed = (tt, ap (beside held left failed) h)
+asking_ends held old new (fault.Settings s) h left failed = absurd h
+asking_ends held old new fault.Read h left failed = absurd h
+asking_ends held old new fault.Unavailable h left failed = absurd h
+asking_ends held old new fault.Listener h left failed = absurd h
+asking_ends held old new fault.SettingsFile h left failed = absurd h
+asking_ends held old new fault.NoQueue h left failed = absurd h
+asking_ends held old new fault.NoDelivery h left failed = absurd h
+
+pub asking_closes : {W : Type 0} (held : W → Option (List ℕ)) (old new : Tap W) (done result : Result (Unit {0}) Fault) →
+    OnErr done (result ≡ done) → OnOk done (IfErr result (λ f. f ≡ fault.Store)) →
+    OnOk done (has_failed new ≡ false) → IfErr done (StopsContent old new) →
+    IfErr result (λ f. (left : Option (List ℕ)) → (failed : Bool) → AskingEnds f (beside held left failed old) (beside held left failed new))
+asking_closes held old new done result kept store ok err =
+    look_closes held old new (StopsContent old new) AskingEnds done result kept store ok err (asking_ends held old new) (λ b a l. l)
 
 -- ---- either
 

@@ -12,7 +12,7 @@ use Rattle.gated_cli.specs.Ending.{Tells}
 use Rattle.gated_cli.specs.Faults.{line_of}
 use Rattle.gated_cli.specs.Telling.{TellsUpTo, ToldBy, TellsBy}
 use Rattle.gated_command.specs.declared.words.Cmd.{Cmd}
-use Rattle.gated_command.specs.declared.words.Cmd.TheVariants.{Check, Init, Replay, Deliver, Status, History, Serve, Migrate}
+use Rattle.gated_command.specs.declared.words.Cmd.TheVariants.{Check, Init, Replay, Deliver, Status, History, Deliveries, Get, Serve, Migrate}
 use Rattle.gated_cli.specs.declared.run.fault.Fault.{Fault}
 use Rattle.gated_cli.proofs.TellLemmas.{writes_sooner}
 
@@ -67,6 +67,8 @@ module _ {E : Type 0} (held : E → Option (List ℕ)) where
   told_then (Deliver settings file) old mid new f unfailed so_far told silent = alone old mid new f unfailed so_far told
   told_then (Status settings file) old mid new f unfailed so_far told silent = alone old mid new f unfailed so_far told
   told_then (History settings file queue) old mid new f unfailed so_far told silent = alone old mid new f unfailed so_far told
+  told_then (Deliveries settings file after_id) old mid new f unfailed so_far told silent = alone old mid new f unfailed so_far told
+  told_then (Get settings file path) old mid new f unfailed so_far told silent = alone old mid new f unfailed so_far told
   told_then (Migrate settings file) old mid new f unfailed so_far told silent = alone old mid new f unfailed so_far told
   told_then (Serve settings file port count) old mid new f unfailed so_far told silent =
       behind count old mid new f (has_failed mid) refl so_far told silent

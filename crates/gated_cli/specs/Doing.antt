@@ -8,7 +8,7 @@ use Rattle.gate_types.specs.Tap.{inside, has_failed}
 use Rattle.gate_types.specs.declared.tap.Tap.{Tap}
 use Rattle.gate_config.specs.Reading.{said_by}
 use Rattle.gated_command.specs.declared.words.Cmd.{Cmd}
-use Rattle.gated_command.specs.declared.words.Cmd.TheVariants.{Check, Init, Replay, Deliver, Status, History, Serve, Migrate}
+use Rattle.gated_command.specs.declared.words.Cmd.TheVariants.{Check, Init, Replay, Deliver, Status, History, Deliveries, Get, Serve, Migrate}
 use Rattle.gate_migration.specs.declared.migrating.Migrated.{Migrated}
 use Rattle.gate_migration.specs.declared.migrating.Migrated.TheVariants as migrated
 use Rattle.gate_core.specs.Gated.{Gated, opened}
@@ -130,5 +130,7 @@ Does (Replay settings status) before after = Replays status before after
 Does (Deliver settings file) before after = Delivers before after
 Does (Status settings file) before after = Prints before after
 Does (History settings file queue) before after = Looks before after
+Does (Deliveries settings file after_id) before after = Looks before after
+Does (Get settings file path) before after = Looks before after
 Does (Serve settings file port count) before after = Announces port before after
 Does (Migrate settings file) before after = Migrates before after

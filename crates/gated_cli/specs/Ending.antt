@@ -13,7 +13,7 @@ use Rattle.gated_cli.specs.Doing.{Streams, Answers, Delivers, HasSettings, setti
 use Rattle.gated_cli.specs.Doing.{Announces, IsPortFor, Looks, Prints, listening_line, migrated_text}
 use Rattle.gate_migration.specs.declared.migrating.Migrated.{Migrated}
 use Rattle.gated_command.specs.declared.words.Cmd.{Cmd}
-use Rattle.gated_command.specs.declared.words.Cmd.TheVariants.{Check, Init, Replay, Deliver, Status, History, Serve, Migrate}
+use Rattle.gated_command.specs.declared.words.Cmd.TheVariants.{Check, Init, Replay, Deliver, Status, History, Deliveries, Get, Serve, Migrate}
 use Rattle.gated_cli.specs.declared.run.fault.Fault.{Fault}
 use Rattle.gated_cli.specs.declared.run.fault.Fault.TheVariants as fault
 
@@ -143,6 +143,21 @@ HistoryEnds fault.Unavailable before after = after ≡ before
 HistoryEnds fault.NoQueue before after = after ≡ before
 HistoryEnds fault before after = IsEarly fault × (after ≡ before)
 
+-- how printing deliveries ends with a fault; it broke off, or the file can't be closed, where the store failed
+abbrev pub LinesEnd : Fault → Streams → Streams → Type 0
+LinesEnd fault.Write before after = LookIsCut before after
+LinesEnd fault.Store before after = Looks before after
+LinesEnd fault.Unavailable before after = after ≡ before
+LinesEnd fault.NoDelivery before after = after ≡ before
+LinesEnd fault before after = IsEarly fault × (after ≡ before)
+
+-- how asking as over HTTP ends with a fault: its content is printed where the answer has another status than 200
+abbrev pub AskingEnds : Fault → Streams → Streams → Type 0
+AskingEnds fault.Write before after = LookIsCut before after
+AskingEnds fault.Store before after = Looks before after
+AskingEnds fault.Refused before after = Looks before after
+AskingEnds fault before after = IsEarly fault × (after ≡ before)
+
 -- the output failed within the line that names the port
 pub record AnnouncementIsCut (asked : ℕ) (before after : Streams) : Type 0 where
   pub port : ℕ
@@ -191,6 +206,8 @@ EndsBy fault (Deliver settings file) before after = DeliveryEnds fault before af
 EndsBy fault (Replay settings status) before after = ReplayEnds status fault before after
 EndsBy fault (Status settings file) before after = StatusEnds fault before after
 EndsBy fault (History settings file queue) before after = HistoryEnds fault before after
+EndsBy fault (Deliveries settings file after_id) before after = LinesEnd fault before after
+EndsBy fault (Get settings file path) before after = AskingEnds fault before after
 EndsBy fault (Serve settings file port count) before after = ServingEnds port fault before after
 EndsBy fault (Migrate settings file) before after = MigrationEnds fault before after
 

@@ -3,6 +3,8 @@ use Rattle.std.specs.Prelude.{ℕ, List, [], ◌∷◌, ◌++◌, codes}
 use Rattle.gate_config.specs.Words.{word_of}
 use Rattle.gate_config.specs.declared.fault.ConfigFault.{ConfigFault}
 use Rattle.gate_config.specs.declared.fault.ConfigFault.TheVariants as config
+use Rattle.gate_archive.specs.declared.fault.FeedFault.{FeedFault}
+use Rattle.gate_archive.specs.declared.fault.FeedFault.TheVariants as feed
 use Rattle.gate_book_trait.specs.declared.fault.HistoryFault.{HistoryFault}
 use Rattle.gate_book_trait.specs.declared.fault.HistoryFault.TheVariants as history
 use Rattle.gate_core.specs.declared.fault.IoFault.{IoFault}
@@ -49,6 +51,8 @@ text_of fault.Listener = codes "I4 listen"
 text_of fault.SettingsFile = codes "I5 settings-file"
 text_of fault.NoQueue = codes "I6 no-queue"
 text_of fault.Store = codes "I7 store"
+text_of fault.NoDelivery = codes "I8 no-delivery"
+text_of fault.Refused = codes "I9 refused"
 
 -- the line that tells a fault
 abbrev pub line_of : Fault → List ℕ
@@ -67,3 +71,10 @@ of_history history.NoQueue = fault.NoQueue
 of_history history.Unavailable = fault.Unavailable
 of_history history.Broken = fault.Store
 of_history history.Write = fault.Write
+
+-- a fault of printing deliveries
+abbrev pub of_feed : FeedFault → Fault
+of_feed feed.NoDelivery = fault.NoDelivery
+of_feed feed.Unavailable = fault.Unavailable
+of_feed feed.Broken = fault.Store
+of_feed feed.Write = fault.Write

@@ -1,10 +1,18 @@
 -- What printing the texts of a gate writes.
-use Rattle.std.specs.Prelude.{◌≡◌, ⊤, true, false, ℕ, List, [], Option, None, Result, MatchResult}
+use Rattle.std.specs.Prelude.{◌≡◌, ◌≢◌, ⊤, true, false, ℕ, List, [], Option, Some, None, option_map, Result, Ok, Err, MatchResult}
 use Rattle.gate_types.specs.Tap.{has_failed, Took, TookFront}
 use Rattle.gate_types.specs.declared.tap.Tap.{Tap}
+use Rattle.gate_types.specs.declared.records.Id.{Id}
+use Rattle.gate_archive.specs.Feed.{fed, feed_lines, id_named}
+use Rattle.gate_archive.specs.Writes.{TookSome}
 use Rattle.gate_book_trait.specs.Reads.{queue_named}
 use Rattle.gate_book_trait.specs.Writes.{OfQueue}
 use Rattle.gate_core.specs.Gated.{Gated}
+use Rattle.gate_http.specs.declared.response.Form.TheVariants as form
+use Rattle.gate_http.specs.declared.served.Served.{Served}
+use Rattle.gate_http.specs.declared.served.Served.TheVariants.{Answered}
+use Rattle.gate_http.specs.Answer.{Answers as AnswersBy}
+use Rattle.gate_http.specs.Got.{way_got}
 use Rattle.gated_cli.specs.Doing.{status_of}
 use Rattle.gated_cli.specs.declared.run.fault.Fault.{Fault}
 use Rattle.gated_cli.specs.declared.run.fault.Fault.TheVariants as fault
@@ -52,3 +60,93 @@ StopsHistory old new fault.Unavailable = new ≡ old
 StopsHistory old new fault.NoQueue = new ≡ old
 StopsHistory old new (fault.File f) = new ≡ old
 StopsHistory old new _ = ⊥
+
+-- ---- accepted deliveries
+
+-- more than any gate accepts
+abbrev pub most_told : ℕ
+most_told = 18446744073709551615
+
+-- behind what a text that writes this id is asked; a text that writes none names no delivery
+abbrev pub behind_named : Option Id → Result (Option Id) Fault
+behind_named None = Err fault.NoDelivery
+behind_named (Some id) = Ok (Some id)
+
+-- behind what is asked: behind the delivery whose id a text writes, or, without a text, from the first on
+abbrev pub cursor : Option (List ℕ) → Result (Option Id) Fault
+cursor None = Ok None
+cursor (Some text) = behind_named (id_named text)
+
+-- the lines of the deliveries there, if there is such a place
+abbrev pub lines_behind : Gated → Result (Option Id) Fault → Option (List ℕ)
+lines_behind g (Ok after) = option_map feed_lines (fed after most_told g.content.kept)
+lines_behind g (Err f) = None
+
+-- the lines of all accepted deliveries, or of those behind that of the id that a text writes, if there is one
+abbrev pub lines_told : Gated → Option (List ℕ) → Option (List ℕ)
+lines_told g after = lines_behind g (cursor after)
+
+-- there are these lines, and this is so of them
+pub record OfLines (told : Option (List ℕ)) (P : List ℕ → Type 0) : Type 0 where
+  pub lines : List ℕ
+  pub are : told ≡ Some lines
+  pub so : P lines
+
+-- what a fault leaves of the lines of deliveries: some first bytes; no delivery has the id at `NoDelivery`
+abbrev pub LeavesLines : {W : Type 0} → Option (List ℕ) → (W → Option (List ℕ)) → Tap W → Tap W → Fault → Type 0
+LeavesLines told held old new fault.Write = OfLines told (TookSome held old new)
+LeavesLines told held old new fault.Store = OfLines told (TookSome held old new)
+LeavesLines told held old new fault.NoDelivery = told ≡ None
+LeavesLines told held old new _ = ⊤
+
+-- the lines of deliveries are written, or what a fault leaves of them
+abbrev pub WritesLines : {W : Type 0} → Option (List ℕ) → (W → Option (List ℕ)) → Tap W → Tap W →
+    Result (Unit {0}) Fault → Type 0
+WritesLines told held old new result =
+    MatchResult result (λ _. OfLines told (Took held old new)) (LeavesLines told held old new)
+
+-- what a fault of it leaves of the output, whatever the gate is
+abbrev pub StopsLines : {W : Type 0} → Tap W → Tap W → Fault → Type 0
+StopsLines old new fault.Write = has_failed new ≡ true
+StopsLines old new fault.Store = has_failed new ≡ false
+StopsLines old new fault.Unavailable = new ≡ old
+StopsLines old new fault.NoDelivery = new ≡ old
+StopsLines old new (fault.File f) = new ≡ old
+StopsLines old new _ = ⊥
+
+-- ---- what is asked as over HTTP
+
+-- asking ends well at the status 200, and else with `Refused`
+abbrev pub IsEndedBy : Served → Result (Unit {0}) Fault → Type 0
+IsEndedBy served result =
+    MatchResult result (λ _. served ≡ Answered 200) (λ f. (f ≡ fault.Refused) × (served ≢ Answered 200))
+
+-- a gate answers a GET of a path so, and this is so of the content
+abbrev pub OfContent : Gated → List ℕ → Served → (List ℕ → Type 0) → Type 0
+OfContent g path served Takes = (text : List ℕ) × Takes text × AnswersBy form.Content g (way_got path) served text g
+
+-- what a fault leaves of the content: all of it where the answer has another status than 200; else a beginning, or
+-- nothing
+abbrev pub LeavesContent : {W : Type 0} → Gated → List ℕ → (W → Option (List ℕ)) → Tap W → Tap W → Fault → Type 0
+LeavesContent g path held old new fault.Refused =
+    (served : Served) × (served ≢ Answered 200) × OfContent g path served (Took held old new)
+LeavesContent g path held old new fault.Write = (served : Served) × OfContent g path served (TookFront held old new)
+LeavesContent g path held old new fault.Store = OfContent g path (Answered 200) (TookFront held old new)
+LeavesContent g path held old new _ = new ≡ old
+
+-- the content of an answer of the status 200 is written, or what a fault leaves of the content
+abbrev pub WritesContent : {W : Type 0} → Gated → List ℕ → (W → Option (List ℕ)) → Tap W → Tap W →
+    Result (Unit {0}) Fault → Type 0
+WritesContent g path held old new result =
+    MatchResult result (λ _. OfContent g path (Answered 200) (Took held old new))
+    (LeavesContent g path held old new)
+
+-- what a fault of it leaves of the output, whatever the gate is: the content is written where it is one of another
+-- status than 200
+abbrev pub StopsContent : {W : Type 0} → Tap W → Tap W → Fault → Type 0
+StopsContent old new fault.Write = has_failed new ≡ true
+StopsContent old new fault.Store = has_failed new ≡ false
+StopsContent old new fault.Refused = has_failed new ≡ false
+StopsContent old new fault.NoMemory = new ≡ old
+StopsContent old new (fault.File f) = new ≡ old
+StopsContent old new _ = ⊥

@@ -6,7 +6,7 @@ use Rattle.gate_http.specs.Connections.{AreTold, fault_lines}
 use Rattle.gated_cli.specs.Ending.{Tells}
 use Rattle.gated_cli.specs.Faults.{line_of}
 use Rattle.gated_command.specs.declared.words.Cmd.{Cmd}
-use Rattle.gated_command.specs.declared.words.Cmd.TheVariants.{Check, Init, Replay, Deliver, Status, History, Serve, Migrate}
+use Rattle.gated_command.specs.declared.words.Cmd.TheVariants.{Check, Init, Replay, Deliver, Status, History, Deliveries, Get, Serve, Migrate}
 use Rattle.gated_cli.specs.declared.run.fault.Fault.{Fault}
 
 -- at most so many faults of connections are told, by a line each; a writer that failed took a beginning
@@ -21,6 +21,8 @@ ToldBy held (Replay settings status) old new = new ≡ old
 ToldBy held (Deliver settings file) old new = new ≡ old
 ToldBy held (Status settings file) old new = new ≡ old
 ToldBy held (History settings file queue) old new = new ≡ old
+ToldBy held (Deliveries settings file after_id) old new = new ≡ old
+ToldBy held (Get settings file path) old new = new ≡ old
 ToldBy held (Serve settings file port count) old new = TellsUpTo held count old new
 ToldBy held (Migrate settings file) old new = new ≡ old
 
@@ -32,6 +34,8 @@ TellsBy held fault (Replay settings status) old new = Tells held old new (line_o
 TellsBy held fault (Deliver settings file) old new = Tells held old new (line_of fault)
 TellsBy held fault (Status settings file) old new = Tells held old new (line_of fault)
 TellsBy held fault (History settings file queue) old new = Tells held old new (line_of fault)
+TellsBy held fault (Deliveries settings file after_id) old new = Tells held old new (line_of fault)
+TellsBy held fault (Get settings file path) old new = Tells held old new (line_of fault)
 TellsBy held fault (Serve settings file port count) old new = (faults : List IoFault) × (length faults ≤ count)
     × Tells held old new (fault_lines faults ++ line_of fault)
 TellsBy held fault (Migrate settings file) old new = Tells held old new (line_of fault)

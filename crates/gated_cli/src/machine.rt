@@ -1,7 +1,7 @@
 //! The gates' files of a machine.
 ghost use Rattle.std.specs.Prelude.{◌≡◌, IfErr, OnErr, OnOk};
 
-use crate::run::{Fault, over_file};
+use crate::run::{Fault, asking, over_file};
 use gate_sql::Migrated;
 use gate_types::config::Config;
 use gate_types::open_fault::OpenFault;
@@ -16,7 +16,7 @@ pub trait GateFiles {
     ghost use Rattle.std.specs.Prelude.{◌≡◌, ℕ, Bool, List, Option, IfErr, OnOk, false};
     ghost use Rattle.gate_types.specs.Tap.{has_failed};
     ghost use Rattle.gated_cli.specs.Doing.{Announces, Delivers, Looks, Prints, beside, streams};
-    ghost use Rattle.gated_cli.specs.Ending.{DeliveryEnds, HistoryEnds, IsOfMaking, ServingEnds, StatusEnds};
+    ghost use Rattle.gated_cli.specs.Ending.{AskingEnds, DeliveryEnds, HistoryEnds, IsOfMaking, LinesEnd, ServingEnds, StatusEnds};
     ghost use Rattle.gated_cli.specs.Telling.{TellsUpTo};
 
     /// Makes the tables of a new gate in a file, which is made where it isn't there. `File` as for `SqlBook::create`,
@@ -66,6 +66,38 @@ pub trait GateFiles {
         ensures ok { OnOk result ((left : Option (List ℕ)) → (failed : Bool) → Looks
             (beside W.contents left failed output.old) (beside W.contents left failed output.new)) }
         ensures err { IfErr result (λ fault. (left : Option (List ℕ)) → (failed : Bool) → HistoryEnds fault
+            (beside W.contents left failed output.old) (beside W.contents left failed output.new)) };
+
+    /// Prints a line for each delivery that the gate of a file accepted, or for each behind that of an id. `File` as
+    /// for `deliver`; `NoDelivery`, `Unavailable`, `Store` and `Write` as for `showing::write_deliveries`; `Store` also
+    /// where all are printed and the file can't be closed.
+    fn deliveries<W: Write>(
+        &self,
+        file: &str,
+        config: Config,
+        after: Option<&str>,
+        output: &mut Tap<W>,
+    ) -> Result<(), Fault>
+        requires { has_failed output.old ≡ false }
+        ensures ok { OnOk result ((left : Option (List ℕ)) → (failed : Bool) → Looks
+            (beside W.contents left failed output.old) (beside W.contents left failed output.new)) }
+        ensures err { IfErr result (λ fault. (left : Option (List ℕ)) → (failed : Bool) → LinesEnd fault
+            (beside W.contents left failed output.old) (beside W.contents left failed output.new)) };
+
+    /// Prints the content of what `GET` of a path would be answered by the gate that a file keeps. `File` as for
+    /// `deliver`; `Refused`, `Store`, `Write` and `NoMemory` as for `showing::write_content`; `Store` also where it is
+    /// printed and the file can't be closed.
+    fn get<W: Write>(
+        &self,
+        file: &str,
+        config: Config,
+        path: &str,
+        output: &mut Tap<W>,
+    ) -> Result<(), Fault>
+        requires { has_failed output.old ≡ false }
+        ensures ok { OnOk result ((left : Option (List ℕ)) → (failed : Bool) → Looks
+            (beside W.contents left failed output.old) (beside W.contents left failed output.new)) }
+        ensures err { IfErr result (λ fault. (left : Option (List ℕ)) → (failed : Bool) → AskingEnds fault
             (beside W.contents left failed output.old) (beside W.contents left failed output.new)) };
 
     /// Prints the line that names the port, then serves so many connections there over the gate that a file keeps.
@@ -134,6 +166,30 @@ impl<S: Alter + Drop, M: Databases<Database = Connection<S>> + Net + AllocGlobal
     ) -> Result<(), Fault> {
         let conn = self.present(file)?;
         let (conn, done) = over_file::history(self.alloc(), conn, config, queue, output);
+        closed(self.close(conn), done)
+    }
+
+    fn deliveries<W: Write>(
+        &self,
+        file: &str,
+        config: Config,
+        after: Option<&str>,
+        output: &mut Tap<W>,
+    ) -> Result<(), Fault> {
+        let conn = self.present(file)?;
+        let (conn, done) = asking::deliveries(self.alloc(), conn, config, after, output);
+        closed(self.close(conn), done)
+    }
+
+    fn get<W: Write>(
+        &self,
+        file: &str,
+        config: Config,
+        path: &str,
+        output: &mut Tap<W>,
+    ) -> Result<(), Fault> {
+        let conn = self.present(file)?;
+        let (conn, done) = asking::get(self.alloc(), conn, config, path, output);
         closed(self.close(conn), done)
     }
 

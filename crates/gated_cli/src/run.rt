@@ -2,12 +2,13 @@
 ghost use Rattle.std.specs.Prelude.{◌≡◌, ◌⊎◌, ◌≤◌, ℕ, List, Option, Bool, OnOk, IfOk, IfErr, length, false, true};
 ghost use Rattle.gate_types.specs.Tap.{has_failed};
 ghost use Rattle.gated_cli.specs.Doing.{Does, Announces, Checks, Delivers, Looks, Migrates, Prints, Replays, HasSettings, beside, streams, settings_limit, migrated_text};
-ghost use Rattle.gated_cli.specs.Ending.{EndsBy, CheckEnds, DeliveryEnds, HistoryEnds, MigrationEnds, ReplayEnds, ServingEnds, StatusEnds, IsEarly, IsOfMaking, Tells};
+ghost use Rattle.gated_cli.specs.Ending.{EndsBy, AskingEnds, CheckEnds, DeliveryEnds, HistoryEnds, LinesEnd, MigrationEnds, ReplayEnds, ServingEnds, StatusEnds, IsEarly, IsOfMaking, Tells};
 ghost use Rattle.gated_cli.specs.Faults.{line_of};
 ghost use Rattle.gated_cli.specs.InMemory.{IsGate};
 ghost use Rattle.gated_cli.specs.Telling.{ToldBy, TellsBy, TellsUpTo};
 ghost use Rattle.gate_core.specs.Gated.{opened};
 
+pub mod asking;
 mod check;
 mod fault;
 mod listening;
@@ -128,6 +129,16 @@ fn perform<F: Files + GateFiles + AllocGlobal, R: Read, W: Write, E: Write>(
             file,
             queue,
         } => run_history(rt, settings, file, queue, output)?,
+        Cmd::Deliveries {
+            settings,
+            file,
+            after,
+        } => run_deliveries(rt, settings, file, after, output)?,
+        Cmd::Get {
+            settings,
+            file,
+            path,
+        } => run_get(rt, settings, file, path, output)?,
         Cmd::Serve {
             settings,
             file,
@@ -260,6 +271,42 @@ fn run_history<F: Files + GateFiles + AllocGlobal, W: Write>(
 {
     let config = settings_of(rt, settings)?;
     rt.history(file, config, queue, output)
+}
+
+/// Prints the deliveries that the gate of a file accepted, or those behind that of an id.
+fn run_deliveries<F: Files + GateFiles + AllocGlobal, W: Write>(
+    rt: &F,
+    settings: &str,
+    file: &str,
+    after: Option<&str>,
+    output: &mut Tap<W>,
+) -> Result<(), Fault>
+    requires { has_failed output.old ≡ false }
+    ensures ok { OnOk result ((left : Option (List ℕ)) → (failed : Bool) → Looks
+        (beside W.contents left failed output.old) (beside W.contents left failed output.new)) }
+    ensures err { IfErr result (λ fault. (left : Option (List ℕ)) → (failed : Bool) → LinesEnd fault
+        (beside W.contents left failed output.old) (beside W.contents left failed output.new)) }
+{
+    let config = settings_of(rt, settings)?;
+    rt.deliveries(file, config, after, output)
+}
+
+/// Prints what a request would be answered by the gate of a file.
+fn run_get<F: Files + GateFiles + AllocGlobal, W: Write>(
+    rt: &F,
+    settings: &str,
+    file: &str,
+    path: &str,
+    output: &mut Tap<W>,
+) -> Result<(), Fault>
+    requires { has_failed output.old ≡ false }
+    ensures ok { OnOk result ((left : Option (List ℕ)) → (failed : Bool) → Looks
+        (beside W.contents left failed output.old) (beside W.contents left failed output.new)) }
+    ensures err { IfErr result (λ fault. (left : Option (List ℕ)) → (failed : Bool) → AskingEnds fault
+        (beside W.contents left failed output.old) (beside W.contents left failed output.new)) }
+{
+    let config = settings_of(rt, settings)?;
+    rt.get(file, config, path, output)
 }
 
 /// Serves connections over the gate that a file keeps.

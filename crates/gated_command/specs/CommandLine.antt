@@ -15,7 +15,7 @@ use Rattle.clap.specs.declared.builder.action.ArgAction.TheVariants.{SetTrue}
 use Rattle.clap.specs.declared.builder.value_parser.ValueParser.TheVariants.{Unsigned}
 use Rattle.clap.specs.ValueTests.{is_unsigned_in}
 use Rattle.gated_command.specs.declared.words.Cmd.{Cmd}
-use Rattle.gated_command.specs.declared.words.Cmd.TheVariants.{Check, Init, Replay, Deliver, Status, History, Serve, Migrate}
+use Rattle.gated_command.specs.declared.words.Cmd.TheVariants.{Check, Init, Replay, Deliver, Status, History, Deliveries, Get, Serve, Migrate}
 
 -- the command, none of whose options goes for its subcommands too
 abbrev pub IsCommand : App → Command → Type 0
@@ -32,6 +32,14 @@ file_rule = record (new_rule (codes "file")) { required = true; value_names = 1 
 -- the queue's name, the word behind
 abbrev pub queue_rule : Rule
 queue_rule = record (new_rule (codes "queue")) { required = true; value_names = 1 }
+
+-- the option `--after`, whose value is an id
+abbrev pub after_rule : Rule
+after_rule = record (new_rule (codes "after")) { long = Some (codes "after"); value_names = 1 }
+
+-- the path of a request, the word behind
+abbrev pub path_rule : Rule
+path_rule = record (new_rule (codes "path")) { required = true; value_names = 1 }
 
 -- the flag `--status`
 abbrev pub status_rule : Rule
@@ -74,6 +82,14 @@ status = over_file (codes "status")
 abbrev pub history : App
 history = with_rule (over_file (codes "history")) queue_rule
 
+-- `deliveries SETTINGS FILE [--after ID]`
+abbrev pub deliveries : App
+deliveries = with_rule (over_file (codes "deliveries")) after_rule
+
+-- `get SETTINGS FILE PATH`
+abbrev pub get : App
+get = with_rule (over_file (codes "get")) path_rule
+
 -- the highest port
 abbrev pub most_port : ℕ
 most_port = 65535
@@ -98,9 +114,10 @@ bare = new_app (codes "gated")
 -- the program's command line, which has a version, and where a command has to be given
 abbrev pub gated : App
 gated = with_subcommand (with_subcommand (with_subcommand (with_subcommand (with_subcommand (with_subcommand
-    (with_subcommand (with_subcommand (record bare {
+    (with_subcommand (with_subcommand (with_subcommand (with_subcommand (record bare {
       top = record bare.top { has_version = true; subcommand_required = true };
-    }) check.top) init.top) replay.top) deliver.top) status.top) history.top) serve.top) migrate.top
+    }) check.top) init.top) replay.top) deliver.top) status.top) history.top) deliveries.top) get.top) serve.top)
+    migrate.top
 
 -- what a command line says
 pub data Said : Type 0 where
@@ -110,6 +127,8 @@ pub data Said : Type 0 where
   deliver_of : Text × Text → Said
   showing_of : Text × Text → Said
   history_of : Text × Text → Text → Said
+  deliveries_of : Text × Text → Option Text → Said
+  get_of : Text × Text → Text → Said
   serve_of : Text × Text → ℕ → ℕ → Said
   migrate_of : Text × Text → Said
 
@@ -122,6 +141,9 @@ asks_for (Some (Replay settings status)) = Some (replay_of settings.now status)
 asks_for (Some (Deliver settings file)) = Some (deliver_of (settings.now, file.now))
 asks_for (Some (Status settings file)) = Some (showing_of (settings.now, file.now))
 asks_for (Some (History settings file queue)) = Some (history_of (settings.now, file.now) queue.now)
+asks_for (Some (Deliveries settings file after)) =
+    Some (deliveries_of (settings.now, file.now) (option_map (λ id. id.now) after))
+asks_for (Some (Get settings file path)) = Some (get_of (settings.now, file.now) path.now)
 asks_for (Some (Serve settings file port count)) = Some (serve_of (settings.now, file.now) port count)
 asks_for (Some (Migrate settings file)) = Some (migrate_of (settings.now, file.now))
 
@@ -151,6 +173,14 @@ abbrev pub told_of : List Row → Option Said
 told_of rows =
     option_and_then (λ f. option_map (λ q. history_of f q) (first_of (codes "queue") rows)) (files_of rows)
 
+-- what `deliveries` and its rows say
+abbrev pub fed_of : List Row → Option Said
+fed_of rows = option_map (λ f. deliveries_of f (first_of (codes "after") rows)) (files_of rows)
+
+-- what `get` and its rows say
+abbrev pub got_of : List Row → Option Said
+got_of rows = option_and_then (λ f. option_map (λ p. get_of f p) (first_of (codes "path") rows)) (files_of rows)
+
 -- what `serve` and its rows say
 abbrev pub served_of : List Row → Option Said
 served_of rows = option_and_then (λ f. option_map (λ n. serve_of f n.0 n.1) (numbers_of rows)) (files_of rows)
@@ -165,8 +195,10 @@ said_of (name, rows) =
     if bytes_eq name (codes "deliver") then option_map deliver_of (files_of rows) else (
     if bytes_eq name (codes "status") then option_map showing_of (files_of rows) else (
     if bytes_eq name (codes "history") then told_of rows else (
+    if bytes_eq name (codes "deliveries") then fed_of rows else (
+    if bytes_eq name (codes "get") then got_of rows else (
     if bytes_eq name (codes "serve") then served_of rows else (
-    if bytes_eq name (codes "migrate") then option_map migrate_of (files_of rows) else None)))))))
+    if bytes_eq name (codes "migrate") then option_map migrate_of (files_of rows) else None)))))))))
 
 abbrev pub says : Option Cmd → Option (Text × List Row) → Type 0
 says cmd rows = asks_for cmd ≡ option_and_then said_of rows

@@ -7,6 +7,8 @@
 //! ```
 #![tactic(auto)]
 
+mod commands;
+mod reading;
 mod words;
 
 pub use words::{Cmd, Usage, command};

@@ -4,6 +4,10 @@
 #[cfg(test)]
 mod adopting;
 #[cfg(test)]
+mod asked;
+#[cfg(test)]
+mod asking;
+#[cfg(test)]
 mod beginnings;
 #[cfg(test)]
 mod chapters;

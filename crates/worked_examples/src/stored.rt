@@ -14,5 +14,6 @@ mod plans;
 mod rows;
 mod stops;
 mod tables;
+mod told_again;
 mod waiting;
 mod work;

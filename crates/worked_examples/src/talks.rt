@@ -8,10 +8,14 @@
 //!
 //! Each other part is what the gate shows: its first line says of what, and its text stands below. It is `status`, in
 //! which a line `...` stands for any lines, `status without unit=running`, `orders`, `build 3` or `history core`,
-//! where the text may be `none`, or `history core up to byte 20`, where a writer fails behind that byte.
+//! where the text may be `none`, `history core from 3`, or `history core up to byte 20`, where a writer fails behind
+//! that byte. What `asked` has is shown by `change 301`, `item 1` and `deliveries behind ID`, where it may be `none`
+//! too, `running`, `deliveries` and `deliveries up to byte 20`.
+use crate::asked::{has_change, has_deliveries, has_item, has_running, narrow};
 use crate::beginnings::beginning;
 use crate::claims::{holds, is};
 use crate::streams::Narrow;
+use gate_archive::Archive;
 use gate_book::{Book, HistoryFault};
 use gate_core::{Gate, replay};
 use gate_types::deliveries::Refusal;
@@ -183,8 +187,16 @@ fn has_build<B: Book>(
     }
 }
 
+/// A queue, and the place from which its history is asked for, if one is said.
+fn place_said(words: &str) -> (&str, Option<u64>) {
+    match words.split_once(" from ") {
+        Some((queue, from)) => (queue, from.parse::<u64>().ok()),
+        None => (words, None),
+    }
+}
+
 /// The queue has this history, or its beginning is what a writer takes, or there is no such queue.
-fn has_history<B: Book>(
+fn has_history<B: Archive>(
     rt: &(impl Abort + AllocGlobal),
     gate: &mut Gate<B>,
     title: &str,
@@ -195,12 +207,11 @@ fn has_history<B: Book>(
         Some((queue, room)) => (queue, room.parse::<usize>().ok().expect(rt, words)),
         None => (words, WIDE),
     };
-    let mut w = Tap::new(Narrow {
-        taken: Vec::new(rt.alloc()),
-        left: room,
-        silent: false,
-    });
-    let answered = gate.history(queue, b"", &mut w);
+    let mut w = Tap::new(narrow(rt.alloc(), room));
+    let answered = match place_said(queue) {
+        (queue, Some(from)) => gate.history_from(queue, from, b"", &mut w),
+        (queue, None) => gate.history(queue, b"", &mut w),
+    };
     let Narrow { taken, .. } = w.into_inner();
     let taken = from_utf8(taken.as_slice()).ok().expect(rt, title);
     match answered {
@@ -215,7 +226,7 @@ fn has_history<B: Book>(
 }
 
 /// The gate goes on by this part.
-fn says<B: Book>(rt: &(impl Abort + AllocGlobal), gate: &mut Gate<B>, title: &str, part: &str) {
+fn says<B: Archive>(rt: &(impl Abort + AllocGlobal), gate: &mut Gate<B>, title: &str, part: &str) {
     let (head, text) = part.split_once('\n').unwrap_or((part, ""));
     let (word, words) = head.split_once(' ').unwrap_or((head, ""));
     match word {
@@ -226,12 +237,16 @@ fn says<B: Book>(rt: &(impl Abort + AllocGlobal), gate: &mut Gate<B>, title: &st
         "orders" if words.is_empty() => has_orders(rt, gate, title, text),
         "build" => has_build(rt, gate, title, words, text),
         "history" => has_history(rt, gate, title, words, text),
+        "change" => has_change(rt, gate, title, words, text),
+        "item" => has_item(rt, gate, title, words, text),
+        "running" => has_running(rt, gate, title, text),
+        "deliveries" => has_deliveries(rt, gate, title, words, text),
         _ => panic!(rt; "{title}: no part of a scene: {part}"),
     }
 }
 
 /// The gate goes on by these parts.
-pub fn goes_on<B: Book>(
+pub fn goes_on<B: Archive>(
     rt: &(impl Abort + AllocGlobal),
     gate: &mut Gate<B>,
     title: &str,

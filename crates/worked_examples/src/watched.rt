@@ -4,6 +4,7 @@ use crate::claims::holds;
 use crate::scenes::gate_in_memory;
 use crate::stored::files::{gate_under, made_under};
 use crate::talks::goes_on;
+use gate_archive::{Archive, BuildSummary, FeedFault, LeftItem};
 use gate_book::{Book, BookFault, HistoryFault, QueuedItem};
 use gate_core::Gate;
 use gate_types::edits::Edit;
@@ -184,6 +185,44 @@ impl<B: Book> Book for Watched<B> {
     }
 }
 
+impl<B: Archive> Archive for Watched<B> {
+    fn left(&mut self, serial: Serial) -> Result<Option<LeftItem>, BookFault> {
+        self.book.left(serial)
+    }
+
+    fn build_count(&mut self, serial: Serial) -> Result<u64, BookFault> {
+        self.book.build_count(serial)
+    }
+
+    fn last_builds(
+        &mut self,
+        serial: Serial,
+        most: u32,
+    ) -> Result<Sequence<BuildSummary>, BookFault> {
+        self.book.last_builds(serial, most)
+    }
+
+    fn history_from<W: Write>(
+        &mut self,
+        queue: &str,
+        from: u64,
+        front: &[u8],
+        w: &mut Tap<W>,
+    ) -> Result<(), HistoryFault> {
+        self.book.history_from(queue, from, front, w)
+    }
+
+    fn deliveries<W: Write>(
+        &mut self,
+        after: Option<Id>,
+        most: u64,
+        front: &[u8],
+        w: &mut Tap<W>,
+    ) -> Result<u64, FeedFault> {
+        self.book.deliveries(after, most, front, w)
+    }
+}
+
 /// The queue `web` is full, and its first two items have builds.
 const FULL_WEB: &str = r#"for n from 1 to 1000
 > {"id":"0a000000-0000-4000-8000-<000n>","kind":"revision","change":<n>,"project":"site","revision":1,"message":""}
@@ -230,12 +269,19 @@ end
 "#;
 
 /// The gate goes on by these parts, of which the last delivery asks for a few items.
-fn reads_few<B: Book>(rt: &(impl Abort + AllocGlobal), gate: &mut Gate<Watched<B>>, parts: &str) {
+fn reads_few<B: Archive>(
+    rt: &(impl Abort + AllocGlobal),
+    gate: &mut Gate<Watched<B>>,
+    parts: &str,
+) {
     goes_on(rt, gate, "a few items are read", parts);
     holds(rt, gate.book.asked <= 8, parts);
 }
 
-fn reads_no_more_of_a_long_queue<B: Book + Drop>(rt: &(impl Abort + AllocGlobal), gate: Gate<B>) {
+fn reads_no_more_of_a_long_queue<B: Archive + Drop>(
+    rt: &(impl Abort + AllocGlobal),
+    gate: Gate<B>,
+) {
     let Gate { config, book } = gate;
     let mut gate = Gate::new(config, Watched { book, asked: 0 });
     goes_on(rt, &mut gate, "a full queue", FULL_WEB);
@@ -301,7 +347,7 @@ queue web window 3 landed 1
 end
 "#;
 
-fn asks_about_nobody_else_who_waits<B: Book + Drop>(
+fn asks_about_nobody_else_who_waits<B: Archive + Drop>(
     rt: &(impl Abort + AllocGlobal),
     gate: Gate<B>,
 ) {

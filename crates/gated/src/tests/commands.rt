@@ -145,6 +145,21 @@ Usage: gated migrate <SETTINGS> <FILE>
 For more information, try '--help'.
 = 2
 unread
+$ gated get a b < no delivery
+|error: the following required arguments were not provided:
+  <PATH>
+
+Usage: gated get <SETTINGS> <FILE> <PATH>
+
+For more information, try '--help'.
+= 2
+unread
+$ gated deliveries a b --after < no delivery
+|error: a value is required for '--after <ID>' but none was supplied
+
+For more information, try '--help'.
+= 2
+unread
 $ gated replay a b < no delivery
 |error: unexpected argument 'b' found
 
@@ -160,11 +175,34 @@ $ gated --help < no delivery
 |= 0
 unread
 $ gated --help < no delivery
-...  migrate  Makes FILE, which a `gated` of schema 1 made, one of schema 2...
+...  migrate     Makes FILE, which a `gated` of schema 1 made, one of schema 2...
+|= 0
+unread
+$ gated --help < no delivery
+...  deliveries  Prints the deliveries that the gate of FILE accepted, in order, each as a line that `gated deliver` takes...
+|= 0
+unread
+$ gated --help < no delivery
+...  get         Prints what `GET PATH` would answer of the gate that FILE keeps, and ends with 0 where that is 200...
 |= 0
 unread
 $ gated check --help < no delivery
 ...Usage: gated check <SETTINGS>
+...
+|= 0
+unread
+$ gated help deliveries < no delivery
+...Usage: gated deliveries [OPTIONS] <SETTINGS> <FILE>
+...
+|= 0
+unread
+$ gated help deliveries < no delivery
+...      --after <ID>  Only those behind the one of this id
+...
+|= 0
+unread
+$ gated get --help < no delivery
+...Usage: gated get <SETTINGS> <FILE> <PATH>
 ...
 |= 0
 unread
@@ -223,6 +261,14 @@ $ gated status run_starved.toml run_starved.gate < no delivery
 = 1
 unread
 $ gated history run_starved.toml run_starved.gate core < no delivery
+|gated: I3 no-memory
+= 1
+unread
+$ gated deliveries run_starved.toml run_starved.gate < no delivery
+|gated: I3 no-memory
+= 1
+unread
+$ gated get run_starved.toml run_starved.gate /status < no delivery
 |gated: I3 no-memory
 = 1
 unread

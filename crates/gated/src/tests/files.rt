@@ -220,6 +220,89 @@ fn the_texts_are_those_of_the_gate_in_the_file(rt: HostRuntime) {
     plays(&rt, &Machine::new(&rt), SHOWN);
 }
 
+const ASKED: &str =
+    r#"# what was accepted is printed, all or behind an id, and makes another file the same gate
+$ clear asked.toml asked.gate asked.gate-wal
+$ write asked.toml < one queue
+$ gated init asked.toml asked.gate
+|= 0
+$ gated deliveries asked.toml asked.gate < revision
+|= 0
+unread
+$ gated deliver asked.toml asked.gate < revision
+{"reply":"recorded"}
+|= 0
+$ gated deliver asked.toml asked.gate < approved
+{"order":1,"reply":"queued"}
+|= 0
+$ gated deliveries asked.toml asked.gate
+{"change":101,"id":"0a000000000040008000000000000001","kind":"revision","message":"","project":"lib","revision":1}
+{"change":101,"id":"0a000000000040008000000000000002","kind":"approved","revision":1}
+|= 0
+$ gated deliveries asked.toml asked.gate --after 0a000000000040008000000000000001
+{"change":101,"id":"0a000000000040008000000000000002","kind":"approved","revision":1}
+|= 0
+$ gated deliveries asked.toml asked.gate --after 0a000000000040008000000000000002
+|= 0
+$ gated deliveries asked.toml asked.gate --after 00000000-0000-0000-0000-000000000000
+|gated: I8 no-delivery
+= 1
+$ gated deliveries asked.toml asked.gate --after first
+|gated: I8 no-delivery
+= 1
+$ gated deliveries asked.toml asked.gate > 20
+{"change":101,"id":"|gated: I2 write
+= 1
+# the content of an answer is printed, and a status tells whether it is one of 200
+$ gated get asked.toml asked.gate /status
+queue core window 2 landed 0
+     1       101    1      - ok      unit=waiting
+end
+|= 0
+$ gated get asked.toml asked.gate /items/1?x < revision
+{"builds":[],"change":101,"jobs":[{"job":"unit","slot":"waiting","voting":true}],"kept":0,"order":1,"queue":"core","revision":1,"verdict":null}|= 0
+unread
+$ gated get asked.toml asked.gate /history/core/1
+history core
+end 0
+|= 0
+$ gated get asked.toml asked.gate /deliveries/0a000000000040008000000000000002
+end 0
+|= 0
+$ gated get asked.toml asked.gate /items/2
+{"error":"no-item"}|gated: I9 refused
+= 1
+$ gated get asked.toml asked.gate /forge
+{"error":"method"}|gated: I9 refused
+= 1
+$ gated get asked.toml asked.gate status
+{"error":"no-route"}|gated: I9 refused
+= 1
+$ gated get asked.toml asked.gate ''
+{"error":"bad-request"}|gated: I9 refused
+= 1
+$ gated get asked.toml asked.gate '/status HTTP/1.1'
+{"error":"bad-request"}|gated: I9 refused
+= 1
+$ gated get asked.toml asked.gate /status > 5
+queue|gated: I2 write
+= 1
+$ clear asked.gate asked.gate-wal
+$ write asked.gate < no gate
+$ gated get asked.toml asked.gate /status
+|gated: O4 unavailable
+= 1
+$ gated deliveries asked.toml asked.gate --after first
+|gated: O4 unavailable
+= 1
+$ clear asked.toml asked.gate asked.gate-wal
+"#;
+
+#[test]
+fn a_file_is_asked_as_over_http(rt: HostRuntime) {
+    plays(&rt, &Machine::new(&rt), ASKED);
+}
+
 const MISSING: &str = "\
 # a queue or a file that is not there is told; the last two can be no queue's name
 $ clear showing_none.toml showing_none.gate showing_none.gate-wal

@@ -34,6 +34,12 @@ gated replay --status gate.toml -> Replay { settings: "gate.toml", status: true 
 # status and history name their files
 gated status gate.toml gate.db -> Status { settings: "gate.toml", file: "gate.db" }
 gated history gate.toml gate.db core -> History { settings: "gate.toml", file: "gate.db", queue: "core" }
+# deliveries names its file, and maybe the id of a delivery, on either side
+gated deliveries gate.toml gate.db -> Deliveries { settings: "gate.toml", file: "gate.db", after: None }
+gated deliveries gate.toml gate.db --after 5a -> Deliveries { settings: "gate.toml", file: "gate.db", after: Some("5a") }
+gated deliveries --after=5a gate.toml gate.db -> Deliveries { settings: "gate.toml", file: "gate.db", after: Some("5a") }
+# get names its file and a path
+gated get gate.toml gate.db /builds?after=2 -> Get { settings: "gate.toml", file: "gate.db", path: "/builds?after=2" }
 # migrate names its settings and its file
 gated migrate gate.toml gate.db -> Migrate { settings: "gate.toml", file: "gate.db" }
 # serve names its port and its count
@@ -60,6 +66,14 @@ gated --status replay a -> UnknownArgument 2
 gated status a -> MissingRequiredArgument 2
 gated status a b c -> UnknownArgument 2
 gated history a b -> MissingRequiredArgument 2
+gated deliveries a -> MissingRequiredArgument 2
+gated deliveries a b c -> UnknownArgument 2
+gated deliveries a b --after -> InvalidValue 2
+gated deliveries a b --after c --after d -> ArgumentConflict 2
+gated deliveries a b --before c -> UnknownArgument 2
+gated get a b -> MissingRequiredArgument 2
+gated get a b c d -> UnknownArgument 2
+gated get a b --after c -> UnknownArgument 2
 gated migrate a -> MissingRequiredArgument 2
 gated migrate a b c -> UnknownArgument 2
 # help is no fault
@@ -67,6 +81,8 @@ gated --help -> DisplayHelp 0
 gated check --help -> DisplayHelp 0
 gated replay -h -> DisplayHelp 0
 gated help replay -> DisplayHelp 0
+gated deliveries --help -> DisplayHelp 0
+gated help get -> DisplayHelp 0
 gated migrate --help -> DisplayHelp 0
 # the version is the program's
 gated --version -> DisplayVersion 0

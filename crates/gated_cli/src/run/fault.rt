@@ -2,6 +2,7 @@
 ghost use Rattle.std.specs.Prelude.{◌≡◌};
 ghost use Rattle.gated_cli.specs.Faults.{text_of, file_text, settings_text};
 
+use gate_archive::FeedFault;
 use gate_book_trait::HistoryFault;
 use gate_config::ConfigFault;
 use gate_core::IoFault;
@@ -33,6 +34,10 @@ pub enum Fault {
     NoQueue,
     /// The store failed.
     Store,
+    /// No accepted delivery has the id.
+    NoDelivery,
+    /// What was asked for is answered by another status than 200.
+    Refused,
 }
 
 impl Fault {
@@ -51,6 +56,8 @@ impl Fault {
             Fault::SettingsFile => "I5 settings-file",
             Fault::NoQueue => "I6 no-queue",
             Fault::Store => "I7 store",
+            Fault::NoDelivery => "I8 no-delivery",
+            Fault::Refused => "I9 refused",
         }
     }
 }
@@ -120,6 +127,21 @@ impl From<HistoryFault> for Fault {
             HistoryFault::Unavailable => Fault::Unavailable,
             HistoryFault::Broken => Fault::Store,
             HistoryFault::Write => Fault::Write,
+        }
+    }
+}
+
+impl From<FeedFault> for Fault {
+    ghost use Rattle.gated_cli.specs.Faults.{of_feed};
+
+    ghost from_gives = { λ fault f. f ≡ of_feed fault };
+
+    fn from(fault: FeedFault) -> Fault {
+        match fault {
+            FeedFault::NoDelivery => Fault::NoDelivery,
+            FeedFault::Unavailable => Fault::Unavailable,
+            FeedFault::Broken => Fault::Store,
+            FeedFault::Write => Fault::Write,
         }
     }
 }

@@ -8,7 +8,7 @@ ghost use Rattle.gated_cli.specs.Ending.{ServingEnds, IsOfServing};
 ghost use Rattle.gated_cli.specs.Telling.{TellsUpTo};
 
 use crate::run::fault::Fault;
-use gate_book_trait::Book;
+use gate_archive::Archive;
 use gate_core::Gate;
 use gate_types::tap::Tap;
 use std::alloc::Global;
@@ -20,7 +20,7 @@ use std::net::{Ipv4Addr, Net, OpenListener, OpenStream, TcpListener};
 /// # Errors
 ///
 /// Those of `serve_at`; and `Listener` where the port can't be bound, and nothing is printed.
-pub(crate) fn serve<M: Net + AllocGlobal, B: Book, W: Write, E: Write>(
+pub(crate) fn serve<M: Net + AllocGlobal, B: Archive, W: Write, E: Write>(
     rt: &M,
     gate: &mut Gate<B>,
     port: u16,
@@ -50,7 +50,7 @@ pub(crate) fn serve<M: Net + AllocGlobal, B: Book, W: Write, E: Write>(
 /// `Listener`: the listener's port isn't known, or isn't the one that was asked for, and nothing is
 /// printed; or it failed to accept a connection. `NoMemory`: nothing is printed. `Write`: the line was
 /// cut, and no connection is served.
-pub(crate) fn serve_at<L: OpenListener, B: Book, W: Write, E: Write>(
+pub(crate) fn serve_at<L: OpenListener, B: Archive, W: Write, E: Write>(
     alloc: Global,
     listener: &L,
     gate: &mut Gate<B>,

@@ -108,7 +108,7 @@ pub fn migrate<S: Alter + Drop>(
 }
 
 /// A lawful content stays lawful where these settings are taken.
-fn stays_lawful(config: &Config)
+pub(crate) fn stays_lawful(config: &Config)
     ensures { StaysLawful config.now }
 {
     // This shows the prover that the settings are sound.

@@ -4,7 +4,8 @@ use crate::requests::clients::served;
 use crate::requests::gates::KNOWN;
 use crate::requests::scenes::{Fresh, tell};
 use crate::requests::streams::{Pace, Stream};
-use gate_book::{Book, MemBook};
+use gate_archive::Archive;
+use gate_book::MemBook;
 use gate_core::Gate;
 use std::alloc::Global;
 use std::io;
@@ -44,7 +45,7 @@ impl OpenListener for Broken {
 }
 
 /// Serves two connections of which this part fails: whether it listens to the end, and what is told of them.
-fn tells<B: Book>(
+fn tells<B: Archive>(
     rt: &(impl Abort + AllocGlobal),
     gate: &mut Gate<B>,
     part: &'static str,
@@ -57,7 +58,7 @@ fn tells<B: Book>(
     holds(rt, is_told, part);
 }
 
-fn faults_are_told<B: Book>(rt: &(impl Abort + AllocGlobal), gate: &mut Gate<B>) {
+fn faults_are_told<B: Archive>(rt: &(impl Abort + AllocGlobal), gate: &mut Gate<B>) {
     tell(rt, gate, KNOWN);
     tells(rt, gate, "accept", false, "");
     tells(rt, gate, "clone", true, "gated: I1 read\ngated: I1 read\n");

@@ -3,7 +3,8 @@ use crate::claims::holds;
 use crate::requests::scenes::Fresh;
 use crate::requests::texts::{halves, request, response};
 use crate::requests::torn::Torn;
-use gate_book::{Book, MemBook};
+use gate_archive::Archive;
+use gate_book::MemBook;
 use gate_core::Gate;
 use gate_http::serve;
 use gate_types::tap::Tap;
@@ -13,7 +14,7 @@ use std::net::{Net, OpenListener, OpenStream, Shutdown, TcpListener, TcpStream};
 use std::process::Abort;
 
 /// Serves so many connections: whether it listens to the end, and what is told of them.
-pub fn served<L: OpenListener, B: Book>(
+pub fn served<L: OpenListener, B: Archive>(
     alloc: Global,
     listener: &L,
     gate: &mut Gate<B>,
@@ -72,7 +73,7 @@ fn was_answered(rt: &(impl Abort + AllocGlobal), mut stream: impl Read + Drop, n
 }
 
 /// Clients connect and send, all are served, and each gets its response.
-fn are_served<N: Net + Abort + AllocGlobal, B: Book>(
+fn are_served<N: Net + Abort + AllocGlobal, B: Archive>(
     net: &N,
     gate: &mut Gate<B>,
     lines: &str,

@@ -1,7 +1,6 @@
 //! An engine with fixed answers, and scenes of what it is asked.
 use crate::requests::scenes::{Fresh, each_plays};
-use gate_book::HistoryFault;
-use gate_http::{Page, Respond};
+use gate_http::{Page, Respond, Stream, StreamFault, Told};
 use gate_types::deliveries::{Answer, Refusal};
 use gate_types::names::Text;
 use gate_types::tap::Tap;
@@ -27,7 +26,7 @@ fn said(alloc: Global, text: &str) -> Answer {
 impl Respond for Fixed {
     ghost responds = { λ old asked answer new. Unit {0} };
 
-    ghost recalls = { λ old name P new. Unit {0} };
+    ghost recalls = { λ old wanted P new. Unit {0} };
 
     fn hear(&mut self, alloc: Global, door: Door, body: &[u8]) -> Answer {
         if !body.starts_with(b"{") {
@@ -47,36 +46,65 @@ impl Respond for Fixed {
         match wanted {
             Page::Status => said(alloc, "end\n"),
             Page::Orders => said(alloc, if self.has_taken { "[{}]" } else { "[]" }),
+            Page::Running => said(alloc, "{}"),
         }
     }
 
-    fn show_build(&mut self, alloc: Global, id: &[u8]) -> Answer {
-        if id == b"3".as_slice() {
+    fn show_build(&mut self, alloc: Global, number: &[u8]) -> Answer {
+        if number == b"3".as_slice() {
             said(alloc, "{}")
         } else {
             Answer::Refused(Refusal::UnknownBuild)
         }
     }
 
-    fn show_history<W: Write>(
+    fn show_change(&mut self, alloc: Global, number: &[u8]) -> Answer {
+        if number == b"3".as_slice() {
+            said(alloc, "{}")
+        } else {
+            Answer::Refused(Refusal::UnknownChange)
+        }
+    }
+
+    fn show_item(&mut self, alloc: Global, number: &[u8]) -> Told {
+        if number == b"3".as_slice() {
+            Told::Answer(said(alloc, "{}"))
+        } else {
+            Told::NoItem
+        }
+    }
+
+    fn show_stream<W: Write>(
         &mut self,
-        queue: &str,
+        _alloc: Global,
+        wanted: Stream<'_>,
         front: &[u8],
         w: &mut Tap<W>,
-    ) -> Result<(), HistoryFault> {
-        if queue == "shut" {
-            return Err(HistoryFault::Unavailable);
+    ) -> Result<(), StreamFault> {
+        let word = word_of(wanted);
+        if word == "shut" {
+            return Err(StreamFault::Unavailable);
         }
-        if queue != "core" && queue != "torn" {
-            return Err(HistoryFault::NoQueue);
+        if word != "core" && word != "torn" {
+            return Err(StreamFault::Missing);
         }
         w.write_all(front)?;
         w.write_line("history core")?;
-        if queue == "torn" {
-            return Err(HistoryFault::Broken);
+        if word == "torn" {
+            return Err(StreamFault::Broken);
         }
         w.write_line("end 0")?;
         Ok(())
+    }
+}
+
+/// The word by which lines are asked for. A place other than 3 is `gone`.
+fn word_of(wanted: Stream<'_>) -> &str {
+    match wanted {
+        Stream::History(queue) | Stream::HistoryFrom(queue, 3) => queue,
+        Stream::HistoryFrom(_, _) => "gone",
+        Stream::Deliveries => "core",
+        Stream::DeliveriesAfter(id) => id,
     }
 }
 
@@ -95,6 +123,16 @@ const SCENES: &str = r#"= each route answers
 200 build GET /builds/3 HTTP/1.1\r\n\r\n
 404 unknown-build GET /builds/0 HTTP/1.1\r\n\r\n
 404 unknown-build GET /builds/%33 HTTP/1.1\r\n\r\n
+200 build GET /changes/3 HTTP/1.1\r\n\r\n
+404 unknown GET /changes/0 HTTP/1.1\r\n\r\n
+200 build GET /items/3 HTTP/1.1\r\n\r\n
+200+4 build GET /items/3?x HTTP/1.1\r\n\r\nrest
+404 no-item GET /items/4 HTTP/1.1\r\n\r\n
+200 build GET /running HTTP/1.1\r\n\r\n
+200 history GET /deliveries HTTP/1.1\r\n\r\n
+200 history GET /deliveries/core HTTP/1.1\r\n\r\n
+200 history GET /history/core/3 HTTP/1.1\r\n\r\n
+404 no-queue GET /history/core/9999999999999999 HTTP/1.1\r\n\r\n
 = a delivery that is acted on is seen
 200 recorded POST /forge HTTP/1.1\r\nContent-Length: 2\r\n\r\n{}
 200 taken GET /orders HTTP/1.1\r\n\r\n
@@ -103,6 +141,27 @@ const SCENES: &str = r#"= each route answers
 404 no-route GET /builds/ HTTP/1.1\r\n\r\n
 404 no-route GET /builds/1/ HTTP/1.1\r\n\r\n
 404 no-route GET http://gate/status HTTP/1.1\r\n\r\n
+404 no-route GET /builds HTTP/1.1\r\n\r\n
+404 no-route GET /changes HTTP/1.1\r\n\r\n
+404 no-route GET /changes/ HTTP/1.1\r\n\r\n
+404 no-route GET /changes/3/ HTTP/1.1\r\n\r\n
+404 no-route GET /items/ HTTP/1.1\r\n\r\n
+404 no-route GET /running/ HTTP/1.1\r\n\r\n
+404 no-route GET /deliveries/ HTTP/1.1\r\n\r\n
+404 no-route GET /deliveries/core/3 HTTP/1.1\r\n\r\n
+404 no-route GET /history/core/0 HTTP/1.1\r\n\r\n
+404 no-route GET /history/core/03 HTTP/1.1\r\n\r\n
+404 no-route GET /history/core/+3 HTTP/1.1\r\n\r\n
+404 no-route GET /history/core/3x HTTP/1.1\r\n\r\n
+404 no-route GET /history/core/10000000000000000 HTTP/1.1\r\n\r\n
+404 no-route GET /history/core/3/ HTTP/1.1\r\n\r\n
+404 no-route GET /history//3 HTTP/1.1\r\n\r\n
+404 no-route-to-head HEAD /history/core/0 HTTP/1.1\r\n\r\n
+405 get-alone DELETE /items/3 HTTP/1.1\r\n\r\n
+405+2 get-alone POST /changes/0 HTTP/1.1\r\nContent-Length: 2\r\n\r\n{}
+405 get-alone-to-head HEAD /running HTTP/1.1\r\n\r\n
+405 get-alone-to-head HEAD /history/none/3 HTTP/1.1\r\n\r\n
+405 get-alone-to-head HEAD /deliveries/none HTTP/1.1\r\n\r\n
 405 get-alone get /status HTTP/1.1\r\n\r\n
 405 get-alone-to-head HEAD /status HTTP/1.1\r\n\r\n
 405 post-alone GET /forge HTTP/1.1\r\n\r\n
@@ -157,6 +216,13 @@ drip recorded POST /forge HTTP/1.1\r\nContent-Length: 2\r\n\r\n{}
 404 no-route GET /history/core/ HTTP/1.1\r\n\r\n
 405 get-alone-to-head HEAD /history/core HTTP/1.1\r\n\r\n
 405+2 get-alone POST /history/core HTTP/1.1\r\nContent-Length: 2\r\n\r\n{}
+= deliveries are shown behind an id
+404 no-delivery GET /deliveries/xyz HTTP/1.1\r\n\r\n
+503 unavailable GET /deliveries/shut HTTP/1.1\r\n\r\n
+503 unavailable GET /history/shut/3 HTTP/1.1\r\n\r\n
+store torn GET /deliveries/torn HTTP/1.1\r\n\r\n
+store torn GET /history/torn/3 HTTP/1.1\r\n\r\n
+stops history GET /deliveries HTTP/1.1\r\n\r\n
 = a history that breaks off is told
 store torn GET /history/torn HTTP/1.1\r\n\r\n
 = a writer that fails in a history gets a beginning

@@ -1,7 +1,8 @@
 //! A gate over settings, and scenes of what it is sent.
 use crate::requests::scenes::{Fresh, drips, each_plays, stops, tell};
 use crate::requests::texts::{request, response};
-use gate_book::{Book, MemBook};
+use gate_archive::Archive;
+use gate_book::MemBook;
 use gate_config::read;
 use gate_core::Gate;
 use gate_http::{Served, serve_one};
@@ -75,6 +76,20 @@ tell {"id":"0b000000-0000-4000-8000-000000000008","kind":"result","build":1,"out
 tell {"id":"0b000000-0000-4000-8000-000000000009","kind":"take","worker":"w1"}
 tell {"id":"0b000000-0000-4000-8000-000000000010","kind":"result","build":3,"outcome":"success"}
 200 stopped-build GET /builds/3 HTTP/1.1\r\n\r\n
+200 stopped-item GET /items/2 HTTP/1.1\r\n\r\n
+404 no-item GET /items/3 HTTP/1.1\r\n\r\n
+404 no-item GET /items/02 HTTP/1.1\r\n\r\n
+404 no-item GET /items/1000000000000001 HTTP/1.1\r\n\r\n
+200 two-running GET /running HTTP/1.1\r\n\r\n
+200 last-deliveries GET /deliveries/0b000000-0000-4000-8000-000000000007 HTTP/1.1\r\n\r\n
+200 last-deliveries GET /deliveries/urn:uuid:0B000000-0000-4000-8000-000000000007?x HTTP/1.1\r\n\r\n
+200 no-deliveries GET /deliveries/0b000000000040008000000000000010 HTTP/1.1\r\n\r\n
+404 no-delivery GET /deliveries/0b000000-0000-4000-8000-000000000011 HTTP/1.1\r\n\r\n
+404 no-delivery GET /deliveries/xyz HTTP/1.1\r\n\r\n
+404 unknown GET /changes/0 HTTP/1.1\r\n\r\n
+404 unknown GET /changes/0101 HTTP/1.1\r\n\r\n
+404 unknown GET /changes/103 HTTP/1.1\r\n\r\n
+404 unknown GET /changes/1000000101 HTTP/1.1\r\n\r\n
 404 unknown-build GET /builds/03 HTTP/1.1\r\n\r\n
 404 unknown-build GET /builds/5 HTTP/1.1\r\n\r\n
 404 unknown-build GET /builds/1000000000000001 HTTP/1.1\r\n\r\n
@@ -82,9 +97,22 @@ tell {"id":"0b000000-0000-4000-8000-000000000011","kind":"result","build":4,"out
 tell {"id":"0b000000-0000-4000-8000-000000000012","kind":"landed","order":2}
 tell {"id":"0b000000-0000-4000-8000-000000000013","kind":"result","build":2,"outcome":"success"}
 200 core-history GET /history/core HTTP/1.1\r\n\r\n
+200 core-history GET /history/core/1 HTTP/1.1\r\n\r\n
+200 core-history-from-2 GET /history/core/2 HTTP/1.1\r\n\r\n
+200 web-history GET /history/web/9999999999999999 HTTP/1.1\r\n\r\n
+404 no-queue GET /history/cor/1 HTTP/1.1\r\n\r\n
 200 web-history GET /history/web HTTP/1.1\r\n\r\n
 404 no-queue GET /history/cor HTTP/1.1\r\n\r\n
 404 no-queue GET /history/%63ore HTTP/1.1\r\n\r\n
+= a change tells what it waits for
+tell {"id":"0b000000-0000-4000-8000-000000000001","kind":"revision","change":101,"project":"lib","revision":1,"message":""}
+tell {"id":"0b000000-0000-4000-8000-000000000002","kind":"revision","change":102,"project":"app","revision":1,"message":""}
+tell {"id":"0b000000-0000-4000-8000-000000000003","kind":"revision","change":301,"project":"site","revision":1,"message":"Depends-On: https://forge/c/102"}
+tell {"id":"0b000000-0000-4000-8000-000000000004","kind":"approved","change":101,"revision":1}
+tell {"id":"0b000000-0000-4000-8000-000000000005","kind":"approved","change":102,"revision":1}
+tell {"id":"0b000000-0000-4000-8000-000000000006","kind":"approved","change":301,"revision":1}
+200 waiting-change GET /changes/301 HTTP/1.1\r\n\r\n
+drip waiting-change GET /changes/301?why HTTP/1.1\r\n\r\n
 = a cut delivery changes nothing
 cut cut POST /forge HTTP/1.1\r\nHost: gate\r\nContent-Length: 89\r\n\r\n{"id":"00000000-0000-4000-8000-000000000001","kind":"approved","change":101,"revision":1}
 200 empty-status GET /status HTTP/1.1\r\n\r\n
@@ -140,7 +168,7 @@ fn a_repeat_after_a_cut_answer_gets_the_kept_reply(rt: HostRuntime) {
 
 const ORDERS: &[u8] = b"GET /orders HTTP/1.1\r\n\r\n";
 
-fn serves_a_reader<B: Book>(rt: &(impl Abort + AllocGlobal), gate: &mut Gate<B>, orders: &[u8]) {
+fn serves_a_reader<B: Archive>(rt: &(impl Abort + AllocGlobal), gate: &mut Gate<B>, orders: &[u8]) {
     let mut writer = Tap::new(Vec::new(rt.alloc()));
     let served = serve_one(rt.alloc(), gate, &mut Tap::new(ORDERS), &mut writer);
     let bytes = writer.into_inner();

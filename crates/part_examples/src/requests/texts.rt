@@ -26,6 +26,15 @@ get-alone HTTP/1.1 405 Method Not Allowed\r\nContent-Type: application/json\r\nC
 get-alone-to-head HTTP/1.1 405 Method Not Allowed\r\nContent-Type: application/json\r\nContent-Length: 18\r\nAllow: GET\r\nConnection: close\r\n\r\n
 history HTTP/1.1 200 OK\r\nContent-Type: text/plain\r\nConnection: close\r\n\r\nhistory core\nend 0\n
 torn HTTP/1.1 200 OK\r\nContent-Type: text/plain\r\nConnection: close\r\n\r\nhistory core\n
+no-item HTTP/1.1 404 Not Found\r\nContent-Type: application/json\r\nContent-Length: 19\r\nConnection: close\r\n\r\n{"error":"no-item"}
+no-delivery HTTP/1.1 404 Not Found\r\nContent-Type: application/json\r\nContent-Length: 23\r\nConnection: close\r\n\r\n{"error":"no-delivery"}
+no-route-to-head HTTP/1.1 404 Not Found\r\nContent-Type: application/json\r\nContent-Length: 20\r\nConnection: close\r\n\r\n
+waiting-change HTTP/1.1 200 OK\r\nContent-Type: application/json\r\nContent-Length: 184\r\nConnection: close\r\n\r\n{"approval":3,"change":301,"full":false,"needs":[{"approval":null,"change":102,"stands":"core","state":"open"}],"order":null,"project":"site","queue":"web","revision":1,"state":"open"}
+stopped-item HTTP/1.1 200 OK\r\nContent-Type: application/json\r\nContent-Length: 257\r\nConnection: close\r\n\r\n{"builds":[{"build":3,"job":"unit","live":false,"outcome":"running"},{"build":4,"job":"unit","live":true,"outcome":"running"}],"change":102,"jobs":[{"job":"unit","slot":"running","voting":true}],"kept":2,"order":2,"queue":"core","revision":1,"verdict":null}
+two-running HTTP/1.1 200 OK\r\nContent-Type: application/json\r\nContent-Length: 176\r\nConnection: close\r\n\r\n{"builds":[{"build":2,"change":101,"job":"docs","order":1,"queue":"core","revision":1},{"build":4,"change":102,"job":"unit","order":2,"queue":"core","revision":1}],"running":2}
+last-deliveries HTTP/1.1 200 OK\r\nContent-Type: text/plain\r\nConnection: close\r\n\r\n{"build":1,"id":"0b000000000040008000000000000008","kind":"result","outcome":"failure"}\n{"id":"0b000000000040008000000000000009","kind":"take","worker":"w1"}\n{"build":3,"id":"0b000000000040008000000000000010","kind":"result","outcome":"success"}\nend 3\n
+no-deliveries HTTP/1.1 200 OK\r\nContent-Type: text/plain\r\nConnection: close\r\n\r\nend 0\n
+core-history-from-2 HTTP/1.1 200 OK\r\nContent-Type: text/plain\r\nConnection: close\r\n\r\nhistory core\n     2      1       101    1 failed          -\nend 2\n
 no-queue HTTP/1.1 404 Not Found\r\nContent-Type: application/json\r\nContent-Length: 20\r\nConnection: close\r\n\r\n{"error":"no-queue"}
 unavailable HTTP/1.1 503 Service Unavailable\r\nContent-Type: application/json\r\nContent-Length: 36\r\nConnection: close\r\n\r\n{"code":"E15","error":"unavailable"}
 empty-status HTTP/1.1 200 OK\r\nContent-Type: text/plain\r\nContent-Length: 61\r\nConnection: close\r\n\r\nqueue core window 2 landed 0\nqueue web window 2 landed 0\nend\n

@@ -1,4 +1,5 @@
 //! A book whose histories break off.
+use gate_archive::{Archive, BuildSummary, FeedFault, LeftItem};
 use gate_book::{Book, BookFault, HistoryFault, QueuedItem};
 use gate_types::edits::Edit;
 use gate_types::names::Name;
@@ -148,5 +149,43 @@ impl<B: Book> Book for Torn<B> {
 
     fn apply(&mut self, edits: &[Edit]) -> Result<(), BookFault> {
         self.0.apply(edits)
+    }
+}
+
+impl<B: Archive> Archive for Torn<B> {
+    fn left(&mut self, serial: Serial) -> Result<Option<LeftItem>, BookFault> {
+        self.0.left(serial)
+    }
+
+    fn build_count(&mut self, serial: Serial) -> Result<u64, BookFault> {
+        self.0.build_count(serial)
+    }
+
+    fn last_builds(
+        &mut self,
+        serial: Serial,
+        most: u32,
+    ) -> Result<Sequence<BuildSummary>, BookFault> {
+        self.0.last_builds(serial, most)
+    }
+
+    fn history_from<W: Write>(
+        &mut self,
+        queue: &str,
+        from: u64,
+        front: &[u8],
+        w: &mut Tap<W>,
+    ) -> Result<(), HistoryFault> {
+        self.0.history_from(queue, from, front, w)
+    }
+
+    fn deliveries<W: Write>(
+        &mut self,
+        after: Option<Id>,
+        most: u64,
+        front: &[u8],
+        w: &mut Tap<W>,
+    ) -> Result<u64, FeedFault> {
+        self.0.deliveries(after, most, front, w)
     }
 }

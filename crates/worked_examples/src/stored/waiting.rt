@@ -3,6 +3,7 @@ use crate::claims::is;
 use crate::stored::files::{conn_of, gate_in, new_file};
 use crate::stored::tables::empty;
 use crate::talks::goes_on;
+use gate_archive::Archive;
 use gate_book::Book;
 use gate_core::Gate;
 use gate_types::numbers::ChangeNo;
@@ -54,12 +55,17 @@ fn needing<B: Book>(rt: &(impl Abort + AllocGlobal), book: &mut B, needed: u64) 
 }
 
 /// These ready changes need this one.
-fn need<B: Book>(rt: &(impl Abort + AllocGlobal), gate: &mut Gate<B>, needed: u64, wanted: &str) {
+fn need<B: Archive>(
+    rt: &(impl Abort + AllocGlobal),
+    gate: &mut Gate<B>,
+    needed: u64,
+    wanted: &str,
+) {
     let found = needing(rt, &mut gate.book, needed);
     is(rt, found.as_str(), wanted, "who needs a change");
 }
 
-fn tells_who_needs<B: Book>(rt: &(impl Abort + AllocGlobal), gate: &mut Gate<B>) {
+fn tells_who_needs<B: Archive>(rt: &(impl Abort + AllocGlobal), gate: &mut Gate<B>) {
     goes_on(rt, gate, "three changes wait", THREE_WAIT);
     need(rt, gate, 101, "1 104\n2 103\n");
     need(rt, gate, 102, "2 103\n3 106\n");

@@ -1,5 +1,6 @@
 use Rattle.std.specs.Io.Buffered.{writer_contents}
 use Rattle.gate_types.specs.Tap.{inside}
+use Rattle.gate_http.specs.declared.response.Form.TheVariants as form
 use Rattle.gate_http.specs.Way.{way_of}
 use Rattle.gate_http.proofs.ServingLemmas.{serves_weaker}
 use Rattle.gate_http.proofs.ConnectionLemmas.{called_once, sent_whole, broke_off}
@@ -16,7 +17,7 @@ pub returns-clause-sent : goal.returns-clause-sent
 returns-clause-sent g c =
     let held = g.W.Write.contents in
     rw c.and.ensures (rw c.new-writer.ensures.value at (sent_whole held _ _
-    (λ r s P Q. serves_weaker g.B.Book.IsTrusted g.B.Book.Holds g.B.Book.LeavesOneOf (way_of r) c.args.gate.now
+    (λ r s P Q. serves_weaker g.B.Book.IsTrusted g.B.Book.Holds g.B.Book.LeavesOneOf form.Response (way_of r) c.args.gate.now
     c.serve_one-served.new.gate s P Q)
     (writer_contents held (inside c.new-writer.result)) (writer_contents held (inside c.serve_one-served.new.writer))
     c.send-sent.new.writer c.into_parts.result.0 c.serve_one-served.result c.send-sent.result c.serve_one-served.ensures.ok

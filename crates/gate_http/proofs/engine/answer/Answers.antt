@@ -1,52 +1,49 @@
 -- Each response stands on what was read, on what was decided, and on what was written.
-use Rattle.std.proofs.Common.{[], false, refl, arith, ◌≤◌, inl}
+use Rattle.std.proofs.Common.{[], false, refl, arith, ◌≤◌}
 use Rattle.std.proofs.KnownBytes.{Appends-nil}
+use Rattle.gate_types.specs.Tap.{Took, TookFront}
 use Rattle.gate_http.specs.declared.fault.Fault.TheVariants as fault
-use Rattle.gate_http.specs.declared.served.Served.TheVariants.{Answered}
-use Rattle.gate_http.specs.Faults.{fault_status}
-use Rattle.gate_http.specs.Asked.{page, answer_status, is_status_page}
-use Rattle.gate_http.specs.Response.{fault_response, answer_response}
+use Rattle.gate_http.specs.declared.respond.Told.TheVariants as told
+use Rattle.gate_http.specs.declared.response.Form.TheVariants as form
+use Rattle.gate_http.specs.declared.served.Served.TheVariants.{Nothing}
+use Rattle.gate_http.specs.Asked.{delivery}
+use Rattle.gate_http.specs.Exchange.{Comes, Broke}
+use Rattle.gate_http.specs.Parts.{read_by}
+use Rattle.gate_http.specs.Way.{silence, question, way_on}
 use Rattle.gate_http.proofs.BoundLemmas.{posted_within}
-use Rattle.gate_http.proofs.ExchangeLemmas.{exchange_nothing, exchange_part, exchange_too_much, exchange_refused, exchange_shown, exchange_named, exchange_posted, exchange_cut, body_waits, recall_read}
-use Rattle.gate_http.proofs.WriteLemmas.{answers, breaks, recalls_whole, recalls_front}
+use Rattle.gate_http.proofs.ExchangeLemmas.{read_as, read_nothing, read_part, read_too_much, read_refused, read_wanted, read_posted, read_cut, body_waits}
+use Rattle.gate_http.proofs.WriteLemmas.{told_whole, told_front, comes_read, comes_begun, refused_read, refused_begun}
 use Rattle.gate_http.proofs.engine.answer.Goals as goal
 
 pub returns-in-Ok-Nothing-clause-ok : goal.returns-in-Ok-Nothing-clause-ok
-returns-in-Ok-Nothing-clause-ok g c = inl (
-  [],
-  exchange_nothing g.G.Respond.responds _ _ _ _ (rw c.in-Ok-Nothing.field-0-is at c.in-Ok-Nothing.ensures.ok),
-  Appends-nil _,
-)
+returns-in-Ok-Nothing-clause-ok g c =
+    read_as _ _ silence (λ w. Comes g.G.Respond.responds g.G.Respond.recalls form.Response w c.args.gate.now
+    (Took g.W.Write.contents c.args.writer.now c.args.writer.now) c.args.gate.now Nothing)
+    (read_nothing _ _ _ (rw c.in-Ok-Nothing.field-0-is at c.in-Ok-Nothing.ensures.ok)) (refl, Appends-nil _, refl)
 
 pub returns-in-Ok-Part-clause-ok : goal.returns-in-Ok-Part-clause-ok
 returns-in-Ok-Part-clause-ok g c =
-    answers g.G.Respond.responds g.G.Respond.recalls _ _ (Answered (fault_status fault.Cut))
-    (fault_response fault.Cut false) c.refuse.result
-    (λ served e. exchange_part g.G.Respond.responds _ _ _ served _ (rw c.in-Ok-Part.field-0-is at c.in-Ok-Part.ensures.ok) e)
-    c.refuse.ensures.ok
+    refused_read g.G.Respond.responds g.G.Respond.recalls form.Response _ _ c.args.gate.now fault.Cut false
+    (Took g.W.Write.contents c.args.writer.now c.refuse.new.writer) c.refuse.result
+    (read_part _ _ _ (rw c.in-Ok-Part.field-0-is at c.in-Ok-Part.ensures.ok)) c.refuse.ensures.ok
 
 pub returns-in-Ok-Part-clause-write : goal.returns-in-Ok-Part-clause-write
 returns-in-Ok-Part-clause-write g c =
-    breaks g.G.Respond.responds g.G.Respond.recalls _ _ (Answered (fault_status fault.Cut))
-    (fault_response fault.Cut false) c.refuse.result
-    (λ served e. exchange_part g.G.Respond.responds _ _ _ served _ (rw c.in-Ok-Part.field-0-is at c.in-Ok-Part.ensures.ok) e)
-    c.refuse.ensures.err
+    refused_begun g.G.Respond.responds g.G.Respond.recalls form.Response _ _ c.args.gate.now fault.Cut false
+    (TookFront g.W.Write.contents c.args.writer.now c.refuse.new.writer) c.refuse.result
+    (read_part _ _ _ (rw c.in-Ok-Part.field-0-is at c.in-Ok-Part.ensures.ok)) c.refuse.ensures.err
 
 pub returns-in-Ok-TooMuch-clause-ok : goal.returns-in-Ok-TooMuch-clause-ok
 returns-in-Ok-TooMuch-clause-ok g c =
-    answers g.G.Respond.responds g.G.Respond.recalls _ _ (Answered (fault_status fault.HeadTooLarge))
-    (fault_response fault.HeadTooLarge false) c.refuse-in-Ok-TooMuch.result
-    (λ served e. exchange_too_much g.G.Respond.responds _ _ _ served _
-    (rw c.in-Ok-TooMuch.field-0-is at c.in-Ok-TooMuch.ensures.ok) e)
-    c.refuse-in-Ok-TooMuch.ensures.ok
+    refused_read g.G.Respond.responds g.G.Respond.recalls form.Response _ _ c.args.gate.now fault.HeadTooLarge false
+    (Took g.W.Write.contents c.args.writer.now c.refuse-in-Ok-TooMuch.new.writer) c.refuse-in-Ok-TooMuch.result
+    (read_too_much _ _ _ (rw c.in-Ok-TooMuch.field-0-is at c.in-Ok-TooMuch.ensures.ok)) c.refuse-in-Ok-TooMuch.ensures.ok
 
 pub returns-in-Ok-TooMuch-clause-write : goal.returns-in-Ok-TooMuch-clause-write
 returns-in-Ok-TooMuch-clause-write g c =
-    breaks g.G.Respond.responds g.G.Respond.recalls _ _ (Answered (fault_status fault.HeadTooLarge))
-    (fault_response fault.HeadTooLarge false) c.refuse-in-Ok-TooMuch.result
-    (λ served e. exchange_too_much g.G.Respond.responds _ _ _ served _
-    (rw c.in-Ok-TooMuch.field-0-is at c.in-Ok-TooMuch.ensures.ok) e)
-    c.refuse-in-Ok-TooMuch.ensures.err
+    refused_begun g.G.Respond.responds g.G.Respond.recalls form.Response _ _ c.args.gate.now fault.HeadTooLarge false
+    (TookFront g.W.Write.contents c.args.writer.now c.refuse-in-Ok-TooMuch.new.writer) c.refuse-in-Ok-TooMuch.result
+    (read_too_much _ _ _ (rw c.in-Ok-TooMuch.field-0-is at c.in-Ok-TooMuch.ensures.ok)) c.refuse-in-Ok-TooMuch.ensures.err
 
 pub read_body-requires-clause-room : goal.read_body-requires-clause-room
 read_body-requires-clause-room g c =
@@ -56,59 +53,55 @@ read_body-requires-clause-room g c =
 
 pub returns-in-Refuse-clause-ok : goal.returns-in-Refuse-clause-ok
 returns-in-Refuse-clause-ok g c =
-    answers g.G.Respond.responds g.G.Respond.recalls _ _ (Answered (fault_status c.in-Refuse.fault))
-    (fault_response c.in-Refuse.fault c.in-Refuse.bodiless) c.refuse-in-Refuse.result
-    (λ served e. exchange_refused g.G.Respond.responds _ _ _ served _ c.in-Refuse.fault c.in-Refuse.bodiless
-    (rw c.in-Ok-Whole.field-0-is at c.in-Ok-Whole.ensures.ok)
-    (rw c.as_slice.ensures.value at c.in-Refuse.ensures) e)
-    c.refuse-in-Refuse.ensures.ok
+    refused_read g.G.Respond.responds g.G.Respond.recalls form.Response _ _ c.args.gate.now c.in-Refuse.fault c.in-Refuse.bodiless
+    (Took g.W.Write.contents c.args.writer.now c.refuse-in-Refuse.new.writer) c.refuse-in-Refuse.result
+    (read_refused _ _ _ c.in-Refuse.fault c.in-Refuse.bodiless
+    (rw c.in-Ok-Whole.field-0-is at c.in-Ok-Whole.ensures.ok) (rw c.as_slice.ensures.value at c.in-Refuse.ensures)) c.refuse-in-Refuse.ensures.ok
 
 pub returns-in-Refuse-clause-write : goal.returns-in-Refuse-clause-write
 returns-in-Refuse-clause-write g c =
-    breaks g.G.Respond.responds g.G.Respond.recalls _ _ (Answered (fault_status c.in-Refuse.fault))
-    (fault_response c.in-Refuse.fault c.in-Refuse.bodiless) c.refuse-in-Refuse.result
-    (λ served e. exchange_refused g.G.Respond.responds _ _ _ served _ c.in-Refuse.fault c.in-Refuse.bodiless
-    (rw c.in-Ok-Whole.field-0-is at c.in-Ok-Whole.ensures.ok)
-    (rw c.as_slice.ensures.value at c.in-Refuse.ensures) e)
-    c.refuse-in-Refuse.ensures.err
+    refused_begun g.G.Respond.responds g.G.Respond.recalls form.Response _ _ c.args.gate.now c.in-Refuse.fault c.in-Refuse.bodiless
+    (TookFront g.W.Write.contents c.args.writer.now c.refuse-in-Refuse.new.writer) c.refuse-in-Refuse.result
+    (read_refused _ _ _ c.in-Refuse.fault c.in-Refuse.bodiless
+    (rw c.in-Ok-Whole.field-0-is at c.in-Ok-Whole.ensures.ok) (rw c.as_slice.ensures.value at c.in-Refuse.ensures)) c.refuse-in-Refuse.ensures.err
 
 pub returns-in-Ok-true-clause-ok : goal.returns-in-Ok-true-clause-ok
 returns-in-Ok-true-clause-ok g c =
-    answers g.G.Respond.responds g.G.Respond.recalls _ _ (Answered (answer_status c.hear-said.result))
-    (answer_response false c.hear-said.result) c.tell.result
-    (λ served e. exchange_posted g.G.Respond.responds _ _ _ _ _ served _ _ c.in-Post.door c.in-Post.n c.hear-said.result
-    (rw c.in-Ok-Whole.field-0-is at c.in-Ok-Whole.ensures.ok)
-    (rw c.as_slice.ensures.value at c.in-Post.ensures) (rw c.in-Ok-true.field-0-test at c.in-Ok-true.ensures.ok)
-    (rw c.as_slice-in-Ok-true.ensures.value at c.hear-said.ensures) e)
-    c.tell.ensures.ok
+    let Takes = Took g.W.Write.contents c.args.writer.now c.tell.new.writer in
+    let asked = delivery c.in-Post.door c.read_body.new.body.items in
+    comes_read g.G.Respond.responds g.G.Respond.recalls form.Response _ _ (question asked) c.args.gate.now
+    c.hear-said.new.self Takes c.tell.result
+    (read_posted _ _ _ _ _ c.in-Post.door c.in-Post.n (rw c.in-Ok-Whole.field-0-is at c.in-Ok-Whole.ensures.ok)
+    (rw c.as_slice.ensures.value at c.in-Post.ensures) (rw c.in-Ok-true.field-0-test at c.in-Ok-true.ensures.ok))
+    (told_whole g.G.Respond.responds g.G.Respond.recalls form.Response c.args.gate.now c.hear-said.new.self asked
+    (told.Answer c.hear-said.result) Takes c.tell.result
+    (rw c.as_slice-in-Ok-true.ensures.value at c.hear-said.ensures) c.tell.ensures.ok)
 
 pub returns-in-Ok-true-clause-write : goal.returns-in-Ok-true-clause-write
-returns-in-Ok-true-clause-write g c =
-    breaks g.G.Respond.responds g.G.Respond.recalls _ _ (Answered (answer_status c.hear-said.result))
-    (answer_response false c.hear-said.result) c.tell.result
-    (λ served e. exchange_posted g.G.Respond.responds _ _ _ _ _ served _ _ c.in-Post.door c.in-Post.n c.hear-said.result
-    (rw c.in-Ok-Whole.field-0-is at c.in-Ok-Whole.ensures.ok)
-    (rw c.as_slice.ensures.value at c.in-Post.ensures) (rw c.in-Ok-true.field-0-test at c.in-Ok-true.ensures.ok)
-    (rw c.as_slice-in-Ok-true.ensures.value at c.hear-said.ensures) e)
-    c.tell.ensures.err
+returns-in-Ok-true-clause-write g c = λ failed.
+    let Takes = TookFront g.W.Write.contents c.args.writer.now c.tell.new.writer in
+    let asked = delivery c.in-Post.door c.read_body.new.body.items in
+    comes_begun g.G.Respond.responds g.G.Respond.recalls form.Response _ _ (question asked) c.args.gate.now
+    c.hear-said.new.self Takes
+    (read_posted _ _ _ _ _ c.in-Post.door c.in-Post.n (rw c.in-Ok-Whole.field-0-is at c.in-Ok-Whole.ensures.ok)
+    (rw c.as_slice.ensures.value at c.in-Post.ensures) (rw c.in-Ok-true.field-0-test at c.in-Ok-true.ensures.ok))
+    (told_front g.G.Respond.responds g.G.Respond.recalls form.Response c.args.gate.now c.hear-said.new.self asked
+    (told.Answer c.hear-said.result) Takes c.tell.result
+    (rw c.as_slice-in-Ok-true.ensures.value at c.hear-said.ensures) c.tell.ensures.err failed)
 
 pub returns-in-Ok-false-clause-ok : goal.returns-in-Ok-false-clause-ok
 returns-in-Ok-false-clause-ok g c =
-    answers g.G.Respond.responds g.G.Respond.recalls _ _ (Answered (fault_status fault.Cut))
-    (fault_response fault.Cut false) c.refuse-in-Ok-false.result
-    (λ served e. exchange_cut g.G.Respond.responds _ _ _ _ served _ _ c.in-Post.door c.in-Post.n
-    (rw c.in-Ok-Whole.field-0-is at c.in-Ok-Whole.ensures.ok)
-    (rw c.as_slice.ensures.value at c.in-Post.ensures) (rw c.in-Ok-false.field-0-test at c.in-Ok-false.ensures.ok) e)
-    c.refuse-in-Ok-false.ensures.ok
+    refused_read g.G.Respond.responds g.G.Respond.recalls form.Response _ _ c.args.gate.now fault.Cut false
+    (Took g.W.Write.contents c.args.writer.now c.refuse-in-Ok-false.new.writer) c.refuse-in-Ok-false.result
+    (read_cut _ _ _ _ _ c.in-Post.door c.in-Post.n (rw c.in-Ok-Whole.field-0-is at c.in-Ok-Whole.ensures.ok)
+    (rw c.as_slice.ensures.value at c.in-Post.ensures) (rw c.in-Ok-false.field-0-test at c.in-Ok-false.ensures.ok)) c.refuse-in-Ok-false.ensures.ok
 
 pub returns-in-Ok-false-clause-write : goal.returns-in-Ok-false-clause-write
 returns-in-Ok-false-clause-write g c =
-    breaks g.G.Respond.responds g.G.Respond.recalls _ _ (Answered (fault_status fault.Cut))
-    (fault_response fault.Cut false) c.refuse-in-Ok-false.result
-    (λ served e. exchange_cut g.G.Respond.responds _ _ _ _ served _ _ c.in-Post.door c.in-Post.n
-    (rw c.in-Ok-Whole.field-0-is at c.in-Ok-Whole.ensures.ok)
-    (rw c.as_slice.ensures.value at c.in-Post.ensures) (rw c.in-Ok-false.field-0-test at c.in-Ok-false.ensures.ok) e)
-    c.refuse-in-Ok-false.ensures.err
+    refused_begun g.G.Respond.responds g.G.Respond.recalls form.Response _ _ c.args.gate.now fault.Cut false
+    (TookFront g.W.Write.contents c.args.writer.now c.refuse-in-Ok-false.new.writer) c.refuse-in-Ok-false.result
+    (read_cut _ _ _ _ _ c.in-Post.door c.in-Post.n (rw c.in-Ok-Whole.field-0-is at c.in-Ok-Whole.ensures.ok)
+    (rw c.as_slice.ensures.value at c.in-Post.ensures) (rw c.in-Ok-false.field-0-test at c.in-Ok-false.ensures.ok)) c.refuse-in-Ok-false.ensures.err
 
 pub returns-in-Err-read_body-clause-read : goal.returns-in-Err-read_body-clause-read
 returns-in-Err-read_body-clause-read g c = λ _. (
@@ -119,64 +112,23 @@ returns-in-Err-read_body-clause-read g c = λ _. (
   refl,
 )
 
-pub returns-in-Show-clause-ok : goal.returns-in-Show-clause-ok
-returns-in-Show-clause-ok g c =
-    answers g.G.Respond.responds g.G.Respond.recalls _ _ (Answered (answer_status c.show-said.result))
-    (answer_response (is_status_page (page c.in-Show.wanted)) c.show-said.result) c.tell-in-Show.result
-    (λ served e. exchange_shown g.G.Respond.responds _ _ _ _ served _ c.in-Show.wanted c.show-said.result
-    (rw c.in-Ok-Whole.field-0-is at c.in-Ok-Whole.ensures.ok)
-    (rw c.as_slice.ensures.value at c.in-Show.ensures) c.show-said.ensures e)
-    (rw c.is_status.ensures at c.tell-in-Show.ensures.ok)
+pub returns-in-Read-clause-ok : goal.returns-in-Read-clause-ok
+returns-in-Read-clause-ok g c =
+    comes_read g.G.Respond.responds g.G.Respond.recalls form.Response _ _ (way_on [] (read_by c.in-Read.wanted))
+    c.args.gate.now c.answer_wanted.new.gate (Took g.W.Write.contents c.args.writer.now c.answer_wanted.new.writer)
+    c.answer_wanted.result (read_wanted _ _ _ c.in-Read.wanted (rw c.in-Ok-Whole.field-0-is at c.in-Ok-Whole.ensures.ok) (rw c.as_slice.ensures.value at c.in-Read.ensures))
+    c.answer_wanted.ensures.ok
 
-pub returns-in-Show-clause-write : goal.returns-in-Show-clause-write
-returns-in-Show-clause-write g c =
-    breaks g.G.Respond.responds g.G.Respond.recalls _ _ (Answered (answer_status c.show-said.result))
-    (answer_response (is_status_page (page c.in-Show.wanted)) c.show-said.result) c.tell-in-Show.result
-    (λ served e. exchange_shown g.G.Respond.responds _ _ _ _ served _ c.in-Show.wanted c.show-said.result
-    (rw c.in-Ok-Whole.field-0-is at c.in-Ok-Whole.ensures.ok)
-    (rw c.as_slice.ensures.value at c.in-Show.ensures) c.show-said.ensures e)
-    (rw c.is_status.ensures at c.tell-in-Show.ensures.err)
+pub returns-in-Read-clause-write : goal.returns-in-Read-clause-write
+returns-in-Read-clause-write g c = λ failed.
+    comes_begun g.G.Respond.responds g.G.Respond.recalls form.Response _ _ (way_on [] (read_by c.in-Read.wanted))
+    c.args.gate.now c.answer_wanted.new.gate (TookFront g.W.Write.contents c.args.writer.now c.answer_wanted.new.writer)
+    (read_wanted _ _ _ c.in-Read.wanted (rw c.in-Ok-Whole.field-0-is at c.in-Ok-Whole.ensures.ok) (rw c.as_slice.ensures.value at c.in-Read.ensures))
+    (c.answer_wanted.ensures.write failed)
 
-pub returns-in-ShowBuild-clause-ok : goal.returns-in-ShowBuild-clause-ok
-returns-in-ShowBuild-clause-ok g c =
-    answers g.G.Respond.responds g.G.Respond.recalls _ _ (Answered (answer_status c.show_build-said.result))
-    (answer_response false c.show_build-said.result) c.tell-in-ShowBuild.result
-    (λ served e. exchange_named g.G.Respond.responds _ _ _ _ served _ c.in-ShowBuild.id.now c.show_build-said.result
-    (rw c.in-Ok-Whole.field-0-is at c.in-Ok-Whole.ensures.ok)
-    (rw c.as_slice.ensures.value at c.in-ShowBuild.ensures) c.show_build-said.ensures e)
-    c.tell-in-ShowBuild.ensures.ok
-
-pub returns-in-ShowBuild-clause-write : goal.returns-in-ShowBuild-clause-write
-returns-in-ShowBuild-clause-write g c =
-    breaks g.G.Respond.responds g.G.Respond.recalls _ _ (Answered (answer_status c.show_build-said.result))
-    (answer_response false c.show_build-said.result) c.tell-in-ShowBuild.result
-    (λ served e. exchange_named g.G.Respond.responds _ _ _ _ served _ c.in-ShowBuild.id.now c.show_build-said.result
-    (rw c.in-Ok-Whole.field-0-is at c.in-Ok-Whole.ensures.ok)
-    (rw c.as_slice.ensures.value at c.in-ShowBuild.ensures) c.show_build-said.ensures e)
-    c.tell-in-ShowBuild.ensures.err
-
-pub returns-in-ShowHistory-clause-ok : goal.returns-in-ShowHistory-clause-ok
-returns-in-ShowHistory-clause-ok g c =
-    recalls_whole g.G.Respond.responds g.G.Respond.recalls _ _ _ _ c.in-ShowHistory.queue.now _ c.tell_history.result
-    (recall_read _ _ _ c.in-ShowHistory.queue.now (rw c.in-Ok-Whole.field-0-is at c.in-Ok-Whole.ensures.ok)
-    (rw c.as_slice.ensures.value at c.in-ShowHistory.ensures))
-    c.tell_history.ensures.ok
-
-pub returns-in-ShowHistory-clause-write : goal.returns-in-ShowHistory-clause-write
-returns-in-ShowHistory-clause-write g c = λ failed.
-    recalls_front g.G.Respond.responds g.G.Respond.recalls _ _ _ _ c.in-ShowHistory.queue.now _
-    (recall_read _ _ _ c.in-ShowHistory.queue.now (rw c.in-Ok-Whole.field-0-is at c.in-Ok-Whole.ensures.ok)
-    (rw c.as_slice.ensures.value at c.in-ShowHistory.ensures))
-    (c.tell_history.ensures.write failed)
-
-pub returns-in-ShowHistory-clause-store : goal.returns-in-ShowHistory-clause-store
-returns-in-ShowHistory-clause-store g c = λ broken.
-    let q = recall_read _ _ _ c.in-ShowHistory.queue.now (rw c.in-Ok-Whole.field-0-is at c.in-Ok-Whole.ensures.ok)
-    (rw c.as_slice.ensures.value at c.in-ShowHistory.ensures) in
-    record {
-      request = q.0;
-      read = q.1;
-      name = c.in-ShowHistory.queue.now;
-      asks = q.2;
-      begun = c.tell_history.ensures.store broken;
-    }
+pub returns-in-Read-clause-store : goal.returns-in-Read-clause-store
+returns-in-Read-clause-store g c = λ broken.
+    read_as _ _ (way_on [] (read_by c.in-Read.wanted)) (λ w. Broke g.G.Respond.recalls form.Response w c.args.gate.now
+    (TookFront g.W.Write.contents c.args.writer.now c.answer_wanted.new.writer) c.answer_wanted.new.gate)
+    (read_wanted _ _ _ c.in-Read.wanted (rw c.in-Ok-Whole.field-0-is at c.in-Ok-Whole.ensures.ok) (rw c.as_slice.ensures.value at c.in-Read.ensures))
+    (c.answer_wanted.ensures.store broken)

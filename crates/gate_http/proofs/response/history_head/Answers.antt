@@ -1,9 +1,0 @@
--- By computing.
-use Rattle.std.proofs.Common.{refl}
-use Rattle.std.specs.Fmt.{digits}
-use Rattle.gate_http.specs.Response.{status_line, line, history_head}
-use Rattle.gate_http.proofs.response.history_head.Goals as goal
-
-pub returns : goal.returns
-unfolding digits status_line line history_head
-returns c = refl

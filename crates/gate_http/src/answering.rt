@@ -1,0 +1,197 @@
+//! Answers are written: a refusal of HTTP's own, what is told at once, and what is written line by line.
+ghost use Rattle.std.specs.Prelude.{◌≡◌, ◌≤◌, [], false, true, OnOk, OnErr, IfOk, IfErr, IsErrOf, vec_capacity, ◌⊎◌};
+ghost use Rattle.gate_types.specs.Tap.{has_failed, Took, TookFront};
+ghost use Rattle.gate_http.specs.Faults.{fault_status};
+ghost use Rattle.gate_http.specs.Asked.{is_status_page, told_status, streamed_by, missing_of};
+ghost use Rattle.gate_http.specs.Response.{fault_content, told_kind, fault_in, told_in};
+ghost use Rattle.gate_http.specs.Exchange.{OfLines, Recalled};
+ghost use Rattle.gate_http.specs.Parts.{asked_by, ReadsTo, BreaksOff};
+
+use crate::fault::Fault;
+use crate::request::{Question, Wanted};
+use crate::respond::{Page, Respond, Stream, StreamFault, Told, status_of, text_of};
+use crate::response::{Form, allow_of, front_of, write_answer};
+use crate::served::Served;
+use gate_core::IoFault;
+use gate_types::deliveries::{Answer, Refusal};
+use gate_types::tap::Tap;
+use std::alloc::Global;
+use std::io::Write;
+
+/// The content of an answer of HTTP's own, or nothing.
+fn content_of(fault: Fault, bodiless: bool) -> &'static str
+    ensures { result.now ≡ fault_content fault bodiless }
+{
+    if bodiless { "" } else { fault.text() }
+}
+
+/// The type of what is told.
+fn kind_of(told: &Told, is_status_page: bool) -> &'static str
+    ensures { result.now ≡ told_kind is_status_page told.now }
+{
+    if is_status_page && status_of(told) == 200 {
+        "text/plain"
+    } else {
+        "application/json"
+    }
+}
+
+/// Whether this asks for the page that is plain text.
+fn is_status(question: Question<'_>) -> bool
+    ensures { result ≡ is_status_page (asked_by question.entry) }
+{
+    matches!(question, Question::Page(Page::Status))
+}
+
+/// Writes an answer of HTTP's own.
+pub(crate) fn refuse<W: Write>(
+    writer: &mut Tap<W>,
+    room: &mut Vec<u8>,
+    form: Form,
+    fault: Fault,
+    bodiless: bool,
+) -> Result<Served, IoFault>
+    requires writer { has_failed writer.old ≡ false }
+    requires empty { room.old.items ≡ [] }
+    requires room { 256 ≤ vec_capacity room.old }
+    ensures ok { IfOk result (λ served. (served ≡ Served.Answered (fault_status fault))
+        × Took W.contents writer.old writer.new (fault_in form fault bodiless)) }
+    ensures err { OnErr result (TookFront W.contents writer.old writer.new (fault_in form fault bodiless)) }
+    ensures write { IfErr result (λ e. e ≡ IoFault.Write) }
+    ensures unfailed { OnOk result (has_failed writer.new ≡ false) }
+    ensures failed { OnErr result (has_failed writer.new ≡ true) }
+{
+    let status = fault.status();
+    let len = fault.text().len();
+    let content = content_of(fault, bodiless);
+    let kind = "application/json";
+    match write_answer(
+        writer,
+        room,
+        form,
+        status,
+        kind,
+        len,
+        allow_of(fault),
+        content,
+    ) {
+        Ok(()) => Ok(Served::Answered(status)),
+        Err(_) => Err(IoFault::Write),
+    }
+}
+
+/// Writes what is told.
+pub(crate) fn tell<W: Write>(
+    writer: &mut Tap<W>,
+    room: &mut Vec<u8>,
+    form: Form,
+    told: &Told,
+    is_status_page: bool,
+) -> Result<Served, IoFault>
+    requires writer { has_failed writer.old ≡ false }
+    requires empty { room.old.items ≡ [] }
+    requires room { 256 ≤ vec_capacity room.old }
+    ensures ok { IfOk result (λ served. (served ≡ Served.Answered (told_status told.now))
+        × Took W.contents writer.old writer.new (told_in form is_status_page told.now)) }
+    ensures err { OnErr result (TookFront W.contents writer.old writer.new (told_in form is_status_page told.now)) }
+    ensures write { IfErr result (λ e. e ≡ IoFault.Write) }
+    ensures unfailed { OnOk result (has_failed writer.new ≡ false) }
+    ensures failed { OnErr result (has_failed writer.new ≡ true) }
+{
+    let status = status_of(told);
+    let text = text_of(told);
+    let kind = kind_of(told, is_status_page);
+    match write_answer(writer, room, form, status, kind, text.len(), "", text) {
+        Ok(()) => Ok(Served::Answered(status)),
+        Err(_) => Err(IoFault::Write),
+    }
+}
+
+/// What is told to a question.
+fn ask<G: Respond>(alloc: Global, gate: &mut G, question: Question<'_>) -> Told
+    ensures { G.responds gate.old (asked_by question.entry) result gate.new }
+{
+    match question {
+        Question::Page(wanted) => Told::Answer(gate.show(alloc, wanted)),
+        Question::Build(number) => Told::Answer(gate.show_build(alloc, number)),
+        Question::Change(number) => Told::Answer(gate.show_change(alloc, number)),
+        Question::Item(number) => gate.show_item(alloc, number),
+    }
+}
+
+/// The answer where there is nothing of the kind.
+fn missing_of(wanted: Stream<'_>) -> Fault
+    ensures { result ≡ missing_of (streamed_by wanted.entry) }
+{
+    match wanted {
+        Stream::History(_) | Stream::HistoryFrom(_, _) => Fault::NoQueue,
+        Stream::Deliveries | Stream::DeliveriesAfter(_) => Fault::NoDelivery,
+    }
+}
+
+/// Writes lines as they are read, or an answer in their place.
+fn tell_lines<G: Respond, W: Write>(
+    alloc: Global,
+    gate: &mut G,
+    writer: &mut Tap<W>,
+    room: &mut Vec<u8>,
+    form: Form,
+    wanted: Stream<'_>,
+) -> Result<Served, IoFault>
+    requires writer { has_failed writer.old ≡ false }
+    requires empty { room.old.items ≡ [] }
+    requires room { 256 ≤ vec_capacity room.old }
+    ensures ok { IfOk result (λ served. Recalled G.recalls form gate.old (streamed_by wanted.entry)
+        (Took W.contents writer.old writer.new) gate.new served) }
+    ensures write { IsErrOf result IoFault.Write → (served : Served) × Recalled G.recalls form gate.old
+        (streamed_by wanted.entry) (TookFront W.contents writer.old writer.new) gate.new served }
+    ensures store { IsErrOf result IoFault.Store → G.recalls gate.old (streamed_by wanted.entry)
+        (OfLines form (TookFront W.contents writer.old writer.new)) gate.new }
+    ensures others { IfErr result (λ e. (e ≡ IoFault.Write) ⊎ (e ≡ IoFault.Store)) }
+    ensures unfailed { OnOk result (has_failed writer.new ≡ false) }
+    ensures store_unfailed { IsErrOf result IoFault.Store → has_failed writer.new ≡ false }
+    ensures failed { IsErrOf result IoFault.Write → has_failed writer.new ≡ true }
+{
+    match gate.show_stream(alloc, wanted, front_of(form).as_bytes(), writer) {
+        Ok(()) => Ok(Served::Answered(200)),
+        Err(StreamFault::Missing) => refuse(writer, room, form, missing_of(wanted), false),
+        Err(StreamFault::Unavailable) => {
+            let said = Told::Answer(Answer::Refused(Refusal::Unavailable));
+            tell(writer, room, form, &said, false)
+        }
+        Err(StreamFault::Broken) => Err(IoFault::Store),
+        Err(StreamFault::Write) => Err(IoFault::Write),
+    }
+}
+
+/// Reads of the gate, and writes the answer.
+pub(crate) fn answer_wanted<G: Respond, W: Write>(
+    alloc: Global,
+    gate: &mut G,
+    writer: &mut Tap<W>,
+    room: &mut Vec<u8>,
+    form: Form,
+    wanted: Wanted<'_>,
+) -> Result<Served, IoFault>
+    requires writer { has_failed writer.old ≡ false }
+    requires empty { room.old.items ≡ [] }
+    requires room { 256 ≤ vec_capacity room.old }
+    ensures ok { IfOk result (ReadsTo G.responds G.recalls form wanted.entry gate.old
+        (Took W.contents writer.old writer.new) gate.new) }
+    ensures write { IsErrOf result IoFault.Write → (served : Served) × ReadsTo G.responds G.recalls form wanted.entry
+        gate.old (TookFront W.contents writer.old writer.new) gate.new served }
+    ensures store { IsErrOf result IoFault.Store → BreaksOff G.recalls form wanted.entry gate.old
+        (TookFront W.contents writer.old writer.new) gate.new }
+    ensures others { IfErr result (λ e. (e ≡ IoFault.Write) ⊎ (e ≡ IoFault.Store)) }
+    ensures unfailed { OnOk result (has_failed writer.new ≡ false) }
+    ensures store_unfailed { IsErrOf result IoFault.Store → has_failed writer.new ≡ false }
+    ensures failed { IsErrOf result IoFault.Write → has_failed writer.new ≡ true }
+{
+    match wanted {
+        Wanted::Ask(question) => {
+            let said = ask(alloc, gate, question);
+            tell(writer, room, form, &said, is_status(question))
+        }
+        Wanted::Lines(stream) => tell_lines(alloc, gate, writer, room, form, stream),
+    }
+}

@@ -1,0 +1,81 @@
+-- What asking a gate for its deliveries comes to.
+use Rattle.std.proofs.Common.{refl, ◌≡◌, sym, subst, ap, List, [], Option, ℕ}
+use Rattle.std.specs.Prelude.{Err, None, Some, option_map}
+use Rattle.gate_types.specs.Settings.{Settings}
+use Rattle.gate_types.specs.Once.{Content}
+use Rattle.gate_types.specs.declared.records.Id.{Id}
+use Rattle.gate_types.specs.declared.records.Kept.{Kept}
+use Rattle.gate_types.specs.declared.tap.Tap.{Tap}
+use Rattle.gate_book_trait.specs.Kept.{IsKept, OfHeldUnder}
+use Rattle.gate_archive.specs.Feed.{fed, feed_lines, id_named}
+use Rattle.gate_archive.specs.Writes.{LeavesFeed, OfFeed, TookSome}
+use Rattle.gate_archive.specs.declared.fault.FeedFault.{FeedFault}
+use Rattle.gate_archive.specs.declared.fault.FeedFault.TheVariants as feed
+use Rattle.gate_core.specs.declared.gate.Gate.{Gate}
+use Rattle.gate_core.specs.Gated.{Gated}
+use Rattle.gate_core.specs.Held.{Goes}
+use Rattle.gated_cli.proofs.FileLemmas.{same_passes}
+use Rattle.gated_cli.specs.Faults.{of_feed}
+use Rattle.gated_cli.specs.Showing.{LeavesLines, OfLines, behind_named, cursor, lines_behind, lines_told, most_told}
+use Rattle.gated_cli.specs.declared.run.fault.Fault.{Fault}
+use Rattle.gated_cli.specs.declared.run.fault.Fault.TheVariants as fault
+
+-- lines of deliveries that are written
+lines_are : (kept : List Kept) (after : Option Id) (Takes : List Kept → List ℕ → Type 0) (P : List ℕ → Type 0)
+    → ((told : List Kept) → (text : List ℕ) → Takes told text → P text) → OfFeed kept after most_told [] Takes
+    → OfLines (option_map feed_lines (fed after most_told kept)) P
+lines_are kept after Takes P gives of = record {
+  lines = feed_lines of.told;
+  are = ap (option_map feed_lines) of.are;
+  so = gives of.told (feed_lines of.told) of.taken;
+}
+
+-- why they are not written whole
+pub lines_left : {W : Type 0} (held : W → Option (List ℕ)) (old new : Tap W) (kept : List Kept) (after : Option Id) (f : FeedFault)
+    → LeavesFeed kept after most_told [] held old new f
+    → LeavesLines (option_map feed_lines (fed after most_told kept)) held old new (of_feed f)
+lines_left held old new kept after feed.NoDelivery leaves = ap (option_map feed_lines) leaves
+lines_left held old new kept after feed.Unavailable leaves = tt
+lines_left held old new kept after feed.Broken leaves =
+    lines_are kept after (λ told. TookSome held old new) (TookSome held old new) (λ told text so. so) leaves
+lines_left held old new kept after feed.Write leaves =
+    lines_are kept after (λ told. TookSome held old new) (TookSome held old new) (λ told text so. so) leaves
+
+-- what is asked of the book is so of the gate, which stays
+pub goes_asked : {B : Type 0} (trusted : B → Type 0) (holds : B → Settings → Content → Type 0) (leaves : B → Settings → List Content → Type 0)
+    (old new : Gate B) (P : Content → Type 0) (Q : Gated → Type 0) → OfHeldUnder trusted holds old.book new.book old.config P
+    → IsKept trusted holds leaves old.book new.book → new.config ≡ old.config → ((g : Gated) → P g.content → Q g)
+    → Goes trusted holds old new (λ g then. (then ≡ g) × Q g)
+goes_asked trusted holds leaves old new P Q of kept settings gives = record {
+  settings = settings;
+  trusted_before = kept.trusted_before;
+  passes = λ t g over. (
+    g,
+    record { settings = over.settings; held = kept.holds_on t old.config g.content over.held; lawful = over.lawful },
+    (refl, gives g (of t g.content over.held over.lawful)),
+  );
+}
+
+-- a text behind which nothing can be asked for names no delivery
+pub unnamed : (after : Option (List ℕ)) (f : Fault) → Err f ≡ cursor after → f ≡ fault.NoDelivery
+unnamed None f is = cc
+unnamed (Some text) f is = go (id_named text) is
+  where
+    go : (id : Option Id) → Err f ≡ behind_named id → f ≡ fault.NoDelivery
+    go None is = cc
+    go (Some id) is = cc
+
+-- then the gate isn't asked
+pub unasked : {B W : Type 0} (trusted : B → Type 0) (holds : B → Settings → Content → Type 0) (gate : Gate B)
+    (held : W → Option (List ℕ)) (output : Tap W) (after : Option (List ℕ)) (f : Fault) → Err f ≡ cursor after
+    → Goes trusted holds gate gate (λ g then. (then ≡ g) × LeavesLines (lines_told g after) held output output f)
+unasked trusted holds gate held output after f is = record {
+  settings = refl;
+  trusted_before = λ t. t;
+  passes = λ t g over.
+      let p = same_passes trusted holds gate.config gate.book gate.book refl t g over in (
+        p.0,
+        p.1,
+        (p.2, subst (λ f. LeavesLines (lines_told g after) held output output f) (sym (unnamed after f is)) (ap (lines_behind g) (sym is))),
+      );
+}

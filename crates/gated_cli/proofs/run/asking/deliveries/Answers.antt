@@ -1,0 +1,39 @@
+use Rattle.std.proofs.Common.{◌≡◌, ◌∙◌, ap, subst, sym}
+use Rattle.std.specs.Prelude.{IfSome, option_map}
+use Rattle.sqlite.specs.Held.{state}
+use Rattle.sqlite.specs.State.{HasCleanDisk}
+use Rattle.gate_core.specs.Gated.{Gated}
+use Rattle.gate_found_rows.specs.Finds.{Stays}
+use Rattle.gate_content_reads.specs.Held.{HoldsFor}
+use Rattle.gate_file_meta.specs.Opens.{IsJudged}
+use Rattle.gated_cli.specs.OverFile.{GoesOver}
+use Rattle.gated_cli.specs.Showing.{WritesLines, lines_told}
+use Rattle.gated_cli.proofs.FileLemmas.{goes_over, opens_to}
+use Rattle.gated_cli.proofs.run.asking.deliveries.Goals as goal
+
+pub returns-clause-gate : goal.returns-clause-gate
+returns-clause-gate g c unfaulted =
+    let went = c.write_deliveries-done.ensures.gate in
+    let last = c.into_conn.ensures ∙ ap (λ book. book.conn) c.into_book.ensures in
+    let P : Gated → Gated → Type 0 = λ gate after. (after ≡ gate) × WritesLines (lines_told gate (option_map (λ s. s.now) c.args.after)) g.W.Write.contents c.args.output.now c.write_deliveries-done.new.output c.write_deliveries-done.result in
+    let opened = state g.S.Store c.in-Ok.book.conn in
+    let over = goes_over (λ book. state g.S.Store book.conn) (λ book k x. HoldsFor (state g.S.Store book.conn) book.queues.items k x) (λ book k x held. held.shows)
+    (state g.S.Store c.args.conn) c.args.config c.new-gate.result.config
+    c.new-gate.result.book c.write_deliveries-done.new.gate.book P c.new-gate.ensures.config c.stays_lawful.ensures
+    (λ clean gate file. subst (λ book. HoldsFor (state g.S.Store book.conn) book.queues.items c.args.config gate.content) (sym c.new-gate.ensures.book)
+    (opens_to (λ x. HasCleanDisk opened → HoldsFor opened c.in-Ok.book.queues.items c.args.config x) (state g.S.Store c.args.conn) c.args.config gate c.in-Ok.ensures.opens c.in-Ok.ensures.adopts file
+    (subst (λ book. HasCleanDisk (state g.S.Store book.conn)) c.new-gate.ensures.book clean)))
+    went.trusted_before went.passes in
+    subst (λ conn. GoesOver (state g.S.Store c.args.conn) (state g.S.Store conn) c.args.config P) (sym last) over
+
+pub returns-clause-judged : goal.returns-clause-judged
+returns-clause-judged g c tables indexes views version kept schema meta clean =
+    let last = c.into_conn.ensures ∙ ap (λ book. book.conn) c.into_book.ensures in
+    let shown = subst (λ conn. HasCleanDisk (state g.S.Store conn)) last clean in
+    let opened = subst (λ book. HasCleanDisk (state g.S.Store book.conn)) c.new-gate.ensures.book (c.write_deliveries-done.ensures.gate.trusted_before shown) in
+    subst (λ f. IsJudged f version kept c.args.config) (sym c.write_deliveries-done.ensures.opened)
+    (c.in-Ok.ensures.judged tables indexes views version kept schema meta opened)
+
+pub returns-clause-none : goal.returns-clause-none
+returns-clause-none g c clean =
+    subst (λ f. IfSome f (λ _. Stays (state g.S.Store c.args.conn) (state g.S.Store c.into_conn.result))) (sym c.write_deliveries-done.ensures.opened) tt
