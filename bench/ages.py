@@ -11,8 +11,9 @@ CHANGES = 10
 
 SIZES = {
     "whole": {"opening": (1000, 4000, 16000), "age": (1000, 4000, 16000), "length": (10, 100, 900),
-              "waiting": (0, 100, 1000), "chain": (10, 100, 400)},
-    "small": {"opening": (10, 20), "age": (10, 20), "length": (10, 20), "waiting": (0, 10), "chain": (10, 20)},
+              "waiting": (0, 100, 1000), "chain": (10, 100, 400), "asked": (100, 10000)},
+    "small": {"opening": (10, 20), "age": (10, 20), "length": (10, 20), "waiting": (0, 10), "chain": (10, 20),
+              "asked": (10, 20)},
 }
 
 
@@ -57,6 +58,13 @@ class Gate:
 
     def opening(self):
         return counted(self.words(), b"", self.profile)[0]
+
+    def get(self, path):
+        """What asking for a path costs, without opening the file."""
+        words = [self.program, "get", self.settings, self.file]
+        idle, _ = counted(words + ["/"], b"", self.profile, status=1)
+        busy, _ = counted(words + [path], b"", self.profile)
+        return busy.over(idle, 1)
 
     def fresh(self, count):
         """Numbers of changes that are new."""
@@ -160,7 +168,23 @@ def chain(make, size):
     print(f"a chain of {size}".ljust(28), "a change", cost.part(size), flush=True)
 
 
-CASES = {"opening": opening, "age": age, "length": length, "waiting": waiting, "chain": chain}
+def asked(make, size):
+    """What a gate that runs is asked: of a change and an item of long ago, of a queued one, of one that waits, of the
+    last ten reports and the last ten deliveries, and of deliveries where none is new."""
+    gate = make()
+    live(gate, size)
+    orders = admit(gate, 10)
+    wait(gate, 1)
+    last = f"00000000-0000-4000-8000-{gate.sent:012}"
+    tenth = f"00000000-0000-4000-8000-{gate.sent - 10:012}"
+    paths = {"a landed change": "/changes/5", "one that waits": f"/changes/{gate.change}", "a landed item": "/items/5",
+             "a queued item": f"/items/{orders[-1]}", "ten reports": f"/history/core/{size - 9}",
+             "ten deliveries": f"/deliveries/{tenth}", "no delivery": f"/deliveries/{last}", "what runs": "/running"}
+    for name, path in paths.items():
+        print(f"{size} landed".ljust(28), f"{name:15}", gate.get(path), flush=True)
+
+
+CASES = {"opening": opening, "age": age, "length": length, "waiting": waiting, "chain": chain, "asked": asked}
 
 
 def main(program, settings, folder, sizes, cases):

@@ -47,11 +47,11 @@ def calls(lines):
             yield called, int(match.group(1))
 
 
-def counted(words, lines, profile):
-    """What the program that is run by these words makes of lines on its input."""
+def counted(words, lines, profile, status=0):
+    """What the program that is run by these words, and ends with this status, makes of lines on its input."""
     callgrind = ["valgrind", "--tool=callgrind", f"--callgrind-out-file={profile}"]
     done = subprocess.run(callgrind + words, input=lines, capture_output=True, check=False)
-    if done.returncode != 0:
+    if done.returncode != status:
         raise SystemExit(f"{words} ended with {done.returncode}: {done.stderr[-500:]}")
     with open(profile, encoding="utf-8") as file:
         told = file.read().splitlines()
