@@ -1,6 +1,6 @@
 # What the forge, its lander and its workers share. FORGE is the folder in which they all live, FORGE_SETTINGS the
-# settings of the gate.
-: "${FORGE:?the folder of the forge}" "${FORGE_SETTINGS:?the settings of the gate}"
+# settings of the gate, GATE_PORT the file that has its port.
+: "${FORGE:?the folder of the forge}" "${FORGE_SETTINGS:?the settings of the gate}" "${GATE_PORT:=$FORGE/port}"
 export GIT_AUTHOR_NAME=forge GIT_AUTHOR_EMAIL=forge@localhost
 export GIT_COMMITTER_NAME=forge GIT_COMMITTER_EMAIL=forge@localhost
 
@@ -32,7 +32,7 @@ post() {
   local answer
   while :; do
     if answer=$(curl --silent --max-time 10 --write-out '\n%{http_code}' --data-binary "$2" \
-      "http://127.0.0.1:$(cat "$FORGE/port")/$1") && [ "${answer##*$'\n'}" != 503 ]; then
+      "http://127.0.0.1:$(cat "$GATE_PORT")/$1") && [ "${answer##*$'\n'}" != 503 ]; then
       printf '%s\n' "${answer%$'\n'*}"
       return
     fi
@@ -42,7 +42,7 @@ post() {
 
 # Asks the gate for a page, again until it has come.
 page() {
-  until curl --silent --fail --max-time 10 "http://127.0.0.1:$(cat "$FORGE/port")/$1"; do
+  until curl --silent --fail --max-time 10 "http://127.0.0.1:$(cat "$GATE_PORT")/$1"; do
     sleep 0.1
   done
 }
@@ -50,6 +50,13 @@ page() {
 # A member of a JSON object: a number, or a text without escapes.
 member() {
   sed -n "s/.*\"$2\":\"\{0,1\}\([^,\"}]*\).*/\1/p" <<<"$1"
+}
+
+# The landings of a project in a repository of it: commit, queue, order number, change and revision, the oldest first.
+# Its branches are named behind a prefix, if one is given.
+landings_of() {
+  git -C "$1" log --first-parent --reverse --format='%H %s' "${2-}base..${2-}main" |
+    sed -n 's/^\([0-9a-f]*\) Land \([^ ]*\) by order \([0-9]*\) of \(.*\)$/\1 \4 \3 \2/p'
 }
 
 # A text as JSON, by whichever of the two is there.

@@ -14,17 +14,11 @@ clone_of() {
   echo "$clone"
 }
 
-# The landings of a project: commit, queue, order number, change and revision, the oldest first.
-landings_of() {
-  git -C "$1" log --first-parent --reverse --format='%H %s' refs/remotes/origin/base..refs/remotes/origin/main |
-    sed -n 's/^\([0-9a-f]*\) Land \([^ ]*\) by order \([0-9]*\) of \(.*\)$/\1 \4 \3 \2/p'
-}
-
 # Tells the gate of each landing that has no name yet, and names it by its place among the queue's landings.
 tell() {
   local project=$1 clone commit queue order change reply
   clone=$(clone_of "$project")
-  landings_of "$clone" | while read -r commit queue order change; do
+  landings_of "$clone" refs/remotes/origin/ | while read -r commit queue order change; do
     [ -z "$(git -C "$clone" for-each-ref --points-at "$commit" refs/landings)" ] || continue
     reply=$(post forge "{\"id\":\"$(id_of landed "$order")\",\"kind\":\"landed\",\"order\":$order}")
     echo "landed $change: $reply"
@@ -36,7 +30,7 @@ tell() {
 land() {
   local order=$1 project=$2 queue=$3 change=$4 clone reply
   clone=$(clone_of "$project")
-  landings_of "$clone" | grep -q " $queue $order $change\$" && return
+  landings_of "$clone" refs/remotes/origin/ | grep -q " $queue $order $change\$" && return
   git -C "$clone" checkout --quiet --detach refs/remotes/origin/main
   if git -C "$clone" merge --quiet --no-ff --message "Land $change by order $order of $queue" \
     "refs/changes/${change/,//}" >/dev/null; then

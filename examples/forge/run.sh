@@ -4,32 +4,7 @@
 set -eu
 FORGE_SETTINGS=$(cd "$(dirname "$0")" && pwd)/settings.toml
 . "$(dirname "$0")/stage.sh"
-
-# A developer pushes a change: its project, number, message, and files as NAME=TEXT.
-propose() {
-  local project=$1 change=$2 message=$3 file said clone=$FORGE/developer/$1
-  shift 3
-  [ -d "$clone" ] || git clone --quiet "$FORGE/repos/$project.git" "$clone"
-  git -C "$clone" fetch --quiet origin
-  git -C "$clone" checkout --quiet --detach refs/remotes/origin/main
-  for file in "$@"; do
-    printf '%s\n' "${file#*=}" >"$clone/${file%%=*}"
-  done
-  git -C "$clone" add .
-  git -C "$clone" commit --quiet --message "$message"
-  said=$(git -C "$clone" push --quiet origin "HEAD:refs/changes/$change/1" 2>&1)
-  echo "$said" >>"$FORGE/developer.log"
-  [[ $said == *'gate: {"reply":"recorded"}'* ]] || fail "change $change wasn't taken: $said"
-}
-
-# Somebody approves these changes at their first revision.
-approve() {
-  local change
-  for change in "$@"; do
-    echo "approved $change: $(post forge \
-      "{\"id\":\"$(id_of approved "$change" 1)\",\"kind\":\"approved\",\"change\":$change,\"revision\":1}")"
-  done
-}
+. "$FORGE_SCRIPTS/developer.sh"
 
 # Whether a worker is at a build of a change.
 is_at() {

@@ -49,17 +49,27 @@ await() {
   done
 }
 
-start_gate() {
+# Serves a file as the gate. Its port stands in `port.new`, where none of its clients looks.
+serve() {
   : >"$FORGE/gate.log"
-  start gate "$GATED" serve "$FORGE_SETTINGS" "$FORGE/day.gate" --port 0 --count 1000000000
+  start gate "$GATED" serve "$FORGE_SETTINGS" "$1" --port 0 --count 1000000000
   await grep -q '^listening' "$FORGE/gate.log"
   sed -n 's/^listening 127.0.0.1://p' "$FORGE/gate.log" >"$FORGE/port.new"
+}
+
+start_gate() {
+  serve "$FORGE/day.gate"
   mv "$FORGE/port.new" "$FORGE/port"
 }
 
-# Nothing stands in a queue, and nothing waits.
+# Nothing stands in a queue, nothing waits, and each landing has its name.
 is_quiet() {
-  [ -z "$(page status | grep -v '^queue \|^end$')" ]
+  local shown queue landed
+  shown=$(page status)
+  [ -z "$(grep -v '^queue \|^end$' <<<"$shown")" ] || return
+  while read -r _ queue _ _ _ landed; do
+    [ "$(landings_by_git "$queue" | wc -l)" -eq "$landed" ] || return
+  done < <(grep '^queue ' <<<"$shown")
 }
 
 has_landed() {
