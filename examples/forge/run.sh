@@ -64,11 +64,6 @@ FORGE_LANDER=yes git -C "$FORGE/past" push --quiet --force origin "$kept:main"
 
 check_queue core '101 102 103 105' '104 failed'
 check_queue web '201 202 204' '203 failed 205 refused'
-for project in lib app; do
-  check_branch "$project" core
-  check_trees "$project" core
-done
-check_branch site web
-check_trees site web
+check_projects
 grep -q 'was left behind: lost' "$FORGE"/w1.log "$FORGE"/w2.log || fail "no build was lost"
 echo ok

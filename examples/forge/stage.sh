@@ -116,3 +116,14 @@ check_queue() {
     fail "not $left left $queue"
   printf '%s\n' "$history"
 }
+
+# Of each project, the branch is the landed changes in the gate's order, and each landed tree passed its jobs.
+check_projects() {
+  local project
+  for project in lib app; do
+    check_branch "$project" core
+    check_trees "$project" core
+  done
+  check_branch site web
+  check_trees site web
+}

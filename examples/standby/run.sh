@@ -85,10 +85,5 @@ await grep -qx "follow: both show the same at $last" "$FORGE/next.log"
 
 check_queue core '103 104 105 106 107 108 123 124 125 126 127 128' '151 failed 152 failed'
 check_queue web '203 204 205 206 207 208' ''
-for project in lib app; do
-  check_branch "$project" core
-  check_trees "$project" core
-done
-check_branch site web
-check_trees site web
+check_projects
 echo ok
