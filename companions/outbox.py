@@ -1,0 +1,119 @@
+"""What has to be kept on disk: deliveries until the gate has answered them, and a part's own notes."""
+from __future__ import annotations
+
+import fcntl
+import json
+import sqlite3
+import time
+from collections.abc import Callable
+from dataclasses import dataclass
+from pathlib import Path
+from typing import IO, Any
+
+from companions.gate import Answer, Delivery, Gate
+
+TABLES = """
+CREATE TABLE IF NOT EXISTS delivery(place INTEGER PRIMARY KEY AUTOINCREMENT, lane TEXT NOT NULL,
+    id TEXT NOT NULL UNIQUE, door TEXT NOT NULL, said TEXT NOT NULL);
+CREATE INDEX IF NOT EXISTS delivery_lane ON delivery(lane, place);
+CREATE TABLE IF NOT EXISTS note(name TEXT PRIMARY KEY, said TEXT NOT NULL);
+"""
+
+# The order is shown to the forge: the lander answers it, and then the gate takes this delivery.
+SUBMITTING = "E9"
+
+
+class Notes:
+    """A part's notes, by name, in a file that a crash leaves before or after each change."""
+
+    def __init__(self, file: Path) -> None:
+        file.parent.mkdir(parents=True, exist_ok=True)
+        self.tables = sqlite3.connect(file, isolation_level=None, check_same_thread=False, timeout=60)
+        self.tables.execute("PRAGMA journal_mode=WAL")
+        self.tables.execute("PRAGMA synchronous=FULL")
+        self.tables.executescript(TABLES)
+
+    def get(self, name: str) -> Any:
+        row = self.tables.execute("SELECT said FROM note WHERE name = ?", (name,)).fetchone()
+        return None if row is None else json.loads(row[0])
+
+    def put(self, name: str, said: Any) -> None:
+        self.tables.execute("INSERT OR REPLACE INTO note VALUES (?, ?)", (name, json.dumps(said)))
+
+    def drop(self, name: str) -> None:
+        self.tables.execute("DELETE FROM note WHERE name = ?", (name,))
+
+    def names(self, beginning: str) -> list[str]:
+        """The names that begin so."""
+        rows = self.tables.execute("SELECT name FROM note WHERE substr(name, 1, ?) = ? ORDER BY name",
+                                   (len(beginning), beginning))
+        return [row[0] for row in rows]
+
+
+@dataclass(frozen=True)
+class Kept:
+    """A delivery that is kept: the lane in whose order it goes, its id, its door, and what it says beside the id."""
+    lane: str
+    id: str
+    door: str
+    said: Delivery
+
+
+class Outbox(Notes):
+    """Deliveries that are kept until they are answered, in lanes.
+
+    Within a lane they are sent in the order in which they were kept, each once the one before it is answered. Lanes
+    don't wait for each other: use one a change, so that one change's trouble is its own.
+    """
+
+    def __init__(self, file: Path) -> None:
+        super().__init__(file)
+        self.later: dict[str, float] = {}
+
+    def keep(self, delivery: Kept) -> None:
+        """Keeps a delivery; one that is kept already, by its id, stays where it is."""
+        self.tables.execute("INSERT OR IGNORE INTO delivery(lane, id, door, said) VALUES (?, ?, ?, ?)",
+                            (delivery.lane, delivery.id, delivery.door, json.dumps(delivery.said)))
+
+    def is_empty(self) -> bool:
+        return self.tables.execute("SELECT 1 FROM delivery LIMIT 1").fetchone() is None
+
+    def firsts(self) -> list[Kept]:
+        """The first delivery of each lane, the oldest first."""
+        rows = self.tables.execute("SELECT lane, id, door, said FROM delivery JOIN (SELECT min(place) AS first FROM"
+                                   " delivery GROUP BY lane) ON place = first ORDER BY place")
+        return [Kept(lane, id, door, json.loads(said)) for lane, id, door, said in rows]
+
+    def send(self, gate: Gate, told: Callable[[Kept, Answer], None], pause: float = 1.0) -> bool:
+        """Sends what may be sent by now, and says whether nothing is left.
+
+        A lane whose order is shown is tried again after a pause. Without an answer all stay as they are: `NoAnswer`.
+        `told` is called with each final answer, before the delivery goes.
+        """
+        moved = True
+        while moved:
+            moved = False
+            for first in self.firsts():
+                if self.later.get(first.lane, 0.0) > time.monotonic():
+                    continue
+                answer = gate.post(first.door, {"id": first.id, **first.said})
+                if answer.code == SUBMITTING:
+                    self.later[first.lane] = time.monotonic() + pause
+                    continue
+                self.later.pop(first.lane, None)
+                told(first, answer)
+                self.tables.execute("DELETE FROM delivery WHERE id = ?", (first.id,))
+                moved = True
+        return self.is_empty()
+
+
+def alone(folder: Path) -> IO[str] | None:
+    """A hold on a part's folder, or none while another process has it."""
+    folder.mkdir(parents=True, exist_ok=True)
+    hold = (folder / "lock").open("w", encoding="utf-8")
+    try:
+        fcntl.flock(hold, fcntl.LOCK_EX | fcntl.LOCK_NB)
+    except BlockingIOError:
+        hold.close()
+        return None
+    return hold

@@ -1,0 +1,242 @@
+"""The settings of the companions, one TOML file: where gate and forge are, and what each companion needs to know.
+
+docs/CONNECTING.md ("The settings of the companions") has its members.
+"""
+from __future__ import annotations
+
+import tomllib
+from dataclasses import dataclass, field
+from pathlib import Path
+from typing import Any
+
+
+class SettingsFault(Exception):
+    """A fault of the settings, told with the file and the member that has it."""
+
+
+@dataclass(frozen=True)
+class Account:
+    """A name and a password that the proxy before the gate knows."""
+    user: str
+    password: str
+
+
+@dataclass(frozen=True)
+class Job:
+    """A job of a project: the command that runs it, and how long it may take, in seconds."""
+    name: str
+    command: str
+    limit: float
+
+
+@dataclass(frozen=True)
+class Project:
+    """A project of the gate's settings: where its repository is, and which branch of it is gated.
+
+    `forge` is the repository's name at the forge, as `owner/name`.
+    """
+    name: str
+    queue: str
+    repository: str
+    branch: str
+    jobs: dict[str, Job] = field(default_factory=dict)
+    forge: str = ""
+
+
+@dataclass(frozen=True)
+class Adapter:
+    """What the adapter needs to know of the forge: its form, the address of its API with a token, what the addresses of
+    its requests begin with, the secret of its hooks and where they come in; of the gate's settings, `forge.base`.
+
+    `approvers` are the persons whose approvals count, or none where the forge alone decides who may approve.
+    """
+    form: str
+    url: str
+    web: str
+    token: str
+    secret: str
+    base: str
+    host: str
+    port: int
+    approvers: frozenset[str] | None
+    compare: float
+
+
+@dataclass(frozen=True)
+class Settings:
+    """All that the file says. Times are in seconds."""
+    url: str
+    accounts: dict[str, Account]
+    folder: Path
+    projects: dict[str, Project]
+    pause: float
+    look: float
+    grace: float
+    stands: float
+    author: str
+    adapter: Adapter | None = None
+
+    def account(self, role: str) -> Account | None:
+        """The account of a role, or none where the gate is asked without."""
+        return self.accounts.get(role)
+
+    def projects_of(self, queue: str) -> list[Project]:
+        """The projects whose changes stand in a queue, in the order of the file."""
+        return [it for it in self.projects.values() if it.queue == queue]
+
+    def limit_of(self, queue: str, job: str) -> float | None:
+        """The longest that a job of this name may take in a queue, or none where no project of it has the job."""
+        return max((it.jobs[job].limit for it in self.projects_of(queue) if job in it.jobs), default=None)
+
+
+ROLES = ("forge", "worker", "people", "standby")
+FORMS = ("gitea", "github", "gitlab")
+KINDS = {str: "a text", int: "a whole number", float: "a number", dict: "a table", list: "an array of tables"}
+
+
+class Reader:
+    """Reads a table, and tells what is wrong with it by the file and the member's whole name."""
+
+    def __init__(self, file: Path, where: str, table: dict[str, Any]) -> None:
+        self.file, self.where, self.table, self.read = file, where, table, set[str]()
+
+    def fault(self, member: str, what: str) -> SettingsFault:
+        return SettingsFault(f"{self.file}: {self.where}{member}: {what}")
+
+    def get(self, member: str, kind: type, default: Any = None) -> Any:
+        """A member, which has to be there where there is no default."""
+        self.read.add(member)
+        if member not in self.table:
+            if default is None:
+                raise self.fault(member, "is missing")
+            return default
+        value = self.table[member]
+        if kind is float and type(value) is int:
+            value = float(value)
+        if type(value) is not kind or kind is list and not all(type(it) is dict for it in value):
+            raise self.fault(member, f"isn't {KINDS[kind]}")
+        return value
+
+    def text(self, member: str, default: str | None = None) -> str:
+        value = self.get(member, str, default)
+        if not value:
+            raise self.fault(member, "is empty")
+        return value
+
+    def address(self, member: str) -> str:
+        """An address over HTTP, without a slash at its end."""
+        value = self.text(member).rstrip("/")
+        if not value.startswith(("http://", "https://")):
+            raise self.fault(member, "begins neither with http:// nor with https://")
+        return value
+
+    def names(self, member: str) -> frozenset[str] | None:
+        """An array of texts, or none where it isn't there."""
+        self.read.add(member)
+        value = self.table.get(member)
+        if value is None:
+            return None
+        if type(value) is not list or not all(type(it) is str and it for it in value):
+            raise self.fault(member, "isn't an array of texts")
+        return frozenset(value)
+
+    def seconds(self, member: str, default: float | None = None) -> float:
+        value = self.get(member, float, default)
+        if not 0 < value < float("inf"):
+            raise self.fault(member, "isn't above 0")
+        return value
+
+    def inner(self, member: str) -> Reader:
+        return Reader(self.file, f"{self.where}{member}.", self.get(member, dict, {}))
+
+    def each(self, member: str) -> list[Reader]:
+        rows = self.get(member, list, [])
+        return [Reader(self.file, f"{self.where}{member}[{at}].", row) for at, row in enumerate(rows)]
+
+    def end(self) -> None:
+        """Nothing stands in the table that nobody reads, as a mistyped member."""
+        for member in self.table:
+            if member not in self.read:
+                raise self.fault(member, "isn't known")
+
+
+def read(file: Path) -> Settings:
+    """The settings of a file, or `SettingsFault`."""
+    try:
+        table = tomllib.loads(file.read_text(encoding="utf-8"))
+    except OSError as fault:
+        raise SettingsFault(f"{file}: can't be read: {fault.strerror}") from fault
+    except ValueError as fault:
+        raise SettingsFault(f"{file}: no TOML: {fault}") from fault
+    top = Reader(file, "", table)
+    gate, lander, worker, watch = (top.inner(it) for it in ("gate", "lander", "worker", "watch"))
+    settings = Settings(
+        url=gate.address("url"), accounts=accounts_of(gate), folder=Path(top.text("folder")), projects=projects_of(top),
+        pause=gate.seconds("pause", 1.0), look=worker.seconds("look", 10.0), grace=watch.seconds("grace", 300.0),
+        stands=watch.seconds("stands", 3600.0), author=lander.text("author", "gate <gate@localhost>"),
+        adapter=adapter_of(top))
+    for it in (top, gate, lander, worker, watch):
+        it.end()
+    return settings
+
+
+def adapter_of(top: Reader) -> Adapter | None:
+    """What the adapter needs, or none where no adapter is set up."""
+    table = top.inner("adapter")
+    if not table.table:
+        return None
+    form, listen = table.text("form"), table.text("listen", "127.0.0.1:8090")
+    if form not in FORMS:
+        raise table.fault("form", f"is none of {', '.join(FORMS)}")
+    host, _, port = listen.rpartition(":")
+    if not host or not (port.isascii() and port.isdigit()) or int(port) > 65535:
+        raise table.fault("listen", "isn't a host and a port, as 127.0.0.1:8090")
+    adapter = Adapter(form, table.address("url"), table.address("web"), table.text("token"), table.text("secret"),
+                      table.text("base"), host, int(port), table.names("approvers"), table.seconds("compare", 300.0))
+    table.end()
+    return adapter
+
+
+def accounts_of(gate: Reader) -> dict[str, Account]:
+    accounts = {}
+    for role in ROLES:
+        account = gate.inner(role)
+        if account.table:
+            accounts[role] = Account(account.text("user"), account.text("password"))
+        account.end()
+    return accounts
+
+
+def projects_of(top: Reader) -> dict[str, Project]:
+    projects: dict[str, Project] = {}
+    branches: set[tuple[str, str]] = set()
+    for it in top.each("project"):
+        name = it.text("name")
+        project = Project(name, it.text("queue"), it.text("repository"), it.text("branch", "main"), jobs_of(it),
+                          it.text("forge", name))
+        if project.name in projects:
+            raise it.fault("name", f"{project.name} stands twice")
+        if (project.repository, project.branch) in branches:
+            raise it.fault("branch", f"{project.branch} of {project.repository} is another project's")
+        if any((other.forge, other.branch) == (project.forge, project.branch) for other in projects.values()):
+            raise it.fault("forge", f"{project.branch} of {project.forge} is another project's")
+        # A queue's landings and changes are told from each other by their repository.
+        if any(other.queue == project.queue and other.repository == project.repository for other in projects.values()):
+            raise it.fault("repository", f"{project.repository} is another project's of the queue {project.queue}")
+        it.end()
+        projects[project.name] = project
+        branches.add((project.repository, project.branch))
+    if not projects:
+        raise top.fault("project", "is missing")
+    return projects
+
+
+def jobs_of(project: Reader) -> dict[str, Job]:
+    jobs: dict[str, Job] = {}
+    for it in project.each("job"):
+        job = Job(it.text("name"), it.text("command"), it.seconds("limit", 3600.0))
+        if job.name in jobs:
+            raise it.fault("name", f"{job.name} stands twice")
+        it.end()
+        jobs[job.name] = job
+    return jobs

@@ -1,0 +1,108 @@
+from __future__ import annotations
+
+import os
+import tempfile
+import unittest
+from pathlib import Path
+from unittest import mock
+
+from companions.repository import GitFault, Repository
+from companions.tests.forge import Origin
+
+LANDING = "refs/landings/core/000001"
+
+
+class Git(unittest.TestCase):
+    def setUp(self) -> None:
+        temporary = tempfile.TemporaryDirectory()
+        self.addCleanup(temporary.cleanup)
+        self.folder = Path(temporary.name)
+        self.origin = Origin(self.folder / "lib.git")
+        self.head = self.origin.commit({"text": "0\n"})
+        self.origin.name("refs/heads/main", self.head)
+        self.repository = Repository(str(self.origin.folder), self.folder / "mirror", "gate <gate@localhost>")
+        self.repository.fetch("refs/heads/main")
+
+    def names(self) -> dict[str, str]:
+        return self.repository.listed("refs/heads/main", "refs/landings/core/*")
+
+    def change(self, name: str, files: dict[str, str], *parents: str) -> str:
+        commit = self.origin.commit(files, *parents)
+        self.origin.name(name, commit)
+        self.repository.fetch(name)
+        return commit
+
+    def test_a_merge_has_both_parents_and_both_contents(self) -> None:
+        ours = self.change("refs/changes/1/1", {"a": "1"}, self.head)
+        theirs = self.change("refs/changes/2/1", {"b": "1"}, self.head)
+        merged = self.repository.merge(ours, theirs, "Land it\n\nGate-Order: 7\n")
+        assert merged is not None
+        shown = self.repository.git("show", "--no-patch", "--format=%P|%an|%ce|%B", merged)
+        self.assertEqual(shown, f"{ours} {theirs}|gate|gate@localhost|Land it\n\nGate-Order: 7")
+        self.assertEqual(self.repository.git("ls-tree", "--name-only", merged).split(), ["a", "b", "text"])
+        self.assertEqual(self.repository.message(merged).strip(), "Land it\n\nGate-Order: 7")
+
+    def test_a_conflict_is_none_and_a_missing_commit_a_fault(self) -> None:
+        ours = self.change("refs/changes/1/1", {"text": "1\n"}, self.head)
+        theirs = self.change("refs/changes/2/1", {"text": "2\n"}, self.head)
+        self.assertIsNone(self.repository.merge(ours, theirs, "x"))
+        self.assertIsNone(self.repository.merge(ours, self.change("refs/changes/3/1", {"c": "1"}), "x"))
+        with self.assertRaises(GitFault):
+            self.repository.merge(ours, "0" * 39 + "1", "x")
+
+    def test_a_push_names_what_was_there(self) -> None:
+        new = self.change("refs/changes/1/1", {"a": "1"}, self.head)
+        self.assertTrue(self.repository.push({"refs/heads/main": (self.head, new), LANDING: (None, new)}))
+        self.assertEqual(self.names(), {"refs/heads/main": new, "refs/landings/core/000001": new})
+        self.assertEqual(self.repository.commit("refs/landings/core/000001"), new)
+
+    def test_a_push_past_it_has_all_refused(self) -> None:
+        past = self.origin.commit({"past": "1"}, self.head)
+        self.origin.name("refs/heads/main", past)
+        new = self.change("refs/changes/1/1", {"a": "1"}, self.head)
+        self.assertFalse(self.repository.push({LANDING: (None, new), "refs/heads/main": (self.head, new)}))
+        self.assertEqual(self.names(), {"refs/heads/main": past})
+        self.assertIsNone(self.repository.commit("refs/landings/core/000001"))
+
+    def test_a_name_that_is_there_already_has_all_refused(self) -> None:
+        self.origin.name("refs/landings/core/000001", self.head)
+        new = self.change("refs/changes/1/1", {"a": "1"}, self.head)
+        self.assertFalse(self.repository.push({"refs/heads/main": (self.head, new), LANDING: (None, new)}))
+        self.assertEqual(self.names(), {"refs/heads/main": self.head, "refs/landings/core/000001": self.head})
+
+    def test_a_push_that_the_forge_declines_or_that_reaches_nobody_is_a_fault(self) -> None:
+        new = self.change("refs/changes/1/1", {"a": "1"}, self.head)
+        hook = self.origin.folder / "hooks/pre-receive"
+        hook.parent.mkdir(exist_ok=True)
+        hook.write_text("#!/bin/sh\nexit 1\n")
+        hook.chmod(0o755)
+        with self.assertRaisesRegex(GitFault, "declined"):
+            self.repository.push({"refs/heads/main": (self.head, new)})
+        self.origin.folder.rename(self.folder / "away.git")
+        with self.assertRaises(GitFault):
+            self.repository.push({"refs/heads/main": (self.head, new)})
+
+    def test_names_are_found_that_are_there(self) -> None:
+        self.origin.revision(1, 1, self.head)
+        self.origin.revision(1, 12, self.head)
+        names = ("refs/changes/1/1", "refs/changes/1/2", "refs/changes/11/1")
+        self.assertEqual(self.repository.here(*names), {})
+        self.assertEqual(self.repository.find(*names), {"refs/changes/1/1": self.head})
+        self.assertEqual(self.repository.here(*names), {"refs/changes/1/1": self.head})
+        self.origin.folder.rename(self.folder / "away.git")
+        self.assertEqual(self.repository.find("refs/changes/1/1"), {"refs/changes/1/1": self.head})
+        with self.assertRaises(GitFault):
+            self.repository.find(*names)
+
+    def test_finding_costs_the_same_however_many_names_are_there(self) -> None:
+        self.origin.git("update-ref", "--stdin", given="".join(f"create refs/landings/core/{it:06d} {self.head}\n"
+                                                               for it in range(500)))
+        trace = self.folder / "trace"
+        with mock.patch.dict(os.environ, {"GIT_TRACE_PACKET": str(trace)}):
+            repository = Repository(str(self.origin.folder), self.folder / "other", "gate <gate@localhost>")
+        self.assertEqual(list(repository.find("refs/landings/core/000123")), ["refs/landings/core/000123"])
+        self.assertLess(trace.read_text().count("refs/landings"), 10)
+
+
+if __name__ == "__main__":
+    unittest.main()
