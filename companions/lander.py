@@ -1,0 +1,236 @@
+"""Carries out a gate's orders: merges each change into its branch, pushes it, and tells the gate.
+
+    python3 -m companions.lander companions.toml
+
+It may be killed anywhere and started again. A queue's trouble is that queue's: it is told, and the others go on.
+"""
+from __future__ import annotations
+
+import sys
+import time
+from concurrent.futures import Future, ThreadPoolExecutor
+from pathlib import Path
+from typing import Any
+
+from companions.gate import Gate, NoAnswer, Order, id_of, say
+from companions.landings import Branches, Landing
+from companions.outbox import Notes, alone
+from companions.repository import LANDING, REVISION, GitFault, Repository
+from companions.settings import Settings, SettingsFault, read
+
+
+class QueueStops(Exception):
+    """Nothing may be merged into a queue's branches until somebody has looked."""
+
+
+class Again(Exception):
+    """The order isn't shown any more: look at the orders again."""
+
+
+class QueueLander:
+    """Lands what is ordered of one queue."""
+
+    def __init__(self, queue: str, settings: Settings, gate: Gate, notes: Notes) -> None:
+        self.queue, self.settings, self.gate, self.notes = queue, settings, gate, notes
+        projects = settings.projects_of(queue)
+        self.repositories = {it.name: Repository(it.repository, settings.folder / "lander" / it.name, settings.author)
+                             for it in projects}
+        self.branches = Branches(queue, self.repositories, projects)
+        # The gate's first accepted delivery, and how many landings of the queue the gate has; none before a look.
+        self.first: str | None = None
+        self.told = 0
+
+    def begin(self) -> None:
+        """At the start: the heads that projects have before their first landings are noted, for workers."""
+        for it in self.repositories.values():
+            it.unlock()
+        self.branches.look()
+
+    def carry_out(self, order: Order) -> None:
+        """Lands, refuses or tells an order; `QueueStops` where none of it may be."""
+        if order.project not in self.repositories:
+            raise QueueStops(f"order {order.order} is of project {order.project}, which the settings don't have here")
+        if not self.is_known():
+            self.look()
+        if self.told < self.branches.noted:
+            self.tell_what_stands(order)
+        else:
+            self.land(order)
+
+    def is_known(self) -> bool:
+        """Whether the gate is still the one that took this lander's last delivery: a restored one may have lost it."""
+        last = self.notes.get(f"last {self.queue}")
+        return self.first is not None and last is not None and self.gate.knows(last)
+
+    def look(self) -> None:
+        """Compares the landings that the gate has with those that the branches have."""
+        self.branches.look()
+        self.first = self.gate.first()
+        landed = {it.name: it.landed for it in self.gate.status().queues}
+        if self.first is None or self.queue not in landed:
+            raise QueueStops("the gate's settings don't have the queue, or its file is new and has accepted nothing")
+        self.told = landed[self.queue]
+        if self.branches.noted:
+            noted = self.branches.at(self.branches.noted)
+            if noted.first != self.first:
+                raise QueueStops(f"the gate has another file: the first delivery of this one is {self.first}, and the"
+                                 f" branches were landed by that of {noted.first}")
+        if self.told > self.branches.noted:
+            raise QueueStops(f"the gate has {self.told} landings, and the branches have {self.branches.noted}")
+        if self.told < self.branches.noted:
+            say("lander", f"{self.queue}: the gate knows {self.told} of {self.branches.noted} landings: nothing is"
+                          " merged until it has been told the others")
+
+    def tell_what_stands(self, order: Order) -> None:
+        """The gate was restored, or the lander died behind a push: first come the branches' landings, in order."""
+        place = self.told + 1
+        landing = self.branches.at(place)
+        if landing.is_of(order):
+            self.tell(order, place)
+            return
+        lacks = lacking(self.gate.change(landing.change), landing.revision)
+        if lacks is not None:
+            raise QueueStops(f"the branches have revision {landing.revision} of change {landing.change} next, and the"
+                             f" gate doesn't: {lacks}")
+        self.refuse(order, f"the branches have change {landing.change} next")
+
+    def land(self, order: Order) -> None:
+        project, repository = self.settings.projects[order.project], self.repositories[order.project]
+        branch, name = f"refs/heads/{project.branch}", REVISION.format(change=order.change, revision=order.revision)
+        there = repository.ask(branch, name)
+        head, place = self.branches.heads[order.project], self.branches.noted + 1
+        if there.get(branch) != head:
+            raise QueueStops(f"{project.branch} of {project.name} is at {there.get(branch)}, and the last landing left"
+                             f" {head}: take back what was pushed past the gate")
+        if name not in there:
+            raise QueueStops(f"{project.repository} has no {name}")
+        landing = Landing(str(self.first), self.queue, order.order, order.change, order.revision)
+        subject = repository.message(there[name]).partition("\n")[0]
+        merged = repository.merge(head, there[name], landing.message(subject))
+        if merged is None:
+            self.refuse(order, f"it can't be merged into {project.branch}")
+            return
+        self.confirm(order)
+        if repository.push({branch: (head, merged), LANDING.format(queue=self.queue, place=place): (None, merged)}):
+            self.branches.moved(order.project, merged)
+            self.tell(order, place)
+        else:
+            self.first = None
+
+    def confirm(self, order: Order) -> None:
+        """Right before an act: the gate that is there by now shows this very order."""
+        if order not in self.gate.orders():
+            raise Again
+
+    def tell(self, order: Order, place: int) -> None:
+        """Tells that an order is landed. Without an answer nothing is known, and the orders are looked at again."""
+        said = self.answer(order, "landed")
+        if said.get("n") != place:
+            self.first = None
+            raise QueueStops(f"the landing of change {order.change} is the branches' {place}., and the gate says"
+                             f" {said}")
+        self.told = place
+        say("lander", f"{self.queue}: landed change {order.change}, revision {order.revision}, as {place}")
+
+    def refuse(self, order: Order, why: str) -> None:
+        said = self.answer(order, "refused")
+        say("lander", f"{self.queue}: refused change {order.change}, revision {order.revision}: {why}: {said}")
+
+    def answer(self, order: Order, kind: str) -> dict[str, object]:
+        self.confirm(order)
+        told = id_of(str(self.first), kind, self.queue, order.order, order.change, order.revision)
+        answer = self.gate.post("forge", {"id": told, "kind": kind, "order": order.order})
+        if answer.reply is None:
+            self.first = None
+            raise QueueStops(f"{kind} of order {order.order} was refused: {answer.said}")
+        self.notes.put(f"last {self.queue}", told)
+        return answer.said
+
+
+def lacking(change: dict[str, Any] | None, revision: int) -> str | None:
+    """What has to be done before a gate can order a change at this revision; none if it is queued or waits."""
+    if change is None or change["revision"] < revision:
+        return "tell that revision and its approval again"
+    if change["revision"] > revision or change["state"] != "open":
+        return ("it has closed that change, or knows a later revision of it: restore the gate once more, and tell it"
+                " nothing of that change but this revision and its approval")
+    if change["order"] is None and change["approval"] is None:
+        return "approve that revision again"
+    return None
+
+
+class Lander:
+    """Asks for the orders, and has each carried out by its queue's lander, side by side."""
+
+    def __init__(self, settings: Settings) -> None:
+        self.settings = settings
+        self.gate = Gate(settings.url, settings.account("forge"), part="lander")
+        notes = Notes(settings.folder / "lander" / "notes.db")
+        queues = dict.fromkeys(it.queue for it in settings.projects.values())
+        self.queues = {it: QueueLander(it, settings, self.gate, notes) for it in queues}
+        self.at_work: dict[str, Future[None]] = {}
+        self.said: dict[str, str] = {}
+        self.rests: dict[str, float] = {}
+        self.pool = ThreadPoolExecutor(max_workers=len(self.queues))
+
+    def run(self) -> None:
+        for it in self.queues.values():
+            self.start(it.queue, it.begin)
+        while True:
+            for order in self.gate.until(self.gate.orders, self.settings.pause):
+                self.take(order)
+            time.sleep(self.settings.pause)
+
+    def take(self, order: Order) -> None:
+        queue = self.queues.get(order.queue)
+        if queue is None:
+            self.tell(order.queue, f"order {order.order} is of project {order.project}, which the settings don't have")
+        elif self.rests.get(order.queue, 0.0) <= time.monotonic():
+            self.start(order.queue, lambda: queue.carry_out(order))
+
+    def start(self, queue: str, task) -> None:
+        """Has a task done for a queue, unless one is being done."""
+        running = self.at_work.get(queue)
+        if running is None or running.done():
+            self.at_work[queue] = self.pool.submit(self.do, queue, task)
+
+    def do(self, queue: str, task) -> None:
+        """Does a task; what goes wrong is told, once while it stays the same, and the queue rests for a while."""
+        try:
+            task()
+        except Again:
+            return
+        except (QueueStops, GitFault, NoAnswer, OSError) as fault:
+            self.tell(queue, str(fault))
+            self.rests[queue] = time.monotonic() + 5 * self.settings.pause
+        except Exception as fault:  # pylint: disable=broad-except
+            self.tell(queue, f"{type(fault).__name__}: {fault}")
+            self.rests[queue] = time.monotonic() + 5 * self.settings.pause
+        else:
+            self.said.pop(queue, None)
+
+    def tell(self, queue: str, what: str) -> None:
+        if self.said.get(queue) != what:
+            say("lander", f"{queue}: {what}")
+        self.said[queue] = what
+
+
+def main(words: list[str]) -> int:
+    if len(words) != 1:
+        print("usage: python3 -m companions.lander companions.toml", file=sys.stderr)
+        return 2
+    try:
+        settings = read(Path(words[0]))
+    except SettingsFault as fault:
+        print(fault, file=sys.stderr)
+        return 1
+    hold = alone(settings.folder / "lander")
+    if hold is None:
+        say("lander", "stops: another lander has the folder")
+        return 1
+    Lander(settings).run()
+    return 0
+
+
+if __name__ == "__main__":
+    sys.exit(main(sys.argv[1:]))
