@@ -1,0 +1,159 @@
+"""Runs a job: a command in a process group of its own, with a time limit and a log, that can be ended from outside.
+
+Whatever a job has started ends with it. Its processes are known by their group, and by an entry of their environment,
+since one may leave the group, and a worker that was killed leaves the whole job running.
+"""
+from __future__ import annotations
+
+import contextlib
+import enum
+import os
+import select
+import signal
+import subprocess
+import time
+from collections.abc import Callable
+from dataclasses import dataclass
+from pathlib import Path
+
+# Who sends these is outside the job, as an operator or the kernel that needs memory.
+FROM_OUTSIDE = (signal.SIGHUP, signal.SIGINT, signal.SIGKILL, signal.SIGTERM)
+
+
+class Cause(enum.Enum):
+    """Why a job ended."""
+    ITSELF = "itself"
+    LIMIT = "limit"
+    UNWANTED = "unwanted"
+
+
+@dataclass(frozen=True)
+class Command:
+    """What is run: by `sh`, in a folder, with this environment, its output added to a log, for so many seconds at most.
+
+    `mark` is the entry of the environment, `NAME=VALUE`, by which the job's processes are known. No other process may
+    have it.
+    """
+    text: str
+    folder: Path
+    environment: dict[str, str]
+    mark: str
+    log: Path
+    limit: float
+
+
+@dataclass(frozen=True)
+class Ended:
+    """How a job ended: the cause, the status of its shell (below 0 a signal's number), and how long it took."""
+    cause: Cause
+    status: int
+    seconds: float
+
+    @property
+    def outcome(self) -> str:
+        """`success`, `failure` or `lost`, the last where something outside ended it.
+
+        A job that hangs is a failure, since nobody can tell it from a change that makes it hang. So are 126 and 127: a
+        command that isn't there may have been taken away by the change.
+        """
+        if self.cause is Cause.LIMIT:
+            return "failure"
+        if self.cause is Cause.UNWANTED or self.signal in FROM_OUTSIDE:
+            return "lost"
+        return "success" if self.status == 0 else "failure"
+
+    @property
+    def signal(self) -> int:
+        """The signal that ended it, or 0. A shell whose command was ended by one exits with 128 and its number."""
+        return -self.status if self.status < 0 else max(self.status - 128, 0)
+
+    def __str__(self) -> str:
+        if self.cause is Cause.LIMIT:
+            return "killed at its time limit"
+        if self.cause is Cause.UNWANTED:
+            return "killed, since the gate doesn't want the build any more"
+        return f"ended by signal {-self.status}" if self.status < 0 else f"exit status {self.status}"
+
+
+def run(command: Command, wanted: Callable[[], bool], look: float, began: Callable[[int], None]) -> Ended:
+    """Runs a command to its end. `wanted` is asked every `look` seconds, `began` is told the process group.
+
+    `OSError` where the shell can't be started. A log has no limit of its own: the time limit has to do.
+    """
+    begin = time.monotonic()
+    with command.log.open("ab") as log:
+        process = subprocess.Popen(["sh", "-c", command.text], cwd=command.folder, env=command.environment,
+                                   stdin=subprocess.DEVNULL, stdout=log, stderr=log, start_new_session=True)
+    try:
+        began(process.pid)
+        cause = wait(process.pid, begin + command.limit, wanted, look)
+    finally:
+        # The shell isn't waited for yet, so that its number can't be another group's by now.
+        kill_group(process.pid)
+        kill_marked(command.mark)
+        process.wait()
+    return Ended(cause, process.returncode, time.monotonic() - begin)
+
+
+def wait(process: int, end: float, wanted: Callable[[], bool], look: float) -> Cause:
+    """Waits for a process's end without taking its status, for the time limit, or for its build to be unwanted."""
+    handle = os.pidfd_open(process)
+    try:
+        due = time.monotonic() + look
+        while not select.select([handle], [], [], max(0.0, min(due, end) - time.monotonic()))[0]:
+            if time.monotonic() >= end:
+                return Cause.LIMIT
+            if time.monotonic() >= due:
+                if not wanted():
+                    return Cause.UNWANTED
+                due = time.monotonic() + look
+        return Cause.ITSELF
+    finally:
+        os.close(handle)
+
+
+def kill_group(group: int) -> None:
+    with contextlib.suppress(ProcessLookupError, PermissionError):
+        os.killpg(group, signal.SIGKILL)
+
+
+def kill_marked(mark: str, patience: float = 10.0) -> None:
+    """Kills all processes that were started with this entry in their environment, but the asking one.
+
+    `OSError` where one stays, as one that waits for a disk.
+    """
+    end = time.monotonic() + patience
+    while killed := [it for it in processes() if kill_if_marked(it, mark.encode())]:
+        if time.monotonic() > end:
+            raise OSError(f"the processes {killed} of a job can't be killed")
+        time.sleep(0.01)
+
+
+def processes() -> list[int]:
+    return [int(it) for it in os.listdir("/proc") if it.isdigit() and int(it) != os.getpid()]
+
+
+def kill_if_marked(process: int, mark: bytes) -> bool:
+    """Kills a process that has the mark. A handle holds it meanwhile, since its number may come to mean another."""
+    try:
+        handle = os.pidfd_open(process)
+    except OSError:
+        return False
+    try:
+        if mark not in Path(f"/proc/{process}/environ").read_bytes().split(b"\0"):
+            return False
+        signal.pidfd_send_signal(handle, signal.SIGKILL)
+        return True
+    except OSError:
+        return False
+    finally:
+        os.close(handle)
+
+
+def began_at(process: int) -> int | None:
+    """When a process began, in the kernel's ticks: together with its number this names it. None where there is none."""
+    try:
+        text = Path(f"/proc/{process}/stat").read_text(encoding="utf-8", errors="replace")
+    except OSError:
+        return None
+    return int(text.rpartition(")")[2].split()[19])

@@ -1,0 +1,224 @@
+from __future__ import annotations
+
+import os
+import signal
+import subprocess
+import sys
+import unittest
+from pathlib import Path
+from typing import Any
+from unittest import mock
+
+from companions import job, worker
+from companions.gate import id_of
+from companions.outbox import Notes
+from companions.repository import GitFault
+from companions.tests.test_job import runs
+from companions.tests.worker_case import PretendGate, Said, WorkerCase
+
+TOP = Path(__file__).parents[2]
+
+
+class Wanted(WorkerCase):
+    """A build is looked at while its job runs."""
+    command = "sleep 1000"
+
+    def turn_with(self, **other: Any) -> None:
+        """A turn, in which the build is shown otherwise soon after it was taken."""
+        taken = self.gate.take
+
+        def take(take_id: str) -> Said:
+            said = taken(take_id)
+            self.gate.show(self.gate.taken[take_id], **other)
+            return said
+
+        self.gate.take = take  # type: ignore[method-assign]
+        self.worker.turn()
+
+    def test_a_job_ends_whose_build_is_not_live(self) -> None:
+        self.turn_with(live=False)
+        self.assertEqual((self.kinds(), self.held()), (["take"], None))
+        self.assertIn("ended: not wanted any more", self.log())
+        self.assertIn("build 7: not wanted any more", self.errors.getvalue())
+
+    def test_a_job_ends_whose_number_means_another_build(self) -> None:
+        for other in ({"change": 104}, {"revision": 2}, {"job": "docs"}, {"after": 1}, {"ahead": [[104, 1]]},
+                      {"queue": "web"}):
+            with self.subTest(other):
+                self.gate = PretendGate([self.reply(7, 103)])
+                self.turn_with(**other)
+                self.assertEqual((self.gate.results, self.held()), ([], None))
+
+    def test_a_job_ends_that_the_gate_does_not_know(self) -> None:
+        with mock.patch.object(self.gate, "show"):
+            self.worker.turn()
+        self.assertEqual((self.kinds(), self.held()), (["take"], None))
+
+    def test_a_job_goes_on_while_the_gate_is_silent(self) -> None:
+        self.worker = self.start("sleep 0.5")
+        silent: list[Said] = [(502, "bad gateway"), (200, {"please": "log in"}), (404, "nothing"), (0, "")]
+        answer = self.gate.answer
+
+        def proxied(method: str, path: str, body: bytes) -> Said:
+            if method == "GET" and silent:
+                status, said = silent.pop(0) or (0, "")
+                return (status, said) if status else None
+            return answer(method, path, body)
+
+        self.gate.answer = proxied  # type: ignore[method-assign]
+        self.worker.turn()
+        self.assertLess(len(silent), 3)
+        self.assertEqual(self.outcomes(), [(7, "success")])
+
+    def test_waiting_for_a_landing_ends_too(self) -> None:
+        self.gate.left = [self.reply(7, 103, after=1)]
+        self.turn_with(live=False)
+        self.assertEqual((self.kinds(), self.held()), (["take"], None))
+        self.assertIn("build 7: waits for refs/landings/core/000001 in", self.errors.getvalue())
+
+
+class Lost(WorkerCase):
+    def test_what_no_repository_has_is_lost_and_told(self) -> None:
+        self.gate.left = [self.reply(7, 109)]
+        self.worker.turn()
+        self.assertEqual(self.outcomes(), [(7, "lost")])
+        self.assertRegex(self.errors.getvalue(), "build 7: lost, no repository of the queue core has "
+                         "refs/changes/109/1: add the ..project.. of change 109 to companions.toml")
+
+    def test_a_job_that_the_settings_lack_is_lost_and_told(self) -> None:
+        self.gate.left = [self.reply(7, 103, job="docs")]
+        self.worker.turn()
+        self.assertEqual(self.outcomes(), [(7, "lost")])
+        self.assertIn("project lib has no job docs: add its [[project.job]] to companions.toml", self.errors.getvalue())
+
+    def test_what_the_machine_did_is_lost(self) -> None:
+        for number, fault in enumerate((GitFault("no space"), OSError("no space"))):
+            self.gate.left = [self.reply(number + 1, 103)]
+            with mock.patch.object(self.worker.trees, "make", side_effect=fault):
+                self.worker.turn()
+        self.assertEqual(self.outcomes(), [(1, "lost"), (2, "lost")])
+
+    def test_losses_in_a_row_make_it_rest_longer(self) -> None:
+        rests: list[float] = []
+        look = self.worker.settings.look
+        # Whoever waits for git's end sleeps too, for less.
+        with mock.patch.object(worker.time, "sleep", lambda seconds: rests.append(seconds) if seconds >= look else None):
+            for number in range(1, 11):
+                self.gate.left = [self.reply(number, 103, job="docs")]
+                self.worker.turn()
+            self.gate.left = [self.reply(11, 103)]
+            self.worker.turn()
+            self.gate.left = [self.reply(12, 103, job="docs")]
+            self.worker.turn()
+        self.assertEqual([round(it * 10) for it in rests], [1, 2, 4, 8, 16, 32, 64, 64, 64, 64, 1])
+
+    def test_a_loss_is_told_though_the_disk_is_full(self) -> None:
+        self.gate.left = [self.reply(7, 103, job="docs")]
+        with mock.patch.object(os, "fsync", side_effect=OSError("no space")):
+            self.worker.turn()
+        self.assertEqual(self.outcomes(), [(7, "lost")])
+
+    def test_a_success_is_not_told_before_it_is_on_disk(self) -> None:
+        with mock.patch.object(os, "fsync", side_effect=OSError("no space")), self.assertRaises(OSError):
+            self.worker.turn()
+        self.assertEqual(self.outcomes(), [])
+        self.worker.begin()
+        self.assertEqual(self.outcomes(), [(7, "lost")])
+
+
+class Restart(WorkerCase):
+    command = "sleep 1000"
+
+    def put(self, **held: Any) -> None:
+        Notes(self.folder / "state/worker/w1/notes.db").put("held", held)
+
+    def test_a_take_without_a_known_reply_is_sent_again_and_its_build_run(self) -> None:
+        self.put(take="70000000-0000-4000-8000-000000000001")
+        self.start("true").turn()
+        self.assertEqual(list(self.gate.taken), ["70000000-0000-4000-8000-000000000001"])
+        self.assertEqual(self.outcomes(), [(7, "success")])
+
+    def test_a_build_without_an_outcome_is_lost(self) -> None:
+        self.gate.take("70000000-0000-4000-8000-000000000001")
+        self.put(take="70000000-0000-4000-8000-000000000001", reply=self.reply(7, 103))
+        self.start()
+        self.assertEqual((self.kinds(), self.outcomes()), (["take", "result"], [(7, "lost")]))
+        self.assertEqual(([it["outcome"] for it in self.records()], self.held()), (["lost"], None))
+
+    def test_a_noted_outcome_is_told(self) -> None:
+        self.gate.take("70000000-0000-4000-8000-000000000001")
+        self.put(take="70000000-0000-4000-8000-000000000001", reply=self.reply(7, 103), outcome="failure")
+        self.start()
+        self.assertEqual((self.kinds(), self.outcomes()), (["take", "result"], [(7, "failure")]))
+
+    def test_what_was_held_is_dropped_if_the_gate_has_another_file(self) -> None:
+        self.put(take="70000000-0000-4000-8000-000000000001", reply=self.reply(7, 104), outcome="success")
+        self.start("true")
+        self.assertEqual([(it["change"], it["outcome"]) for it in self.records()], [(103, "success")])
+        self.assertEqual([it["id"] for it in self.gate.results],
+                         [id_of("70000000-0000-4000-8000-000000000001", "result", 7, 103, 1, "success")])
+
+
+class Killed(WorkerCase):
+    """A worker in a process of its own."""
+    command = "sh -c 'echo $$ > $GATED_TREES/../../pid; exec sleep 1000'; true"
+
+    def process(self) -> subprocess.Popen[bytes]:
+        command = [sys.executable, "-m", "companions.worker", str(self.write_settings()), "w1"]
+        started = subprocess.Popen(command, cwd=TOP, stderr=subprocess.DEVNULL)
+        self.addCleanup(started.wait)
+        self.addCleanup(started.kill)
+        return started
+
+    def job(self) -> int:
+        file = self.folder / "state/worker/w1/pid"
+        return int(self.until(lambda: file.exists() and file.read_text().endswith("\n") and file.read_text()))
+
+    def test_its_job_ends_at_the_next_start_and_is_lost(self) -> None:
+        first = self.process()
+        running = self.job()
+        first.kill()
+        first.wait()
+        self.assertTrue(runs(running))
+        self.process()
+        self.until(lambda: self.outcomes() == [(7, "lost")])
+        self.until(lambda: not runs(running))
+
+    def test_a_group_without_the_mark_ends_by_its_note(self) -> None:
+        left = subprocess.Popen(["sleep", "1000"], env={}, start_new_session=True)
+        self.addCleanup(left.wait)
+        self.addCleanup(left.kill)
+        began = job.began_at(left.pid)
+        assert began is not None
+        self.worker.notes.put("group", {"number": left.pid, "began": began + 1})
+        self.worker.begin()
+        self.assertIsNone(left.poll())
+        self.worker.notes.put("group", {"number": left.pid, "began": began})
+        self.worker.begin()
+        self.assertEqual(left.wait(), -signal.SIGKILL)
+        self.assertIsNone(self.worker.notes.get("group"))
+
+    def test_a_process_with_the_mark_ends_at_the_start(self) -> None:
+        name, _, value = self.worker.mark.partition("=")
+        left = subprocess.Popen(["sleep", "1000"], env={name: value}, start_new_session=True)
+        self.addCleanup(left.wait)
+        self.addCleanup(left.kill)
+        self.worker.begin()
+        self.assertFalse(runs(left.pid))
+
+    def test_sigterm_ends_it_with_its_job(self) -> None:
+        started = self.process()
+        running = self.job()
+        started.terminate()
+        self.assertEqual(started.wait(), 128 + signal.SIGTERM)
+        self.until(lambda: not runs(running))
+
+    def test_a_second_one_of_its_name_does_not_run(self) -> None:
+        self.process()
+        self.job()
+        self.assertEqual(worker.main([str(self.write_settings()), "w1"]), 1)
+        self.assertIn("stops: a worker of this name runs already", self.errors.getvalue())
+
+
+if __name__ == "__main__":
+    unittest.main()
