@@ -1,0 +1,321 @@
+"""The watch before a stand-in of a gate, at times that the tests say."""
+from __future__ import annotations
+
+import contextlib
+import http.server
+import io
+import json
+import tempfile
+import threading
+import unittest
+import unittest.mock
+import uuid
+from pathlib import Path
+from typing import Any
+
+from companions.figures import QueueFigures, text_of
+from companions.settings import Account, Job, Project, Settings
+from companions.watch import Watch
+
+ONE, OTHER = str(uuid.UUID(int=1)), str(uuid.UUID(int=2))
+FIGURES = """\
+# HELP gated_up Whether the gate answers.
+# TYPE gated_up gauge
+gated_up 1
+# HELP gated_items Items that stand in the queue.
+# TYPE gated_items gauge
+gated_items{queue="core"} 3
+gated_items{queue="web.2"} 0
+# HELP gated_waiting Approved changes that wait to enter the queue.
+# TYPE gated_waiting gauge
+gated_waiting{queue="core"} 1
+gated_waiting{queue="web.2"} 2
+# HELP gated_running Builds of the queue that run and are wanted.
+# TYPE gated_running gauge
+gated_running{queue="core"} 4
+gated_running{queue="web.2"} 0
+# HELP gated_oldest_seconds For how long the first item of the queue has been its first, 0 where there is none.
+# TYPE gated_oldest_seconds gauge
+gated_oldest_seconds{queue="core"} 75
+gated_oldest_seconds{queue="web.2"} 0
+# HELP gated_landed Landings of the queue.
+# TYPE gated_landed gauge
+gated_landed{queue="core"} 12
+gated_landed{queue="web.2"} 7
+# HELP gated_window Items from the front that may get builds, 0 for all of them.
+# TYPE gated_window gauge
+gated_window{queue="core"} 20
+gated_window{queue="web.2"} 3
+# HELP gated_builds_lost_total Builds that the watch has reported as lost.
+# TYPE gated_builds_lost_total counter
+gated_builds_lost_total 5
+"""
+SILENT = """\
+# HELP gated_up Whether the gate answers.
+# TYPE gated_up gauge
+gated_up 0
+# HELP gated_builds_lost_total Builds that the watch has reported as lost.
+# TYPE gated_builds_lost_total counter
+gated_builds_lost_total 5
+"""
+
+
+class StandIn:
+    """What the stand-in of a gate has, and what it was asked and told."""
+
+    def __init__(self) -> None:
+        self.first: str | None = ONE
+        self.landed = 0
+        self.items: list[str] = []
+        self.waiting: dict[int, str] = {}
+        self.builds: dict[int, dict[str, Any]] = {}
+        self.answers = True
+        self.asked: list[str] = []
+        self.told: list[dict[str, Any]] = []
+
+    def give(self, number: int, change: int = 101, revision: int = 1, **said: Any) -> None:
+        self.builds[number] = {"after": 0, "ahead": [], "build": number, "change": change, "revision": revision,
+                               "job": "unit", "queue": "core", "live": True, "outcome": "running", **said}
+
+    def text(self, path: str) -> str | None:
+        """The answer to a question: a text, or none for a 404."""
+        if path == "/deliveries":
+            return "end 0\n" if self.first is None else f'{{"id":"{self.first.replace("-", "")}"}}\nend 1\n'
+        if path == "/status":
+            rows = [f"queue core window 4 landed {self.landed}", *self.items, "queue web window 3 landed 0",
+                    *(f"waiting {it} 1" for it in self.waiting), "end"]
+            return "".join(f"{it}\n" for it in rows)
+        if path == "/running":
+            shown = [it for it in self.builds.values() if it["live"] and it["outcome"] == "running"]
+            return json.dumps({"builds": shown, "running": len(shown)})
+        _, kind, number = path.split("/")
+        known = {"builds": self.builds, "changes": {it: {"queue": self.waiting[it]} for it in self.waiting}}[kind]
+        return json.dumps(known[int(number)]) if int(number) in known else None
+
+    def tell(self, said: dict[str, Any]) -> str:
+        self.told.append(said)
+        self.builds[said["build"]]["outcome"] = said["outcome"]
+        return '{"reply":"noted"}'
+
+
+class Door(http.server.BaseHTTPRequestHandler):
+    """One request to the stand-in. Who isn't its account is turned away as a proxy does it."""
+    server: Server
+
+    def do_GET(self) -> None:
+        self.server.gate.asked.append(self.path)
+        text = self.server.gate.text(self.path)
+        self.answer(*((404, '{"error":"unknown-build"}') if text is None else (200, text)))
+
+    def do_POST(self) -> None:
+        self.answer(200, self.server.gate.tell(json.loads(self.rfile.read(int(self.headers["Content-Length"])))))
+
+    def answer(self, status: int, text: str) -> None:
+        if not self.server.gate.answers:
+            status, text = 502, "<html>Bad Gateway</html>"
+        self.send_response(status)
+        self.end_headers()
+        self.wfile.write(text.encode())
+
+    def log_message(self, *_: Any) -> None:
+        """Nothing is told of each request."""
+
+
+class Server(http.server.HTTPServer):
+    gate: StandIn
+
+
+class WatchTest(unittest.TestCase):
+    """Each test is told what the watch wrote to standard error, and where its figures are."""
+
+    def setUp(self) -> None:
+        room = tempfile.TemporaryDirectory()
+        self.addCleanup(room.cleanup)
+        server = Server(("127.0.0.1", 0), Door)
+        server.gate = self.gate = StandIn()
+        threading.Thread(target=server.serve_forever, kwargs={"poll_interval": 0.01}, daemon=True).start()
+        self.addCleanup(server.server_close)
+        self.addCleanup(server.shutdown)
+        accounts = dict.fromkeys(("people", "worker", "standby"), Account("somebody", "secret"))
+        jobs = {"unit": Job("unit", "true", 60.0), "docs": Job("docs", "true", 600.0)}
+        self.settings = Settings(
+            url=f"http://127.0.0.1:{server.server_port}", accounts=accounts, folder=Path(room.name),
+            projects={"lib": Project("lib", "core", "/nowhere", "main", jobs)},
+            pause=1.0, look=10.0, grace=30.0, stands=1000.0, author="gate <gate@localhost>")
+        self.file = Path(room.name) / "watch" / "gated.prom"
+        self.watch = Watch(self.settings)
+
+    def look(self, now: float) -> str:
+        """What one look wrote to standard error."""
+        with contextlib.redirect_stderr(io.StringIO()) as told:
+            self.watch.look(now)
+        return told.getvalue()
+
+    def figure(self, name: str) -> str | None:
+        rows = [it.rpartition(" ") for it in self.file.read_text().splitlines()]
+        return next((value for label, _, value in rows if label == name), None)
+
+    def start_again(self) -> None:
+        self.watch.notes.tables.close()
+        self.watch = Watch(self.settings)
+
+    def tearDown(self) -> None:
+        self.watch.notes.tables.close()
+
+    def test_figures_are_a_text_of_prometheus(self) -> None:
+        core = QueueFigures("core", items=3, waiting=1, running=4, oldest_seconds=75, landed=12, window=20)
+        web = QueueFigures("web.2", items=0, waiting=2, running=0, oldest_seconds=0, landed=7, window=3)
+        self.assertEqual(text_of([core, web], 5), FIGURES)
+        self.assertEqual(text_of(None, 5), SILENT)
+
+    def test_figures_are_what_the_gate_shows(self) -> None:
+        self.gate.items = ["     7       101    1      - ok      unit=running docs=waiting",
+                           "     8       102    1      7 ok      unit=waiting"]
+        self.gate.landed, self.gate.waiting = 5, {103: "core", 201: "web", 202: "web"}
+        self.gate.give(1)
+        self.look(1000.0)
+        self.look(1040.9)
+        wanted = {'items{queue="core"}': "2", 'items{queue="web"}': "0", 'waiting{queue="core"}': "1",
+                  'waiting{queue="web"}': "2", 'running{queue="core"}': "1", 'running{queue="web"}': "0",
+                  'oldest_seconds{queue="core"}': "40", 'oldest_seconds{queue="web"}': "0", 'landed{queue="core"}': "5",
+                  'window{queue="core"}': "4", 'window{queue="web"}': "3", "builds_lost_total": "0", "up": "1"}
+        self.assertEqual({it: self.figure(f"gated_{it}") for it in wanted}, wanted)
+        self.assertEqual([it.name for it in self.file.parent.glob("gated*")], ["gated.prom"])
+
+    def test_a_gate_that_does_not_answer_has_no_figures(self) -> None:
+        self.gate.items = [" 7 101 1 - ok unit=running"]
+        self.look(1000.0)
+        self.gate.answers = False
+        self.assertRegex(self.look(1001.0), "^watch: can't look: no answer of the gate: .*502")
+        self.assertEqual(self.look(1002.0), "")
+        self.assertEqual(self.figure("gated_up"), "0")
+        self.assertNotIn("queue", self.file.read_text())
+        self.gate.answers = True
+        self.assertEqual(self.look(1003.0), "watch: the gate answers again\n")
+        self.assertEqual(self.figure('gated_oldest_seconds{queue="core"}'), "3")
+
+    def test_a_waiting_change_is_asked_for_once(self) -> None:
+        self.gate.waiting = {201: "web"}
+        self.look(1000.0)
+        self.look(1001.0)
+        self.gate.waiting[202] = "web"
+        self.look(1002.0)
+        self.assertEqual([it for it in self.gate.asked if "changes" in it], ["/changes/201", "/changes/202"])
+        self.gate.waiting = {}
+        self.look(1003.0)
+        self.assertEqual(self.watch.queue_of, {})
+
+    def test_a_build_beyond_limit_and_grace_is_lost_once(self) -> None:
+        self.gate.give(1)
+        self.gate.give(2, job="docs")
+        self.look(1000.0)
+        self.assertEqual(self.look(1090.0), "")
+        self.assertEqual(self.look(1090.5), "watch: build 1, unit of change 101 at revision 1, ran beyond its limit:"
+                                            " reported as lost: noted\n")
+        self.look(1091.0)
+        self.assertEqual([(it["kind"], it["build"], it["outcome"]) for it in self.gate.told], [("result", 1, "lost")])
+        self.assertEqual(self.figure("gated_builds_lost_total"), "1")
+        self.start_again()
+        self.look(1092.0)
+        self.assertEqual(self.figure("gated_builds_lost_total"), "1")
+
+    def test_what_is_not_that_build_any_more_is_not_reported(self) -> None:
+        for different in ({"live": False}, {"outcome": "success"}, {"change": 102}, {"revision": 2}, {"job": "docs"}):
+            with self.subTest(different):
+                self.gate.give(1)
+                self.look(1000.0)
+                text = self.gate.text("/running")
+                self.gate.give(1, **different)
+                with unittest.mock.patch.object(self.watch.people, "running", lambda: json.loads(text or "")["builds"]):
+                    self.look(2000.0)
+                self.assertEqual(self.gate.told, [])
+
+    def test_a_build_of_another_file_is_not_reported(self) -> None:
+        self.gate.give(1)
+        self.gate.give(2)
+        self.look(1000.0)
+        self.gate.first = OTHER
+        self.assertEqual(self.look(1100.0), "watch: the gate has another file: all that was noted is dropped\n")
+        self.assertEqual(self.gate.told, [])
+        self.look(1101.0)
+        self.look(1191.0)
+        self.assertEqual(self.gate.told, [])
+        self.look(1191.5)
+        self.assertEqual([it["build"] for it in self.gate.told], [1, 2])
+
+    def test_notes_of_another_file_go_after_a_silence(self) -> None:
+        self.gate.give(1)
+        self.look(1000.0)
+        self.gate.answers = False
+        self.look(1001.0)
+        self.gate.answers, self.gate.first = True, OTHER
+        self.look(1002.0)
+        self.assertEqual(self.watch.notes.get("seen")["builds"], {"1/101/1": 1002.0})
+
+    def test_an_earlier_state_of_the_file_has_builds_of_its_own(self) -> None:
+        self.gate.landed = 5
+        self.gate.give(1)
+        self.look(1000.0)
+        self.gate.landed = 4
+        self.look(1091.0)
+        self.assertEqual(self.gate.told, [])
+        self.look(1181.5)
+        self.assertEqual(len(self.gate.told), 1)
+
+    def test_a_gate_that_has_accepted_nothing_is_up(self) -> None:
+        self.gate.first = None
+        self.assertEqual(self.look(1000.0), "")
+        self.assertEqual(self.figure("gated_up"), "1")
+        self.gate.first = ONE
+        self.assertEqual(self.look(1001.0), "")
+        self.assertEqual(self.watch.notes.get("seen")["first"], ONE)
+
+    def test_a_restart_keeps_when_a_build_was_seen(self) -> None:
+        self.gate.give(1)
+        self.look(1000.0)
+        self.start_again()
+        self.look(1090.5)
+        self.assertEqual(len(self.gate.told), 1)
+
+    def test_a_report_without_an_answer_is_sent_again(self) -> None:
+        self.gate.give(1)
+        self.look(1000.0)
+        with unittest.mock.patch.object(self.gate, "tell", lambda said: self.gate.told.append(said) or "<html></html>"):
+            self.assertIn("can't report what is lost: no answer of the gate", self.look(1091.0))
+        self.assertEqual(self.figure("gated_up"), "1")
+        self.look(1092.0)
+        self.assertEqual(len(self.gate.told), 2)
+        self.assertEqual(self.gate.told[0], self.gate.told[1])
+
+    def test_a_job_that_the_settings_lack_is_told_once(self) -> None:
+        self.gate.give(1, job="lint")
+        self.assertEqual(self.look(1000.0), "watch: core: no project of the settings has a job lint, so its builds"
+                                            " aren't reported as lost\n")
+        self.assertEqual(self.look(9000.0), "")
+
+    def test_a_first_item_that_stands_is_told_now_and_then(self) -> None:
+        self.gate.items = ["     7       101    1      - ok      unit=running docs=success"]
+        self.assertEqual([self.look(it) for it in (1000.0, 2000.0)], ["", ""])
+        self.assertEqual(self.look(2001.0), "watch: core: change 101 at revision 1, order 7, has stood first for"
+                                            " 1001 seconds: ok unit=running docs=success\n")
+        self.start_again()
+        self.assertEqual([self.look(it) for it in (2002.0, 3001.0)], ["", ""])
+        self.assertIn("has stood first for 2002 seconds", self.look(3002.0))
+        self.gate.items = [" 8 102 1 - ok unit=running"]
+        self.assertEqual(self.look(3100.0), "")
+        self.assertEqual(self.figure('gated_oldest_seconds{queue="core"}'), "0")
+
+    def test_notes_do_not_grow_with_the_past(self) -> None:
+        for number in range(1, 50):
+            self.gate.builds = {}
+            self.gate.give(number)
+            self.gate.items = [f" {number} 101 {number} - ok unit=running"]
+            self.gate.landed += 1
+            self.look(1000.0 + number)
+        self.assertEqual(self.watch.notes.names(""), ["seen"])
+        seen = self.watch.notes.get("seen")
+        self.assertEqual((list(seen["builds"]), list(seen["firsts"])), (["49/101/1"], ["core"]))
+
+
+if __name__ == "__main__":
+    unittest.main()
