@@ -1,5 +1,5 @@
-# What the forge, its lander and its workers share. FORGE is the folder in which they all live, FORGE_SETTINGS the
-# settings of the gate, GATE_PORT the file that has its port.
+# What the scripts of a forge share. FORGE is the folder in which it all lives, FORGE_SETTINGS the settings of the gate,
+# GATE_PORT the file that has its port.
 : "${FORGE:?the folder of the forge}" "${FORGE_SETTINGS:?the settings of the gate}" "${GATE_PORT:=$FORGE/port}"
 export GIT_AUTHOR_NAME=forge GIT_AUTHOR_EMAIL=forge@localhost
 export GIT_COMMITTER_NAME=forge GIT_COMMITTER_EMAIL=forge@localhost
@@ -12,8 +12,7 @@ projects_of() {
     table == "[[project]]" && /^queue/ && (queue == "" || $2 == queue) { print name }' "$FORGE_SETTINGS"
 }
 
-# An id for the one delivery of its kind that speaks of this number, and of this revision if it names one, so that
-# whoever sends it again, after a crash too, sends it under the same id.
+# An id for a delivery that is told by hand: of its kind, of this number, and of this revision if it names one.
 id_of() {
   local kind number
   case $1 in
@@ -50,20 +49,4 @@ page() {
 # A member of a JSON object: a number, or a text without escapes.
 member() {
   sed -n "s/.*\"$2\":\"\{0,1\}\([^,\"}]*\).*/\1/p" <<<"$1"
-}
-
-# The landings of a project in a repository of it: commit, queue, order number, change and revision, the oldest first.
-# Its branches are named behind a prefix, if one is given.
-landings_of() {
-  git -C "$1" log --first-parent --reverse --format='%H %s' "${2-}base..${2-}main" |
-    sed -n 's/^\([0-9a-f]*\) Land \([^ ]*\) by order \([0-9]*\) of \(.*\)$/\1 \4 \3 \2/p'
-}
-
-# A text as JSON, by whichever of the two is there.
-quoted() {
-  if command -v jq >/dev/null; then
-    jq --raw-input --slurp .
-  else
-    python3 -c 'import json, sys; print(json.dumps(sys.stdin.buffer.read().decode("utf-8", "replace")))'
-  fi
 }

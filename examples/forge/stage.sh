@@ -1,14 +1,15 @@
 # What a day on this machine needs: parts that are started, stopped and waited for, and a look at what git has in the
 # end. GATED is the program, by default the one that `rt run` leaves.
 FORGE_SCRIPTS=$(cd "$(dirname "${BASH_SOURCE[0]}")" && pwd)
-GATED=${GATED:-$(cd "$FORGE_SCRIPTS/../.." && pwd)/crates/gated/out/gated}
+FORGE_TOP=$(cd "$FORGE_SCRIPTS/../.." && pwd)
+GATED=${GATED:-$FORGE_TOP/crates/gated/out/gated}
 if [ ! -x "$GATED" ]; then
   echo "no program at $GATED: name one by GATED, or run" \
     "(cd crates/gated && rt run -- replay ../../examples/settings.toml </dev/null) at the top of the repository" >&2
   exit 1
 fi
 FORGE=$(mktemp -d)
-export FORGE FORGE_SCRIPTS FORGE_SETTINGS
+export FORGE FORGE_SCRIPTS FORGE_SETTINGS PYTHONPATH="$FORGE_TOP" PYTHONDONTWRITEBYTECODE=1
 . "$FORGE_SCRIPTS/common.sh"
 declare -A running=()
 
@@ -49,20 +50,41 @@ await() {
   done
 }
 
-# Serves a file as the gate. Its port stands in `port.new`, where none of its clients looks.
-serve() {
-  : >"$FORGE/gate.log"
-  start gate "$GATED" serve "$FORGE_SETTINGS" "$1" --port 0 --count 1000000000
-  await grep -q '^listening' "$FORGE/gate.log"
-  sed -n 's/^listening 127.0.0.1://p' "$FORGE/gate.log" >"$FORGE/port.new"
-}
-
+# Serves the day's file as the gate, always at the same port, which a first start takes and the companions are told.
 start_gate() {
-  serve "$FORGE/day.gate"
-  mv "$FORGE/port.new" "$FORGE/port"
+  local port=0
+  [ ! -e "$GATE_PORT" ] || port=$(cat "$GATE_PORT")
+  : >"$FORGE/gate.log"
+  start gate "$GATED" serve "$FORGE_SETTINGS" "$FORGE/day.gate" --port "$port" --count 1000000000
+  await grep -q '^listening' "$FORGE/gate.log"
+  sed -n 's/^listening 127.0.0.1://p' "$FORGE/gate.log" >"$GATE_PORT"
+  companions_settings >"$FORGE/companions.toml"
 }
 
-# Nothing stands in a queue, nothing waits, and each landing has its name.
+# The companions' settings, by those of the gate: each job is the script of its name in its project.
+companions_settings() {
+  python3 - "$FORGE_SETTINGS" "$FORGE" "$(cat "$GATE_PORT")" <<'PYTHON'
+import sys, tomllib
+settings, forge, port = sys.argv[1:]
+print(f'folder = "{forge}/companions"\n[gate]\nurl = "http://127.0.0.1:{port}"\npause = 0.2\n[worker]\nlook = 1.0')
+for project in tomllib.load(open(settings, "rb"))["project"]:
+    print(f'[[project]]\nname = "{project["name"]}"\nqueue = "{project["queue"]}"\nbranch = "main"')
+    print(f'repository = "{forge}/repos/{project["name"]}.git"')
+    for job in project["job"]:
+        print(f'[[project.job]]\nname = "{job["name"]}"\ncommand = "sh {job["name"]}.sh"\nlimit = 100.0')
+PYTHON
+}
+
+# Who lands may move the branches; who is told to is known by this word alone.
+start_lander() {
+  start lander env FORGE_LANDER=yes python3 -m companions.lander "$FORGE/companions.toml"
+}
+
+start_worker() {
+  start "$1" python3 -m companions.worker "$FORGE/companions.toml" "$1"
+}
+
+# Nothing stands in a queue, nothing waits, and each landing is noted.
 is_quiet() {
   local shown queue landed
   shown=$(page status)
@@ -72,35 +94,55 @@ is_quiet() {
   done < <(grep '^queue ' <<<"$shown")
 }
 
+# Whether a landing is noted: its project, and its queue and place, as core/1.
 has_landed() {
-  git -C "$FORGE/repos/$1.git" rev-parse --quiet --verify "refs/landings/$2"
+  git -C "$FORGE/repos/$1.git" rev-parse --quiet --verify "$(printf 'refs/landings/%s/%06d' "${2%/*}" "${2#*/}")"
 }
 
-# The landings of a queue as git has them, by the names that the lander gave them: place, change and revision.
+# The landings of a project as git has them: place, commit, change and revision. The note of the first head is none.
+landings_of() {
+  local repository=$FORGE/repos/$1.git place commit
+  git -C "$repository" for-each-ref --format='%(refname:lstrip=3) %(objectname)' "refs/landings/$2" |
+    while read -r place commit; do
+      [ "$place" = 000000 ] || echo "$((10#$place)) $commit $(git -C "$repository" log -1 --format=%B "$commit" |
+        sed -n 's/^Gate-Change: //p; s/^Gate-Revision: //p' | paste -s -d ,)"
+    done
+}
+
+# The landings of a queue as git has them: place, change and revision.
 landings_by_git() {
   local project
   for project in $(projects_of "$1"); do
-    git -C "$FORGE/repos/$project.git" for-each-ref --format='%(refname:lstrip=3) %(subject)' "refs/landings/$1"
-  done | sort -n | sed 's/^\([0-9]*\) Land \([^ ]*\) by order .*$/\1 \2/'
+    landings_of "$project" "$1" | cut -d ' ' -f 1,3
+  done | sort -n
 }
 
-# The branch of a project is its first commit and then the landings that bear names, in their order.
+# The branch of a project is its first commit and then the landings that are noted, in their order.
 check_branch() {
-  local project=$1 queue=$2 branch names
+  local project=$1 queue=$2 branch
   branch=$(git -C "$FORGE/repos/$project.git" log --first-parent --reverse --format=%H base..main)
-  names=$(git -C "$FORGE/repos/$project.git" for-each-ref --format='%(refname:lstrip=3) %(objectname)' \
-    "refs/landings/$queue" | sort -n | cut -d ' ' -f 2)
-  [ "$branch" = "$names" ] || fail "the branch of $project isn't its landings"
+  [ "$branch" = "$(landings_of "$project" "$queue" | cut -d ' ' -f 2)" ] ||
+    fail "the branch of $project isn't its landings"
+}
+
+# What the workers noted of their builds: project, change and revision, job, outcome, and the tree of the project.
+builds_by_workers() {
+  cat "$FORGE"/companions/worker/*/builds.jsonl | python3 -c '
+import json, sys
+for it in map(json.loads, sys.stdin):
+    tree = it["trees"].get(it["project"])
+    print(it["project"], "%s,%s" % (it["change"], it["revision"]), it["job"], it["outcome"], tree)'
 }
 
 # Each voting job passed on the tree that a landing left.
 check_trees() {
-  local project=$1 queue=$2 commit change tree
-  git -C "$FORGE/repos/$project.git" for-each-ref --format='%(objectname) %(subject)' "refs/landings/$queue" |
-    while read -r commit _ change _; do
+  local project=$1 queue=$2 place change commit tree
+  builds_by_workers >"$FORGE/builds"
+  landings_of "$project" "$queue" |
+    while read -r place commit change; do
       tree=$(git -C "$FORGE/repos/$project.git" rev-parse "$commit^{tree}")
-      grep -q "^[0-9]* $project $change unit success $tree\$" "$FORGE/builds" ||
-        fail "$change landed on a tree that passed no unit job"
+      grep -q "^$project $change unit success $tree\$" "$FORGE/builds" ||
+        fail "$change landed as $place on a tree that passed no unit job"
     done
 }
 

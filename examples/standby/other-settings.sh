@@ -20,7 +20,7 @@ add() {
 start_both() {
   FORGE_SETTINGS=$1 start_gate
   start follow env TMPDIR="$FORGE" PAUSE=0.2 \
-    "$here/follow.sh" "http://127.0.0.1:$(cat "$FORGE/port")" "$1" "$FORGE/standby.gate"
+    "$here/../../companions/service/follow" "http://127.0.0.1:$(cat "$FORGE/port")" "$1" "$FORGE/standby.gate"
 }
 
 # What the follower has told is the same on both sides, up to the approval of a change.
