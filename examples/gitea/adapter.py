@@ -1,148 +1,215 @@
 #!/usr/bin/env python3
-"""Takes the webhooks of a forge, in the form of Gitea's or GitHub's, and tells a gate what they say.
+"""Takes the webhooks of a forge, in the form of Gitea's or GitHub's, and tells a gate what is so in the forge.
 
-adapter.py DATABASE PORT, with these in the environment: GATE_PORT, a file that has the gate's port; BASE, as in the
-settings; FORGE_URL, what pull requests' addresses begin with; SECRET of the webhooks; APPROVERS, names with commas;
-LANDER, who merges for the gate; REPOSITORIES, the folder of the bare ones. A pull request that is pushed back to an
-earlier hash stays at its last revision: a webhook that comes late looks the same.
+adapter.py DATABASE PORT, with these in the environment: GATE_PORT, a file that has the gate's port; API, the address of
+the forge's API, and TOKEN for it; SECRET of the webhooks; PROJECTS, words REPOSITORY:BRANCH=PROJECT; BASE, as in the
+settings; FORGE_URL, what pull requests' addresses begin with; APPROVERS, names with commas; LANDER, who merges for the
+gate; REPOSITORIES, the folder of the bare ones; LOOK, the seconds between two looks at all open pull requests.
+
+A webhook is a hint. It may come late, twice or never, so of all that it says only the number of the pull request is
+believed: what is so now is asked of the forge.
 """
+from __future__ import annotations
+
 import hashlib
 import hmac
-import http.client
 import http.server
 import json
 import os
-import re
-import sqlite3
 import subprocess
 import sys
 import threading
 import time
 import uuid
+from collections.abc import Callable
+from pathlib import Path
 
-FOOTER = re.compile(r"^depends-on:[ \t]*(.*?)[ \t\r]*$", re.IGNORECASE | re.MULTILINE)
-PULL = re.compile(re.escape(os.environ["FORGE_URL"]) + r"/([\w.-]+/[\w.-]+)/pulls?/([1-9][0-9]*)")
+sys.path.insert(0, str(Path(__file__).resolve().parents[2]))
 
-SAID = {"pull_request_approved": "approved", "pull_request_rejected": "withdrawn",
-        "approved": "approved", "changes_requested": "withdrawn", "dismissed": "withdrawn"}
-# A change has a row once its pull request is known or named; a delivery has one until the gate has answered it.
+from changes import Changes, Names
+from companions.gate import Answer, Delivery, Gate, NoAnswer, say
+from companions.outbox import SUBMITTING, Kept, Notes, Outbox
+from forge_client import Forge, ForgeFault
+
+# A pull request that was hinted at again gets a new place.
 TABLES = """
-CREATE TABLE IF NOT EXISTS change(number INTEGER PRIMARY KEY, project TEXT, pull INTEGER, closed INTEGER,
-    UNIQUE(project, pull));
-CREATE TABLE IF NOT EXISTS revision(change INTEGER, number INTEGER, hash TEXT, needs TEXT, PRIMARY KEY(change, number));
-CREATE TABLE IF NOT EXISTS delivery(place INTEGER PRIMARY KEY AUTOINCREMENT, id TEXT, said TEXT);
+CREATE TABLE IF NOT EXISTS hint(place INTEGER PRIMARY KEY AUTOINCREMENT, repository TEXT, pull INTEGER,
+    UNIQUE(repository, pull));
 """
+PAUSE = 0.5
+# After a fault of the forge, its pull request is asked for again so many seconds later.
+LATER = 5.0
 
 
-def change_of(tables, project, pull):
-    """The number of a pull request's change, which may be new."""
-    tables.execute("INSERT OR IGNORE INTO change(project, pull, closed) VALUES (?, ?, 0)", (project, pull))
-    return tables.execute("SELECT number FROM change WHERE project = ? AND pull = ?", (project, pull)).fetchone()[0]
+class TellingGate(Gate):
+    """The gate, at the port that it has now. Answers are printed; that a lander is at a change, once a delivery."""
+
+    def __init__(self, port: Path) -> None:
+        self.file, self.held = port, set[str]()
+        super().__init__("http://127.0.0.1", None, timeout=10.0, part="adapter")
+
+    def request(self, method: str, path: str, body: bytes | None = None) -> tuple[int, bytes]:
+        try:
+            self.url = self.url._replace(netloc=f"127.0.0.1:{int(self.file.read_text(encoding='ascii'))}")
+        except (OSError, ValueError) as fault:
+            raise NoAnswer(f"{self.file}: {fault}") from fault
+        return super().request(method, path, body)
+
+    def post(self, door: str, delivery: Delivery) -> Answer:
+        answer = super().post(door, delivery)
+        if answer.code != SUBMITTING or delivery["id"] not in self.held:
+            print(json.dumps(delivery), json.dumps(answer.said))
+        (self.held.add if answer.code == SUBMITTING else self.held.discard)(delivery["id"])
+        return answer
 
 
-def needs_of(tables, text):
-    """The lines of a text that name pull requests, as the gate reads them."""
-    lines = []
-    for address in FOOTER.findall(text or ""):
-        named = PULL.fullmatch(address)
-        if not named:
-            print("names no pull request:", address)
-            continue
-        lines.append(f"Depends-On: {os.environ['BASE']}{change_of(tables, named[1], int(named[2]))}")
-    return "\n".join(list(dict.fromkeys(lines))[:33])  # with 33 the gate refuses them
+class Adapter:
+    """What is done over and over: look at the forge where a hint says so, and tell the gate."""
+
+    def __init__(self, outbox: Outbox, forge: Forge, gate: Gate, names: Names) -> None:
+        self.outbox, self.forge, self.gate, self.names = outbox, forge, gate, names
+        self.changes = Changes(outbox, forge, names)
+        outbox.tables.executescript(TABLES)
+        self.is_known = False
+        self.look_at = 0.0
+        self.later: dict[str, float] = {}
+        self.troubles: dict[str, str] = {}
+
+    def once(self, now: float, look: float) -> None:
+        """One round. At the start, and now and then, each open pull request is taken for hinted at."""
+        if self.outbox.get("file") is not None:
+            if now >= self.look_at:
+                self.look_at = now + (look if self.try_forge("look", self.hint_at_all) else LATER)
+            self.follow_hints(now)
+        try:
+            if not self.is_known:
+                self.ask_file()
+            self.outbox.send(self.gate, self.accepted, PAUSE)
+            self.trouble("gate", None)
+        except NoAnswer as fault:
+            self.is_known = False
+            self.trouble("gate", f"no answer of the gate: {fault}")
+
+    def follow_hints(self, now: float) -> None:
+        """Compares the pull requests that were hinted at, up to the first of which the forge doesn't tell."""
+        rows = self.outbox.tables.execute("SELECT place, repository, pull FROM hint ORDER BY place").fetchall()
+        for place, repository, pull in rows:
+            name = f"{repository}/{pull}"
+            if self.later.get(name, 0.0) > now:
+                continue
+            if not self.try_forge(name, lambda: self.changes.compare(repository, pull)):
+                self.later[name] = now + LATER
+                return
+            # What was kept is told to the file that its ids are of.
+            self.is_known = self.is_known and self.outbox.is_empty()
+            self.later.pop(name, None)
+            # One that came meanwhile has another place.
+            self.outbox.tables.execute("DELETE FROM hint WHERE place = ?", (place,))
+
+    def hint_at_all(self) -> None:
+        """Hints at each pull request that is open in the forge, or was."""
+        for repository in dict.fromkeys(repository for repository, _ in self.names.projects):
+            for number in sorted({*self.forge.open_pulls(repository), *self.changes.known(repository)}):
+                hint(self.outbox, repository, number)
+
+    def try_forge(self, what: str, ask: Callable[[], None]) -> bool:
+        """Whether nothing went wrong with the forge or its repository; else it is told, and tried again later."""
+        try:
+            ask()
+        except (ForgeFault, subprocess.CalledProcessError, LookupError, TypeError) as fault:
+            self.trouble(what, f"{what}: {type(fault).__name__}: {fault}")
+            return False
+        self.trouble(what, None)
+        return True
+
+    def trouble(self, what: str, said: str | None) -> None:
+        """Tells of a trouble once, until it is another one or over."""
+        if said is None:
+            self.troubles.pop(what, None)
+        elif self.troubles.get(what) != said:
+            self.troubles[what] = said
+            say("adapter", said)
+
+    def ask_file(self) -> None:
+        """Sees whether the gate has the file that the ids are made for. It is asked before something new is told.
+
+        Ids hold for one file, by its first accepted delivery. Where nothing is accepted yet, any id does in its place:
+        an empty file has no kept reply that could be taken for an act. It is drawn at random, once a file, because this
+        adapter tells the first delivery itself, and files are told apart by the id of that one.
+        """
+        noted, last = self.outbox.get("file"), self.outbox.get("last")
+        knows = last is None or self.gate.knows(last)
+        if not (noted and noted["first"] and last and knows):
+            self.note_file(noted, self.gate.first(), knows)
+        self.is_known = True
+
+    def note_file(self, noted: dict[str, str] | None, first: str | None, knows: bool) -> None:
+        is_other = noted is not None and (noted["first"] not in (None, first) or not knows and noted["first"] is None)
+        drawn = noted["ids"] if noted and not is_other else str(uuid.uuid4())
+        if is_other:
+            say("adapter", "the gate has another file: all open pull requests are told anew, and need new approvals")
+            self.changes.tell_anew()
+            self.look_at = 0.0
+        elif not knows:
+            say("adapter", "the gate has an earlier state of its file: what was told of last revisions is told again")
+            self.changes.tell_again()
+        if not knows or is_other:
+            self.outbox.drop("last")
+        self.outbox.put("file", {"first": first, "ids": first or drawn})
+
+    def accepted(self, delivery: Kept, answer: Answer) -> None:
+        """Notes the last delivery that the gate has accepted: it knows that one for as long as it has this file."""
+        if answer.reply is not None:
+            self.outbox.put("last", delivery.id)
+        if self.outbox.get("file")["first"] is None:
+            self.is_known = False
 
 
-def keep(tables, **said):
-    """A delivery to be sent, under an id of its own."""
-    tables.execute("INSERT INTO delivery(id, said) VALUES (?, ?)", (str(uuid.uuid4()), json.dumps(said)))
-
-
-def revise(tables, change, project, pull):
-    """Keeps a new revision, if the hash or the needs are new, or the pull request is open again."""
-    head, needs = pull["head"]["sha"], needs_of(tables, pull["body"])
-    known = tables.execute("SELECT 1 FROM revision WHERE change = ? AND hash = ? AND needs = ?", (change, head, needs))
-    closed = tables.execute("SELECT closed FROM change WHERE number = ?", (change,)).fetchone()[0]
-    if pull["state"] != "open" or known.fetchone() and not closed:
-        return
-    next_one = 1 + (tables.execute("SELECT max(number) FROM revision WHERE change = ?", (change,)).fetchone()[0] or 0)
-    tables.execute("UPDATE change SET closed = 0 WHERE number = ?", (change,))
-    tables.execute("INSERT INTO revision VALUES (?, ?, ?, ?)", (change, next_one, head, needs))
-    folder = os.path.join(os.environ["REPOSITORIES"], project + ".git")
-    subprocess.run(["git", "-C", folder, "update-ref", f"refs/changes/{change}/{next_one}", head], check=True)
-    keep(tables, kind="revision", change=change, project=project, revision=next_one,
-         message=pull["title"][:200] + "\n\n" + needs)
-
-
-def take(tables, event, hook):
-    """Keeps what a webhook says."""
-    pull, action = hook.get("pull_request"), hook.get("action")
-    if pull is None:
-        return
-    project, sender = hook["repository"]["full_name"], hook["sender"]["login"]
-    change = change_of(tables, project, pull["number"])
-    revise(tables, change, project, pull)
-    if event == "pull_request_review":
-        kind, head = SAID.get(hook["review"]["state"] if action == "submitted" else action), hook["review"]["commit_id"]
-    else:
-        kind, head = SAID.get(event), pull["head"]["sha"]
-    if kind and sender not in os.environ["APPROVERS"].split(","):
-        print(f"{sender} may not say {kind} of change {change}")
-        return
-    if action == "closed" and not (pull["merged"] and sender == os.environ["LANDER"]):
-        kind, head = "closed", None
-        if not tables.execute("UPDATE change SET closed = 1 WHERE number = ? AND NOT closed", (change,)).rowcount:
-            return
-    known = "SELECT max(number) FROM revision WHERE change = ? AND ifnull(hash = ?, 1)"
-    revision = tables.execute(known, (change, head)).fetchone()[0]
-    if kind and revision:
-        keep(tables, kind=kind, change=change, revision=revision)
-
-
-def send(tables, lock):
-    """Sends what is kept, in order, each until the answer is whole, and none that says that the order is shown."""
-    while True:
-        with lock:
-            first = tables.execute("SELECT place, id, said FROM delivery ORDER BY place LIMIT 1").fetchone()
-        answer = first and post(json.dumps({"id": first[1], **json.loads(first[2])}))
-        if not answer or '"E9"' in answer:
-            time.sleep(0.2)
-            continue
-        with lock, tables:
-            tables.execute("DELETE FROM delivery WHERE place = ?", (first[0],))
-
-
-def post(delivery):
-    """The gate's answer to a delivery, or nothing where none came whole, or the gate is unavailable."""
-    try:
-        with open(os.environ["GATE_PORT"], encoding="ascii") as port:
-            gate = http.client.HTTPConnection("127.0.0.1", int(port.read()), timeout=10)
-        gate.request("POST", "/forge", delivery.encode())
-        said = gate.getresponse().read().decode()
-    except (OSError, ValueError, http.client.HTTPException):
-        return None
-    print(delivery, said)
-    return said if '"reply"' in said or '"code"' in said and '"E15"' not in said else None
+def hint(notes: Notes, repository: str, number: int) -> None:
+    notes.tables.execute("INSERT OR REPLACE INTO hint(repository, pull) VALUES (?, ?)", (repository, number))
 
 
 class Hook(http.server.BaseHTTPRequestHandler):
-    """One webhook: what it says is kept before it is answered."""
+    """One webhook: its hint is on disk before it is answered."""
+    server: Hooks
 
-    def do_POST(self):
-        body = self.rfile.read(int(self.headers["Content-Length"]))
-        wanted = hmac.new(os.environ["SECRET"].encode(), body, hashlib.sha256).hexdigest()
+    def do_POST(self) -> None:
+        body = self.rfile.read(int(self.headers["Content-Length"] or 0))
+        wanted = hmac.new(self.server.secret, body, hashlib.sha256).hexdigest()
         given = self.headers["X-Gitea-Signature"] or (self.headers["X-Hub-Signature-256"] or "").replace("sha256=", "")
         is_signed = hmac.compare_digest(wanted.encode(), given.encode())
-        if is_signed:
-            with self.server.lock, self.server.tables as tables:
-                take(tables, self.headers["X-Gitea-Event"] or self.headers["X-GitHub-Event"], json.loads(body))
+        said = json.loads(body) if is_signed else {}
+        if "pull_request" in said and said["repository"]["full_name"] in self.server.repositories:
+            hint(self.server.notes, said["repository"]["full_name"], said["pull_request"]["number"])
+            self.server.came.set()
         self.send_response(200 if is_signed else 403)
         self.send_header("Content-Length", "0")
         self.end_headers()
 
 
+class Hooks(http.server.HTTPServer):
+    """Where webhooks come in, with a connection of its own to the notes."""
+
+    def __init__(self, port: int, file: Path, secret: str, names: Names) -> None:
+        self.notes, self.secret, self.came = Notes(file), secret.encode(), threading.Event()
+        self.repositories = {repository for repository, _ in names.projects}
+        super().__init__(("127.0.0.1", port), Hook)
+
+
+def main() -> None:
+    file, has = Path(sys.argv[1]), os.environ
+    rows = (row.partition("=") for row in has["PROJECTS"].split())
+    projects = {(where.rpartition(":")[0], where.rpartition(":")[2]): project for where, _, project in rows}
+    names = Names(projects, has["FORGE_URL"], has["BASE"], frozenset(has["APPROVERS"].split(",")), has["LANDER"],
+                  Path(has["REPOSITORIES"]))
+    adapter = Adapter(Outbox(file), Forge(has["API"], has.get("TOKEN", "")), TellingGate(Path(has["GATE_PORT"])), names)
+    hooks = Hooks(int(sys.argv[2]), file, has["SECRET"], names)
+    threading.Thread(target=hooks.serve_forever, daemon=True).start()
+    while True:
+        hooks.came.clear()
+        adapter.once(time.monotonic(), float(has.get("LOOK", "180")))
+        hooks.came.wait(PAUSE)
+
+
 if __name__ == "__main__":
-    server = http.server.HTTPServer(("127.0.0.1", int(sys.argv[2])), Hook)
-    server.lock, server.tables = threading.Lock(), sqlite3.connect(sys.argv[1], check_same_thread=False)
-    server.tables.executescript(TABLES)
-    threading.Thread(target=send, args=(server.tables, server.lock), daemon=True).start()
-    server.serve_forever()
+    main()
