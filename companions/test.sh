@@ -1,0 +1,61 @@
+#!/bin/sh
+# Tests the companions: their units, days by seeds, and scenes in which one part is wrong and has to be found. The last
+# line counts, and the status is 0 only if nothing failed. GATED is the program, by default the one that `rt run`
+# leaves; SEEDS are the days' seeds, JOBS how many tests run at once, by default one a processor and at most four,
+# PATIENCE the seconds that one may take.
+set -u
+script=$(cd "$(dirname "$0")" && pwd)/$(basename "$0")
+cd "$(dirname "$script")/.."
+
+# Runs one test, a module of Python with its words, keeps what it says, and says how it ended.
+if [ "${1-}" = --one ]; then
+  shift
+  name=$(printf '%s' "$*" | tr -c 'a-z0-9' _)
+  if timeout "${PATIENCE:-600}" python3 -m "$@" >"$work/$name.said" 2>&1; then
+    echo "passed: $*" >"$work/$name.end"
+  else
+    { echo "FAILED: $*" && tail -n 40 "$work/$name.said"; } >"$work/$name.end"
+  fi
+  exec cat "$work/$name.end"
+fi
+
+export GATED="${GATED:-$PWD/crates/gated/out/gated}" PYTHONDONTWRITEBYTECODE=1
+if [ ! -x "$GATED" ]; then
+  echo "no program at $GATED: name one by GATED, or run" \
+    "(cd crates/gated && rt run -- replay ../../examples/settings.toml </dev/null) at the top of the repository"
+  echo "0 passed, 1 failed"
+  exit 1
+fi
+jobs=$(nproc)
+[ "$jobs" -le 4 ] || jobs=4
+work=$(mktemp -d)
+export work
+trap 'rm -rf "$work"' EXIT
+
+# The longest first.
+{
+  for seed in ${SEEDS:-1 2}; do
+    echo "companions.tests.day $seed"
+  done
+  for scene in worker-keeps lander-back lander-past worker-hastes unit; do
+    echo "companions.tests.day --turn $scene"
+  done
+  for file in companions/tests/test_*.py; do
+    echo "unittest companions.tests.$(basename "$file" .py)"
+  done
+} | xargs -P "${JOBS:-$jobs}" -L 1 sh "$script" --one
+
+# Unit tests say how many ran, and how many of these failed or had errors. A module that says nothing of that, or was
+# ended, counts as one that failed.
+for said in "$work"/unittest*.said; do
+  units=$(sed -n 's/^Ran \([0-9]*\) tests\{0,1\} .*/\1/p' "$said" | tail -n 1)
+  bad=$(sed -n '/^FAILED (/{s/skipped=[0-9]*//; s/[^0-9][^0-9]*/ /gp;}' "$said" | tail -n 1 |
+    awk '{ for (at = 1; at <= NF; at++) sum += $at } END { print sum + 0 }')
+  grep -q '^passed: ' "${said%.said}.end" || [ "$bad" -gt 0 ] || bad=1
+  [ "${units:-0}" -ge "$bad" ] || units=$bad
+  echo "$((units - bad)) $bad"
+done >"$work/counts"
+for end in "$work"/companions_tests_day*.end; do
+  grep -q '^passed: ' "$end" && echo "1 0" || echo "0 1"
+done >>"$work/counts"
+awk '{ passed += $1; failed += $2 } END { print passed " passed, " failed " failed"; exit failed > 0 }' "$work/counts"
