@@ -1,0 +1,34 @@
+#!/usr/bin/env bash
+# Runs a script as on a machine of its own: in a namespace of mounts, network and processes, where the folders that an
+# operator writes to are empty ones, and /etc is a copy. Started by test_operating.py, in the folder of the stage.
+set -euo pipefail
+stage=$PWD
+# A folder for temporary files that the tests have needn't be open to the users here.
+unset TMPDIR
+export PATH=$stage/bin:/usr/local/sbin:/usr/local/bin:/usr/sbin:/usr/bin:/sbin:/bin HOME=/root LC_ALL=C.UTF-8
+cp -a /etc "$stage/etc"
+mount --bind "$stage/etc" /etc
+for folder in /usr/local /var/lib /var/log /var/backups /srv /root /run; do
+  mount -t tmpfs -o mode=755 none "$folder"
+done
+mkdir -p /usr/local/{bin,lib,share/ca-certificates} /var/log/nginx /var/lib/nginx /run/lock /srv/git
+rm -rf /etc/nginx /etc/systemd/system && mkdir /etc/nginx /etc/systemd/system
+echo '127.0.0.1 localhost gate.example' >/etc/hosts
+/usr/bin/python3 - <<'PYTHON'
+import fcntl, socket, struct
+with socket.socket(socket.AF_INET, socket.SOCK_DGRAM) as any_socket:
+    fcntl.ioctl(any_socket, 0x8914, struct.pack("16sh14s", b"lo", 1, b""))  # SIOCSIFFLAGS: lo is up
+PYTHON
+# The repositories of examples/settings.toml, which a forge would have elsewhere.
+git config --system safe.directory '*'
+git config --system init.defaultBranch main
+for project in lib app site; do
+  git init --quiet --bare "/srv/git/$project.git"
+  tree=$(git -C "/srv/git/$project.git" hash-object -t tree -w /dev/null)
+  git -C "/srv/git/$project.git" update-ref refs/heads/main \
+    "$(git -C "/srv/git/$project.git" -c user.name=a -c user.email=b commit-tree -m 'Begin' "$tree")"
+done
+chmod -R a+rwX /srv/git
+cd "$stage/checkout"
+bash "$stage/page.sh"
+exec /usr/bin/python3 "$stage/checks.py"

@@ -1,0 +1,105 @@
+"""Runs each command of docs/OPERATING.md, in its order, on a stage of its own: see operating/stage.sh."""
+from __future__ import annotations
+
+import os
+import re
+import shutil
+import subprocess
+import tempfile
+import unittest
+from pathlib import Path
+
+TOP = Path(__file__).resolve().parents[2]
+PAGE = TOP / "docs" / "OPERATING.md"
+STAGE = Path(__file__).resolve().parent / "operating"
+PROGRAM = Path(os.environ.get("GATED", TOP / "crates" / "gated" / "out" / "gated"))
+# Of the indented blocks, those that aren't run: none by now.
+SHOWN_ONLY: tuple[str, ...] = ()
+# What stands between fences begins so: it is printed or written, and isn't run.
+FENCED = ("queue core window 3 landed 0", "gated: O4 unavailable", "backup: /var/backups/gated/",
+          "follow: both show the same at ", "restore: /var/lib/gated/gate.db has ")
+# What clients of the gate tell meanwhile: behind the block that has the text on the left.
+TOLD = {
+    "https://gate.example/status": (
+        '"kind":"revision","change":301,"project":"site","revision":1,"message":"Depends-On: https://forge/c/101"',
+        '"kind":"approved","change":301,"revision":1'),
+    "gated-backup.timer": ('"kind":"revision","change":302,"project":"site","revision":1,"message":""',),
+}
+TELL = """curl -sf -d "{{\\"id\\":\\"$(cat /proc/sys/kernel/random/uuid)\\",$(cat <<'SAID'
+{0}
+SAID
+)}}" http://127.0.0.1:8080/forge && echo"""
+
+
+def blocks_of(page: str) -> tuple[list[str], list[str]]:
+    """The indented blocks of a page, and those between fences."""
+    indented: list[str] = []
+    fenced: list[str] = []
+    for at, part in enumerate(re.split(r"^```\n", page, flags=re.MULTILINE)):
+        if at % 2 == 1:
+            fenced.append(part)
+        else:
+            found = re.findall(r"(?:^ {4}.*\n)+", part, flags=re.MULTILINE)
+            indented += [re.sub(r"^ {4}", "", it, flags=re.MULTILINE) for it in found]
+    return indented, fenced
+
+
+def script_of(blocks: list[str]) -> str:
+    """The blocks as one script, as somebody has them who gives them to one shell."""
+    lines = ["set -euo pipefail", "trap 'echo \"FAILED: $BASH_COMMAND\"' ERR"]
+    for at, block in enumerate(blocks):
+        lines += [f"echo '== block {at}'", block]
+        for mark, said in TOLD.items():
+            if mark in block:
+                lines += [TELL.format(it) for it in said]
+    return "\n".join([*lines, "echo 'the page was run'", ""])
+
+
+def play(folder: Path, blocks: list[str]) -> str:
+    """What the stage prints when these blocks are run on it, and the checks behind them."""
+    checkout = folder / "checkout"
+    (checkout / "crates" / "gated" / "out").mkdir(parents=True)
+    shutil.copy(PROGRAM, checkout / "crates" / "gated" / "out" / "gated")
+    for it in ("companions", "examples"):
+        shutil.copytree(TOP / it, checkout / it, ignore=shutil.ignore_patterns("__pycache__"))
+    (folder / "bin").mkdir()
+    for it in ("systemctl", "journalctl"):
+        shutil.copy(STAGE / it, folder / "bin" / it)
+    for it in ("stage.sh", "checks.py"):
+        shutil.copy(STAGE / it, folder / it)
+    (folder / "page.sh").write_text(script_of(blocks))
+    folder.chmod(0o755)
+    words = ["unshare", "--mount", "--net", "--pid", "--fork", "--kill-child", "--mount-proc"]
+    ran = subprocess.run([*words, "bash", "stage.sh"], cwd=folder, stdin=subprocess.DEVNULL, stdout=subprocess.PIPE,
+                         stderr=subprocess.STDOUT, text=True, errors="replace", timeout=600, check=False)
+    return ran.stdout
+
+
+class OperatingTest(unittest.TestCase):
+    def setUp(self) -> None:
+        self.blocks, self.fenced = blocks_of(PAGE.read_text(encoding="utf-8"))
+
+    def test_only_what_is_listed_is_not_run(self) -> None:
+        self.assertEqual(len(self.fenced), len(FENCED))
+        for block, begins in zip(self.fenced, FENCED):
+            self.assertTrue(block.startswith(begins), block)
+        for block in SHOWN_ONLY:
+            self.assertIn(block, self.blocks)
+        self.assertGreater(len(self.blocks), 20)
+
+    def test_each_command_runs(self) -> None:
+        self.assertEqual(os.geteuid(), 0, "the stage has users of its own: run this as root, as in a container")
+        self.assertTrue(PROGRAM.exists(), f"{PROGRAM} isn't built")
+        for it in ("nginx", "systemd-analyze", "sqlite3", "curl", "openssl", "unshare"):
+            self.assertIsNotNone(shutil.which(it, path="/usr/sbin:/usr/bin:/sbin:/bin"), f"{it} isn't there")
+        with tempfile.TemporaryDirectory() as folder:
+            printed = play(Path(folder), [it for it in self.blocks if it not in SHOWN_ONLY])
+        self.assertTrue("the page was run\n" in printed and "all was checked\n" in printed, printed)
+        self.assertFalse("NOT OK" in printed, printed)
+        self.assertRegex(printed, r"backup: /var/backups/gated/gate-\d\d.db is /var/lib/gated/gate.db of .*held up for")
+        self.assertRegex(printed, r"restore: /var/lib/gated/gate.db has the 2 deliveries of .* and 1 more, up to")
+        self.assertRegex(printed, "follow: both show the same at [0-9a-f]{32}")
+
+
+if __name__ == "__main__":
+    unittest.main()
