@@ -1,0 +1,178 @@
+"""Tells a gate what is so in a forge: revisions of requests, their approvals, and that they are closed.
+
+    python3 -m companions.adapter companions.toml
+
+A hook is a hint to look at a request. All open ones are looked at besides at the start and every few minutes, so that
+hooks may be lost, late or doubled. It may be killed anywhere and started again.
+"""
+from __future__ import annotations
+
+import sys
+import threading
+import time
+from collections.abc import Callable
+from pathlib import Path
+
+from companions.forges import Forge, ForgeFault, Place
+from companions.gate import Answer, Gate, NoAnswer, say
+from companions.gate_file import GateFile
+from companions.github import Gitea, GitHub
+from companions.gitlab import GitLab
+from companions.hooks import Hints, Hooks, serve
+from companions.looks import Again, Looks
+from companions.outbox import Kept, Outbox, alone
+from companions.settings import Settings, SettingsFault, read
+from companions.told import Changes
+
+FORMS: dict[str, Callable[[str, str, str], Forge]] = {"gitea": Gitea, "github": GitHub, "gitlab": GitLab}
+
+# So many requests in a row of which the forge doesn't tell end a round: it may be away, and each takes its time.
+FAULTS = 3
+# How long a request whose look failed rests, as a multiple of `gate.pause`.
+REST = 5
+
+
+class Adapter:
+    """What is done over and over: look where a hint says so, and send what is to be told."""
+
+    def __init__(self, settings: Settings, forge: Forge) -> None:
+        assert settings.adapter is not None
+        self.settings, self.forge, self.compare = settings, forge, settings.adapter.compare
+        file = settings.folder / "adapter" / "adapter.db"
+        self.outbox, self.hints = Outbox(file), Hints(file)
+        self.changes = Changes(self.outbox)
+        self.gate = Gate(settings.url, settings.account("forge"), part="adapter")
+        self.file = GateFile(self.outbox, self.gate, self.is_other, self.is_earlier)
+        self.looks = Looks(settings, settings.adapter, forge, self.gate, self.changes)
+        for it in self.looks.repositories.values():
+            it.unlock()
+        self.compare_at = 0.0
+        self.rests: dict[str, float] = {}
+        self.troubles: dict[str, str] = {}
+
+    def once(self, now: float) -> None:
+        """One round. Without an answer of the gate all stays as it is."""
+        try:
+            if not self.file.is_known:
+                self.file.ask()
+            if now >= self.compare_at:
+                self.compare_at = now + (self.compare if self.hint_at_all() else REST * self.settings.pause)
+            self.follow(now)
+            if not self.outbox.is_empty():
+                self.file.ask()
+                self.outbox.send(self.gate, self.answered, self.settings.pause)
+            self.trouble("gate", None)
+        except NoAnswer as fault:
+            self.file.is_known = False
+            self.trouble("gate", f"no answer of the gate: {fault}")
+
+    def hint_at_all(self) -> bool:
+        """Hints at each request that is open at the forge, or that the gate has for open."""
+        told = True
+        for repository in dict.fromkeys(it.forge for it in self.settings.projects.values()):
+            told = self.attempt(repository, lambda it=repository: self.hint_at(it)) and told
+        return told
+
+    def hint_at(self, repository: str) -> None:
+        for number in sorted({*self.forge.open_requests(repository), *self.changes.still_open(repository)}):
+            self.hints.put(Place(repository, number))
+
+    def follow(self, now: float) -> None:
+        """Looks at the requests that were hinted at."""
+        faults = 0
+        for row, place in self.hints.all():
+            name = f"{place.repository} {place.number}"
+            if self.rests.get(name, 0.0) > now:
+                continue
+            if self.attempt(name, lambda it=place: self.looks.look(it)):
+                self.rests.pop(name, None)
+                self.hints.drop(row)
+                faults = 0
+                continue
+            self.rests[name] = now + REST * self.settings.pause
+            faults += 1
+            if faults == FAULTS:
+                return
+
+    def attempt(self, name: str, task: Callable[[], None]) -> bool:
+        """Whether nothing went wrong. What did is told, once while it stays the same; the gate's silence is raised."""
+        try:
+            task()
+        except NoAnswer:
+            raise
+        except Again:
+            return False
+        except ForgeFault as fault:
+            self.trouble(name, f"{name}: {fault}")
+            return False
+        except Exception as fault:  # pylint: disable=broad-except
+            self.trouble(name, f"{name}: {type(fault).__name__}: {fault}")
+            return False
+        self.trouble(name, None)
+        return True
+
+    def trouble(self, name: str, said: str | None) -> None:
+        """Tells of a trouble once, until it is another one or over."""
+        if said is None:
+            self.troubles.pop(name, None)
+        elif self.troubles.get(name) != said:
+            self.troubles[name] = said
+            say("adapter", said)
+
+    def answered(self, delivery: Kept, answer: Answer) -> None:
+        """Notes an answer, and says it."""
+        self.changes.answered(delivery.id, answer.reply, answer.code)
+        self.file.accepted(delivery, answer)
+        said = delivery.said
+        heard = answer.reply or f"refused: {answer.code} {answer.said.get('error')}"
+        say("adapter", f"change {said['change']}, revision {said['revision']}: {said['kind']}: {heard}")
+
+    def is_other(self) -> None:
+        """The gate has another file."""
+        self.changes.forget()
+        self.compare_at = 0.0
+
+    def is_earlier(self) -> None:
+        """The gate was restored. What the branches have by now is noted before anything is told again."""
+        self.looks.note_landings()
+        with self.changes.step():
+            self.changes.tell_again()
+
+    def run(self, came: threading.Event) -> None:
+        while True:
+            came.clear()
+            self.once(time.monotonic())
+            came.wait(self.settings.pause)
+
+
+def main(words: list[str]) -> int:
+    if len(words) != 1:
+        print("usage: python3 -m companions.adapter companions.toml", file=sys.stderr)
+        return 2
+    try:
+        settings = read(Path(words[0]))
+        if settings.adapter is None:
+            raise SettingsFault(f"{words[0]}: adapter: is missing")
+    except SettingsFault as fault:
+        print(fault, file=sys.stderr)
+        return 1
+    hold = alone(settings.folder / "adapter")
+    if hold is None:
+        say("adapter", "stops: another adapter has the folder")
+        return 1
+    it = settings.adapter
+    adapter, came = Adapter(settings, FORMS[it.form](it.url, it.token, it.secret)), threading.Event()
+    repositories = (project.forge for project in settings.projects.values())
+    try:
+        hooks = Hooks((it.host, it.port), adapter.hints, adapter.forge, repositories, came)
+    except OSError as fault:
+        say("adapter", f"stops: nothing can listen at {it.host}:{it.port}: {fault.strerror}")
+        return 1
+    serve(hooks)
+    say("adapter", f"hooks come in at http://{it.host}:{hooks.server_port}/hook")
+    adapter.run(came)
+    return 0
+
+
+if __name__ == "__main__":
+    sys.exit(main(sys.argv[1:]))

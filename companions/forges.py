@@ -1,0 +1,240 @@
+"""What an adapter asks and tells a forge: one small interface, with a form of it for each kind of forge."""
+from __future__ import annotations
+
+import contextlib
+import hashlib
+import hmac
+import http.client
+import json
+import urllib.parse
+from collections.abc import Iterable, Iterator, Mapping
+from dataclasses import dataclass
+from datetime import datetime, timezone
+from typing import Any, Protocol
+
+from companions.requests import Request, Vote
+
+# What a commit status says: the check isn't decided, has passed, or hasn't.
+PENDING, SUCCESS, FAILURE = "pending", "success", "failure"
+
+# A comment that has this line is a person's approval.
+APPROVES = "/gate approve"
+
+# The most bytes that an answer of a forge's API, or a hook, may have.
+LARGEST = 8 * 1024 * 1024
+
+
+class ForgeFault(Exception):
+    """The forge didn't answer, or not with what its documentation says: nothing is known.
+
+    `status` is that of HTTP, if an answer came, and `said` the beginning of its text.
+    """
+
+    def __init__(self, what: str, status: int | None = None, said: str = "") -> None:
+        super().__init__(what)
+        self.status, self.said = status, said
+
+
+@dataclass(frozen=True)
+class Place:
+    """A request's place: its repository, as `owner/name`, and its number there."""
+    repository: str
+    number: int
+
+
+class Forge(Protocol):
+    """A forge. Each call may raise `ForgeFault`."""
+
+    def place_of(self, headers: Mapping[str, str], body: bytes) -> Place | None:
+        """The request that a hook is about, if it is about one. `PermissionError` if it isn't signed by the secret.
+
+        The headers have to be found whether they are written large or small, as `http.server` gives them.
+        """
+
+    def request(self, place: Place) -> Request | None:
+        """A request as it is now; none where there is none."""
+
+    def open_requests(self, repository: str) -> Iterator[int]:
+        """The numbers of a repository's open requests."""
+
+    def may_write(self, repository: str, person: str) -> bool:
+        """Whether a person may write to the repository. Anybody who sees a request may vote on it."""
+
+    def set_status(self, repository: str, commit: str, state: str, text: str) -> None:
+        """Sets the commit's status of the gate: one of the three states, and a short text."""
+
+    def comment(self, place: Place, comment: int | None, text: str) -> int:
+        """Writes a comment, in the place of an earlier one if there is one, and gives its number.
+
+        Whoever doesn't know the number, as after a crash or a lost answer, has the same comment nevertheless.
+        """
+
+    def head_ref(self, number: int) -> str:
+        """The name by which the repository has a request's head."""
+
+
+@dataclass(frozen=True)
+class Opinion:
+    """What a person said at a time: a vote, or none where all that the person said before doesn't hold any more."""
+    at: datetime
+    person: str
+    vote: Vote | None
+
+
+class Api:
+    """A forge's API: JSON over HTTP, a request a connection."""
+
+    def __init__(self, url: str, headers: Mapping[str, str], timeout: float = 30.0) -> None:
+        self.url, self.timeout = urllib.parse.urlsplit(url.rstrip("/")), timeout
+        self.headers = {"Accept": "application/json", "User-Agent": "gated-adapter", **headers}
+
+    def call(self, method: str, path: str, said: Any = None) -> Any:
+        """What the API answers; `ForgeFault` for all statuses but 2xx."""
+        return self.answer(method, path, said)[0]
+
+    def find(self, method: str, path: str, said: Any = None) -> Any:
+        """What the API answers, or none where it says 404."""
+        try:
+            return self.call(method, path, said)
+        except ForgeFault as fault:
+            if fault.status != 404:
+                raise
+            return None
+
+    def answer(self, method: str, path: str, said: Any) -> tuple[Any, str]:
+        """What the API answers, and what its header `Link` has."""
+        kind = http.client.HTTPSConnection if self.url.scheme == "https" else http.client.HTTPConnection
+        body = None if said is None else json.dumps(said).encode()
+        headers = self.headers if body is None else {**self.headers, "Content-Type": "application/json"}
+        try:
+            connection = kind(self.url.hostname or "", self.url.port, timeout=self.timeout)
+            with contextlib.closing(connection):
+                connection.request(method, self.url.path + path, body, headers)
+                response = connection.getresponse()
+                content = content_of(response)
+            if response.status // 100 != 2:
+                text = content[:200].decode("utf-8", "replace")
+                raise ForgeFault(f"{method} {path}: status {response.status}, {text!r}", response.status, text)
+            return json.loads(content), response.getheader("Link", "")
+        except (OSError, http.client.HTTPException, ValueError, RecursionError) as fault:
+            raise ForgeFault(f"{method} {path}: {fault or type(fault).__name__}") from fault
+
+    def pages(self, path: str, size: str, has_links: bool) -> Iterator[Any]:
+        """All elements of a list that comes by pages; `size` is how the API calls the number of elements on a page.
+
+        The page may be smaller than asked for. The last one has no link to a next one; of a forge that doesn't link all
+        its lists, it is the one that brings nothing new, as some lists come whole whichever page is asked for.
+        """
+        page, seen, between = 1, set[int](), "&" if "?" in path else "?"
+        while True:
+            where = f"{path}{between}{size}=50&page={page}"
+            found, link = self.answer("GET", where, None)
+            with expected(where):
+                if not isinstance(found, list):
+                    raise TypeError("no list")
+                new = [it for it in found if it["id"] not in seen]
+                seen.update(it["id"] for it in new)
+            yield from new
+            if not new or has_links and 'rel="next"' not in link:
+                return
+            page += 1
+
+
+def content_of(response: http.client.HTTPResponse) -> bytes:
+    """The whole content. A cut one could be taken for an empty list."""
+    content = response.read(LARGEST + 1)
+    if len(content) > LARGEST:
+        raise ValueError(f"more than {LARGEST} bytes")
+    if response.length:
+        raise http.client.IncompleteRead(content, response.length)
+    return content
+
+
+@contextlib.contextmanager
+def expected(path: str) -> Iterator[None]:
+    """An answer that doesn't have the form that is documented is none."""
+    try:
+        yield
+    except (KeyError, TypeError, ValueError, AttributeError) as fault:
+        raise ForgeFault(f"{path}: not what the forge's documentation says: {fault!r}") from fault
+
+
+def in_force(opinions: Iterable[Opinion]) -> tuple[Vote, ...]:
+    """The votes that hold, the oldest first; those of one time in the order in which they are given."""
+    held: list[Vote] = []
+    for it in sorted(opinions, key=lambda it: it.at):
+        if it.vote is None:
+            held = [vote for vote in held if vote.person != it.person]
+        else:
+            held.append(it.vote)
+    return tuple(held)
+
+
+def time_of(text: str) -> datetime:
+    """A time as APIs write it. One that doesn't name its zone is of Greenwich."""
+    at = datetime.fromisoformat(text)
+    return at if at.tzinfo else at.replace(tzinfo=timezone.utc)
+
+
+def hash_of(text: str) -> str:
+    """A commit's hash, which a new request may lack for a while."""
+    if len(text) not in (40, 64) or set(text) - set("0123456789abcdef"):
+        raise ValueError(f"{text!r} is no commit's hash")
+    return text
+
+
+def approves(text: str | None, mark: str) -> bool:
+    """Whether a comment is an approval: one of its lines is it. One of the gate's, which has its mark, is none."""
+    lines = [line.strip() for line in (text or "").splitlines()]
+    return APPROVES in lines and lines[-1] != mark
+
+
+def secret_of(secret: str) -> str:
+    """The secret of hooks. An empty one would let everybody's in."""
+    if not secret:
+        raise ValueError("the secret of the hooks is empty")
+    return secret
+
+
+def mark_of(secret: str, place: Place) -> str:
+    """A line that nobody sees, by which a comment of the gate is known from others."""
+    digits = hmac.new(secret.encode(), f"{place.repository} {place.number}".encode(), hashlib.sha256).hexdigest()
+    return f"<!-- gate {digits[:32]} -->"
+
+
+def marked(rows: Iterable[Any], mark: str) -> Iterator[int]:
+    """The numbers of the comments that end with the mark: who quotes one adds something."""
+    for it in rows:
+        if (it.get("body") or "").rstrip().endswith(f"\n{mark}"):
+            yield int(it["id"])
+
+
+def check_same(wanted: str, given: str | None) -> None:
+    """`PermissionError` unless what was given is what is wanted, without telling by the time how much of it is."""
+    if given is None or not hmac.compare_digest(wanted.encode(), given.encode("utf-8", "replace")):
+        raise PermissionError("the hook isn't signed by the secret")
+
+
+def check_signature(secret: str, body: bytes, given: str | None) -> None:
+    """`PermissionError` unless the body is signed by the secret, by HMAC over SHA-256 in hexadecimal digits."""
+    check_same(hmac.new(secret.encode(), body, hashlib.sha256).hexdigest(), given)
+
+
+def as_hook(body: bytes) -> dict[str, Any]:
+    """A hook's content, or an empty one in the place of what is no JSON object.
+
+    Some forges send it as a field `payload` of a form, if their settings say so.
+    """
+    try:
+        if body.startswith(b"payload="):
+            body = urllib.parse.parse_qs(body.decode())["payload"][0].encode()
+        said = json.loads(body)
+    except (KeyError, ValueError, RecursionError):
+        return {}
+    return said if isinstance(said, dict) else {}
+
+
+def place_at(repository: Any, number: Any) -> Place | None:
+    """The place that a hook names, if what it names can be one."""
+    is_place = isinstance(repository, str) and "/" in repository and type(number) is int and number > 0
+    return Place(repository, number) if is_place else None

@@ -1,0 +1,160 @@
+"""GitHub, and what Gitea has alike: pull requests, reviews, comments and statuses over REST.
+
+The calls, below the address of the API: `https://api.github.com` for GitHub, `https://HOST/api/v1` for Gitea.
+OWNER/NAME is a repository, N a pull request's number. Where it isn't said otherwise, both have them in the same form.
+
+    GET   /repos/OWNER/NAME/pulls/N                       number, state (open, closed), merged, title, body, head.sha,
+                                                          base.ref; 404 where there is none
+    GET   /repos/OWNER/NAME/pulls?state=open              list: id, number
+    GET   /repos/OWNER/NAME/pulls/N/reviews               list: id, user.login, state, commit_id, submitted_at.
+              state at GitHub: APPROVED, CHANGES_REQUESTED, DISMISSED, COMMENTED, PENDING; at Gitea: APPROVED,
+              REQUEST_CHANGES, COMMENT, PENDING, REQUEST_REVIEW, and `dismissed` is a member of its own
+    GET   /repos/OWNER/NAME/issues/N/comments             list: id, user.login, body, created_at
+    GET   /repos/OWNER/NAME/collaborators/LOGIN/permission  permission (admin, write, read, none; at Gitea owner too);
+              Gitea tells it only to a token of somebody who administers the repository
+    POST  /repos/OWNER/NAME/statuses/HASH                 state (pending, success, failure), context, description
+    POST  /repos/OWNER/NAME/issues/N/comments             body; answered with id
+    PATCH /repos/OWNER/NAME/issues/comments/ID            body; 404 where somebody has deleted it
+
+Lists come by pages: `page` counts from 1, and `per_page` (GitHub) or `limit` (Gitea) is how many are on one. GitHub
+links the next one by the header `Link`. Gitea links some lists only, sends fewer than asked for where its settings say
+so (MAX_RESPONSE_ITEMS), and the comments of a request whole, whichever page is asked for.
+
+The token goes in the header `Authorization`, as `Bearer TOKEN` (GitHub) or `token TOKEN` (Gitea).
+
+Hooks: JSON, with a secret, for the events of pull requests, their reviews and comments (GitHub: pull_request,
+pull_request_review, issue_comment). A hook has `repository.full_name`, and `pull_request.number` or `issue.number`.
+It is signed by HMAC-SHA256 of the body in hexadecimal digits: `X-Hub-Signature-256: sha256=...` (GitHub) or
+`X-Gitea-Signature: ...` (Gitea).
+
+Git has a pull request's head as refs/pull/N/head.
+
+The gate's own comment ends with a line that isn't shown, by which it is found where its number isn't known.
+
+A person's comment doesn't say of which commit it is: as a vote it is of the revision at which it is first seen.
+GitHub takes at most 1,000 statuses of a commit and a description of at most 140 characters.
+"""
+from __future__ import annotations
+
+import itertools
+import urllib.parse
+from collections.abc import Iterator, Mapping
+from typing import Any
+
+from companions.forges import (APPROVES, Api, Opinion, Place, approves, as_hook, check_signature, expected, hash_of,
+                               in_force, mark_of, marked, place_at, secret_of, time_of)
+from companions.requests import Request, State, Vote
+
+__all__ = ["APPROVES", "GitHub", "Gitea"]
+
+
+class GitHub:
+    """GitHub, by an access token and the secret of its hooks."""
+
+    page_size = "per_page"
+    has_links = True
+    signature = "X-Hub-Signature-256"
+    context = "gate"
+
+    def __init__(self, url: str, token: str, secret: str, timeout: float = 30.0) -> None:
+        self.api = Api(url, self.api_headers(token), timeout)
+        self.secret = secret_of(secret)
+
+    def api_headers(self, token: str) -> dict[str, str]:
+        return {"Authorization": f"Bearer {token}", "Accept": "application/vnd.github+json",
+                "X-GitHub-Api-Version": "2022-11-28"}
+
+    def place_of(self, headers: Mapping[str, str], body: bytes) -> Place | None:
+        check_signature(self.secret, body, (headers.get(self.signature) or "").removeprefix("sha256="))
+        said = as_hook(body)
+        try:
+            return place_at(said["repository"]["full_name"], (said.get("pull_request") or said["issue"])["number"])
+        except (KeyError, TypeError):
+            return None
+
+    def repository(self, name: str) -> str:
+        return f"/repos/{urllib.parse.quote(name)}"
+
+    def path(self, place: Place, kind: str = "pulls") -> str:
+        return f"{self.repository(place.repository)}/{kind}/{place.number}"
+
+    def rows(self, path: str) -> Iterator[Any]:
+        return self.api.pages(path, self.page_size, self.has_links)
+
+    def request(self, place: Place) -> Request | None:
+        said = self.api.find("GET", self.path(place))
+        if said is None:
+            return None
+        with expected(self.path(place)):
+            state = State.MERGED if said["merged"] else State(said["state"])
+            # At one and the same second a review counts as the later one: it may be against.
+            votes = in_force([*self.comments(place), *self.reviews(place)])
+            return Request(place.repository, place.number, state, hash_of(said["head"]["sha"]), said["base"]["ref"],
+                           said["title"] or "", said.get("body") or "", votes)
+
+    def reviews(self, place: Place) -> Iterator[Opinion]:
+        """What reviews say. One that was dismissed lets no earlier one of its author come back."""
+        for it in self.rows(self.path(place) + "/reviews"):
+            says = self.verdict(it)
+            # Nobody is named where the account was deleted.
+            if says is None or not it.get("user"):
+                continue
+            person, vote = it["user"]["login"], None
+            if says != "dismissed":
+                vote = Vote(f"review {it['id']}", person, says == "approves", it.get("commit_id") or None)
+            yield Opinion(time_of(it["submitted_at"]), person, vote)
+
+    def comments(self, place: Place) -> Iterator[Opinion]:
+        for it in self.rows(self.path(place, "issues") + "/comments"):
+            if approves(it.get("body"), mark_of(self.secret, place)) and it.get("user"):
+                person = it["user"]["login"]
+                yield Opinion(time_of(it["created_at"]), person, Vote(f"comment {it['id']}", person, True, None))
+
+    def verdict(self, review: dict[str, Any]) -> str | None:
+        """What a review says: approves, rejects, or dismissed; none where it says nothing of these."""
+        return {"APPROVED": "approves", "CHANGES_REQUESTED": "rejects", "DISMISSED": "dismissed"}.get(review["state"])
+
+    def open_requests(self, repository: str) -> Iterator[int]:
+        with expected(self.repository(repository)):
+            for it in self.rows(f"{self.repository(repository)}/pulls?state=open"):
+                yield int(it["number"])
+
+    def may_write(self, repository: str, person: str) -> bool:
+        path = f"{self.repository(repository)}/collaborators/{urllib.parse.quote(person, safe='')}/permission"
+        said = self.api.find("GET", path)
+        with expected(path):
+            return said is not None and said["permission"] in ("owner", "admin", "write")
+
+    def set_status(self, repository: str, commit: str, state: str, text: str) -> None:
+        self.api.call("POST", f"{self.repository(repository)}/statuses/{commit}",
+                      {"context": self.context, "state": state, "description": text[:140]})
+
+    def comment(self, place: Place, comment: int | None, text: str) -> int:
+        of_request, mark = self.path(place, "issues") + "/comments", mark_of(self.secret, place)
+        body = {"body": f"{text}\n\n{mark}"}
+        with expected(of_request):
+            known = iter(() if comment is None else (comment,))
+            for number in itertools.chain(known, marked(self.rows(of_request), mark)):
+                path = f"{self.repository(place.repository)}/issues/comments/{number}"
+                if self.api.find("PATCH", path, body) is not None:
+                    return number
+            return int(self.api.call("POST", of_request, body)["id"])
+
+    def head_ref(self, number: int) -> str:
+        return f"refs/pull/{number}/head"
+
+
+class Gitea(GitHub):
+    """Gitea: its own words for reviews, another signature, and lists that don't link their pages."""
+
+    page_size = "limit"
+    has_links = False
+    signature = "X-Gitea-Signature"
+
+    def api_headers(self, token: str) -> dict[str, str]:
+        return {"Authorization": f"token {token}"}
+
+    def verdict(self, review: dict[str, Any]) -> str | None:
+        # Whether Gitea calls it stale doesn't matter: its commit says that, and a stale rejection holds.
+        says = {"APPROVED": "approves", "REQUEST_CHANGES": "rejects"}.get(review["state"])
+        return "dismissed" if says and review.get("dismissed") else says

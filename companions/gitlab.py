@@ -1,0 +1,151 @@
+"""GitLab: merge requests, notes and statuses over its REST API.
+
+The calls, below the address of the API, `https://HOST/api/v4`. ID is a project's path, `group/name`, with %2F for each
+slash; N is a merge request's `iid`.
+
+    GET  /projects/ID/merge_requests/N               iid, state (opened, locked, closed, merged), title, description,
+                                                     sha, target_branch; 404 where there is none
+    GET  /projects/ID/merge_requests?state=opened    list: id, iid
+    GET  /projects/ID/merge_requests/N/approvals     approved_by: list of user.username
+    GET  /projects/ID/merge_requests/N/notes?sort=asc&order_by=created_at   list: id, system, body, created_at,
+                                                     author.username
+    GET  /projects/ID/merge_requests/N/versions      list: id, head_commit_sha, created_at
+    GET  /projects/ID/members/all?query=NAME         list: id, username, access_level (30 is Developer)
+    POST /projects/ID/statuses/HASH                  state (pending, success, failed), name, description
+    POST /projects/ID/merge_requests/N/notes         body; answered with id
+    PUT  /projects/ID/merge_requests/N/notes/NOTE    body; 404 where somebody has deleted it
+
+Lists come by pages: `page` counts from 1, `per_page` is how many are on one, and the header `Link` links the next one.
+The token goes in the header `PRIVATE-TOKEN`.
+
+Hooks: with a secret token, for the events of merge requests and comments. A hook has `object_kind` (merge_request or
+note), `project.path_with_namespace`, and `object_attributes.iid` or, if it is of a note, `merge_request.iid`. It brings
+the secret as it is, in the header `X-Gitlab-Token`.
+
+Git has a merge request's head as refs/merge-requests/N/head.
+
+The gate's own comment ends with a line that isn't shown, by which it is found where its number isn't known.
+
+An approval is told from a later one of the same person by the note that GitLab itself writes of it. Of which commit it
+is, or a comment, its time says: that of the last version of the request before it. Reviewers who request changes aren't
+read: no vote is against.
+
+GitLab refuses to set a status that is pending to pending again (400, "Cannot transition status"), so its text couldn't
+change either: while it is pending, it refers to the comment. It takes no status of a commit that is on no branch of the
+project (404, "References for commit"), as those of a fork aren't: that is no fault, and the comment has to do.
+"""
+from __future__ import annotations
+
+import itertools
+import urllib.parse
+from collections.abc import Iterator, Mapping
+from datetime import datetime
+from typing import Any
+
+from companions.forges import (PENDING, Api, ForgeFault, Opinion, Place, approves, as_hook, check_same, expected,
+                               hash_of, in_force, mark_of, marked, place_at, secret_of, time_of)
+from companions.requests import Request, State, Vote
+
+STATES = {"opened": State.OPEN, "locked": State.OPEN, "closed": State.CLOSED, "merged": State.MERGED}
+WORDS = {"pending": "pending", "success": "success", "failure": "failed"}
+UNDECIDED = "not decided: see the comment of the gate"
+
+# The notes that GitLab itself writes of approvals.
+APPROVED, UNAPPROVED = "approved this merge request", "unapproved this merge request"
+# Who may write to a project has this access level at least.
+DEVELOPER = 30
+
+
+class GitLab:
+    """GitLab, by an access token and the secret of its hooks."""
+
+    def __init__(self, url: str, token: str, secret: str, timeout: float = 30.0) -> None:
+        self.api = Api(url, {"PRIVATE-TOKEN": token}, timeout)
+        self.secret = secret_of(secret)
+
+    def place_of(self, headers: Mapping[str, str], body: bytes) -> Place | None:
+        check_same(self.secret, headers.get("X-Gitlab-Token"))
+        said = as_hook(body)
+        # Issues and pipelines have numbers too.
+        of = {"merge_request": "object_attributes", "note": "merge_request"}.get(str(said.get("object_kind")))
+        try:
+            return place_at(said["project"]["path_with_namespace"], said[of]["iid"]) if of else None
+        except (KeyError, TypeError):
+            return None
+
+    def project(self, repository: str) -> str:
+        return f"/projects/{urllib.parse.quote(repository, safe='')}"
+
+    def path(self, place: Place) -> str:
+        return f"{self.project(place.repository)}/merge_requests/{place.number}"
+
+    def rows(self, path: str) -> Iterator[Any]:
+        return self.api.pages(path, "per_page", True)
+
+    def request(self, place: Place) -> Request | None:
+        said = self.api.find("GET", self.path(place))
+        if said is None:
+            return None
+        with expected(self.path(place)):
+            return Request(place.repository, place.number, STATES[said["state"]], hash_of(said["sha"]),
+                           said["target_branch"], said["title"] or "", said.get("description") or "",
+                           in_force(self.opinions(place)))
+
+    def opinions(self, place: Place) -> Iterator[Opinion]:
+        """Approvals by their notes, while GitLab still counts them, comments, and the approvals taken back."""
+        said = self.api.call("GET", self.path(place) + "/approvals")
+        approving = {it["user"]["username"] for it in said["approved_by"]}
+        versions, mark = list[tuple[datetime, str]](), mark_of(self.secret, place)
+        for it in self.rows(self.path(place) + "/notes?sort=asc&order_by=created_at"):
+            person, at, body = it["author"]["username"], time_of(it["created_at"]), (it.get("body") or "").strip()
+            if it["system"] and body == UNAPPROVED:
+                yield Opinion(at, person, None)
+            elif body == APPROVED and person in approving if it["system"] else approves(body, mark):
+                versions = versions or self.versions(place)
+                yield Opinion(at, person, Vote(f"note {it['id']}", person, True, commit_at(versions, at)))
+
+    def versions(self, place: Place) -> list[tuple[datetime, str]]:
+        """The heads that the request had, the oldest first, and since when."""
+        rows = sorted(self.rows(self.path(place) + "/versions"), key=lambda it: it["id"])
+        return [(time_of(it["created_at"]), hash_of(it["head_commit_sha"])) for it in rows]
+
+    def open_requests(self, repository: str) -> Iterator[int]:
+        with expected(self.project(repository)):
+            for it in self.rows(f"{self.project(repository)}/merge_requests?state=opened"):
+                yield int(it["iid"])
+
+    def may_write(self, repository: str, person: str) -> bool:
+        path = f"{self.project(repository)}/members/all"
+        with expected(path):
+            found = self.rows(f"{path}?{urllib.parse.urlencode({'query': person})}")
+            return any(it["username"] == person and it["access_level"] >= DEVELOPER for it in found)
+
+    def set_status(self, repository: str, commit: str, state: str, text: str) -> None:
+        description = UNDECIDED if state == PENDING else text[:255]
+        try:
+            self.api.call("POST", f"{self.project(repository)}/statuses/{commit}",
+                          {"name": "gate", "state": WORDS[state], "description": description})
+        except ForgeFault as fault:
+            is_pending = fault.status == 400 and state == PENDING and "Cannot transition status" in fault.said
+            is_elsewhere = fault.status == 404 and "References for commit" in fault.said
+            if not (is_pending or is_elsewhere):
+                raise
+
+    def comment(self, place: Place, comment: int | None, text: str) -> int:
+        notes, mark = self.path(place) + "/notes", mark_of(self.secret, place)
+        body = {"body": f"{text}\n\n{mark}"}
+        with expected(notes):
+            known = iter(() if comment is None else (comment,))
+            for number in itertools.chain(known, marked(self.rows(notes + "?sort=asc&order_by=created_at"), mark)):
+                if self.api.find("PUT", f"{notes}/{number}", body) is not None:
+                    return number
+            return int(self.api.call("POST", notes, body)["id"])
+
+    def head_ref(self, number: int) -> str:
+        return f"refs/merge-requests/{number}/head"
+
+
+def commit_at(versions: list[tuple[datetime, str]], at: datetime) -> str | None:
+    """The head that a request had at a time; before the first version is written, that of the first."""
+    before = [commit for since, commit in versions if since <= at]
+    return before[-1] if before else versions[0][1] if versions else None

@@ -1,0 +1,125 @@
+"""Where a forge's hooks come in. A hook is a place to look at, and nothing else of it is believed."""
+from __future__ import annotations
+
+import http.server
+import threading
+from collections.abc import Callable, Iterable
+from pathlib import Path
+
+from companions.forges import LARGEST, Forge, Place
+from companions.gate import say
+from companions.outbox import Notes
+
+# A place that is noted again is looked at again: whoever has looked at it takes away the row that he has seen.
+TABLES = """
+CREATE TABLE IF NOT EXISTS hint(row INTEGER PRIMARY KEY AUTOINCREMENT, repository TEXT, request INTEGER,
+    UNIQUE(repository, request));
+"""
+
+# The path of hooks, and the seconds that a connection may take for its next bytes.
+PATH = "/hook"
+PATIENCE = 30
+
+
+class Hints:
+    """The places to look at, in the adapter's file. Each thread that writes them has a connection of its own."""
+
+    def __init__(self, file: Path) -> None:
+        self.tables = Notes(file).tables
+        self.tables.executescript(TABLES)
+        self.lock = threading.Lock()
+
+    def put(self, place: Place) -> None:
+        with self.lock:
+            self.tables.execute("INSERT OR REPLACE INTO hint(repository, request) VALUES (?, ?)",
+                                (place.repository, place.number))
+
+    def all(self) -> list[tuple[int, Place]]:
+        """The places, those that were noted first at the front, each with its row."""
+        with self.lock:
+            rows = self.tables.execute("SELECT row, repository, request FROM hint ORDER BY row").fetchall()
+        return [(row, Place(repository, request)) for row, repository, request in rows]
+
+    def drop(self, row: int) -> None:
+        with self.lock:
+            self.tables.execute("DELETE FROM hint WHERE row = ?", (row,))
+
+
+class Handler(http.server.BaseHTTPRequestHandler):
+    """One connection, for one hook."""
+    server: Hooks
+    timeout = PATIENCE
+
+    def do_POST(self) -> None:
+        if self.path.partition("?")[0] != PATH:
+            return self.answer(404, "hooks come to " + PATH)
+        length = ",".join(self.headers.get_all("Content-Length", []))
+        if not (length.isascii() and length.isdigit()) or "Transfer-Encoding" in self.headers:
+            return self.answer(411, "a hook has a Content-Length")
+        if len(length) > 9 or int(length) > LARGEST:
+            return self.answer(413, f"a hook has at most {LARGEST} bytes")
+        body = self.rfile.read(int(length))
+        if len(body) < int(length):
+            return self.answer(400, "the hook was cut")
+        return self.answer(*self.server.take(self.headers, body))
+
+    def do_GET(self) -> None:
+        self.answer(404, "hooks are posted to " + PATH)
+
+    def answer(self, status: int, said: str) -> None:
+        """Answers, and ends the connection: bytes that weren't read would be taken for the next request."""
+        content = (said + "\n").encode()
+        self.close_connection = True
+        self.send_response(status)
+        self.send_header("Content-Type", "text/plain; charset=utf-8")
+        self.send_header("Content-Length", str(len(content)))
+        self.send_header("Connection", "close")
+        self.end_headers()
+        self.wfile.write(content)
+
+    def log_message(self, *_: object) -> None:
+        """What is worth a line is said by `Hooks`."""
+
+
+class Hooks(http.server.ThreadingHTTPServer):
+    """The server. `came` is set once a place was noted."""
+    daemon_threads = True
+
+    def __init__(self, address: tuple[str, int], hints: Hints, forge: Forge, repositories: Iterable[str],
+                 came: threading.Event) -> None:
+        self.hints, self.forge, self.repositories, self.came = hints, forge, frozenset(repositories), came
+        super().__init__(address, Handler)
+
+    def take(self, headers, body: bytes) -> tuple[int, str]:
+        """The answer to a hook, given once its place is on disk: a forge that got 200 sends it never again."""
+        try:
+            place = self.forge.place_of(headers, body)
+        except PermissionError as fault:
+            say("adapter", f"a hook was refused: {fault}")
+            return 403, str(fault)
+        except Exception as fault:  # pylint: disable=broad-except
+            say("adapter", f"a hook can't be read: {type(fault).__name__}: {fault}")
+            return 500, "this hook can't be read"
+        if place is None:
+            return 200, "this hook is about no request"
+        if place.repository not in self.repositories:
+            return 200, "this repository isn't gated"
+        self.hints.put(place)
+        self.came.set()
+        return 200, "noted"
+
+    def handle_error(self, request: object, client_address: object) -> None:
+        """A connection that broke: the forge sends its hook again, or the next comparison finds what it was about."""
+
+
+def serve(hooks: Hooks) -> Callable[[], None]:
+    """Serves hooks beside whatever else is done; what is given back ends that."""
+    thread = threading.Thread(target=hooks.serve_forever, kwargs={"poll_interval": 0.1}, daemon=True)
+    thread.start()
+
+    def end() -> None:
+        hooks.shutdown()
+        hooks.server_close()
+        thread.join()
+
+    return end

@@ -1,0 +1,92 @@
+"""Which requests the text of a request names as needed.
+
+    Depends-On: ADDRESS
+
+ADDRESS is the forge's own address of a request, `owner/name#12` or `owner/name!12`, or within the repository `#12` or
+`!12`. A line that can't be read is a need that nobody would see: it is given back, to be told to the author.
+"""
+from __future__ import annotations
+
+import re
+from collections.abc import Callable
+from dataclasses import dataclass
+
+from companions.forges import Place
+from companions.requests import Request, State
+
+LINE = re.compile(r"^[ \t]*(?:[-*+][ \t]+)?depends-on:(.*)", re.IGNORECASE | re.ASCII)
+REPOSITORY = r"[\w.-]+(?:/[\w.-]+)+"
+SHORT = re.compile(rf"({REPOSITORY})?[#!]([1-9][0-9]{{0,8}})", re.ASCII)
+# Behind the number of an address may stand a page of the request, as /files, a query or a place on the page.
+LONG = re.compile(rf"/({REPOSITORY}?)/(?:pulls?|-/merge_requests)/([1-9][0-9]{{0,8}})(?:[/?#]\S*)?", re.ASCII)
+
+# The gate refuses a message that names more changes than 32 (E13), so it is enough that it sees the next one.
+MOST = 33
+
+
+@dataclass(frozen=True)
+class Needs:
+    """The changes that a request needs, and the lines about those that it names in vain."""
+    changes: tuple[int, ...]
+    remarks: tuple[str, ...]
+
+
+def clean(text: str, most: int = 200) -> str:
+    """A text of a person as a part of one line: without what no text may hold, and cut."""
+    line = "".join(it if it.isprintable() else " " for it in text[:most])
+    return line.encode("utf-8", "replace").decode().strip()
+
+
+def named(text: str, repository: str, web: str) -> list[tuple[str, Place | None]]:
+    """What stands behind `Depends-On:` in each such line of a text, with the request that it names, if it does."""
+    matches = (LINE.match(line) for line in re.split(r"\r\n|\r|\n", text))
+    lines = [match[1].strip(" \t") for match in matches if match]
+    return [(said, place_of(said, repository, web)) for said in lines]
+
+
+def place_of(said: str, repository: str, web: str) -> Place | None:
+    """The request that an address names."""
+    match, web = SHORT.fullmatch(said), web.rstrip("/")
+    if match is None and said.startswith(web):
+        match = LONG.fullmatch(said[len(web):])
+    return Place(match[1] or repository, int(match[2])) if match else None
+
+
+def needs_of(so: Request, web: str, ask: Callable[[Place], Request | None],
+             change_of: Callable[[Request], tuple[int, bool] | None]) -> Needs:
+    """The needs of a request.
+
+    `ask` asks the forge for a request. `change_of` gives the number of its change, and whether that can land for the
+    gate, or has; none where its branch isn't gated. A request that was merged without the gate, or past it, stands in
+    the branch and never lands for the gate: it is left out.
+    """
+    changes: dict[int, None] = {}
+    remarks: dict[str, None] = {}
+    for said, place in named(so.text, so.repository, web):
+        found = ask(place) if place and place != Place(so.repository, so.number) else None
+        change = change_of(found) if found else None
+        if change is None or found is None:
+            remarks[f"Depends-On: {clean(said)}: {trouble(so, place, found)}"] = None
+        elif change[1] or found.state is not State.MERGED:
+            changes[change[0]] = None
+    return Needs(tuple(changes)[:MOST], tuple(remarks))
+
+
+def trouble(so: Request, place: Place | None, found: Request | None) -> str:
+    """Why a line names no change."""
+    if place is None:
+        return "names no request of this forge"
+    if place == Place(so.repository, so.number):
+        return "names this request itself"
+    if found is None:
+        return "there is no such request"
+    return f"its branch, {clean(found.target)}, isn't gated"
+
+
+def message(so: Request, needs: tuple[int, ...], base: str) -> str:
+    """The message that the gate is told of a revision: whose it is, and the needs by their numbers.
+
+    It begins with the repository, so that no title is taken for a need.
+    """
+    return "\n".join([f"{so.repository} {so.number}: {clean(so.title)}", "",
+                      *(f"Depends-On: {base}{it}" for it in needs)])

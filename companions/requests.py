@@ -1,0 +1,192 @@
+"""What is so of a request, as a forge shows it now, and what a gate was told of it: what has to be told follows.
+
+A hook says only which request to look at. Nothing here asks anybody: all is decided from what is given.
+"""
+from __future__ import annotations
+
+import enum
+from collections.abc import Iterable
+from dataclasses import dataclass, field
+
+# In the place of a revision: a vote that is of none, since nobody knows which commit, or which branch, it was made for.
+NO_REVISION = 0
+
+
+class State(enum.Enum):
+    """How a forge shows a request."""
+    OPEN = "open"
+    CLOSED = "closed"
+    MERGED = "merged"
+
+
+@dataclass(frozen=True)
+class Vote:
+    """An object of the forge by which a person approves a request, or objects: a review, a comment, an event.
+
+    `approves` is none for one that was dismissed: it says nothing any more, and neither do the person's earlier ones.
+    `commit` is the one that it was made for, or none where the forge doesn't say.
+    """
+    object: str
+    person: str
+    approves: bool | None
+    commit: str | None
+
+
+@dataclass(frozen=True)
+class Request:
+    """A pull or merge request as it is now. `votes` are those that the forge shows, the oldest first."""
+    repository: str
+    number: int
+    state: State
+    head: str
+    target: str
+    title: str
+    text: str
+    votes: tuple[Vote, ...] = ()
+
+
+@dataclass(frozen=True)
+class Revision:
+    """A revision that the gate was told: its commit, and the changes that it needs."""
+    commit: str
+    needs: tuple[int, ...]
+
+
+@dataclass(frozen=True)
+class Told:
+    """What the gate was told of a change, and what it says of it.
+
+    `closed`: the change was closed behind the last of its revisions. `landed`: the gate or the branch has its landing.
+    `ordered`: the gate shows its order, so the lander may be at it. `approvals` are the votes that were told, each with
+    its revision, and `withdrawals` those of them that were taken back. `seen` are all votes that were seen, each with
+    the revision at which that was first.
+    """
+    change: int
+    revisions: tuple[Revision, ...] = ()
+    closed: bool = False
+    landed: bool = False
+    ordered: bool = False
+    approvals: dict[str, int] = field(default_factory=dict)
+    withdrawals: frozenset[str] = frozenset()
+    seen: dict[str, int] = field(default_factory=dict)
+
+
+@dataclass(frozen=True)
+class Telling:
+    """A delivery to be told: its kind, the revision, and what it stands for beside these, from which its id comes.
+
+    `votes` are those that count as told with it: approvals, or the approvals that it takes back.
+    """
+    kind: str
+    revision: int
+    stands_for: tuple[str, ...]
+    votes: tuple[str, ...] = ()
+
+
+def tellings(so: Request, told: Told, needs: tuple[int, ...], may_approve: frozenset[str] | None) -> list[Telling]:
+    """What is to be told of a change, in order, given the request that it stands for, at a branch that is gated.
+
+    `may_approve` are the persons whose votes count, or none where everybody's that the forge shows do.
+    """
+    if told.landed:
+        return []
+    if so.state is not State.OPEN:
+        # While its order is shown, the lander may have merged it and not told that yet.
+        return [] if so.state is State.MERGED and told.ordered else closing(told, so.state.value)
+    revision, steps = revision_of(so, told, needs), []
+    if revision > len(told.revisions):
+        steps.append(Telling("revision", revision, (so.head, *map(str, needs))))
+    return steps + votes(so, told, revision, first_seen(so, told, needs), may_approve)
+
+
+def closing(told: Told, why: str) -> list[Telling]:
+    """A change that is to be closed, since its request is, or has another target now."""
+    last = len(told.revisions)
+    return [Telling("closed", last, (why,))] if last and not told.closed and not told.landed else []
+
+
+def revision_of(so: Request, told: Told, needs: tuple[int, ...]) -> int:
+    """The revision that an open request is at: the last that was told, or the next one."""
+    last = len(told.revisions)
+    is_new = not last or told.closed or told.revisions[-1] != Revision(so.head, needs)
+    return last + 1 if is_new else last
+
+
+def first_seen(so: Request, told: Told, needs: tuple[int, ...]) -> dict[str, int]:
+    """The votes that weren't seen before, each with the revision that it is of.
+
+    A vote without a commit that is first seen together with a new revision may be older than that, and then nobody has
+    looked at what it would approve: it is of no revision. Whoever gives it again approves what is known by then.
+    """
+    last = len(told.revisions)
+    revision = revision_of(so, told, needs) if so.state is State.OPEN else last
+    is_unsure = so.state is not State.OPEN or revision > last
+    return {it.object: NO_REVISION if is_unsure and it.commit is None else revision
+            for it in so.votes if it.object not in told.seen}
+
+
+def votes(so: Request, told: Told, revision: int, new_ones: dict[str, int],
+          may_approve: frozenset[str] | None) -> list[Telling]:
+    """The approval of this revision, where a vote approves it that wasn't told, or the withdrawal where none holds.
+
+    A vote approves once. Of several new ones the oldest is told, and the others count as told with it: told by
+    themselves, later, they would put a change that has failed meanwhile into its queue again.
+    """
+    approving, against = standing(so.votes, may_approve)
+    counting = [] if against else [it for it in approving if counts(it, so, told, revision, new_ones)]
+    at_gate = {name for name, at in told.approvals.items() if at == revision} - told.withdrawals
+    steps = []
+    if at_gate and (against or not counting and not at_gate & {it.object for it in approving}):
+        taken_back = tuple(sorted(at_gate))
+        steps.append(Telling("withdrawn", revision, taken_back + tuple(it.object for it in against), taken_back))
+    if counting:
+        steps.append(Telling("approved", revision, (counting[0].object,), tuple(it.object for it in counting)))
+    return steps
+
+
+def standing(all_votes: Iterable[Vote], may_approve: frozenset[str] | None) -> tuple[list[Vote], list[Vote]]:
+    """The approving votes behind which the same person has neither objected nor been dismissed, and the objections."""
+    approving: dict[str, list[Vote]] = {}
+    against: dict[str, Vote] = {}
+    for it in all_votes:
+        if may_approve is not None and it.person not in may_approve:
+            continue
+        against.pop(it.person, None)
+        if it.approves:
+            approving.setdefault(it.person, []).append(it)
+            continue
+        approving.pop(it.person, None)
+        if it.approves is False:
+            against[it.person] = it
+    return [it for each in approving.values() for it in each], list(against.values())
+
+
+def counts(vote: Vote, so: Request, told: Told, revision: int, new_ones: dict[str, int]) -> bool:
+    """Whether a vote approves this revision, and wasn't told of this one or another."""
+    seen = told.seen.get(vote.object, new_ones.get(vote.object, NO_REVISION))
+    if vote.object in told.approvals or seen == NO_REVISION:
+        return False
+    return vote.commit == so.head if vote.commit is not None else seen == revision
+
+
+def uncounted(so: Request, told: Told, needs: tuple[int, ...], may_approve: frozenset[str] | None) -> list[str]:
+    """Why the approving votes that the forge shows of an open request aren't the gate's approval: a line each."""
+    if so.state is not State.OPEN or told.landed:
+        return []
+    revision, new_ones = revision_of(so, told, needs), first_seen(so, told, needs)
+    approving, against = standing(so.votes, None)
+    may = {it.person for it in so.votes if may_approve is None or it.person in may_approve}
+    lines = [f"{it.person} objects ({it.object})" for it in against if it.person in may]
+    for it in approving:
+        why = None
+        if it.person not in may:
+            why = "isn't among those who may approve"
+        elif it.object in told.withdrawals:
+            why = "approved, and that was withdrawn since"
+        elif told.approvals.get(it.object, revision) != revision:
+            why = "approved an earlier revision, or another branch"
+        elif it.object not in told.approvals and not counts(it, so, told, revision, new_ones):
+            why = ("approved an earlier commit" if it.commit not in (None, so.head) else
+                   "approved before the gate knew this revision at this branch")
+        lines += [f"{it.person} {why}: {it.object} doesn't count"] if why else []
+    return lines

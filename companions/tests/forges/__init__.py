@@ -1,0 +1,48 @@
+"""A stand-in forge for tests: a model in memory, which speaks the API of each form and sends its hooks.
+
+    with StandInForge("gitlab", "http://127.0.0.1:8090/") as forge:
+        forge.model.add("acme/lib", "ann")
+        place = forge.model.open("acme/lib", HEAD, "main", "Add one")
+        forge.hooks.double()
+        forge.hooks.send_all()
+
+What is so of git is its user's: whoever calls `open` or `push` pushes the commit first, to the request's head in the
+repository (`forge.client().head_ref`).
+"""
+from __future__ import annotations
+
+from companions.forges import Forge
+from companions.github import Gitea, GitHub
+from companions.gitlab import GitLab
+from companions.tests.forges.github import GiteaForm, GitHubForm
+from companions.tests.forges.gitlab import GitLabForm
+from companions.tests.forges.hooks import Hooks
+from companions.tests.forges.model import Model
+from companions.tests.forges.server import Server
+
+FORMS = {"github": GitHubForm, "gitea": GiteaForm, "gitlab": GitLabForm}
+CLIENTS = {"github": GitHub, "gitea": Gitea, "gitlab": GitLab}
+
+
+class StandInForge:
+    """A forge of a form. `model` is what is so in it, `server` who answers, and `hooks` what it tells unasked."""
+
+    def __init__(self, kind: str, hooks: str = "", token: str = "a token", secret: str = "a secret") -> None:
+        self.kind, self.token, self.secret = kind, token, secret
+        self.model, self.hooks = Model(), Hooks(hooks)
+        self.form = FORMS[kind](self.model, token, secret)
+        self.server = Server(self.form)
+        self.url = self.server.url + self.form.prefix
+        self.model.listeners.append(lambda *told: self.hooks.add(self.form.hook(*told)))
+
+    def __enter__(self) -> StandInForge:
+        self.server.start()
+        return self
+
+    def __exit__(self, *_: object) -> None:
+        self.hooks.stop()
+        self.server.stop()
+
+    def client(self, token: str | None = None, timeout: float = 30.0) -> Forge:
+        """The adapter's client of this form, at this forge."""
+        return CLIENTS[self.kind](self.url, self.token if token is None else token, self.secret, timeout)

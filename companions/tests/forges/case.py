@@ -1,0 +1,37 @@
+"""A test before a stand-in forge."""
+from __future__ import annotations
+
+import unittest
+from collections.abc import Callable
+
+from companions.forges import ForgeFault
+from companions.requests import Request
+from companions.tests.forges import StandInForge
+
+ONE, TWO, THREE = ("1" * 40, "2" * 40, "3" * 40)
+LIB = "acme/lib"
+
+
+class Case(unittest.TestCase):
+    """A forge with one repository and one request."""
+    kind = "github"
+
+    def setUp(self) -> None:
+        self.forge = self.enterContext(StandInForge(self.kind))
+        self.model, self.client = self.forge.model, self.forge.client()
+        self.model.add(LIB, "ann", "ben")
+        self.place = self.model.open(LIB, ONE, "main", "Add one")
+
+    def votes(self) -> list[tuple[str, bool, str | None]]:
+        return [(it.person, it.approves, it.commit) for it in self.asked().votes]
+
+    def asked(self) -> Request:
+        request = self.client.request(self.place)
+        assert request is not None
+        return request
+
+    def fails(self, status: int | None, call: Callable[..., object], *words: object) -> ForgeFault:
+        with self.assertRaises(ForgeFault) as raised:
+            call(*words)
+        self.assertEqual(raised.exception.status, status, raised.exception)
+        return raised.exception

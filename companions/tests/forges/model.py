@@ -1,0 +1,222 @@
+"""What is so in a stand-in forge: repositories, requests, what people and the gate said of them, and statuses."""
+from __future__ import annotations
+
+import itertools
+import threading
+from collections import defaultdict
+from collections.abc import Callable
+from dataclasses import dataclass, field
+from datetime import datetime, timedelta, timezone
+
+from companions.forges import Place
+
+BEGIN = datetime(2024, 5, 1, 10, 0, 0, 250000, tzinfo=timezone.utc)
+# Whose token the adapter has.
+GATE = "gate-bot"
+
+
+@dataclass
+class Entry:
+    """Something said of a request, or done to it: approved, rejected, dismissed, commented or pushed.
+
+    Reviews and comments are numbered each by itself, as Gitea does, so that they have numbers in common; `note` numbers
+    all of them, as GitLab does.
+    """
+    kind: str
+    id: int
+    note: int
+    person: str
+    text: str
+    commit: str
+    at: datetime
+    is_dismissed: bool = False
+
+
+@dataclass
+class Pull:
+    """A request. `id` is its number in the whole forge. All its heads are entries of the kind `pushed`."""
+    place: Place
+    id: int
+    author: str
+    head: str
+    target: str
+    title: str
+    text: str
+    is_fork: bool
+    at: datetime
+    state: str = "open"
+    merged_by: str | None = None
+    entries: list[Entry] = field(default_factory=list)
+
+    def of(self, *kinds: str) -> list[Entry]:
+        return [it for it in self.entries if it.kind in kinds]
+
+    def approving(self) -> list[str]:
+        """Who approves it and hasn't taken that back."""
+        last = {it.person: it for it in self.of("approved")}
+        return sorted(person for person, it in last.items() if not it.is_dismissed)
+
+
+@dataclass(frozen=True)
+class Status:
+    """A status that a commit was given."""
+    repository: str
+    commit: str
+    state: str
+    text: str
+
+
+# What happened, to which request, and the entry that says it, if there is one.
+Listener = Callable[[str, Pull, Entry | None], None]
+
+
+class Model:
+    """A forge's state. Whoever does something tells the listeners; each thing happens `pace` after the one before."""
+
+    def __init__(self) -> None:
+        self.lock = threading.RLock()
+        self.pulls: dict[Place, Pull] = {}
+        self.writers: dict[str, set[str]] = {}
+        self.statuses: list[Status] = []
+        self.listeners: list[Listener] = []
+        self.now, self.pace = BEGIN, timedelta(seconds=1)
+        # Whether approvals stay at a new head, as a forge's settings may say.
+        self.keeps_approvals = True
+        self.counts: dict[str, itertools.count[int]] = defaultdict(lambda: itertools.count(1))
+
+    def add(self, repository: str, *writers: str) -> None:
+        """A repository, and who may write to it."""
+        self.writers[repository] = set(writers)
+
+    def open(self, repository: str, head: str, target: str, title: str, text: str = "", author: str = "ann",
+             is_fork: bool = False) -> Place:
+        with self.lock:
+            place = Place(repository, next(self.counts[repository]))
+            number = 1000 + next(self.counts["pull"])
+            pull = Pull(place, number, author, head, target, title, text, is_fork, self.tick())
+            self.pulls[place] = pull
+            self.enter("pushed", place, author)
+            self.tell("opened", place)
+            return place
+
+    def push(self, place: Place, head: str) -> None:
+        with self.lock:
+            pull = self.pulls[place]
+            pull.head = head
+            for it in pull.of("approved"):
+                it.is_dismissed = it.is_dismissed or not self.keeps_approvals
+            self.tell("pushed", place, self.enter("pushed", place, pull.author))
+
+    def edit(self, place: Place, title: str | None = None, text: str | None = None) -> None:
+        with self.lock:
+            pull = self.pulls[place]
+            pull.title = pull.title if title is None else title
+            pull.text = pull.text if text is None else text
+            self.tell("edited", place)
+
+    def retarget(self, place: Place, branch: str) -> None:
+        with self.lock:
+            self.pulls[place].target = branch
+            self.tell("edited", place)
+
+    def approve(self, place: Place, person: str) -> Entry:
+        return self.say("approved", place, person)
+
+    def reject(self, place: Place, person: str) -> Entry:
+        """Requests changes. GitLab's form shows nothing of it."""
+        return self.say("rejected", place, person)
+
+    def dismiss(self, place: Place, person: str) -> None:
+        """What a person said last by a review doesn't hold any more; at GitLab the person takes the approval back."""
+        with self.lock:
+            said = [it for it in self.pulls[place].of("approved", "rejected") if it.person == person][-1]
+            said.is_dismissed = True
+            if said.kind == "approved":
+                self.enter("dismissed", place, person)
+            self.tell("dismissed", place, said)
+
+    def comment(self, place: Place, person: str, text: str) -> Entry:
+        return self.say("commented", place, person, text)
+
+    def edit_comment(self, place: Place, comment: Entry, text: str) -> None:
+        with self.lock:
+            comment.text = text
+            self.tell("comment edited", place, comment)
+
+    def delete_comment(self, place: Place, comment: Entry) -> None:
+        with self.lock:
+            self.pulls[place].entries.remove(comment)
+            self.tell("comment deleted", place, comment)
+
+    def close(self, place: Place) -> None:
+        self.turn(place, "closed")
+
+    def reopen(self, place: Place) -> None:
+        self.turn(place, "open", "reopened")
+
+    def merge(self, place: Place, by: str) -> None:
+        """Somebody has merged it, as the lander or a person past the gate, and nothing can happen to it any more."""
+        with self.lock:
+            self.pulls[place].merged_by = by
+            self.turn(place, "merged")
+
+    def see_branch(self, repository: str, branch: str, contains: Callable[[str], bool], by: str) -> list[Place]:
+        """A branch was pushed to: open requests to it are shown as merged if it contains their heads by now."""
+        found = [it.place for it in self.of(repository)
+                 if it.state == "open" and it.target == branch and contains(it.head)]
+        for place in found:
+            self.merge(place, by)
+        return found
+
+    def set_status(self, status: Status) -> None:
+        with self.lock:
+            self.statuses.append(status)
+
+    def status(self, repository: str, commit: str) -> Status | None:
+        """The last status of a commit."""
+        with self.lock:
+            found = [it for it in self.statuses if (it.repository, it.commit) == (repository, commit)]
+            return found[-1] if found else None
+
+    def has(self, repository: str, commit: str) -> bool:
+        """Whether a commit is or was the head of one of the repository's requests."""
+        return any(it.commit == commit for pull in self.of(repository) for it in pull.of("pushed"))
+
+    def of(self, repository: str) -> list[Pull]:
+        with self.lock:
+            return [it for place, it in self.pulls.items() if place.repository == repository]
+
+    def find_comment(self, repository: str, number: int, by_note: bool = False) -> tuple[Place, Entry] | None:
+        """A comment of a repository, by its number or by that of its note."""
+        found = [(pull.place, it) for pull in self.of(repository) for it in pull.of("commented")
+                 if (it.note if by_note else it.id) == number]
+        return found[0] if found else None
+
+    def comments(self, place: Place, person: str) -> list[Entry]:
+        return [it for it in self.pulls[place].of("commented") if it.person == person]
+
+    def say(self, kind: str, place: Place, person: str, text: str = "") -> Entry:
+        with self.lock:
+            entry = self.enter(kind, place, person, text)
+            self.tell(kind, place, entry)
+            return entry
+
+    def turn(self, place: Place, state: str, what: str | None = None) -> None:
+        with self.lock:
+            self.pulls[place].state = state
+            self.tell(what or state, place)
+
+    def enter(self, kind: str, place: Place, person: str, text: str = "") -> Entry:
+        pull = self.pulls[place]
+        sort = "review" if kind in ("approved", "rejected") else kind
+        entry = Entry(kind, next(self.counts[sort]), next(self.counts["note"]), person, text, pull.head, self.tick())
+        pull.entries.append(entry)
+        return entry
+
+    def tick(self) -> datetime:
+        self.now += self.pace
+        return self.now
+
+    def tell(self, what: str, place: Place, entry: Entry | None = None) -> None:
+        for listener in self.listeners:
+            listener(what, self.pulls[place], entry)

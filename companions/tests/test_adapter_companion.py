@@ -1,0 +1,301 @@
+"""The adapter: looks at requests, and what the gate is told then."""
+from __future__ import annotations
+
+import copy
+import http.client
+import json
+import threading
+from dataclasses import replace
+
+from companions.forges import LARGEST, Place
+from companions.hooks import Hooks, serve
+from companions.landings import Landing
+from companions.requests import State, Vote
+from companions.tests.adapter_case import Case
+
+
+class Requests(Case):
+    def test_a_request_is_told_and_approved(self) -> None:
+        self.be(12, 0, self.approve(1), title="Add it")
+        self.assertEqual(self.look(), ["revision 1 1", "approved 1 1"])
+        self.assertEqual(self.standin.deliveries()[0]["message"], "acme/lib 12: Add it\n")
+        self.assertEqual(self.origin.git("rev-parse", "refs/changes/1/1"), self.commits[0])
+        self.assertEqual(self.look(), [])
+
+    def test_a_restart_tells_nothing_again(self) -> None:
+        place = self.be(12, 0, self.approve(1))
+        self.look()
+        self.start()
+        self.assertEqual((self.look(), self.look(place), self.look(place, place)), ([], [], []))
+
+    def test_one_that_is_killed_before_it_sends_sends_later(self) -> None:
+        place = self.be(12, 0, self.approve(1))
+        self.adapter.file.ask()
+        self.adapter.looks.look(place)
+        self.start()
+        self.be(12, 1)
+        self.assertEqual(self.look(place), ["revision 1 1", "approved 1 1", "revision 1 2"])
+
+    def test_a_ref_that_was_never_told_is_given_another_commit(self) -> None:
+        self.origin.revision(1, 1, self.commits[3])
+        self.be(12, 0)
+        self.assertEqual(self.look(), ["revision 1 1"])
+        self.assertEqual(self.origin.git("rev-parse", "refs/changes/1/1"), self.commits[0])
+
+    def test_revisions_keep_their_commits(self) -> None:
+        place = self.be(12, 0)
+        self.look()
+        for head in (1, 0):
+            self.be(12, head)
+            self.look(place)
+        self.assertEqual([self.origin.git("rev-parse", f"refs/changes/1/{it}") for it in (1, 2, 3)],
+                         [self.commits[0], self.commits[1], self.commits[0]])
+
+    def test_a_retarget_closes_one_change_and_opens_another(self) -> None:
+        place = self.be(12, 0, self.approve(1))
+        self.look()
+        self.be(12, 0, self.approve(1), target="old")
+        self.assertEqual(sorted(self.look(place)), ["closed 1 1", "revision 2 1"])
+        self.be(12, 0, self.approve(1), self.approve(2), target="main")
+        self.assertEqual(sorted(self.look(place)), ["approved 1 2", "closed 2 1", "revision 1 2"])
+
+    def test_a_branch_that_is_not_gated_is_left_alone_and_its_votes_are_of_it(self) -> None:
+        place = self.be(12, 0, self.approve(1), target="topic")
+        self.assertEqual(self.look(), [])
+        self.be(12, 0, self.approve(1), target="main")
+        self.assertEqual(self.look(place), ["revision 1 1"])
+        self.be(12, 0, self.approve(1), self.approve(2))
+        self.assertEqual(self.look(place), ["approved 1 1"])
+
+    def test_needs_become_numbers(self) -> None:
+        self.be(13, 1)
+        place = self.be(12, 0, text="Depends-On: #13\nDepends-On: nothing\nDepends-On: acme/lib!12")
+        self.assertEqual(sorted(self.look()), ["revision 1 1", "revision 2 1"])
+        self.assertIn("acme/lib 12: Title\n\nDepends-On: https://forge/c/",
+                      "".join(it["message"] for it in self.standin.deliveries()))
+        change = self.adapter.changes.of_request(place)["main"]
+        self.assertEqual(self.adapter.changes.remarks(change), [
+            "Depends-On: nothing: names no request of this forge",
+            "Depends-On: acme/lib!12: names this request itself"])
+
+    def test_what_was_merged_without_the_gate_is_no_need(self) -> None:
+        self.be(13, 1, state=State.MERGED)
+        self.be(12, 0, text="Depends-On: #13")
+        self.look()
+        self.assertEqual(self.standin.deliveries()[-1]["message"], "acme/lib 12: Title\n")
+
+    def test_one_whose_vote_has_no_commit_is_looked_at_twice(self) -> None:
+        place = self.be(12, 0)
+        self.look()
+        said = Vote("comment 1", "ada", True, None)
+        self.be(12, 0, said)
+        self.forge.asked.clear()
+        self.forge.before = lambda _: self.forge.asked and self.be(12, 1, said)
+        self.assertEqual(self.look(place), [])
+        self.forge.before = lambda _: None
+        self.assertEqual(self.look(place), ["revision 1 2"])
+        self.assertEqual(self.look(place), [])
+        self.be(12, 1, said, replace(said, object="comment 2"))
+        self.assertEqual(self.look(place), ["approved 1 2"])
+
+
+class Closings(Case):
+    def test_a_request_that_is_closed_and_opened_again(self) -> None:
+        place = self.be(12, 0, self.approve(1))
+        self.look()
+        self.be(12, 0, state=State.CLOSED)
+        self.assertEqual((self.look(), self.look()), (["closed 1 1"], []))
+        self.be(12, 0, self.approve(1), state=State.OPEN)
+        self.assertEqual(self.look(place), ["revision 1 2"])
+
+    def test_one_that_was_never_told_is_none(self) -> None:
+        for number, state in ((12, State.CLOSED), (13, State.MERGED)):
+            self.assertEqual(self.look(self.be(number, 0, self.approve(number), state=state)), [])
+        self.assertEqual(self.look(Place("acme/lib", 99)), [])
+
+    def test_merged_past_the_gate(self) -> None:
+        self.be(12, 0, self.approve(1))
+        self.look()
+        self.be(12, 0, state=State.MERGED)
+        self.assertEqual(self.look(), ["closed 1 1"])
+
+    def test_merged_by_the_lander(self) -> None:
+        place = self.be(12, 0, self.approve(1))
+        self.look()
+        self.gate.order(1)
+        self.be(12, 0, state=State.MERGED)
+        self.assertEqual((self.look(), self.look(place)), ([], []))
+        self.gate.land(1)
+        self.assertEqual((self.look(), self.look(place)), ([], []))
+        self.assertEqual(self.adapter.changes.still_open("acme/lib"), [])
+
+    def test_what_the_branch_has_is_not_closed_whatever_the_gate_says(self) -> None:
+        place = self.be(12, 0, self.approve(1))
+        self.look()
+        first = self.adapter.gate.first()
+        landing = Landing(str(first), "core", 1, 1, 1)
+        merge = self.origin.git("commit-tree", self.origin.tree(self.commits[0]), "-p", self.base, "-p",
+                                self.commits[0], "-m", landing.message("Title"))
+        self.origin.name("refs/heads/main", merge)
+        self.be(12, 1, state=State.MERGED)
+        self.assertEqual((self.look(place), self.look()), ([], []))
+        self.assertTrue(self.adapter.changes.told(1).landed)
+
+    def test_a_change_whose_order_is_shown_holds_up_itself_alone(self) -> None:
+        one, two = self.be(12, 0, self.approve(1)), self.be(13, 1)
+        self.look()
+        self.gate.order(1)
+        self.be(12, 0, state=State.CLOSED)
+        self.be(13, 1, self.approve(2, 1))
+        self.assertEqual(self.look(one, two), ["closed 1 1", "approved 2 1"])
+        self.assertEqual(self.look(two), ["closed 1 1"])
+        self.gate.land(1)
+        self.assertEqual((self.look(two), self.look(two)), (["closed 1 1"], []))
+
+    def test_what_is_pushed_after_the_landing_is_told_to_its_author(self) -> None:
+        place = self.be(12, 0, self.approve(1))
+        self.look()
+        self.gate.land(1)
+        self.be(12, 1)
+        self.assertEqual(self.look(place), [])
+        self.assertEqual(self.adapter.changes.remarks(1),
+                         ["this change has landed: what was pushed since wants a request of its own"])
+
+
+class Troubles(Case):
+    def test_a_request_s_trouble_is_its_own(self) -> None:
+        for number in (12, 13, 14, 15):
+            self.be(number, 0)
+        self.forge.broken = {Place("acme/lib", it) for it in (12, 14)}
+        self.assertEqual(self.look(), ["revision 1 1", "revision 2 1"])
+        self.assertEqual(self.look(), [])
+        self.assertEqual([it for it in self.lines() if "500" in it],
+                         ["adapter: acme/lib 12: GET 12: 500", "adapter: acme/lib 14: GET 14: 500"])
+        self.forge.broken.clear()
+        self.assertEqual(self.look(), ["revision 3 1", "revision 4 1"])
+
+    def test_a_commit_that_is_not_there_is_told_later(self) -> None:
+        place = self.be(12, 0)
+        self.forge.requests[place] = replace(self.forge.requests[place], head="f" * 40)
+        self.assertEqual(self.look(), [])
+        self.assertRegex(self.lines()[-1], "Trouble: refs/pull/12/head of .*lib.git doesn't have f{40} yet")
+        self.forge.requests[place] = replace(self.forge.requests[place], head="--all")
+        self.assertEqual(self.look(), [])
+        self.assertIn("Trouble: the forge's head of it is no commit: '--all'", self.lines()[-1])
+        self.be(12, 0)
+        self.assertEqual(self.look(), ["revision 1 1"])
+
+    def test_all_stays_while_the_gate_is_away(self) -> None:
+        place = self.be(12, 0)
+        self.gate.is_away = True
+        self.assertEqual(self.look(place), [])
+        self.gate.is_away = False
+        self.assertEqual(self.look(place), ["revision 1 1"])
+
+    def test_a_project_that_the_gate_lacks_is_told_once_it_has_it(self) -> None:
+        place = self.be(12, 0, self.approve(1))
+        self.gate.projects.discard("lib")
+        self.assertEqual(self.look(), ["revision 1 1", "approved 1 1"])
+        self.look(place)
+        self.assertEqual(self.adapter.changes.remarks(1)[-1:],
+                         ["the gate refused this, E7: the gate's settings lack the project"])
+        self.gate.projects.add("lib")
+        self.assertEqual(self.look(place), ["revision 1 1", "approved 1 1"])
+        self.assertEqual(self.gate.changes[1]["order"], 1)
+
+    def test_tables_that_are_older_than_the_gate_s_file_tell_nothing(self) -> None:
+        self.gate.changes[1] = {"revision": 3, "state": "open", "order": None}
+        self.be(12, 0)
+        self.assertEqual(self.look(), [])
+        self.assertIn("the gate has revision 3 of change 1, and the adapter 0", self.lines()[-1])
+
+
+class Files(Case):
+    def test_a_restored_gate_is_told_again_what_still_holds(self) -> None:
+        self.be(13, 1)
+        self.look()
+        before = copy.deepcopy(self.gate)
+        place = self.be(12, 0, self.approve(1))
+        self.look()
+        self.gate = before
+        self.assertEqual(self.look(place), ["revision 1 1", "revision 2 1", "approved 2 1"])
+        self.assertEqual(self.gate.changes[2]["order"], 1)
+        self.assertIn("adapter: the gate has an earlier state of its file: what still holds is told again",
+                      self.lines())
+
+    def test_a_new_file_is_told_anew_and_needs_new_votes(self) -> None:
+        place = self.be(12, 0, self.approve(1))
+        self.look()
+        self.gate.__init__()
+        self.start()
+        self.assertEqual((self.look(), self.look()), (["revision 1 2"], []))
+        self.be(12, 0, self.approve(1), self.approve(2))
+        self.assertEqual(self.look(place), ["approved 1 2"])
+
+    def test_ids_are_of_the_gate_s_first_delivery_once_there_is_one(self) -> None:
+        place = self.be(12, 0)
+        self.look()
+        self.look(place)
+        first = self.adapter.gate.first()
+        self.assertEqual(self.adapter.outbox.get("file"), {"first": first, "ids": first})
+
+
+class Incoming(Case):
+    def setUp(self) -> None:
+        super().setUp()
+        self.came = threading.Event()
+        self.hooks = Hooks(("127.0.0.1", 0), self.adapter.hints, self.forge, ["acme/lib"], self.came)
+        self.addCleanup(serve(self.hooks))
+
+    def post(self, body: bytes, path: str = "/hook", method: str = "POST", **headers: str) -> int:
+        connection = http.client.HTTPConnection("127.0.0.1", self.hooks.server_port, timeout=5)
+        self.addCleanup(connection.close)
+        connection.putrequest(method, path)
+        for name, value in {"Content_Length": str(len(body)), "Secret": "secret", **headers}.items():
+            if value:
+                connection.putheader(name.replace("_", "-"), value)
+        connection.endheaders(body)
+        return connection.getresponse().status
+
+    def places(self) -> list[Place]:
+        return [place for _, place in self.adapter.hints.all()]
+
+    def test_a_hook_s_place_is_on_disk_when_it_is_answered(self) -> None:
+        self.assertEqual(self.post(b'["acme/lib", 12]'), 200)
+        self.assertEqual((self.places(), self.came.is_set()), ([Place("acme/lib", 12)], True))
+        self.be(12, 0)
+        self.assertEqual(self.look(Place("acme/lib", 12)), ["revision 1 1"])
+        self.assertEqual(self.places(), [])
+
+    def test_a_hook_that_is_not_signed_is_refused_and_not_read(self) -> None:
+        for body in (b'["acme/lib", 12]', b"no json"):
+            self.assertEqual(self.post(body, Secret="wrong"), 403)
+        self.assertEqual(self.places(), [])
+
+    def test_other_hooks_are_taken_and_nothing_follows(self) -> None:
+        self.assertEqual([self.post(it) for it in (b"null", b'["acme/web", 12]')], [200, 200])
+        self.assertEqual((self.places(), self.came.is_set()), ([], False))
+
+    def test_a_hook_that_cannot_be_read_is_answered(self) -> None:
+        self.assertEqual(self.post(b"no json"), 500)
+        self.assertIn("adapter: a hook can't be read: JSONDecodeError", self.lines()[-1])
+
+    def test_what_is_no_hook_is_refused_unread(self) -> None:
+        for status, path, method, length in ((404, "/", "POST", "2"), (404, "/hooks", "POST", "2"),
+                                             (404, "/hook", "GET", ""), (411, "/hook", "POST", ""),
+                                             (411, "/hook", "POST", "-1"), (411, "/hook", "POST", "x"),
+                                             (413, "/hook", "POST", str(LARGEST + 1)),
+                                             (413, "/hook", "POST", "9" * 99)):
+            with self.subTest(path=path, length=length):
+                self.assertEqual(self.post(b"", path, method, Content_Length=length), status)
+
+    def test_a_hook_while_its_request_is_looked_at_is_looked_at_again(self) -> None:
+        place = self.be(12, 0)
+        self.forge.before = lambda _: self.post(json.dumps(["acme/lib", 12]).encode())
+        self.look(place)
+        self.assertEqual(self.places(), [place])
+
+
+if __name__ == "__main__":
+    import unittest
+    unittest.main()

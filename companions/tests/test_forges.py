@@ -1,0 +1,305 @@
+"""Each call of each form of forge, before a stand-in that speaks its API."""
+from __future__ import annotations
+
+import unittest
+from datetime import timedelta
+from email.message import Message
+
+from companions.forges import FAILURE, PENDING, SUCCESS, Place
+from companions.gitlab import UNDECIDED
+from companions.requests import State
+from companions.tests.forges import StandInForge
+from companions.tests.forges.case import LIB, ONE, TWO, Case
+from companions.tests.forges.model import GATE, Status
+
+
+class EachForm:
+    """What holds for each form. `of_comment` is the commit that a comment at a head is of."""
+
+    def of_comment(self, head: str) -> str | None:
+        return None
+
+    def test_a_request_as_it_is(self) -> None:
+        it = self.asked()
+        self.assertEqual((it.repository, it.number, it.state, it.head, it.target, it.title, it.text, it.votes),
+                         (LIB, 1, State.OPEN, ONE, "main", "Add one", "", ()))
+        self.model.edit(self.place, "Add two", "Words\r\n\r\nDepends-On: #7")
+        self.model.push(self.place, TWO)
+        self.model.retarget(self.place, "next/one")
+        it = self.asked()
+        self.assertEqual((it.head, it.target, it.title, it.text),
+                         (TWO, "next/one", "Add two", "Words\r\n\r\nDepends-On: #7"))
+
+    def test_states(self) -> None:
+        for act, state in ((self.model.close, State.CLOSED), (self.model.reopen, State.OPEN),
+                           (lambda place: self.model.merge(place, "lander"), State.MERGED)):
+            act(self.place)
+            self.assertEqual(self.asked().state, state)
+
+    def test_there_is_none(self) -> None:
+        self.assertIsNone(self.client.request(Place(LIB, 2)))
+        self.assertIsNone(self.client.request(Place("acme/other", 1)))
+
+    def test_approvals_are_of_the_head_they_were_made_at(self) -> None:
+        self.model.approve(self.place, "ann")
+        self.model.push(self.place, TWO)
+        self.model.approve(self.place, "ben")
+        self.assertEqual(self.votes(), [("ann", True, ONE), ("ben", True, TWO)])
+        self.model.push(self.place, ONE)
+        self.assertEqual(self.votes(), [("ann", True, ONE), ("ben", True, TWO)])
+
+    def test_comments_approve_by_a_line(self) -> None:
+        self.model.comment(self.place, "cy", "I'd say /gate approve\n> /gate approve\n")
+        self.assertEqual(self.votes(), [])
+        said = self.model.comment(self.place, "ann", "Well\r\n /gate approve \r\nthanks")
+        self.model.push(self.place, TWO)
+        self.assertEqual(self.votes(), [("ann", True, self.of_comment(ONE))])
+        other = self.model.comment(self.place, "ben", "/gate approve")
+        self.model.edit_comment(self.place, said, "I'm not sure")
+        self.assertEqual(self.votes(), [("ben", True, self.of_comment(TWO))])
+        self.model.delete_comment(self.place, other)
+        self.assertEqual(self.votes(), [])
+
+    def test_each_vote_is_an_object_of_its_own_and_stays_it(self) -> None:
+        self.model.approve(self.place, "ann")
+        self.model.comment(self.place, "ann", "/gate approve")
+        first = [it.object for it in self.asked().votes]
+        self.model.comment(self.place, "ben", "/gate approve")
+        self.model.push(self.place, TWO)
+        self.model.approve(self.place, "cy")
+        second = [it.object for it in self.asked().votes]
+        self.assertEqual((len(set(first)), len(set(second)), second[:2]), (2, 4, first))
+
+    def test_what_was_taken_back_brings_nothing_earlier_back(self) -> None:
+        self.model.comment(self.place, "ann", "/gate approve")
+        self.model.approve(self.place, "ann")
+        first = self.asked().votes[-1]
+        self.model.approve(self.place, "ben")
+        self.model.dismiss(self.place, "ann")
+        self.assertEqual(self.votes(), [("ben", True, ONE)])
+        self.model.approve(self.place, "ann")
+        self.assertEqual(self.votes(), [("ben", True, ONE), ("ann", True, ONE)])
+        self.assertNotEqual(self.asked().votes[-1].object, first.object)
+
+    def test_the_forge_may_drop_approvals_at_a_new_head(self) -> None:
+        self.model.keeps_approvals = False
+        self.model.approve(self.place, "ann")
+        self.model.push(self.place, TWO)
+        self.assertEqual(self.votes(), [])
+        self.model.approve(self.place, "ann")
+        self.assertIn(("ann", True, TWO), self.votes())
+
+    def test_lists_come_by_pages_of_any_size(self) -> None:
+        for _ in range(129):
+            self.model.open(LIB, TWO, "main", "One more")
+        self.model.close(Place(LIB, 60))
+        for n in range(60):
+            self.model.comment(self.place, "ann", f"{n}")
+            self.model.approve(self.place, f"person {n}")
+        self.model.comment(self.place, "ben", "/gate approve")
+        for cap in (100, 50, 7):
+            self.forge.form.cap = cap
+            found = list(self.client.open_requests(LIB))
+            self.assertEqual(sorted(found), [it for it in range(1, 131) if it != 60])
+            wanted = [(f"person {n}", True, ONE) for n in range(60)]
+            self.assertEqual(self.votes(), [*wanted, ("ben", True, self.of_comment(ONE))])
+
+    def test_a_look_doesnt_ask_much(self) -> None:
+        self.model.approve(self.place, "ann")
+        self.model.comment(self.place, "ben", "/gate approve")
+        self.forge.server.asked.clear()
+        self.assertEqual(len(self.votes()), 2)
+        self.assertLessEqual(len(self.forge.server.asked), 5)
+
+    def test_a_hidden_list_isnt_an_empty_one(self) -> None:
+        self.fails(404, lambda: list(self.client.open_requests("acme/other")))
+        self.assertEqual(list(self.client.open_requests(LIB)), [1])
+        self.model.close(self.place)
+        self.assertEqual(list(self.client.open_requests(LIB)), [])
+
+    def test_statuses(self) -> None:
+        for state in (PENDING, SUCCESS, PENDING, FAILURE, FAILURE, PENDING):
+            self.client.set_status(LIB, ONE, state, "ä" * 300)
+            status = self.model.status(LIB, ONE)
+            self.assertEqual(status.state, state)
+            self.assertTrue(status.text == UNDECIDED or set(status.text) == {"ä"})
+        self.assertIsNone(self.model.status(LIB, TWO))
+        self.fails(404 if self.kind == "gitlab" else 422, self.client.set_status, LIB, TWO, PENDING, "waits")
+
+    def test_a_comment_is_kept_up_to_date(self) -> None:
+        self.model.comment(self.place, "ann", "Words")
+        number = self.client.comment(self.place, None, "waits")
+        self.assertEqual(self.client.comment(self.place, number, "tests"), number)
+        [said] = self.model.comments(self.place, GATE)
+        self.assertRegex(said.text, "^tests\n\n<!-- gate [0-9a-f]{32} -->$")
+        self.model.delete_comment(self.place, said)
+        other = self.client.comment(self.place, number, "has landed")
+        self.assertNotEqual(other, number)
+        self.assertEqual(self.shown(), ["has landed"])
+
+    def shown(self) -> list[str]:
+        """What people see of the gate's comments."""
+        return [it.text.partition("\n\n<!--")[0] for it in self.model.comments(self.place, GATE)]
+
+    def test_an_unknown_comment_is_found_again(self) -> None:
+        """The answer to the first one got lost. Who quotes it, or copies another request's, has another one."""
+        for n in range(60):
+            self.model.comment(self.place, "ann", f"{n}")
+        self.model.open(LIB, TWO, "main", "Add two")
+        self.client.comment(Place(LIB, 2), None, "waits")
+        [elsewhere] = self.model.comments(Place(LIB, 2), GATE)
+        self.model.comment(self.place, "ann", elsewhere.text)
+        # Two pages are looked through before.
+        self.forge.server.plan = ["", "", "cut"]
+        self.fails(None, self.client.comment, self.place, None, "waits")
+        [said] = self.model.comments(self.place, GATE)
+        number = self.client.comment(self.place, None, "waits")
+        self.model.comment(self.place, "ann", f"{said.text}\nYes")
+        self.assertEqual(self.client.comment(self.place, None, "tests"), number)
+        self.assertEqual(self.shown(), ["tests"])
+        self.model.delete_comment(self.place, said)
+        self.assertNotEqual(self.client.comment(self.place, None, "has landed"), number)
+        self.assertEqual(len(self.model.comments(self.place, "ann")), 62)
+
+    def test_the_gate_doesnt_approve(self) -> None:
+        self.client.comment(self.place, None, "Write this to approve:\n\n/gate approve")
+        self.assertEqual(self.votes(), [])
+
+    def test_no_comment_where_none_can_be(self) -> None:
+        own = self.model.comment(self.place, "ann", "Words")
+        self.fails(403, self.client.comment, self.place, own.note if self.kind == "gitlab" else own.id, "tests")
+        self.fails(404, self.client.comment, Place(LIB, 9), None, "waits")
+
+    def test_who_may_write(self) -> None:
+        may = {it: self.client.may_write(LIB, it) for it in ("ann", "ben", "cy", "an", "nobody", "a/b?c")}
+        self.assertEqual(may, {"ann": True, "ben": True, "cy": False, "an": False, "nobody": False, "a/b?c": False})
+
+    def test_a_head_has_a_name_in_git(self) -> None:
+        wanted = "refs/merge-requests/7/head" if self.kind == "gitlab" else "refs/pull/7/head"
+        self.assertEqual(self.client.head_ref(7), wanted)
+
+    def test_hooks_say_where_to_look(self) -> None:
+        self.model.push(self.place, TWO)
+        self.model.edit(self.place, text="Words")
+        self.model.approve(self.place, "ann")
+        self.model.comment(self.place, "ann", "Words")
+        for act in (self.model.close, self.model.reopen, lambda place: self.model.merge(place, "lander")):
+            act(self.place)
+        told = self.forge.hooks.waiting
+        self.assertEqual([it.what for it in told], ["opened", "pushed", "edited", "approved", "commented", "closed",
+                                                    "reopened", "merged"])
+        for hook in told:
+            headers = Message()
+            for name, value in hook.headers.items():
+                headers[name.lower()] = value
+            self.assertEqual(self.client.place_of(headers, hook.body), self.place)
+
+    def test_hooks_of_others_arent_read(self) -> None:
+        hook = self.forge.hooks.waiting[0]
+        names = [it for it in hook.headers if "Signature" in it or "Token" in it]
+        for value in ("", "0" * 64, f"sha256={'0' * 64}", "a secreT", "a secretx", "ä"):
+            with self.assertRaises(PermissionError):
+                self.client.place_of({**hook.headers, **dict.fromkeys(names, value)}, hook.body)
+        with self.assertRaises(PermissionError):
+            self.client.place_of({}, b"[" * 100000)
+        with self.assertRaises(ValueError):
+            type(self.client)(self.forge.url, "a token", "")
+
+    def test_a_forge_in_trouble_says_nothing(self) -> None:
+        server = self.forge.server
+        self.model.approve(self.place, "ann")
+        calls = [lambda: self.client.request(self.place), lambda: list(self.client.open_requests(LIB)),
+                 lambda: self.client.set_status(LIB, ONE, SUCCESS, "landed"), lambda: self.client.may_write(LIB, "ann"),
+                 lambda: self.client.comment(self.place, None, "landed"),
+                 lambda: self.client.comment(self.place, 1, "landed")]
+        for call in calls:
+            for trouble, status in (("fail", 500), ("cut", None)):
+                server.plan = [trouble]
+                self.fails(status, call)
+        # Each answer that a look at a request needs may be missing.
+        for before in range(3):
+            server.plan = [*[""] * before, "cut"]
+            self.fails(None, self.client.request, self.place)
+        self.fails(401, self.forge.client(token="another").request, self.place)
+
+    def test_a_slow_forge_isnt_waited_for(self) -> None:
+        self.forge.server.delay = 0.5
+        self.fails(None, self.forge.client(timeout=0.1).request, self.place)
+        self.assertEqual(self.forge.client(timeout=5).request(Place(LIB, 9)), None)
+
+    def test_a_forge_that_is_away(self) -> None:
+        with StandInForge(self.kind) as other:
+            client = other.client()
+        self.fails(None, client.request, self.place)
+
+
+class GitHubTest(EachForm, Case):
+    kind = "github"
+
+    def test_rejections_count_in_order(self) -> None:
+        self.model.comment(self.place, "ann", "/gate approve")
+        self.model.reject(self.place, "ann")
+        self.model.comment(self.place, "ben", "/gate approve")
+        self.assertEqual([it[:2] for it in self.votes()], [("ann", True), ("ann", False), ("ben", True)])
+        self.model.dismiss(self.place, "ann")
+        self.assertEqual([it[:2] for it in self.votes()], [("ben", True)])
+        self.model.comment(self.place, "ann", "/gate approve")
+        self.assertEqual([it[:2] for it in self.votes()], [("ben", True), ("ann", True)])
+
+    def test_within_a_second_a_rejection_is_the_later_one(self) -> None:
+        self.model.pace = timedelta(milliseconds=10)
+        self.model.reject(self.place, "ann")
+        self.model.comment(self.place, "ann", "/gate approve")
+        self.assertEqual([it[:2] for it in self.votes()], [("ann", True), ("ann", False)])
+
+    def test_whose_account_is_deleted_has_no_vote(self) -> None:
+        self.model.approve(self.place, "")
+        self.model.comment(self.place, "", "/gate approve")
+        self.assertEqual(self.votes(), [])
+
+    def test_texts_are_short(self) -> None:
+        self.client.set_status(LIB, ONE, PENDING, "a" * 200)
+        self.assertEqual(self.model.status(LIB, ONE), Status(LIB, ONE, "pending", "a" * 140))
+
+
+class GiteaTest(GitHubTest):
+    kind = "gitea"
+
+
+class GitLabTest(EachForm, Case):
+    kind = "gitlab"
+
+    def of_comment(self, head: str) -> str | None:
+        return head
+
+    def test_a_pending_status_is_set_once_and_never_untrue(self) -> None:
+        for text in ("waits", "tests"):
+            self.client.set_status(LIB, ONE, PENDING, text)
+        self.assertEqual(self.model.statuses, [Status(LIB, ONE, "pending", UNDECIDED)])
+        self.client.set_status(LIB, ONE, FAILURE, "unit failed")
+        self.assertEqual(self.model.status(LIB, ONE), Status(LIB, ONE, "failure", "unit failed"))
+
+    def test_a_fork_has_no_status(self) -> None:
+        self.model.open(LIB, TWO, "main", "From a fork", is_fork=True)
+        self.client.set_status(LIB, TWO, SUCCESS, "landed")
+        self.assertEqual(self.model.statuses, [])
+
+    def test_groups_have_groups(self) -> None:
+        self.model.add("acme/core/lib", "ann")
+        place = self.model.open("acme/core/lib", ONE, "main", "Add one")
+        self.assertEqual(self.client.request(place).head, ONE)
+        self.assertEqual(list(self.client.open_requests("acme/core/lib")), [1])
+
+    def test_a_person_who_takes_it_back_takes_all_back(self) -> None:
+        """A system note is GitLab's alone: who writes the same words says nothing."""
+        self.model.approve(self.place, "ann")
+        self.model.comment(self.place, "ann", "approved this merge request")
+        self.model.comment(self.place, "ann", "/gate approve")
+        self.model.comment(self.place, "ann", "unapproved this merge request")
+        self.assertEqual(self.votes(), [("ann", True, ONE)] * 2)
+        self.model.dismiss(self.place, "ann")
+        self.assertEqual(self.votes(), [])
+
+
+if __name__ == "__main__":
+    unittest.main()

@@ -1,0 +1,206 @@
+"""Which change of the gate a request is, and all that the gate was told of it, in the file of the adapter's outbox.
+
+A change is a request at a branch: (repository, request, branch). What is to be told is written in one step with the
+rows that it follows from, before any of it is sent.
+"""
+from __future__ import annotations
+
+import json
+from collections.abc import Iterable, Iterator
+from contextlib import contextmanager
+from dataclasses import dataclass
+
+from companions.forges import Place
+from companions.gate import Delivery, id_of
+from companions.outbox import Kept, Outbox
+from companions.requests import NO_REVISION, Request, Revision, Telling, Told
+
+# A change has a row once its request is known or named. `told` says whether the gate's present file was told of it.
+# A vote has the change and the revision at which it was first seen, and those that it was told of, once it was.
+TABLES = """
+CREATE TABLE IF NOT EXISTS change(number INTEGER PRIMARY KEY, repository TEXT, request INTEGER, branch TEXT,
+    closed INTEGER DEFAULT 0, landed INTEGER DEFAULT 0, told INTEGER DEFAULT 0, UNIQUE(repository, request, branch));
+CREATE TABLE IF NOT EXISTS revision(change INTEGER, number INTEGER, hash TEXT, needs TEXT,
+    PRIMARY KEY(change, number));
+CREATE TABLE IF NOT EXISTS vote(repository TEXT, request INTEGER, object TEXT, change INTEGER, revision INTEGER,
+    told_change INTEGER, told_revision INTEGER, taken_back INTEGER DEFAULT 0,
+    PRIMARY KEY(repository, request, object));
+CREATE TABLE IF NOT EXISTS telling(place INTEGER PRIMARY KEY AUTOINCREMENT, change INTEGER, id TEXT UNIQUE, said TEXT,
+    answer TEXT);
+CREATE INDEX IF NOT EXISTS telling_change ON telling(change, place);
+CREATE TABLE IF NOT EXISTS remark(change INTEGER, place INTEGER, text TEXT, PRIMARY KEY(change, place));
+"""
+
+# Refusals that say that the gate doesn't have what the delivery is about: told again once it does, they may be taken.
+LACKING = ("E5", "E6", "E7")
+
+
+@dataclass(frozen=True)
+class Change:
+    """A change: the request that it stands for at a branch, and its last revision with that one's commit."""
+    number: int
+    place: Place
+    branch: str
+    revision: int
+    commit: str
+
+
+class Changes:
+    """The changes of requests. The notes' `file` has what ids are made of beside what they stand for."""
+
+    def __init__(self, outbox: Outbox) -> None:
+        self.outbox, self.tables = outbox, outbox.tables
+        self.tables.executescript(TABLES)
+
+    @contextmanager
+    def step(self) -> Iterator[None]:
+        """All that is written within is written at once."""
+        self.tables.execute("BEGIN IMMEDIATE")
+        try:
+            yield
+        except BaseException:
+            self.tables.execute("ROLLBACK")
+            raise
+        self.tables.execute("COMMIT")
+
+    def number(self, place: Place, branch: str) -> int:
+        """The number of a request's change at a branch, which may be new."""
+        self.tables.execute("INSERT OR IGNORE INTO change(repository, request, branch) VALUES (?, ?, ?)",
+                            (place.repository, place.number, branch))
+        return self.of_request(place)[branch]
+
+    def of_request(self, place: Place) -> dict[str, int]:
+        """A request's changes, by their branches."""
+        return dict(self.tables.execute("SELECT branch, number FROM change WHERE repository = ? AND request = ?",
+                                        (place.repository, place.number)).fetchall())
+
+    def stands(self, change: int) -> bool:
+        """Whether the gate's present file was told of a change, and not that it is closed: it can land, or has."""
+        row = self.tables.execute("SELECT told AND NOT closed FROM change WHERE number = ?", (change,)).fetchone()
+        return bool(row[0])
+
+    def told(self, change: int) -> Told:
+        """What was told of a change."""
+        repository, request, closed, landed = self.tables.execute(
+            "SELECT repository, request, closed, landed FROM change WHERE number = ?", (change,)).fetchone()
+        revisions = self.tables.execute("SELECT hash, needs FROM revision WHERE change = ? ORDER BY number", (change,))
+        approvals, seen, withdrawals = {}, {}, set()
+        for row in self.tables.execute("SELECT object, change, revision, told_change, told_revision, taken_back"
+                                       " FROM vote WHERE repository = ? AND request = ?", (repository, request)):
+            name, at, revision, told_at, told_revision, taken_back = row
+            # A vote of another branch is of no revision of this one.
+            seen[name] = revision if at == change else NO_REVISION
+            if told_at is not None:
+                approvals[name] = told_revision if told_at == change else NO_REVISION
+            if taken_back:
+                withdrawals.add(name)
+        return Told(change, tuple(Revision(commit, tuple(json.loads(needs))) for commit, needs in revisions),
+                    bool(closed), bool(landed), False, approvals, frozenset(withdrawals), seen)
+
+    def see(self, so: Request, change: int | None, seen: dict[str, int]) -> None:
+        """Notes votes with the revision of a change at which they are first seen; without a change they are of none."""
+        for name, revision in seen.items():
+            self.tables.execute("INSERT OR IGNORE INTO vote(repository, request, object, change, revision)"
+                                " VALUES (?, ?, ?, ?, ?)", (so.repository, so.number, name, change, revision))
+
+    def keep(self, so: Request, change: int, steps: Iterable[Telling], more: dict[str, str],
+             needs: tuple[int, ...]) -> None:
+        """Keeps deliveries in the change's lane, with all that was told by them then. Call it within a step.
+
+        `more` are the members of a revision's delivery beside its numbers.
+        """
+        for it in steps:
+            said: Delivery = {"kind": it.kind, "change": change, "revision": it.revision}
+            if it.kind == "revision":
+                said |= more
+                self.tables.execute("INSERT INTO revision VALUES (?, ?, ?, ?)",
+                                    (change, it.revision, so.head, json.dumps(needs)))
+                self.tables.execute("UPDATE change SET closed = 0, told = 1 WHERE number = ?", (change,))
+            elif it.kind == "closed":
+                self.tables.execute("UPDATE change SET closed = 1 WHERE number = ?", (change,))
+            for name in it.votes:
+                self.mark(so, name, change, it)
+            self.send_later(change, it, said)
+
+    def mark(self, so: Request, name: str, change: int, telling: Telling) -> None:
+        """Notes that a vote was told, as an approval or as one that was taken back."""
+        set_to = ("told_change = ?, told_revision = ?", (change, telling.revision)) if telling.kind == "approved" else (
+            "taken_back = 1", ())
+        self.tables.execute(f"UPDATE vote SET {set_to[0]} WHERE repository = ? AND request = ? AND object = ?",
+                            (*set_to[1], so.repository, so.number, name))
+
+    def send_later(self, change: int, telling: Telling, said: Delivery) -> None:
+        identity = id_of(self.outbox.get("file")["ids"], telling.kind, change, telling.revision, *telling.stands_for)
+        self.tables.execute("INSERT OR IGNORE INTO telling(change, id, said) VALUES (?, ?, ?)",
+                            (change, identity, json.dumps(said)))
+        self.outbox.keep(Kept(str(change), identity, "forge", said))
+
+    def answered(self, identity: str, reply: str | None, code: str | None) -> None:
+        """Notes the answer to a delivery. Once a revision is recorded, what was told before it is over for good."""
+        row = self.tables.execute("SELECT change, place, said FROM telling WHERE id = ?", (identity,)).fetchone()
+        if row is None:
+            return
+        self.tables.execute("UPDATE telling SET answer = ? WHERE id = ?", (reply or code, identity))
+        if reply == "recorded" and json.loads(row[2])["kind"] == "revision":
+            self.tables.execute("DELETE FROM telling WHERE change = ? AND place < ?", row[:2])
+
+    def land(self, change: int) -> None:
+        """Notes that the gate, or the branch, has a change's landing: nothing more is told of it."""
+        self.tables.execute("UPDATE change SET landed = 1 WHERE number = ?", (change,))
+
+    def refusals(self, change: int) -> list[str]:
+        """The codes of refusals of what was told last of a change."""
+        rows = self.tables.execute("SELECT answer FROM telling WHERE change = ? ORDER BY place", (change,))
+        return [row[0] for row in rows if row[0] and row[0][0] == "E"]
+
+    def remark(self, change: int, lines: Iterable[str]) -> None:
+        """Puts the lines that are to be told on the change's request in the place of those that were."""
+        self.tables.execute("DELETE FROM remark WHERE change = ?", (change,))
+        self.tables.executemany("INSERT INTO remark VALUES (?, ?, ?)",
+                                ((change, place, line) for place, line in enumerate(lines)))
+
+    def remarks(self, change: int) -> list[str]:
+        """What is to be told on the change's request."""
+        rows = self.tables.execute("SELECT text FROM remark WHERE change = ? ORDER BY place", (change,))
+        return [row[0] for row in rows]
+
+    def tell_again(self, change: int | None = None) -> None:
+        """Keeps what was told of a change, or of all, and still holds: what the gate has gets a kept reply.
+
+        What was `stale` came too late once. Told to a gate that was restored it could come too early. Of what has
+        landed in the branch, nothing is told that the gate hasn't taken before. Call it within a step.
+        """
+        lane = None if change is None else str(change)
+        self.tables.execute("DELETE FROM delivery WHERE lane = coalesce(?, lane)", (lane,))
+        rows = self.tables.execute(
+            "SELECT change, id, said, answer, landed FROM telling JOIN change ON change.number = change"
+            " WHERE change = coalesce(?, change) ORDER BY place", (change,))
+        for number, identity, said, answer, landed in rows.fetchall():
+            is_over = answer == "stale" or answer is not None and answer[0] == "E" and answer not in LACKING
+            if not is_over and not (landed and (answer is None or answer in LACKING)):
+                self.outbox.keep(Kept(str(number), identity, "forge", json.loads(said)))
+
+    def forget(self) -> None:
+        """The gate has another file, which was told nothing. Open requests get a next revision, and need new votes."""
+        with self.step():
+            for statement in ("DELETE FROM delivery", "DELETE FROM telling",
+                              "UPDATE change SET closed = 1, told = 0"):
+                self.tables.execute(statement)
+
+    def waits(self, change: int) -> bool:
+        """Whether deliveries of a change are kept that the gate hasn't answered."""
+        return self.tables.execute("SELECT 1 FROM delivery WHERE lane = ?", (str(change),)).fetchone() is not None
+
+    def all_told(self) -> list[Change]:
+        """The changes of which the gate's present file was told, and that haven't been closed."""
+        rows = self.tables.execute(
+            "SELECT change.number, repository, request, branch, max(revision.number), hash FROM change JOIN revision"
+            " ON change = change.number WHERE told AND NOT closed GROUP BY change.number ORDER BY change.number")
+        return [Change(number, Place(repository, request), branch, revision, commit)
+                for number, repository, request, branch, revision, commit in rows]
+
+    def still_open(self, repository: str) -> list[int]:
+        """The requests of a repository that have a change which was neither closed nor has landed."""
+        rows = self.tables.execute("SELECT DISTINCT request FROM change WHERE repository = ? AND told AND NOT closed"
+                                   " AND NOT landed ORDER BY request", (repository,))
+        return [row[0] for row in rows]
