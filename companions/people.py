@@ -1,0 +1,216 @@
+"""People told on their requests: a status of the newest commit, and one comment that is kept up to date.
+
+An adapter has a `People`, and gives it at each look the changes of its requests. Only what changed is written: news at
+once, and how far it is now and then, since forges bound how much may be written.
+"""
+from __future__ import annotations
+
+from collections.abc import Callable, Sequence
+from dataclasses import dataclass
+from typing import Protocol
+
+from companions.forges import FAILURE, PENDING, SUCCESS, ForgeFault, Place
+from companions.gate import Gate, NoAnswer, say
+from companions.outbox import Notes
+from companions.people_gate import Later, Observer
+from companions.people_seen import MARK, Subject, Text, Words, cut
+from companions.people_texts import comment_of, text_of
+from companions.requests import State
+
+PART = "people"
+
+
+class Writer(Protocol):
+    """What of a forge is needed here. Each call may raise `ForgeFault`."""
+
+    def set_status(self, repository: str, commit: str, state: str, text: str) -> None:
+        """Sets the commit's status of the gate."""
+
+    def comment(self, place: Place, comment: int | None, text: str) -> int:
+        """Writes a comment, in the place of an earlier one if there is one, and gives its number."""
+
+
+@dataclass(frozen=True)
+class Manner:
+    """How people are told. `mark` is what stands before a request's number, `logs` the address of a build's log with
+    `{build}` in it. How far a change has come is written every `quiet` seconds, and what the forge didn't take is tried
+    again after `rest`. There are at most `writes` calls of the forge a minute, and `questions` about changes a look."""
+    mark: str = "#"
+    logs: str | None = None
+    quiet: float = 60.0
+    rest: float = 60.0
+    writes: int = 60
+    questions: int = 100
+
+
+@dataclass(frozen=True)
+class Write:
+    """What is to be written under the name of its note: a status, or a comment."""
+    name: str
+    changes: tuple[int, ...]
+    place: Place
+    kind: str
+    commit: str | None
+    state: str
+    text: str
+
+
+class People:
+    """Tells people. Its notes have what was written, and of the gate how each change left its queue last.
+
+    `places` has the request of a change, of all that the adapter knows. `find` gives the number of the comment of a
+    request that ends with a text, if there is one: it is asked where a comment may have been written with no answer.
+    """
+
+    def __init__(self, gate: Gate, notes: Notes, forge: Writer, places: Callable[[int], Place | None],
+                 manner: Manner = Manner(), find: Callable[[Place, str], int | None] | None = None) -> None:
+        self.observer = Observer(gate, notes)
+        self.notes, self.forge, self.places, self.manner, self.find = notes, forge, places, manner, find
+        self.rests: dict[str, float] = {}
+        self.times: list[float] = []
+        self.troubles: set[str] = set()
+
+    def look(self, subjects: Sequence[Subject], now: float) -> frozenset[int]:
+        """One look at the gate, and what follows for these requests. The changes of which all is written by now.
+
+        Of a request give one change: that of its target branch, or the last one where none is gated. A request that
+        isn't open may be left out once the gate has answered that its change is closed, or it has landed, and a look
+        after that has named it.
+        """
+        try:
+            told, unclear = self.texts(subjects)
+        except NoAnswer as fault:
+            self.trouble("gate", f"can't look: no answer of the gate: {fault}")
+            return frozenset()
+        if "gate" in self.troubles:
+            self.troubles.discard("gate")
+            say(PART, "the gate answers again")
+        writes = [*self.statuses(told, unclear), *self.comments(told)]
+        written = self.write(writes, now)
+        left = {change for it in writes if it.name not in written for change in it.changes}
+        return frozenset(it.change for it in subjects if it not in unclear and it.change not in left)
+
+    def ask_again(self, change: int) -> None:
+        """The gate has answered a delivery about a change: what it said of it before holds no more."""
+        self.observer.ask_again(change)
+
+    def texts(self, subjects: Sequence[Subject]) -> tuple[list[tuple[Subject, Text]], set[Subject]]:
+        """The text of each request that has one, and the requests about which only the next look can tell."""
+        self.observer.ask_anew({it.change: it for it in subjects})
+        view = self.observer.view(self.manner.questions)
+        told: list[tuple[Subject, Text]] = []
+        unclear: set[Subject] = set()
+        for subject in subjects:
+            words = Words(self.places, self.manner.mark, self.manner.logs, subject.place.repository)
+            try:
+                text = text_of(subject, self.observer.seen(subject, view), words)
+            except Later:
+                unclear.add(subject)
+                continue
+            if text is not None:
+                told.append((subject, text))
+            elif subject.state is State.OPEN:
+                unclear.add(subject)
+        return told, unclear
+
+    def statuses(self, told: Sequence[tuple[Subject, Text]], unclear: set[Subject]) -> list[Write]:
+        """The status of each commit that isn't written yet. A commit may be that of several requests."""
+        of_commit: dict[tuple[str, str], list[tuple[Subject, Text]]] = {}
+        for subject, text in told:
+            of_commit.setdefault((subject.place.repository, subject.commits[-1]), []).append((subject, text))
+        for it in unclear:
+            of_commit.pop((it.place.repository, it.commits[-1]), None)
+        writes = []
+        for (repository, commit), parts in of_commit.items():
+            state, text = self.together(parts)
+            kind = " ".join(it.kind for _, it in parts)
+            write = Write(f"status {repository} {commit}", tuple(it.change for it, _ in parts), parts[0][0].place, kind,
+                          commit, state, text)
+            noted = self.notes.get(write.name)
+            if noted is None or (noted["state"], noted["text"]) != (state, text):
+                writes.append(write)
+        return writes
+
+    def together(self, parts: Sequence[tuple[Subject, Text]]) -> tuple[str, str]:
+        """The status of a commit by the requests that have it: by those that are open, if any is."""
+        parts = [it for it in parts if it[0].state is State.OPEN] or parts
+        if len(parts) == 1:
+            return parts[0][1].state, cut(parts[0][1].status)
+        states = {it.state for _, it in parts}
+        state = FAILURE if FAILURE in states else PENDING if PENDING in states else SUCCESS
+        return state, cut("; ".join(f"{self.manner.mark}{it.place.number}: {text.status}" for it, text in parts))
+
+    def comments(self, told: Sequence[tuple[Subject, Text]]) -> list[Write]:
+        """The comment of each request that isn't written yet. What is no news isn't worth a first one."""
+        writes = []
+        for subject, text in told:
+            place = subject.place
+            write = Write(f"comment {place.repository} {place.number}", (subject.change,), place, text.kind, None,
+                          text.state, comment_of(subject, text))
+            noted = self.notes.get(write.name)
+            if noted is None and not text.is_news and not subject.lines:
+                continue
+            if noted is None or noted["text"] != write.text:
+                writes.append(write)
+        return writes
+
+    def is_due(self, write: Write, now: float) -> bool:
+        rests_until = self.rests.get(write.name)
+        if rests_until is not None and 0 < rests_until - now <= self.manner.rest:
+            return False
+        is_news, at = self.news(write)
+        return is_news or not 0 <= now - at < self.manner.quiet
+
+    def news(self, write: Write) -> tuple[bool, float]:
+        """Whether what is written there by now is of another kind, and when it was written."""
+        noted = self.notes.get(write.name)
+        return (True, 0.0) if noted is None else (noted["kind"] != write.kind, noted["at"])
+
+    def write(self, writes: list[Write], now: float) -> set[str]:
+        """Writes what is due, the news first, then what is the oldest. The names of what is written.
+
+        After three faults in a row the forge is left alone until the next look.
+        """
+        due = sorted((it for it in writes if self.is_due(it, now)),
+                     key=lambda it: (not self.news(it)[0], self.news(it)[1]))
+        self.times = [it for it in self.times if 0 <= now - it < 60]
+        written: set[str] = set()
+        faults = 0
+        for it in due[:max(0, self.manner.writes - len(self.times))]:
+            self.times.append(now)
+            try:
+                self.put(it, now)
+            except ForgeFault as fault:
+                self.trouble(it.name, f"{it.place.repository}, request {it.place.number}: can't be told: {fault}")
+                self.rests[it.name] = now + self.manner.rest
+                faults += 1
+                if faults == 3:
+                    break
+                continue
+            faults = 0
+            self.rests.pop(it.name, None)
+            self.troubles.discard(it.name)
+            written.add(it.name)
+        return written
+
+    def put(self, write: Write, now: float) -> None:
+        """Writes, and notes it then: what was written and not noted is written again, over itself."""
+        note = {"kind": write.kind, "state": write.state, "text": write.text, "at": now}
+        if write.commit is not None:
+            self.forge.set_status(write.place.repository, write.commit, write.state, write.text)
+            self.notes.put(write.name, note)
+            return
+        noted = self.notes.get(write.name)
+        number = noted["number"] if noted else None
+        if noted is None:
+            # Noted before: who finds this without a number doesn't know whether there is a comment.
+            self.notes.put(write.name, {"number": None, "kind": "", "state": "", "text": "", "at": now})
+        elif number is None and self.find is not None:
+            number = self.find(write.place, MARK)
+        self.notes.put(write.name, {"number": self.forge.comment(write.place, number, write.text), **note})
+
+    def trouble(self, name: str, what: str) -> None:
+        """Says what goes wrong, once until it goes well again."""
+        if name not in self.troubles:
+            say(PART, what)
+        self.troubles.add(name)

@@ -1,0 +1,373 @@
+"""People told by a forge that notes what is written, before a stand-in of a gate."""
+from __future__ import annotations
+
+import contextlib
+import io
+import tempfile
+import unittest
+from pathlib import Path
+from typing import Any
+
+from companions.forges import FAILURE, PENDING, ForgeFault, Place
+from companions.gate import Gate
+from companions.outbox import Notes
+from companions.people import Manner, People
+from companions.people_seen import Subject
+from companions.requests import State
+from companions.tests.people_case import NEWS, PLACES, PretendForge, subject
+from companions.tests.standin import StandIn
+
+GONE = (404, {"code": "E5", "error": "unknown-change"})
+
+class PretendGate:
+    """Two queues, as their texts show them, and the answers about changes and items."""
+
+    def __init__(self) -> None:
+        self.items: list[str] = []
+        self.waiting: list[int] = []
+        self.reports: list[str] = []
+        self.changes: dict[int, dict[str, Any]] = {}
+        self.orders: dict[int, dict[str, Any]] = {}
+        self.answers = True
+
+    def know(self, change: int, *needs: int, **other: Any) -> None:
+        said = [{"change": it, "state": "open", "stands": None, "approval": None} for it in needs]
+        self.changes[change] = {"approval": None, "change": change, "full": False, "needs": said, "order": None,
+                                "queue": "core", "revision": 1, "state": "open", **other}
+
+    def leave(self, order: int, change: int, verdict: str, n: int | str = "-", revision: int = 1) -> None:
+        self.reports.append(f"{order} {change} {revision} {verdict} {n}")
+
+    def build(self, order: int, change: int, jobs: dict[str, bool] | None, *failed: str) -> None:
+        builds = [{"build": at, "job": job, "live": True, "outcome": "failure"} for at, job in enumerate(failed, 17)]
+        told = None if jobs is None else [{"job": job, "slot": "failure", "voting": it} for job, it in jobs.items()]
+        self.orders[order] = {"builds": builds, "change": change, "jobs": told}
+
+    def answer(self, _method: str, path: str, _body: bytes) -> tuple[int, Any] | None:
+        kind, *rest = path[1:].split("/")
+        if not self.answers:
+            return None
+        if kind == "status":
+            waiting = [f"waiting {it} 1" for it in self.waiting]
+            return 200, "\n".join(["queue core window 3 landed 0", *self.items, "queue web window 3 landed 0", *waiting,
+                                   "end", ""])
+        if kind == "history":
+            start = int(rest[1])
+            rows = [] if rest[0] == "web" else [f"{at} {it}" for at, it in enumerate(self.reports, 1)]
+            return 200, "\n".join([f"history {rest[0]}", *rows[start - 1:start + 999], f"end {len(rows)}", ""])
+        said = (self.changes if kind == "changes" else self.orders).get(int(rest[0]))
+        return (200, said) if said is not None else GONE
+
+
+class PeopleTest(unittest.TestCase):
+    def setUp(self) -> None:
+        folder = tempfile.TemporaryDirectory()
+        self.addCleanup(folder.cleanup)
+        self.folder = Path(folder.name)
+        self.gate, self.forge = PretendGate(), PretendForge()
+        self.standin = self.enterContext(StandIn(lambda *asked: self.gate.answer(*asked)))
+        self.errors = self.enterContext(contextlib.redirect_stderr(io.StringIO()))
+        self.people = self.start()
+        self.now = 1000.0
+
+    def start(self, manner: Manner = NEWS, find: bool = True) -> People:
+        return People(Gate(self.standin.url, None), Notes(self.folder / "people.db"), self.forge, PLACES.get, manner,
+                      self.forge.find if find else None)
+
+    def look(self, *subjects: Subject) -> list[str]:
+        """What a look writes."""
+        self.now += 1
+        told = subjects or (subject(101),)
+        self.done = self.people.look(told, self.now)
+        self.is_done = self.done == {it.change for it in told}
+        return self.forge.news()
+
+    def asked(self) -> list[str]:
+        paths = [path for _, path, _ in self.standin.asked]
+        self.standin.asked.clear()
+        return paths
+
+    def test_a_quiet_look_costs_the_status_the_histories_and_one_change(self) -> None:
+        self.gate.items = [f"{it} {it} 1 - ok unit=running" for it in (101, 102)]
+        for it in (103, 104):
+            self.gate.know(it)
+        subjects = [subject(it) for it in PLACES]
+        self.look(*subjects)
+        self.assertTrue(self.is_done)
+        self.asked()
+        self.assertEqual(self.look(*subjects), [])
+        self.assertEqual(self.asked(), ["/status", "/history/core/1", "/history/web/1", "/changes/103"])
+        self.look(*subjects)
+        self.assertEqual(self.asked()[3:], ["/changes/104"])
+
+    def test_what_was_written_is_written_no_more(self) -> None:
+        self.gate.items = ["1 101 1 - ok unit=running"]
+        self.assertEqual(self.look(), ["o/app 101: pending: Testing at place 1 of 1 in core: unit running",
+                                       "o/app 11, comment 1: **Being tested at place 1 of 1 in `core`.**"])
+        self.assertEqual(self.look(), [])
+        self.people = self.start()
+        self.assertEqual(self.look(), [])
+        self.gate.items, self.gate.reports = [], ["1 101 1 landed 1"]
+        self.assertEqual(self.look(), ["o/app 101: success: Landed in core as 1",
+                                       "o/app 11, comment 1: **Landed in `core` as 1.**"])
+
+    def test_no_comment_before_there_is_news(self) -> None:
+        self.gate.know(101)
+        self.assertEqual(self.look(), ["o/app 101: pending: Waits for approval"])
+        self.assertEqual(self.look(subject(101, lines=("Depends-On: x",))),
+                         ["o/app 11, comment 1: **Waits for approval.**"])
+        self.assertIn("\n    Depends-On: x\n", self.forge.comments[1][1])
+        self.look()
+        self.assertNotIn("Depends-On", self.forge.comments[1][1])
+
+    def test_progress_is_written_now_and_then_and_news_at_once(self) -> None:
+        self.people = self.start(Manner(quiet=10.0))
+        self.gate.items = ["1 102 1 - ok unit=running", "2 101 1 1 ok unit=running"]
+        self.assertEqual(len(self.look()), 2)
+        self.gate.items = self.gate.items[1:]
+        self.assertEqual(self.look(), [])
+        self.assertFalse(self.is_done)
+        self.now += 10
+        self.assertEqual(self.look()[0], "o/app 101: pending: Testing at place 1 of 1 in core: unit running")
+        self.assertTrue(self.is_done)
+        self.gate.items = ["2 101 1 1 ok unit=success"]
+        self.assertEqual(self.look()[0], "o/app 101: pending: Tests passed, being landed in core")
+        self.gate.items = ["2 101 1 1 ok unit=running"]
+        self.now -= 500
+        self.assertEqual(len(self.look()), 2, "a clock that was set back holds nothing up")
+
+    def test_a_minute_has_so_many_writes_and_the_news_first(self) -> None:
+        self.people = self.start(Manner(quiet=0.0, writes=2))
+        both = subject(101), subject(102)
+        self.gate.items = ["1 101 1 - ok unit=running", "2 102 1 1 ok unit=running"]
+        self.assertEqual([it.split(":")[0] for it in self.look(*both)], ["o/app 101", "o/app 102"])
+        self.assertEqual((self.look(*both), self.done), ([], set()))
+        self.now += 60
+        self.assertEqual([it.split(":")[0] for it in self.look(*both)], ["o/app 11, comment 1", "o/app 12, comment 2"])
+        self.assertTrue(self.is_done)
+        self.now += 60
+        self.gate.items = ["2 102 1 - ok unit=success", "3 103 1 2 ok unit=running", "4 101 1 3 ok unit=running"]
+        self.assertEqual([it.split(":")[0] for it in self.look(*both)], ["o/app 102", "o/app 12, comment 2"])
+        self.assertEqual(self.done, {102})
+        self.now += 60
+        self.assertEqual([it.split(":")[0] for it in self.look(*both)], ["o/app 101", "o/app 11, comment 1"])
+        self.assertTrue(self.is_done)
+
+    def test_a_history_of_another_file_is_read_anew(self) -> None:
+        self.gate.leave(1, 102, "landed", 1)
+        self.gate.leave(2, 101, "withdrawn")
+        self.assertIn("the earlier one was taken back", self.look()[0])
+        another, shorter = ["1 102 1 landed 1", "3 101 1 refused -"], ["9 101 1 landed 1"]
+        for reports in (another, shorter):
+            with self.subTest(reports):
+                self.gate.reports = reports
+                self.assertEqual(len(self.look()), 2)
+        self.gate.know(101)
+        self.gate.reports = []
+        self.assertEqual(self.look()[0], "o/app 101: pending: Waits for approval")
+
+    def test_a_long_history_comes_by_pages(self) -> None:
+        for order in range(1, 2500):
+            self.gate.leave(order, 102, "withdrawn")
+        self.gate.leave(2500, 101, "landed", 1)
+        self.assertEqual(self.look()[0], "o/app 101: success: Landed in core as 1")
+        self.assertEqual([it for it in self.asked() if "core" in it],
+                         ["/history/core/1", "/history/core/1000", "/history/core/1999"])
+        self.look()
+        self.assertIn("/history/core/2500", self.asked())
+
+    def test_a_report_that_came_since_the_status_counts(self) -> None:
+        self.gate.items = ["5 101 1 - ok unit=running"]
+        self.gate.leave(5, 101, "withdrawn")
+        self.assertIn("the earlier one was taken back", self.look()[0])
+        self.gate.items = ["6 101 1 - ok unit=running"]
+        self.assertIn("Testing", self.look()[0])
+
+    def test_what_a_change_waits_for(self) -> None:
+        self.gate.know(101, 102, approval=3)
+        self.gate.waiting = [101]
+        self.assertEqual(self.look()[0], "o/app 101: pending: Approved, waits for #12, which isn't approved")
+        self.gate.know(102, 101, approval=4)
+        self.gate.changes[101]["needs"][0]["approval"] = 4
+        self.gate.waiting = [101, 102]
+        self.look(subject(101), subject(102))
+        self.look(subject(101), subject(102))
+        self.assertEqual({text for _, text in self.forge.statuses.values()},
+                         {f"Can't enter core: it and #{it} need each other" for it in (11, 12)})
+
+    def test_what_becomes_of_a_need_is_told_at_the_next_look(self) -> None:
+        self.gate.know(101, 102, approval=3)
+        self.gate.waiting = [101]
+        for it in (103, 104):
+            self.gate.know(it)
+        others = subject(103), subject(104)
+        self.look(*others, subject(101))
+        self.gate.changes[101]["needs"][0]["approval"] = 4
+        self.gate.waiting = [101, 102]
+        self.assertEqual(self.look(*others, subject(101))[0],
+                         "o/app 101: pending: Approved, waits for #12, which waits too")
+        self.gate.changes[101]["needs"][0] = {"change": 102, "state": "open", "stands": "web", "approval": None}
+        self.gate.waiting, self.gate.items = [101], ["1 102 1 - ok unit=running"]
+        self.assertEqual(self.look(*others, subject(101))[0],
+                         "o/app 101: pending: Approved, waits for #12 to land in web")
+
+    def test_what_left_and_is_closed_or_approved_again(self) -> None:
+        self.gate.know(101, 102, approval=3)
+        self.gate.leave(5, 101, "withdrawn")
+        self.gate.waiting = [101]
+        self.assertIn("Approved, waits for #12", self.look()[0])
+        self.gate.waiting = []
+        self.gate.know(101, state="closed")
+        self.assertEqual(self.look(subject(101, state=State.CLOSED))[0], "o/app 101: failure: Closed without landing")
+
+    def test_needs_by_name(self) -> None:
+        self.gate.know(101, 102, 103)
+        self.gate.items = ["1 103 1 - ok unit=running", "2 102 1 1 failing unit=failure",
+                           "3 101 1 1 blocked unit=waiting"]
+        self.assertIn("it needs #12, which fails", self.look()[0])
+        self.gate.items = []
+        self.gate.leave(3, 101, "needs")
+        self.assertIn("#12 and #13, which it needs, left without landing", self.look()[0])
+
+    def test_an_answered_delivery_has_the_change_and_those_that_need_it_asked_again(self) -> None:
+        self.gate.know(101, 104, approval=3)
+        self.gate.waiting = [101]
+        for it in (102, 103, 104):
+            self.gate.know(it)
+        subjects = [subject(it) for it in (103, 102, 101, 104)]
+        self.look(*subjects)
+        self.asked()
+        self.gate.changes[101]["needs"][0]["state"] = self.gate.changes[104]["state"] = "closed"
+        self.people.ask_again(104)
+        self.look(*subjects[1:])
+        self.assertEqual({it for it in self.asked() if "changes" in it},
+                         {"/changes/101", "/changes/102", "/changes/104"})
+        self.assertEqual(self.forge.statuses[subjects[2].commits[0]][1],
+                         "Approved, waits for o/lib#14, which is closed")
+
+    def test_questions_are_bounded(self) -> None:
+        self.people = self.start(Manner(questions=2))
+        for it in PLACES:
+            self.gate.know(it)
+        subjects = [subject(it) for it in PLACES]
+        self.look(*subjects)
+        self.assertEqual((len(self.forge.statuses), self.is_done), (2, False))
+        for _ in range(3):
+            self.look(*subjects)
+        self.assertEqual((len(self.forge.statuses), self.is_done), (4, True))
+
+    def test_votes_are_remembered_once_the_item_is_gone(self) -> None:
+        self.gate.items = ["1 102 1 - ok unit=running", "5 101 1 1 failing unit=failure docs=failure"]
+        self.gate.build(5, 101, {"unit": True, "docs": False}, "unit", "docs")
+        self.assertIn("unit failed", self.look()[0])
+        self.gate.items = []
+        self.gate.build(5, 101, None, "unit", "docs")
+        self.gate.leave(5, 101, "failed")
+        self.people = self.start()
+        self.assertEqual(self.look()[0], "o/app 101: failure: unit failed (build 17). Mend it and push, or have it"
+                                         " approved again")
+        self.assertIn("- `unit` failed: [build 17](https://logs/17)\n\nMend it", self.forge.comments[1][1])
+
+    def test_a_comment_is_there_once_though_people_are_killed(self) -> None:
+        class Killed(Exception):
+            pass
+
+        def kill() -> None:
+            self.forge.after = lambda: None
+            raise Killed
+
+        for find, comments in ((True, [1]), (False, [1, 2])):
+            with self.subTest(find=find):
+                self.setUp()
+                self.gate.items = ["1 101 1 - ok unit=running"]
+                self.forge.after = kill
+                self.assertRaises(Killed, self.look)
+                self.people = self.start(find=find)
+                self.look()
+                self.assertEqual(list(self.forge.comments), comments)
+
+    def test_a_comment_that_somebody_removed_is_written_anew(self) -> None:
+        self.gate.items = ["1 101 1 - ok unit=running"]
+        self.look()
+        self.forge.comments = {7: (PLACES[102], "another")}
+        self.gate.items = ["1 101 1 - ok unit=success"]
+        self.assertIn("o/app 11, comment 8", self.look()[1])
+        self.gate.items = ["1 101 1 - ok unit=running"]
+        self.assertIn("o/app 11, comment 8", self.look()[1])
+
+    def test_a_request_that_cannot_be_told_holds_up_no_other(self) -> None:
+        def fault(place: Place | None) -> None:
+            if place == PLACES[101]:
+                raise ForgeFault("403")
+
+        self.gate.items = ["1 101 1 - ok unit=running", "2 102 1 1 ok unit=running"]
+        self.forge.before = fault
+        self.look(subject(101), subject(102))
+        self.look(subject(101), subject(102))
+        self.assertEqual([it for it, _ in self.forge.comments.values()], [PLACES[102]])
+        self.assertEqual(self.errors.getvalue(), "people: o/app, request 11: can't be told: 403\n")
+        self.assertFalse(self.is_done)
+        self.forge.before = lambda place: None
+        self.assertEqual(self.look(subject(101), subject(102)), [])
+        self.now += 60
+        self.assertEqual(len(self.look(subject(101), subject(102))), 1)
+        self.assertTrue(self.is_done)
+
+    def test_a_forge_that_fails_is_left_alone(self) -> None:
+        tried = []
+
+        def fault(place: Place | None) -> None:
+            tried.append(place)
+            raise ForgeFault("500")
+
+        self.gate.items = [f"{it} {it} 1 - ok unit=running" for it in PLACES]
+        self.forge.before = fault
+        self.look(*map(subject, PLACES))
+        self.assertEqual((len(tried), self.is_done), (3, False))
+
+    def test_no_answer_of_the_gate_is_told_once(self) -> None:
+        self.gate.answers = False
+        self.assertEqual((self.look(), self.look(), self.is_done), ([], [], False))
+        self.gate.answers = True
+        self.gate.items = ["1 101 1 - ok unit=running"]
+        self.assertEqual(len(self.look()), 2)
+        lines = self.errors.getvalue().splitlines()
+        self.assertEqual(len(lines), 2, lines)
+        self.assertTrue(lines[0].startswith("people: can't look: no answer of the gate: GET /status: "))
+        self.assertEqual(lines[1], "people: the gate answers again")
+
+    def test_answers_of_another_form_are_none(self) -> None:
+        self.gate.changes[101] = {"revision": 1}
+        self.assertEqual(self.look(), [])
+        self.assertIn("GET /changes/101: not what a gate says: KeyError('state')", self.errors.getvalue())
+
+    def test_requests_with_the_same_commit_share_its_status(self) -> None:
+        both = subject(101, "c"), subject(102, "c")
+        self.gate.items = ["1 101 1 - ok unit=running", "2 102 1 1 ok unit=waiting"]
+        written = self.look(*both)
+        self.assertEqual(written[0], "o/app c: pending: #11: Testing at place 1 of 2 in core: unit running; #12: Queued"
+                                     " at place 2 of 2 in core, waits for a worker")
+        self.assertEqual(self.look(*both), [])
+        self.gate.items = []
+        self.gate.leave(1, 101, "landed", 1)
+        self.gate.leave(2, 102, "withdrawn")
+        self.look(*both)
+        self.assertEqual(self.forge.statuses["c"][0], PENDING)
+        self.look(subject(101, "c", state=State.MERGED), both[1])
+        self.assertEqual(self.forge.statuses["c"], (PENDING, "Waits for approval: the earlier one was taken back"))
+        self.gate.leave(3, 102, "refused")
+        self.look(*both)
+        self.assertEqual(self.forge.statuses["c"][0], FAILURE)
+
+    def test_a_head_that_goes_back_gets_its_status_again(self) -> None:
+        self.gate.know(101)
+        self.look(subject(101, "a"))
+        self.gate.know(101, revision=2)
+        self.gate.leave(1, 101, "superseded")
+        self.look(subject(101, "a", "b"))
+        self.gate.know(101, revision=3)
+        self.assertEqual(self.look(subject(101, "a", "b", "a")), ["o/app a: pending: Waits for a new approval"])
+
+
+if __name__ == "__main__":
+    unittest.main()
