@@ -8,6 +8,7 @@ from __future__ import annotations
 
 import sys
 import time
+from collections.abc import Callable
 from concurrent.futures import Future, ThreadPoolExecutor
 from pathlib import Path
 from typing import Any
@@ -17,6 +18,10 @@ from companions.landings import Branches, Landing
 from companions.outbox import Notes, alone
 from companions.repository import LANDING, REVISION, GitFault, Repository
 from companions.settings import Settings, SettingsFault, read
+
+
+# How long a queue rests whose trouble was told, as a multiple of `gate.pause`.
+REST = 5
 
 
 class QueueStops(Exception):
@@ -39,15 +44,30 @@ class QueueLander:
         # The gate's first accepted delivery, and how many landings of the queue the gate has; none before a look.
         self.first: str | None = None
         self.told = 0
+        self.has_begun = False
 
     def begin(self) -> None:
-        """At the start: the heads that projects have before their first landings are noted, for workers."""
+        """At the start: the heads that projects have before their first landings are noted.
+
+        Without them no worker can make a tree, so no order would ever come.
+        """
         for it in self.repositories.values():
             it.unlock()
         self.branches.look()
+        self.has_begun = True
 
     def carry_out(self, order: Order) -> None:
-        """Lands, refuses or tells an order; `QueueStops` where none of it may be."""
+        """Lands, refuses or tells an order; `QueueStops` where none of it may be.
+
+        After any trouble nothing is taken for known: a push whose end wasn't seen may have been done.
+        """
+        try:
+            self.act(order)
+        except (QueueStops, GitFault, NoAnswer):
+            self.first = None
+            raise
+
+    def act(self, order: Order) -> None:
         if order.project not in self.repositories:
             raise QueueStops(f"order {order.order} is of project {order.project}, which the settings don't have here")
         if not self.is_known():
@@ -111,11 +131,11 @@ class QueueLander:
             self.refuse(order, f"it can't be merged into {project.branch}")
             return
         self.confirm(order)
-        if repository.push({branch: (head, merged), LANDING.format(queue=self.queue, place=place): (None, merged)}):
-            self.branches.moved(order.project, merged)
-            self.tell(order, place)
-        else:
-            self.first = None
+        note = LANDING.format(queue=self.queue, place=place)
+        if not repository.push({branch: (head, merged), note: (None, merged)}):
+            raise GitFault(f"{project.branch} of {project.name} has moved while it was to be pushed to")
+        self.branches.moved(order.project, merged)
+        self.tell(order, place)
 
     def confirm(self, order: Order) -> None:
         """Right before an act: the gate that is there by now shows this very order."""
@@ -126,7 +146,6 @@ class QueueLander:
         """Tells that an order is landed. Without an answer nothing is known, and the orders are looked at again."""
         said = self.answer(order, "landed")
         if said.get("n") != place:
-            self.first = None
             raise QueueStops(f"the landing of change {order.change} is the branches' {place}., and the gate says"
                              f" {said}")
         self.told = place
@@ -141,7 +160,6 @@ class QueueLander:
         told = id_of(str(self.first), kind, self.queue, order.order, order.change, order.revision)
         answer = self.gate.post("forge", {"id": told, "kind": kind, "order": order.order})
         if answer.reply is None:
-            self.first = None
             raise QueueStops(f"{kind} of order {order.order} was refused: {answer.said}")
         self.notes.put(f"last {self.queue}", told)
         return answer.said
@@ -174,38 +192,41 @@ class Lander:
         self.pool = ThreadPoolExecutor(max_workers=len(self.queues))
 
     def run(self) -> None:
-        for it in self.queues.values():
-            self.start(it.queue, it.begin)
         while True:
-            for order in self.gate.until(self.gate.orders, self.settings.pause):
-                self.take(order)
+            self.turn()
             time.sleep(self.settings.pause)
+
+    def turn(self) -> None:
+        """Begins where that hasn't gone well yet, as while a repository was away, and then looks at the orders once."""
+        for it in self.queues.values():
+            if not it.has_begun:
+                self.start(it.queue, it.begin)
+        for order in self.gate.until(self.gate.orders, self.settings.pause):
+            self.take(order)
 
     def take(self, order: Order) -> None:
         queue = self.queues.get(order.queue)
         if queue is None:
             self.tell(order.queue, f"order {order.order} is of project {order.project}, which the settings don't have")
-        elif self.rests.get(order.queue, 0.0) <= time.monotonic():
+        else:
             self.start(order.queue, lambda: queue.carry_out(order))
 
-    def start(self, queue: str, task) -> None:
-        """Has a task done for a queue, unless one is being done."""
+    def start(self, queue: str, task: Callable[[], None]) -> None:
+        """Has a task done for a queue, unless one is being done, or the queue rests."""
         running = self.at_work.get(queue)
-        if running is None or running.done():
+        if (running is None or running.done()) and self.rests.get(queue, 0.0) <= time.monotonic():
             self.at_work[queue] = self.pool.submit(self.do, queue, task)
 
-    def do(self, queue: str, task) -> None:
+    def do(self, queue: str, task: Callable[[], None]) -> None:
         """Does a task; what goes wrong is told, once while it stays the same, and the queue rests for a while."""
         try:
             task()
         except Again:
             return
-        except (QueueStops, GitFault, NoAnswer, OSError) as fault:
-            self.tell(queue, str(fault))
-            self.rests[queue] = time.monotonic() + 5 * self.settings.pause
         except Exception as fault:  # pylint: disable=broad-except
-            self.tell(queue, f"{type(fault).__name__}: {fault}")
-            self.rests[queue] = time.monotonic() + 5 * self.settings.pause
+            is_known = isinstance(fault, (QueueStops, GitFault, NoAnswer, OSError))
+            self.tell(queue, str(fault) if is_known else f"{type(fault).__name__}: {fault}")
+            self.rests[queue] = time.monotonic() + REST * self.settings.pause
         else:
             self.said.pop(queue, None)
 

@@ -1,15 +1,18 @@
 """The lander over real repositories, and a gate that says what a scene has it say."""
 from __future__ import annotations
 
+import dataclasses
 import subprocess
 import tempfile
 import unittest
 from pathlib import Path
 from typing import Any
+from unittest import mock
 
 from companions.gate import Answer, NoAnswer, Order, QueueStatus, Status, id_of
-from companions.lander import Again, QueueLander, QueueStops
+from companions.lander import Again, Lander, QueueLander, QueueStops
 from companions.outbox import Notes
+from companions.repository import GitFault, Repository
 from companions.settings import Project, Settings
 
 FIRST = "0b000000-0000-4000-8000-000000000001"
@@ -161,6 +164,19 @@ class LanderTest(unittest.TestCase):
         self.assertEqual([it.change for it in self.gate.landed], [101])
         self.assertEqual(len({it["id"] for it in self.gate.told}), 1)
 
+    def test_a_push_whose_end_was_not_seen_is_told(self) -> None:
+        def push_and_lose(repository: Repository, updates: dict[str, tuple[str | None, str]]) -> bool:
+            push(repository, updates)
+            raise GitFault("the connection was closed")
+        self.land(1, 101)
+        self.change(102)
+        order, push = self.order(2, 102), Repository.push
+        with mock.patch.object(Repository, "push", push_and_lose), self.assertRaises(GitFault):
+            self.lander.carry_out(order)
+        head = self.head()
+        self.lander.carry_out(order)
+        self.assertEqual(([it.change for it in self.gate.landed], self.head()), ([101, 102], head))
+
     def test_an_order_that_became_another_changes_is_not_told(self) -> None:
         self.change(101)
         order = self.order(1, 101)
@@ -239,6 +255,24 @@ class LanderTest(unittest.TestCase):
         self.change(103)
         with self.assertRaisesRegex(QueueStops, "the gate has 3 landings, and the branches have 2"):
             self.lander.carry_out(self.order(3, 103))
+
+    def test_a_repository_that_is_away_at_the_start_is_noted_later(self) -> None:
+        """Its first head has to be there before any worker can build, so before any order."""
+        (self.folder / "lib").rename(self.folder / "away")
+        every = Lander(dataclasses.replace(self.settings, folder=self.folder / "other", pause=0.01))
+        self.addCleanup(every.pool.shutdown)
+        every.gate = self.gate  # type: ignore[assignment]
+        self.gate.until = lambda ask, pause: ask()  # type: ignore[attr-defined]
+        every.turn()
+        every.at_work["core"].result()
+        (self.folder / "away").rename(self.folder / "lib")
+        self.git("lib", "update-ref", "-d", "refs/landings/core/000000")
+        every.rests.clear()
+        every.turn()
+        every.at_work["core"].result()
+        self.assertIn("lib core/000000", self.notes())
+        every.turn()
+        self.assertEqual((self.gate.told, every.said), ([], {}))
 
     def test_an_unknown_project_and_a_missing_revision_are_told(self) -> None:
         with self.assertRaisesRegex(QueueStops, "is of project site, which the settings don't have"):
