@@ -242,20 +242,25 @@ class Worker:
 
     def report(self, take: str, reply: Reply, outcome: str) -> Reply | None:
         """Tells how a build ended, unless the gate means another one by the take: then that is given."""
-        answer = self.gate.until(lambda: self.exchange(take, reply, outcome), self.settings.pause)
-        if answer.reply == "build":
-            self.say(f"build {reply['build']}: dropped, since the gate has another file")
+        told, answer = self.gate.until(lambda: self.exchange(take, reply, outcome), self.settings.pause)
+        if told:
+            self.say(f"build {reply['build']}: {outcome} was told, and answered {answer.reply or answer.code}")
+        else:
+            self.say(f"build {reply['build']}: dropped, since the gate was restored without it")
+        if not told and answer.reply == "build":
             return answer.said
-        self.say(f"build {reply['build']}: {outcome} was told, and answered {answer.reply or answer.code}")
         self.notes.drop("held")
         return None
 
-    def exchange(self, take: str, reply: Reply, outcome: str) -> Answer:
-        """Sends the take again, and the result only if its reply is the same. Both again where one has no answer."""
+    def exchange(self, take: str, reply: Reply, outcome: str) -> tuple[bool, Answer]:
+        """Sends the take again, and the result only if its reply is the same: whether it was sent, and the last answer.
+
+        Both are sent again where one has no answer.
+        """
         again = self.take(take)
         if again.said != reply:
-            return again
-        return self.gate.post("worker", result_of(take, reply, outcome))
+            return False, again
+        return True, self.gate.post("worker", result_of(take, reply, outcome))
 
     def rest(self) -> None:
         """Rests after a loss, so that a broken machine doesn't take and lose what others could build."""

@@ -142,6 +142,8 @@ class Result(WorkerCase):
         self.gate.before = lambda kind, said: IDLE if len(self.kinds()) == 2 else None
         self.worker.turn()
         self.assertEqual((self.kinds(), self.held()), (["take", "take"], None))
+        self.assertIn("build 7: dropped, since the gate was restored without it", self.errors.getvalue())
+        self.assertNotIn("was told", self.errors.getvalue())
 
     def test_a_file_that_is_replaced_between_two_tries_gets_none(self) -> None:
         """The first try reached nobody, and by the next one the number is another build's."""

@@ -29,8 +29,8 @@ class CarelessLander(lander.QueueLander):
 class KeepingWorker(worker.Worker):
     """Holds on to its build: it neither looks whether the gate still means it, nor sends its take again."""
 
-    def exchange(self, take: str, reply: worker.Reply, outcome: str) -> Answer:
-        return self.gate.post("worker", worker.result_of(take, reply, outcome))
+    def exchange(self, take: str, reply: worker.Reply, outcome: str) -> tuple[bool, Answer]:
+        return True, self.gate.post("worker", worker.result_of(take, reply, outcome))
 
 
 class HastyWorker(worker.Worker):
