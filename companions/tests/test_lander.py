@@ -127,7 +127,8 @@ class LanderTest(unittest.TestCase):
 
     def test_an_order_is_landed(self) -> None:
         self.land(3, 101)
-        self.assertEqual(self.gate.told, [{"id": id_of(FIRST, "landed", "core", 3, 101, 1), "kind": "landed", "order": 3}])
+        told = id_of(FIRST, "landed", "core", 3, 101, 1)
+        self.assertEqual(self.gate.told, [{"id": told, "kind": "landed", "order": 3}])
         self.assertEqual(self.git("lib", "log", "-1", "--format=%B", "main"),
                          f"Land change 101: Make refs/changes/101/1\n\nGate-File: {FIRST}\nGate-Queue: core\n"
                          "Gate-Order: 3\nGate-Change: 101\nGate-Revision: 1")
