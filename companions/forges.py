@@ -75,10 +75,9 @@ class Forge(Protocol):
 
 @dataclass(frozen=True)
 class Opinion:
-    """What a person said at a time: a vote, or none where all that the person said before doesn't hold any more."""
+    """What a person said, and when."""
     at: datetime
-    person: str
-    vote: Vote | None
+    vote: Vote
 
 
 class Api:
@@ -159,15 +158,9 @@ def expected(path: str) -> Iterator[None]:
         raise ForgeFault(f"{path}: not what the forge's documentation says: {fault!r}") from fault
 
 
-def in_force(opinions: Iterable[Opinion]) -> tuple[Vote, ...]:
-    """The votes that hold, the oldest first; those of one time in the order in which they are given."""
-    held: list[Vote] = []
-    for it in sorted(opinions, key=lambda it: it.at):
-        if it.vote is None:
-            held = [vote for vote in held if vote.person != it.person]
-        else:
-            held.append(it.vote)
-    return tuple(held)
+def votes_of(opinions: Iterable[Opinion]) -> tuple[Vote, ...]:
+    """The votes, the oldest first; those of one time in the order in which they are given."""
+    return tuple(it.vote for it in sorted(opinions, key=lambda it: it.at))
 
 
 def time_of(text: str) -> datetime:

@@ -42,7 +42,7 @@ from collections.abc import Iterator, Mapping
 from typing import Any
 
 from companions.forges import (APPROVES, Api, Opinion, Place, approves, as_hook, check_signature, expected, hash_of,
-                               in_force, mark_of, marked, place_at, secret_of, time_of)
+                               mark_of, marked, place_at, secret_of, time_of, votes_of)
 from companions.requests import Request, State, Vote
 
 __all__ = ["APPROVES", "GitHub", "Gitea"]
@@ -88,27 +88,25 @@ class GitHub:
         with expected(self.path(place)):
             state = State.MERGED if said["merged"] else State(said["state"])
             # At one and the same second a review counts as the later one: it may be against.
-            votes = in_force([*self.comments(place), *self.reviews(place)])
+            votes = votes_of([*self.comments(place), *self.reviews(place)])
             return Request(place.repository, place.number, state, hash_of(said["head"]["sha"]), said["base"]["ref"],
                            said["title"] or "", said.get("body") or "", votes)
 
     def reviews(self, place: Place) -> Iterator[Opinion]:
-        """What reviews say. One that was dismissed lets no earlier one of its author come back."""
         for it in self.rows(self.path(place) + "/reviews"):
             says = self.verdict(it)
             # Nobody is named where the account was deleted.
             if says is None or not it.get("user"):
                 continue
-            person, vote = it["user"]["login"], None
-            if says != "dismissed":
-                vote = Vote(f"review {it['id']}", person, says == "approves", it.get("commit_id") or None)
-            yield Opinion(time_of(it["submitted_at"]), person, vote)
+            approves_it = None if says == "dismissed" else says == "approves"
+            vote = Vote(f"review {it['id']}", it["user"]["login"], approves_it, it.get("commit_id") or None)
+            yield Opinion(time_of(it["submitted_at"]), vote)
 
     def comments(self, place: Place) -> Iterator[Opinion]:
         for it in self.rows(self.path(place, "issues") + "/comments"):
             if approves(it.get("body"), mark_of(self.secret, place)) and it.get("user"):
-                person = it["user"]["login"]
-                yield Opinion(time_of(it["created_at"]), person, Vote(f"comment {it['id']}", person, True, None))
+                vote = Vote(f"comment {it['id']}", it["user"]["login"], True, None)
+                yield Opinion(time_of(it["created_at"]), vote)
 
     def verdict(self, review: dict[str, Any]) -> str | None:
         """What a review says: approves, rejects, or dismissed; none where it says nothing of these."""

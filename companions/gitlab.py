@@ -43,7 +43,7 @@ from datetime import datetime
 from typing import Any
 
 from companions.forges import (PENDING, Api, ForgeFault, Opinion, Place, approves, as_hook, check_same, expected,
-                               hash_of, in_force, mark_of, marked, place_at, secret_of, time_of)
+                               hash_of, mark_of, marked, place_at, secret_of, time_of, votes_of)
 from companions.requests import Request, State, Vote
 
 STATES = {"opened": State.OPEN, "locked": State.OPEN, "closed": State.CLOSED, "merged": State.MERGED}
@@ -89,20 +89,20 @@ class GitLab:
         with expected(self.path(place)):
             return Request(place.repository, place.number, STATES[said["state"]], hash_of(said["sha"]),
                            said["target_branch"], said["title"] or "", said.get("description") or "",
-                           in_force(self.opinions(place)))
+                           votes_of(self.opinions(place)))
 
     def opinions(self, place: Place) -> Iterator[Opinion]:
-        """Approvals by their notes, while GitLab still counts them, comments, and the approvals taken back."""
+        """Approvals by their notes, while GitLab still counts them, comments, and what takes approvals back."""
         said = self.api.call("GET", self.path(place) + "/approvals")
         approving = {it["user"]["username"] for it in said["approved_by"]}
         versions, mark = list[tuple[datetime, str]](), mark_of(self.secret, place)
         for it in self.rows(self.path(place) + "/notes?sort=asc&order_by=created_at"):
             person, at, body = it["author"]["username"], time_of(it["created_at"]), (it.get("body") or "").strip()
             if it["system"] and body == UNAPPROVED:
-                yield Opinion(at, person, None)
+                yield Opinion(at, Vote(f"note {it['id']}", person, None, None))
             elif body == APPROVED and person in approving if it["system"] else approves(body, mark):
                 versions = versions or self.versions(place)
-                yield Opinion(at, person, Vote(f"note {it['id']}", person, True, commit_at(versions, at)))
+                yield Opinion(at, Vote(f"note {it['id']}", person, True, commit_at(versions, at)))
 
     def versions(self, place: Place) -> list[tuple[datetime, str]]:
         """The heads that the request had, the oldest first, and since when."""

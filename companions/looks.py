@@ -157,8 +157,8 @@ class Looks:
                 self.changes.land(change)
 
     def be_sure(self, so: Request, seen: dict[str, int]) -> None:
-        """A vote that names no commit is of what the forge shows before it and behind it."""
-        if any(it.commit is None and seen.get(it.object, NO_REVISION) != NO_REVISION for it in so.votes):
+        """An approval that names no commit is of what the forge shows before it and behind it."""
+        if any(it.approves and it.commit is None and seen.get(it.object, NO_REVISION) != NO_REVISION for it in so.votes):
             again = self.forge.request(Place(so.repository, so.number))
             if again is None or replace(again, votes=()) != replace(so, votes=()):
                 raise Again

@@ -23,7 +23,8 @@ class State(enum.Enum):
 class Vote:
     """An object of the forge by which a person approves a request, or objects: a review, a comment, an event.
 
-    `approves` is none for one that was dismissed: it says nothing any more, and neither do the person's earlier ones.
+    `approves` is none for one that was dismissed, or that takes an approval back: from then on it says nothing, and
+    neither do the person's earlier ones.
     `commit` is the one that it was made for, or none where the forge doesn't say.
     """
     object: str

@@ -187,6 +187,7 @@ class GiteaTest(DocumentedCase):
         form = Gitea(self.serve(one=GITEA_PULL, reviews=GITEA_REVIEWS, comments=GITEA_COMMENTS), "token", "secret")
         self.assertEqual(form.request(Place("acme/lib", 7)), Request(
             "acme/lib", 7, State.MERGED, HEAD, "main", "Add one", "", (Vote("review 6", "ann", False, OTHER),
+                                                                      Vote("review 7", "ben", None, HEAD),
                                                                       Vote("review 8", "cy", True, HEAD),
                                                                       Vote("comment 8", "ben", True, None))))
 

@@ -23,7 +23,14 @@ class Case(unittest.TestCase):
         self.place = self.model.open(LIB, ONE, "main", "Add one")
 
     def votes(self) -> list[tuple[str, bool, str | None]]:
-        return [(it.person, it.approves, it.commit) for it in self.asked().votes]
+        """The votes that say something still: what dismisses one takes its person's earlier ones away."""
+        held: list[tuple[str, bool, str | None]] = []
+        for it in self.asked().votes:
+            if it.approves is None:
+                held = [vote for vote in held if vote[0] != it.person]
+            else:
+                held.append((it.person, it.approves, it.commit))
+        return held
 
     def asked(self) -> Request:
         request = self.client.request(self.place)
