@@ -13,7 +13,7 @@ from companions.forges import FAILURE, PENDING, SUCCESS, ForgeFault, Place
 from companions.gate import Gate, NoAnswer, say
 from companions.outbox import Notes
 from companions.people_gate import Later, Observer
-from companions.people_seen import MARK, Subject, Text, Words, cut
+from companions.people_seen import Subject, Text, Words, cut
 from companions.people_texts import comment_of, text_of
 from companions.requests import State
 
@@ -34,12 +34,14 @@ class Writer(Protocol):
 class Manner:
     """How people are told. `mark` is what stands before a request's number, `logs` the address of a build's log with
     `{build}` in it. How far a change has come is written every `quiet` seconds, and what the forge didn't take is tried
-    again after `rest`. There are at most `writes` calls of the forge a minute, and `questions` about changes a look."""
+    again after `rest`. There are at most `writes` calls of the forge a minute and `burst` a look, and `questions` about
+    changes a look."""
     mark: str = "#"
     logs: str | None = None
     quiet: float = 60.0
     rest: float = 60.0
     writes: int = 60
+    burst: int = 10
     questions: int = 100
 
 
@@ -58,37 +60,39 @@ class Write:
 class People:
     """Tells people. Its notes have what was written, and of the gate how each change left its queue last.
 
-    `places` has the request of a change, of all that the adapter knows. `find` gives the number of the comment of a
-    request that ends with a text, if there is one: it is asked where a comment may have been written with no answer.
+    `places` has the request of a change, of all that the adapter knows.
     """
 
     def __init__(self, gate: Gate, notes: Notes, forge: Writer, places: Callable[[int], Place | None],
-                 manner: Manner = Manner(), find: Callable[[Place, str], int | None] | None = None) -> None:
+                 manner: Manner = Manner()) -> None:
         self.observer = Observer(gate, notes)
-        self.notes, self.forge, self.places, self.manner, self.find = notes, forge, places, manner, find
+        self.notes, self.forge, self.places, self.manner = notes, forge, places, manner
         self.rests: dict[str, float] = {}
         self.times: list[float] = []
         self.troubles: set[str] = set()
 
-    def look(self, subjects: Sequence[Subject], now: float) -> frozenset[int]:
-        """One look at the gate, and what follows for these requests. The changes of which all is written by now.
+    def look(self, subjects: Sequence[Subject], now: float) -> dict[int, str]:
+        """One look at the gate, and what follows for these requests. The changes of which all is written by now, each
+        with the kind of its text; that is empty where there is nothing to say.
 
         Of a request give one change: that of its target branch, or the last one where none is gated. A request that
         isn't open may be left out once the gate has answered that its change is closed, or it has landed, and a look
-        after that has named it.
+        after that has written so.
         """
         try:
             told, unclear = self.texts(subjects)
         except NoAnswer as fault:
             self.trouble("gate", f"can't look: no answer of the gate: {fault}")
-            return frozenset()
+            return {}
         if "gate" in self.troubles:
             self.troubles.discard("gate")
             say(PART, "the gate answers again")
         writes = [*self.statuses(told, unclear), *self.comments(told)]
         written = self.write(writes, now)
         left = {change for it in writes if it.name not in written for change in it.changes}
-        return frozenset(it.change for it in subjects if it not in unclear and it.change not in left)
+        kinds = {it.change: text.kind for it, text in told}
+        return {it.change: kinds.get(it.change, "") for it in subjects
+                if it not in unclear and it.change not in left}
 
     def ask_again(self, change: int) -> None:
         """The gate has answered a delivery about a change: what it said of it before holds no more."""
@@ -148,7 +152,7 @@ class People:
             write = Write(f"comment {place.repository} {place.number}", (subject.change,), place, text.kind, None,
                           text.state, comment_of(subject, text))
             noted = self.notes.get(write.name)
-            if noted is None and not text.is_news and not subject.lines:
+            if noted is None and not text.is_news and not subject.lines and not subject.votes:
                 continue
             if noted is None or noted["text"] != write.text:
                 writes.append(write)
@@ -176,7 +180,7 @@ class People:
         self.times = [it for it in self.times if 0 <= now - it < 60]
         written: set[str] = set()
         faults = 0
-        for it in due[:max(0, self.manner.writes - len(self.times))]:
+        for it in due[:max(0, min(self.manner.burst, self.manner.writes - len(self.times)))]:
             self.times.append(now)
             try:
                 self.put(it, now)
@@ -201,13 +205,11 @@ class People:
             self.notes.put(write.name, note)
             return
         noted = self.notes.get(write.name)
-        number = noted["number"] if noted else None
         if noted is None:
-            # Noted before: who finds this without a number doesn't know whether there is a comment.
+            # Noted before: whatever comes of it, there may be a comment, which is kept up to date from now on.
             self.notes.put(write.name, {"number": None, "kind": "", "state": "", "text": "", "at": now})
-        elif number is None and self.find is not None:
-            number = self.find(write.place, MARK)
-        self.notes.put(write.name, {"number": self.forge.comment(write.place, number, write.text), **note})
+        number = self.forge.comment(write.place, noted["number"] if noted else None, write.text)
+        self.notes.put(write.name, {"number": number, **note})
 
     def trouble(self, name: str, what: str) -> None:
         """Says what goes wrong, once until it goes well again."""

@@ -10,8 +10,6 @@ from companions.requests import State
 
 # The most characters that GitHub takes in a status.
 LONGEST = 140
-# By these a comment of the gate is found again. No forge shows them.
-MARK = "<!-- gate -->"
 SLOTS = {"failure": "failed", "running": "running", "waiting": "waiting", "success": "passed", "skipped": "skipped"}
 
 
@@ -19,14 +17,16 @@ SLOTS = {"failure": "failed", "running": "running", "waiting": "waiting", "succe
 class Subject:
     """A change whose request's people are told.
 
-    `commits` are those of its revisions, from the first. `lines` are those of its text that name no request, `refused`
-    is the gate's code where it didn't take the last revision, and `is_gated` whether its target branch is a project's.
+    `commits` are those of its revisions, from the first. `lines` are those of its text that name no request, `votes`
+    say why approvals of it don't count, `refused` is the gate's code where it didn't take the last revision, and
+    `is_gated` whether its target branch is a project's.
     """
     change: int
     place: Place
     commits: tuple[str, ...]
     state: State = State.OPEN
     lines: tuple[str, ...] = ()
+    votes: tuple[str, ...] = ()
     refused: str | None = None
     is_gated: bool = True
 

@@ -4,13 +4,16 @@ Nothing here asks anybody. Each text is true of what is given, and says what the
 """
 from __future__ import annotations
 
-from collections.abc import Mapping
+from collections.abc import Mapping, Sequence
 from typing import Any
 
 from companions.forges import FAILURE, PENDING, SUCCESS
 from companions.people_seen import (
-    MARK, Item, Report, Seen, Subject, Text, Words, failures_of, listed, marked_jobs, plain, short_jobs)
+    Item, Report, Seen, Subject, Text, Words, failures_of, listed, marked_jobs, plain, short_jobs)
 from companions.requests import State
+
+# The kinds of texts behind which nothing more comes, unless the request is opened again.
+ENDS = ("landed", "closed")
 
 REFUSALS = {"E13": ("it needs over 32 requests", "Name at most 32 in its `Depends-On` lines."),
             "E7": ("it has no such project", "Tell who runs the gate."),
@@ -50,14 +53,20 @@ def text_of(subject: Subject, seen: Seen, words: Words) -> Text | None:
 
 
 def comment_of(subject: Subject, text: Text) -> str:
-    """A comment as it is written: what the text says, and the lines that name no request."""
+    """A comment as it is written: what the text says, why approvals don't count, and the lines that name no request."""
     parts = list(text.comment)
+    if subject.votes and text.kind not in ENDS:
+        parts += ["These votes don't approve it:", block(subject.votes)]
     if subject.lines:
-        shown = [f"    {plain(it)}" for it in subject.lines[:10]]
-        more = f"\n\nand {len(subject.lines) - 10} more" if len(subject.lines) > 10 else ""
         parts += ["These lines of its text name no request that the gate takes, so nothing is waited for:",
-                  "\n".join(shown) + more, "Mend them in the text of the request."]
-    return "\n\n".join([*parts, MARK])
+                  block(subject.lines), "Mend them in the text of the request."]
+    return "\n\n".join(parts)
+
+
+def block(lines: Sequence[str], most: int = 10) -> str:
+    """Lines of people, shown as they are."""
+    more = f"\n\nand {len(lines) - most} more" if len(lines) > most else ""
+    return "\n".join(f"    {plain(it)}" for it in lines[:most]) + more
 
 
 def unknown() -> Text:

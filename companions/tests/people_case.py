@@ -34,14 +34,15 @@ class PretendForge:
     def comment(self, place: Place, comment: int | None, text: str) -> int:
         self.before(place)
         if comment not in self.comments:
-            comment = 1 + max(self.comments, default=0)
+            # As forges' forms do, which know their own comments.
+            comment = self.find(place) or 1 + max(self.comments, default=0)
         self.comments[comment] = place, text
         self.written.append(f"{place.repository} {place.number}, comment {comment}: {text.splitlines()[0]}")
         self.after()
         return comment
 
-    def find(self, place: Place, ending: str) -> int | None:
-        return next((at for at, it in self.comments.items() if it[0] == place and it[1].endswith(ending)), None)
+    def find(self, place: Place) -> int | None:
+        return next((at for at, it in self.comments.items() if it[0] == place), None)
 
     def news(self) -> list[str]:
         news, self.written = self.written, []

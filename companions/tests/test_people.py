@@ -70,16 +70,15 @@ class PeopleTest(unittest.TestCase):
         self.people = self.start()
         self.now = 1000.0
 
-    def start(self, manner: Manner = NEWS, find: bool = True) -> People:
-        return People(Gate(self.standin.url, None), Notes(self.folder / "people.db"), self.forge, PLACES.get, manner,
-                      self.forge.find if find else None)
+    def start(self, manner: Manner = NEWS) -> People:
+        return People(Gate(self.standin.url, None), Notes(self.folder / "people.db"), self.forge, PLACES.get, manner)
 
     def look(self, *subjects: Subject) -> list[str]:
         """What a look writes."""
         self.now += 1
         told = subjects or (subject(101),)
         self.done = self.people.look(told, self.now)
-        self.is_done = self.done == {it.change for it in told}
+        self.is_done = set(self.done) == {it.change for it in told}
         return self.forge.news()
 
     def asked(self) -> list[str]:
@@ -141,16 +140,23 @@ class PeopleTest(unittest.TestCase):
         both = subject(101), subject(102)
         self.gate.items = ["1 101 1 - ok unit=running", "2 102 1 1 ok unit=running"]
         self.assertEqual([it.split(":")[0] for it in self.look(*both)], ["o/app 101", "o/app 102"])
-        self.assertEqual((self.look(*both), self.done), ([], set()))
+        self.assertEqual((self.look(*both), self.done), ([], {}))
         self.now += 60
         self.assertEqual([it.split(":")[0] for it in self.look(*both)], ["o/app 11, comment 1", "o/app 12, comment 2"])
         self.assertTrue(self.is_done)
         self.now += 60
         self.gate.items = ["2 102 1 - ok unit=success", "3 103 1 2 ok unit=running", "4 101 1 3 ok unit=running"]
         self.assertEqual([it.split(":")[0] for it in self.look(*both)], ["o/app 102", "o/app 12, comment 2"])
-        self.assertEqual(self.done, {102})
+        self.assertEqual(self.done, {102: "landing"})
         self.now += 60
         self.assertEqual([it.split(":")[0] for it in self.look(*both)], ["o/app 101", "o/app 11, comment 1"])
+        self.assertTrue(self.is_done)
+
+    def test_a_look_writes_so_much_and_the_next_one_goes_on(self) -> None:
+        self.people = self.start(Manner(quiet=0.0, burst=3))
+        self.gate.items = [f"{it} {it} 1 - ok unit=running" for it in PLACES]
+        subjects = [subject(it) for it in PLACES]
+        self.assertEqual([len(self.look(*subjects)) for _ in range(4)], [3, 3, 2, 0])
         self.assertTrue(self.is_done)
 
     def test_a_history_of_another_file_is_read_anew(self) -> None:
@@ -276,15 +282,15 @@ class PeopleTest(unittest.TestCase):
             self.forge.after = lambda: None
             raise Killed
 
-        for find, comments in ((True, [1]), (False, [1, 2])):
-            with self.subTest(find=find):
-                self.setUp()
-                self.gate.items = ["1 101 1 - ok unit=running"]
-                self.forge.after = kill
-                self.assertRaises(Killed, self.look)
-                self.people = self.start(find=find)
-                self.look()
-                self.assertEqual(list(self.forge.comments), comments)
+        self.gate.items = ["1 101 1 - ok unit=running"]
+        self.forge.after = kill
+        self.assertRaises(Killed, self.look)
+        self.people = self.start()
+        self.gate.items = []
+        self.gate.know(101)
+        self.look()
+        self.assertEqual(list(self.forge.comments), [1])
+        self.assertIn("Waits for approval", self.forge.comments[1][1])
 
     def test_a_comment_that_somebody_removed_is_written_anew(self) -> None:
         self.gate.items = ["1 101 1 - ok unit=running"]

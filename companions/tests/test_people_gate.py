@@ -10,7 +10,7 @@ from companions.forges import SUCCESS
 from companions.gate import Gate
 from companions.outbox import Notes
 from companions.people import People
-from companions.people_seen import MARK, Subject
+from companions.people_seen import Subject
 from companions.requests import State
 from companions.tests.people_case import NEWS, PLACES, PretendForge, subject
 from companions.tests.service import ServiceTest
@@ -24,8 +24,7 @@ class PeopleOfAGateTest(ServiceTest):
         self.url = self.serve(self.gate("gate.db", []))[1]
         self.gate_at = Gate(self.url, None)
         self.forge, self.at, self.now = PretendForge(), 0, 0.0
-        self.people = People(self.gate_at, Notes(self.folder / "people.db"), self.forge, PLACES.get, NEWS,
-                             self.forge.find)
+        self.people = People(self.gate_at, Notes(self.folder / "people.db"), self.forge, PLACES.get, NEWS)
 
     def tell(self, kind: str, **said: Any) -> dict[str, Any]:
         self.at += 1
@@ -149,10 +148,9 @@ class PeopleOfAGateTest(ServiceTest):
             102: "failure: unit failed (build 2). Mend it and push, or have it approved again",
             103: "pending: Approved, waits for o/lib#14, which isn't approved",
             104: "failure: Left core: o/app#12, which it needs, left without landing"})
-        self.assertEqual(self.forge.comments[self.forge.find(PLACES[102], MARK) or 0][1], (
+        self.assertEqual(self.forge.comments[self.forge.find(PLACES[102]) or 0][1], (
             "**Left `core`: its tests failed.**\n\n- `unit` failed: [build 2](https://logs/2)\n\nMend it, push,"
-            " and have the new commit approved. If it failed by chance, have it approved again as it is.\n\n"
-            "<!-- gate -->"))
+            " and have the new commit approved. If it failed by chance, have it approved again as it is."))
         self.assertEqual(len(self.forge.comments), 4)
         self.losses_and_ends()
 

@@ -45,6 +45,7 @@ def report(verdict: str, n: int | None = None, revision: int = 1) -> Report:
 
 
 AHEAD, FAILS = "4 102 1 - ok unit=running", "4 102 1 - failing unit=failure docs=running"
+VOTES = ("bob isn't among those who may approve: review 3 doesn't count", "eve objects (review 4)")
 LINES = tuple(f"Depends-On: <b>@all</b> \x1b`{at}`" for at in range(12))
 CASES: dict[str, tuple[Subject, Seen]] = {
     "not known yet": (subject(), Seen()),
@@ -117,6 +118,9 @@ CASES: dict[str, tuple[Subject, Seen]] = {
     "landed, and the history isn't read so far": (subject(), Seen(known=known(state="landed"))),
     "closed": (subject(state=State.CLOSED), Seen(known=known(state="closed"), report=report("closed"))),
     "closed, which the gate isn't told yet": (subject(state=State.CLOSED), Seen(item("5 101 1 - ok unit=waiting"))),
+    "approved by one who may not": (subject(votes=VOTES), Seen(known=known())),
+    "merged past the gate, approved by one who may not": (
+        subject(votes=VOTES, state=State.MERGED), Seen(known=known(state="closed"))),
     "merged past the gate": (subject(state=State.MERGED), Seen(known=known(state="closed"))),
     "retargeted to a branch that isn't gated": (subject(is_gated=False), Seen(known=known(state="closed"))),
     "retargeted while it stands in the queue": (subject(is_gated=False), Seen(item("5 101 1 - ok unit=success"))),
