@@ -1,9 +1,10 @@
-"""Tells a gate what is so in a forge: revisions of requests, their approvals, and that they are closed.
+"""Tells a gate what is so in a forge, and people on their requests what became of them at the gate.
 
     python3 -m companions.adapter companions.toml
 
-A hook is a hint to look at a request. All open ones are looked at besides at the start and every few minutes, so that
-hooks may be lost, late or doubled. It may be killed anywhere and started again.
+The gate is told of revisions of requests, their approvals, and that they are closed. A hook is a hint to look at a
+request. All open ones are looked at besides at the start and every few minutes, so that hooks may be lost, late or
+doubled. People are told by a commit status and by one comment. It may be killed anywhere and started again.
 """
 from __future__ import annotations
 
@@ -19,9 +20,11 @@ from companions.gate_file import GateFile
 from companions.github import Gitea, GitHub
 from companions.gitlab import GitLab
 from companions.hooks import Hints, Hooks, serve
-from companions.looks import Again, Looks
-from companions.outbox import Kept, Outbox, alone
+from companions.looks import Again, Looks, names_of
+from companions.outbox import Kept, Notes, Outbox, alone
+from companions.people import Manner, People
 from companions.settings import Settings, SettingsFault, read
+from companions.subjects import Subjects
 from companions.told import Changes
 
 FORMS: dict[str, Callable[[str, str, str], Forge]] = {"gitea": Gitea, "github": GitHub, "gitlab": GitLab}
@@ -33,7 +36,7 @@ REST = 5
 
 
 class Adapter:
-    """What is done over and over: look where a hint says so, and send what is to be told."""
+    """What is done over and over: look where a hint says so, send what is to be told, and tell people."""
 
     def __init__(self, settings: Settings, forge: Forge) -> None:
         assert settings.adapter is not None
@@ -41,9 +44,13 @@ class Adapter:
         file = settings.folder / "adapter" / "adapter.db"
         self.outbox, self.hints = Outbox(file), Hints(file)
         self.changes = Changes(self.outbox)
+        self.subjects = Subjects(self.changes)
         self.gate = Gate(settings.url, settings.account("forge"), part="adapter")
         self.file = GateFile(self.outbox, self.gate, self.is_other, self.is_earlier)
-        self.looks = Looks(settings, settings.adapter, forge, self.gate, self.changes)
+        self.looks = Looks(settings, settings.adapter, forge, self.gate, self.subjects)
+        manner = Manner(forge.mark, settings.adapter.logs, settings.adapter.quiet)
+        self.people = People(self.gate, Notes(file.with_name("people.db")), forge, self.changes.place, manner)
+        self.look, self.look_at = settings.adapter.look, 0.0
         for it in self.looks.repositories.values():
             it.unlock()
         self.compare_at = 0.0
@@ -62,6 +69,9 @@ class Adapter:
                 self.file.ask()
                 self.outbox.send(self.gate, self.answered, self.settings.pause)
             self.trouble("gate", None)
+            if now >= self.look_at:
+                self.look_at = now + self.look
+                self.tell_people()
         except NoAnswer as fault:
             self.file.is_known = False
             self.trouble("gate", f"no answer of the gate: {fault}")
@@ -94,6 +104,10 @@ class Adapter:
             if faults == FAULTS:
                 return
 
+    def tell_people(self) -> None:
+        for change, kind in self.people.look(self.subjects.all(), time.time()).items():
+            self.subjects.written(change, kind)
+
     def attempt(self, name: str, task: Callable[[], None]) -> bool:
         """Whether nothing went wrong. What did is told, once while it stays the same; the gate's silence is raised."""
         try:
@@ -122,6 +136,7 @@ class Adapter:
     def answered(self, delivery: Kept, answer: Answer) -> None:
         """Notes an answer, and says it."""
         self.changes.answered(delivery.id, answer.reply, answer.code)
+        self.people.ask_again(delivery.said["change"])
         self.file.accepted(delivery, answer)
         said = delivery.said
         heard = answer.reply or f"refused: {answer.code} {answer.said.get('error')}"
@@ -134,7 +149,7 @@ class Adapter:
 
     def is_earlier(self) -> None:
         """The gate was restored. What the branches have by now is noted before anything is told again."""
-        self.looks.note_landings()
+        self.looks.note_all_landings()
         with self.changes.step():
             self.changes.tell_again()
 
@@ -162,9 +177,8 @@ def main(words: list[str]) -> int:
         return 1
     it = settings.adapter
     adapter, came = Adapter(settings, FORMS[it.form](it.url, it.token, it.secret)), threading.Event()
-    repositories = (project.forge for project in settings.projects.values())
     try:
-        hooks = Hooks((it.host, it.port), adapter.hints, adapter.forge, repositories, came)
+        hooks = Hooks((it.host, it.port), adapter.hints, adapter.forge, names_of(settings), came)
     except OSError as fault:
         say("adapter", f"stops: nothing can listen at {it.host}:{it.port}: {fault.strerror}")
         return 1

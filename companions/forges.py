@@ -43,7 +43,8 @@ class Place:
 
 
 class Forge(Protocol):
-    """A forge. Each call may raise `ForgeFault`."""
+    """A forge. Each call may raise `ForgeFault`. `mark` is what stands before a request's number."""
+    mark: str
 
     def place_of(self, headers: Mapping[str, str], body: bytes) -> Place | None:
         """The request that a hook is about, if it is about one. `PermissionError` if it isn't signed by the secret.

@@ -51,6 +51,7 @@ __all__ = ["APPROVES", "GitHub", "Gitea"]
 class GitHub:
     """GitHub, by an access token and the secret of its hooks."""
 
+    mark = "#"
     page_size = "per_page"
     has_links = True
     signature = "X-Hub-Signature-256"

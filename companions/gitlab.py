@@ -59,6 +59,8 @@ DEVELOPER = 30
 class GitLab:
     """GitLab, by an access token and the secret of its hooks."""
 
+    mark = "!"
+
     def __init__(self, url: str, token: str, secret: str, timeout: float = 30.0) -> None:
         self.api = Api(url, {"PRIVATE-TOKEN": token}, timeout)
         self.secret = secret_of(secret)

@@ -3,7 +3,7 @@ from __future__ import annotations
 
 import http.server
 import threading
-from collections.abc import Callable, Iterable
+from collections.abc import Callable, Mapping
 from pathlib import Path
 
 from companions.forges import LARGEST, Forge, Place
@@ -82,12 +82,13 @@ class Handler(http.server.BaseHTTPRequestHandler):
 
 
 class Hooks(http.server.ThreadingHTTPServer):
-    """The server. `came` is set once a place was noted."""
+    """The server. `names` has the gated repositories' names, each by itself in small letters: a forge may write it in
+    others. `came` is set once a place was noted."""
     daemon_threads = True
 
-    def __init__(self, address: tuple[str, int], hints: Hints, forge: Forge, repositories: Iterable[str],
+    def __init__(self, address: tuple[str, int], hints: Hints, forge: Forge, names: Mapping[str, str],
                  came: threading.Event) -> None:
-        self.hints, self.forge, self.repositories, self.came = hints, forge, frozenset(repositories), came
+        self.hints, self.forge, self.names, self.came = hints, forge, names, came
         super().__init__(address, Handler)
 
     def take(self, headers, body: bytes) -> tuple[int, str]:
@@ -102,9 +103,10 @@ class Hooks(http.server.ThreadingHTTPServer):
             return 500, "this hook can't be read"
         if place is None:
             return 200, "this hook is about no request"
-        if place.repository not in self.repositories:
+        repository = self.names.get(place.repository.casefold())
+        if repository is None:
             return 200, "this repository isn't gated"
-        self.hints.put(place)
+        self.hints.put(Place(repository, place.number))
         self.came.set()
         return 200, "noted"
 

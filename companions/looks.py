@@ -2,6 +2,7 @@
 from __future__ import annotations
 
 import re
+import time
 from collections.abc import Callable
 from dataclasses import dataclass, replace
 
@@ -12,11 +13,10 @@ from companions.needs import Needs, message, needs_of
 from companions.repository import REVISION, GitFault, Repository
 from companions.requests import NO_REVISION, Request, State, Telling, Told, closing, first_seen, tellings, uncounted
 from companions.settings import Adapter, Project, Settings
+from companions.subjects import Subjects
 from companions.told import Changes
 
 HASH = re.compile(r"[0-9a-f]{40}|[0-9a-f]{64}")
-MEANS = {"E7": "the gate's settings lack the project", "E8": "the gate knows the change under another project",
-         "E13": "it needs over 32 changes"}
 
 
 class Again(Exception):
@@ -38,11 +38,14 @@ class Decided:
 class Looks:
     """Looks at requests. A request's trouble is raised, and nothing is kept then."""
 
-    def __init__(self, settings: Settings, adapter: Adapter, forge: Forge, gate: Gate, changes: Changes) -> None:
-        self.adapter, self.forge, self.gate, self.changes = adapter, forge, gate, changes
+    def __init__(self, settings: Settings, adapter: Adapter, forge: Forge, gate: Gate, subjects: Subjects) -> None:
+        self.adapter, self.forge, self.gate = adapter, forge, gate
+        self.subjects, self.changes = subjects, subjects.changes
         self.projects = {(it.forge, it.branch): it for it in settings.projects.values()}
+        self.names = names_of(settings)
         self.repositories = {it.name: Repository(it.repository, settings.folder / "adapter" / it.name, settings.author)
                              for it in settings.projects.values()}
+        self.writers: dict[tuple[str, str], tuple[bool, float]] = {}
 
     def look(self, place: Place) -> None:
         """Keeps what has to be told of a request, and of changes that it no longer stands for."""
@@ -56,10 +59,17 @@ class Looks:
             if branch != so.target:
                 self.leave(so, self.projects.get((so.repository, branch)), change)
         if project is None:
-            with self.changes.step():
-                self.changes.see(so, None, {it.object: NO_REVISION for it in so.votes})
+            self.pass_by(so, changes)
         elif so.state is State.OPEN or so.target in changes:
             self.compare(so, project, self.changes.number(place, so.target))
+
+    def pass_by(self, so: Request, changes: dict[str, int]) -> None:
+        """Notes what is so of a request whose branch isn't gated. Its votes are of no revision, whatever comes."""
+        last = max((it for it in changes.values() if self.changes.told(it).revisions), default=None)
+        with self.changes.step():
+            self.changes.see(so, None, {it.object: NO_REVISION for it in so.votes})
+            if last is not None:
+                self.subjects.see(so, last, False)
 
     def leave(self, so: Request, project: Project | None, change: int) -> None:
         """Closes the change of a request that has another target now."""
@@ -72,7 +82,7 @@ class Looks:
     def compare(self, so: Request, project: Project, change: int) -> None:
         """Keeps what has to be told of a request at its branch."""
         needs = self.needs(so) if so.state is State.OPEN else Needs((), ())
-        may_approve = self.adapter.approvers
+        may_approve = self.may_approve(so)
         decided = self.decide(so, self.changes.told(change), project,
                               lambda known: tellings(so, known, needs.changes, may_approve))
         told, seen = decided.told, first_seen(so, decided.told, needs.changes)
@@ -84,13 +94,27 @@ class Looks:
         with self.changes.step():
             if told.revisions or decided.steps:
                 self.changes.see(so, change, seen)
+                self.subjects.see(so, change, True)
             self.write(so, decided, more, needs.changes)
-            refused = [f"the gate refused this, {it}: {MEANS[it]}" for it in self.changes.refusals(change)
-                       if it in MEANS and not decided.steps]
-            left = ["this change has landed: what was pushed since wants a request of its own"] if (
-                told.landed and so.state is State.OPEN and so.head != told.revisions[-1].commit) else []
-            self.changes.remark(change, [*needs.remarks, *uncounted(so, told, needs.changes, may_approve), *refused,
-                                         *left])
+            self.changes.remark(change, "need", needs.remarks)
+            self.changes.remark(change, "vote", uncounted(so, told, needs.changes, may_approve))
+
+    def may_approve(self, so: Request) -> frozenset[str]:
+        """The persons whose votes on a request count: those whom the settings name, or who may write to its repository.
+
+        The forge is asked about a person as often as all requests are compared.
+        """
+        if self.adapter.approvers is not None:
+            return self.adapter.approvers
+        now, found = time.monotonic(), set()
+        for person in sorted({it.person for it in so.votes if it.approves is not None}):
+            known = self.writers.get((so.repository, person))
+            if known is None or known[1] <= now:
+                known = self.forge.may_write(so.repository, person), now + self.adapter.compare
+                self.writers[so.repository, person] = known
+            if known[0]:
+                found.add(person)
+        return frozenset(found)
 
     def write(self, so: Request, decided: Decided, more: dict[str, str], needs: tuple[int, ...]) -> None:
         change = decided.told.change
@@ -110,7 +134,8 @@ class Looks:
         told, is_lacking = self.with_gate(so, told)
         steps = steps_of(told)
         if project and told.revisions and any(it.kind != "approved" for it in steps):
-            if told.change in self.landings(project):
+            self.note_landings(project)
+            if self.changes.told(told.change).landed:
                 told = replace(told, landed=True)
                 steps = steps_of(told)
         return Decided(told, steps, is_lacking)
@@ -133,28 +158,38 @@ class Looks:
         told = replace(told, ordered=ordered, landed=known["state"] == "landed")
         return told, not told.closed and known["revision"] < last
 
-    def landings(self, project: Project) -> set[int]:
-        """The changes that a project's branch has, by the gate's present file."""
+    def note_landings(self, project: Project) -> None:
+        """Notes what a project's branch has landed by the gate's present file, since the branch was read last."""
         repository, branch = self.repositories[project.name], f"refs/heads/{project.branch}"
-        file, head = self.changes.outbox.get("file"), repository.ask(branch).get(branch)
+        outbox, name = self.changes.outbox, f"read {project.name}"
+        file, noted, head = outbox.get("file"), outbox.get(name), repository.ask(branch).get(branch)
         if file is None or file["first"] is None or head is None:
-            return set()
-        log = repository.git("log", "--first-parent", f"--grep=^Gate-File: {file['first']}$", "--format=%B%x00", head)
+            return
+        is_known = noted and noted["first"] == file["first"] and repository.commit(noted["head"]) is not None
+        landed = self.landings(project, file["first"], f"{noted['head']}..{head}" if is_known else head)
+        with self.changes.step():
+            for change in landed:
+                self.changes.land(change)
+            outbox.put(name, {"first": file["first"], "head": head})
+
+    def landings(self, project: Project, first: str, commits: str) -> set[int]:
+        """The changes that these commits of a branch have landed, by the gate's file that began with this delivery."""
+        log = self.repositories[project.name].git("log", "--first-parent", f"--grep=^Gate-File: {first}$",
+                                                  "--format=%B%x00", commits)
         found = set()
         for text in filter(str.strip, log.split("\0")):
             try:
                 landing = Landing.read(text)
             except GitFault:
                 continue
-            if (landing.first, landing.queue) == (file["first"], project.queue):
+            if (landing.first, landing.queue) == (first, project.queue):
                 found.add(landing.change)
         return found
 
-    def note_landings(self) -> None:
-        """Notes all landings that branches have, before a gate that was restored is told anything."""
+    def note_all_landings(self) -> None:
+        """Notes what all branches have, before a gate that was restored is told anything."""
         for project in self.projects.values():
-            for change in self.landings(project):
-                self.changes.land(change)
+            self.note_landings(project)
 
     def be_sure(self, so: Request, seen: dict[str, int]) -> None:
         """An approval that names no commit is of what the forge shows before it and behind it."""
@@ -185,11 +220,16 @@ class Looks:
 
     def asked(self, place: Place) -> Request | None:
         """A request that a text names; none in a repository that isn't gated, which the token needn't see."""
-        gated = any(repository == place.repository for repository, _ in self.projects)
-        return self.forge.request(place) if gated else None
+        repository = self.names.get(place.repository.casefold())
+        return self.forge.request(Place(repository, place.number)) if repository else None
 
     def change_of(self, so: Request) -> tuple[int, bool] | None:
         if (so.repository, so.target) not in self.projects:
             return None
         change = self.changes.number(Place(so.repository, so.number), so.target)
         return change, self.changes.stands(change)
+
+
+def names_of(settings: Settings) -> dict[str, str]:
+    """The gated repositories' names as the settings have them: forges find them whether written large or small."""
+    return {it.forge.casefold(): it.forge for it in settings.projects.values()}

@@ -84,10 +84,10 @@ class Telling:
     votes: tuple[str, ...] = ()
 
 
-def tellings(so: Request, told: Told, needs: tuple[int, ...], may_approve: frozenset[str] | None) -> list[Telling]:
+def tellings(so: Request, told: Told, needs: tuple[int, ...], may_approve: frozenset[str]) -> list[Telling]:
     """What is to be told of a change, in order, given the request that it stands for, at a branch that is gated.
 
-    `may_approve` are the persons whose votes count, or none where everybody's that the forge shows do.
+    `may_approve` are the persons whose votes count.
     """
     if told.landed:
         return []
@@ -127,13 +127,13 @@ def first_seen(so: Request, told: Told, needs: tuple[int, ...]) -> dict[str, int
 
 
 def votes(so: Request, told: Told, revision: int, new_ones: dict[str, int],
-          may_approve: frozenset[str] | None) -> list[Telling]:
+          may_approve: frozenset[str]) -> list[Telling]:
     """The approval of this revision, where a vote approves it that wasn't told, or the withdrawal where none holds.
 
     A vote approves once. Of several new ones the oldest is told, and the others count as told with it: told by
     themselves, later, they would put a change that has failed meanwhile into its queue again.
     """
-    approving, against = standing(so.votes, may_approve)
+    approving, against = standing(it for it in so.votes if it.person in may_approve)
     counting = [] if against else [it for it in approving if counts(it, so, told, revision, new_ones)]
     at_gate = {name for name, at in told.approvals.items() if at == revision} - told.withdrawals
     steps = []
@@ -145,13 +145,11 @@ def votes(so: Request, told: Told, revision: int, new_ones: dict[str, int],
     return steps
 
 
-def standing(all_votes: Iterable[Vote], may_approve: frozenset[str] | None) -> tuple[list[Vote], list[Vote]]:
+def standing(votes_of_all: Iterable[Vote]) -> tuple[list[Vote], list[Vote]]:
     """The approving votes behind which the same person has neither objected nor been dismissed, and the objections."""
     approving: dict[str, list[Vote]] = {}
     against: dict[str, Vote] = {}
-    for it in all_votes:
-        if may_approve is not None and it.person not in may_approve:
-            continue
+    for it in votes_of_all:
         against.pop(it.person, None)
         if it.approves:
             approving.setdefault(it.person, []).append(it)
@@ -170,17 +168,16 @@ def counts(vote: Vote, so: Request, told: Told, revision: int, new_ones: dict[st
     return vote.commit == so.head if vote.commit is not None else seen == revision
 
 
-def uncounted(so: Request, told: Told, needs: tuple[int, ...], may_approve: frozenset[str] | None) -> list[str]:
+def uncounted(so: Request, told: Told, needs: tuple[int, ...], may_approve: frozenset[str]) -> list[str]:
     """Why the approving votes that the forge shows of an open request aren't the gate's approval: a line each."""
     if so.state is not State.OPEN or told.landed:
         return []
     revision, new_ones = revision_of(so, told, needs), first_seen(so, told, needs)
-    approving, against = standing(so.votes, None)
-    may = {it.person for it in so.votes if may_approve is None or it.person in may_approve}
-    lines = [f"{it.person} objects ({it.object})" for it in against if it.person in may]
+    approving, against = standing(so.votes)
+    lines = [f"{it.person} objects ({it.object})" for it in against if it.person in may_approve]
     for it in approving:
         why = None
-        if it.person not in may:
+        if it.person not in may_approve:
             why = "isn't among those who may approve"
         elif it.object in told.withdrawals:
             why = "approved, and that was withdrawn since"

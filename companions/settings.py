@@ -48,7 +48,9 @@ class Adapter:
     """What the adapter needs to know of the forge: its form, the address of its API with a token, what the addresses of
     its requests begin with, the secret of its hooks and where they come in; of the gate's settings, `forge.base`.
 
-    `approvers` are the persons whose approvals count, or none where the forge alone decides who may approve.
+    `approvers` are the persons whose approvals count, or none where all do who may write to the repository. People are
+    told by a look at the gate every `look`, and of mere progress every `quiet`; `logs` is the address of a build's log,
+    with `{build}` in it.
     """
     form: str
     url: str
@@ -60,6 +62,9 @@ class Adapter:
     port: int
     approvers: frozenset[str] | None
     compare: float
+    look: float
+    quiet: float
+    logs: str | None
 
 
 @dataclass(frozen=True)
@@ -192,7 +197,11 @@ def adapter_of(top: Reader) -> Adapter | None:
     if not host or not (port.isascii() and port.isdigit()) or int(port) > 65535:
         raise table.fault("listen", "isn't a host and a port, as 127.0.0.1:8090")
     adapter = Adapter(form, table.address("url"), table.address("web"), table.text("token"), table.text("secret"),
-                      table.text("base"), host, int(port), table.names("approvers"), table.seconds("compare", 300.0))
+                      table.text("base"), host, int(port), table.names("approvers"), table.seconds("compare", 300.0),
+                      table.seconds("look", 5.0), table.seconds("quiet", 60.0),
+                      table.address("logs") if "logs" in table.table else None)
+    if adapter.logs is not None and "{build}" not in adapter.logs:
+        raise table.fault("logs", "has no {build}")
     table.end()
     return adapter
 

@@ -8,7 +8,6 @@ from __future__ import annotations
 import json
 from collections.abc import Iterable, Iterator
 from contextlib import contextmanager
-from dataclasses import dataclass
 
 from companions.forges import Place
 from companions.gate import Delivery, id_of
@@ -28,21 +27,12 @@ CREATE TABLE IF NOT EXISTS vote(repository TEXT, request INTEGER, object TEXT, c
 CREATE TABLE IF NOT EXISTS telling(place INTEGER PRIMARY KEY AUTOINCREMENT, change INTEGER, id TEXT UNIQUE, said TEXT,
     answer TEXT);
 CREATE INDEX IF NOT EXISTS telling_change ON telling(change, place);
-CREATE TABLE IF NOT EXISTS remark(change INTEGER, place INTEGER, text TEXT, PRIMARY KEY(change, place));
+CREATE TABLE IF NOT EXISTS remark(change INTEGER, kind TEXT, place INTEGER, text TEXT,
+    PRIMARY KEY(change, kind, place));
 """
 
 # Refusals that say that the gate doesn't have what the delivery is about: told again once it does, they may be taken.
 LACKING = ("E5", "E6", "E7")
-
-
-@dataclass(frozen=True)
-class Change:
-    """A change: the request that it stands for at a branch, and its last revision with that one's commit."""
-    number: int
-    place: Place
-    branch: str
-    revision: int
-    commit: str
 
 
 class Changes:
@@ -148,21 +138,31 @@ class Changes:
         """Notes that the gate, or the branch, has a change's landing: nothing more is told of it."""
         self.tables.execute("UPDATE change SET landed = 1 WHERE number = ?", (change,))
 
-    def refusals(self, change: int) -> list[str]:
-        """The codes of refusals of what was told last of a change."""
-        rows = self.tables.execute("SELECT answer FROM telling WHERE change = ? ORDER BY place", (change,))
-        return [row[0] for row in rows if row[0] and row[0][0] == "E"]
+    def refused(self, change: int) -> str | None:
+        """The code of the gate's refusal where it refused the last revision that it was told."""
+        rows = self.tables.execute("SELECT said, answer FROM telling WHERE change = ? ORDER BY place DESC", (change,))
+        last = next((answer for said, answer in rows if json.loads(said)["kind"] == "revision"), None)
+        return last if last and last[0] == "E" else None
 
-    def remark(self, change: int, lines: Iterable[str]) -> None:
-        """Puts the lines that are to be told on the change's request in the place of those that were."""
-        self.tables.execute("DELETE FROM remark WHERE change = ?", (change,))
-        self.tables.executemany("INSERT INTO remark VALUES (?, ?, ?)",
-                                ((change, place, line) for place, line in enumerate(lines)))
+    def remark(self, change: int, kind: str, lines: Iterable[str]) -> None:
+        """Puts lines of a kind that are to be told on the change's request in the place of those that were.
 
-    def remarks(self, change: int) -> list[str]:
-        """What is to be told on the change's request."""
-        rows = self.tables.execute("SELECT text FROM remark WHERE change = ? ORDER BY place", (change,))
+        A `need` names no request, and a `vote` is one that doesn't approve it.
+        """
+        self.tables.execute("DELETE FROM remark WHERE change = ? AND kind = ?", (change, kind))
+        self.tables.executemany("INSERT INTO remark VALUES (?, ?, ?, ?)",
+                                ((change, kind, place, line) for place, line in enumerate(lines)))
+
+    def remarks(self, change: int, kind: str) -> list[str]:
+        """What is to be told of a kind on the change's request."""
+        rows = self.tables.execute("SELECT text FROM remark WHERE change = ? AND kind = ? ORDER BY place",
+                                   (change, kind))
         return [row[0] for row in rows]
+
+    def place(self, change: int) -> Place | None:
+        """The request of a change, if it has this number from here."""
+        row = self.tables.execute("SELECT repository, request FROM change WHERE number = ?", (change,)).fetchone()
+        return None if row is None else Place(*row)
 
     def tell_again(self, change: int | None = None) -> None:
         """Keeps what was told of a change, or of all, and still holds: what the gate has gets a kept reply.
@@ -190,14 +190,6 @@ class Changes:
     def waits(self, change: int) -> bool:
         """Whether deliveries of a change are kept that the gate hasn't answered."""
         return self.tables.execute("SELECT 1 FROM delivery WHERE lane = ?", (str(change),)).fetchone() is not None
-
-    def all_told(self) -> list[Change]:
-        """The changes of which the gate's present file was told, and that haven't been closed."""
-        rows = self.tables.execute(
-            "SELECT change.number, repository, request, branch, max(revision.number), hash FROM change JOIN revision"
-            " ON change = change.number WHERE told AND NOT closed GROUP BY change.number ORDER BY change.number")
-        return [Change(number, Place(repository, request), branch, revision, commit)
-                for number, repository, request, branch, revision, commit in rows]
 
     def still_open(self, repository: str) -> list[int]:
         """The requests of a repository that have a change which was neither closed nor has landed."""

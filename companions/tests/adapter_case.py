@@ -18,6 +18,7 @@ from companions.forges import ForgeFault, Place
 from companions.requests import Request, State, Vote
 from companions.settings import read
 from companions.tests.forge import Origin
+from companions.tests.people_case import PretendForge
 from companions.tests.standin import StandIn
 
 SETTINGS = """
@@ -47,11 +48,18 @@ forge = "acme/lib"
 """
 
 
+# When people are told, unless a test says so.
+NEVER = 1e9
+
+
 class Gate:
-    """What a gate answers, as far as an adapter sees it: changes, their approvals, orders, and kept replies."""
+    """What a gate answers, as far as an adapter sees it: changes, their approvals, orders, and kept replies. Its queue
+    is told by a test: `items` are the lines of the status, and `reports` those of the history, without their places."""
 
     def __init__(self) -> None:
         self.changes: dict[int, dict[str, Any]] = {}
+        self.items: list[str] = []
+        self.reports: list[str] = []
         self.accepted: dict[str, tuple[dict[str, Any], dict[str, Any]]] = {}
         self.orders: list[dict[str, Any]] = []
         self.is_away = False
@@ -66,6 +74,11 @@ class Gate:
             return 200, self.orders
         if path.startswith("/deliveries"):
             return self.deliveries(path.removeprefix("/deliveries").strip("/"))
+        if path == "/status":
+            return 200, "\n".join(["queue core window 3 landed 0", *self.items, "end", ""])
+        if path.startswith("/history/core/"):
+            rows = [f"{place} {it}" for place, it in enumerate(self.reports, 1)]
+            return 200, "\n".join(["history core", *rows[int(path.rpartition("/")[2]) - 1:], f"end {len(rows)}", ""])
         known = self.changes.get(int(path.removeprefix("/changes/")))
         return (200, known) if known else (404, {"code": "E5", "error": "unknown-change"})
 
@@ -102,7 +115,8 @@ class Gate:
         if kind != "approved" and any(it["change"] == change for it in self.orders):
             return {"code": "E9", "error": "submitting"}
         if kind == "revision":
-            self.changes[change] = {"revision": revision, "state": "open", "order": None}
+            self.changes[change] = {"revision": revision, "state": "open", "order": None, "approval": None,
+                                    "queue": "core", "full": False, "needs": []}
         elif kind == "approved":
             self.changes[change]["order"] = 1
             return {"order": 1, "reply": "queued"}
@@ -119,14 +133,23 @@ class Gate:
         self.changes[change]["state"] = "landed"
 
 
-class Forge:
-    """A forge's requests. `before` is called at each question, as by somebody who is at the forge at that moment."""
+class Forge(PretendForge):
+    """A forge's requests, and what was written on them. `when_asked` is called at each question about a request, as by
+    somebody who is at the forge at that moment."""
+    mark = "#"
 
     def __init__(self) -> None:
+        super().__init__()
         self.requests: dict[Place, Request] = {}
         self.broken: set[Place] = set()
         self.asked: list[Place] = []
-        self.before = lambda place: None
+        self.when_asked = lambda place: None
+        self.writers = {"ada", "bob"}
+        self.asked_about: list[str] = []
+
+    def may_write(self, repository: str, person: str) -> bool:
+        self.asked_about.append(person)
+        return person in self.writers
 
     def place_of(self, headers: Mapping[str, str], body: bytes) -> Place | None:
         if headers.get("Secret") != "secret":
@@ -135,7 +158,7 @@ class Forge:
         return Place(*said) if said else None
 
     def request(self, place: Place) -> Request | None:
-        self.before(place)
+        self.when_asked(place)
         self.asked.append(place)
         if place in self.broken:
             raise ForgeFault(f"GET {place.number}: 500")
@@ -178,6 +201,7 @@ class Case(unittest.TestCase):
     def start(self) -> None:
         """Starts an adapter, in the place of one that is there."""
         self.adapter = Adapter(self.settings, self.forge)
+        self.adapter.look_at = NEVER
 
     def be(self, number: int, head: int | str = 0, *votes: Vote, **more: Any) -> Place:
         """Makes this so of a request, which is there then."""
@@ -198,6 +222,13 @@ class Case(unittest.TestCase):
         self.adapter.outbox.later.clear()
         self.adapter.once(1.0)
         return [f"{it['kind']} {it['change']} {it['revision']}" for it in self.standin.deliveries()[before:]]
+
+    def tell(self, *places: Place) -> list[str]:
+        """The same, and people are told then: what was written, shortly, statuses first."""
+        self.adapter.look_at = 0.0
+        self.look(*places)
+        self.adapter.look_at = NEVER
+        return sorted(self.forge.news(), key=lambda it: ", comment " in it)
 
     def approve(self, number: int, head: int = 0, person: str = "ada") -> Vote:
         return Vote(f"review {number}", person, True, self.commits[head])

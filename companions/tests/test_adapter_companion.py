@@ -74,7 +74,7 @@ class Requests(Case):
         self.assertIn("acme/lib 12: Title\n\nDepends-On: https://forge/c/",
                       "".join(it["message"] for it in self.standin.deliveries()))
         change = self.adapter.changes.of_request(place)["main"]
-        self.assertEqual(self.adapter.changes.remarks(change), [
+        self.assertEqual(self.adapter.changes.remarks(change, "need"), [
             "Depends-On: nothing: names no request of this forge",
             "Depends-On: acme/lib!12: names this request itself"])
 
@@ -90,9 +90,9 @@ class Requests(Case):
         said = Vote("comment 1", "ada", True, None)
         self.be(12, 0, said)
         self.forge.asked.clear()
-        self.forge.before = lambda _: self.forge.asked and self.be(12, 1, said)
+        self.forge.when_asked = lambda _: self.forge.asked and self.be(12, 1, said)
         self.assertEqual(self.look(place), [])
-        self.forge.before = lambda _: None
+        self.forge.when_asked = lambda _: None
         self.assertEqual(self.look(place), ["revision 1 2"])
         self.assertEqual(self.look(place), [])
         self.be(12, 1, said, replace(said, object="comment 2"))
@@ -157,9 +157,11 @@ class Closings(Case):
         self.look()
         self.gate.land(1)
         self.be(12, 1)
-        self.assertEqual(self.look(place), [])
-        self.assertEqual(self.adapter.changes.remarks(1),
-                         ["this change has landed: what was pushed since wants a request of its own"])
+        self.gate.reports = ["1 1 1 landed 1"]
+        self.assertEqual(self.tell(place), [
+            f"acme/lib {self.commits[1]}: failure: Landed in core as 1, without this commit: open a new request",
+            f"acme/lib 12, comment 1: **Landed in `core` as 1, at its earlier commit {self.commits[0][:12]}.**"])
+        self.assertEqual(len(self.standin.deliveries()), 2)
 
 
 class Troubles(Case):
@@ -197,8 +199,8 @@ class Troubles(Case):
         self.gate.projects.discard("lib")
         self.assertEqual(self.look(), ["revision 1 1", "approved 1 1"])
         self.look(place)
-        self.assertEqual(self.adapter.changes.remarks(1)[-1:],
-                         ["the gate refused this, E7: the gate's settings lack the project"])
+        self.assertEqual(self.tell()[0],
+                         f"acme/lib {self.commits[0]}: failure: The gate didn't take this commit: it has no such project")
         self.gate.projects.add("lib")
         self.assertEqual(self.look(place), ["revision 1 1", "approved 1 1"])
         self.assertEqual(self.gate.changes[1]["order"], 1)
@@ -208,6 +210,92 @@ class Troubles(Case):
         self.be(12, 0)
         self.assertEqual(self.look(), [])
         self.assertIn("the gate has revision 3 of change 1, and the adapter 0", self.lines()[-1])
+
+
+class Branches(Case):
+    def merge(self, change: int, onto: str) -> str:
+        """A landing of a change, as the lander pushes it."""
+        message = Landing(str(self.adapter.gate.first()), "core", change, change, 1).message("Title")
+        commit = self.origin.git("commit-tree", self.origin.tree(onto), "-p", onto, "-m", message)
+        self.origin.name("refs/heads/main", commit)
+        return commit
+
+    def test_a_branch_is_read_on_from_where_it_was_read(self) -> None:
+        for number in (12, 13, 14):
+            self.be(number, 0)
+        self.look()
+        read, landings = [], self.adapter.looks.landings
+        self.adapter.looks.landings = lambda *it: read.append(it[2]) or landings(*it)
+        one = self.merge(1, self.base)
+        self.be(12, 0, state=State.CLOSED)
+        self.assertEqual(self.look(), [])
+        two = self.merge(2, one)
+        self.be(13, 0, state=State.CLOSED)
+        self.be(14, 0, state=State.CLOSED)
+        self.assertEqual(self.look(), ["closed 3 1"])
+        self.assertEqual(read, [one, f"{one}..{two}", f"{two}..{two}"])
+
+
+class People(Case):
+    def test_a_request_is_followed_to_its_landing(self) -> None:
+        place, commit = self.be(12, 0), self.commits[0]
+        self.assertEqual(self.tell(place), [f"acme/lib {commit}: pending: Waits for approval"])
+        self.be(12, 0, self.approve(1))
+        self.gate.items = ["1 1 1 - ok unit=running"]
+        self.assertEqual(self.tell(place), [
+            f"acme/lib {commit}: pending: Testing at place 1 of 1 in core: unit running",
+            "acme/lib 12, comment 1: **Being tested at place 1 of 1 in `core`.**"])
+        self.assertEqual(self.tell(), [])
+        self.gate.items, self.gate.reports = [], ["1 1 1 landed 1"]
+        self.gate.land(1)
+        self.be(12, 0, state=State.MERGED)
+        self.assertEqual(self.tell(place), [f"acme/lib {commit}: success: Landed in core as 1",
+                                            "acme/lib 12, comment 1: **Landed in `core` as 1.**"])
+        self.assertEqual(self.adapter.subjects.all(), [])
+
+    def test_what_is_wrong_with_its_text_and_its_votes_is_told(self) -> None:
+        self.be(12, 0, self.approve(1, person="eve"), text="Depends-On: nothing")
+        self.tell()
+        self.assertEqual(self.forge.comments[1][1].split("\n\n")[2:], [
+            "These votes don't approve it:", "    eve isn't among those who may approve: review 1 doesn't count",
+            "These lines of its text name no request that the gate takes, so nothing is waited for:",
+            "    Depends-On: nothing: names no request of this forge", "Mend them in the text of the request."])
+
+    def test_one_that_is_closed_is_told_once_the_gate_has_answered(self) -> None:
+        place = self.be(12, 0, self.approve(1))
+        self.tell()
+        self.be(12, 0, state=State.CLOSED)
+        self.gate.order(1)
+        self.tell(place)
+        self.assertEqual([it.change for it in self.adapter.subjects.all()], [1])
+        self.gate.orders = []
+        self.assertEqual(self.tell()[0], f"acme/lib {self.commits[0]}: failure: Closed without landing")
+        self.assertEqual((self.adapter.subjects.all(), self.tell(place)), ([], []))
+
+    def test_one_whose_branch_is_not_gated_any_more(self) -> None:
+        place = self.be(12, 0)
+        self.tell()
+        self.be(12, 0, target="topic")
+        self.assertEqual(self.tell(place)[0],
+                         f"acme/lib {self.commits[0]}: pending: Not for the gate: it lands nothing in this branch")
+        self.be(12, 0, target="old")
+        self.assertEqual(self.tell(place)[0], f"acme/lib {self.commits[0]}: pending: Waits for approval")
+
+    def test_one_that_never_was_the_gate_s_is_told_nothing(self) -> None:
+        self.be(12, 0, self.approve(1), target="topic")
+        self.be(13, 0, self.approve(2), state=State.CLOSED)
+        self.assertEqual((self.tell(), self.adapter.subjects.all()), ([], []))
+
+    def test_who_may_write_may_approve_where_nobody_is_named(self) -> None:
+        self.settings = replace(self.settings, adapter=replace(self.settings.adapter, approvers=None))
+        self.start()
+        place = self.be(12, 0, self.approve(1, person="eve"), self.approve(2, person="bob"))
+        self.assertEqual(self.look(place), ["revision 1 1", "approved 1 1"])
+        self.look(place)
+        self.assertEqual(self.forge.asked_about, ["bob", "eve"])
+        self.adapter.looks.writers.clear()
+        self.forge.writers.discard("bob")
+        self.assertEqual(self.look(place), ["withdrawn 1 1"])
 
 
 class Files(Case):
@@ -244,7 +332,7 @@ class Incoming(Case):
     def setUp(self) -> None:
         super().setUp()
         self.came = threading.Event()
-        self.hooks = Hooks(("127.0.0.1", 0), self.adapter.hints, self.forge, ["acme/lib"], self.came)
+        self.hooks = Hooks(("127.0.0.1", 0), self.adapter.hints, self.forge, {"acme/lib": "acme/lib"}, self.came)
         self.addCleanup(serve(self.hooks))
 
     def post(self, body: bytes, path: str = "/hook", method: str = "POST", **headers: str) -> int:
@@ -266,6 +354,10 @@ class Incoming(Case):
         self.be(12, 0)
         self.assertEqual(self.look(Place("acme/lib", 12)), ["revision 1 1"])
         self.assertEqual(self.places(), [])
+
+    def test_a_repository_s_name_may_be_written_in_other_letters(self) -> None:
+        self.assertEqual(self.post(b'["Acme/LIB", 12]'), 200)
+        self.assertEqual(self.places(), [Place("acme/lib", 12)])
 
     def test_a_hook_that_is_not_signed_is_refused_and_not_read(self) -> None:
         for body in (b'["acme/lib", 12]', b"no json"):
@@ -291,7 +383,7 @@ class Incoming(Case):
 
     def test_a_hook_while_its_request_is_looked_at_is_looked_at_again(self) -> None:
         place = self.be(12, 0)
-        self.forge.before = lambda _: self.post(json.dumps(["acme/lib", 12]).encode())
+        self.forge.when_asked = lambda _: self.post(json.dumps(["acme/lib", 12]).encode())
         self.look(place)
         self.assertEqual(self.places(), [place])
 

@@ -109,7 +109,7 @@ class Settings(Case):
         known = self.read(WHOLE + ADAPTER)
         self.assertEqual(known.adapter, settings.Adapter(
             "github", "https://api.github.com", "https://github.com", "t", "s", "https://gate.example/c/", "127.0.0.1",
-            8090, frozenset({"ada"}), 300.0))
+            8090, frozenset({"ada"}), 300.0, 5.0, 60.0, None))
         self.assertEqual({it.name: it.forge for it in known.projects.values()}, {"lib": "lib", "app": "app"})
         for old, new, told in (
                 ('"github"', '"svn"', "adapter.form: is none of gitea, github, gitlab"),
@@ -122,6 +122,7 @@ class Settings(Case):
                 ('["ada"]', '["ada"]\nlisten = "8090"', "adapter.listen: isn't a host and a port"),
                 ('["ada"]', '["ada"]\nlisten = "localhost:99999"', "adapter.listen: isn't a host and a port"),
                 ('["ada"]', '["ada"]\ncompare = 0', "adapter.compare: isn't above 0"),
+                ('["ada"]', '["ada"]\nlogs = "https://logs"', "adapter.logs: has no {build}"),
                 ('["ada"]', '["ada"]\npoll = 1', "adapter.poll: isn't known")):
             with self.subTest(told), self.assertRaisesRegex(SettingsFault, f"companions.toml: {told}"):
                 self.read(WHOLE + ADAPTER.replace(old, new, 1))

@@ -179,10 +179,6 @@ class Table(unittest.TestCase):
 
 
 class Rules(unittest.TestCase):
-    def test_without_approvers_everybody_s_votes_count(self) -> None:
-        vote = Vote("review 9", "mallory", True, A)
-        self.assertEqual(tellings(so(vote), ONE, (), None), [Telling("approved", 1, ("review 9",), ("review 9",))])
-
     def test_an_approver_who_may_no_more_is_withdrawn(self) -> None:
         self.assertEqual([it.kind for it in tellings(so(ADA), told(ONE, ADA), (), frozenset({"bob"}))], ["withdrawn"])
 

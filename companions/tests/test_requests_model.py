@@ -134,7 +134,7 @@ class Days(unittest.TestCase):
         for it in steps:
             if it.kind == "approved":
                 self.check_approval(model, it)
-        count, against = standing(model.votes, MAY)
+        count, against = standing(it for it in model.votes if it.person in MAY)
         if model.branch in GATED and model.state is State.OPEN:
             if against or not count:
                 self.assertNotIn(model.branch, model.approved)

@@ -9,7 +9,7 @@ from pathlib import Path
 from companions.forges import Place
 from companions.outbox import Outbox
 from companions.requests import Request, Revision, State, Telling, Told, Vote, first_seen
-from companions.told import Change, Changes
+from companions.told import Changes
 
 FIRST = "70000000-0000-4000-8000-000000000001"
 A, B = "a" * 40, "b" * 40
@@ -67,7 +67,8 @@ class Tables(Case):
     def test_nothing_was_told_of_a_number_alone(self) -> None:
         self.assertEqual(self.changes.told(1), Told(1))
         self.assertFalse(self.changes.stands(1))
-        self.assertEqual((self.changes.all_told(), self.changes.still_open("acme/lib")), ([], []))
+        self.assertEqual((self.changes.place(1), self.changes.place(2)), (PLACE, None))
+        self.assertEqual(self.changes.still_open("acme/lib"), [])
 
     def test_all_that_was_told_outlives_a_restart(self) -> None:
         self.keep("revision", 1, A, needs=(3,))
@@ -78,7 +79,6 @@ class Tables(Case):
             1, (Revision(A, (3,)),), approvals={"review 1": 1}, withdrawals=frozenset({"review 1"}),
             seen={"review 1": 1, "comment 2": 0}))
         self.assertEqual(self.kinds(), ["revision 1 1", "approved 1 1", "withdrawn 1 1"])
-        self.assertEqual(self.changes.all_told(), [Change(1, PLACE, "main", 1, A)])
         self.assertEqual(self.changes.still_open("acme/lib"), [12])
 
     def test_a_revision_opens_what_was_closed(self) -> None:
@@ -120,9 +120,11 @@ class Tables(Case):
         self.assertEqual(len({it for it, _ in self.kept()}), 4)
 
     def test_remarks_take_the_place_of_those_before(self) -> None:
-        self.changes.remark(1, ["a", "b"])
-        self.changes.remark(1, ["c"])
-        self.assertEqual((self.changes.remarks(1), self.changes.remarks(2)), (["c"], []))
+        self.changes.remark(1, "need", ["a", "b"])
+        self.changes.remark(1, "vote", ["d"])
+        self.changes.remark(1, "need", ["c"])
+        self.assertEqual([self.changes.remarks(*it) for it in ((1, "need"), (1, "vote"), (2, "need"))],
+                         [["c"], ["d"], []])
 
 
 class Again(Case):
@@ -169,9 +171,10 @@ class Again(Case):
         self.keep("revision", 1, A)
         self.keep("approved", 1, "review 1")
         self.answer("E7", "E5")
-        self.assertEqual(self.changes.refusals(1), ["E7", "E5"])
+        self.assertEqual(self.changes.refused(1), "E7")
         self.assertEqual(self.tell_again(), ["revision 1 1", "approved 1 1"])
         self.answer("E13", "E5")
+        self.assertEqual(self.changes.refused(1), "E13")
         self.assertEqual(self.tell_again(), ["approved 1 1"])
 
     def test_changes_are_told_again_in_the_order_of_all(self) -> None:
