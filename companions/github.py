@@ -3,8 +3,8 @@
 The calls, below the address of the API: `https://api.github.com` for GitHub, `https://HOST/api/v1` for Gitea.
 OWNER/NAME is a repository, N a pull request's number. Where it isn't said otherwise, both have them in the same form.
 
-    GET   /repos/OWNER/NAME/pulls/N                       number, state (open, closed), merged, title, body, head.sha,
-                                                          base.ref; 404 where there is none
+    GET   /repos/OWNER/NAME/pulls/N                       number, state (open, closed), merged, draft, title, body,
+                                                          head.sha, base.ref; 404 where there is none
     GET   /repos/OWNER/NAME/pulls?state=open              list: id, number
     GET   /repos/OWNER/NAME/pulls/N/reviews               list: id, user.login, state, commit_id, submitted_at.
               state at GitHub: APPROVED, CHANGES_REQUESTED, DISMISSED, COMMENTED, PENDING; at Gitea: APPROVED,
@@ -91,7 +91,7 @@ class GitHub:
             # At one and the same second a review counts as the later one: it may be against.
             votes = votes_of([*self.comments(place), *self.reviews(place)])
             return Request(place.repository, place.number, state, hash_of(said["head"]["sha"]), said["base"]["ref"],
-                           said["title"] or "", said.get("body") or "", votes)
+                           said["title"] or "", said.get("body") or "", votes, bool(said.get("draft")))
 
     def reviews(self, place: Place) -> Iterator[Opinion]:
         for it in self.rows(self.path(place) + "/reviews"):

@@ -3,8 +3,8 @@
 The calls, below the address of the API, `https://HOST/api/v4`. ID is a project's path, `group/name`, with %2F for each
 slash; N is a merge request's `iid`.
 
-    GET  /projects/ID/merge_requests/N               iid, state (opened, locked, closed, merged), title, description,
-                                                     sha, target_branch; 404 where there is none
+    GET  /projects/ID/merge_requests/N               iid, state (opened, locked, closed, merged), draft, title,
+                                                     description, sha, target_branch; 404 where there is none
     GET  /projects/ID/merge_requests?state=opened    list: id, iid
     GET  /projects/ID/merge_requests/N/approvals     approved_by: list of user.username
     GET  /projects/ID/merge_requests/N/notes?sort=asc&order_by=created_at   list: id, system, body, created_at,
@@ -91,7 +91,7 @@ class GitLab:
         with expected(self.path(place)):
             return Request(place.repository, place.number, STATES[said["state"]], hash_of(said["sha"]),
                            said["target_branch"], said["title"] or "", said.get("description") or "",
-                           votes_of(self.opinions(place)))
+                           votes_of(self.opinions(place)), bool(said.get("draft")))
 
     def opinions(self, place: Place) -> Iterator[Opinion]:
         """Approvals by their notes, while GitLab still counts them, comments, and what takes approvals back."""

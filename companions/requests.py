@@ -35,7 +35,8 @@ class Vote:
 
 @dataclass(frozen=True)
 class Request:
-    """A pull or merge request as it is now. `votes` are those that the forge shows, the oldest first."""
+    """A pull or merge request as it is now. `votes` are those that the forge shows, the oldest first. One that is a
+    draft isn't to land."""
     repository: str
     number: int
     state: State
@@ -44,6 +45,7 @@ class Request:
     title: str
     text: str
     votes: tuple[Vote, ...] = ()
+    is_draft: bool = False
 
 
 @dataclass(frozen=True)
@@ -133,13 +135,14 @@ def votes(so: Request, told: Told, revision: int, new_ones: dict[str, int],
     A vote approves once. Of several new ones the oldest is told, and the others count as told with it: told by
     themselves, later, they would put a change that has failed meanwhile into its queue again.
     """
-    approving, against = standing(it for it in so.votes if it.person in may_approve)
+    approving, objections = standing(it for it in so.votes if it.person in may_approve)
+    against = [*(it.object for it in objections), *(["draft"] if so.is_draft else [])]
     counting = [] if against else [it for it in approving if counts(it, so, told, revision, new_ones)]
     at_gate = {name for name, at in told.approvals.items() if at == revision} - told.withdrawals
     steps = []
     if at_gate and (against or not counting and not at_gate & {it.object for it in approving}):
         taken_back = tuple(sorted(at_gate))
-        steps.append(Telling("withdrawn", revision, taken_back + tuple(it.object for it in against), taken_back))
+        steps.append(Telling("withdrawn", revision, (*taken_back, *against), taken_back))
     if counting:
         steps.append(Telling("approved", revision, (counting[0].object,), tuple(it.object for it in counting)))
     return steps
@@ -175,6 +178,7 @@ def uncounted(so: Request, told: Told, needs: tuple[int, ...], may_approve: froz
     revision, new_ones = revision_of(so, told, needs), first_seen(so, told, needs)
     approving, against = standing(so.votes)
     lines = [f"{it.person} objects ({it.object})" for it in against if it.person in may_approve]
+    lines += ["it is a draft, which isn't to land"] if so.is_draft and approving else []
     for it in approving:
         why = None
         if it.person not in may_approve:

@@ -21,8 +21,8 @@ TWO = Told(5, (Revision(A, ()), Revision(B, ())))
 BACK = Told(5, (Revision(A, ()), Revision(B, ()), Revision(A, ())))
 
 
-def so(*votes: Vote, head: str = A, state: State = State.OPEN) -> Request:
-    return Request("acme/lib", 12, state, head, "main", "Title", "Text", votes)
+def so(*votes: Vote, head: str = A, state: State = State.OPEN, is_draft: bool = False) -> Request:
+    return Request("acme/lib", 12, state, head, "main", "Title", "Text", votes, is_draft)
 
 
 def ada(number: int, approves: bool | None = True, commit: str | None = A) -> Vote:
@@ -96,6 +96,10 @@ VOTES = (
     ("failed, and approved by a new object", so(ADA, ada(7)), told(ONE, ADA), (), ["approved 1 review 7"]),
     ("failed, and looked at again", so(ADA, ada(7)), told(ONE, ADA, ada(7)), (), []),
     ("landed, and approved", so(ADA), replace(ONE, landed=True), (), []),
+    ("approved as a draft", so(ADA, is_draft=True), ONE, (), []),
+    ("which is none any more", so(ADA), told(ONE, seen=(ADA,)), (), ["approved 1 review 1"]),
+    ("approved, and then a draft", so(ADA, is_draft=True), told(ONE, ADA), (), ["withdrawn 1 review 1 draft"]),
+    ("which stays one", so(ADA, is_draft=True), told(ONE, ADA, back=(ADA,)), (), []),
 )
 
 COMMENTS = (
@@ -224,6 +228,8 @@ class Rules(unittest.TestCase):
                 (so(Vote("review 9", "mallory", True, A)), ONE,
                  ["mallory isn't among those who may approve: review 9 doesn't count"]),
                 (so(ADA, EVE), ONE, ["eve objects (review 3)"]),
+                (so(ADA, is_draft=True), ONE, ["it is a draft, which isn't to land"]),
+                (so(is_draft=True), ONE, []),
                 (so(ADA, head=B), replace(TWO, landed=True), []),
                 (so(ADA, head=B, state=State.CLOSED), TWO, [])):
             with self.subTest(said):

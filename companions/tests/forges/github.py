@@ -15,7 +15,7 @@ from companions.forges import Place
 
 REPOSITORY = r"/repos/([^/]+)/([^/]+)"
 ACTIONS = {"opened": "opened", "pushed": "synchronize", "edited": "edited", "closed": "closed", "merged": "closed",
-           "reopened": "reopened"}
+           "reopened": "reopened", "drafted": "converted_to_draft", "readied": "ready_for_review"}
 COMMENT_ACTIONS = {"commented": "created", "comment edited": "edited", "comment deleted": "deleted"}
 
 
@@ -64,7 +64,7 @@ class GitHubForm(Form):
         # The repository of a fork may be gone.
         head = {"label": f"{it.author}:topic", "ref": "topic", "sha": it.head, "repo": None if it.is_fork else base}
         return {"id": it.id, "number": it.place.number, "state": "open" if it.state == "open" else "closed",
-                "title": it.title, "body": it.text or None, "user": self.user(it.author), "draft": False,
+                "title": it.title, "body": it.text or None, "user": self.user(it.author), "draft": it.is_draft,
                 "html_url": self.address(it.place), "created_at": self.time(it.at), "head": head,
                 "merged_at": self.time(it.at) if it.merged_by else None,
                 "base": {"label": f"acme:{it.target}", "ref": it.target, "sha": "0" * 40, "repo": base}}

@@ -12,8 +12,9 @@ from companions.tests.forges.server import Form, Question, Reply, Route
 
 PROJECT = r"/projects/([^/]+)"
 STATES = {"open": "opened", "closed": "closed", "merged": "merged"}
-ACTIONS = {"opened": "open", "pushed": "update", "edited": "update", "closed": "close", "reopened": "reopen",
-           "merged": "merge", "approved": "approved", "dismissed": "unapproved"}
+ACTIONS = {"opened": "open", "pushed": "update", "edited": "update", "drafted": "update", "readied": "update",
+           "closed": "close", "reopened": "reopen", "merged": "merge", "approved": "approved",
+           "dismissed": "unapproved"}
 # Notes that GitLab writes itself.
 SYSTEM = {"approved": "approved this merge request", "dismissed": "unapproved this merge request",
           "pushed": "added 1 commit"}
@@ -53,7 +54,7 @@ class GitLabForm(Form):
     def request(self, it: Pull) -> dict[str, Any]:
         return {"id": it.id, "iid": it.place.number, "project_id": 1, "title": it.title, "description": it.text or None,
                 "state": STATES[it.state], "created_at": self.time(it.at), "target_branch": it.target,
-                "source_branch": "topic", "author": self.user(it.author), "draft": False, "sha": it.head,
+                "source_branch": "topic", "author": self.user(it.author), "draft": it.is_draft, "sha": it.head,
                 "merge_commit_sha": None, "merge_status": "can_be_merged", "web_url": self.address(it.place)}
 
     def requests(self, question: Question) -> Reply:

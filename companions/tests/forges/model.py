@@ -45,6 +45,7 @@ class Pull:
     is_fork: bool
     at: datetime
     state: str = "open"
+    is_draft: bool = False
     merged_by: str | None = None
     entries: list[Entry] = field(default_factory=list)
 
@@ -113,6 +114,12 @@ class Model:
             pull.title = pull.title if title is None else title
             pull.text = pull.text if text is None else text
             self.tell("edited", place)
+
+    def draft(self, place: Place, is_draft: bool) -> None:
+        """It becomes a draft, or is one no more."""
+        with self.lock:
+            self.pulls[place].is_draft = is_draft
+            self.tell("drafted" if is_draft else "readied", place)
 
     def retarget(self, place: Place, branch: str) -> None:
         with self.lock:
