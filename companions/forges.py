@@ -6,6 +6,7 @@ import hashlib
 import hmac
 import http.client
 import json
+import time
 import urllib.parse
 from collections.abc import Iterable, Iterator, Mapping
 from dataclasses import dataclass
@@ -22,6 +23,9 @@ APPROVES = "/gate approve"
 
 # The most bytes that an answer of a forge's API, or a hook, may have.
 LARGEST = 8 * 1024 * 1024
+
+# The longest pause that a forge is believed to ask for, in seconds.
+LONGEST_PAUSE = 3600.0
 
 
 class ForgeFault(Exception):
@@ -82,10 +86,10 @@ class Opinion:
 
 
 class Api:
-    """A forge's API: JSON over HTTP, a request a connection."""
+    """A forge's API: JSON over HTTP, a request a connection. A forge that asks for a pause isn't called until then."""
 
     def __init__(self, url: str, headers: Mapping[str, str], timeout: float = 30.0) -> None:
-        self.url, self.timeout = urllib.parse.urlsplit(url.rstrip("/")), timeout
+        self.url, self.timeout, self.resting = urllib.parse.urlsplit(url.rstrip("/")), timeout, 0.0
         self.headers = {"Accept": "application/json", "User-Agent": "gated-adapter", **headers}
 
     def call(self, method: str, path: str, said: Any = None) -> Any:
@@ -103,6 +107,8 @@ class Api:
 
     def answer(self, method: str, path: str, said: Any) -> tuple[Any, str]:
         """What the API answers, and what its header `Link` has."""
+        if time.time() < self.resting:
+            raise ForgeFault(f"{method} {path}: not asked, since the forge wants a pause")
         kind = http.client.HTTPSConnection if self.url.scheme == "https" else http.client.HTTPConnection
         body = None if said is None else json.dumps(said).encode()
         headers = self.headers if body is None else {**self.headers, "Content-Type": "application/json"}
@@ -114,6 +120,7 @@ class Api:
                 content = content_of(response)
             if response.status // 100 != 2:
                 text = content[:200].decode("utf-8", "replace")
+                self.resting = time.time() + pause_of(response)
                 raise ForgeFault(f"{method} {path}: status {response.status}, {text!r}", response.status, text)
             return json.loads(content), response.getheader("Link", "")
         except (OSError, http.client.HTTPException, ValueError, RecursionError) as fault:
@@ -138,6 +145,17 @@ class Api:
             if not new or has_links and 'rel="next"' not in link:
                 return
             page += 1
+
+
+def pause_of(response: http.client.HTTPResponse) -> float:
+    """The seconds that a forge that refuses wants to be left alone: by HTTP, or as GitHub and GitLab say that what may
+    be asked in an hour is used up."""
+    wait = response.getheader("Retry-After", "")
+    for name in ("X-RateLimit", "RateLimit"):
+        until = response.getheader(f"{name}-Reset", "")
+        if not wait and response.getheader(f"{name}-Remaining") == "0" and until.isdigit():
+            wait = str(max(0, int(until) - int(time.time())))
+    return min(float(wait), LONGEST_PAUSE) if wait.isdigit() else 0.0
 
 
 def content_of(response: http.client.HTTPResponse) -> bytes:

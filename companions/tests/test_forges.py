@@ -1,6 +1,7 @@
 """Each call of each form of forge, before a stand-in that speaks its API."""
 from __future__ import annotations
 
+import time
 import unittest
 from datetime import timedelta
 from email.message import Message
@@ -35,6 +36,11 @@ class EachForm:
                            (lambda place: self.model.merge(place, "lander"), State.MERGED)):
             act(self.place)
             self.assertEqual(self.asked().state, state)
+
+    def test_a_draft(self) -> None:
+        self.assertFalse(self.asked().is_draft)
+        self.model.draft(self.place, True)
+        self.assertTrue(self.asked().is_draft)
 
     def test_there_is_none(self) -> None:
         self.assertIsNone(self.client.request(Place(LIB, 2)))
@@ -221,6 +227,27 @@ class EachForm:
             server.plan = [*[""] * before, "cut"]
             self.fails(None, self.client.request, self.place)
         self.fails(401, self.forge.client(token="another").request, self.place)
+
+    def test_a_forge_that_wants_a_pause_gets_one(self) -> None:
+        server, api = self.forge.server, self.client.api
+        soon = str(int(time.time()) + 100)
+        for limits, pause in (({"Retry-After": "60"}, 60), ({"Retry-After": "99999"}, 3600),
+                              ({"Retry-After": "Fri, 31 Dec 2027 23:59:59 GMT"}, 0),
+                              ({"X-RateLimit-Remaining": "0", "X-RateLimit-Reset": soon}, 100),
+                              ({"RateLimit-Remaining": "0", "RateLimit-Reset": soon}, 100),
+                              ({"X-RateLimit-Remaining": "1", "X-RateLimit-Reset": soon}, 0),
+                              ({"X-RateLimit-Remaining": "0", "X-RateLimit-Reset": "5"}, 0)):
+            with self.subTest(limits):
+                server.plan, server.limits, api.resting = ["limit"], limits, 0.0
+                self.fails(429, self.client.request, self.place)
+                self.assertAlmostEqual(max(0.0, api.resting - time.time()), pause, delta=5)
+        api.resting = time.time() + 60
+        server.asked.clear()
+        fault = self.fails(None, self.client.request, self.place)
+        self.assertIn("not asked, since the forge wants a pause", str(fault))
+        self.assertEqual(server.asked, [])
+        api.resting = time.time()
+        self.assertEqual(self.asked().number, self.place.number)
 
     def test_a_slow_forge_isnt_waited_for(self) -> None:
         self.forge.server.delay = 0.5

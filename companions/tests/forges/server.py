@@ -101,12 +101,14 @@ class HttpServer(ThreadingHTTPServer):
 
 class Server:
     """`asked` is what came: method and target. Troubles: `plan` says what goes wrong with the next answers, in order,
-    `fail` (it is 500), `cut` (its content is missing) or nothing; `odds` is the probability that one is 500, before or
+    `fail` (it is 500), `limit` (it is 429, with the headers `limits`), `cut` (its content is missing) or nothing;
+    `odds` is the probability that one is 500, before or
     after what was asked is done, and `delay` the seconds that each one takes."""
 
     def __init__(self, form: Form) -> None:
         self.form, self.asked, self.plan = form, list[tuple[str, str]](), list[str]()
         self.delay, self.odds, self.chance = 0.0, 0.0, Random(1)
+        self.limits: dict[str, str] = {}
         self.lock = threading.Lock()
         self.server = HttpServer(("127.0.0.1", 0), handler_of(self))
         self.url = f"http://127.0.0.1:{self.server.server_port}"
@@ -128,6 +130,8 @@ class Server:
             before, after = self.chance.random() < self.odds / 2, self.chance.random() < self.odds / 2
         time.sleep(self.delay)
         failed = Reply(500, {"message": "Internal Server Error"})
+        if trouble == "limit":
+            return Reply(429, {"message": "Too Many Requests"}, self.limits), True
         if trouble == "fail" or before:
             return failed, True
         reply = self.form.answer(method, target, body, headers)
