@@ -155,6 +155,10 @@ class Looks:
         if known["revision"] > last:
             raise Trouble(f"the gate has revision {known['revision']} of change {told.change}, and the adapter {last}."
                           " Its tables are older than the gate's file, or somebody else tells the gate of this change")
+        if last and known["revision"] == last and {it["change"] for it in known["needs"]} != set(
+                told.revisions[-1].needs):
+            raise Trouble(f"the gate reads other needs of change {told.change} than it was told: adapter.base has to be"
+                          " forge.base of the gate's settings")
         told = replace(told, ordered=ordered, landed=known["state"] == "landed")
         return told, not told.closed and known["revision"] < last
 
@@ -193,7 +197,8 @@ class Looks:
 
     def be_sure(self, so: Request, seen: dict[str, int]) -> None:
         """An approval that names no commit is of what the forge shows before it and behind it."""
-        if any(it.approves and it.commit is None and seen.get(it.object, NO_REVISION) != NO_REVISION for it in so.votes):
+        if any(it.approves and it.commit is None and seen.get(it.object, NO_REVISION) != NO_REVISION
+               for it in so.votes):
             again = self.forge.request(Place(so.repository, so.number))
             if again is None or replace(again, votes=()) != replace(so, votes=()):
                 raise Again

@@ -1,4 +1,4 @@
-"""The requests whose people are told, as they were when they were looked at last, in the file of the adapter's outbox."""
+"""The requests whose people are told, as they were at the last look at them, in the file of the adapter's outbox."""
 from __future__ import annotations
 
 from companions.forges import Place

@@ -63,7 +63,7 @@ class Gate:
         self.accepted: dict[str, tuple[dict[str, Any], dict[str, Any]]] = {}
         self.orders: list[dict[str, Any]] = []
         self.is_away = False
-        self.projects = {"lib", "old"}
+        self.projects, self.base = {"lib", "old"}, "https://forge/c/"
 
     def answers(self, method: str, path: str, body: bytes) -> tuple[int, Any] | None:
         if self.is_away:
@@ -116,13 +116,17 @@ class Gate:
             return {"code": "E9", "error": "submitting"}
         if kind == "revision":
             self.changes[change] = {"revision": revision, "state": "open", "order": None, "approval": None,
-                                    "queue": "core", "full": False, "needs": []}
+                                    "queue": "core", "full": False, "needs": self.needs(said["message"])}
         elif kind == "approved":
             self.changes[change]["order"] = 1
             return {"order": 1, "reply": "queued"}
         else:
             self.changes[change] |= {"order": None, "state": "closed" if kind == "closed" else "open"}
         return {"reply": "recorded"}
+
+    def needs(self, message: str) -> list[dict[str, Any]]:
+        lines = [line.removeprefix(f"Depends-On: {self.base}") for line in message.splitlines()]
+        return [{"change": int(it), "state": "open", "stands": None, "approval": None} for it in lines if it.isdigit()]
 
     def order(self, change: int) -> None:
         self.orders = [{"queue": "core", "order": 1, "project": "lib", "change": change,

@@ -199,11 +199,20 @@ class Troubles(Case):
         self.gate.projects.discard("lib")
         self.assertEqual(self.look(), ["revision 1 1", "approved 1 1"])
         self.look(place)
-        self.assertEqual(self.tell()[0],
-                         f"acme/lib {self.commits[0]}: failure: The gate didn't take this commit: it has no such project")
+        self.assertEqual(self.tell()[0], f"acme/lib {self.commits[0]}: failure: The gate didn't take this commit:"
+                                         " it has no such project")
         self.gate.projects.add("lib")
         self.assertEqual(self.look(place), ["revision 1 1", "approved 1 1"])
         self.assertEqual(self.gate.changes[1]["order"], 1)
+
+    def test_needs_that_the_gate_does_not_read_are_a_fault_of_the_settings(self) -> None:
+        self.gate.base = "https://gate.example/"
+        self.be(12, 0, self.approve(1), text="Depends-On: #13")
+        place = self.be(13, 1)
+        self.look()
+        self.assertEqual(self.look(place, Place("acme/lib", 12)), [])
+        self.assertIn("Trouble: the gate reads other needs of change 1 than it was told: adapter.base has to be"
+                      " forge.base of the gate's settings", self.lines()[-1])
 
     def test_tables_that_are_older_than_the_gate_s_file_tell_nothing(self) -> None:
         self.gate.changes[1] = {"revision": 3, "state": "open", "order": None}
