@@ -71,7 +71,7 @@ class Adapter:
             self.trouble("gate", None)
             if now >= self.look_at:
                 self.look_at = now + self.look
-                self.tell_people()
+                self.attempt("people", self.tell_people)
         except NoAnswer as fault:
             self.file.is_known = False
             self.trouble("gate", f"no answer of the gate: {fault}")
@@ -150,8 +150,9 @@ class Adapter:
     def is_earlier(self) -> None:
         """The gate was restored. What the branches have by now is noted before anything is told again."""
         self.looks.note_all_landings()
+        known = self.changes.replies_known(self.gate.knows)
         with self.changes.step():
-            self.changes.tell_again()
+            self.changes.tell_again(known=known)
 
     def run(self, came: threading.Event) -> None:
         while True:

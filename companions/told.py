@@ -5,8 +5,9 @@ rows that it follows from, before any of it is sent.
 """
 from __future__ import annotations
 
+import bisect
 import json
-from collections.abc import Iterable, Iterator
+from collections.abc import Callable, Iterable, Iterator
 from contextlib import contextmanager
 
 from companions.forges import Place
@@ -16,17 +17,20 @@ from companions.requests import NO_REVISION, Request, Revision, Telling, Told
 
 # A change has a row once its request is known or named. `told` says whether the gate's present file was told of it.
 # A vote has the change and the revision at which it was first seen, and those that it was told of, once it was.
+# Replies are counted: a telling has the number of its own, and how many there were when it was kept.
 TABLES = """
 CREATE TABLE IF NOT EXISTS change(number INTEGER PRIMARY KEY, repository TEXT, request INTEGER, branch TEXT,
     closed INTEGER DEFAULT 0, landed INTEGER DEFAULT 0, told INTEGER DEFAULT 0, UNIQUE(repository, request, branch));
+CREATE INDEX IF NOT EXISTS change_open ON change(repository, request) WHERE told AND NOT closed AND NOT landed;
 CREATE TABLE IF NOT EXISTS revision(change INTEGER, number INTEGER, hash TEXT, needs TEXT,
     PRIMARY KEY(change, number));
 CREATE TABLE IF NOT EXISTS vote(repository TEXT, request INTEGER, object TEXT, change INTEGER, revision INTEGER,
     told_change INTEGER, told_revision INTEGER, taken_back INTEGER DEFAULT 0,
     PRIMARY KEY(repository, request, object));
 CREATE TABLE IF NOT EXISTS telling(place INTEGER PRIMARY KEY AUTOINCREMENT, change INTEGER, id TEXT UNIQUE, said TEXT,
-    answer TEXT);
+    answer TEXT, reply INTEGER, replies INTEGER);
 CREATE INDEX IF NOT EXISTS telling_change ON telling(change, place);
+CREATE INDEX IF NOT EXISTS telling_reply ON telling(reply);
 CREATE TABLE IF NOT EXISTS remark(change INTEGER, kind TEXT, place INTEGER, text TEXT,
     PRIMARY KEY(change, kind, place));
 """
@@ -121,8 +125,8 @@ class Changes:
 
     def send_later(self, change: int, telling: Telling, said: Delivery) -> None:
         identity = id_of(self.outbox.get("file")["ids"], telling.kind, change, telling.revision, *telling.stands_for)
-        self.tables.execute("INSERT OR IGNORE INTO telling(change, id, said) VALUES (?, ?, ?)",
-                            (change, identity, json.dumps(said)))
+        self.tables.execute("INSERT OR IGNORE INTO telling(change, id, said, replies) VALUES (?, ?, ?, ?)",
+                            (change, identity, json.dumps(said), self.replies()))
         self.outbox.keep(Kept(str(change), identity, "forge", said))
 
     def answered(self, identity: str, reply: str | None, code: str | None) -> None:
@@ -130,9 +134,14 @@ class Changes:
         row = self.tables.execute("SELECT change, place, said FROM telling WHERE id = ?", (identity,)).fetchone()
         if row is None:
             return
-        self.tables.execute("UPDATE telling SET answer = ? WHERE id = ?", (reply or code, identity))
-        if reply == "recorded" and json.loads(row[2])["kind"] == "revision":
-            self.tables.execute("DELETE FROM telling WHERE change = ? AND place < ?", row[:2])
+        with self.step():
+            number = self.replies() + 1 if reply is not None else None
+            if number is not None:
+                self.outbox.put("replies", number)
+            self.tables.execute("UPDATE telling SET answer = ?, reply = ? WHERE id = ?",
+                                (reply or code, number, identity))
+            if reply == "recorded" and json.loads(row[2])["kind"] == "revision":
+                self.tables.execute("DELETE FROM telling WHERE change = ? AND place < ?", row[:2])
 
     def land(self, change: int) -> None:
         """Notes that the gate, or the branch, has a change's landing: nothing more is told of it."""
@@ -164,8 +173,28 @@ class Changes:
         row = self.tables.execute("SELECT repository, request FROM change WHERE number = ?", (change,)).fetchone()
         return None if row is None else Place(*row)
 
-    def tell_again(self, change: int | None = None) -> None:
-        """Keeps what was told of a change, or of all, and still holds: what the gate has gets a kept reply.
+    def replies(self) -> int:
+        """The number of replies by now."""
+        return self.outbox.get("replies") or 0
+
+    def replies_known(self, knows: Callable[[str], bool]) -> int:
+        """How many of the replies a gate that was restored has still, at least, given whether it knows a delivery.
+
+        It has lost the last ones that it gave. Their numbers may differ a little from its order, as one has its number
+        when it comes here; but all that were here before a delivery was kept were given before its own.
+        """
+        rows = self.tables.execute("SELECT reply FROM telling WHERE reply NOT NULL ORDER BY reply")
+        numbers = [row[0] for row in rows]
+
+        def row_of(number: int) -> tuple[str, int]:
+            return self.tables.execute("SELECT id, replies FROM telling WHERE reply = ?", (number,)).fetchone()
+
+        at = bisect.bisect_left(numbers, True, key=lambda it: not knows(row_of(it)[0]))
+        return row_of(numbers[at - 1])[1] if at else 0
+
+    def tell_again(self, change: int | None = None, known: int = 0) -> None:
+        """Keeps what was told of a change, or of all, and still holds: what the gate has gets a kept reply. What is known
+        to it for certain is left out: the first replies, so many.
 
         What was `stale` came too late once. Told to a gate that was restored it could come too early. Of what has
         landed in the branch, nothing is told that the gate hasn't taken before. Call it within a step.
@@ -174,10 +203,11 @@ class Changes:
         self.tables.execute("DELETE FROM delivery WHERE lane = coalesce(?, lane)", (lane,))
         rows = self.tables.execute(
             "SELECT change, id, said, answer, landed FROM telling JOIN change ON change.number = change"
-            " WHERE change = coalesce(?, change) ORDER BY place", (change,))
+            " WHERE change = coalesce(?, change) AND coalesce(reply, ?) > ? ORDER BY place", (change, known + 1, known))
         for number, identity, said, answer, landed in rows.fetchall():
             is_over = answer == "stale" or answer is not None and answer[0] == "E" and answer not in LACKING
             if not is_over and not (landed and (answer is None or answer in LACKING)):
+                self.tables.execute("UPDATE telling SET reply = NULL WHERE id = ?", (identity,))
                 self.outbox.keep(Kept(str(number), identity, "forge", json.loads(said)))
 
     def forget(self) -> None:

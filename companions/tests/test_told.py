@@ -2,6 +2,7 @@
 from __future__ import annotations
 
 import json
+import random
 import tempfile
 import unittest
 from pathlib import Path
@@ -30,6 +31,8 @@ class Case(unittest.TestCase):
 
     def open(self) -> None:
         self.outbox = Outbox(self.file)
+        # What is on disk after a crash isn't tested here.
+        self.outbox.tables.execute("PRAGMA synchronous=OFF")
         self.changes = Changes(self.outbox)
 
     def keep(self, kind: str, revision: int, *stands_for: str, votes: tuple[str, ...] = (), so: Request = SO,
@@ -128,9 +131,9 @@ class Tables(Case):
 
 
 class Again(Case):
-    def tell_again(self) -> list[str]:
+    def tell_again(self, known: int = 0) -> list[str]:
         with self.changes.step():
-            self.changes.tell_again()
+            self.changes.tell_again(known=known)
         return self.kinds()
 
     def test_what_holds_is_told_again_under_the_same_ids(self) -> None:
@@ -188,6 +191,53 @@ class Again(Case):
         with self.changes.step():
             self.changes.tell_again(1)
         self.assertEqual(self.kinds(), ["revision 2 1", "approved 2 1", "revision 1 1", "approved 1 1"])
+
+    def test_what_a_restored_gate_has_still_is_left_out(self) -> None:
+        self.keep("revision", 1, A)
+        ids = [self.kept()[0][0]]
+        for number in range(1, 1001):
+            self.answer("recorded")
+            self.keep("approved", 1, f"review {number}")
+            ids.append(self.kept()[0][0])
+        asked = []
+        known = self.changes.replies_known(lambda it: asked.append(it) or it in ids[:900])
+        self.assertEqual((known, len(asked) <= 10), (899, True))
+        self.tell_again(known)
+        self.assertEqual([it for it, _ in self.kept()], ids[899:])
+
+    def test_all_that_a_restored_gate_has_lost_is_told_again(self) -> None:
+        """Also where answers were lost, deliveries had to wait, and the gate is restored more than once."""
+        for seed in range(60):
+            chance = random.Random(seed)
+            self.setUp()
+            gate: list[str] = []
+            for act in range(60):
+                self.act_at(gate, chance, act)
+                if chance.random() < 0.1:
+                    lost = set(gate[chance.randrange(len(gate) + 1):])
+                    gate[:] = [it for it in gate if it not in lost]
+                    self.tell_again(self.changes.replies_known(gate.__contains__))
+                    left = {it for it, _ in self.kept()}
+                    self.assertLessEqual(lost, left, (seed, act))
+
+    def act_at(self, gate: list[str], chance: random.Random, act: int) -> None:
+        """One more delivery is kept, or one is sent, whose answer may be lost."""
+        if chance.random() < 0.4:
+            self.change = self.changes.number(Place("acme/lib", chance.randrange(12, 16)), "main")
+            self.keep("approved", 1, f"review {act}")
+            return
+        firsts = self.outbox.firsts()
+        if not firsts:
+            return
+        # The first lanes may have to wait.
+        first = firsts[min(chance.choice((0, 0, 1, 2)), len(firsts) - 1)]
+        if chance.random() < 0.2:
+            return
+        if first.id not in gate:
+            gate.append(first.id)
+        if chance.random() < 0.7:
+            self.changes.answered(first.id, "recorded", None)
+            self.outbox.tables.execute("DELETE FROM delivery WHERE id = ?", (first.id,))
 
     def test_another_file_was_told_nothing(self) -> None:
         self.keep("revision", 1, A)
