@@ -271,15 +271,17 @@ class People(Case):
             "    Depends-On: nothing: names no request of this forge", "Mend them in the text of the request."])
 
     def test_one_that_is_closed_is_told_once_the_gate_has_answered(self) -> None:
+        # Others are asked about first.
+        others = [self.be(number, 1) for number in (9, 10, 11)]
         place = self.be(12, 0, self.approve(1))
         self.tell()
         self.be(12, 0, state=State.CLOSED)
-        self.gate.order(1)
+        self.gate.order(4)
         self.tell(place)
-        self.assertEqual([it.change for it in self.adapter.subjects.all()], [1])
+        self.assertEqual([it.change for it in self.adapter.subjects.all()], [1, 2, 3, 4])
         self.gate.orders = []
         self.assertEqual(self.tell()[0], f"acme/lib {self.commits[0]}: failure: Closed without landing")
-        self.assertEqual((self.adapter.subjects.all(), self.tell(place)), ([], []))
+        self.assertEqual((len(self.adapter.subjects.all()), self.tell(place)), (len(others), []))
 
     def test_one_whose_branch_is_not_gated_any_more(self) -> None:
         place = self.be(12, 0)
