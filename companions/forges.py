@@ -24,8 +24,14 @@ APPROVES = "/gate approve"
 # The most bytes that an answer of a forge's API, or a hook, may have.
 LARGEST = 8 * 1024 * 1024
 
+# How many elements of a list are asked for at a time.
+PAGE = 50
+
 # The longest pause that a forge is believed to ask for, in seconds.
 LONGEST_PAUSE = 3600.0
+
+# The most bytes of answers that are kept to be asked for again only where they have changed.
+MOST_KEPT = 64 * 1024 * 1024
 
 
 class ForgeFault(Exception):
@@ -85,12 +91,43 @@ class Opinion:
     vote: Vote
 
 
+@dataclass(frozen=True)
+class Content:
+    """What an answer brought: its content, the header `Link`, and a tag by which to ask whether it has changed."""
+    content: bytes
+    link: str
+    tag: str
+
+
+class KeptAnswers:
+    """The last answers that had a tag, by path. A forge sends nothing again that hasn't changed, and GitHub doesn't
+    count the question: so all open requests may be looked at every few minutes."""
+
+    def __init__(self, most: int = MOST_KEPT) -> None:
+        self.most, self.size = most, 0
+        self.of_path: dict[str, Content] = {}
+
+    def keep(self, path: str, answer: Content) -> None:
+        """Keeps an answer behind all others, and drops the oldest where they are too much."""
+        self.drop(path)
+        if answer.tag:
+            self.of_path[path] = answer
+            self.size += len(answer.content)
+        while self.size > self.most:
+            self.drop(next(iter(self.of_path)))
+
+    def drop(self, path: str) -> None:
+        old = self.of_path.pop(path, None)
+        self.size -= len(old.content) if old else 0
+
+
 class Api:
     """A forge's API: JSON over HTTP, a request a connection. A forge that asks for a pause isn't called until then."""
 
     def __init__(self, url: str, headers: Mapping[str, str], timeout: float = 30.0) -> None:
         self.url, self.timeout, self.resting = urllib.parse.urlsplit(url.rstrip("/")), timeout, 0.0
         self.headers = {"Accept": "application/json", "User-Agent": "gated-adapter", **headers}
+        self.kept = KeptAnswers()
 
     def call(self, method: str, path: str, said: Any = None) -> Any:
         """What the API answers; `ForgeFault` for all statuses but 2xx."""
@@ -109,22 +146,34 @@ class Api:
         """What the API answers, and what its header `Link` has."""
         if time.time() < self.resting:
             raise ForgeFault(f"{method} {path}: not asked, since the forge wants a pause")
-        kind = http.client.HTTPSConnection if self.url.scheme == "https" else http.client.HTTPConnection
-        body = None if said is None else json.dumps(said).encode()
-        headers = self.headers if body is None else {**self.headers, "Content-Type": "application/json"}
+        kept = self.kept.of_path.get(path) if method == "GET" else None
         try:
-            connection = kind(self.url.hostname or "", self.url.port, timeout=self.timeout)
-            with contextlib.closing(connection):
-                connection.request(method, self.url.path + path, body, headers)
-                response = connection.getresponse()
-                content = content_of(response)
+            response, content = self.exchange(method, path, said, kept)
+            if response.status == 304 and kept is not None:
+                return json.loads(kept.content), kept.link
             if response.status // 100 != 2:
                 text = content[:200].decode("utf-8", "replace")
                 self.resting = time.time() + pause_of(response)
                 raise ForgeFault(f"{method} {path}: status {response.status}, {text!r}", response.status, text)
-            return json.loads(content), response.getheader("Link", "")
+            answer = Content(content, response.getheader("Link", ""), response.getheader("ETag", ""))
+            if method == "GET":
+                self.kept.keep(path, answer)
+            return json.loads(content), answer.link
         except (OSError, http.client.HTTPException, ValueError, RecursionError) as fault:
             raise ForgeFault(f"{method} {path}: {fault or type(fault).__name__}") from fault
+
+    def exchange(self, method: str, path: str, said: Any, kept: Content | None
+                 ) -> tuple[http.client.HTTPResponse, bytes]:
+        """One request, and the whole content of its answer."""
+        kind = http.client.HTTPSConnection if self.url.scheme == "https" else http.client.HTTPConnection
+        body = None if said is None else json.dumps(said).encode()
+        headers = {**self.headers, **({"Content-Type": "application/json"} if body is not None else {}),
+                   **({"If-None-Match": kept.tag} if kept else {})}
+        connection = kind(self.url.hostname or "", self.url.port, timeout=self.timeout)
+        with contextlib.closing(connection):
+            connection.request(method, self.url.path + path, body, headers)
+            response = connection.getresponse()
+            return response, content_of(response)
 
     def pages(self, path: str, size: str, has_links: bool) -> Iterator[Any]:
         """All elements of a list that comes by pages; `size` is how the API calls the number of elements on a page.
@@ -134,7 +183,7 @@ class Api:
         """
         page, seen, between = 1, set[int](), "&" if "?" in path else "?"
         while True:
-            where = f"{path}{between}{size}=50&page={page}"
+            where = f"{path}{between}{size}={PAGE}&page={page}"
             found, link = self.answer("GET", where, None)
             with expected(where):
                 if not isinstance(found, list):
@@ -143,6 +192,9 @@ class Api:
                 seen.update(it["id"] for it in new)
             yield from new
             if not new or has_links and 'rel="next"' not in link:
+                # A full page stays the same when the next one comes to be.
+                if len(found) >= PAGE:
+                    self.kept.drop(where)
                 return
             page += 1
 

@@ -193,8 +193,8 @@ class Changes:
         return row_of(numbers[at - 1])[1] if at else 0
 
     def tell_again(self, change: int | None = None, known: int = 0) -> None:
-        """Keeps what was told of a change, or of all, and still holds: what the gate has gets a kept reply. What is known
-        to it for certain is left out: the first replies, so many.
+        """Keeps what was told of a change, or of all, and still holds: what the gate has gets a kept reply. Left out is
+        what got one of the first replies, so many as are known.
 
         What was `stale` came too late once. Told to a gate that was restored it could come too early. Of what has
         landed in the branch, nothing is told that the gate hasn't taken before. Call it within a step.

@@ -6,7 +6,7 @@ import unittest
 from datetime import timedelta
 from email.message import Message
 
-from companions.forges import FAILURE, PENDING, SUCCESS, Place
+from companions.forges import FAILURE, PAGE, PENDING, SUCCESS, Content, KeptAnswers, Place
 from companions.gitlab import UNDECIDED
 from companions.requests import State
 from companions.tests.forges import StandInForge
@@ -291,6 +291,41 @@ class GitHubTest(EachForm, Case):
 
 class GiteaTest(GitHubTest):
     kind = "gitea"
+
+
+class UnchangedTest(Case):
+    """GitHub sends nothing again that hasn't changed."""
+
+    def test_what_has_not_changed_is_not_sent_again(self) -> None:
+        self.model.approve(self.place, "ann")
+        first, server = self.asked(), self.forge.server
+        self.assertEqual((self.asked(), server.unchanged, len(server.asked)), (first, 3, 6))
+        self.model.approve(self.place, "ben")
+        self.assertEqual(([it.person for it in self.asked().votes], server.unchanged), (["ann", "ben"], 5))
+
+    def test_a_list_that_grows_by_a_page(self) -> None:
+        for number in range(PAGE + 5):
+            self.assertEqual(len(list(self.client.open_requests(LIB))), number + 1)
+            self.model.open(LIB, TWO, "main", "One more")
+
+    def test_a_full_page_is_not_kept(self) -> None:
+        """Its tag may stay the same when the next page comes to be."""
+        for _ in range(PAGE - 1):
+            self.model.comment(self.place, "ann", "Well")
+        self.asked()
+        self.model.comment(self.place, "ann", "/gate approve")
+        where = f"/repos/{LIB}/issues/1/comments?per_page={PAGE}&page=1"
+        self.assertIn(where, self.client.api.kept.of_path)
+        self.asked()
+        self.assertEqual([it for it in self.client.api.kept.of_path if "comments" in it], [])
+
+    def test_the_oldest_are_dropped(self) -> None:
+        kept = KeptAnswers(most=10)
+        for path, size, tag in (("a", 4, "x"), ("b", 4, "x"), ("c", 9, ""), ("a", 5, "y"), ("d", 4, "x")):
+            kept.keep(path, Content(b"." * size, "", tag))
+        self.assertEqual((list(kept.of_path), kept.size), (["a", "d"], 9))
+        kept.keep("a", Content(b"", "", ""))
+        self.assertEqual((list(kept.of_path), kept.size), (["d"], 4))
 
 
 class GitLabTest(EachForm, Case):

@@ -26,7 +26,7 @@ def signature(secret: str, body: bytes) -> str:
 class GitHubForm(Form):
     """GitHub, whose lists come by pages with links."""
 
-    pull_path, description_limit = "pull", 140
+    pull_path, description_limit, has_tags = "pull", 140, True
     review_states = {"approved": "APPROVED", "rejected": "CHANGES_REQUESTED"}
 
     def may(self, headers: dict[str, str]) -> bool:
@@ -165,6 +165,7 @@ class GiteaForm(GitHubForm):
     """Gitea, which says what was dismissed by a member, has comments whole, and links pull requests' pages alone."""
 
     prefix, page_name, largest_page, pull_path, description_limit = "/api/v1", "limit", 50, "pulls", 10**6
+    has_tags = False
     review_states = {"approved": "APPROVED", "rejected": "REQUEST_CHANGES"}
     zone = timezone(timedelta(hours=2))
 

@@ -1,6 +1,7 @@
 """The HTTP side of a stand-in forge: it asks its form what to answer, unless it is in trouble."""
 from __future__ import annotations
 
+import hashlib
 import json
 import re
 import sys
@@ -41,6 +42,8 @@ class Form:
     """A forge's API and its hooks, over a model. Each kind of forge is a subclass."""
 
     prefix, page_name, largest_page = "", "per_page", 100
+    # Whether it says by a tag that an answer has changed.
+    has_tags = False
 
     def __init__(self, model: Model, token: str, secret: str) -> None:
         self.model, self.token, self.secret = model, token, secret
@@ -100,15 +103,16 @@ class HttpServer(ThreadingHTTPServer):
 
 
 class Server:
-    """`asked` is what came: method and target. Troubles: `plan` says what goes wrong with the next answers, in order,
-    `fail` (it is 500), `limit` (it is 429, with the headers `limits`), `cut` (its content is missing) or nothing;
-    `odds` is the probability that one is 500, before or
-    after what was asked is done, and `delay` the seconds that each one takes."""
+    """`asked` is what came: method and target; `unchanged` questions were answered by that. Troubles: `plan` says what
+    goes wrong with the next answers, in order, `fail` (it is 500), `limit` (it is 429, with the headers `limits`),
+    `cut` (its content is missing) or nothing; `odds` is the probability that one is 500, before or after what was asked
+    is done, and `delay` the seconds that each one takes."""
 
     def __init__(self, form: Form) -> None:
         self.form, self.asked, self.plan = form, list[tuple[str, str]](), list[str]()
         self.delay, self.odds, self.chance = 0.0, 0.0, Random(1)
         self.limits: dict[str, str] = {}
+        self.unchanged = 0
         self.lock = threading.Lock()
         self.server = HttpServer(("127.0.0.1", 0), handler_of(self))
         self.url = f"http://127.0.0.1:{self.server.server_port}"
@@ -145,8 +149,14 @@ def handler_of(server: Server) -> type[BaseHTTPRequestHandler]:
             headers = {name.title(): value for name, value in self.headers.items()}
             reply, is_whole = server.reply(self.command, self.path, body, headers)
             content = json.dumps(reply.said).encode()
+            more = {"Connection": "close"}
+            if server.form.has_tags and self.command == "GET" and reply.status == 200:
+                more["ETag"] = f'W/"{hashlib.sha256(content + str(reply.headers).encode()).hexdigest()}"'
+                if headers.get("If-None-Match") == more["ETag"]:
+                    server.unchanged += 1
+                    reply, content = Reply(304, None), b""
             self.send_response(reply.status)
-            for name, value in {**reply.headers, "Content-Length": str(len(content)), "Connection": "close"}.items():
+            for name, value in {**reply.headers, **more, "Content-Length": str(len(content))}.items():
                 self.send_header(name, value)
             self.end_headers()
             self.wfile.write(content if is_whole else b"")
