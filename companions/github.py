@@ -1,38 +1,7 @@
 """GitHub, and what Gitea has alike: pull requests, reviews, comments and statuses over REST.
 
-The calls, below the address of the API: `https://api.github.com` for GitHub, `https://HOST/api/v1` for Gitea.
-OWNER/NAME is a repository, N a pull request's number. Where it isn't said otherwise, both have them in the same form.
-
-    GET   /repos/OWNER/NAME/pulls/N                       number, state (open, closed), merged, draft, title, body,
-                                                          head.sha, base.ref; 404 where there is none
-    GET   /repos/OWNER/NAME/pulls?state=open              list: id, number
-    GET   /repos/OWNER/NAME/pulls/N/reviews               list: id, user.login, state, commit_id, submitted_at.
-              state at GitHub: APPROVED, CHANGES_REQUESTED, DISMISSED, COMMENTED, PENDING; at Gitea: APPROVED,
-              REQUEST_CHANGES, COMMENT, PENDING, REQUEST_REVIEW, and `dismissed` is a member of its own
-    GET   /repos/OWNER/NAME/issues/N/comments             list: id, user.login, body, created_at
-    GET   /repos/OWNER/NAME/collaborators/LOGIN/permission  permission (admin, write, read, none; at Gitea owner too);
-              Gitea tells it only to a token of somebody who administers the repository
-    POST  /repos/OWNER/NAME/statuses/HASH                 state (pending, success, failure), context, description
-    POST  /repos/OWNER/NAME/issues/N/comments             body; answered with id
-    PATCH /repos/OWNER/NAME/issues/comments/ID            body; 404 where somebody has deleted it
-
-Lists come by pages: `page` counts from 1, and `per_page` (GitHub) or `limit` (Gitea) is how many are on one. GitHub
-links the next one by the header `Link`. Gitea links some lists only, sends fewer than asked for where its settings say
-so (MAX_RESPONSE_ITEMS), and the comments of a request whole, whichever page is asked for.
-
-The token goes in the header `Authorization`, as `Bearer TOKEN` (GitHub) or `token TOKEN` (Gitea).
-
-Hooks: JSON, with a secret, for the events of pull requests, their reviews and comments (GitHub: pull_request,
-pull_request_review, issue_comment). A hook has `repository.full_name`, and `pull_request.number` or `issue.number`.
-It is signed by HMAC-SHA256 of the body in hexadecimal digits: `X-Hub-Signature-256: sha256=...` (GitHub) or
-`X-Gitea-Signature: ...` (Gitea).
-
-Git has a pull request's head as refs/pull/N/head.
-
-The gate's own comment ends with a line that isn't shown, by which it is found where its number isn't known.
-
-A person's comment doesn't say of which commit it is: as a vote it is of the revision at which it is first seen.
-GitHub takes at most 1,000 statuses of a commit and a description of at most 140 characters.
+docs/CONNECTING.md ("What is asked of a forge") lists the calls and hooks, each with its form. What `Gitea` doesn't say
+otherwise is the same for both.
 """
 from __future__ import annotations
 

@@ -1,38 +1,7 @@
 """GitLab: merge requests, notes and statuses over its REST API.
 
-The calls, below the address of the API, `https://HOST/api/v4`. ID is a project's path, `group/name`, with %2F for each
-slash; N is a merge request's `iid`.
-
-    GET  /projects/ID/merge_requests/N               iid, state (opened, locked, closed, merged), draft, title,
-                                                     description, sha, target_branch; 404 where there is none
-    GET  /projects/ID/merge_requests?state=opened    list: id, iid
-    GET  /projects/ID/merge_requests/N/approvals     approved_by: list of user.username
-    GET  /projects/ID/merge_requests/N/notes?sort=asc&order_by=created_at   list: id, system, body, created_at,
-                                                     author.username
-    GET  /projects/ID/merge_requests/N/versions      list: id, head_commit_sha, created_at
-    GET  /projects/ID/members/all?query=NAME         list: id, username, access_level (30 is Developer)
-    POST /projects/ID/statuses/HASH                  state (pending, success, failed), name, description
-    POST /projects/ID/merge_requests/N/notes         body; answered with id
-    PUT  /projects/ID/merge_requests/N/notes/NOTE    body; 404 where somebody has deleted it
-
-Lists come by pages: `page` counts from 1, `per_page` is how many are on one, and the header `Link` links the next one.
-The token goes in the header `PRIVATE-TOKEN`.
-
-Hooks: with a secret token, for the events of merge requests and comments. A hook has `object_kind` (merge_request or
-note), `project.path_with_namespace`, and `object_attributes.iid` or, if it is of a note, `merge_request.iid`. It brings
-the secret as it is, in the header `X-Gitlab-Token`.
-
-Git has a merge request's head as refs/merge-requests/N/head.
-
-The gate's own comment ends with a line that isn't shown, by which it is found where its number isn't known.
-
-An approval is told from a later one of the same person by the note that GitLab itself writes of it. Of which commit it
-is, or a comment, its time says: that of the last version of the request before it. Reviewers who request changes aren't
-read: no vote is against.
-
-GitLab refuses to set a status that is pending to pending again (400, "Cannot transition status"), so its text couldn't
-change either: while it is pending, it refers to the comment. It takes no status of a commit that is on no branch of the
-project (404, "References for commit"), as those of a fork aren't: that is no fault, and the comment has to do.
+docs/CONNECTING.md ("What is asked of a forge") lists the calls and hooks, each with its form, and says how GitLab's
+approvals and statuses differ from those of others.
 """
 from __future__ import annotations
 

@@ -1,0 +1,77 @@
+"""The settings that docs/CONNECTING.md shows and lists are those that are read."""
+from __future__ import annotations
+
+import re
+import tempfile
+import unittest
+import unittest.mock
+from pathlib import Path
+
+from companions.settings import ROLES, Reader, Settings, SettingsFault, read
+
+PAGE = Path(__file__).resolve().parents[2] / "docs" / "CONNECTING.md"
+# What the page's example doesn't have, and is read only where it is there.
+LOGS = '[adapter]\nlogs = "https://logs.example/{build}"\n'
+ACCOUNTS = "".join(f'[gate.{it}]\nuser = "a"\npassword = "b"\n' for it in ROLES)
+# Tables of which nothing is said but by their members; those of accounts are told in one row.
+TABLES = {"gate", "lander", "worker", "watch", *(f"gate.{role}.{it}" for role in ROLES for it in ("user", "password"))}
+
+
+def example() -> str:
+    """The companions.toml of the walk."""
+    return re.findall(r"^```toml\n(folder .*?)^```", PAGE.read_text(encoding="utf-8"), re.MULTILINE | re.DOTALL)[0]
+
+
+def members() -> str:
+    """The page's table of members, with what stands around it."""
+    return PAGE.read_text(encoding="utf-8").split("\n## The settings of the companions\n")[1].split("\n## ")[0]
+
+
+def listed() -> list[str]:
+    """The members in the table's first column."""
+    rows = re.findall(r"^\| (`.*?) \|", members(), re.MULTILINE)
+    return [it for row in rows for it in re.findall(r"`([^`]+)`", row)]
+
+
+def settings_of(text: str) -> Settings:
+    with tempfile.TemporaryDirectory() as folder:
+        file = Path(folder) / "companions.toml"
+        file.write_text(text, encoding="utf-8")
+        return read(file)
+
+
+def members_read(text: str) -> set[str]:
+    """The whole names of the members that are read of a file."""
+    names: set[str] = set()
+
+    def end(reader: Reader) -> None:
+        names.update(re.sub(r"\[\d+\]", "", reader.where) + it for it in reader.read)
+
+    with unittest.mock.patch.object(Reader, "end", end):
+        settings_of(text)
+    return names
+
+
+class PageTest(unittest.TestCase):
+    def test_the_example_is_read(self) -> None:
+        settings = settings_of(example())
+        self.assertIsNotNone(settings.adapter)
+        assert settings.adapter is not None
+        self.assertEqual((settings.adapter.form, settings.adapter.port), ("gitea", 8090))
+        self.assertEqual([it.forge for it in settings.projects.values()], ["acme/lib"])
+        self.assertIn(f'[forge]\nbase = "{settings.adapter.base}"\n', PAGE.read_text(encoding="utf-8"))
+
+    def test_what_is_read_is_listed_and_what_is_listed_is_read(self) -> None:
+        found = members_read(example().replace("[adapter]\n", LOGS) + ACCOUNTS)
+        self.assertEqual(sorted(listed()), sorted(found - TABLES))
+
+    def test_what_must_be_there_has_no_default(self) -> None:
+        rows = re.findall(r"^\| (`.*?) \|.*\| must be there \|$", members(), re.MULTILINE)
+        names = {it for row in rows for it in re.findall(r"`([^`]+)`", row)} - {"project"}
+        for name in sorted(names):
+            with self.subTest(name), self.assertRaisesRegex(SettingsFault, "is missing"):
+                settings_of(re.sub(rf"^{name.split('.')[-1]} = .*\n", "", example(), flags=re.MULTILINE))
+
+
+if __name__ == "__main__":
+    unittest.main()
