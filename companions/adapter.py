@@ -60,7 +60,7 @@ class Adapter:
     def once(self, now: float) -> None:
         """One round. Without an answer of the gate all stays as it is."""
         try:
-            if not self.file.is_known:
+            if not self.file.is_known or now >= self.compare_at:
                 self.file.ask()
             if now >= self.compare_at:
                 self.compare_at = now + (self.compare if self.hint_at_all() else REST * self.settings.pause)

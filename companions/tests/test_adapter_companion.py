@@ -322,6 +322,17 @@ class Files(Case):
         self.assertIn("adapter: the gate has an earlier state of its file: what still holds is told again",
                       self.lines())
 
+    def test_what_a_restored_gate_lacks_is_told_though_nothing_is_new(self) -> None:
+        self.be(12, 0)
+        self.look()
+        before = copy.deepcopy(self.gate)
+        place = self.be(12, 0, self.approve(1))
+        self.look(place)
+        self.gate = before
+        self.assertEqual(self.look(place), [])
+        self.assertEqual(self.look(), ["revision 1 1", "approved 1 1"])
+        self.assertEqual(self.gate.changes[1]["order"], 1)
+
     def test_a_new_file_is_told_anew_and_needs_new_votes(self) -> None:
         place = self.be(12, 0, self.approve(1))
         self.look()
