@@ -1,6 +1,8 @@
 """What has to hold on the stage once each command of the page was run: run there by stage.sh."""
 from __future__ import annotations
 
+import hashlib
+import hmac
 import subprocess
 import time
 import tomllib
@@ -52,6 +54,16 @@ def check_proxy() -> None:
     told(curl("elsewhere", f"forge:{passwords()['forge']}")[0] == 404, "another path")
 
 
+def check_hooks() -> None:
+    """Hooks reach the adapter by the proxy, without a name, and are believed where they are signed."""
+    secret = tomllib.loads(Path("/etc/gated/companions.toml").read_text())["adapter"]["secret"]
+    for by, status in ((secret, 200), ("somebody else", 403)):
+        signature = hmac.new(by.encode(), b"{}", hashlib.sha256).hexdigest()
+        words = ["curl", "-s", "-w", " %{http_code}", "-d", "{}", "-H", f"X-Gitea-Signature: {signature}"]
+        said = ran(*words, "https://gate.example/hook").stdout
+        told(said.endswith(f" {status}") and "hook" in said, f"a hook: {said}")
+
+
 def check_log() -> None:
     """Of a worker's answers of status 404 only E12 is left out of the proxy's log."""
     account = f"worker:{passwords()['worker']}"
@@ -82,11 +94,11 @@ def check_missing_file() -> None:
 def check_units() -> None:
     units = sorted(str(it) for it in Path("/etc/systemd/system").glob("gated*"))
     verified = ran("systemd-analyze", "--man=no", "verify", *(it.replace("@.", "@w1.") for it in units))
-    told(len(units) == 7 and verified.returncode == 0 and verified.stdout + verified.stderr == "",
+    told(len(units) == 8 and verified.returncode == 0 and verified.stdout + verified.stderr == "",
          f"units are well: {verified.stdout}{verified.stderr}")
     told(all(" init " not in Path(it).read_text() for it in units), "no unit makes a file")
 
 
-for check in (check_proxy, check_log, check_units, check_missing_file):
+for check in (check_proxy, check_hooks, check_log, check_units, check_missing_file):
     check()
 print("all was checked")
