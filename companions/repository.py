@@ -156,4 +156,8 @@ class Repository:
             return True
         if any("stale info" in line or "fetch first" in line for line in ran.stdout.splitlines()):
             return False
-        raise GitFault(f"git push {self.address}: {ran.stdout.strip()} {ran.stderr.strip()}")
+        # Without the commits, of which each try of a landing has another: so a trouble that stays is told once.
+        said = ran.stdout.strip()
+        for name, (_, new) in updates.items():
+            said = said.replace(f"{new}:{name}", name)
+        raise GitFault(f"git push {self.address}: {said} {ran.stderr.strip()}")

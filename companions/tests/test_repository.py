@@ -76,8 +76,13 @@ class Git(unittest.TestCase):
         hook.parent.mkdir(exist_ok=True)
         hook.write_text("#!/bin/sh\nexit 1\n")
         hook.chmod(0o755)
-        with self.assertRaisesRegex(GitFault, "declined"):
+        with self.assertRaisesRegex(GitFault, "declined") as told:
             self.repository.push({"refs/heads/main": (self.head, new)})
+        # Each try of a landing has a commit of its own, and the same trouble.
+        other = self.change("refs/changes/1/2", {"a": "2"}, self.head)
+        with self.assertRaises(GitFault) as told_again:
+            self.repository.push({"refs/heads/main": (self.head, other)})
+        self.assertEqual(str(told.exception), str(told_again.exception))
         self.origin.folder.rename(self.folder / "away.git")
         with self.assertRaises(GitFault):
             self.repository.push({"refs/heads/main": (self.head, new)})
