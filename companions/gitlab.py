@@ -17,7 +17,8 @@ from companions.requests import Request, State, Vote
 
 STATES = {"opened": State.OPEN, "locked": State.OPEN, "closed": State.CLOSED, "merged": State.MERGED}
 WORDS = {"pending": "pending", "success": "success", "failure": "failed"}
-UNDECIDED = "not decided: see the comment of the gate"
+# All pending statuses of a commit have one text. There is no comment before the first approval.
+UNDECIDED = "Waits for approval, or see the comment of the gate"
 
 # The notes that GitLab itself writes of approvals.
 APPROVED, UNAPPROVED = "approved this merge request", "unapproved this merge request"

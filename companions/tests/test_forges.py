@@ -8,6 +8,7 @@ from email.message import Message
 
 from companions.forges import FAILURE, PAGE, PENDING, SUCCESS, Content, KeptAnswers, Place
 from companions.gitlab import UNDECIDED
+from companions.people_texts import unapproved
 from companions.requests import State
 from companions.tests.forges import StandInForge
 from companions.tests.forges.case import LIB, ONE, TWO, Case
@@ -338,6 +339,8 @@ class GitLabTest(EachForm, Case):
         for text in ("waits", "tests"):
             self.client.set_status(LIB, ONE, PENDING, text)
         self.assertEqual(self.model.statuses, [Status(LIB, ONE, "pending", UNDECIDED)])
+        # It is true where there is no comment yet.
+        self.assertTrue(UNDECIDED.startswith(unapproved(None).status))
         self.client.set_status(LIB, ONE, FAILURE, "unit failed")
         self.assertEqual(self.model.status(LIB, ONE), Status(LIB, ONE, "failure", "unit failed"))
 
