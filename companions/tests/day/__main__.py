@@ -13,44 +13,56 @@ import tempfile
 from pathlib import Path
 
 from companions.gate import NoAnswer
-from companions.tests.day.course import Day
+from companions.tests.day.course import Course, Day
 from companions.tests.day.parts import Differs
-from companions.tests.day.scenes import SCENES, scene, turned
+from companions.tests.day.scenes import SCENES, Scene, scene, turned
 from companions.tests.day.stage import Stage, missing
 
 
-def main() -> int:
+def arguments() -> argparse.Namespace:
+    names = sorted(SCENES)
     words = argparse.ArgumentParser(prog="companions.tests.day", description="A day of a gate and its companions.")
     what = words.add_mutually_exclusive_group(required=True)
     what.add_argument("seed", nargs="?", type=int, metavar="SEED", help="a whole day by this seed")
-    what.add_argument("--turn", choices=sorted(SCENES), help="this scene with a wrong part, which has to be found")
-    what.add_argument("--scene", choices=sorted(SCENES), help="the same scene with all parts right")
+    what.add_argument("--turn", choices=names, help="this scene with a wrong part, which has to be found")
+    what.add_argument("--scene", choices=names, help="the same scene with all parts right")
     given = words.parse_args()
+    given.name = given.turn or given.scene
+    return given
+
+
+def course_of(given: argparse.Namespace, folder: Path) -> Course:
+    """What is to be played, on its stage."""
+    stage = Stage(folder, given.turn)
+    return Scene(stage) if given.name else Day(stage, given.seed)
+
+
+def main() -> int:
+    given = arguments()
     lacking = missing()
     if lacking is not None:
         print(f"differs: {lacking}")
         return 1
     folder = Path(tempfile.mkdtemp(prefix="day-")).resolve()
-    stage = Stage(folder, given.turn)
+    course = course_of(given, folder)
     signal.signal(signal.SIGTERM, lambda number, frame: sys.exit(128 + number))
-    name = given.turn or given.scene
     try:
         if given.turn:
-            print(f"found: {turned(stage, given.turn)[0]}")
+            print(f"found: {turned(course, SCENES[given.turn])[0]}")
             found = []
         else:
-            found = scene(stage, given.scene) if given.scene else Day(stage, given.seed).run()
+            found = course.run() if isinstance(course, Day) else scene(course, SCENES[given.scene])
     except (Differs, NoAnswer) as fault:
         found = [str(fault)]
     finally:
-        stage.end()
+        course.stage.end()
     for it in found:
         print(f"differs: {it}")
     if found:
         print(f"what was left lies in {folder}", file=sys.stderr)
         return 1
     shutil.rmtree(folder, ignore_errors=True)
-    print(f"ok {given.turn or given.scene or given.seed}")
+    print(f"ok {given.name or given.seed}")
     return 0
 
 

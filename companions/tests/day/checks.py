@@ -6,6 +6,7 @@ import re
 from collections import Counter
 from collections.abc import Callable, Iterator
 from dataclasses import dataclass
+from typing import Any
 
 from companions.gate import NoAnswer
 from companions.tests.day.developers import Developers
@@ -50,6 +51,10 @@ class Checks:
         self.queues = list(dict.fromkeys(it.queue for it in stage.projects))
         self.landings = {queue: self.landings_of(queue) for queue in self.queues}
 
+    def each(self) -> list[Callable[[], Iterator[str]]]:
+        return [self.check_places, self.check_branches, self.check_once, self.check_determined, self.check_trees,
+                self.check_gate, self.check_deliveries, self.check_changes, self.check_quiet]
+
     def projects_of(self, queue: str) -> list[str]:
         return [it.name for it in self.stage.projects if it.queue == queue]
 
@@ -89,7 +94,7 @@ class Checks:
     def check_branches(self) -> Iterator[str]:
         """A branch is its first commit and then its notes in order; each merges the very revision that it names."""
         for project in self.stage.projects:
-            words = ("log", "--first-parent", "--reverse", "--format=%H", "base..main")
+            words = ("log", "--first-parent", "--reverse", "--format=%H", f"base..{project.branch}")
             branch, notes = self.stage.git(project.name, *words).split(), self.notes(project.name, project.queue)
             noted = [notes[place] for place in sorted(notes) if place]
             if branch != noted:
@@ -105,7 +110,7 @@ class Checks:
             if times > 1:
                 yield f"change {change} landed {times} times"
         for it in self.all():
-            if it.revision in self.developers.changes[it.change].broken:
+            if self.developers.is_broken(it.change, it.revision):
                 yield f"{it} is broken"
 
     def ran_by_workers(self) -> list[Ran]:
@@ -153,9 +158,9 @@ class Checks:
         """The reports of a queue's history, split."""
         return [line.split() for line in (self.stage.gate.lines(f"/history/{queue}") or [])[1:]]
 
-    def deliveries(self) -> list[dict[str, object]]:
+    def deliveries(self) -> list[dict[str, Any]]:
         """All that the gate accepted, in its order."""
-        told: list[dict[str, object]] = []
+        told: list[dict[str, Any]] = []
         while True:
             path = f"/deliveries/{told[-1]['id']}" if told else "/deliveries"
             lines = self.stage.gate.lines(path) or []
@@ -163,15 +168,19 @@ class Checks:
             if len(lines) < 1000:
                 return told
 
-    def check_deliveries(self) -> Iterator[str]:
-        """Nothing was acted on twice: each id is there once, and so is each landing, and all that was said."""
-        told = self.deliveries()
+    def twice(self, told: list[dict[str, Any]]) -> Iterator[str]:
+        """What was accepted twice, of which each landing is told once."""
         yield from (f"delivery {id} was accepted {times} times"
                     for id, times in Counter(it["id"] for it in told).items() if times > 1)
         orders = Counter(it["order"] for it in told if it["kind"] == "landed")
         yield from (f"order {order} was landed {times} times" for order, times in orders.items() if times > 1)
         if len(orders) != len(self.all()):
             yield f"the gate accepted {len(orders)} landings, and the branches have {len(self.all())}"
+
+    def check_deliveries(self) -> Iterator[str]:
+        """Nothing was acted on twice: each id is there once, and so is each landing, and all that was said."""
+        told = self.deliveries()
+        yield from self.twice(told)
         accepted = Counter((it["kind"], it["change"], it["revision"]) for it in told if "change" in it)
         said = Counter(self.developers.said)
         landed = {it.change: it.revision for it in self.all()}
@@ -210,14 +219,10 @@ def shows(ran: Ran, landed: Landed, job: str) -> bool:
     return ran.passed and ran.trees == {it: tree for it, tree in landed.trees.items() if it not in missing}
 
 
-def differences(stage: Stage, developers: Developers) -> list[str]:
+def differences(checks: Checks) -> list[str]:
     """All that differs; the gate has to be quiet, or nothing more may come of it."""
-    checks = Checks(stage, developers)
-    each: list[Callable[[], Iterator[str]]] = [
-        checks.check_places, checks.check_branches, checks.check_once, checks.check_determined, checks.check_trees,
-        checks.check_gate, checks.check_deliveries, checks.check_changes, checks.check_quiet]
     found: list[str] = []
-    for check in each:
+    for check in checks.each():
         try:
             found += check()
         except (Differs, NoAnswer) as fault:

@@ -11,14 +11,24 @@ from companions.tests.day.developers import Developers, Step, late_plan, plan
 from companions.tests.day.keeper import Keeper
 from companions.tests.day.parts import Differs, wait_for
 from companions.tests.day.stage import COMPANIONS, Stage
-from companions.tests.day.troubles import Kills
+from companions.tests.day.troubles import Kills, Trouble
 
 
 class Course:
     """What a day and a scene have: a stage that is set, developers and an operator."""
 
     def __init__(self, stage: Stage) -> None:
-        self.stage, self.developers, self.keeper = stage, Developers(stage), Keeper(stage)
+        self.stage, self.keeper = stage, Keeper(stage)
+        self.developers = self.make_developers()
+
+    def make_developers(self) -> Developers:
+        return Developers(self.stage)
+
+    def checks(self) -> Checks:
+        return Checks(self.stage, self.developers)
+
+    def differences(self) -> list[str]:
+        return differences(self.checks())
 
     def begin(self) -> None:
         """Starts all parts, the gate first."""
@@ -52,14 +62,15 @@ class Course:
         if project is None:
             return
         note = self.stage.git(project, "log", "-1", "--format=%B", f"refs/landings/{queue}/{place:06d}")
-        change = self.developers.changes[int(note.partition("Gate-Change: ")[2].split()[0])]
-        known = self.stage.gate.change(change.number)
+        number = int(note.partition("Gate-Change: ")[2].split()[0])
+        known = self.stage.gate.change(number)
         if known and known["state"] == "open" and known["order"] is None and known["approval"] is None:
-            self.stage.note(f"approve {change.number} again for the lander")
-            self.developers.approve(change)
+            self.stage.note(f"approve {number} again for the lander")
+            self.developers.approve(self.developers.of_gate(number))
 
-    def state(self, change: int) -> str:
-        known = self.stage.gate.change(change)
+    def state(self, change: int | None) -> str:
+        """What the gate says of a change, by its number there."""
+        known = None if change is None else self.stage.gate.change(change)
         return "unknown" if known is None else known["state"]
 
     def settle(self) -> None:
@@ -70,12 +81,13 @@ class Course:
         """
         for _ in range(6):
             self.stage.note("settle")
-            self.stage.adapter("send")
+            self.stage.send()
             wait_for("the queues to run empty", self.is_idle, 0.3)
             waiting = {change for change, _ in self.stage.gate.status().waiting}
-            hopeless = [it for it in self.developers.changes.values() if it.number in waiting and not it.lands]
-            missing = [it for it in self.developers.changes.values()
-                       if it.lands and it.number not in waiting and self.state(it.number) == "open"]
+            at_gate = [(self.developers.number(it), it) for it in self.developers.changes.values()]
+            hopeless = [it for number, it in at_gate if number in waiting and not it.lands]
+            missing = [it for number, it in at_gate
+                       if it.lands and number not in waiting and self.state(number) == "open"]
             self.stage.note(f"approve again {[it.number for it in missing]}, close {[it.number for it in hopeless]}")
             for change in hopeless:
                 self.developers.close(change)
@@ -92,7 +104,7 @@ class Course:
             self.settle()
         except Differs as fault:
             found.append(str(fault))
-        return found + differences(self.stage, self.developers)
+        return found + self.differences()
 
 
 class Day(Course):
@@ -105,21 +117,26 @@ class Day(Course):
 
     def run(self) -> list[str]:
         self.begin()
-        kills = Kills(self.stage, random.Random(self.chance.random()))
-        kills.start()
+        troubles = self.troubles()
+        for it in troubles:
+            it.start()
         try:
             for name, act in self.acts():
                 self.stage.note(name)
                 act()
                 time.sleep(self.chance.uniform(0.0, 0.5))
         finally:
-            kills.end()
+            for it in troubles:
+                it.end()
         return self.end()
+
+    def troubles(self) -> list[Trouble]:
+        return [Kills(self.stage, random.Random(self.chance.random()))]
 
     def end(self) -> list[str]:
         """What differs; the standby has to be what the gate is."""
         found = super().end()
-        last = Checks(self.stage, self.developers).deliveries()[-1]["id"]
+        last = self.checks().deliveries()[-1]["id"]
         try:
             wait_for("the standby to show what the gate shows",
                      lambda: f"both show the same at {last}" in self.stage.log("follow"), 0.3)
@@ -129,12 +146,15 @@ class Day(Course):
 
     def acts(self) -> list[tuple[str, Callable[[], None]]]:
         """All that happens, in its order: the developers' steps, with the great troubles at random places between."""
-        early, late = ([(f"{it.what} {it.change.number}", self.step(it)) for it in steps]
-                       for steps in (plan(self.chance), late_plan(self.chance)))
+        early, late = ([(f"{it.what} {it.change.number}", self.step(it)) for it in steps] for steps in self.plans())
         self.put(early, [self.keeper.backup, self.keeper.stop_following, self.lose_and_restore, self.push_past,
                          self.take_back])
         self.put(late, [self.keeper.stop_following, self.lose_and_take_over])
         return [*early, ("add_project", self.keeper.add_project), *late]
+
+    def plans(self) -> tuple[list[Step], list[Step]]:
+        """The steps before a project is added, and those behind."""
+        return plan(self.chance), late_plan(self.chance)
 
     def step(self, it: Step) -> Callable[[], None]:
         return lambda: self.developers.do(it)
@@ -149,13 +169,13 @@ class Day(Course):
         with self.stage.lock:
             self.keeper.lose()
             self.keeper.restore()
-        self.keeper.tell_again()
+        self.stage.tell_again()
 
     def lose_and_take_over(self) -> None:
         with self.stage.lock:
             self.keeper.lose()
             self.keeper.take_over()
-        self.keeper.tell_again()
+        self.stage.tell_again()
 
     def push_past(self) -> None:
         self.past = self.developers.push_past("site")

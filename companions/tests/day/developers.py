@@ -3,6 +3,7 @@ from __future__ import annotations
 
 import random
 from dataclasses import dataclass, field
+from pathlib import Path
 
 from companions.tests.day.parts import Differs, run
 from companions.tests.day.stage import Stage
@@ -90,7 +91,7 @@ def shuffled(chance: random.Random, changes: list[list[Step]]) -> list[Step]:
 
 
 class Developers:
-    """Does the steps, by git and by the adapter's commands."""
+    """Does the steps, by git and by the adapter's commands. Changes have their numbers at the gate."""
 
     def __init__(self, stage: Stage) -> None:
         self.stage, self.environment = stage, stage.environment
@@ -98,30 +99,57 @@ class Developers:
         # What was said of changes, in its order: kind, change and revision.
         self.said: list[tuple[str, int, int]] = []
 
+    def number(self, change: Change) -> int | None:
+        """The number that a change has at the gate, if it has one."""
+        return change.number
+
+    def of_gate(self, number: int) -> Change:
+        """The change of a number at the gate."""
+        return self.changes[number]
+
+    def is_broken(self, number: int, revision: int) -> bool:
+        """Whether this revision of a change, by its number at the gate, may never land."""
+        return revision in self.changes[number].broken
+
     def do(self, step: Step) -> None:
         if step.files:
             step.change.files = dict(step.files)
         getattr(self, step.what)(step.change)
 
     def push(self, change: Change) -> None:
-        """A new revision is pushed. All begin at the first commit, so that none brings another one along."""
+        """A new revision is pushed."""
         self.changes[change.number] = change
-        clone = self.clone(change.project)
-        for name, text in change.files.items():
-            (clone / name).parent.mkdir(exist_ok=True)
-            (clone / name).write_text(text + "\n", encoding="utf-8")
         message = f"Change {change.number}\n\n" + "".join(f"Depends-On: https://forge/c/{it}\n" for it in change.needs)
         change.revision += 1
-        for words in (["add", "."], ["commit", "--quiet", "--message", message],
-                      ["push", "--quiet", self.address(change.project, "developer"),
-                       f"HEAD:refs/changes/{change.number}/{change.revision}"]):
-            run(["git", "-C", str(clone), *words], self.environment)
+        self.commit(change, message, f"refs/changes/{change.number}/{change.revision}")
         self.said.append(("revision", change.number, change.revision))
 
-    def address(self, project: str, who: str) -> str:
-        return f"ssh://{who}@forge{self.stage.folder}/repos/{project}.git"
+    def commit(self, change: Change, message: str, name: str) -> str:
+        """Makes a commit of a change's files, and pushes it to a name of the repository.
 
-    def clone(self, project: str):
+        All begin at the first commit, so that none brings another one along.
+        """
+        clone = self.clone(change.project)
+        for file, text in change.files.items():
+            (clone / file).parent.mkdir(exist_ok=True)
+            (clone / file).write_text(text + "\n", encoding="utf-8")
+        self.git(clone, "add", ".")
+        self.git(clone, "commit", "--quiet", "--message", message)
+        self.push_commit(change, "HEAD", name)
+        return self.git(clone, "rev-parse", "HEAD")
+
+    def push_commit(self, change: Change, commit: str, name: str) -> None:
+        """Pushes a commit that the change's clone has to a name of the repository, whatever that was."""
+        clone = self.stage.folder / "developer" / change.project
+        self.git(clone, "push", "--quiet", self.address(change.project, "developer"), f"+{commit}:{name}")
+
+    def git(self, clone: Path, *words: str) -> str:
+        return run(["git", "-C", str(clone), *words], self.environment).strip()
+
+    def address(self, project: str, who: str) -> str:
+        return f"ssh://{who}@forge{self.stage.folder}/repos/{self.stage.project(project).home}.git"
+
+    def clone(self, project: str) -> Path:
         """A clone at the first commit, with nothing else in it."""
         clone = self.stage.folder / "developer" / project
         if not clone.exists():
@@ -142,17 +170,23 @@ class Developers:
     def close(self, change: Change) -> None:
         self.say("close", "closed", change)
 
-    def push_past(self, project: str) -> tuple[str, str]:
-        """Somebody who may pushes to the branch, past the lander: what it was, and what it is now."""
+    def push_past(self, project: str, merged: str | None = None) -> tuple[str, str]:
+        """Somebody who may pushes to the branch, past the lander: what it was, and what it is now.
+
+        It is a commit of its own, or the merge of another one.
+        """
         clone = self.clone(project)
         around = {**self.environment, "GIT_DIR": str(clone / ".git"), "GIT_WORK_TREE": str(clone)}
         for _ in range(50):
             run(["git", "fetch", "--quiet", "origin", "main"], around)
             old = run(["git", "rev-parse", "FETCH_HEAD"], around).strip()
             run(["git", "checkout", "--quiet", "--detach", old], around)
-            (clone / "title").write_text("Past the gate\n", encoding="utf-8")
-            run(["git", "add", "."], around)
-            run(["git", "commit", "--quiet", "--message", "Past the gate"], around)
+            if merged is not None:
+                run(["git", "merge", "--quiet", "--no-ff", "--message", "Past the gate", merged], around)
+            else:
+                (clone / "title").write_text("Past the gate\n", encoding="utf-8")
+                run(["git", "add", "."], around)
+                run(["git", "commit", "--quiet", "--message", "Past the gate"], around)
             new = run(["git", "rev-parse", "HEAD"], around).strip()
             try:
                 run(["git", "push", "--quiet", self.address(project, "lander"), f"{new}:refs/heads/main"], around)

@@ -64,10 +64,6 @@ class Keeper:
             self.stage.gated("init", self.stage.standby)
             self.stage.start("follow")
 
-    def tell_again(self) -> None:
-        """Whoever told the gate something tells it again: nobody knows what the follower hadn't read."""
-        self.stage.adapter("tell-again")
-
     def add_project(self) -> None:
         """Repository and companions first, then the gate. The standby has the rest told under the settings before."""
         with self.stage.lock:

@@ -15,11 +15,21 @@ PASSWORD = "day-and-night"
 
 @dataclass(frozen=True)
 class Project:
-    """A project of the day: its queue, its jobs and whether they vote, and the files of its first commit."""
+    """A project of the day: its queue, its jobs and whether they vote, and the files of its first commit.
+
+    It has a repository of its own, unless it names that of another project, of which it is another branch then.
+    """
     name: str
     queue: str
     jobs: tuple[tuple[str, bool], ...]
     files: tuple[tuple[str, str], ...]
+    branch: str = "main"
+    repository: str = ""
+
+    @property
+    def home(self) -> str:
+        """The name of its repository."""
+        return self.repository or self.name
 
 
 # Jobs are deterministic: what they say depends on the trees alone. A slow one takes its time and says the same.
@@ -90,20 +100,31 @@ def write_script(file: Path, text: str) -> None:
     file.chmod(0o755)
 
 
-def make_repository(folder: Path, project: Project, around: dict[str, str]) -> None:
-    """A bare repository with a first commit on `main`, which `base` keeps, and the hooks."""
-    seed, bare = folder / "seed" / project.name, folder / "repos" / f"{project.name}.git"
+def make_repository(folder: Path, project: Project, around: dict[str, str], hooks: dict[str, str]) -> None:
+    """A bare repository with a first commit on the project's branch, which `base` keeps, and hooks.
+
+    One that is there already, as another project's, gets the branch.
+    """
+    seed, bare = folder / "seed" / project.home, folder / "repos" / f"{project.home}.git"
+    if bare.exists():
+        run(["git", "-C", str(bare), "branch", project.branch, "base"], around)
+        return
     seed.mkdir(parents=True)
-    run(["git", "init", "--quiet", "--initial-branch=main", str(seed)], around)
+    run(["git", "init", "--quiet", f"--initial-branch={project.branch}", str(seed)], around)
     for name, text in project.files:
         (seed / name).parent.mkdir(exist_ok=True)
         (seed / name).write_text(text + "\n", encoding="utf-8")
     for words in (["add", "."], ["commit", "--quiet", "--message", "Begin"], ["branch", "base"],
                   ["clone", "--quiet", "--bare", str(seed), str(bare)]):
         run(["git", "-C", str(seed), *words], around)
-    write_script(bare / "hooks" / "update", UPDATE)
-    write_script(bare / "hooks" / "post-receive",
-                 f'#!/bin/sh\nexec python3 {ADAPTER} {folder / "adapter.toml"} post-receive\n')
+    for name, text in hooks.items():
+        write_script(bare / "hooks" / name, text)
+
+
+def git_hooks(folder: Path) -> dict[str, str]:
+    """The hooks of repositories that are their own forge."""
+    return {"update": UPDATE,
+            "post-receive": f'#!/bin/sh\nexec python3 {ADAPTER} {folder / "adapter.toml"} post-receive\n'}
 
 
 def gate_settings(projects: list[Project]) -> str:
@@ -117,15 +138,18 @@ def gate_settings(projects: list[Project]) -> str:
     return text
 
 
-def companions_settings(folder: Path, port: int, projects: list[Project], where: str) -> str:
-    """The companions' file; `where` stands before the folder of the repositories in their addresses."""
+def companions_settings(folder: Path, port: int, projects: list[Project], where: str, more: str = "") -> str:
+    """The companions' file; `where` stands before the folder of the repositories in their addresses.
+
+    `more` are tables of a day of another kind.
+    """
     text = f'folder = "{folder}/companions"\n[gate]\nurl = "https://127.0.0.1:{port}"\npause = {pace()}\n'
     for role, user in USERS.items():
         text += f'[gate.{role}]\nuser = "{user}"\npassword = "{PASSWORD}"\n'
-    text += '[worker]\nlook = 1.0\n[watch]\ngrace = 3.0\nstands = 20.0\n'
+    text += f'[worker]\nlook = 1.0\n[watch]\ngrace = 3.0\nstands = 20.0\n{more}'
     for project in projects:
-        text += (f'[[project]]\nname = "{project.name}"\nqueue = "{project.queue}"\nbranch = "main"\n'
-                 f'repository = "{where}{folder}/repos/{project.name}.git"\n')
+        text += (f'[[project]]\nname = "{project.name}"\nqueue = "{project.queue}"\nbranch = "{project.branch}"\n'
+                 f'repository = "{where}{folder}/repos/{project.home}.git"\nforge = "acme/{project.home}"\n')
         for job, _ in project.jobs:
             text += f'[[project.job]]\nname = "{job}"\ncommand = "sh {folder}/job {job}"\nlimit = {12 + 10 * pace()}\n'
     return text

@@ -3,13 +3,13 @@ from __future__ import annotations
 
 from collections.abc import Callable
 from dataclasses import dataclass
+from typing import Any
 
 from companions.gate import Gate
-from companions.tests.day.checks import differences
 from companions.tests.day.course import Course
 from companions.tests.day.developers import Change
 from companions.tests.day.parts import wait_for
-from companions.tests.day.stage import WORKERS, Stage
+from companions.tests.day.stage import WORKERS
 
 
 class Scene(Course):
@@ -57,7 +57,7 @@ def back(it: Scene) -> None:
     it.restore_backup()
     # 103 comes first now, and has the order that 102 had.
     it.developers.approve(it.developers.changes[103])
-    it.keeper.tell_again()
+    it.stage.tell_again()
 
 
 def take_over(it: Scene) -> None:
@@ -81,7 +81,7 @@ def take_over(it: Scene) -> None:
     direct.post("worker", {"id": take, "kind": "take", "worker": "nobody"})
     it.developers.said.append(("approved", broken.number, 1))
     it.stage.start("nginx", "adapter", "lander")
-    it.keeper.tell_again()
+    it.stage.tell_again()
 
 
 def haste(it: Scene) -> None:
@@ -108,8 +108,8 @@ def lost_file(it: Scene) -> None:
 
 @dataclass(frozen=True)
 class Played:
-    """A scene, and what is found at its end where the part is turned."""
-    play: Callable[[Scene], None]
+    """A scene, which is given its course, and what is found at its end where the part is turned."""
+    play: Callable[[Any], None]
     found: str
 
 
@@ -122,23 +122,21 @@ SCENES = {
 }
 
 
-def scene(stage: Stage, name: str) -> list[str]:
+def scene(course: Course, played: Played) -> list[str]:
     """Plays a scene to its end; what differs."""
-    course = Scene(stage)
     course.begin()
-    SCENES[name].play(course)
+    played.play(course)
     return course.end()
 
 
-def turned(stage: Stage, name: str) -> list[str]:
+def turned(course: Course, played: Played) -> list[str]:
     """Plays a scene with its wrong part, until what has to be found is there; what differs then."""
-    course = Scene(stage)
     course.begin()
-    SCENES[name].play(course)
+    played.play(course)
     found: list[str] = []
 
     def is_found() -> bool:
-        found[:] = [it for it in differences(stage, course.developers) if SCENES[name].found in it]
+        found[:] = [it for it in course.differences() if played.found in it]
         return bool(found)
-    wait_for(f"{SCENES[name].found!r} to be found", is_found, 0.5)
+    wait_for(f"{played.found!r} to be found", is_found, 0.5)
     return found

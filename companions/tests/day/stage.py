@@ -48,7 +48,11 @@ def free_port() -> int:
 
 
 class Stage:
-    """All that runs in a day, in one folder. `turned` names a wrong part that is started in place of the right one."""
+    """All that runs in a day, in one folder. `turned` names a wrong part that is started in place of the right one.
+
+    Here the repositories are their own forge: their hooks call the adapter, and so does whoever says something.
+    """
+    first_projects = (LIB, APP, SITE)
 
     def __init__(self, folder: Path, turned: str | None = None) -> None:
         self.folder, self.turned = folder, turned
@@ -70,7 +74,7 @@ class Stage:
         (self.folder / "witness").touch()
         self.port, self.proxy = free_port(), free_port()
         layout.make_proxy(self.folder, self.proxy, self.port, self.environment)
-        for project in (LIB, APP, SITE):
+        for project in self.first_projects:
             self.add_project(project)
         self.write_gate_settings()
         self.gated("init", self.file)
@@ -79,18 +83,22 @@ class Stage:
         self.make_parts()
 
     def make_parts(self) -> None:
-        companions = str(self.folder / "companions.toml")
+        companions, adapter = (str(self.folder / f"{it}.toml") for it in ("companions", "adapter"))
         self.add_part("gate", self.gate_words())
         self.add_part("nginx", ["nginx", "-g", "daemon off;", "-c", str(self.folder / "proxy" / "nginx.conf")])
-        self.add_part("adapter", [sys.executable, str(ADAPTER), str(self.folder / "adapter.toml"), "stay"])
+        self.add_part("adapter", self.adapter_words(adapter))
         for name in ("lander", "watch"):
             self.add_part(name, [sys.executable, "-m", f"companions.{name}", companions])
         for name in WORKERS:
             self.add_part(name, [sys.executable, "-m", "companions.worker", companions, name])
         part = (self.turned or "").partition("-")[0]
-        for name in {"lander": ("lander",), "worker": WORKERS}.get(part, ()):
-            own = [companions] if part == "lander" else [companions, name]
-            self.add_part(name, [sys.executable, "-m", "companions.tests.day.turned", str(self.turned), *own])
+        own = {"lander": {"lander": [companions]}, "adapter": {"adapter": [adapter]},
+               "worker": {it: [companions, it] for it in WORKERS}}
+        for name, words in own.get(part, {}).items():
+            self.add_part(name, [sys.executable, "-m", "companions.tests.day.turned", str(self.turned), *words])
+
+    def adapter_words(self, settings: str) -> list[str]:
+        return [sys.executable, str(ADAPTER), settings, "stay"]
 
     def add_part(self, name: str, words: list[str]) -> None:
         self.parts[name] = Part(name, words, self.folder / "logs" / name, self.environment)
@@ -106,11 +114,22 @@ class Stage:
 
     def add_project(self, project: Project) -> None:
         """First the repository, then the companions' settings. Those of the gate come last."""
-        layout.make_repository(self.folder, project, self.environment)
+        layout.make_repository(self.folder, project, self.environment, self.hooks())
         self.projects.append(project)
-        for name, where in (("companions.toml", "ssh://lander@forge"), ("adapter.toml", "")):
-            text = layout.companions_settings(self.folder, self.proxy, self.projects, where)
+        for name, (where, more) in self.companions().items():
+            text = layout.companions_settings(self.folder, self.proxy, self.projects, where, more)
             (self.folder / name).write_text(text, encoding="utf-8")
+
+    def hooks(self) -> dict[str, str]:
+        """The hooks of a repository, by their names."""
+        return layout.git_hooks(self.folder)
+
+    def companions(self) -> dict[str, tuple[str, str]]:
+        """The companions' settings files: what stands before the repositories' folder, and tables of their own."""
+        return {"companions.toml": ("ssh://lander@forge", ""), "adapter.toml": ("", "")}
+
+    def project(self, name: str) -> Project:
+        return next(it for it in self.projects if it.name == name)
 
     def write_gate_settings(self) -> None:
         self.settings.write_text(layout.gate_settings(self.projects), encoding="utf-8")
@@ -119,10 +138,20 @@ class Stage:
         return run([str(program()), command, str(self.settings), str(file), *words], self.environment, given)
 
     def git(self, project: str, *words: str) -> str:
-        return run(["git", "-C", str(self.folder / "repos" / f"{project}.git"), *words], self.environment).strip()
+        """What git prints in a project's repository."""
+        repository = self.folder / "repos" / f"{self.project(project).home}.git"
+        return run(["git", "-C", str(repository), *words], self.environment).strip()
 
     def adapter(self, *words: str) -> str:
         return run([sys.executable, str(ADAPTER), str(self.folder / "adapter.toml"), *words], self.environment)
+
+    def send(self) -> None:
+        """Has all sent that the adapter keeps."""
+        self.adapter("send")
+
+    def tell_again(self) -> None:
+        """Has a gate that was restored told again: nobody knows what the follower hadn't read."""
+        self.adapter("tell-again")
 
     def start(self, *names: str) -> None:
         for name in names:

@@ -9,27 +9,49 @@ from companions.tests.day.stage import COMPANIONS, Stage
 KILLS = 22
 
 
-class Kills(threading.Thread):
-    """Kills one part after another, and starts it again, most often at once."""
+class Trouble(threading.Thread):
+    """Does something beside what a day does, until it is ended."""
 
-    def __init__(self, stage: Stage, chance: random.Random) -> None:
+    def __init__(self) -> None:
         super().__init__(daemon=True)
-        self.stage, self.chance = stage, chance
         self.over = threading.Event()
         self.fault: Exception | None = None
 
     def run(self) -> None:
+        try:
+            self.go()
+        except Exception as fault:  # pylint: disable=broad-except
+            self.fault = fault
+
+    def go(self) -> None:
+        """What is done. Whoever waits waits for `over`."""
+        raise NotImplementedError
+
+    def end(self) -> None:
+        """No more of it; what went wrong in this thread goes wrong here."""
+        self.over.set()
+        if self.is_alive():
+            self.join()
+        if self.fault is not None:
+            raise self.fault
+
+
+class Kills(Trouble):
+    """Kills one part after another, and starts it again, most often at once."""
+
+    def __init__(self, stage: Stage, chance: random.Random) -> None:
+        super().__init__()
+        self.stage, self.chance = stage, chance
+
+    def go(self) -> None:
         # Each part is killed at least twice.
         names = [*COMPANIONS, "gate", "nginx"] * 2
         names += self.chance.choices(names, k=max(0, KILLS - len(names)))
         self.chance.shuffle(names)
-        try:
-            for name in names:
-                if self.over.wait(self.chance.uniform(0.3, 2.2)):
-                    return
-                self.kill(name)
-        except Exception as fault:  # pylint: disable=broad-except
-            self.fault = fault
+        for name in names:
+            if self.over.wait(self.chance.uniform(0.3, 2.2)):
+                return
+            self.kill(name)
 
     def kill(self, name: str) -> None:
         with self.stage.lock:
@@ -39,10 +61,3 @@ class Kills(threading.Thread):
             self.stage.start(name)
             if name == "gate":
                 self.stage.await_gate()
-
-    def end(self) -> None:
-        """No more kills; what went wrong in this thread goes wrong here."""
-        self.over.set()
-        self.join()
-        if self.fault is not None:
-            raise self.fault
