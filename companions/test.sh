@@ -1,8 +1,8 @@
 #!/bin/sh
 # Tests the companions: their units, days by seeds, and scenes in which one part is wrong and has to be found. The last
 # line counts, and the status is 0 only if nothing failed. GATED is the program, by default the one that `rt run`
-# leaves; SEEDS are the days' seeds, JOBS how many tests run at once, by default one a processor and at most four,
-# PATIENCE the seconds that one may take.
+# leaves; SEEDS are the days' seeds, FORGE_SEEDS those of the days with a forge of each form, JOBS how many tests run
+# at once, by default one a processor and at most four, PATIENCE the seconds that one may take.
 set -u
 script=$(cd "$(dirname "$0")" && pwd)/$(basename "$0")
 cd "$(dirname "$script")/.."
@@ -37,7 +37,13 @@ trap 'rm -rf "$work"' EXIT
   for seed in ${SEEDS:-1 2}; do
     echo "companions.tests.day $seed"
   done
-  for scene in worker-keeps lander-back lander-past worker-hastes unit; do
+  for seed in ${FORGE_SEEDS:-1}; do
+    for form in gitea github gitlab; do
+      echo "companions.tests.day $seed --forge $form"
+    done
+  done
+  for scene in worker-keeps lander-back lander-past worker-hastes unit \
+    "adapter-holds --forge gitea" "adapter-fresh --forge github" "adapter-believes --forge gitlab"; do
     echo "companions.tests.day --turn $scene"
   done
   for file in companions/tests/test_*.py; do

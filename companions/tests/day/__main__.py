@@ -1,5 +1,8 @@
 """A day of a gate and its companions: python3 -m companions.tests.day SEED, or [--turn NAME | --scene NAME].
 
+The repositories are their own forge, by their hooks. With `--forge FORM` a stand-in forge of that form is there, and
+the companion adapter before it. The scenes of the adapter need one.
+
 It says `ok SEED`, or what differs, and leaves its folder then. A scene is a short day that is written down; turned, one
 of its parts is a wrong one, and the scene has to differ.
 """
@@ -13,28 +16,37 @@ import tempfile
 from pathlib import Path
 
 from companions.gate import NoAnswer
+from companions.settings import FORMS
 from companions.tests.day.course import Course, Day
+from companions.tests.day.forge_course import ForgeDay
+from companions.tests.day.forge_scenes import FORGE_SCENES, ForgeScene
+from companions.tests.day.forge_stage import ForgeStage
 from companions.tests.day.parts import Differs
 from companions.tests.day.scenes import SCENES, Scene, scene, turned
 from companions.tests.day.stage import Stage, missing
 
 
 def arguments() -> argparse.Namespace:
-    names = sorted(SCENES)
+    names = sorted({**SCENES, **FORGE_SCENES})
     words = argparse.ArgumentParser(prog="companions.tests.day", description="A day of a gate and its companions.")
     what = words.add_mutually_exclusive_group(required=True)
     what.add_argument("seed", nargs="?", type=int, metavar="SEED", help="a whole day by this seed")
     what.add_argument("--turn", choices=names, help="this scene with a wrong part, which has to be found")
     what.add_argument("--scene", choices=names, help="the same scene with all parts right")
+    words.add_argument("--forge", choices=FORMS, metavar="FORM", help=f"a forge of this form: {', '.join(FORMS)}")
     given = words.parse_args()
     given.name = given.turn or given.scene
+    if given.name and (given.name in FORGE_SCENES) != bool(given.forge):
+        words.error(f"{given.name} is a scene {'with' if given.name in FORGE_SCENES else 'without'} --forge")
     return given
 
 
 def course_of(given: argparse.Namespace, folder: Path) -> Course:
     """What is to be played, on its stage."""
-    stage = Stage(folder, given.turn)
-    return Scene(stage) if given.name else Day(stage, given.seed)
+    stage = ForgeStage(folder, given.forge, given.turn) if given.forge else Stage(folder, given.turn)
+    if given.name:
+        return ForgeScene(stage) if isinstance(stage, ForgeStage) else Scene(stage)
+    return ForgeDay(stage, given.seed) if isinstance(stage, ForgeStage) else Day(stage, given.seed)
 
 
 def main() -> int:
@@ -46,12 +58,13 @@ def main() -> int:
     folder = Path(tempfile.mkdtemp(prefix="day-")).resolve()
     course = course_of(given, folder)
     signal.signal(signal.SIGTERM, lambda number, frame: sys.exit(128 + number))
+    scenes = {**SCENES, **FORGE_SCENES}
     try:
         if given.turn:
-            print(f"found: {turned(course, SCENES[given.turn])[0]}")
+            print(f"found: {turned(course, scenes[given.turn])[0]}")
             found = []
         else:
-            found = course.run() if isinstance(course, Day) else scene(course, SCENES[given.scene])
+            found = course.run() if isinstance(course, Day) else scene(course, scenes[given.scene])
     except (Differs, NoAnswer) as fault:
         found = [str(fault)]
     finally:

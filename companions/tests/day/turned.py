@@ -1,13 +1,21 @@
 """Wrong parts, which a day has to find: python3 -m companions.tests.day.turned NAME companions.toml [WORKER]."""
 from __future__ import annotations
 
+import json
 import sys
-from collections.abc import Callable
+import uuid
+from collections.abc import Callable, Mapping
+from dataclasses import replace
 from pathlib import Path
+from typing import Any
 
-from companions import lander, worker
-from companions.gate import Answer, Order
+from companions import adapter, hooks, lander, worker
+from companions.forges import Forge, Place
+from companions.gate import Answer, Delivery, Order
+from companions.outbox import Kept, Outbox
+from companions.requests import Request, Telling
 from companions.settings import read
+from companions.told import Changes
 from companions.trees import Build
 
 
@@ -41,6 +49,55 @@ class HastyWorker(worker.Worker):
         return "success"
 
 
+class FreshHooks(hooks.Hooks):
+    """Takes each hook of an approval for a new one, whether the same came before or not."""
+
+    def take(self, headers: Any, body: bytes) -> tuple[int, str]:
+        place, said = self.forge.place_of(headers, body), json.loads(body)
+        review, attributes = said.get("review", {}), said.get("object_attributes", {})
+        if place and {"approved", "pull_request_review_approved"} & {
+                review.get("state"), review.get("type"), attributes.get("action")}:
+            self.hints.tables.execute("UPDATE vote SET told_change = NULL, told_revision = NULL"
+                                      " WHERE repository = ? AND request = ?", (place.repository, place.number))
+        return super().take(headers, body)
+
+
+class FreshChanges(Changes):
+    """Draws a fresh id for each delivery."""
+
+    def send_later(self, change: int, telling: Telling, said: Delivery) -> None:
+        super().send_later(change, replace(telling, stands_for=(*telling.stands_for, str(uuid.uuid4()))), said)
+
+
+class Believing:
+    """A forge of which the hooks are believed: a request has the head that its last hook says."""
+
+    def __init__(self, forge: Forge) -> None:
+        self.forge, self.heads = forge, dict[Place, str]()
+
+    def __getattr__(self, name: str) -> Any:
+        return getattr(self.forge, name)
+
+    def place_of(self, headers: Mapping[str, str], body: bytes) -> Place | None:
+        place, said = self.forge.place_of(headers, body), json.loads(body)
+        head = (said.get("pull_request") or {}).get("head", {}).get("sha") or said.get(
+            "object_attributes", {}).get("last_commit", {}).get("id")
+        if place and head:
+            self.heads[place] = head
+        return place
+
+    def request(self, place: Place) -> Request | None:
+        so = self.forge.request(place)
+        return replace(so, head=self.heads.get(place, so.head)) if so else None
+
+
+class HoldingOutbox(Outbox):
+    """Has one lane for all changes."""
+
+    def keep(self, delivery: Kept) -> None:
+        super().keep(replace(delivery, lane="all"))
+
+
 def land_carelessly(words: list[str]) -> None:
     lander.QueueLander = CarelessLander  # type: ignore[misc]
     lander.Lander(read(Path(words[0]))).run()
@@ -55,9 +112,26 @@ def hasten(words: list[str]) -> None:
     HastyWorker(read(Path(words[0])), words[1]).run()
 
 
+def draw_fresh(words: list[str]) -> None:
+    adapter.Changes, adapter.Hooks = FreshChanges, FreshHooks  # type: ignore[misc]
+    adapter.main(words)
+
+
+def believe(words: list[str]) -> None:
+    forms = dict(adapter.FORMS)
+    adapter.FORMS = {name: lambda *it, form=form: Believing(form(*it)) for name, form in forms.items()}
+    adapter.main(words)
+
+
+def hold(words: list[str]) -> None:
+    adapter.Outbox = HoldingOutbox  # type: ignore[misc]
+    adapter.main(words)
+
+
 # By the name of the scene that finds it. The part of `unit` is the gate's, which the stage starts.
 TURNED: dict[str, Callable[[list[str]], None]] = {
-    "lander-past": land_carelessly, "lander-back": land_carelessly, "worker-keeps": keep, "worker-hastes": hasten}
+    "lander-past": land_carelessly, "lander-back": land_carelessly, "worker-keeps": keep, "worker-hastes": hasten,
+    "adapter-fresh": draw_fresh, "adapter-believes": believe, "adapter-holds": hold}
 
 if __name__ == "__main__":
     TURNED[sys.argv[1]](sys.argv[2:])

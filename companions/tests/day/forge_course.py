@@ -1,0 +1,106 @@
+"""The course of a day with a forge, and what its scenes have alike."""
+from __future__ import annotations
+
+import random
+import time
+
+from companions.tests.day.course import Course, Day
+from companions.tests.day.developers import Step
+from companions.tests.day.forge_checks import ForgeChecks
+from companions.tests.day.forge_developers import ForgeDevelopers
+from companions.tests.day.forge_plan import Plan
+from companions.tests.day.forge_stage import ForgeStage
+from companions.tests.day.layout import pace
+from companions.tests.day.troubles import Trouble
+
+# The seconds between two turns in which hooks are sent, as a multiple of `pace`.
+SENDING = 0.5
+# The seconds in which people have to have been told all, once nothing happens any more.
+TELLING = 150.0
+
+
+class ForgeCourse(Course):
+    """What a day and a scene have that have a forge."""
+
+    stage: ForgeStage
+    developers: ForgeDevelopers
+
+    def make_developers(self) -> ForgeDevelopers:
+        return ForgeDevelopers(self.stage)
+
+    def checks(self) -> ForgeChecks:
+        return ForgeChecks(self.stage, self.developers)
+
+    def begin(self) -> None:
+        super().begin()
+        self.stage.begin_forge()
+
+    def help(self, queue: str, landed: int) -> None:
+        """An approval comes to the gate later than it is given, once the adapter has looked."""
+        if self.stage.has_sent():
+            votes = len(self.developers.votes)
+            super().help(queue, landed)
+            if len(self.developers.votes) > votes:
+                self.stage.send()
+
+    def is_idle(self) -> bool:
+        return super().is_idle() and self.stage.has_sent()
+
+    def settle(self) -> None:
+        """What people are told comes later than what the gate is told: the adapter writes so much a minute."""
+        super().settle()
+        self.stage.note("people are told")
+        checks, end = self.checks(), time.monotonic() + TELLING
+        while [*checks.check_statuses(), *checks.check_votes()] and time.monotonic() < end:
+            time.sleep(2 * pace())
+
+    def end(self) -> list[str]:
+        hooks = self.stage.forge.hooks
+        hooks.stop()
+        hooks.release()
+        hooks.start(SENDING * pace())
+        found, fault = super().end(), self.stage.merges.fault
+        return [*found, f"the forge looks at no branches any more: {fault}"] if fault else found
+
+
+class ForgeDay(ForgeCourse, Day):
+    """A whole day with a forge, by its seed."""
+
+    def __init__(self, stage: ForgeStage, seed: int) -> None:
+        super().__init__(stage, seed)
+        self.plan = Plan(self.chance)
+        self.developers.chance = random.Random(self.chance.random())
+        stage.forge.form.cap = self.chance.choice((2, 3))
+
+    def plans(self) -> tuple[list[Step], list[Step]]:
+        return self.plan.early, self.plan.late_steps
+
+    def troubles(self) -> list[Trouble]:
+        return [*super().troubles(), ForgeTroubles(self.stage, random.Random(self.chance.random()))]
+
+    def push_past(self) -> None:
+        self.past = self.developers.merge_past(self.plan.past)
+
+
+class ForgeTroubles(Trouble):
+    """What a forge does to its adapter: hooks that are lost, late or doubled, and an API that is slow or fails."""
+
+    def __init__(self, stage: ForgeStage, chance: random.Random) -> None:
+        super().__init__()
+        self.stage, self.chance = stage, chance
+        self.server = stage.forge.server
+
+    def go(self) -> None:
+        self.server.chance = random.Random(self.chance.random())
+        self.stage.forge.hooks.start(SENDING * pace(), random.Random(self.chance.random()))
+        while not self.over.wait(self.chance.uniform(0.5, 4.0)):
+            self.server.odds = self.chance.choice((0.0, 0.0, 0.05, 0.3))
+            self.server.delay = self.chance.choice((0.0, 0.0, 0.0, 0.2))
+            if self.chance.random() < 0.2:
+                # Too much was asked for: the next question is refused, and a pause is wanted.
+                self.server.limits, self.server.plan = {"Retry-After": "1"}, ["limit"]
+            self.stage.note(f"forge: odds {self.server.odds}, delay {self.server.delay}, next {self.server.plan}")
+
+    def end(self) -> None:
+        super().end()
+        self.server.odds, self.server.delay, self.server.plan = 0.0, 0.0, []

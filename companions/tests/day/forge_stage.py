@@ -1,0 +1,154 @@
+"""The stage of a day with a forge: the companion adapter before a stand-in forge, which runs in the day's own process.
+
+The forge's state is its model, and the repositories are bare ones: whoever pushes a request's head tells the model.
+"""
+from __future__ import annotations
+
+import subprocess
+import sys
+from collections.abc import Callable
+from pathlib import Path
+
+from companions.forges import Place
+from companions.tests.day import layout
+from companions.tests.day.adapter_file import AdapterFile
+from companions.tests.day.layout import APP, LIB, SITE, Project
+from companions.tests.day.parts import wait_for
+from companions.tests.day.stage import Stage, free_port
+from companions.tests.day.troubles import Trouble
+from companions.tests.forges import StandInForge
+
+# Who may write to the repositories, and somebody who may not and votes nevertheless.
+WRITERS, GUEST = ("ann", "ben"), "guest"
+# By whom the forge shows merged what the lander has landed, and what was merged past it.
+LANDER, PAST = "lander", "ann"
+
+# What stands in the address of the list of open requests, for which a comparison asks.
+COMPARISON = "?state=open"
+
+# A second gated branch of a repository, in a queue of its own.
+OLD = Project("old", "web", LIB.jobs, LIB.files, "old", "lib")
+UPDATE = """#!/bin/sh
+# A branch moves by the lander alone, and revisions are named by the adapter.
+case $FORGE_ACCOUNT:$1 in
+lander:refs/heads/* | lander:refs/landings/* | adapter:refs/changes/*) ;;
+developer:refs/pull/* | developer:refs/merge-requests/*) ;;
+*) echo "$FORGE_ACCOUNT may not push $1"; exit 1 ;;
+esac
+"""
+
+
+class ForgeStage(Stage):
+    """All that runs in a day with a forge of a form."""
+    first_projects = (LIB, APP, SITE, OLD)
+
+    def __init__(self, folder: Path, form: str, turned: str | None = None) -> None:
+        super().__init__(folder, turned)
+        self.hook_port = free_port()
+        self.forge = StandInForge(form, f"http://127.0.0.1:{self.hook_port}/hook")
+        self.model, self.client = self.forge.model, self.forge.client()
+        # Some things happen within one second, which is as fine as the times of GitHub and Gitea are.
+        self.model.pace /= 4
+        self.adapter_file = AdapterFile(folder / "companions" / "adapter" / "adapter.db")
+        self.merges = Merges(self)
+        # How many questions had come to the forge when all was to be sent.
+        self.asked = 0
+
+    def make(self) -> None:
+        """Makes all files. The first request of lib was merged before there was a gate."""
+        self.forge.server.start()
+        super().make()
+        head = self.git("lib", "rev-parse", "base")
+        self.git("lib", "update-ref", self.client.head_ref(1), head)
+        self.model.merge(self.model.open(self.name("lib"), head, "main", "Begin"), PAST)
+
+    def add_project(self, project: Project) -> None:
+        self.model.add(self.name(project.home), *WRITERS)
+        super().add_project(project)
+
+    def name(self, home: str) -> str:
+        """The name that a repository has at the forge."""
+        return f"acme/{home}"
+
+    def hooks(self) -> dict[str, str]:
+        return {"update": UPDATE}
+
+    def companions(self) -> dict[str, tuple[str, str]]:
+        return {"companions.toml": ("ssh://lander@forge", ""), "adapter.toml": ("ssh://adapter@forge", self.table())}
+
+    def table(self) -> str:
+        """The adapter's own settings. It looks often: hooks are lost, and a day is short."""
+        it, pace = self.forge, layout.pace()
+        return (f'[adapter]\nform = "{it.kind}"\nurl = "{it.url}"\nweb = "{it.form.web}"\ntoken = "{it.token}"\n'
+                f'secret = "{it.secret}"\nbase = "https://forge/c/"\nlisten = "127.0.0.1:{self.hook_port}"\n'
+                f'compare = {15 * pace}\nlook = {2.5 * pace}\nquiet = {5 * pace}\n')
+
+    def adapter_words(self, settings: str) -> list[str]:
+        return [sys.executable, "-m", "companions.adapter", settings]
+
+    def begin_forge(self) -> None:
+        """From now on branches are looked at, as a forge does by itself."""
+        wait_for("the adapter to know the gate's file", self.adapter_file.note_ids)
+        self.merges.start()
+
+    def send(self) -> None:
+        """The adapter sends by itself: all is sent once it has looked at all requests from now on."""
+        self.asked = len(self.forge.server.asked)
+
+    def has_sent(self) -> bool:
+        """Whether the adapter has looked at all requests since `send`, and the gate has answered all that it keeps.
+
+        It begins a comparison once it has done with the looks before.
+        """
+        with self.forge.server.lock:
+            asked = [target for _, target in self.forge.server.asked[self.asked:]]
+        with self.model.lock:
+            wanted = {place for place, pull in self.model.pulls.items() if pull.state == "open"}
+        paths = {self.path(it) for it in wanted | self.adapter_file.still_open()}
+        if not paths <= set(asked):
+            return False
+        last = max((asked.index(it) for it in paths), default=0)
+        return any(COMPARISON in it for it in asked[last:]) and not self.adapter_file.is_anything_kept()
+
+    def path(self, place: Place) -> str:
+        """The path at which a client asks for a request."""
+        return self.forge.form.prefix + self.client.path(place)  # type: ignore[attr-defined]
+
+    def tell_again(self) -> None:
+        """The adapter sees by itself that the gate was restored."""
+
+    def end(self) -> None:
+        super().end()
+        self.merges.over.set()
+        self.forge.hooks.stop()
+        self.forge.server.stop()
+
+
+class Merges(Trouble):
+    """Shows requests as merged once their branches contain their heads, as forges do."""
+
+    def __init__(self, stage: ForgeStage) -> None:
+        super().__init__()
+        self.stage = stage
+        self.heads: dict[str, str] = {}
+
+    def go(self) -> None:
+        while not self.over.wait(layout.pace()):
+            self.look()
+
+    def look(self) -> None:
+        """Looks at each branch that has moved. Meanwhile nobody does anything at the forge."""
+        for it in list(self.stage.projects):
+            head = self.stage.git(it.name, "rev-parse", f"refs/heads/{it.branch}")
+            if self.heads.get(it.name) != head:
+                self.heads[it.name] = head
+                landed = "\nGate-Change: " in self.stage.git(it.name, "log", "-1", "--format=%B", head)
+                with self.stage.model.lock:
+                    self.stage.model.see_branch(self.stage.name(it.home), it.branch, self.contains(it, head),
+                                                LANDER if landed else PAST)
+
+    def contains(self, project: Project, head: str) -> Callable[[str], bool]:
+        """A question: whether a head of a branch contains a commit."""
+        words = ["git", "-C", str(self.stage.folder / "repos" / f"{project.home}.git"), "merge-base", "--is-ancestor"]
+        return lambda commit: subprocess.run([*words, commit, head], env=self.stage.environment, capture_output=True,
+                                             check=False).returncode == 0
