@@ -65,9 +65,7 @@ class Adapter:
             if now >= self.compare_at:
                 self.compare_at = now + (self.compare if self.hint_at_all() else REST * self.settings.pause)
             self.follow(now)
-            if not self.outbox.is_empty():
-                self.file.ask()
-                self.outbox.send(self.gate, self.answered, self.settings.pause)
+            self.send()
             self.trouble("gate", None)
             if now >= self.look_at:
                 self.look_at = now + self.look
@@ -87,8 +85,15 @@ class Adapter:
         for number in sorted({*self.forge.open_requests(repository), *self.changes.still_open(repository)}):
             self.hints.put(Place(repository, number))
 
+    def send(self) -> None:
+        """Sends what may be sent by now."""
+        if self.outbox.is_due():
+            self.file.ask()
+            self.outbox.send(self.gate, self.answered, self.settings.pause)
+
     def follow(self, now: float) -> None:
-        """Looks at the requests that were hinted at."""
+        """Looks at the requests that were hinted at. What a look has kept is sent before the next one: looks take long
+        where many are hinted at."""
         faults = 0
         for row, place in self.hints.all():
             name = f"{place.repository} {place.number}"
@@ -97,6 +102,7 @@ class Adapter:
             if self.attempt(name, lambda it=place: self.looks.look(it)):
                 self.rests.pop(name, None)
                 self.hints.drop(row)
+                self.send()
                 faults = 0
                 continue
             self.rests[name] = now + REST * self.settings.pause

@@ -78,6 +78,10 @@ class Outbox(Notes):
     def is_empty(self) -> bool:
         return self.tables.execute("SELECT 1 FROM delivery LIMIT 1").fetchone() is None
 
+    def is_due(self) -> bool:
+        """Whether anything may be sent by now."""
+        return any(self.later.get(it.lane, 0.0) <= time.monotonic() for it in self.firsts())
+
     def firsts(self) -> list[Kept]:
         """The first delivery of each lane, the oldest first."""
         rows = self.tables.execute("SELECT lane, id, door, said FROM delivery JOIN (SELECT min(place) AS first FROM"

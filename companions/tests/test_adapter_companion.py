@@ -22,6 +22,13 @@ class Requests(Case):
         self.assertEqual(self.origin.git("rev-parse", "refs/changes/1/1"), self.commits[0])
         self.assertEqual(self.look(), [])
 
+    def test_what_a_look_has_kept_is_sent_before_the_next_look(self) -> None:
+        places = [self.be(it, 0) for it in (12, 13)]
+        sent: dict[Place, int] = {}
+        self.forge.when_asked = lambda place: sent.setdefault(place, len(self.standin.deliveries()))
+        self.look(*places)
+        self.assertEqual([sent[it] for it in places], [0, 1])
+
     def test_a_restart_tells_nothing_again(self) -> None:
         place = self.be(12, 0, self.approve(1))
         self.look()
