@@ -92,23 +92,26 @@ class Adapter:
             self.outbox.send(self.gate, self.answered, self.settings.pause)
 
     def follow(self, now: float) -> None:
-        """Looks at the requests that were hinted at. What a look has kept is sent before the next one: looks take long
-        where many are hinted at."""
-        faults = 0
-        for row, place in self.hints.all():
+        """Looks at the requests that were hinted at. Where these are many, that takes long: so what a look has kept is
+        sent before the next one, and a hook that comes meanwhile is followed next, unless its request had its look."""
+        faults, waiting, done = 0, self.hints.all(), set[Place]()
+        last = waiting[-1][0] if waiting else 0
+        while waiting and faults < FAULTS:
+            row, place = waiting.pop(0)
             name = f"{place.repository} {place.number}"
-            if self.rests.get(name, 0.0) > now:
+            if self.rests.get(name, 0.0) > now or place in done:
                 continue
+            done.add(place)
             if self.attempt(name, lambda it=place: self.looks.look(it)):
                 self.rests.pop(name, None)
                 self.hints.drop(row)
                 self.send()
                 faults = 0
-                continue
-            self.rests[name] = now + REST * self.settings.pause
-            faults += 1
-            if faults == FAULTS:
-                return
+            else:
+                self.rests[name] = now + REST * self.settings.pause
+                faults += 1
+            news = self.hints.all(last)
+            waiting, last = news + waiting, news[-1][0] if news else last
 
     def tell_people(self) -> None:
         for change, kind in self.people.look(self.subjects.all(), time.time()).items():

@@ -34,10 +34,11 @@ class Hints:
             self.tables.execute("INSERT OR REPLACE INTO hint(repository, request) VALUES (?, ?)",
                                 (place.repository, place.number))
 
-    def all(self) -> list[tuple[int, Place]]:
-        """The places, those that were noted first at the front, each with its row."""
+    def all(self, behind: int = 0) -> list[tuple[int, Place]]:
+        """The places of the rows behind one, those that were noted first at the front, each with its row."""
         with self.lock:
-            rows = self.tables.execute("SELECT row, repository, request FROM hint ORDER BY row").fetchall()
+            rows = self.tables.execute("SELECT row, repository, request FROM hint WHERE row > ? ORDER BY row",
+                                       (behind,)).fetchall()
         return [(row, Place(repository, request)) for row, repository, request in rows]
 
     def drop(self, row: int) -> None:

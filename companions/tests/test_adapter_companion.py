@@ -29,6 +29,12 @@ class Requests(Case):
         self.look(*places)
         self.assertEqual([sent[it] for it in places], [0, 1])
 
+    def test_a_hook_that_comes_while_others_are_looked_at_is_followed_next(self) -> None:
+        first, second, third = (self.be(it, 0) for it in (12, 13, 14))
+        self.forge.when_asked = lambda place: place == first and self.adapter.hints.put(third)
+        self.look(first, second)
+        self.assertEqual(self.forge.asked, [first, third, second])
+
     def test_a_restart_tells_nothing_again(self) -> None:
         place = self.be(12, 0, self.approve(1))
         self.look()
