@@ -118,7 +118,8 @@ class People:
         return told, unclear
 
     def statuses(self, told: Sequence[tuple[Subject, Text]], unclear: set[Subject]) -> list[Write]:
-        """The status of each commit that isn't written yet. A commit may be that of several requests."""
+        """The status of each newest commit, and of an earlier one that has landed, where it isn't written yet. A commit
+        may be that of several requests."""
         of_commit: dict[tuple[str, str], list[tuple[Subject, Text]]] = {}
         for subject, text in told:
             of_commit.setdefault((subject.place.repository, subject.commits[-1]), []).append((subject, text))
@@ -128,12 +129,19 @@ class People:
         for (repository, commit), parts in of_commit.items():
             state, text = self.together(parts)
             kind = " ".join(it.kind for _, it in parts)
-            write = Write(f"status {repository} {commit}", tuple(it.change for it, _ in parts), parts[0][0].place, kind,
-                          commit, state, text)
-            noted = self.notes.get(write.name)
-            if noted is None or (noted["state"], noted["text"]) != (state, text):
-                writes.append(write)
-        return writes
+            writes.append(Write(f"status {repository} {commit}", tuple(it.change for it, _ in parts), parts[0][0].place,
+                                kind, commit, state, text))
+        for subject, text in told:
+            repository = subject.place.repository
+            if text.landed is not None and (repository, text.landed[0]) not in of_commit:
+                commit, said = text.landed
+                writes.append(Write(f"status {repository} {commit}", (subject.change,), subject.place, text.kind,
+                                    commit, SUCCESS, said))
+        return [it for it in writes if not self.is_written(it)]
+
+    def is_written(self, status: Write) -> bool:
+        noted = self.notes.get(status.name)
+        return noted is not None and (noted["state"], noted["text"]) == (status.state, status.text)
 
     def together(self, parts: Sequence[tuple[Subject, Text]]) -> tuple[str, str]:
         """The status of a commit by the requests that have it: by those that are open, if any is."""

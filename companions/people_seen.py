@@ -97,12 +97,16 @@ class Words:
 
 @dataclass(frozen=True)
 class Text:
-    """A status and a comment. Texts of one kind differ in how far it is. `is_news`: worth the first comment."""
+    """A status and a comment. Texts of one kind differ in how far it is. `is_news`: worth the first comment.
+
+    `landed` is an earlier commit, where that has landed, with its status.
+    """
     kind: str
     state: str
     status: str
     comment: tuple[str, ...]
     is_news: bool = True
+    landed: tuple[str, str] | None = None
 
 
 def plain(line: str) -> str:

@@ -103,13 +103,12 @@ def closed(subject: Subject) -> Text | None:
 
 def landed(subject: Subject, report: Report) -> Text:
     """The commit of a later revision hasn't landed with that of an earlier one, unless it is the same."""
-    commit = subject.commits[report.revision - 1]
+    commit, said = subject.commits[report.revision - 1], f"Landed in {report.queue} as {report.n}"
     if commit == subject.commits[-1]:
-        return Text("landed", SUCCESS, f"Landed in {report.queue} as {report.n}",
-                    (f"**Landed in `{report.queue}` as {report.n}.**",))
-    return Text("landed", FAILURE, f"Landed in {report.queue} as {report.n}, without this commit: open a new request",
+        return Text("landed", SUCCESS, said, (f"**Landed in `{report.queue}` as {report.n}.**",))
+    return Text("landed", FAILURE, f"{said}, without this commit: open a new request",
                 (f"**Landed in `{report.queue}` as {report.n}, at its earlier commit {commit[:12]}.**",
-                 "What was pushed later came too late. Open a new request for it."))
+                 "What was pushed later came too late. Open a new request for it."), landed=(commit, said))
 
 
 def waiting(change: int, known: Mapping[str, Any], circle: frozenset[int], words: Words) -> Text:

@@ -173,6 +173,7 @@ class Closings(Case):
         self.gate.reports = ["1 1 1 landed 1"]
         self.assertEqual(self.tell(place), [
             f"acme/lib {self.commits[1]}: failure: Landed in core as 1, without this commit: open a new request",
+            f"acme/lib {self.commits[0]}: success: Landed in core as 1",
             f"acme/lib 12, comment 1: **Landed in `core` as 1, at its earlier commit {self.commits[0][:12]}.**"])
         self.assertEqual(len(self.standin.deliveries()), 2)
 

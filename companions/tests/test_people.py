@@ -365,6 +365,16 @@ class PeopleTest(unittest.TestCase):
         self.look(*both)
         self.assertEqual(self.forge.statuses["c"][0], FAILURE)
 
+    def test_a_commit_that_landed_before_another_one_has_its_status(self) -> None:
+        self.gate.items = ["1 101 1 - ok unit=running"]
+        self.look(subject(101, "a"))
+        self.gate.items = []
+        self.gate.leave(1, 101, "landed", 1)
+        self.assertEqual(self.look(subject(101, "a", "b"))[:2], [
+            "o/app b: failure: Landed in core as 1, without this commit: open a new request",
+            "o/app a: success: Landed in core as 1"])
+        self.assertEqual((self.look(subject(101, "a", "b")), self.done), ([], {101: "landed"}))
+
     def test_a_head_that_goes_back_gets_its_status_again(self) -> None:
         self.gate.know(101)
         self.look(subject(101, "a"))

@@ -193,11 +193,14 @@ class ForgeChecks(Checks):
             known = self.at(place)
             if known is None or pull.is_fork and self.stage.forge.kind == "gitlab":
                 continue
-            wanted, text = self.wanted(known, pull)
-            found = self.model.status(place.repository, known.commits[-1])
-            if found is None or found.state != wanted or text not in found.text:
-                yield (f"{self.name(place)} is {known.state} at the gate and {pull.state} at the forge, and its status"
-                       f" is {found and (found.state, found.text)}, not {wanted} {text!r}")
+            statuses = {known.commits[-1]: self.wanted(known, pull)}
+            if known.number in self.landed and pull.state == "open" and pull.head != self.landed[known.number]:
+                statuses[pull.head] = FAILURE, "without this commit"
+            for commit, (wanted, text) in statuses.items():
+                found = self.model.status(place.repository, commit)
+                if found is None or found.state != wanted or text not in found.text:
+                    yield (f"{self.name(place)} is {known.state} at the gate and {pull.state} at the forge, and the"
+                           f" status of {commit[:9]} is {found and (found.state, found.text)}, not {wanted} {text!r}")
 
     def wanted(self, known: Known, pull: Pull) -> tuple[str, str]:
         """The status that the commit has to have that was told last, and a part of its text."""
