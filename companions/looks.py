@@ -9,7 +9,7 @@ from dataclasses import dataclass, replace
 from companions.forges import Forge, Place
 from companions.gate import Gate, say
 from companions.landings import Landing
-from companions.needs import Needs, message, needs_of
+from companions.needs import Needs, message, need_lines, needs_of
 from companions.repository import REVISION, GitFault, Repository
 from companions.requests import NO_REVISION, Request, State, Telling, Told, closing, first_seen, tellings, uncounted
 from companions.settings import Adapter, Project, Settings
@@ -155,12 +155,25 @@ class Looks:
         if known["revision"] > last:
             raise Trouble(f"the gate has revision {known['revision']} of change {told.change}, and the adapter {last}."
                           " Its tables are older than the gate's file, or somebody else tells the gate of this change")
-        if last and known["revision"] == last and {it["change"] for it in known["needs"]} != set(
-                told.revisions[-1].needs):
-            raise Trouble(f"the gate reads other needs of change {told.change} than it was told: adapter.base has to be"
-                          " forge.base of the gate's settings")
+        if last and known["revision"] == last:
+            told = self.as_read(told, tuple(it["change"] for it in known["needs"]))
         told = replace(told, ordered=ordered, landed=known["state"] == "landed")
         return told, not told.closed and known["revision"] < last
+
+    def as_read(self, told: Told, read: tuple[int, ...]) -> Told:
+        """What was told, with the needs that the gate read of the last revision.
+
+        It reads others than it was told where the base that stood before them isn't its own. If that was another base
+        than the adapter has now, the needs that it read are those of the revision, so the next one gets the right ones.
+        """
+        last = told.revisions[-1]
+        if set(read) == set(last.needs):
+            return told
+        message = self.changes.message(told.change) or ""
+        if message.splitlines()[2:] == need_lines(last.needs, self.adapter.base):
+            raise Trouble(f"the gate reads other needs of change {told.change} than it was told: adapter.base has to be"
+                          " forge.base of the gate's settings")
+        return replace(told, revisions=(*told.revisions[:-1], replace(last, needs=read)))
 
     def note_landings(self, project: Project) -> None:
         """Notes what a project's branch has landed by the gate's present file, since the branch was read last."""

@@ -88,5 +88,9 @@ def message(so: Request, needs: tuple[int, ...], base: str) -> str:
 
     It begins with the repository, so that no title is taken for a need.
     """
-    return "\n".join([f"{so.repository} {so.number}: {clean(so.title)}", "",
-                      *(f"Depends-On: {base}{it}" for it in needs)])
+    return "\n".join([f"{so.repository} {so.number}: {clean(so.title)}", "", *need_lines(needs, base)])
+
+
+def need_lines(needs: tuple[int, ...], base: str) -> list[str]:
+    """The lines by which a message names these needs."""
+    return [f"Depends-On: {base}{it}" for it in needs]

@@ -147,6 +147,12 @@ class Changes:
         """Notes that the gate, or the branch, has a change's landing: nothing more is told of it."""
         self.tables.execute("UPDATE change SET landed = 1 WHERE number = ?", (change,))
 
+    def message(self, change: int) -> str | None:
+        """The message of the last revision that the gate was told, while that is kept."""
+        rows = self.tables.execute("SELECT said FROM telling WHERE change = ? ORDER BY place DESC", (change,))
+        said = (json.loads(row[0]) for row in rows)
+        return next((it["message"] for it in said if it["kind"] == "revision"), None)
+
     def refused(self, change: int) -> str | None:
         """The code of the gate's refusal where it refused the last revision that it was told."""
         rows = self.tables.execute("SELECT said, answer FROM telling WHERE change = ? ORDER BY place DESC", (change,))

@@ -228,6 +228,21 @@ class Troubles(Case):
         self.assertIn("Trouble: the gate reads other needs of change 1 than it was told: adapter.base has to be"
                       " forge.base of the gate's settings", self.lines()[-1])
 
+    def test_needs_that_were_told_with_another_base_are_told_anew_once_the_base_is_mended(self) -> None:
+        self.gate.base = "https://gate.example/"
+        self.be(12, 0, self.approve(1), text="Depends-On: #13")
+        self.be(13, 1)
+        self.assertEqual(self.look(), ["revision 1 1", "approved 1 1", "revision 2 1"])
+        self.assertEqual(self.look(), [])
+        table = replace(self.settings.adapter, base=self.gate.base)
+        self.settings = replace(self.settings, adapter=table)
+        self.start()
+        self.assertEqual(self.look(), ["revision 1 2"])
+        self.assertEqual([it["change"] for it in self.gate.changes[1]["needs"]], [2])
+        self.be(12, 0, self.approve(1), self.approve(2), text="Depends-On: #13")
+        self.assertEqual(self.look(), ["approved 1 2"])
+        self.assertEqual(self.look(), [])
+
     def test_tables_that_are_older_than_the_gate_s_file_tell_nothing(self) -> None:
         self.gate.changes[1] = {"revision": 3, "state": "open", "order": None}
         self.be(12, 0)
