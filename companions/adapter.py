@@ -21,7 +21,7 @@ from companions.github import Gitea, GitHub
 from companions.gitlab import GitLab
 from companions.hooks import Hints, Hooks, serve
 from companions.looks import Again, Looks, names_of
-from companions.outbox import Kept, Notes, Outbox, alone
+from companions.outbox import Kept, Notes, Outbox, hold_of
 from companions.people import Manner, People
 from companions.settings import Settings, SettingsFault, read
 from companions.subjects import Subjects
@@ -181,9 +181,8 @@ def main(words: list[str]) -> int:
     except SettingsFault as fault:
         print(fault, file=sys.stderr)
         return 1
-    hold = alone(settings.folder / "adapter")
+    hold = hold_of("adapter", settings.folder / "adapter")
     if hold is None:
-        say("adapter", "stops: another adapter has the folder")
         return 1
     it = settings.adapter
     adapter, came = Adapter(settings, FORMS[it.form](it.url, it.token, it.secret)), threading.Event()

@@ -15,7 +15,7 @@ from typing import Any
 
 from companions.gate import Gate, NoAnswer, Order, id_of, say
 from companions.landings import Branches, Landing
-from companions.outbox import Notes, alone
+from companions.outbox import Notes, hold_of
 from companions.repository import LANDING, REVISION, GitFault, Repository
 from companions.settings import Settings, SettingsFault, read
 
@@ -245,9 +245,8 @@ def main(words: list[str]) -> int:
     except SettingsFault as fault:
         print(fault, file=sys.stderr)
         return 1
-    hold = alone(settings.folder / "lander")
+    hold = hold_of("lander", settings.folder / "lander")
     if hold is None:
-        say("lander", "stops: another lander has the folder")
         return 1
     Lander(settings).run()
     return 0

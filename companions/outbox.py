@@ -10,7 +10,7 @@ from dataclasses import dataclass
 from pathlib import Path
 from typing import IO, Any
 
-from companions.gate import Answer, Delivery, Gate
+from companions.gate import Answer, Delivery, Gate, say
 
 TABLES = """
 CREATE TABLE IF NOT EXISTS delivery(place INTEGER PRIMARY KEY AUTOINCREMENT, lane TEXT NOT NULL,
@@ -120,4 +120,16 @@ def alone(folder: Path) -> IO[str] | None:
     except BlockingIOError:
         hold.close()
         return None
+    return hold
+
+
+def hold_of(part: str, folder: Path) -> IO[str] | None:
+    """A part's hold on its folder. Without it the part can't begin: none, and why is said."""
+    try:
+        hold = alone(folder)
+    except OSError as fault:
+        say(part, f"stops: its folder can't be used: {fault}")
+        return None
+    if hold is None:
+        say(part, f"stops: another {part} has the folder")
     return hold

@@ -16,7 +16,7 @@ from typing import Any
 from companions import figures
 from companions.figures import QueueFigures
 from companions.gate import Gate, NoAnswer, QueueStatus, Status, id_of, say
-from companions.outbox import Notes, alone
+from companions.outbox import Notes, hold_of
 from companions.settings import Settings, SettingsFault, read
 
 Build = dict[str, Any]
@@ -189,9 +189,8 @@ def main() -> int:
     except SettingsFault as fault:
         print(fault, file=sys.stderr)
         return 1
-    hold = alone(settings.folder / "watch")
+    hold = hold_of(PART, settings.folder / "watch")
     if hold is None:
-        say(PART, "stops: another watch has the folder")
         return 1
     watch = Watch(settings)
     while True:
