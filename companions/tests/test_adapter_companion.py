@@ -2,13 +2,9 @@
 from __future__ import annotations
 
 import copy
-import http.client
-import json
-import threading
 from dataclasses import replace
 
-from companions.forges import LARGEST, Place
-from companions.hooks import Hooks, serve
+from companions.forges import Place
 from companions.landings import Landing
 from companions.requests import State, Vote
 from companions.tests.adapter_case import Case
@@ -377,66 +373,6 @@ class Files(Case):
         self.look(place)
         first = self.adapter.gate.first()
         self.assertEqual(self.adapter.outbox.get("file"), {"first": first, "ids": first})
-
-
-class Incoming(Case):
-    def setUp(self) -> None:
-        super().setUp()
-        self.came = threading.Event()
-        self.hooks = Hooks(("127.0.0.1", 0), self.adapter.hints, self.forge, {"acme/lib": "acme/lib"}, self.came)
-        self.addCleanup(serve(self.hooks))
-
-    def post(self, body: bytes, path: str = "/hook", method: str = "POST", **headers: str) -> int:
-        connection = http.client.HTTPConnection("127.0.0.1", self.hooks.server_port, timeout=5)
-        self.addCleanup(connection.close)
-        connection.putrequest(method, path)
-        for name, value in {"Content_Length": str(len(body)), "Secret": "secret", **headers}.items():
-            if value:
-                connection.putheader(name.replace("_", "-"), value)
-        connection.endheaders(body)
-        return connection.getresponse().status
-
-    def places(self) -> list[Place]:
-        return [place for _, place in self.adapter.hints.all()]
-
-    def test_a_hook_s_place_is_on_disk_when_it_is_answered(self) -> None:
-        self.assertEqual(self.post(b'["acme/lib", 12]'), 200)
-        self.assertEqual((self.places(), self.came.is_set()), ([Place("acme/lib", 12)], True))
-        self.be(12, 0)
-        self.assertEqual(self.look(Place("acme/lib", 12)), ["revision 1 1"])
-        self.assertEqual(self.places(), [])
-
-    def test_a_repository_s_name_may_be_written_in_other_letters(self) -> None:
-        self.assertEqual(self.post(b'["Acme/LIB", 12]'), 200)
-        self.assertEqual(self.places(), [Place("acme/lib", 12)])
-
-    def test_a_hook_that_is_not_signed_is_refused_and_not_read(self) -> None:
-        for body in (b'["acme/lib", 12]', b"no json"):
-            self.assertEqual(self.post(body, Secret="wrong"), 403)
-        self.assertEqual(self.places(), [])
-
-    def test_other_hooks_are_taken_and_nothing_follows(self) -> None:
-        self.assertEqual([self.post(it) for it in (b"null", b'["acme/web", 12]')], [200, 200])
-        self.assertEqual((self.places(), self.came.is_set()), ([], False))
-
-    def test_a_hook_that_cannot_be_read_is_answered(self) -> None:
-        self.assertEqual(self.post(b"no json"), 500)
-        self.assertIn("adapter: a hook can't be read: JSONDecodeError", self.lines()[-1])
-
-    def test_what_is_no_hook_is_refused_unread(self) -> None:
-        for status, path, method, length in ((404, "/", "POST", "2"), (404, "/hooks", "POST", "2"),
-                                             (404, "/hook", "GET", ""), (411, "/hook", "POST", ""),
-                                             (411, "/hook", "POST", "-1"), (411, "/hook", "POST", "x"),
-                                             (413, "/hook", "POST", str(LARGEST + 1)),
-                                             (413, "/hook", "POST", "9" * 99)):
-            with self.subTest(path=path, length=length):
-                self.assertEqual(self.post(b"", path, method, Content_Length=length), status)
-
-    def test_a_hook_while_its_request_is_looked_at_is_looked_at_again(self) -> None:
-        place = self.be(12, 0)
-        self.forge.when_asked = lambda _: self.post(json.dumps(["acme/lib", 12]).encode())
-        self.look(place)
-        self.assertEqual(self.places(), [place])
 
 
 if __name__ == "__main__":
