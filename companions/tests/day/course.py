@@ -66,7 +66,10 @@ class Course:
         known = self.stage.gate.change(number)
         if known and known["state"] == "open" and known["order"] is None and known["approval"] is None:
             self.stage.note(f"approve {number} again for the lander")
-            self.developers.approve(self.developers.of_gate(number))
+            self.approve_again(number, known["revision"])
+
+    def approve_again(self, number: int, _revision: int) -> None:
+        self.developers.approve(self.developers.of_gate(number))
 
     def state(self, change: int | None) -> str:
         """What the gate says of a change, by its number there."""

@@ -81,16 +81,16 @@ class ForgeChecks(Checks):
         told = self.deliveries()
         yield from self.twice(told)
         votes, taken = self.ids(told[0]["id"]) if told else {}, Counter[Cast]()
-        approved = Counter(it["change"] for it in told if it["kind"] == "approved")
+        approvals = [it for it in told if it["kind"] == "approved"
+                     and uuid.UUID(str(it["id"])) not in self.developers.by_hand]
+        approved = Counter(it["change"] for it in approvals)
         for change, times in approved.items():
             place = self.file.place(change)
             people = [it.person for it in self.developers.votes if it.place == place and it.person in WRITERS]
             if times > len(people):
                 yield (f"change {change}, {self.name(place) if place else 'of no request'}, was approved {times} times"
                        f" by the votes of {', '.join(people) or 'nobody'}")
-        for it in told:
-            if it["kind"] != "approved":
-                continue
+        for it in approvals:
             vote = votes.get(uuid.UUID(str(it["id"])))
             if vote is None:
                 yield f"revision {it['revision']} of change {it['change']} was approved by no vote"

@@ -3,6 +3,7 @@ from __future__ import annotations
 
 import random
 import time
+import uuid
 
 from companions.tests.day.course import Course, Day
 from companions.tests.day.developers import Step
@@ -36,12 +37,15 @@ class ForgeCourse(Course):
         self.stage.begin_forge()
 
     def help(self, queue: str, landed: int) -> None:
-        """An approval comes to the gate later than it is given, once the adapter has looked."""
+        """What the adapter has to tell comes to the gate before anybody helps."""
         if self.stage.has_sent():
-            votes = len(self.developers.votes)
             super().help(queue, landed)
-            if len(self.developers.votes) > votes:
-                self.stage.send()
+
+    def approve_again(self, number: int, revision: int) -> None:
+        """By hand, at the gate: the adapter tells no approval of a change that the branch has."""
+        identity = uuid.uuid4()
+        self.developers.by_hand.add(identity)
+        self.stage.gate.post("forge", {"id": str(identity), "kind": "approved", "change": number, "revision": revision})
 
     def is_idle(self) -> bool:
         return super().is_idle() and self.stage.has_sent()

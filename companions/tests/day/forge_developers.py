@@ -3,6 +3,7 @@ from __future__ import annotations
 
 import random
 import time
+import uuid
 from collections.abc import Callable
 from dataclasses import dataclass, field
 
@@ -54,6 +55,8 @@ class ForgeDevelopers(Developers):
         self.votes: list[Cast] = []
         # The requests that somebody has closed, merged past the gate, or given another target.
         self.left: set[Place] = set()
+        # The approvals that an operator has told the gate past the adapter.
+        self.by_hand: set[uuid.UUID] = set()
 
     def all(self) -> list[Proposal]:
         return [it for it in self.changes.values() if isinstance(it, Proposal)]
