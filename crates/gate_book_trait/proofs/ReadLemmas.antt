@@ -153,7 +153,7 @@ tail_up n ns up k h =
     subst (λ j. slice_index ns k < slice_index (n ∷ ns) j) e (up (suc k) l)
 
 -- numbers of which each is below the next
-numbers_rise : (m : ℕ) (ns : List ℕ) → (0 < length ns → m ≤ slice_index ns 0) → IsStrictlyIncreasing ns → RisesFrom (λ (n : ℕ). n) m ns
+pub numbers_rise : (m : ℕ) (ns : List ℕ) → (0 < length ns → m ≤ slice_index ns 0) → IsStrictlyIncreasing ns → RisesFrom (λ (n : ℕ). n) m ns
 numbers_rise m [] low up = tt
 numbers_rise m (n ∷ ns) low up = (low (omega arith), numbers_rise (suc n) ns (next ns (up 0)) (tail_up n ns up))
   where
@@ -170,7 +170,7 @@ landings_rise n m [] up = tt
 landings_rise n m (l ∷ ls) up = (up.0, landings_rise (suc n) (suc l.serial) ls up.1)
 
 -- what is so at each place is so of each row
-all_rows : {X : Type 0} (P : X → Type 0) (xs : List X) → All P xs → AllByRecursion P xs
+pub all_rows : {X : Type 0} (P : X → Type 0) (xs : List X) → All P xs → AllByRecursion P xs
 all_rows P [] all = tt
 all_rows P (x ∷ xs) all = (all 0 x (omega arith), all_rows P xs (λ k d l. all (suc k) d (omega arith)))
 
