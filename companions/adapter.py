@@ -12,7 +12,6 @@ import sys
 import threading
 import time
 from collections.abc import Callable
-from pathlib import Path
 
 from companions.forges import Forge, ForgeFault, Place
 from companions.gate import Answer, Gate, NoAnswer, say
@@ -21,9 +20,10 @@ from companions.github import Gitea, GitHub
 from companions.gitlab import GitLab
 from companions.hooks import Hints, Hooks, serve
 from companions.looks import Again, Looks, names_of
-from companions.outbox import Kept, Notes, Outbox, hold_of
+from companions.outbox import Kept, Notes, Outbox
 from companions.people import Manner, People
-from companions.settings import Settings, SettingsFault, read
+from companions.settings import Settings
+from companions.starting import start
 from companions.subjects import Subjects
 from companions.told import Changes
 
@@ -170,21 +170,11 @@ class Adapter:
             came.wait(self.settings.pause)
 
 
-def main(words: list[str]) -> int:
-    if len(words) != 1:
-        print("usage: python3 -m companions.adapter companions.toml", file=sys.stderr)
-        return 2
-    try:
-        settings = read(Path(words[0]))
-        if settings.adapter is None:
-            raise SettingsFault(f"{words[0]}: adapter: is missing")
-    except SettingsFault as fault:
-        print(fault, file=sys.stderr)
-        return 1
-    hold = hold_of("adapter", settings.folder / "adapter")
-    if hold is None:
-        return 1
+def run(settings: Settings) -> int:
     it = settings.adapter
+    if it is None:
+        say("adapter", "stops: the settings have no table [adapter]")
+        return 1
     adapter, came = Adapter(settings, FORMS[it.form](it.url, it.token, it.secret)), threading.Event()
     try:
         hooks = Hooks((it.host, it.port), adapter.hints, adapter.forge, names_of(settings), came)
@@ -195,6 +185,10 @@ def main(words: list[str]) -> int:
     say("adapter", f"hooks come in at http://{it.host}:{hooks.server_port}/hook")
     adapter.run(came)
     return 0
+
+
+def main(words: list[str]) -> int:
+    return start("adapter", words, run)
 
 
 if __name__ == "__main__":

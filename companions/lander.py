@@ -10,14 +10,14 @@ import sys
 import time
 from collections.abc import Callable
 from concurrent.futures import Future, ThreadPoolExecutor
-from pathlib import Path
 from typing import Any
 
 from companions.gate import Gate, NoAnswer, Order, id_of, say
 from companions.landings import Branches, Landing
-from companions.outbox import Notes, hold_of
+from companions.outbox import Notes
 from companions.repository import LANDING, REVISION, GitFault, Repository
-from companions.settings import Settings, SettingsFault, read
+from companions.settings import Settings
+from companions.starting import start
 
 
 # How long a queue rests whose trouble was told, as a multiple of `gate.pause`.
@@ -236,20 +236,13 @@ class Lander:
         self.said[queue] = what
 
 
-def main(words: list[str]) -> int:
-    if len(words) != 1:
-        print("usage: python3 -m companions.lander companions.toml", file=sys.stderr)
-        return 2
-    try:
-        settings = read(Path(words[0]))
-    except SettingsFault as fault:
-        print(fault, file=sys.stderr)
-        return 1
-    hold = hold_of("lander", settings.folder / "lander")
-    if hold is None:
-        return 1
+def run(settings: Settings) -> int:
     Lander(settings).run()
     return 0
+
+
+def main(words: list[str]) -> int:
+    return start("lander", words, run)
 
 
 if __name__ == "__main__":

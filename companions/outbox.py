@@ -1,16 +1,15 @@
 """What has to be kept on disk: deliveries until the gate has answered them, and a part's own notes."""
 from __future__ import annotations
 
-import fcntl
 import json
 import sqlite3
 import time
 from collections.abc import Callable
 from dataclasses import dataclass
 from pathlib import Path
-from typing import IO, Any
+from typing import Any
 
-from companions.gate import Answer, Delivery, Gate, say
+from companions.gate import Answer, Delivery, Gate
 
 TABLES = """
 CREATE TABLE IF NOT EXISTS delivery(place INTEGER PRIMARY KEY AUTOINCREMENT, lane TEXT NOT NULL,
@@ -109,27 +108,3 @@ class Outbox(Notes):
                 self.tables.execute("DELETE FROM delivery WHERE id = ?", (first.id,))
                 moved = True
         return self.is_empty()
-
-
-def alone(folder: Path) -> IO[str] | None:
-    """A hold on a part's folder, or none while another process has it."""
-    folder.mkdir(parents=True, exist_ok=True)
-    hold = (folder / "lock").open("w", encoding="utf-8")
-    try:
-        fcntl.flock(hold, fcntl.LOCK_EX | fcntl.LOCK_NB)
-    except BlockingIOError:
-        hold.close()
-        return None
-    return hold
-
-
-def hold_of(part: str, folder: Path) -> IO[str] | None:
-    """A part's hold on its folder. Without it the part can't begin: none, and why is said."""
-    try:
-        hold = alone(folder)
-    except OSError as fault:
-        say(part, f"stops: its folder can't be used: {fault}")
-        return None
-    if hold is None:
-        say(part, f"stops: another {part} has the folder")
-    return hold

@@ -10,14 +10,14 @@ import time
 from collections import Counter
 from collections.abc import Iterator
 from contextlib import contextmanager
-from pathlib import Path
 from typing import Any
 
 from companions import figures
 from companions.figures import QueueFigures
 from companions.gate import Gate, NoAnswer, QueueStatus, Status, id_of, say
-from companions.outbox import Notes, hold_of
-from companions.settings import Settings, SettingsFault, read
+from companions.outbox import Notes
+from companions.settings import Settings
+from companions.starting import start
 
 Build = dict[str, Any]
 PART = "watch"
@@ -180,23 +180,16 @@ def key_of(build: Build) -> str:
     return f"{build['build']}/{build['change']}/{build['revision']}"
 
 
-def main() -> int:
-    if len(sys.argv) != 2:
-        print("usage: python3 -m companions.watch companions.toml", file=sys.stderr)
-        return 2
-    try:
-        settings = read(Path(sys.argv[1]))
-    except SettingsFault as fault:
-        print(fault, file=sys.stderr)
-        return 1
-    hold = hold_of(PART, settings.folder / "watch")
-    if hold is None:
-        return 1
+def run(settings: Settings) -> int:
     watch = Watch(settings)
     while True:
         watch.look(time.time())
         time.sleep(settings.pause)
 
 
+def main(words: list[str]) -> int:
+    return start(PART, words, run)
+
+
 if __name__ == "__main__":
-    sys.exit(main())
+    sys.exit(main(sys.argv[1:]))

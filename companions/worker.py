@@ -21,9 +21,10 @@ from typing import Any, NoReturn
 
 from companions import job, settings
 from companions.gate import Answer, Delivery, Gate, NoAnswer, id_of, say
-from companions.outbox import Notes, alone
+from companions.outbox import Notes
 from companions.repository import GitFault
 from companions.settings import Settings, SettingsFault
+from companions.starting import alone
 from companions.trees import Build, Conflict, Made, Trees, UnknownChange, build_of
 
 USAGE = "usage: python3 -m companions.worker companions.toml NAME"

@@ -10,9 +10,9 @@ from pathlib import Path
 from typing import Any
 from unittest import mock
 
-from companions import adapter, lander, settings, watch
+from companions import settings
 from companions.gate import Answer, Gate, NoAnswer, Order, QueueStatus, Status, id_of
-from companions.outbox import Kept, Notes, Outbox, hold_of
+from companions.outbox import Kept, Notes, Outbox
 from companions.settings import Account, SettingsFault
 from companions.tests.standin import StandIn
 
@@ -346,40 +346,6 @@ class Box(Asked):
         notes = Notes(self.file)
         self.assertEqual([notes.get(it) for it in ("a/1", "a/2", "b")], ["new", None, 0])
         self.assertEqual(notes.names("a/"), ["a/1"])
-
-
-class Folder(Case):
-    """The hold of a part on its folder, which it takes before all else."""
-
-    def said(self, part: str) -> tuple[bool, str]:
-        with contextlib.redirect_stderr(io.StringIO()) as said:
-            hold = hold_of(part, self.folder / "below" / part)
-        if hold is not None:
-            self.addCleanup(hold.close)
-        return hold is not None, said.getvalue()
-
-    def test_one_process_has_it(self) -> None:
-        self.assertEqual(self.said("lander"), (True, ""))
-        self.assertEqual(self.said("lander"), (False, "lander: stops: another lander has the folder\n"))
-
-    def test_a_folder_that_can_not_be_made_is_told(self) -> None:
-        (self.folder / "below").touch()
-        for part in ("lander", "adapter", "watch"):
-            path = self.folder / "below" / part
-            self.assertEqual(self.said(part), (False, f"{part}: stops: its folder can't be used: [Errno 20] Not a"
-                                                      f" directory: '{path}'\n"))
-
-    def test_parts_end_where_they_have_no_folder(self) -> None:
-        (self.folder / "below").touch()
-        file = self.folder / "companions.toml"
-        file.write_text(WHOLE.replace("/var/lib/companions", str(self.folder / "below")) + ADAPTER, encoding="utf-8")
-        words = [str(file)]
-        for part, main in (("lander", lambda: lander.main(words)), ("adapter", lambda: adapter.main(words)),
-                           ("watch", watch.main)):
-            with (self.subTest(part), mock.patch("sys.argv", ["", *words]),
-                  contextlib.redirect_stderr(io.StringIO()) as said):
-                self.assertEqual(main(), 1)
-                self.assertIn(f"{part}: stops: its folder can't be used: ", said.getvalue())
 
 
 if __name__ == "__main__":
