@@ -1,8 +1,8 @@
 #!/bin/sh
 # What a delivery of each kind costs as a gate ages, a queue grows or changes wait, in instructions of the processor and
 # in statements, counted by valgrind's callgrind: no clock, and so the same whatever else the machine does. CASES names
-# some of: opening, age, length, waiting, chain, asked (what `gated get` costs); by default all. SIZES=small is a short
-# run of each.
+# some of: opening, age, length, waiting, chain, asked (what `gated get` costs), running (polls while builds run); by
+# default all. SIZES=small is a short run of each.
 set -eu
 . "$(dirname "$0")/program.sh"
 if [ -d /dev/shm ]; then
@@ -15,4 +15,4 @@ export GLIBC_TUNABLES
 work=$(mktemp -d)
 trap 'rm -rf "$work"' EXIT
 python3 -B "$top/bench/ages.py" "$program" "$settings" "$work" "${SIZES:-whole}" \
-    ${CASES:-opening age length waiting chain asked}
+    ${CASES:-opening age length waiting chain asked running}

@@ -1,19 +1,20 @@
 """What a delivery of each kind costs as a gate ages: scenes over files, a kind at a time, counted by callgrind."""
 import json
 import os
+import re
 import subprocess
 import sys
 
-from counted import counted
+from counted import counted, serving
 
 # Changes whose deliveries are counted in each scene.
 CHANGES = 10
 
 SIZES = {
     "whole": {"opening": (1000, 4000, 16000), "age": (1000, 4000, 16000), "length": (10, 100, 900),
-              "waiting": (0, 100, 1000), "chain": (10, 100, 400), "asked": (100, 10000)},
+              "waiting": (0, 100, 1000), "chain": (10, 100, 400), "asked": (100, 10000), "running": (10, 100, 999)},
     "small": {"opening": (10, 20), "age": (10, 20), "length": (10, 20), "waiting": (0, 10), "chain": (10, 20),
-              "asked": (10, 20)},
+              "asked": (10, 20), "running": (10, 20)},
 }
 
 
@@ -55,6 +56,30 @@ class Gate:
         if refused:
             raise SystemExit(f"refused: {refused[0]}")
         return busy.over(idle, len(deliveries)), replies
+
+    def unbound(self):
+        """From now on as many items are built as there are, whatever the settings say."""
+        with open(self.settings, encoding="utf-8") as file:
+            text = file.read()
+        self.settings = os.path.join(os.path.dirname(self.file), "unbound.toml")
+        with open(self.settings, "w", encoding="utf-8") as file:
+            file.write(re.sub("window = .*\nfloor = .*", "window = 0", text))
+
+    def polled(self, *deliveries):
+        """What a `take` costs that finds nothing, behind these deliveries, over what they cost by themselves. They
+        have to be given twice: a file takes each once."""
+        (alone, both) = deliveries or ([], [])
+        before, _ = counted(self.words(), self.lines(alone), self.profile)
+        behind, output = counted(self.words(), self.lines([*both, take()]), self.profile)
+        if json.loads(output.splitlines()[-1]).get("error") != "idle":
+            raise SystemExit(f"not idle: {output[-200:]}")
+        return behind.over(before, 1)
+
+    def served(self, *paths):
+        """What the last of these paths costs a gate that has answered those before it."""
+        words = [self.program, "serve", self.settings, self.file]
+        before = serving(words, [("GET", path, None) for path in ("/", *paths[:-1])], self.profile)
+        return serving(words, [("GET", path, None) for path in ("/", *paths)], self.profile).over(before, 1)
 
     def opening(self):
         return counted(self.words(), b"", self.profile)[0]
@@ -184,7 +209,26 @@ def asked(make, size):
         print(f"{size} landed".ljust(28), f"{name:15}", gate.get(path), flush=True)
 
 
-CASES = {"opening": opening, "age": age, "length": length, "waiting": waiting, "chain": chain, "asked": asked}
+def running(make, size):
+    """Polls of a gate whose items are all being built, and the delivery of one more item's build."""
+    gate = make()
+    gate.unbound()
+    admit(gate, size)
+    builds = [reply["build"] for reply in gate.tell([take() for _ in range(size)])]
+    middle = len(builds) // 2
+    told = {"take, idle": gate.polled(), "take, idle, again": gate.polled([take()], [take()]),
+            "take, idle, after a result": gate.polled([result(builds[middle])], [result(builds[middle + 1])])}
+    told["result"], _ = gate.count([result(builds[middle + 2])])
+    admit(gate, 1)
+    told["take behind them"], _ = gate.count([take()])
+    for path in ("/status", "/orders", "/running"):
+        told[path], told[f"{path}, again"] = gate.served(path), gate.served(path, path)
+    for name, cost in told.items():
+        print(f"{size} running".ljust(28), f"{name:26}", cost, flush=True)
+
+
+CASES = {"opening": opening, "age": age, "length": length, "waiting": waiting, "chain": chain, "asked": asked,
+         "running": running}
 
 
 def main(program, settings, folder, sizes, cases):

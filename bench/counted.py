@@ -1,4 +1,5 @@
 """Runs a program under callgrind: its instructions, and how often it called some functions."""
+import http.client
 import re
 import subprocess
 
@@ -47,12 +48,12 @@ def calls(lines):
             yield called, int(match.group(1))
 
 
-def counted(words, lines, profile, status=0):
-    """What the program that is run by these words, and ends with this status, makes of lines on its input."""
-    callgrind = ["valgrind", "--tool=callgrind", f"--callgrind-out-file={profile}"]
-    done = subprocess.run(callgrind + words, input=lines, capture_output=True, check=False)
-    if done.returncode != status:
-        raise SystemExit(f"{words} ended with {done.returncode}: {done.stderr[-500:]}")
+def callgrind(words, profile):
+    return ["valgrind", "--tool=callgrind", f"--callgrind-out-file={profile}", *words]
+
+
+def read(profile):
+    """What a profile counts."""
     with open(profile, encoding="utf-8") as file:
         told = file.read().splitlines()
     total = next(line for line in told if line.startswith(("summary:", "totals:")))
@@ -60,4 +61,27 @@ def counted(words, lines, profile, status=0):
     for name, count in calls(told):
         reads += count if READS.search(name) else 0
         writes += count if WRITES.search(name) else 0
-    return Counted(int(total.split()[1]), reads, writes), done.stdout
+    return Counted(int(total.split()[1]), reads, writes)
+
+
+def counted(words, lines, profile, status=0):
+    """What the program that is run by these words, and ends with this status, makes of lines on its input."""
+    done = subprocess.run(callgrind(words, profile), input=lines, capture_output=True, check=False)
+    if done.returncode != status:
+        raise SystemExit(f"{words} ended with {done.returncode}: {done.stderr[-500:]}")
+    return read(profile), done.stdout
+
+
+def serving(words, requests, profile):
+    """What the program that serves by these words makes of requests, each a method, a path and a body."""
+    with subprocess.Popen(callgrind([*words, "--port", "0", "--count", str(len(requests))], profile), text=True,
+                          stdout=subprocess.PIPE, stderr=subprocess.PIPE) as program:
+        host, port = program.stdout.readline().split()[1].split(":")
+        for method, path, body in requests:
+            connection = http.client.HTTPConnection(host, int(port))
+            connection.request(method, path, body)
+            connection.getresponse().read()
+            connection.close()
+        if program.wait() != 0:
+            raise SystemExit(f"{words} ended with {program.returncode}: {program.stderr.read()[-500:]}")
+    return read(profile)
