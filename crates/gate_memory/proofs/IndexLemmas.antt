@@ -63,10 +63,10 @@ from_map f y [] there = absurd there
 from_map f y (x ∷ xs) there = ⊎_elim (λ e. (x, inl refl, e)) (λ t. let r = from_map f y xs t in (r.0, inr r.1, r.2)) there
 
 -- a row under another key stays
-stays : {X : Type 0} (key : X → ℕ) (n : ℕ) (x : X) → key x ≢ n → not (key x == n) ≡ true
+pub stays : {X : Type 0} (key : X → ℕ) (n : ℕ) (x : X) → key x ≢ n → not (key x == n) ≡ true
 stays key n x ne = ap not (ne_eqb (key x) n ne)
 
-other : {X : Type 0} (key : X → ℕ) (n : ℕ) (x : X) → not (key x == n) ≡ true → key x ≢ n
+pub other : {X : Type 0} (key : X → ℕ) (n : ℕ) (x : X) → not (key x == n) ≡ true → key x ≢ n
 other key n x h e = false≢true (sym (ap not (eq-eqb (key x) n e)) ∙ h)
 
 -- nothing is dropped where nothing is found

@@ -12,3 +12,5 @@ pub mod ReadyLemmas
 pub mod NeedingLemmas
 pub mod IndexLemmas
 pub mod ReportLemmas
+pub mod SwapLemmas
+pub mod DropLemmas

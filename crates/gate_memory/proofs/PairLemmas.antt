@@ -1,5 +1,5 @@
 -- Pairs and their keys.
-use Rattle.std.proofs.Common.{◌≡◌, ℕ, suc, ◌+◌, ◌≤◌, inl, inr, ⊎_elim, Bool, true, false, cond, Option, List, [], ◌∷◌, map, refl, sym, ap, subst, ◌∙◌, arith}
+use Rattle.std.proofs.Common.{◌≡◌, ℕ, suc, ◌+◌, ◌≤◌, inl, inr, ⊎_elim, Bool, true, false, not, cond, Option, List, [], ◌∷◌, map, refl, sym, ap, subst, ◌∙◌, arith}
 use Rattle.std.specs.Prelude.{◌==◌, ◌&&◌, nat_lt, nat_le, filter}
 use Rattle.std.specs.List.{AllByRecursion, filter_map, cons_option}
 use Rattle.std.proofs.lemmas.Bool.{eq-eqb, false≢true, le-ltb, lt-ltb, le-leb, lt-leb}
@@ -36,6 +36,10 @@ lies n p fit = ⊎_elim
 pub those_of_first : (n : ℕ) (ps : List Pair) → AllByRecursion IsFit ps → filter (lies_in n) ps ≡ filter (λ p. p.first == n) ps
 those_of_first n [] fit = refl
 those_of_first n (p ∷ ps) fit = λ i. cond (lies n p fit.0 i) (p ∷ those_of_first n ps fit.1 i) (those_of_first n ps fit.1 i)
+
+pub those_of_others : (n : ℕ) (ps : List Pair) → AllByRecursion IsFit ps → filter (λ p. not (lies_in n p)) ps ≡ filter (λ p. not (p.first == n)) ps
+those_of_others n [] fit = refl
+those_of_others n (p ∷ ps) fit = λ i. cond (not (lies n p fit.0 i)) (p ∷ those_of_others n ps fit.1 i) (those_of_others n ps fit.1 i)
 
 -- the second numbers of the pairs of a first number
 abbrev pub seconds_of : ℕ → List Pair → List ℕ

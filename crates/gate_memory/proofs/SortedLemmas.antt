@@ -1,7 +1,7 @@
 -- Rows in the order of their keys: where one stands, is put, and is dropped.
-use Rattle.std.proofs.Common.{◌≡◌, ◌≢◌, ℕ, zero, suc, ◌<◌, ◌≤◌, ◌⊎◌, inl, inr, ⊎_elim, Bool, true, false, not, cond, Some, None, List, [], ◌∷◌, length, get_or, set, refl, sym, ap, ◌∙◌, arith}
+use Rattle.std.proofs.Common.{◌≡◌, ◌≢◌, ℕ, zero, suc, ◌<◌, ◌≤◌, ◌⊎◌, inl, inr, ⊎_elim, Bool, true, false, not, cond, Some, None, List, [], ◌∷◌, ◌++◌, length, get_or, set, refl, sym, ap, ◌∙◌, arith}
 use Rattle.std.specs.Prelude.{◌==◌, ◌+◌, ◌-◌, ◌&&◌, nat_lt, nat_le, insert, remove, take, drop, find, filter, fold, slice_get, map, Option, option_map, unwrap_or}
-use Rattle.std.specs.List.{AllWithin}
+use Rattle.std.specs.List.{AllWithin, AllByRecursion}
 use Rattle.std.proofs.lemmas.Bool.{eq-eqb, ne_eqb, le-ltb, lt-ltb, le-leb, lt-leb}
 use Rattle.std.proofs.lemmas.Bool.Decides.{leb_tells, eqb_tells}
 use Rattle.gate_types.specs.State.{put_by}
@@ -391,6 +391,57 @@ between_is key from to m (x ∷ xs) h r = ⊎_elim
     whole e rest =
         let least : place_in key to xs ≡ place_in key to xs - 0 = omega arith in
         ap (λ n. take n xs) least ∙ sym (λ i. take (place_in key to xs - e i) (drop (e i) xs)) ∙ rest
+
+-- the rows not between two keys
+abbrev those_outside : {X : Type 0} → (X → ℕ) → ℕ → ℕ → List X → List X
+those_outside key from to xs = filter (λ x. not (is_within key from to x)) xs
+
+outside_first : {X : Type 0} (key : X → ℕ) (from to : ℕ) (x : X) (xs : List X) → key x < from → those_outside key from to (x ∷ xs) ≡ x ∷ those_outside key from to xs
+outside_first key from to x xs l =
+    ap (λ t. cond (not (t && nat_lt (key x) to)) (x ∷ those_outside key from to xs) (those_outside key from to xs)) (lt-leb from (key x) l)
+
+outside_drop : {X : Type 0} (key : X → ℕ) (from to : ℕ) (x : X) (xs : List X) → from ≤ key x → key x < to → those_outside key from to (x ∷ xs) ≡ those_outside key from to xs
+outside_drop key from to x xs low high =
+    λ i. cond (not (le-leb from (key x) low i && lt-ltb (key x) to high i)) (x ∷ those_outside key from to xs) (those_outside key from to xs)
+
+all_outside : {X : Type 0} (key : X → ℕ) (from to m : ℕ) (xs : List X) → to ≤ m → RisesFrom key m xs → xs ≡ those_outside key from to xs
+all_outside key from to m [] h r = refl
+all_outside key from to m (x ∷ xs) h r =
+    let above : m ≤ key x = r.0 in
+    ap (λ ys. x ∷ ys) (all_outside key from to (suc (key x)) xs (omega arith) r.1)
+    ∙ sym (ap (λ t. cond (not (nat_le from (key x) && t)) (x ∷ those_outside key from to xs) (those_outside key from to xs)) (le-ltb (key x) to (omega arith)) ∙ by_from (nat_le from (key x)))
+  where
+    by_from : (t : Bool) → cond (not (t && false)) (x ∷ those_outside key from to xs) (those_outside key from to xs) ≡ x ∷ those_outside key from to xs
+    by_from true = refl
+    by_from false = refl
+
+pub outside_is : {X : Type 0} (key : X → ℕ) (from to m : ℕ) (xs : List X) → from ≤ to → RisesFrom key m xs → take (place_in key from xs) xs ++ drop (place_in key to xs) xs ≡ those_outside key from to xs
+outside_is key from to m [] h r = refl
+outside_is {X} key from to m (x ∷ xs) h r = ⊎_elim
+    (λ l. (λ i. parts (place_next key from x xs l i) (place_next key to x xs (omega arith) i))
+    ∙ ap (λ ys. x ∷ ys) (outside_is key from to (suc (key x)) xs h r.1) ∙ sym (outside_first key from to x xs l))
+    (λ l. ⊎_elim
+    (λ u. (λ i. parts (place_here key from x xs l i) (place_next key to x xs u i))
+    ∙ ap (λ n. take n xs ++ drop (place_in key to xs) xs) (sym (place_none key from (suc (key x)) xs (omega arith) r.1))
+    ∙ outside_is key from to (suc (key x)) xs h r.1 ∙ sym (outside_drop key from to x xs l u))
+    (λ u. (λ i. parts (place_here key from x xs l i) (place_here key to x xs u i)) ∙ all_outside key from to (key x) (x ∷ xs) u (omega arith, r.1))
+    (below_or (key x) to))
+    (below_or (key x) from)
+  where
+    parts : ℕ → ℕ → List X
+    parts i j = take i (x ∷ xs) ++ drop j (x ∷ xs)
+
+-- where all that stands before a key passes, a filter begins there
+pub front_passes : {X : Type 0} (key : X → ℕ) (n : ℕ) (test : X → Bool) (xs : List X) → AllByRecursion (λ x. key x < n → test x ≡ true) xs → take (place_in key n xs) xs ++ filter test (drop (place_in key n xs) xs) ≡ filter test xs
+front_passes key n test [] pass = refl
+front_passes {X} key n test (x ∷ xs) pass = ⊎_elim
+    (λ l. ap parts (place_next key n x xs l) ∙ ap (λ ys. x ∷ ys) (front_passes key n test xs pass.1)
+    ∙ sym (ap (λ t. cond t (x ∷ filter test xs) (filter test xs)) (pass.0 l)))
+    (λ l. ap parts (place_here key n x xs l))
+    (below_or (key x) n)
+  where
+    parts : ℕ → List X
+    parts i = take i (x ∷ xs) ++ filter test (drop i (x ∷ xs))
 
 -- ---- rows that are there
 

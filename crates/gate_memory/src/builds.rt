@@ -1,18 +1,19 @@
 //! The builds of a book in memory.
-ghost use Rattle.std.specs.Prelude.{◌≡◌, ◌==◌, ◌<◌, ◌≤◌, ◌+◌, ◌++◌, ℕ, suc, [], find, filter, map, length, false, IfOk, OnOk, IfSome, vec_len, vec_capacity};
-ghost use Rattle.std.specs.List.{filter_map, cons_option};
+ghost use Rattle.std.specs.Prelude.{◌≡◌, ◌==◌, ◌<◌, ◌≤◌, ◌+◌, ◌++◌, ℕ, suc, [], find, filter, map, take, drop, length, not, false, option_map, IfOk, OnOk, IfSome, vec_len, vec_capacity};
+ghost use Rattle.std.specs.List.{AllByRecursion, filter_map, cons_option};
 ghost use Rattle.std.specs.Option.{option_copied};
 ghost use Rattle.gate_types.specs.State.{put_by};
 ghost use Rattle.gate_types.specs.Rebase.{with_live};
 ghost use Rattle.gate_types.specs.Rows.{with_outcome, change_build};
 ghost use Rattle.gate_book_trait.specs.Rising.{RisesFrom};
 ghost use Rattle.gate_archive.specs.ItemText.{last_of, summary_of};
-ghost use Rattle.gate_memory.specs.Sorted.{passing, without};
-ghost use Rattle.gate_memory.specs.Pairs.{IsFit};
+ghost use Rattle.gate_memory.specs.Sorted.{passing, first_of, without};
+ghost use Rattle.gate_memory.specs.Pairs.{pair_key, IsFit};
+ghost use Rattle.gate_memory.specs.declared.pairs.Pair.{Pair};
 ghost use Rattle.gate_memory.specs.Builds as index;
 ghost use Rattle.gate_memory.specs.Builds.{AreKept, HaveRoom, Indexes, number_of, is_live_of, is_of};
 
-use crate::pairs::{Pair, of_first};
+use crate::pairs::{Pair, of_first, remove_first};
 use crate::sorted;
 use crate::sorted::Keyed;
 use crate::telling::{last, summaries};
@@ -76,6 +77,58 @@ fn note(told: &mut Vec<Pair>, rows: &[Build], build: &Build)
 {
     forget(told, rows, build.number);
     sorted::put(told, pair_of(build));
+}
+
+/// Whether a build is of a serial.
+fn is_of(build: &Build, serial: Serial) -> bool
+    ensures { result ≡ is_of serial build.now }
+{
+    build.serial == serial
+}
+
+/// The lowest number of a build of a serial.
+fn first_number(told: &[Pair], serial: Serial) -> Option<u64>
+    requires rising { RisesFrom pair_key 0 told.now }
+    requires fit { AllByRecursion IsFit told.now }
+    ensures { result ≡ option_map (λ p. p.second) (first_of (filter (λ p. p.first == serial) told.now)) }
+{
+    match of_first(told, serial.get()) {
+        [pair, ..] => Some(pair.second),
+        [] => None,
+    }
+}
+
+/// Moves the build at a place behind those that stay, unless it is of a serial, and says where those end then.
+fn keep_other(rows: &mut Vec<Build>, place: usize, end: usize, serial: Serial) -> usize
+    requires within { place < vec_len rows.old }
+    requires order { end ≤ place }
+    ensures kept { take result rows.new.items ++ filter (λ b. not (is_of serial b)) (drop (place + 1) rows.new.items)
+        ≡ take end rows.old.items ++ filter (λ b. not (is_of serial b)) (drop place rows.old.items) }
+    ensures order { result ≤ place + 1 }
+    ensures len { vec_len rows.new ≡ vec_len rows.old }
+    ensures capacity { vec_capacity rows.new ≡ vec_capacity rows.old }
+{
+    if is_of(&rows[place], serial) {
+        return end;
+    }
+    rows.swap(end, place);
+    end + 1
+}
+
+/// Drops the builds of a serial, of which none has a number below this one: those behind it move up, each once.
+fn drop_rows(rows: &mut Vec<Build>, first: u64, serial: Serial)
+    requires rising { RisesFrom number_of 0 rows.old.items }
+    requires lowest { AllByRecursion (λ b. b.serial ≡ serial → first ≤ b.number) rows.old.items }
+    ensures rows { rows.new.items ≡ filter (λ b. not (is_of serial b)) rows.old.items }
+    ensures len { vec_len rows.new ≤ vec_len rows.old }
+    ensures capacity { vec_capacity rows.new ≡ vec_capacity rows.old }
+{
+    let start = sorted::place_of(rows, first as u128);
+    let mut end = start;
+    for place in start..rows.len() {
+        end = keep_other(rows, place, end, serial);
+    }
+    rows.truncate(end);
 }
 
 fn set_outcome(rows: &mut Vec<Build>, number: BuildNo, outcome: Outcome)
@@ -205,6 +258,36 @@ impl BuildTable {
     {
         if let Some(pair) = stop(&mut self.rows, number) {
             sorted::remove(&mut self.live, pair.key());
+        }
+    }
+
+    /// The build is no longer there, if it was.
+    pub fn remove(&mut self, number: BuildNo)
+        requires kept { AreKept self.old }
+        ensures rows { self.new.rows.items ≡ without number_of number self.old.rows.items }
+        ensures kept { AreKept self.new }
+        ensures room { (n : ℕ) → HaveRoom n self.old → HaveRoom n self.new }
+    {
+        let key = number.get() as u128;
+        if let Some(build) = sorted::at(&self.rows, key) {
+            let pair = pair_of(build).key();
+            sorted::remove(&mut self.told, pair);
+            sorted::remove(&mut self.live, pair);
+            sorted::remove(&mut self.rows, key);
+        }
+    }
+
+    /// All builds of a serial go. This costs what goes, and one move of what stays behind the first of them.
+    pub fn drop_of(&mut self, serial: Serial)
+        requires kept { AreKept self.old }
+        ensures rows { self.new.rows.items ≡ filter (λ b. not (is_of serial b)) self.old.rows.items }
+        ensures kept { AreKept self.new }
+        ensures room { (n : ℕ) → HaveRoom n self.old → HaveRoom n self.new }
+    {
+        if let Some(first) = first_number(&self.told, serial) {
+            drop_rows(&mut self.rows, first, serial);
+            remove_first(&mut self.told, serial.get());
+            remove_first(&mut self.live, serial.get());
         }
     }
 

@@ -1,10 +1,10 @@
 //! Pairs of numbers: what an index keeps.
-ghost use Rattle.std.specs.Prelude.{◌≡◌, ◌==◌, ◌+◌, ◌<◌, ◌^◌, filter};
-ghost use Rattle.std.specs.List.{AllByRecursion};
+ghost use Rattle.std.specs.Prelude.{◌≡◌, ◌==◌, ◌+◌, ◌<◌, ◌≤◌, ◌^◌, not, filter, vec_len, vec_capacity};
+ghost use Rattle.std.specs.List.{AllByRecursion, remove_range};
 ghost use Rattle.gate_book_trait.specs.Rising.{RisesFrom};
 ghost use Rattle.gate_memory.specs.Pairs.{pair_key, IsFit};
 
-use crate::sorted::{Keyed, between};
+use crate::sorted::{Keyed, between, place_of};
 
 /// Two numbers, the first of which decides the order before the second.
 #[derive(Clone, Copy, PartialEq, Eq)]
@@ -44,4 +44,36 @@ pub fn of_first(pairs: &[Pair], first: u64) -> &[Pair]
         second: 0,
     };
     between(pairs, least.key(), next.key())
+}
+
+/// Drops the pairs from a place on, up to and without another.
+fn drop_places(pairs: &mut Vec<Pair>, start: usize, end: usize)
+    requires ordered { start ≤ end }
+    requires within { end ≤ vec_len pairs.old }
+    ensures pairs { pairs.new.items ≡ remove_range pairs.old.items start end }
+    ensures len { vec_len pairs.new ≤ vec_len pairs.old }
+    ensures capacity { vec_capacity pairs.new ≡ vec_capacity pairs.old }
+{
+    let left = pairs.len() - (end - start);
+    pairs.copy_within(end.., start);
+    pairs.truncate(left);
+}
+
+/// Drops the pairs with a first number: what stands behind them moves once.
+pub fn remove_first(pairs: &mut Vec<Pair>, first: u64)
+    requires rising { RisesFrom pair_key 0 pairs.old.items }
+    requires fit { AllByRecursion IsFit pairs.old.items }
+    requires next { first + 1 < 2 ^ 64 }
+    ensures pairs { pairs.new.items ≡ filter (λ p. not (p.first == first)) pairs.old.items }
+    ensures len { vec_len pairs.new ≤ vec_len pairs.old }
+    ensures capacity { vec_capacity pairs.new ≡ vec_capacity pairs.old }
+{
+    let least = Pair { first, second: 0 };
+    let next = Pair {
+        first: first + 1,
+        second: 0,
+    };
+    let start = place_of(pairs, least.key());
+    let end = place_of(pairs, next.key());
+    drop_places(pairs, start, end);
 }

@@ -128,7 +128,8 @@ impl QueueTable {
         Ok(())
     }
 
-    fn put_item(&mut self, item: &Item)
+    /// Puts an item where there is room, in place of one with its serial.
+    pub fn put_item(&mut self, item: &Item)
         requires kept { IsKept self.old }
         requires room { HasRoom 1 self.old }
         ensures rows { rows_of self.new

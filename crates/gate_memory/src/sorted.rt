@@ -16,7 +16,7 @@ pub trait Keyed {
 }
 
 /// How many rows have keys below this one.
-fn place_of<T: Keyed>(rows: &[T], key: u128) -> usize
+pub fn place_of<T: Keyed>(rows: &[T], key: u128) -> usize
     requires { RisesFrom T.key 0 rows.now }
     ensures bound { result ≤ length rows.now }
     ensures place { result ≡ place_in T.key key rows.now }
