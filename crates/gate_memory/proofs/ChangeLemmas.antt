@@ -38,7 +38,7 @@ fit_noted None n ready small fit = fit
 fit_noted (Some a) n ready small fit = all_put IsFit pair_key (entry_of n a) ready small fit
 
 -- the entry of another change stays
-in_dropped : (old : Option ℕ) (n : ℕ) (ready : List Pair) (p : Pair) → n < 18446744073709551616 → AllByRecursion IsFit ready → p.second ≢ n → In p ready → In p (dropped old n ready)
+pub in_dropped : (old : Option ℕ) (n : ℕ) (ready : List Pair) (p : Pair) → n < 18446744073709551616 → AllByRecursion IsFit ready → p.second ≢ n → In p ready → In p (dropped old n ready)
 in_dropped None n ready p small fit ne there = there
 in_dropped (Some a) n ready p small fit ne there =
     in_without pair_key (pair_key (entry_of n a)) p ready (λ e. ne (ap (λ (q : Pair). q.second) (same_pair p (entry_of n a) (all_in IsFit ready p fit there) small e))) there

@@ -14,3 +14,5 @@ pub mod IndexLemmas
 pub mod ReportLemmas
 pub mod SwapLemmas
 pub mod DropLemmas
+pub mod MovedLemmas
+pub mod NeedChangeLemmas

@@ -50,15 +50,15 @@ put_commute key x c (y ∷ ys) l = ⊎_elim
 put_swap : {X : Type 0} (key : X → ℕ) (x c : X) (ys : List X) → key x ≢ key c → put_by key x (put_by key c ys) ≡ put_by key c (put_by key x ys)
 put_swap key x c ys ne = ⊎_elim (λ l. put_commute key x c ys l) (λ l. let m : key c < key x = omega (arith, ne) in sym (put_commute key c x ys m)) (below_or (key x) (key c))
 
-some_at : (o : Option ℕ) (i : ℕ) → option_map (λ j. suc j) o ≡ Some i → (j : ℕ) × (o ≡ Some j) × (i ≡ suc j)
+pub some_at : (o : Option ℕ) (i : ℕ) → option_map (λ j. suc j) o ≡ Some i → (j : ℕ) × (o ≡ Some j) × (i ≡ suc j)
 some_at None i e = absurd (none-some i e)
 some_at (Some j) i e = (j, refl, sym (ap (λ o. unwrap_or o 0) e))
 
-none_at : (o : Option ℕ) → option_map (λ j. suc j) o ≡ None → o ≡ None
+pub none_at : (o : Option ℕ) → option_map (λ j. suc j) o ≡ None → o ≡ None
 none_at None e = refl
 none_at (Some j) e = absurd (none-some (suc j) (sym e))
 
-abbrev at_head : Bool → Option ℕ → Option ℕ
+abbrev pub at_head : Bool → Option ℕ → Option ℕ
 at_head b o = cond b (Some 0) (option_map (λ i. suc i) o)
 
 -- a row whose key is there takes its place
@@ -110,7 +110,7 @@ place_push key n [] x = refl
 place_push key n (y ∷ ys) x = push_step (length ys) (place_at key n ys) (key x == n) (key y == n) (place_at key n (ys ++ x ∷ [])) (place_push key n ys x)
 
 -- what is found at a key after a put
-find_put : {X : Type 0} (key : X → ℕ) (n : ℕ) (x : X) (ys : List X) → find (λ y. key y == n) (put_by key x ys) ≡ cond (key x == n) (Some x) (find (λ y. key y == n) ys)
+pub find_put : {X : Type 0} (key : X → ℕ) (n : ℕ) (x : X) (ys : List X) → find (λ y. key y == n) (put_by key x ys) ≡ cond (key x == n) (Some x) (find (λ y. key y == n) ys)
 find_put key n x [] = refl
 find_put key n x (y ∷ ys) = ⊎_elim
     (λ l. ap (find (λ z. key z == n)) (put_before key x y ys l))

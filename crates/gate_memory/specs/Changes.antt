@@ -10,7 +10,7 @@ use Rattle.gate_types.specs.declared.records.Ready.{Ready}
 use Rattle.gate_types.specs.State.{put_by}
 use Rattle.gate_book_trait.specs.Rising.{RisesFrom, In}
 use Rattle.gate_memory.specs.Pairs.{pair_key, IsFit}
-use Rattle.gate_memory.specs.Needs.{AreInOrder, TellsNeeds}
+use Rattle.gate_memory.specs.Needs.{AreInOrder, AreNeeds, TellsNeeds}
 use Rattle.gate_memory.specs.declared.pairs.Pair.{Pair}
 use Rattle.gate_memory.specs.declared.changes.ChangeTable.{ChangeTable}
 use Rattle.gate_book_trait.specs.RowReads.{AreReady}
@@ -33,6 +33,11 @@ abbrev pub place_at : {X : Type 0} → (X → ℕ) → ℕ → List X → Option
 place_at key n [] = None
 place_at key n (x ∷ xs) = if key x == n then Some 0 else option_map (λ i. suc i) (place_at key n xs)
 
+-- no two rows have one key
+abbrev pub AreApart : {X : Type 0} → (X → ℕ) → List X → Type 0
+AreApart key [] = Unit {0}
+AreApart key (x ∷ xs) = (place_at key (key x) xs ≡ None) × AreApart key xs
+
 -- each number has the place of its row
 abbrev pub FindsNumbers : Numbers → List ChangeRow → Type 0
 FindsNumbers places rows = (n : ℕ) → get nat_eq places n ≡ place_at number_of n rows
@@ -50,14 +55,16 @@ abbrev pub same_number : Option ℕ → ℕ → Bool
 same_number None n = false
 same_number (Some m) n = m == n
 
--- numbers find their rows, and the indexes, which rise, tell of each ready change and of each need
+-- numbers differ and find their rows, and the indexes, which rise, tell of each ready change and of exactly the needs
 pub record IsKept (t : ChangeTable) : Type 0 where
+  pub apart : AreApart number_of t.rows.items
   pub finds : FindsNumbers t.places t.rows.items
   pub ready_rise : RisesFrom pair_key 0 t.ready.items
   pub ready_fit : AllByRecursion IsFit t.ready.items
   pub ready_told : TellsReady t.ready.items (in_order number_of t.rows.items)
   pub needs_order : AreInOrder t.needs.items
   pub needs_told : TellsNeeds t.needs.items (in_order number_of t.rows.items)
+  pub needs_stand : AreNeeds t.needs.items (in_order number_of t.rows.items)
 
 -- room for n more, which have m needs
 pub record HasRoom (n m : ℕ) (t : ChangeTable) : Type 0 where

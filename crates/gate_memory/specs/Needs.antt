@@ -1,4 +1,4 @@
--- An index of needs: pairs of a needed change and one that needs it, or needed it at an earlier revision.
+-- An index of needs: pairs of a needed change and one that needs it.
 use Rattle.std.specs.Prelude.{ℕ, ◌≡◌, ◌<◌, ◌+◌, List, [], ◌∷◌, length}
 use Rattle.std.specs.List.{AllByRecursion}
 use Rattle.gate_types.specs.declared.edits.Edit.{Edit}
@@ -6,6 +6,7 @@ use Rattle.gate_types.specs.declared.edits.Edit.TheVariants as edit
 use Rattle.gate_types.specs.declared.records.Item.{Item}
 use Rattle.gate_types.specs.declared.rows.ChangeRow.{ChangeRow}
 use Rattle.gate_book_trait.specs.Rising.{RisesFrom, In}
+use Rattle.gate_book_trait.specs.RowReads.{needs_in}
 use Rattle.gate_memory.specs.Pairs.{pair_key}
 use Rattle.gate_memory.specs.declared.pairs.Pair.{Pair}
 
@@ -20,6 +21,14 @@ TellsNeedsOf needs n ms = AllByRecursion (λ m. In (pair_of_need m n) needs) ms
 -- those of each change do
 abbrev pub TellsNeeds : List Pair → List ChangeRow → Type 0
 TellsNeeds needs rows = AllByRecursion (λ r. TellsNeedsOf needs r.change.number r.change.needs) rows
+
+-- none of these needs of a change does
+abbrev pub TellsNoneOf : List Pair → ℕ → List ℕ → Type 0
+TellsNoneOf needs n ms = AllByRecursion (λ m. In (pair_of_need m n) needs → ⊥) ms
+
+-- each pair of the index is of a change that needs the other
+abbrev pub AreNeeds : List Pair → List ChangeRow → Type 0
+AreNeeds needs rows = AllByRecursion (λ p. In p.first (needs_in rows p.second)) needs
 
 -- its second number isn't the last of 64 bits
 abbrev pub IsSmall : Pair → Type 0

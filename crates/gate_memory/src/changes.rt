@@ -1,5 +1,5 @@
 //! The changes of a book in memory.
-ghost use Rattle.std.specs.Prelude.{◌≡◌, ◌==◌, ◌<◌, ◌≤◌, ◌+◌, ◌++◌, ℕ, suc, [], true, length, map, find, slice_get, nat_eq, IfOk, OnOk, vec_len, vec_capacity};
+ghost use Rattle.std.specs.Prelude.{◌≡◌, ◌≢◌, ◌==◌, ◌<◌, ◌≤◌, ◌+◌, ◌++◌, ◌⊎◌, ℕ, suc, [], true, if◌then◌else◌, Some, None, IsSome, length, map, find, slice_get, nat_eq, IfOk, OnOk, vec_len, vec_capacity};
 ghost use Rattle.std.specs.List.{list_any, filter_map, cons_option, AllByRecursion};
 ghost use Rattle.std.specs.List.Sorted.{IsNonDecreasingBy, IsPermutation};
 ghost use Rattle.std.specs.Option.{option_copied, option_map_or};
@@ -11,10 +11,10 @@ ghost use Rattle.gate_book_trait.specs.RowReads.{change_in, needs_in, approval_i
 ghost use Rattle.gate_memory.specs.TableReads.{needing_by, IsWhatRowsTellOf};
 ghost use Rattle.gate_memory.specs.Pairs.{pair_key, IsFit};
 ghost use Rattle.gate_memory.specs.declared.pairs.Pair.{Pair};
-ghost use Rattle.gate_memory.specs.Needs.{AreInOrder, IsRising, IsSmall, TellsNeedsOf, pair_of_need};
-ghost use Rattle.gate_memory.specs.Changes.{FindsNumbers, IsKept, HasRoom, IsWhatRowsTell, ready_by, number_of, in_order, changes_of, entry_of};
+ghost use Rattle.gate_memory.specs.Needs.{AreInOrder, IsRising, IsSmall, TellsNeedsOf, TellsNoneOf, pair_of_need};
+ghost use Rattle.gate_memory.specs.Changes.{AreApart, FindsNumbers, IsKept, HasRoom, IsWhatRowsTell, ready_by, number_of, in_order, changes_of, entry_of};
 
-use crate::needs::note_needs;
+use crate::needs::{forget_needs, note_needs};
 use crate::pairs::{Pair, of_first};
 use crate::sorted;
 use crate::sorted::Keyed;
@@ -26,9 +26,11 @@ use gate_types::sequence::Sequence;
 use std::alloc::{AllocError, Global};
 use std::collections::HashMap;
 
-/// All changes in the order in which they came first, the place of each number, and two indexes: of
-/// the ready ones (pairs of the number of the approval and the change's own), and of needs (pairs of the
-/// needed change and one that needs it, or needed it at an earlier revision).
+/// All changes, the place of each number, and two indexes: of the ready ones (pairs of the number of the approval
+/// and the change's own), and of needs (pairs of the needed change and one that needs it). Both indexes have what
+/// stands, and nothing of an earlier revision, so that they grow with the changes and not with what is put.
+///
+/// The changes stand in the order in which they came first, until one is removed: the last one takes its place.
 #[derive(Drop)]
 pub struct ChangeTable {
     rows: Vec<ChangeRow>,
@@ -46,13 +48,36 @@ fn place_of(places: &HashMap<u64, usize>, number: u64) -> Option<usize>
     }
 }
 
+/// Takes the place of a number out.
+fn take_place(places: &mut HashMap<u64, usize>, number: u64) -> Option<usize>
+    ensures value { result ≡ get nat_eq places.old number }
+    ensures gone { (q : ℕ) → get nat_eq places.new q ≡ if number == q then None else get nat_eq places.old q }
+    ensures room { spare places.old ≤ spare places.new }
+{
+    places.remove(&number)
+}
+
+/// Writes over the place of a number that has one, which takes no memory.
+fn move_place(places: &mut HashMap<u64, usize>, number: u64, place: usize)
+    requires { IsSome (get nat_eq places.old number) }
+    ensures moved { (q : ℕ) → get nat_eq places.new q
+        ≡ if number == q then Some place else get nat_eq places.old q }
+    ensures room { spare places.new ≡ spare places.old }
+{
+    if let Some(held) = places.get_mut(&number) {
+        *held = place;
+    }
+}
+
 /// Puts a row where there is room, in place of one with its number.
 fn put_row(rows: &mut Vec<ChangeRow>, places: &mut HashMap<u64, usize>, row: ChangeRow)
     requires room { vec_len rows.old < vec_capacity rows.old }
     requires spare { 0 < spare places.old }
     requires finds { FindsNumbers places.old rows.old.items }
+    requires apart { AreApart number_of rows.old.items }
     ensures rows { in_order number_of rows.new.items ≡ put_by number_of row (in_order number_of rows.old.items) }
     ensures finds { FindsNumbers places.new rows.new.items }
+    ensures apart { AreApart number_of rows.new.items }
     ensures len { vec_len rows.new ≤ vec_len rows.old + 1 }
     ensures capacity { vec_capacity rows.new ≡ vec_capacity rows.old }
     ensures room { spare places.old ≤ spare places.new + 1 }
@@ -65,6 +90,27 @@ fn put_row(rows: &mut Vec<ChangeRow>, places: &mut HashMap<u64, usize>, row: Cha
             let _old = inserted.unwrap();
             rows.push_reserved(row);
         }
+    }
+}
+
+/// Drops the row of a number, if there is one. The last row takes its place.
+fn remove_row(rows: &mut Vec<ChangeRow>, places: &mut HashMap<u64, usize>, number: u64)
+    requires finds { FindsNumbers places.old rows.old.items }
+    requires apart { AreApart number_of rows.old.items }
+    ensures rows { in_order number_of rows.new.items ≡ without number_of number (in_order number_of rows.old.items) }
+    ensures finds { FindsNumbers places.new rows.new.items }
+    ensures apart { AreApart number_of rows.new.items }
+    ensures len { vec_len rows.new ≤ vec_len rows.old }
+    ensures capacity { vec_capacity rows.new ≡ vec_capacity rows.old }
+    ensures room { spare places.old ≤ spare places.new }
+{
+    let Some(place) = take_place(places, number) else {
+        return;
+    };
+    let last = rows.pop().unwrap();
+    if place < rows.len() {
+        move_place(places, number_of_row(&last), place);
+        sorted::put_at(rows, place, last);
     }
 }
 
@@ -149,10 +195,28 @@ fn note_row(index: &mut Vec<Pair>, row: &ChangeRow)
     ensures order { AreInOrder index.new.items }
     ensures told { TellsNeedsOf index.new.items row.now.change.number row.now.change.needs }
     ensures others { (p : Pair) → In p index.old.items → In p index.new.items }
+    ensures back { (p : Pair) → In p index.new.items →
+        In p index.old.items ⊎ ((p.second ≡ row.now.change.number) × In p.first row.now.change.needs) }
     ensures len { vec_len index.new ≤ vec_len index.old + length row.now.change.needs }
     ensures capacity { vec_capacity index.new ≡ vec_capacity index.old }
 {
     note_needs(index, row.change.number, row.change.needs.as_slice());
+}
+
+/// Drops what the index keeps of the needs of a change.
+fn forget_row(index: &mut Vec<Pair>, rows: &[ChangeRow], places: &HashMap<u64, usize>, number: u64)
+    requires finds { FindsNumbers places.now rows.now }
+    requires order { AreInOrder index.old.items }
+    ensures order { AreInOrder index.new.items }
+    ensures gone { TellsNoneOf index.new.items number (needs_in (in_order number_of rows.now) number) }
+    ensures others { (p : Pair) → p.second ≢ number → In p index.old.items → In p index.new.items }
+    ensures back { (p : Pair) → In p index.new.items → In p index.old.items }
+    ensures len { vec_len index.new ≤ vec_len index.old }
+    ensures capacity { vec_capacity index.new ≡ vec_capacity index.old }
+{
+    if let Some(row) = row_of(rows, places, number) {
+        forget_needs(index, row.change.number, row.change.needs.as_slice());
+    }
 }
 
 /// What a pair of the index tells, if it is still so.
@@ -296,6 +360,7 @@ impl ChangeTable {
     {
         let number = number_of_row(&row);
         let approval = row.approval;
+        forget_row(&mut self.needs, &self.rows, &self.places, number);
         note_row(&mut self.needs, &row);
         drop_ready(
             &mut self.ready,
@@ -304,6 +369,23 @@ impl ChangeTable {
         );
         note_ready(&mut self.ready, approval, number);
         put_row(&mut self.rows, &mut self.places, row);
+    }
+
+    /// The change is no longer there, if it was.
+    pub fn remove(&mut self, number: ChangeNo)
+        requires kept { IsKept self.old }
+        ensures rows { changes_of self.new ≡ without number_of number (changes_of self.old) }
+        ensures kept { IsKept self.new }
+        ensures room { (n m : ℕ) → HasRoom n m self.old → HasRoom n m self.new }
+    {
+        let number = number.get();
+        forget_row(&mut self.needs, &self.rows, &self.places, number);
+        drop_ready(
+            &mut self.ready,
+            approval_of(&self.rows, &self.places, number),
+            number,
+        );
+        remove_row(&mut self.rows, &mut self.places, number);
     }
 
     fn row(&self, number: ChangeNo) -> Option<&ChangeRow>
@@ -331,13 +413,14 @@ impl ChangeTable {
         approval_of(&self.rows, &self.places, number.get())
     }
 
-    /// Pairs of which the second numbers tell the changes that need this one, and maybe others.
+    /// Pairs of which the second numbers tell the changes that need this one.
     pub fn needing(&self, change: ChangeNo) -> &[Pair]
         requires { IsKept self.now }
         ensures rising { IsRising (map (λ p. p.second) result.now) }
         ensures small { AllByRecursion IsSmall result.now }
         ensures told { (n : ℕ) → list_any (λ m. m == change) (needs_in (changes_of self.now) n) ≡ true →
             In (pair_of_need change n) result.now }
+        ensures back { AllByRecursion (λ p. In change (needs_in (changes_of self.now) p.second)) result.now }
     {
         of_first(&self.needs, change.get())
     }
@@ -363,7 +446,7 @@ impl ChangeTable {
     }
 
     /// The ready changes that need this one, in order of approval: exact for any list that the rows tell. Found by the
-    /// changes that need it, or did.
+    /// changes that need it.
     pub fn ready_needing(
         &self,
         alloc: Global,

@@ -1,11 +1,11 @@
 //! An index of which change needs which.
-ghost use Rattle.std.specs.Prelude.{◌≡◌, ◌≤◌, ◌+◌, ℕ, length, OnOk, IfSome, vec_len, vec_capacity};
+ghost use Rattle.std.specs.Prelude.{◌≡◌, ◌≢◌, ◌≤◌, ◌+◌, ◌⊎◌, ℕ, length, OnOk, IfSome, vec_len, vec_capacity};
 ghost use Rattle.std.specs.List.{AllByRecursion};
 ghost use Rattle.gate_book_trait.specs.Rising.{In};
-ghost use Rattle.gate_memory.specs.Needs.{AreInOrder, IsRising, TellsNeedsOf, needs_of, needs_of_all};
+ghost use Rattle.gate_memory.specs.Needs.{AreInOrder, IsRising, TellsNeedsOf, TellsNoneOf, needs_of, needs_of_all};
 ghost use Rattle.gate_memory.specs.declared.pairs.Pair.{Pair};
 
-use crate::pairs::Pair;
+use crate::pairs::{Pair, paired};
 use crate::sorted;
 use crate::sorted::Keyed;
 use gate_types::edits::Edit;
@@ -27,6 +27,8 @@ pub fn note_needs(index: &mut Vec<Pair>, number: ChangeNo, needs: &[ChangeNo])
     ensures order { AreInOrder index.new.items }
     ensures told { TellsNeedsOf index.new.items number needs.now }
     ensures others { (p : Pair) → In p index.old.items → In p index.new.items }
+    ensures back { (p : Pair) → In p index.new.items →
+        In p index.old.items ⊎ ((p.second ≡ number) × In p.first needs.now) }
     ensures len { vec_len index.new ≤ vec_len index.old + length needs.now }
     ensures capacity { vec_capacity index.new ≡ vec_capacity index.old }
 {
@@ -38,6 +40,21 @@ pub fn note_needs(index: &mut Vec<Pair>, number: ChangeNo, needs: &[ChangeNo])
                 second: number.get(),
             },
         );
+    }
+}
+
+/// Drops the needs of a change.
+pub fn forget_needs(index: &mut Vec<Pair>, number: ChangeNo, needs: &[ChangeNo])
+    requires { AreInOrder index.old.items }
+    ensures order { AreInOrder index.new.items }
+    ensures gone { TellsNoneOf index.new.items number needs.now }
+    ensures others { (p : Pair) → p.second ≢ number → In p index.old.items → In p index.new.items }
+    ensures back { (p : Pair) → In p index.new.items → In p index.old.items }
+    ensures len { vec_len index.new ≤ vec_len index.old }
+    ensures capacity { vec_capacity index.new ≡ vec_capacity index.old }
+{
+    for need in needs {
+        sorted::remove(index, paired(need.get(), number.get()).key());
     }
 }
 

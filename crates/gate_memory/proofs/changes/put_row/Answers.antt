@@ -1,8 +1,9 @@
 use Rattle.std.proofs.Common.{rules, ◌≡◌, ◌∙◌, ◌<◌, sym, ap, set, length, Some, None, ◌++◌, ◌∷◌, []}
 use Rattle.std.specs.Prelude.{nat_eq}
 use Rattle.std.specs.HashMap.{get, Updates}
-use Rattle.gate_memory.specs.Changes.{in_order, number_of, FindsNumbers}
+use Rattle.gate_memory.specs.Changes.{in_order, number_of, AreApart, FindsNumbers}
 use Rattle.gate_memory.proofs.TableLemmas.{in_order_set, in_order_push, place_bound, numbers_set, numbers_push}
+use Rattle.gate_memory.proofs.MovedLemmas.{apart_push, apart_set}
 use Rattle.gate_memory.proofs.changes.put_row.Goals as goal
 
 pub put_at-requires : goal.put_at-requires
@@ -41,3 +42,19 @@ returns-in-None-clause-finds c =
     let here : c.len.result ≡ length old = search rules in
     let numbers : FindsNumbers c.insert-inserted.new.self (old ++ c.args.row ∷ []) = numbers_push c.args.places.now c.insert-inserted.new.self old c.args.row c.len.result here (sym none) updated.0 c.requires.finds in
     rw c.push_reserved.ensures.items numbers
+
+pub returns-in-Some-clause-apart : goal.returns-in-Some-clause-apart
+returns-in-Some-clause-apart c =
+    let old = c.args.rows.now.items in
+    let n = c.args.row.change.number in
+    let has : Some c.in-Some.place ≡ get nat_eq c.args.places.now n = rw c.number_of_row-number.ensures at c.in-Some.ensures in
+    let apart : AreApart number_of (set old c.in-Some.place c.args.row) = apart_set number_of c.args.row old c.in-Some.place (sym (has ∙ c.requires.finds n)) c.requires.apart in
+    rw c.put_at.ensures.rows apart
+
+pub returns-in-None-clause-apart : goal.returns-in-None-clause-apart
+returns-in-None-clause-apart c =
+    let old = c.args.rows.now.items in
+    let n = c.args.row.change.number in
+    let none : None ≡ get nat_eq c.args.places.now n = rw c.number_of_row-number.ensures at c.in-None.ensures in
+    let apart : AreApart number_of (old ++ c.args.row ∷ []) = apart_push number_of c.args.row old (sym (none ∙ c.requires.finds n)) c.requires.apart in
+    rw c.push_reserved.ensures.items apart

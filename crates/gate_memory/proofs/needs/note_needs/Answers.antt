@@ -1,4 +1,4 @@
-use Rattle.std.proofs.Common.{◌≡◌, take, arith}
+use Rattle.std.proofs.Common.{◌≡◌, ◌⊎◌, inl, inr, ⊎_elim, sym, ap, subst, take, arith}
 use Rattle.std.specs.List.{AllByRecursion}
 use Rattle.gate_types.specs.State.{put_by}
 use Rattle.gate_memory.specs.Needs.{IsSmall, TellsNeedsOf, pair_of_need}
@@ -9,6 +9,8 @@ use Rattle.gate_book_trait.proofs.Finding.{in_weaker, all_in}
 use Rattle.gate_memory.proofs.BuildLemmas.{all_put, in_put, still_in}
 use Rattle.gate_memory.proofs.NeedLemmas.{small_fit, all_more}
 use Rattle.gate_memory.proofs.PairLemmas.{same_pair}
+use Rattle.gate_memory.proofs.IndexLemmas.{put_in}
+use Rattle.gate_memory.proofs.NeedChangeLemmas.{in_at}
 use Rattle.gate_memory.proofs.needs.note_needs.Goals as goal
 
 pub loop-need-preserved : goal.loop-need-preserved
@@ -28,10 +30,18 @@ loop-need-preserved c =
     let smalls : AllByRecursion IsSmall new = rw is (all_put IsSmall pair_key pair old small before.order.small) in
     let told : TellsNeedsOf new n (take c.loop-need.need-index c.args.needs.now) =
     in_weaker (λ k. In (pair_of_need k n) old) (λ k. In (pair_of_need k n) new) (λ k t. stays (pair_of_need k n) t) (take c.loop-need.need-index c.args.needs.now) before.told in
+    let needed : In m c.args.needs.now = subst (λ k. In k c.args.needs.now) (sym c.need-item.is) (in_at c.args.needs.now c.loop-need.need-index m c.loop-need-test.true) in
+    let back : (p : Pair) → In p new → In p c.args.index.now.items ⊎ ((p.second ≡ n) × In p.first c.args.needs.now) = λ p there.
+    let t : In p (put_by pair_key pair old) = rw is at there in
+    ⊎_elim
+    (λ e. inr (sym (ap (λ (q : Pair). q.second) e), subst (λ (q : Pair). In q.first c.args.needs.now) e needed))
+    (λ u. before.back p u.0)
+    (put_in pair_key pair p 0 old before.order.rise t) in
     record {
       order = record { rise = c.put.ensures.rising; small = smalls };
       told = all_more (λ k. In (pair_of_need k n) new) c.args.needs.now c.loop-need.need-index m c.loop-need-test.true c.need-item.is told itself;
       others = λ p there. stays p (before.others p there);
+      back = back;
       len = omega (arith, before.len, c.put.ensures.len);
       capacity = omega (arith, before.capacity, c.put.ensures.capacity);
     }

@@ -1,14 +1,13 @@
-use Rattle.std.proofs.Common.{◌≡◌, ◌∙◌, ◌<◌, List, Option, ap, arith}
+use Rattle.std.proofs.Common.{◌≡◌, ◌≢◌, ◌∙◌, ◌<◌, List, Option, ap, arith}
 use Rattle.std.specs.List.{AllByRecursion}
 use Rattle.gate_memory.specs.Pairs.{IsFit}
 use Rattle.gate_memory.specs.Changes.{TellsReady, number_of, in_order}
-use Rattle.gate_types.specs.declared.rows.ChangeRow.{ChangeRow}
 use Rattle.gate_memory.specs.declared.pairs.Pair.{Pair}
-use Rattle.gate_memory.specs.Needs.{TellsNeeds, TellsNeedsOf, pair_of_need}
+use Rattle.gate_memory.specs.Needs.{AreNeeds, TellsNeeds, TellsNoneOf}
 use Rattle.gate_book_trait.specs.Rising.{In}
-use Rattle.gate_book_trait.proofs.Finding.{in_weaker}
-use Rattle.gate_memory.proofs.BuildLemmas.{all_put}
+use Rattle.gate_book_trait.specs.RowReads.{needs_in}
 use Rattle.gate_memory.proofs.ChangeLemmas.{in_order_rises, dropped, noted, put_ready, fit_dropped, fit_noted, tells_put}
+use Rattle.gate_memory.proofs.NeedChangeLemmas.{tells_needs_put, are_needs_put}
 use Rattle.gate_memory.proofs.changes.ChangeTable.put.Goals as goal
 
 pub returns-clause-kept : goal.returns-clause-kept
@@ -26,19 +25,21 @@ returns-clause-kept c =
     rw index (fit_noted row.approval (number_of row) (dropped was (number_of row) old.ready.items) small (fit_dropped was (number_of row) old.ready.items kept.ready_fit)) in
     let told : TellsReady c.note_ready.new.ready.items (in_order number_of c.put_row.new.rows.items) =
     rw (index, c.put_row.ensures.rows) (tells_put was row 0 old.ready.items rows small kept.ready_fit (in_order_rises number_of old.rows.items) kept.ready_told) in
+    let mid : List Pair = c.forget_row.new.index.items in
     let needs : List Pair = c.note_row.new.index.items in
-    let itself : TellsNeedsOf needs row.change.number row.change.needs = c.note_row.ensures.told in
-    let before : TellsNeeds needs rows = in_weaker
-    (λ (r : ChangeRow). TellsNeedsOf old.needs.items r.change.number r.change.needs) (λ (r : ChangeRow). TellsNeedsOf needs r.change.number r.change.needs)
-    (λ r all. in_weaker (λ m. In (pair_of_need m r.change.number) old.needs.items) (λ m. In (pair_of_need m r.change.number) needs)
-    (λ m t. c.note_row.ensures.others (pair_of_need m r.change.number) t) r.change.needs all) rows kept.needs_told in
+    let none : TellsNoneOf mid (number_of row) (needs_in rows (number_of row)) = rw (is, c.deref.ensures.value) at c.forget_row.ensures.gone in
+    let others : (p : Pair) → p.second ≢ number_of row → In p old.needs.items → In p mid = rw is at c.forget_row.ensures.others in
     let needs_told : TellsNeeds needs (in_order number_of c.put_row.new.rows.items) = rw c.put_row.ensures.rows
-    (all_put (λ (r : ChangeRow). TellsNeedsOf needs r.change.number r.change.needs) number_of row rows itself before) in
+    (tells_needs_put old.needs.items mid needs row rows (in_order_rises number_of old.rows.items) kept.needs_told others c.note_row.ensures.others c.note_row.ensures.told) in
+    let needs_stand : AreNeeds needs (in_order number_of c.put_row.new.rows.items) = rw c.put_row.ensures.rows
+    (are_needs_put old.needs.items mid needs row rows kept.needs_stand none c.forget_row.ensures.back c.note_row.ensures.back) in
     record {
+      apart = c.put_row.ensures.apart;
       finds = c.put_row.ensures.finds;
       ready_rise = c.note_ready.ensures.rising;
       ready_fit = fit;
       ready_told = told;
       needs_order = c.note_row.ensures.order;
       needs_told = needs_told;
+      needs_stand = needs_stand;
     }
