@@ -1,0 +1,130 @@
+//! What is live is read from the book below.
+ghost use Rattle.std.specs.Prelude.{◌≡◌, [], map, option_map, Some, IfErr, IfOk, IfSome};
+ghost use Rattle.std.specs.List.{AllByRecursion};
+ghost use Rattle.gate_types.specs.Tables.{tables};
+ghost use Rattle.gate_memory.specs.Queues.{serial_of};
+ghost use Rattle.gate_book_trait.specs.Faults.{MayAnswer};
+ghost use Rattle.gate_book_trait.specs.Kept.{OfHeld, OfHeldUnder, IsKept};
+ghost use Rattle.gate_book_trait.specs.Rising.{RisesFrom};
+ghost use Rattle.gate_book_trait.specs.RowReads.{rows_named};
+ghost use Rattle.gate_live.specs.Live.{live_queue};
+ghost use Rattle.gate_live.specs.Held.{Agrees, AreKept, IsKeptQueue, live_of, queue_of};
+ghost use Rattle.gate_live.specs.Both.{IsKeptUnder};
+
+use crate::held::Held;
+use crate::held_queue::HeldQueue;
+use crate::live::Live;
+use crate::live_book::LiveBook;
+use gate_book_trait::{Book, BookFault};
+use gate_types::config::{Config, Queue};
+use gate_types::edits::Edit;
+use gate_types::names::{Name, NoMemory};
+use gate_types::records::Item;
+use std::alloc::Global;
+
+/// What is live of a queue with these items, which rise by serial.
+fn queue_with(
+    alloc: Global,
+    name: &Name,
+    window: u32,
+    items: &[Item],
+    landings: u64,
+    reports: u64,
+) -> Result<HeldQueue, NoMemory>
+    ensures rows { IfOk result (λ queue. RisesFrom serial_of 0 items.now → queue_of queue ≡ record {
+      rows = record { name = name.now; window = window; items = items.now; landings = []; reports = [] };
+      landings = landings;
+      reports = reports;
+    }) }
+    ensures kept { IfOk result IsKeptQueue }
+{
+    let held = name.copy()?;
+    let mut queue = HeldQueue::new(alloc, held, window, landings, reports);
+    queue.make_room(items.len())?;
+    for item in items {
+        let told = name.copy()?;
+        queue.apply(&Edit::PutItem {
+            queue: told,
+            item: *item,
+        });
+    }
+    Ok(queue)
+}
+
+/// What is live of a queue, if the book has one of this name.
+fn read_queue<B: Book>(
+    alloc: Global,
+    book: &mut B,
+    name: &Name,
+) -> Result<Option<HeldQueue>, BookFault>
+    ensures found { OfHeld B.IsTrusted B.Holds book.old book.new (λ c x. IfOk result (λ found.
+        option_map queue_of found ≡ option_map live_queue (rows_named (tables c x).queues name.now))) }
+    ensures sound { IfOk result (λ found. IfSome found IsKeptQueue) }
+    ensures kept { IsKept B.IsTrusted B.Holds B.LeavesOneOf book.old book.new }
+    ensures fault { IfErr result (MayAnswer B.MayFault) }
+{
+    let Some(window) = book.window(name)? else {
+        return Ok(None);
+    };
+    let items = book.items(name)?;
+    let landings = book.landing_count(name)?;
+    let reports = book.reports(name)?;
+    let queue = queue_with(alloc, name, window, items.as_slice(), landings, reports)?;
+    Ok(Some(queue))
+}
+
+/// What is live of all queues of the settings, if the book has them.
+fn read_queues<B: Book>(
+    alloc: Global,
+    book: &mut B,
+    settings: &[Queue],
+) -> Result<Option<Vec<HeldQueue>>, BookFault>
+    ensures found { OfHeld B.IsTrusted B.Holds book.old book.new (λ c x. IfOk result (λ found. IfSome found (λ queues.
+        map Some (map queue_of queues.items) ≡ map (λ r. option_map live_queue (rows_named (tables c x).queues r.name))
+        settings.now))) }
+    ensures sound { IfOk result (λ found. IfSome found (λ queues. AllByRecursion IsKeptQueue queues.items)) }
+    ensures kept { IsKept B.IsTrusted B.Holds B.LeavesOneOf book.old book.new }
+    ensures fault { IfErr result (MayAnswer B.MayFault) }
+{
+    let mut queues = Vec::new(alloc);
+    for setting in settings {
+        let Some(queue) = read_queue(alloc, book, &setting.name)? else {
+            return Ok(None);
+        };
+        queues.reserve(1)?;
+        queues.push_reserved(queue);
+    }
+    Ok(Some(queues))
+}
+
+/// All that is live; nothing where the book hasn't the queues of these settings.
+fn read_all<B: Book>(
+    alloc: Global,
+    book: &mut B,
+    config: &Config,
+) -> Result<Option<Held>, BookFault>
+    ensures found { OfHeldUnder B.IsTrusted B.Holds book.old book.new config.now (λ x.
+        IfOk result (λ held. Agrees (option_map live_of held) config.now x)) }
+    ensures sound { IfOk result (λ held. IfSome held AreKept) }
+    ensures kept { IsKept B.IsTrusted B.Holds B.LeavesOneOf book.old book.new }
+    ensures fault { IfErr result (MayAnswer B.MayFault) }
+{
+    let Some(queues) = read_queues(alloc, book, config.queues.as_slice())? else {
+        return Ok(None);
+    };
+    let counters = book.counters()?;
+    Ok(Some(Held::new(queues, counters)))
+}
+
+impl<B: Book> LiveBook<B> {
+    /// Reads what is live, under the settings in force, and holds it from now on. After a fault nothing is held.
+    pub fn fill(&mut self, config: &Config) -> Result<(), BookFault>
+        ensures kept { IsKeptUnder B.IsTrusted B.Holds B.LeavesOneOf config.now self.old self.new }
+        ensures fault { IfErr result (MayAnswer B.MayFault) }
+    {
+        self.live = Live::new();
+        let held = read_all(self.alloc, &mut self.book, config)?;
+        self.live = Live::of(held);
+        Ok(())
+    }
+}

@@ -1,0 +1,133 @@
+//! What is held of one queue.
+ghost use Rattle.std.specs.Prelude.{◌≡◌, ◌==◌, ℕ, suc, [], max, if◌then◌else◌, find, option_map, IfOk, OnOk};
+ghost use Rattle.std.specs.Option.{option_copied};
+ghost use Rattle.gate_types.specs.Names.{same_name};
+ghost use Rattle.gate_memory.specs.Queues as queue;
+ghost use Rattle.gate_live.specs.Live.{edited_live_queue};
+ghost use Rattle.gate_live.specs.Held.{IsKeptQueue, HasRoomIn, queue_of};
+
+use gate_book_trait::QueuedItem;
+use gate_memory::QueueTable;
+use gate_types::edits::Edit;
+use gate_types::names::{Name, NoMemory};
+use gate_types::numbers::{ChangeNo, Serial};
+use gate_types::records::Item;
+use std::alloc::{AllocError, Global};
+
+/// The window and the items of a queue, and how many landings and reports it has.
+#[derive(Drop)]
+pub struct HeldQueue {
+    table: QueueTable,
+    landings: u64,
+    reports: u64,
+}
+
+/// The later of two places, if it is this queue's.
+fn last_place(queue: &Name, name: &str, place: u64, last: u64) -> u64
+    ensures { result ≡ (if same_name queue.now name.now then max place last else last) }
+{
+    if queue.as_str() == name {
+        place.max(last)
+    } else {
+        last
+    }
+}
+
+impl HeldQueue {
+    /// A queue without items.
+    pub(crate) fn new(
+        alloc: Global,
+        name: Name,
+        window: u32,
+        landings: u64,
+        reports: u64,
+    ) -> HeldQueue
+        ensures rows { queue_of result ≡ record {
+          rows = record { name = name; window = window; items = []; landings = []; reports = [] };
+          landings = landings;
+          reports = reports;
+        } }
+        ensures kept { IsKeptQueue result }
+    {
+        HeldQueue {
+            table: QueueTable::new(alloc, name, window),
+            landings,
+            reports,
+        }
+    }
+
+    /// Makes room for `n` more items. What is held stays, whatever the result.
+    pub(crate) fn make_room(&mut self, n: usize) -> Result<(), AllocError>
+        requires { IsKeptQueue self.old }
+        ensures rows { queue_of self.new ≡ queue_of self.old }
+        ensures kept { IsKeptQueue self.new }
+        ensures room { OnOk result (HasRoomIn n self.new) }
+    {
+        self.table.make_room(n)?;
+        Ok(())
+    }
+
+    /// One edit, where there is room; it leaves the queue if it isn't of its rows.
+    pub(crate) fn apply(&mut self, edit: &Edit)
+        requires kept { IsKeptQueue self.old }
+        requires room { HasRoomIn 1 self.old }
+        ensures rows { queue_of self.new ≡ edited_live_queue edit.now (queue_of self.old) }
+        ensures kept { IsKeptQueue self.new }
+        ensures room { (n : ℕ) → HasRoomIn (suc n) self.old → HasRoomIn n self.new }
+    {
+        match edit {
+            Edit::PutLanding { queue, place, .. } => {
+                self.landings = last_place(queue, self.table.name(), *place, self.landings)
+            }
+            Edit::PutReport { queue, place, .. } => {
+                self.reports = last_place(queue, self.table.name(), *place, self.reports)
+            }
+            _ => self.table.apply(edit),
+        }
+    }
+
+    pub(crate) fn has_name(&self, name: &str) -> bool
+        ensures { result ≡ same_name (queue_of self.now).rows.name name.now }
+    {
+        self.table.has_name(name)
+    }
+
+    /// The item of a serial.
+    pub(crate) fn item(&self, serial: Serial) -> Option<&Item>
+        requires { IsKeptQueue self.now }
+        ensures { option_copied result ≡ find (λ i. i.serial == serial) (queue_of self.now).rows.items }
+    {
+        self.table.item(serial)
+    }
+
+    /// The item of a change, with the name of this queue.
+    pub(crate) fn queued(&self, change: ChangeNo) -> Result<Option<QueuedItem>, NoMemory>
+        requires { IsKeptQueue self.now }
+        ensures { IfOk result (λ found. found
+            ≡ option_map (λ i. record { queue = (queue_of self.now).rows.name; item = i })
+            (find (λ i. i.change == change) (queue_of self.now).rows.items)) }
+    {
+        self.table.queued(change)
+    }
+
+    /// Its window and its items.
+    pub(crate) fn table(&self) -> &QueueTable
+        requires { IsKeptQueue self.now }
+        ensures table { result.now ≡ self.now.table }
+        ensures kept { queue.IsKept result.now }
+    {
+        &self.table
+    }
+
+    pub(crate) fn landing_count(&self) -> u64
+        ensures { result ≡ self.now.landings }
+    {
+        self.landings
+    }
+
+    pub(crate) fn report_count(&self) -> u64
+        ensures { result ≡ self.now.reports }
+    {
+        self.reports
+    }
+}
