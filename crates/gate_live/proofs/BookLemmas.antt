@@ -1,6 +1,7 @@
 -- From the edits of the book below to those of a book that holds what is live.
 use Rattle.std.proofs.Common.{◌≡◌, ◌≤◌, min, Bool, true, false, List, Option, Some, None, refl, sym, ap, subst, ◌∙◌, arith, true≢false}
 use Rattle.std.specs.Prelude.{◌&&◌, nat_le, option_map, IfSome, OnOk, OnErr, Result, Ok, Err}
+use Rattle.std.proofs.lemmas.Bool.{and_parts}
 use borrow.Author.Tests.{leb-true}
 use Rattle.gate_types.specs.Counters.{Drawn}
 use Rattle.gate_types.specs.Forms.{are_counters_in_form}
@@ -61,15 +62,11 @@ held_is c x l held h view e agrees =
 
 -- ---- counters
 
-and_both : (a b : Bool) → a && b ≡ true → (a ≡ true) × (b ≡ true)
-and_both true b e = (refl, e)
-and_both false b e = absurd (true≢false (sym e))
-
 -- counters in form are none above the last number
 pub within_form : (d : Drawn) → are_counters_in_form d ≡ true → within d ≡ d
 within_form d e =
-    let outer = and_both (nat_le d.approval 1000000000000000 && nat_le d.build 1000000000000000) (nat_le d.order 1000000000000000) e in
-    let inner = and_both (nat_le d.approval 1000000000000000) (nat_le d.build 1000000000000000) outer.0 in
+    let outer = and_parts (nat_le d.approval 1000000000000000 && nat_le d.build 1000000000000000) (nat_le d.order 1000000000000000) e in
+    let inner = and_parts (nat_le d.approval 1000000000000000) (nat_le d.build 1000000000000000) outer.0 in
     let a : d.approval ≤ 1000000000000000 = leb-true d.approval 1000000000000000 inner.0 in
     let b : d.build ≤ 1000000000000000 = leb-true d.build 1000000000000000 inner.1 in
     let o : d.order ≤ 1000000000000000 = leb-true d.order 1000000000000000 outer.1 in

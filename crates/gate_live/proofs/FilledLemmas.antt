@@ -4,7 +4,9 @@ use Rattle.std.specs.Prelude.{◌&&◌, nat_le, option_map, IfSome}
 use Rattle.std.specs.List.{list_any, list_all}
 use Rattle.std.specs.Option.{option_map_or}
 use Rattle.std.proofs.lemmas.Option.{none-some}
-use Rattle.std.proofs.lemmas.Bool.{and_parts, not-true}
+use Rattle.std.proofs.lemmas.Bool.{and_parts, not-true, or_parts}
+use Rattle.std.proofs.lemmas.List.{map-append}
+use Rattle.std.proofs.Math.Seq.{take-suc}
 use Rattle.std.proofs.lemmas.Simd.{map-map}
 use lib.Pointwise.{bytes_decides}
 use Rattle.gate_types.specs.declared.records.Item.{Item}
@@ -105,16 +107,12 @@ queue_read c x name window landings reports items lawful w is ls rs =
 
 -- ---- the queues, found by their names
 
-either : (a b : Bool) → (a || b) ≡ false → (a ≡ false) × (b ≡ false)
-either true b e = absurd (true≢false e)
-either false b e = (refl, e)
-
 -- a queue of another name in front makes no difference
 others_named : (q : QueueRows) (qs rs : List QueueRows) → list_any (same_name q.name) (map (λ (r : QueueRows). r.name) rs) ≡ false →
     map (λ (r : QueueRows). rows_named (q ∷ qs) r.name) rs ≡ map (λ (r : QueueRows). rows_named qs r.name) rs
 others_named q qs [] none = refl
 others_named q qs (r ∷ rs) none =
-    let both = either (same_name q.name r.name) _ none in
+    let both = or_parts (same_name q.name r.name) _ none in
     λ i. cond (both.0 i) (Some q) (rows_named qs r.name) ∷ others_named q qs rs both.1 i
 
 -- where no two are of one name, each is found by its own
@@ -161,32 +159,18 @@ filled ls qs rs names differ read =
 
 -- ---- the loops
 
-pub take_whole : {X : Type 0} (n : ℕ) (xs : List X) → length xs ≤ n → take n xs ≡ xs
-take_whole zero [] l = refl
-take_whole (suc n) [] l = refl
-take_whole zero (x ∷ xs) l = absurd (omega arith)
-take_whole (suc n) (x ∷ xs) l = ap (λ ys. x ∷ ys) (take_whole n xs (omega (arith, l)))
-
-take_next : {X : Type 0} (n : ℕ) (xs : List X) (x : X) → n < length xs → x ≡ get_or xs n x → take (suc n) xs ≡ take n xs ++ x ∷ []
-take_next n [] x l at = absurd (omega (arith, l))
-take_next zero (y ∷ ys) x l at = ap (λ z. z ∷ []) (sym at)
-take_next (suc n) (y ∷ ys) x l at = ap (λ zs. y ∷ zs) (take_next n ys x (omega (arith, l)) at)
-
-map_end : {X Y : Type 0} (f : X → Y) (xs : List X) (x : X) → map f (xs ++ x ∷ []) ≡ map f xs ++ f x ∷ []
-map_end f [] x = refl
-map_end f (y ∷ ys) x = ap (λ zs. f y ∷ zs) (map_end f ys x)
-
 -- one queue more
 pub told_next : (f : QueueSetting → Option LiveQueue) (qs : List HeldQueue) (q : HeldQueue) (rs : List QueueSetting) (n : ℕ) (r : QueueSetting) →
     n < length rs → r ≡ get_or rs n r → map (λ (l : LiveQueue). Some l) (map queue_of qs) ≡ map f (take n rs) → Some (queue_of q) ≡ f r →
     map (λ (l : LiveQueue). Some l) (map queue_of (qs ++ q ∷ [])) ≡ map f (take (n + 1) rs)
 told_next f qs q rs n r l at before here =
     let step : suc n ≡ n + 1 = omega arith in
-    ap (map (λ (k : LiveQueue). Some k)) (map_end queue_of qs q)
-    ∙ map_end (λ (k : LiveQueue). Some k) (map queue_of qs) (queue_of q)
+    ap (map (λ (k : LiveQueue). Some k)) (map-append queue_of qs (q ∷ []))
+    ∙ map-append (λ (k : LiveQueue). Some k) (map queue_of qs) (queue_of q ∷ [])
     ∙ (λ i. before i ++ here i ∷ [])
-    ∙ sym (map_end f (take n rs) r)
-    ∙ ap (map f) (sym (take_next n rs r l at))
+    ∙ sym (map-append f (take n rs) (r ∷ []))
+    ∙ ap (λ x. map f (take n rs ++ x ∷ [])) at
+    ∙ ap (map f) (sym (take-suc rs n r l))
     ∙ ap (λ m. map f (take m rs)) step
 
 -- ---- the settings

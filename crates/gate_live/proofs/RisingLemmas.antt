@@ -1,7 +1,5 @@
 -- The items of a lawful content's queue rise by serial, each after its columns are worked out.
-use Rattle.std.proofs.Common.{◌≡◌, ℕ, suc, ◌+◌, ◌<◌, ◌≤◌, Some, List, [], ◌∷◌, length, map, sym, subst, arith}
-use Rattle.std.specs.Prelude.{slice_index, All}
-use Rattle.std.specs.List.{AllByRecursion}
+use Rattle.std.proofs.Common.{◌≡◌, ℕ, suc, Some, List, [], ◌∷◌, map, sym, arith}
 use Rattle.std.specs.List.Sorted.{IsStrictlyIncreasing}
 use Rattle.gate_types.specs.declared.records.Build.{Build}
 use Rattle.gate_types.specs.Names.{same_name}
@@ -16,26 +14,7 @@ use Rattle.gate_memory.specs.Queues.{serial_of}
 use Rattle.gate_book_trait.specs.Reads as read
 use Rattle.gate_book_trait.specs.Rising.{RisesFrom}
 use Rattle.gate_book_trait.proofs.Finding.{all_found}
-
--- ---- numbers
-
-tail_up : (n : ℕ) (ns : List ℕ) → IsStrictlyIncreasing (n ∷ ns) → IsStrictlyIncreasing ns
-tail_up n ns up k h =
-    let e : suc k + 1 ≡ suc (k + 1) = omega arith in
-    let l : suc k + 1 < length (n ∷ ns) = omega arith in
-    subst (λ j. slice_index ns k < slice_index (n ∷ ns) j) e (up (suc k) l)
-
-numbers_rise : (m : ℕ) (ns : List ℕ) → (0 < length ns → m ≤ slice_index ns 0) → IsStrictlyIncreasing ns → RisesFrom (λ (n : ℕ). n) m ns
-numbers_rise m [] low up = tt
-numbers_rise m (n ∷ ns) low up = (low (omega arith), numbers_rise (suc n) ns (next ns (up 0)) (tail_up n ns up))
-  where
-    next : (ms : List ℕ) → (1 < length (n ∷ ms) → n < slice_index (n ∷ ms) 1) → 0 < length ms → suc n ≤ slice_index ms 0
-    next [] h more = absurd (omega arith)
-    next (j ∷ js) h more = h (omega arith)
-
-all_rows : {X : Type 0} (P : X → Type 0) (xs : List X) → All P xs → AllByRecursion P xs
-all_rows P [] all = tt
-all_rows P (x ∷ xs) all = (all 0 x (omega arith), all_rows P xs (λ k d l. all (suc k) d (omega arith)))
+use Rattle.gate_book_trait.proofs.ReadLemmas.{numbers_rise, all_rows}
 
 -- ---- items, their places and their rows
 

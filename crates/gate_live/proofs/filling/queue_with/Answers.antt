@@ -1,10 +1,11 @@
 use Rattle.std.proofs.Common.{◌≡◌, ◌∙◌, ◌+◌, ◌∷◌, suc, length, drop, ap, sym, subst, arith}
+use Rattle.std.proofs.lemmas.List.{take_all}
 use Rattle.gate_types.specs.declared.edits.Edit.TheVariants as edit
 use Rattle.gate_book_trait.proofs.Finding.{rest_at}
 use Rattle.gate_live.specs.Live.{edited_live_queue}
 use Rattle.gate_live.specs.Held.{HasRoomIn}
 use Rattle.gate_live.proofs.HeldLemmas.{queue_one}
-use Rattle.gate_live.proofs.FilledLemmas.{with_items, one_more, take_whole}
+use Rattle.gate_live.proofs.FilledLemmas.{with_items, one_more}
 use Rattle.gate_live.proofs.filling.queue_with.Goals as goal
 
 pub apply-requires-clause-room : goal.apply-requires-clause-room
@@ -39,4 +40,4 @@ loop-item-preserved c =
 pub returns-clause-rows : goal.returns-clause-rows
 returns-clause-rows c rise =
     c.loop-item.invariant.rows rise
-    ∙ ap (with_items c.args.name.now c.args.window c.args.landings c.args.reports) (take_whole c.loop-item.item-index c.args.items.now c.loop-item-test.false)
+    ∙ ap (with_items c.args.name.now c.args.window c.args.landings c.args.reports) (take_all c.loop-item.item-index c.args.items.now c.loop-item-test.false)

@@ -1,6 +1,7 @@
 use Rattle.std.proofs.Common.{◌≡◌, ◌∙◌, ◌++◌, ◌∷◌, [], List, Some, Option, map, ap, sym, subst, rules}
 use Rattle.std.specs.Prelude.{option_map, IfSome}
 use Rattle.std.specs.List.{AllByRecursion}
+use Rattle.std.proofs.lemmas.List.{take_all}
 use Rattle.gate_types.specs.declared.config.Queue.{Queue as QueueSetting}
 use Rattle.gate_types.specs.Tables.{tables}
 use Rattle.gate_memory.proofs.LoopLemmas.{all_push}
@@ -9,7 +10,7 @@ use Rattle.gate_live.specs.Live.{LiveQueue, live_queue}
 use Rattle.gate_live.specs.Held.{IsKeptQueue, queue_of}
 use Rattle.gate_live.specs.declared.held_queue.HeldQueue.{HeldQueue}
 use Rattle.gate_live.proofs.BookLemmas.{then}
-use Rattle.gate_live.proofs.FilledLemmas.{told_next, take_whole}
+use Rattle.gate_live.proofs.FilledLemmas.{told_next}
 use Rattle.gate_live.proofs.filling.read_queues.Goals as goal
 
 pub loop-setting-preserved : goal.loop-setting-preserved
@@ -35,4 +36,4 @@ loop-setting-preserved g c =
 pub returns-clause-found : goal.returns-clause-found
 returns-clause-found g c trusted k x held lawful =
     let f : QueueSetting → Option LiveQueue = λ r. option_map live_queue (rows_named (tables k x).queues r.name) in
-    c.loop-setting.invariant.told trusted k x held lawful ∙ ap (map f) (take_whole c.loop-setting.setting-index c.args.settings.now c.loop-setting-test.false)
+    c.loop-setting.invariant.told trusted k x held lawful ∙ ap (map f) (take_all c.loop-setting.setting-index c.args.settings.now c.loop-setting-test.false)
