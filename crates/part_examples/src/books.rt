@@ -1,8 +1,9 @@
-//! A book in memory, and one that keeps answers over it.
+//! A book in memory, and two over it: one that keeps answers, and one that holds what is live.
 mod adopting;
 mod asked;
 mod cached;
 mod counting;
+mod live;
 mod memory;
 mod needing;
 mod scene;

@@ -3,7 +3,7 @@ use crate::books::asked::{
     counters_are, live_builds, needs_are, no_plan, not_known, not_queued, plan_is, queued_is,
     ready_are, reply_is, reports_are, sizes_are, window_is,
 };
-use crate::books::counting::Counting;
+use crate::books::counting::{Counting, counted};
 use crate::books::scene::{apply, change_no, first_book, item, later_edits};
 use gate_book::{Book, MemBook};
 use gate_cache::CachedBook;
@@ -15,7 +15,7 @@ type Cached = CachedBook<Counting<MemBook>>;
 /// Over the book of the first edits.
 fn cached(rt: &(impl Abort + AllocGlobal)) -> Cached {
     let book = first_book(rt);
-    CachedBook::new(rt.alloc(), Counting { book, reads: 0 })
+    CachedBook::new(rt.alloc(), counted(book, None))
 }
 
 fn reads_are(rt: &impl Abort, book: Cached, wanted: u32) {

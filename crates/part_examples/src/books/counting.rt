@@ -1,4 +1,4 @@
-//! A book that counts what it is asked for.
+//! A book that counts what it is asked for, and can refuse edits once.
 use gate_book::{Book, BookFault, HistoryFault, QueuedItem};
 use gate_types::edits::Edit;
 use gate_types::names::Name;
@@ -8,11 +8,21 @@ use gate_types::sequence::Sequence;
 use gate_types::tap::Tap;
 use std::io::Write;
 
-/// Answers as the book in it.
+/// Answers as the book in it; the first edits are refused by a fault, if one is set.
 #[derive(Drop)]
 pub struct Counting<B> {
     pub book: B,
     pub reads: u32,
+    pub refuses: Option<BookFault>,
+}
+
+/// Over this book, asked for nothing yet.
+pub fn counted<B: Book>(book: B, refuses: Option<BookFault>) -> Counting<B> {
+    Counting {
+        book,
+        reads: 0,
+        refuses,
+    }
 }
 
 impl<B: Book> Book for Counting<B> {
@@ -172,6 +182,9 @@ impl<B: Book> Book for Counting<B> {
     }
 
     fn apply(&mut self, edits: &[Edit]) -> Result<(), BookFault> {
-        self.book.apply(edits)
+        match self.refuses.take() {
+            Some(fault) => Err(fault),
+            None => self.book.apply(edits),
+        }
     }
 }

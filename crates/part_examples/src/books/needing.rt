@@ -1,6 +1,6 @@
 //! Who is ready and needs a change.
 use crate::books::asked::{ready_are, ready_needing_is};
-use crate::books::counting::Counting;
+use crate::books::counting::counted;
 use crate::books::scene::{apply, book_of, change_no, put_change};
 use gate_book::{Book, MemBook};
 use gate_cache::CachedBook;
@@ -78,10 +78,7 @@ fn later_needs_are_found(rt: HostRuntime) {
 
 #[test]
 fn a_book_that_keeps_answers_asks_each_time(rt: HostRuntime) {
-    let counting = Counting {
-        book: book_of_needs(&rt),
-        reads: 0,
-    };
+    let counting = counted(book_of_needs(&rt), None);
     let mut book = CachedBook::new(rt.alloc(), counting);
     who_needs_it_is_told(&rt, &mut book);
     who_needs_it_is_told(&rt, &mut book);

@@ -1,9 +1,11 @@
 //! A book in memory where one allocation is refused: what was asked leaves it as it was, and is done the next time.
 //! Each test passes whichever allocation of its run that is, and where there is none.
+use crate::books::scene::item;
 use crate::claims::holds;
 use gate_book::{Book, BookFault, MemBook};
 use gate_cache::CachedBook;
 use gate_config::read;
+use gate_live::LiveBook;
 use gate_types::config::Config;
 use gate_types::edits::Edit;
 use gate_types::names::Name;
@@ -116,12 +118,16 @@ fn try_name(alloc: Global, text: &str) -> Option<Name> {
     Name::new(text.to_string(alloc).ok()?)
 }
 
+fn name(rt: &(impl Abort + AllocGlobal), text: &str) -> Name {
+    match try_name(rt.alloc(), text) {
+        Some(name) => name,
+        None => try_name(rt.alloc(), text).expect(rt, "memory"),
+    }
+}
+
 /// The window of a queue, if there is one.
 fn window_of(rt: &(impl Abort + AllocGlobal), book: &mut MemBook, queue: &str) -> Option<u32> {
-    let name = match try_name(rt.alloc(), queue) {
-        Some(name) => name,
-        None => try_name(rt.alloc(), queue).expect(rt, "memory"),
-    };
+    let name = name(rt, queue);
     book.window(&name).expect(rt, "a read that takes no memory")
 }
 
@@ -151,4 +157,45 @@ fn other_settings_are_taken_the_next_time(rt: HostRuntime) {
         book.adopt(&first) == Err(OpenFault::OtherSettings),
         "the first settings",
     );
+}
+
+/// A book that holds what is live of this one.
+fn live(rt: &(impl Abort + AllocGlobal), below: MemBook, config: &Config) -> LiveBook<MemBook> {
+    let mut book = LiveBook::new(rt.alloc(), below);
+    if let Err(fault) = book.fill(config) {
+        holds(rt, fault == BookFault::NoMemory, "what is live");
+        book.fill(config).expect(rt, "memory");
+    }
+    book
+}
+
+fn put_item(rt: &(impl Abort + AllocGlobal), queue: &str) -> Edit {
+    Edit::PutItem {
+        queue: name(rt, queue),
+        item: item(rt, 1, 101),
+    }
+}
+
+/// `core` has so many items in memory, and in the book below, which is handed on.
+fn items_in_both(rt: &(impl Abort + AllocGlobal), book: LiveBook<MemBook>, wanted: u64) -> MemBook {
+    let mut book = book;
+    let core = name(rt, "core");
+    holds(rt, book.item_count(&core) == Ok(wanted), "in memory");
+    let mut below = book.into_book();
+    holds(rt, below.item_count(&core) == Ok(wanted), "below");
+    below
+}
+
+#[test]
+fn what_is_live_changes_with_its_book_the_next_time(rt: HostRuntime) {
+    let config = settings(&rt, FIRST);
+    let edits = [put_item(&rt, "core")];
+    let mut book = live(&rt, empty_book(&rt, &config), &config);
+    if let Err(fault) = book.apply(&edits) {
+        holds(&rt, fault == BookFault::NoMemory, "an item");
+        let below = items_in_both(&rt, book, 0);
+        book = live(&rt, below, &config);
+        book.apply(&edits).expect(&rt, "memory");
+    }
+    let _below = items_in_both(&rt, book, 1);
 }
