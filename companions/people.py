@@ -206,18 +206,17 @@ class People:
         return written
 
     def put(self, write: Write, now: float) -> None:
-        """Writes, and notes it then: what was written and not noted is written again, over itself."""
-        note = {"kind": write.kind, "state": write.state, "text": write.text, "at": now}
+        """Writes, and notes it then. Before that it is noted that nobody knows what is there: a write that got no
+        answer may have been done, so whatever is to be there is written again, also what was there before."""
+        noted = self.notes.get(write.name)
+        number = noted.get("number") if noted else None
+        self.notes.put(write.name, {"number": number, "kind": "", "state": "", "text": "", "at": now})
         if write.commit is not None:
             self.forge.set_status(write.place.repository, write.commit, write.state, write.text)
-            self.notes.put(write.name, note)
-            return
-        noted = self.notes.get(write.name)
-        if noted is None:
-            # Noted before: whatever comes of it, there may be a comment, which is kept up to date from now on.
-            self.notes.put(write.name, {"number": None, "kind": "", "state": "", "text": "", "at": now})
-        number = self.forge.comment(write.place, noted["number"] if noted else None, write.text)
-        self.notes.put(write.name, {"number": number, **note})
+        else:
+            number = self.forge.comment(write.place, number, write.text)
+        self.notes.put(write.name, {"number": number, "kind": write.kind, "state": write.state, "text": write.text,
+                                    "at": now})
 
     def trouble(self, name: str, what: str) -> None:
         """Says what goes wrong, once until it goes well again."""

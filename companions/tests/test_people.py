@@ -2,90 +2,15 @@
 from __future__ import annotations
 
 import contextlib
-import io
-import tempfile
 import unittest
-from pathlib import Path
-from typing import Any
 
 from companions.forges import FAILURE, PENDING, ForgeFault, Place
-from companions.gate import Gate
-from companions.outbox import Notes
-from companions.people import Manner, People
-from companions.people_seen import Subject
+from companions.people import Manner
 from companions.requests import State
-from companions.tests.people_case import NEWS, PLACES, PretendForge, subject
-from companions.tests.standin import StandIn
-
-GONE = (404, {"code": "E5", "error": "unknown-change"})
-
-class PretendGate:
-    """Two queues, as their texts show them, and the answers about changes and items."""
-
-    def __init__(self) -> None:
-        self.items: list[str] = []
-        self.waiting: list[int] = []
-        self.reports: list[str] = []
-        self.changes: dict[int, dict[str, Any]] = {}
-        self.orders: dict[int, dict[str, Any]] = {}
-        self.answers = True
-
-    def know(self, change: int, *needs: int, **other: Any) -> None:
-        said = [{"change": it, "state": "open", "stands": None, "approval": None} for it in needs]
-        self.changes[change] = {"approval": None, "change": change, "full": False, "needs": said, "order": None,
-                                "queue": "core", "revision": 1, "state": "open", **other}
-
-    def leave(self, order: int, change: int, verdict: str, n: int | str = "-", revision: int = 1) -> None:
-        self.reports.append(f"{order} {change} {revision} {verdict} {n}")
-
-    def build(self, order: int, change: int, jobs: dict[str, bool] | None, *failed: str) -> None:
-        builds = [{"build": at, "job": job, "live": True, "outcome": "failure"} for at, job in enumerate(failed, 17)]
-        told = None if jobs is None else [{"job": job, "slot": "failure", "voting": it} for job, it in jobs.items()]
-        self.orders[order] = {"builds": builds, "change": change, "jobs": told}
-
-    def answer(self, _method: str, path: str, _body: bytes) -> tuple[int, Any] | None:
-        kind, *rest = path[1:].split("/")
-        if not self.answers:
-            return None
-        if kind == "status":
-            waiting = [f"waiting {it} 1" for it in self.waiting]
-            return 200, "\n".join(["queue core window 3 landed 0", *self.items, "queue web window 3 landed 0", *waiting,
-                                   "end", ""])
-        if kind == "history":
-            start = int(rest[1])
-            rows = [] if rest[0] == "web" else [f"{at} {it}" for at, it in enumerate(self.reports, 1)]
-            return 200, "\n".join([f"history {rest[0]}", *rows[start - 1:start + 999], f"end {len(rows)}", ""])
-        said = (self.changes if kind == "changes" else self.orders).get(int(rest[0]))
-        return (200, said) if said is not None else GONE
+from companions.tests.people_case import PLACES, PeopleCase, subject
 
 
-class PeopleTest(unittest.TestCase):
-    def setUp(self) -> None:
-        folder = tempfile.TemporaryDirectory()
-        self.addCleanup(folder.cleanup)
-        self.folder = Path(folder.name)
-        self.gate, self.forge = PretendGate(), PretendForge()
-        self.standin = self.enterContext(StandIn(lambda *asked: self.gate.answer(*asked)))
-        self.errors = self.enterContext(contextlib.redirect_stderr(io.StringIO()))
-        self.people = self.start()
-        self.now = 1000.0
-
-    def start(self, manner: Manner = NEWS) -> People:
-        return People(Gate(self.standin.url, None), Notes(self.folder / "people.db"), self.forge, PLACES.get, manner)
-
-    def look(self, *subjects: Subject) -> list[str]:
-        """What a look writes."""
-        self.now += 1
-        told = subjects or (subject(101),)
-        self.done = self.people.look(told, self.now)
-        self.is_done = set(self.done) == {it.change for it in told}
-        return self.forge.news()
-
-    def asked(self) -> list[str]:
-        paths = [path for _, path, _ in self.standin.asked]
-        self.standin.asked.clear()
-        return paths
-
+class PeopleTest(PeopleCase):
     def test_a_quiet_look_costs_the_status_the_histories_and_one_change(self) -> None:
         self.gate.items = [f"{it} {it} 1 - ok unit=running" for it in (101, 102)]
         for it in (103, 104):
@@ -283,7 +208,8 @@ class PeopleTest(unittest.TestCase):
             raise Killed
 
         self.gate.items = ["1 101 1 - ok unit=running"]
-        self.forge.after = kill
+        # Behind the status, which is written first.
+        self.forge.after = lambda: setattr(self.forge, "after", kill)
         self.assertRaises(Killed, self.look)
         self.people = self.start()
         self.gate.items = []
@@ -291,6 +217,26 @@ class PeopleTest(unittest.TestCase):
         self.look()
         self.assertEqual(list(self.forge.comments), [1])
         self.assertIn("Waits for approval", self.forge.comments[1][1])
+
+    def test_what_was_there_before_is_written_over_a_write_without_an_answer(self) -> None:
+        """The forge did what it was asked, and failed then, or whoever asked was killed before he had noted that."""
+        def fail() -> None:
+            self.forge.after = lambda: None
+            raise fault
+
+        for fault in (ForgeFault("500"), KeyboardInterrupt()):
+            for skipped in (0, 1):
+                with self.subTest(type(fault).__name__, skipped=skipped):
+                    self.gate.items = ["1 101 1 - ok unit=running"]
+                    self.look()
+                    before = dict(self.forge.statuses), dict(self.forge.comments)
+                    self.gate.items = ["1 101 1 - ok unit=success"]
+                    self.forge.after = fail if not skipped else lambda: setattr(self.forge, "after", fail)
+                    with contextlib.suppress(KeyboardInterrupt):
+                        self.look()
+                    self.people, self.gate.items = self.start(), ["1 101 1 - ok unit=running"]
+                    self.look()
+                    self.assertEqual((self.forge.statuses, self.forge.comments), before)
 
     def test_a_comment_that_somebody_removed_is_written_anew(self) -> None:
         self.gate.items = ["1 101 1 - ok unit=running"]
