@@ -1,6 +1,6 @@
 -- The indexes of changes, where a change is put or goes.
-use Rattle.std.proofs.Common.{◌≡◌, ◌≢◌, ℕ, zero, suc, ◌<◌, ◌⊎◌, inl, inr, ⊎_elim, Bool, true, false, not, cond, Option, Some, None, List, [], ◌∷◌, length, get_or, refl, sym, ap, subst, ◌∙◌, arith}
-use Rattle.std.specs.Prelude.{◌==◌, find, option_map}
+use Rattle.std.proofs.Common.{◌≡◌, ◌≢◌, ℕ, zero, suc, ◌<◌, ◌⊎◌, inl, inr, ⊎_elim, false, not, cond, Option, Some, List, [], ◌∷◌, length, get_or, refl, sym, ap, subst, ◌∙◌, arith}
+use Rattle.std.specs.Prelude.{◌==◌, option_map}
 use Rattle.std.specs.List.{AllByRecursion}
 use Rattle.std.specs.Option.{option_map_or}
 use Rattle.std.proofs.lemmas.Bool.{eq-eqb}
@@ -11,7 +11,7 @@ use Rattle.gate_book_trait.specs.Rising.{RisesFrom, In}
 use Rattle.gate_book_trait.specs.RowReads.{row_of, needs_in}
 use Rattle.gate_book_trait.proofs.Finding.{all_in, in_weaker}
 use Rattle.gate_memory.specs.declared.pairs.Pair.{Pair}
-use Rattle.gate_memory.specs.Pairs.{pair_key, IsFit}
+use Rattle.gate_memory.specs.Pairs.{IsFit}
 use Rattle.gate_memory.specs.Sorted.{without}
 use Rattle.gate_memory.specs.Needs.{AreNeeds, TellsNeeds, TellsNeedsOf, TellsNoneOf, pair_of_need}
 use Rattle.gate_memory.specs.Changes.{TellsReady, number_of, entry_of}

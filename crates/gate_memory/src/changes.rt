@@ -1,5 +1,5 @@
 //! The changes of a book in memory.
-ghost use Rattle.std.specs.Prelude.{◌≡◌, ◌≢◌, ◌==◌, ◌<◌, ◌≤◌, ◌+◌, ◌++◌, ◌⊎◌, ℕ, suc, [], true, if◌then◌else◌, Some, None, IsSome, length, map, find, slice_get, nat_eq, IfOk, OnOk, vec_len, vec_capacity};
+ghost use Rattle.std.specs.Prelude.{◌≡◌, ◌≢◌, ◌==◌, ◌<◌, ◌≤◌, ◌+◌, ◌++◌, ◌⊎◌, ℕ, suc, [], true, if◌then◌else◌, Some, None, IsSome, length, map, find, slice_get, nat_eq, is_some, IfOk, OnOk, vec_len, vec_capacity};
 ghost use Rattle.std.specs.List.{list_any, filter_map, cons_option, AllByRecursion};
 ghost use Rattle.std.specs.List.Sorted.{IsNonDecreasingBy, IsPermutation};
 ghost use Rattle.std.specs.Option.{option_copied, option_map_or};
@@ -393,6 +393,14 @@ impl ChangeTable {
         ensures { option_copied result ≡ find (λ r. r.change.number == number) (changes_of self.now) }
     {
         row_of(&self.rows, &self.places, number.get())
+    }
+
+    /// Whether a change is there.
+    pub fn has(&self, number: ChangeNo) -> bool
+        requires { IsKept self.now }
+        ensures { result ≡ is_some (find (λ r. r.change.number == number) (changes_of self.now)) }
+    {
+        self.row(number).is_some()
     }
 
     pub fn get(&self, number: ChangeNo) -> Result<Option<Change>, NoMemory>

@@ -1,5 +1,5 @@
 //! The plans of a book in memory.
-ghost use Rattle.std.specs.Prelude.{◌≡◌, ◌==◌, ℕ, suc, [], find, IfOk, OnOk};
+ghost use Rattle.std.specs.Prelude.{◌≡◌, ◌==◌, ℕ, suc, [], find, is_some, IfOk, OnOk};
 ghost use Rattle.gate_types.specs.State.{put_by};
 ghost use Rattle.gate_memory.specs.Sorted.{without};
 ghost use Rattle.gate_memory.specs.Plans.{IsKept, HasRoom, serial_of};
@@ -76,6 +76,17 @@ impl PlanTable {
         match sorted::at(&self.rows, serial.get() as u128) {
             Some(plan) => Ok(Some(plan.copy()?)),
             None => Ok(None),
+        }
+    }
+
+    /// Whether there is a plan under a serial.
+    pub fn has(&self, serial: Serial) -> bool
+        requires { IsKept self.now }
+        ensures { result ≡ is_some (find (λ p. p.serial == serial) self.now.rows.items) }
+    {
+        match sorted::at(&self.rows, serial.get() as u128) {
+            Some(_) => true,
+            None => false,
         }
     }
 }

@@ -1,4 +1,4 @@
-use Rattle.std.proofs.Common.{◌≡◌, ◌⊎◌, inl, inr, ⊎_elim, sym, ap, subst, take, arith}
+use Rattle.std.proofs.Common.{◌≡◌, ◌⊎◌, inr, ⊎_elim, sym, ap, subst, take, arith}
 use Rattle.std.specs.List.{AllByRecursion}
 use Rattle.gate_types.specs.State.{put_by}
 use Rattle.gate_memory.specs.Needs.{IsSmall, TellsNeedsOf, pair_of_need}
