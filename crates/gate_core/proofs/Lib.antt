@@ -2,6 +2,7 @@ mod Results
 mod KeptReply
 mod NextContents
 mod Steps
+pub mod HoldingLemmas
 mod Placed
 -- who may enter by the edits
 mod ByEdits

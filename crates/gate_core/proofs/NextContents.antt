@@ -5,11 +5,12 @@ use Rattle.gate_types.specs.declared.deliveries.Delivery.{Delivery}
 use Rattle.gate_types.specs.declared.deliveries.Reply.{Reply}
 use Rattle.gate_types.specs.declared.deliveries.Answer.{Answer}
 use Rattle.gate_types.specs.declared.deliveries.Answer.TheVariants as answer
+use Rattle.gate_types.specs.declared.deliveries.Refusal.{Refusal}
 use Rattle.gate_types.specs.declared.deliveries.Refusal.TheVariants as refusal
 use Rattle.gate_types.specs.Settings.{Settings}
 use Rattle.gate_types.specs.State.{State}
 use Rattle.gate_types.specs.Canonical.{canonical_text}
-use Rattle.gate_types.specs.Step.{step, accepted}
+use Rattle.gate_types.specs.Step.{step, accepted, refused}
 use Rattle.gate_types.specs.Once.{Content, Call, kept_for, next_content, acts}
 use Rattle.gate_types.specs.Forms.{IsLawfulContent}
 use Rattle.gate_core.specs.Answered.{Answered, call}
@@ -44,6 +45,28 @@ accepted_is_answered c x id d said r u a holds left leaves none e same lawful h 
       stood = λ _ off.
           let on : acts c x (call id d false) ≡ true = rw (none, e) refl in
           absurd (true≢false (sym on ∙ off));
+      failed = λ marked. absurd (true≢false (sym marked));
+    }
+
+-- a refused delivery under a new id changes nothing
+pub next_stays : (c : Settings) (x : Content) (id : Id) (d : Delivery) (r : Refusal) → kept_for id x.kept ≡ None →
+    step c x.state d ≡ refused r → next_content c x (call id d false) ≡ x
+next_stays c x id d r none e = rw (none, e) refl
+
+-- it is answered so
+pub refused_is_answered : (c : Settings) (x : Content) (id : Id) (d : Delivery) (r : Refusal) (holds : Content → Type 0)
+    (leaves : List Content → Type 0) → kept_for id x.kept ≡ None → step c x.state d ≡ refused r →
+    IsLawfulContent c x → holds x → Answered c x (call id d false) (answer.Refused r) holds leaves leaves
+refused_is_answered c x id d r holds leaves none e lawful held =
+    let next = sym (next_stays c x id d r none e) in
+    record {
+      answer = rw (none, e) refl;
+      content = subst holds next held;
+      lawful = subst (IsLawfulContent c) next lawful;
+      acted = λ on.
+          let off : acts c x (call id d false) ≡ false = rw (none, e) refl in
+          absurd (true≢false (sym on ∙ off));
+      stood = λ _ off ys l. l;
       failed = λ marked. absurd (true≢false (sym marked));
     }
 

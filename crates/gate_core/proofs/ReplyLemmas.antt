@@ -1,7 +1,6 @@
 -- From lines answered in turn to the replies and the calls of the lines.
 use Rattle.std.proofs.Common.{◌≡◌, ◌≢◌, true≢false, ℕ, ◌<◌, ◌≤◌, Bool, true, false, List, [], ◌∷◌, ◌++◌, map, length, take, Option, Result, Ok, Err, inl, inr, rules, refl, sym, ap, ◌∙◌, subst}
 use Rattle.std.specs.Bool.{if◌then◌else◌}
-use Rattle.std.specs.Io.KnownBytes.{Appends}
 use Rattle.std.proofs.lemmas.List.{length-map}
 use Rattle.std.proofs.lemmas.List.Concat.{flat_map-append}
 use Rattle.std.proofs.lemmas.List.Sums.{fold-append}
@@ -15,16 +14,16 @@ use Rattle.gate_types.specs.Settings.{Settings}
 use Rattle.gate_types.specs.Once.{Content, Call, once, next_content, answer_of, answer_text, answers, is_unavailable}
 use Rattle.gate_types.specs.Refusals.{refusal_text}
 use Rattle.gate_types.specs.Forms.{IsLawfulContent}
-use Rattle.gate_book_trait.specs.Kept.{OfHeldUnder}
 use Rattle.gate_core.specs.Answered.{Answered, call}
 use Rattle.gate_core.specs.declared.gate.Gate.{Gate}
 use Rattle.gate_core.specs.Gated.{Gated}
+use Rattle.gate_core.specs.Holding.{GateHolds, OfGate}
 use Rattle.gate_core.specs.Limit.{limit, too_large}
 use Rattle.gate_wire.specs.declared.door.Door.TheVariants as door
 use Rattle.gate_wire.specs.Reading.{says}
 use Rattle.gate_core.specs.Runs.{Answers, Runs, Broke}
 use Rattle.gate_core.specs.Replies.{CallsAreAnswered, call_replies, Marked, is_too_long, call_read, call_of, calls_of_lines, gate_after_lines, text_read, reply_to, replies, Told, Replayed, Cut}
-use Rattle.gate_core.specs.Held.{IsOver, Goes, Tells}
+use Rattle.gate_core.specs.Held.{Goes, Tells}
 
 -- the reply to a line, by whether it is too long, its mark and what was read
 abbrev reply_by : Bool → Bool → Gated → Result (Id × Delivery) Refusal → List ℕ
@@ -115,8 +114,7 @@ goes_on trusted holds old mid new P Q R first next both = record {
   trusted_before = λ t. first.trusted_before (next.trusted_before t);
   passes = λ t g over.
       let a = first.passes (next.trusted_before t) g over in
-      let b = next.passes t a.0 (subst (λ c. IsOver holds c mid.book a.0) (sym first.settings) a.1) in
-      (b.0, subst (λ c. IsOver holds c new.book b.0) first.settings b.1, both g a.0 b.0 a.2 b.2);
+      let b = next.passes t a.0 a.1 in (b.0, b.1, both g a.0 b.0 a.2 b.2);
 }
 
 -- a line that says a delivery, by what the gate's answer to it came to
@@ -124,8 +122,8 @@ pub goes_told : {B : Type 0} (trusted : B → Type 0) (holds : B → Settings �
     (line : List ℕ) (id : Id) (d : Delivery) (a : Answer) (text : List ℕ) (left leaves : List Content → Type 0) →
     new.config ≡ old.config → (trusted new.book → trusted old.book) → length line ≤ limit → says door.Any line ≡ Ok (id, d) →
     text ≡ answer_text a →
-    OfHeldUnder trusted holds old.book new.book old.config (λ x.
-    Answered old.config x (call id d (is_unavailable a)) a (holds new.book old.config) left leaves) →
+    OfGate trusted holds old new (λ x.
+    Answered old.config x (call id d (is_unavailable a)) a (GateHolds holds new) left leaves) →
     Goes trusted holds old new (λ g after. Told g line text after)
 goes_told trusted holds old new line id d a text left leaves settings before short said is answered = record {
   settings = settings;
@@ -137,9 +135,10 @@ goes_told trusted holds old new line id d a text left leaves settings before sho
       let after : Gated = record g { content = next_content g.settings g.content k } in (
         after,
         record {
-          settings = over.settings;
-          held = subst (λ c. holds new.book old.config (next_content c g.content k)) same h.content;
-          lawful = subst (λ c. IsLawfulContent old.config (next_content c g.content k)) same h.lawful;
+          settings = over.settings ∙ sym settings;
+          held = subst (λ c. GateHolds holds new (next_content c g.content k)) same h.content;
+          lawful = subst (λ c. IsLawfulContent c after.content) (sym settings)
+              (subst (λ c. IsLawfulContent old.config (next_content c g.content k)) same h.lawful);
         },
         subst (λ s. Told g line s after) (sym is)
             (told_call g line id d a short said (subst (λ c. a ≡ answer_of c g.content k) same h.answer)),

@@ -2,6 +2,8 @@ pub mod Answered
 pub mod Ruled
 pub mod Thinned
 pub mod Gated
+pub mod Recent
+pub mod Holding
 pub mod Limit
 pub mod Lines
 pub mod Gathered

@@ -2,12 +2,13 @@
 ghost use Rattle.std.specs.Prelude.{◌≡◌, ◌⊎◌, [], false, None, Some, option_map, IfOk, IfErr, MatchResult, string_bytes};
 ghost use Rattle.gate_types.specs.State.{known_change};
 ghost use Rattle.gate_types.specs.Tap.{has_failed};
-ghost use Rattle.gate_book_trait.specs.Kept.{OfHeldUnder, IsKept};
+ghost use Rattle.gate_book_trait.specs.Kept.{OfHeldUnder};
 ghost use Rattle.gate_book_trait.specs.Writes.{Stops};
 ghost use Rattle.gate_archive.specs.ChangeText.{change_text};
 ghost use Rattle.gate_archive.specs.ItemText.{item_text};
 ghost use Rattle.gate_archive.specs.RunningBuilds.{running_text};
 ghost use Rattle.gate_archive.specs.Writes.{WritesHistoryFrom, WritesFeed, StopsFeed, WritesFeedText, StopsText};
+ghost use Rattle.gate_core.specs.Holding.{IsKeptGate};
 
 use crate::gate::Gate;
 use gate_archive::{Archive, FeedFault, write_feed};
@@ -38,13 +39,16 @@ impl<B: Archive> Gate<B> {
             (λ r. (r ≡ Refusal.Unavailable)
             ⊎ ((r ≡ Refusal.UnknownChange) × (known_change x.state number ≡ None)))) }
         ensures refused { IfErr result (λ r. (r ≡ Refusal.Unavailable) ⊎ (r ≡ Refusal.UnknownChange)) }
-        ensures kept { IsKept B.IsTrusted B.Holds B.LeavesOneOf self.old.book self.new.book }
+        ensures kept { IsKeptGate B.IsTrusted B.Holds B.LeavesOneOf self.old self.new }
         ensures settings { self.new.config ≡ self.old.config }
     {
         match change_text(alloc, &mut self.book, &self.config, number) {
             Ok(Some(text)) => Ok(text.into_string()),
             Ok(None) => Err(Refusal::UnknownChange),
-            Err(_) => Err(Refusal::Unavailable),
+            Err(_) => {
+                self.recent.clear();
+                Err(Refusal::Unavailable)
+            }
         }
     }
 
@@ -57,13 +61,16 @@ impl<B: Archive> Gate<B> {
         ensures text { OfHeldUnder B.IsTrusted B.Holds self.old.book self.new.book self.old.config (λ x.
             IfOk result (λ found. option_map string_bytes found ≡ item_text self.old.config x.state serial)) }
         ensures unavailable { IfErr result (λ r. r ≡ Refusal.Unavailable) }
-        ensures kept { IsKept B.IsTrusted B.Holds B.LeavesOneOf self.old.book self.new.book }
+        ensures kept { IsKeptGate B.IsTrusted B.Holds B.LeavesOneOf self.old self.new }
         ensures settings { self.new.config ≡ self.old.config }
     {
         match item_text(alloc, &mut self.book, &self.config, serial) {
             Ok(Some(text)) => Ok(Some(text.into_string())),
             Ok(None) => Ok(None),
-            Err(_) => Err(Refusal::Unavailable),
+            Err(_) => {
+                self.recent.clear();
+                Err(Refusal::Unavailable)
+            }
         }
     }
 
@@ -76,12 +83,15 @@ impl<B: Archive> Gate<B> {
         ensures text { OfHeldUnder B.IsTrusted B.Holds self.old.book self.new.book self.old.config (λ x.
             IfOk result (λ text. string_bytes text ≡ running_text x.state)) }
         ensures unavailable { IfErr result (λ r. r ≡ Refusal.Unavailable) }
-        ensures kept { IsKept B.IsTrusted B.Holds B.LeavesOneOf self.old.book self.new.book }
+        ensures kept { IsKeptGate B.IsTrusted B.Holds B.LeavesOneOf self.old self.new }
         ensures settings { self.new.config ≡ self.old.config }
     {
         match running_text(alloc, &mut self.book, &self.config) {
             Ok(text) => Ok(text.into_string()),
-            Err(_) => Err(Refusal::Unavailable),
+            Err(_) => {
+                self.recent.clear();
+                Err(Refusal::Unavailable)
+            }
         }
     }
 
@@ -103,10 +113,14 @@ impl<B: Archive> Gate<B> {
         ensures written { OfHeldUnder B.IsTrusted B.Holds self.old.book self.new.book self.old.config (λ x.
             WritesHistoryFrom x.state queue.now from front.now W.contents w.old w.new result) }
         ensures stops { Stops w.old w.new result }
-        ensures kept { IsKept B.IsTrusted B.Holds B.LeavesOneOf self.old.book self.new.book }
+        ensures kept { IsKeptGate B.IsTrusted B.Holds B.LeavesOneOf self.old self.new }
         ensures settings { self.new.config ≡ self.old.config }
     {
-        self.book.history_from(queue, from, front, w)
+        let told = self.book.history_from(queue, from, front, w);
+        if told.is_err() {
+            self.recent.clear();
+        }
+        told
     }
 
     /// Writes the front and then the text of accepted deliveries, from the first on or behind that of an id, at most
@@ -128,10 +142,14 @@ impl<B: Archive> Gate<B> {
         ensures written { OfHeldUnder B.IsTrusted B.Holds self.old.book self.new.book self.old.config (λ x.
             WritesFeedText x.kept after front.now W.contents w.old w.new result) }
         ensures stops { StopsText w.old w.new result }
-        ensures kept { IsKept B.IsTrusted B.Holds B.LeavesOneOf self.old.book self.new.book }
+        ensures kept { IsKeptGate B.IsTrusted B.Holds B.LeavesOneOf self.old self.new }
         ensures settings { self.new.config ≡ self.old.config }
     {
-        write_feed(alloc, &mut self.book, after, front, w)
+        let told = write_feed(alloc, &mut self.book, after, front, w);
+        if told.is_err() {
+            self.recent.clear();
+        }
+        told
     }
 
     /// Writes the lines of all accepted deliveries, from the first on or behind that of an id, and tells how many they
@@ -149,9 +167,13 @@ impl<B: Archive> Gate<B> {
         ensures written { OfHeldUnder B.IsTrusted B.Holds self.old.book self.new.book self.old.config (λ x.
             WritesFeed x.kept after 18446744073709551615 [] W.contents w.old w.new result) }
         ensures stops { StopsFeed w.old w.new result }
-        ensures kept { IsKept B.IsTrusted B.Holds B.LeavesOneOf self.old.book self.new.book }
+        ensures kept { IsKeptGate B.IsTrusted B.Holds B.LeavesOneOf self.old self.new }
         ensures settings { self.new.config ≡ self.old.config }
     {
-        self.book.deliveries(after, ALL, b"", w)
+        let told = self.book.deliveries(after, ALL, b"", w);
+        if told.is_err() {
+            self.recent.clear();
+        }
+        told
     }
 }

@@ -1,14 +1,16 @@
 //! The answer to a delivery.
-ghost use Rattle.std.specs.Prelude.{◌≡◌, None, true, false, IfOk, IfErr, OnErr};
+ghost use Rattle.std.specs.Prelude.{◌≡◌, None, true, false, IfOk, IfErr, OnErr, OnOk};
 ghost use Rattle.gate_types.specs.declared.deliveries.Answer.TheVariants as answers;
 ghost use Rattle.gate_types.specs.Canonical.{canonical_text};
-ghost use Rattle.gate_types.specs.Once.{kept_for, kept_answer, is_unavailable};
+ghost use Rattle.gate_types.specs.Once.{kept_for, kept_answer, next_content, is_unavailable};
 ghost use Rattle.gate_book_trait.specs.Faults.{MayAnswer};
 ghost use Rattle.gate_book_trait.specs.Kept.{OfHeldUnder};
 ghost use Rattle.gate_ruling.specs.Faults.{MayRule};
 ghost use Rattle.gate_core.specs.Answered.{Answered, call};
+ghost use Rattle.gate_core.specs.Recent.{IsTrueOf};
 
 use crate::accepting::accept;
+use crate::recent::Recent;
 use crate::ruled::{Ruled, rule};
 use gate_book_trait::{Book, BookFault};
 use gate_laws::{forms, typed};
@@ -21,22 +23,31 @@ use std::alloc::Global;
 
 /// The answer to a delivery. A first accepted delivery spends its id and its reply is kept; a spent id gets the kept
 /// reply again if the delivery is the same, and `id-reused` if it is another one. After a refusal nothing has changed;
-/// `unavailable` comes only where the book gave a fault or memory was refused.
+/// `unavailable` comes only where the book gave a fault or memory was refused. Nothing is kept of what was said before
+/// where the delivery is accepted, or `unavailable` is answered.
 pub fn deliver<B: Book>(
     alloc: Global,
     book: &mut B,
+    recent: &mut Recent,
     config: &Config,
     id: Id,
     delivery: &Delivery,
 ) -> Answer
     ensures answered { OfHeldUnder B.IsTrusted B.Holds book.old book.new config.now (λ x.
+        IsTrueOf recent.old config.now x →
         Answered config.now x (call id delivery.now (is_unavailable result)) result
         (B.Holds book.new config.now) (B.LeavesOneOf book.old config.now) (B.LeavesOneOf book.new config.now)) }
+    ensures recent { OfHeldUnder B.IsTrusted B.Holds book.old book.new config.now (λ x.
+        IsTrueOf recent.old config.now x → IsTrueOf recent.new config.now
+        (next_content config.now x (call id delivery.now (is_unavailable result)))) }
     ensures trusted { B.IsTrusted book.new → B.IsTrusted book.old }
 {
-    match answer(alloc, book, config, id, delivery) {
+    match answer(alloc, book, recent, config, id, delivery) {
         Ok(answer) => answer,
-        Err(_) => Answer::Refused(Refusal::Unavailable),
+        Err(_) => {
+            recent.clear();
+            Answer::Refused(Refusal::Unavailable)
+        }
     }
 }
 
@@ -44,11 +55,13 @@ pub fn deliver<B: Book>(
 fn answer<B: Book>(
     alloc: Global,
     book: &mut B,
+    recent: &mut Recent,
     config: &Config,
     id: Id,
     delivery: &Delivery,
 ) -> Result<Answer, BookFault>
     ensures ok { OfHeldUnder B.IsTrusted B.Holds book.old book.new config.now (λ x.
+        IsTrueOf recent.old config.now x →
         IfOk result (λ a. Answered config.now x (call id delivery.now false) a
         (B.Holds book.new config.now) (B.LeavesOneOf book.old config.now) (B.LeavesOneOf book.new config.now))) }
     ensures err { OfHeldUnder B.IsTrusted B.Holds book.old book.new config.now (λ x.
@@ -56,6 +69,9 @@ fn answer<B: Book>(
         (B.Holds book.new config.now) (B.LeavesOneOf book.old config.now) (B.LeavesOneOf book.new config.now))) }
     ensures told { OfHeldUnder B.IsTrusted B.Holds book.old book.new config.now (λ x.
         IfOk result (λ a. is_unavailable a ≡ false)) }
+    ensures recent { OfHeldUnder B.IsTrusted B.Holds book.old book.new config.now (λ x.
+        IsTrueOf recent.old config.now x → OnOk result (IsTrueOf recent.new config.now
+        (next_content config.now x (call id delivery.now false)))) }
     ensures trusted { B.IsTrusted book.new → B.IsTrusted book.old }
     ensures fault { IfErr result (MayRule B.MayFault) }
     ensures undamaged { OfHeldUnder B.IsTrusted B.Holds book.old book.new config.now (λ x.
@@ -64,7 +80,7 @@ fn answer<B: Book>(
     let said = canonical(alloc, delivery)?;
     match book.delivery(&id)? {
         Some(kept) => Ok(answer_again(kept, said.as_str())),
-        None => act(alloc, book, config, id, Text::new(said), delivery),
+        None => act(alloc, book, recent, config, id, Text::new(said), delivery),
     }
 }
 
@@ -89,6 +105,7 @@ fn answer_again(kept: Kept, said: &str) -> Answer
 fn act<B: Book>(
     alloc: Global,
     book: &mut B,
+    recent: &mut Recent,
     config: &Config,
     id: Id,
     said: Text,
@@ -96,13 +113,16 @@ fn act<B: Book>(
 ) -> Result<Answer, BookFault>
     requires { said ≡ canonical_text delivery.now }
     ensures ok { OfHeldUnder B.IsTrusted B.Holds book.old book.new config.now (λ x. kept_for id x.kept ≡ None →
-        IfOk result (λ a. Answered config.now x (call id delivery.now false) a
+        IsTrueOf recent.old config.now x → IfOk result (λ a. Answered config.now x (call id delivery.now false) a
         (B.Holds book.new config.now) (B.LeavesOneOf book.old config.now) (B.LeavesOneOf book.new config.now))) }
     ensures err { OfHeldUnder B.IsTrusted B.Holds book.old book.new config.now (λ x. kept_for id x.kept ≡ None →
         OnErr result (Answered config.now x (call id delivery.now true) (answers.Refused Refusal.Unavailable)
         (B.Holds book.new config.now) (B.LeavesOneOf book.old config.now) (B.LeavesOneOf book.new config.now))) }
     ensures told { OfHeldUnder B.IsTrusted B.Holds book.old book.new config.now (λ x. kept_for id x.kept ≡ None →
         IfOk result (λ a. is_unavailable a ≡ false)) }
+    ensures recent { OfHeldUnder B.IsTrusted B.Holds book.old book.new config.now (λ x. kept_for id x.kept ≡ None →
+        IsTrueOf recent.old config.now x → OnOk result (IsTrueOf recent.new config.now
+        (next_content config.now x (call id delivery.now false)))) }
     ensures trusted { B.IsTrusted book.new → B.IsTrusted book.old }
     ensures fault { IfErr result (MayRule B.MayFault) }
     ensures undamaged { OfHeldUnder B.IsTrusted B.Holds book.old book.new config.now (λ x.
@@ -114,8 +134,17 @@ fn act<B: Book>(
     typed::delivery_is_in_form(delivery);
     typed::id_is_in_form(&id);
     forms::next_content_is_lawful();
+    if recent.refuses(delivery) {
+        return Ok(Answer::Refused(Refusal::Idle));
+    }
     match rule(alloc, book, config, delivery)? {
-        Ruled::Refused(refusal) => Ok(Answer::Refused(refusal)),
-        Ruled::Accepted(reply, edits) => accept(alloc, book, id, said, &reply, edits),
+        Ruled::Refused(refusal) => {
+            recent.keep_refusal(delivery, refusal);
+            Ok(Answer::Refused(refusal))
+        }
+        Ruled::Accepted(reply, edits) => {
+            recent.clear();
+            accept(alloc, book, id, said, &reply, edits)
+        }
     }
 }

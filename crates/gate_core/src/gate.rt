@@ -1,17 +1,19 @@
 //! The gate: each delivery is exactly one step of the plain gate.
 ghost use Rattle.std.specs.Prelude.{◌≡◌, ◌⊎◌, false, None, Some, option_map, IfOk, IfErr, MatchResult, string_bytes};
 ghost use Rattle.gate_types.specs.BuildText.{build_text};
-ghost use Rattle.gate_types.specs.Once.{is_unavailable};
+ghost use Rattle.gate_types.specs.Once.{Content, is_unavailable};
 ghost use Rattle.gate_types.specs.OrderList.{order_list_text};
 ghost use Rattle.gate_types.specs.Status.{status_text};
 ghost use Rattle.gate_types.specs.Step.{build_of};
 ghost use Rattle.gate_types.specs.Tap.{has_failed};
-ghost use Rattle.gate_book_trait.specs.Kept.{OfHeldUnder, IsKept};
+ghost use Rattle.gate_book_trait.specs.Kept.{OfHeldUnder};
 ghost use Rattle.gate_book_trait.specs.Writes.{WritesHistory, Stops};
 ghost use Rattle.gate_core.specs.Answered.{Answered, call};
+ghost use Rattle.gate_core.specs.Holding.{GateHolds, OfGate, IsKeptGate};
 ghost use Rattle.gate_core.specs.Landing.{LandsRightly};
 
 use crate::delivering::deliver;
+use crate::recent::Recent;
 use gate_book_trait::{Book, HistoryFault};
 use gate_laws::orders;
 use gate_texts::{build_text, order_list, status};
@@ -23,41 +25,53 @@ use gate_types::tap::Tap;
 use std::alloc::Global;
 use std::io::Write;
 
-/// A gate over a book, under its settings.
+/// A gate over a book, under its settings. What it last said is said again while nothing has changed: the status, the
+/// orders, and that there is no build for a worker. After a fault of the book it is asked anew, so that a gate whose
+/// file is shut says so to each poll.
 #[derive(Drop)]
 pub struct Gate<B> {
     pub config: Config,
     pub book: B,
+    pub(crate) recent: Recent,
 }
 
 impl<B> Gate<B> {
-    /// A gate under these settings, over a book that was made under them.
-    pub fn new(config: Config, book: B) -> Gate<B>
-        ensures config { result.config ≡ config }
-        ensures book { result.book ≡ book }
-    {
-        Gate { config, book }
-    }
-
     /// Gives the book back.
     pub fn into_book(self) -> B
         ensures { result ≡ self.book }
     {
-        let Gate { config: _, book } = self;
+        let Gate {
+            config: _,
+            book,
+            recent: _,
+        } = self;
         book
     }
 }
 
 impl<B: Book> Gate<B> {
+    /// A gate under these settings, over a book that was made under them.
+    pub fn new(config: Config, book: B) -> Gate<B>
+        ensures config { result.config ≡ config }
+        ensures book { result.book ≡ book }
+        ensures holds { (x : Content) → B.Holds book config x → GateHolds B.Holds result x }
+    {
+        Gate {
+            config,
+            book,
+            recent: Recent::new(),
+        }
+    }
+
     /// The answer to a delivery. A first accepted delivery spends its id and its reply is kept; a spent id gets the
     /// kept reply again if the delivery is the same, and `id-reused` if it is another one. After a refusal nothing has
     /// changed; `unavailable` comes only where the book gave a fault or memory was refused.
     pub fn deliver(&mut self, alloc: Global, id: Id, delivery: Delivery) -> Answer
-        ensures answered { OfHeldUnder B.IsTrusted B.Holds self.old.book self.new.book self.old.config (λ x.
+        ensures answered { OfGate B.IsTrusted B.Holds self.old self.new (λ x.
             Answered self.old.config x (call id delivery (is_unavailable result)) result
-            (B.Holds self.new.book self.old.config) (B.LeavesOneOf self.old.book self.old.config)
+            (GateHolds B.Holds self.new) (B.LeavesOneOf self.old.book self.old.config)
             (B.LeavesOneOf self.new.book self.old.config)) }
-        ensures lands { OfHeldUnder B.IsTrusted B.Holds self.old.book self.new.book self.old.config (λ x.
+        ensures lands { OfGate B.IsTrusted B.Holds self.old self.new (λ x.
             LandsRightly self.old.config x (call id delivery (is_unavailable result)) result) }
         ensures trusted { B.IsTrusted self.new.book → B.IsTrusted self.old.book }
         ensures settings { self.new.config ≡ self.old.config }
@@ -67,24 +81,40 @@ impl<B: Book> Gate<B> {
         let _settings = &config.base;
         orders::a_shown_order_stays();
         orders::only_shown_orders_are_answered();
-        deliver(alloc, &mut self.book, config, id, &delivery)
+        deliver(
+            alloc,
+            &mut self.book,
+            &mut self.recent,
+            config,
+            id,
+            &delivery,
+        )
     }
 
-    /// The orders that are shown, as JSON.
+    /// The orders that are shown, as JSON; the text that was last made, where no delivery was accepted since.
     ///
     /// # Errors
     ///
     /// `Unavailable` where the book gave a fault or memory was refused.
     pub fn orders(&mut self, alloc: Global) -> Result<String, Refusal>
-        ensures text { OfHeldUnder B.IsTrusted B.Holds self.old.book self.new.book self.old.config (λ x.
+        ensures text { OfGate B.IsTrusted B.Holds self.old self.new (λ x.
             IfOk result (λ text. string_bytes text ≡ order_list_text self.old.config x.state)) }
         ensures unavailable { IfErr result (λ r. r ≡ Refusal.Unavailable) }
-        ensures kept { IsKept B.IsTrusted B.Holds B.LeavesOneOf self.old.book self.new.book }
+        ensures kept { IsKeptGate B.IsTrusted B.Holds B.LeavesOneOf self.old self.new }
         ensures settings { self.new.config ≡ self.old.config }
     {
+        if let Some(text) = self.recent.orders() {
+            return Ok(text.into_string());
+        }
         match order_list(alloc, &mut self.book, &self.config) {
-            Ok(text) => Ok(text.into_string()),
-            Err(_) => Err(Refusal::Unavailable),
+            Ok(text) => {
+                self.recent.keep_orders(&text);
+                Ok(text.into_string())
+            }
+            Err(_) => {
+                self.recent.clear();
+                Err(Refusal::Unavailable)
+            }
         }
     }
 
@@ -99,31 +129,43 @@ impl<B: Book> Gate<B> {
             MatchResult result (λ text. option_map build_text (build_of x.state number) ≡ Some (string_bytes text))
             (λ r. (r ≡ Refusal.Unavailable) ⊎ ((r ≡ Refusal.UnknownBuild) × (build_of x.state number ≡ None)))) }
         ensures refused { IfErr result (λ r. (r ≡ Refusal.Unavailable) ⊎ (r ≡ Refusal.UnknownBuild)) }
-        ensures kept { IsKept B.IsTrusted B.Holds B.LeavesOneOf self.old.book self.new.book }
+        ensures kept { IsKeptGate B.IsTrusted B.Holds B.LeavesOneOf self.old self.new }
         ensures settings { self.new.config ≡ self.old.config }
     {
         match build_text(alloc, &mut self.book, number) {
             Ok(Some(text)) => Ok(text.into_string()),
             Ok(None) => Err(Refusal::UnknownBuild),
-            Err(_) => Err(Refusal::Unavailable),
+            Err(_) => {
+                self.recent.clear();
+                Err(Refusal::Unavailable)
+            }
         }
     }
 
-    /// The status text.
+    /// The status text; that which was last made, where no delivery was accepted since.
     ///
     /// # Errors
     ///
     /// `Unavailable` where the book gave a fault or memory was refused.
     pub fn status(&mut self, alloc: Global) -> Result<String, Refusal>
-        ensures text { OfHeldUnder B.IsTrusted B.Holds self.old.book self.new.book self.old.config (λ x.
+        ensures text { OfGate B.IsTrusted B.Holds self.old self.new (λ x.
             IfOk result (λ text. string_bytes text ≡ status_text self.old.config x.state)) }
         ensures unavailable { IfErr result (λ r. r ≡ Refusal.Unavailable) }
-        ensures kept { IsKept B.IsTrusted B.Holds B.LeavesOneOf self.old.book self.new.book }
+        ensures kept { IsKeptGate B.IsTrusted B.Holds B.LeavesOneOf self.old self.new }
         ensures settings { self.new.config ≡ self.old.config }
     {
+        if let Some(text) = self.recent.status() {
+            return Ok(text.into_string());
+        }
         match status(alloc, &mut self.book, &self.config) {
-            Ok(text) => Ok(text.into_string()),
-            Err(_) => Err(Refusal::Unavailable),
+            Ok(text) => {
+                self.recent.keep_status(&text);
+                Ok(text.into_string())
+            }
+            Err(_) => {
+                self.recent.clear();
+                Err(Refusal::Unavailable)
+            }
         }
     }
 
@@ -144,9 +186,13 @@ impl<B: Book> Gate<B> {
         ensures written { OfHeldUnder B.IsTrusted B.Holds self.old.book self.new.book self.old.config (λ x.
             WritesHistory x.state queue.now front.now W.contents w.old w.new result) }
         ensures stops { Stops w.old w.new result }
-        ensures kept { IsKept B.IsTrusted B.Holds B.LeavesOneOf self.old.book self.new.book }
+        ensures kept { IsKeptGate B.IsTrusted B.Holds B.LeavesOneOf self.old self.new }
         ensures settings { self.new.config ≡ self.old.config }
     {
-        self.book.history(queue, front, w)
+        let told = self.book.history(queue, front, w);
+        if told.is_err() {
+            self.recent.clear();
+        }
+        told
     }
 }

@@ -16,6 +16,7 @@ mod fault;
 mod gate;
 pub mod laws;
 mod line;
+mod recent;
 mod replaying;
 mod respond;
 mod ruled;

@@ -12,12 +12,14 @@ use Rattle.gate_types.specs.Once.{Content, next_content, answer_of, is_unavailab
 use Rattle.gate_types.specs.Forms.{IsLawfulContent}
 use Rattle.gate_wire.specs.declared.door.Door.{Door}
 use Rattle.gate_wire.specs.Reading.{says}
-use Rattle.gate_book_trait.specs.Kept.{OfHeldUnder, IsKept}
+use Rattle.gate_book_trait.specs.Kept.{OfHeldUnder}
 use Rattle.gate_core.specs.Answered.{Answered, call, spared}
 use Rattle.gate_core.specs.declared.gate.Gate.{Gate}
 use Rattle.gate_core.specs.Gated.{Gated}
 use Rattle.gate_core.specs.Replies.{call_read}
 use Rattle.gate_core.specs.Held.{IsOver, Goes}
+use Rattle.gate_core.specs.Holding.{GateHolds, OfGate, IsKeptGate}
+use Rattle.gate_core.proofs.HoldingLemmas.{over_kept}
 use Rattle.gate_http.specs.declared.respond.Told.{Told}
 use Rattle.gate_http.specs.declared.respond.Told.TheVariants as told
 use Rattle.gate_http.specs.declared.response.Form.{Form}
@@ -75,20 +77,21 @@ found_answers form g after wanted served Takes (Some t) at e h stays = (
 
 module _ {B : Type 0} (trusted : B → Type 0) (holds : B → Settings → Content → Type 0)
     (leaves : B → Settings → List Content → Type 0) where
-  -- a gate whose book was handed a call
-  after_call : (c : Settings) (book : B) (left leaving : List Content → Type 0) (g : Gated) (id : Id) (d : Delivery)
-      (a : Answer) → g.settings ≡ c
-      → Answered c g.content (call id d (is_unavailable a)) a (holds book c) left leaving
-      → (after : Gated) × IsOver holds c book after
+  -- a gate that was handed a call
+  after_call : (c : Settings) (gate : Gate B) (left leaving : List Content → Type 0) (g : Gated) (id : Id) (d : Delivery)
+      (a : Answer) → gate.config ≡ c → g.settings ≡ c
+      → Answered c g.content (call id d (is_unavailable a)) a (GateHolds holds gate) left leaving
+      → (after : Gated) × IsOver holds gate after
       × ((a ≡ marked (is_unavailable a) (answer_read g (Ok (id, d))))
       × (after ≡ gate_after g (call id d (is_unavailable a) ∷ [])))
-  after_call c book left leaving g id d a e h =
+  after_call c gate left leaving g id d a same e h =
       let k = call id d (is_unavailable a) in (
         gate_after g (k ∷ []),
         record {
-          settings = e;
-          held = subst (λ s. holds book c (next_content s g.content k)) (sym e) h.content;
-          lawful = subst (λ s. IsLawfulContent c (next_content s g.content k)) (sym e) h.lawful;
+          settings = e ∙ sym same;
+          held = subst (λ s. GateHolds holds gate (next_content s g.content k)) (sym e) h.content;
+          lawful = subst (λ s. IsLawfulContent s (next_content g.settings g.content k)) (sym same)
+              (subst (λ s. IsLawfulContent c (next_content s g.content k)) (sym e) h.lawful);
         },
         (
           subst (λ s. a ≡ answer_of s g.content k) (sym e) h.answer ∙ by_mark g.settings g.content id d (is_unavailable a),
@@ -101,7 +104,7 @@ module _ {B : Type 0} (trusted : B → Type 0) (holds : B → Settings → Conte
   RespondsRead old r a new =
       Goes trusted holds old new (λ g after.
       (a ≡ marked (is_unavailable a) (answer_read g r)) × (after ≡ gate_after g (call_read (is_unavailable a) r)))
-      × OfHeldUnder trusted holds old.book new.book old.config (λ x.
+      × OfGate trusted holds old new (λ x.
       CrashLeaves old.config x (call_read (is_unavailable a) r) (leaves old.book old.config)
       (leaves new.book old.config))
 
@@ -125,8 +128,8 @@ module _ {B : Type 0} (trusted : B → Type 0) (holds : B → Settings → Conte
   -- to a delivery that was handed to its book
   pub responds_delivered : (old new : Gate B) (door : Door) (body : List ℕ) (id : Id) (d : Delivery) (a : Answer)
       → says door body ≡ Ok (id, d) → new.config ≡ old.config → (trusted new.book → trusted old.book)
-      → OfHeldUnder trusted holds old.book new.book old.config (λ x.
-      Answered old.config x (call id d (is_unavailable a)) a (holds new.book old.config) (leaves old.book old.config)
+      → OfGate trusted holds old new (λ x.
+      Answered old.config x (call id d (is_unavailable a)) a (GateHolds holds new) (leaves old.book old.config)
       (leaves new.book old.config))
       → Responds trusted holds leaves old (delivery door body) (told.Answer a) new
   responds_delivered old new door body id d a said settings before answered =
@@ -134,8 +137,8 @@ module _ {B : Type 0} (trusted : B → Type 0) (holds : B → Settings → Conte
         record {
           settings = settings;
           trusted_before = before;
-          passes = λ t g over. after_call old.config new.book (leaves old.book old.config) (leaves new.book old.config) g
-              id d a over.settings (answered t g.content over.held over.lawful);
+          passes = λ t g over. after_call old.config new (leaves old.book old.config) (leaves new.book old.config) g
+              id d a settings over.settings (answered t g.content over.held over.lawful);
         },
         λ t x held lawful.
             let h = answered t x held lawful in
@@ -191,22 +194,18 @@ module _ {B : Type 0} (trusted : B → Type 0) (holds : B → Settings → Conte
 
   -- to what only reads
   pub responds_kept : (old new : Gate B) (asked : Asked) (t : Told) → ((u : Bool) → calls_asked u asked ≡ [])
-      → new.config ≡ old.config → IsKept trusted holds leaves old.book new.book
-      → OfHeldUnder trusted holds old.book new.book old.config (λ x. IsTold old.config x asked t)
+      → new.config ≡ old.config → IsKeptGate trusted holds leaves old new
+      → OfGate trusted holds old new (λ x. IsTold old.config x asked t)
       → Responds trusted holds leaves old asked t new
   responds_kept old new asked a none settings kept answered =
       let u = is_failure a in
       record {
         answers = record {
           settings = settings;
-          trusted_before = kept.trusted_before;
+          trusted_before = kept.book.trusted_before;
           passes = λ t g over. (
             g,
-            record {
-              settings = over.settings;
-              held = kept.holds_on t old.config g.content over.held;
-              lawful = over.lawful;
-            },
+            over_kept trusted holds leaves old new settings kept t g over,
             (
               subst (λ s. IsTold s g.content asked a) (sym over.settings)
                   (answered t g.content over.held over.lawful),
@@ -216,7 +215,7 @@ module _ {B : Type 0} (trusted : B → Type 0) (holds : B → Settings → Conte
         };
         crash = λ t x held lawful.
             subst (λ ks. CrashLeaves old.config x ks (leaves old.book old.config) (leaves new.book old.config))
-            (sym (none u)) (kept.leaves_on t old.config x held);
+            (sym (none u)) (kept.book.leaves_on t old.config x held.book);
       }
 
   -- to what is told without the book
@@ -300,24 +299,20 @@ module _ {B : Type 0} (trusted : B → Type 0) (holds : B → Settings → Conte
 
   -- what is so of the lines of what a book held, where that stays
   pub recalls : (old new : Gate B) (wanted : Streamed) (P : Option (List ℕ) → Type 0) → new.config ≡ old.config
-      → IsKept trusted holds leaves old.book new.book
+      → IsKeptGate trusted holds leaves old new
       → OfHeldUnder trusted holds old.book new.book old.config (λ x. P (stream_of x wanted))
       → Recalls trusted holds leaves old wanted P new
   recalls old new wanted P settings kept told = record {
     answers = record {
       settings = settings;
-      trusted_before = kept.trusted_before;
+      trusted_before = kept.book.trusted_before;
       passes = λ t g over. (
         g,
-        record {
-          settings = over.settings;
-          held = kept.holds_on t old.config g.content over.held;
-          lawful = over.lawful;
-        },
-        (told t g.content over.held over.lawful, refl),
+        over_kept trusted holds leaves old new settings kept t g over,
+        (told t g.content over.held.book over.lawful, refl),
       );
     };
-    crash = λ t x held lawful. kept.leaves_on t old.config x held;
+    crash = λ t x held lawful. kept.book.leaves_on t old.config x held.book;
   }
 
   -- what is so of them whatever a book holds

@@ -1,11 +1,11 @@
--- What serving a request comes to, by what a gate's book held.
+-- What serving a request comes to, by what a gate held.
 use Rattle.std.specs.Prelude.{ℕ, ◌≡◌, true, false, List, [], ◌∷◌, ◌++◌, Option}
 use Rattle.gate_types.specs.Settings.{Settings}
 use Rattle.gate_types.specs.Once.{Content, Call, acts, next_content}
-use Rattle.gate_book_trait.specs.Kept.{OfHeldUnder}
 use Rattle.gate_core.specs.Answered.{spared}
 use Rattle.gate_core.specs.declared.gate.Gate.{Gate}
 use Rattle.gate_core.specs.Held.{Goes}
+use Rattle.gate_core.specs.Holding.{OfGate}
 use Rattle.gate_http.specs.declared.respond.Told.{Told}
 use Rattle.gate_http.specs.declared.response.Form.{Form}
 use Rattle.gate_http.specs.declared.response.Form.TheVariants as form
@@ -33,7 +33,7 @@ pub record Responds {B : Type 0} (trusted : B → Type 0) (holds : B → Setting
     : Type 0 where
   pub answers : Goes trusted holds old new (λ g after.
       (t ≡ answer_to (is_failure t) g asked) × (after ≡ gate_after g (calls_asked (is_failure t) asked)))
-  pub crash : OfHeldUnder trusted holds old.book new.book old.config (λ x.
+  pub crash : OfGate trusted holds old new (λ x.
       CrashLeaves old.config x (calls_asked (is_failure t) asked) (leaves old.book old.config)
       (leaves new.book old.config))
 
@@ -42,7 +42,7 @@ pub record Recalls {B : Type 0} (trusted : B → Type 0) (holds : B → Settings
     (leaves : B → Settings → List Content → Type 0) (old : Gate B) (wanted : Streamed) (P : Option (List ℕ) → Type 0)
     (new : Gate B) : Type 0 where
   pub answers : Goes trusted holds old new (λ g after. P (stream_of g.content wanted) × (after ≡ g))
-  pub crash : OfHeldUnder trusted holds old.book new.book old.config (λ x.
+  pub crash : OfGate trusted holds old new (λ x.
       CrashLeaves old.config x [] (leaves old.book old.config) (leaves new.book old.config))
 
 -- a request came to this text: the plain gate's answer and content, and what a crash leaves
@@ -50,7 +50,7 @@ pub record Serves {B : Type 0} (trusted : B → Type 0) (holds : B → Settings 
     (leaves : B → Settings → List Content → Type 0) (f : Form) (old new : Gate B) (w : Way) (served : Served)
     (text : List ℕ) : Type 0 where
   pub answers : Goes trusted holds old new (λ g after. Answers f g w served text after)
-  pub crash : OfHeldUnder trusted holds old.book new.book old.config (λ x.
+  pub crash : OfGate trusted holds old new (λ x.
       CrashLeaves old.config x (calls_made (is_503 served) w) (leaves old.book old.config)
       (leaves new.book old.config))
 
@@ -61,7 +61,7 @@ pub record ServesStream {B : Type 0} (trusted : B → Type 0) (holds : B → Set
     (Takes : List ℕ → Type 0) : Type 0 where
   pub answers : Goes trusted holds old new (λ g after.
       (text : List ℕ) × Takes text × Answers f g (stream wanted) served text after)
-  pub crash : OfHeldUnder trusted holds old.book new.book old.config (λ x.
+  pub crash : OfGate trusted holds old new (λ x.
       CrashLeaves old.config x [] (leaves old.book old.config) (leaves new.book old.config))
 
 -- a request came to a text of which this is so

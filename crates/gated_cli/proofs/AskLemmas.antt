@@ -6,7 +6,7 @@ use Rattle.gate_types.specs.Once.{Content}
 use Rattle.gate_types.specs.declared.records.Id.{Id}
 use Rattle.gate_types.specs.declared.records.Kept.{Kept}
 use Rattle.gate_types.specs.declared.tap.Tap.{Tap}
-use Rattle.gate_book_trait.specs.Kept.{IsKept, OfHeldUnder}
+use Rattle.gate_book_trait.specs.Kept.{OfHeldUnder}
 use Rattle.gate_archive.specs.Feed.{fed, feed_lines, id_named}
 use Rattle.gate_archive.specs.Writes.{LeavesFeed, OfFeed, TookSome}
 use Rattle.gate_archive.specs.declared.fault.FeedFault.{FeedFault}
@@ -14,7 +14,8 @@ use Rattle.gate_archive.specs.declared.fault.FeedFault.TheVariants as feed
 use Rattle.gate_core.specs.declared.gate.Gate.{Gate}
 use Rattle.gate_core.specs.Gated.{Gated}
 use Rattle.gate_core.specs.Held.{Goes}
-use Rattle.gated_cli.proofs.FileLemmas.{same_passes}
+use Rattle.gate_core.specs.Holding.{IsKeptGate}
+use Rattle.gate_core.proofs.HoldingLemmas.{over_kept}
 use Rattle.gated_cli.specs.Faults.{of_feed}
 use Rattle.gated_cli.specs.Showing.{LeavesLines, OfLines, behind_named, cursor, lines_behind, lines_told, most_told}
 use Rattle.gated_cli.specs.declared.run.fault.Fault.{Fault}
@@ -44,15 +45,15 @@ lines_left held old new kept after feed.Write leaves =
 -- what is asked of the book is so of the gate, which stays
 pub goes_asked : {B : Type 0} (trusted : B → Type 0) (holds : B → Settings → Content → Type 0) (leaves : B → Settings → List Content → Type 0)
     (old new : Gate B) (P : Content → Type 0) (Q : Gated → Type 0) → OfHeldUnder trusted holds old.book new.book old.config P
-    → IsKept trusted holds leaves old.book new.book → new.config ≡ old.config → ((g : Gated) → P g.content → Q g)
+    → IsKeptGate trusted holds leaves old new → new.config ≡ old.config → ((g : Gated) → P g.content → Q g)
     → Goes trusted holds old new (λ g then. (then ≡ g) × Q g)
 goes_asked trusted holds leaves old new P Q of kept settings gives = record {
   settings = settings;
-  trusted_before = kept.trusted_before;
+  trusted_before = kept.book.trusted_before;
   passes = λ t g over. (
     g,
-    record { settings = over.settings; held = kept.holds_on t old.config g.content over.held; lawful = over.lawful },
-    (refl, gives g (of t g.content over.held over.lawful)),
+    over_kept trusted holds leaves old new settings kept t g over,
+    (refl, gives g (of t g.content over.held.book over.lawful)),
   );
 }
 
@@ -72,10 +73,9 @@ pub unasked : {B W : Type 0} (trusted : B → Type 0) (holds : B → Settings �
 unasked trusted holds gate held output after f is = record {
   settings = refl;
   trusted_before = λ t. t;
-  passes = λ t g over.
-      let p = same_passes trusted holds gate.config gate.book gate.book refl t g over in (
-        p.0,
-        p.1,
-        (p.2, subst (λ f. LeavesLines (lines_told g after) held output output f) (sym (unnamed after f is)) (ap (lines_behind g) (sym is))),
-      );
+  passes = λ t g over. (
+    g,
+    over,
+    (refl, subst (λ f. LeavesLines (lines_told g after) held output output f) (sym (unnamed after f is)) (ap (lines_behind g) (sym is))),
+  );
 }

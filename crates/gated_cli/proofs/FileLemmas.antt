@@ -7,7 +7,9 @@ use Rattle.gate_types.specs.Forms.{IsLawfulContent}
 use Rattle.gate_types.specs.Once.{Content}
 use Rattle.gate_types.specs.Settings.{Settings}
 use Rattle.gate_core.specs.Gated.{Gated}
-use Rattle.gate_core.specs.Held.{IsOver, Passes}
+use Rattle.gate_core.specs.declared.gate.Gate.{Gate}
+use Rattle.gate_core.specs.Held.{IsOver, Goes}
+use Rattle.gate_core.specs.Holding.{GateHolds}
 use Rattle.gate_core.specs.declared.fault.IoFault.{IoFault}
 use Rattle.gate_core.specs.declared.fault.IoFault.TheVariants as io
 use Rattle.gate_cache.specs.Cached.{HoldsBelow, Agrees}
@@ -88,46 +90,44 @@ pub opens_to : (Holds : Content → Type 0) (s : State) (c : Settings) (g : Gate
 opens_to Holds s c g opens adopts (inl file) = opens file.up g.content file.stands
 opens_to Holds s c g opens adopts (inr other) = subst Holds (sym other.becomes) (adopts other.up other.kept other.before other.keeps other.may)
 
--- what a gate over the book passes to, its file passes to, where a book that holds a content shows it
+-- what a gate over the book goes to, its file goes to, where a book that holds a content shows it
 pub goes_over : {B : Type 0} (at : B → State) (holds : B → Settings → Content → Type 0) →
-    ((b : B) (k : Settings) (x : Content) → holds b k x → ShowsFor (at b) k x) → (before : State) (c d : Settings) (old new : B)
-    (P : Gated → Gated → Type 0) → d ≡ c → StaysLawful c → (HasCleanDisk (at old) → (g : Gated) → OpensTo before c g → holds old c g.content) →
-    (HasCleanDisk (at new) → HasCleanDisk (at old)) → Passes (λ b. HasCleanDisk (at b)) holds d old new P → GoesOver before (at new) c P
-goes_over at holds shows before c d old new P is stays opens clean passes up g file =
-    let over : IsOver holds d old g = record {
+    ((b : B) (k : Settings) (x : Content) → holds b k x → ShowsFor (at b) k x) → (before : State) (c : Settings) (old new : Gate B)
+    (P : Gated → Gated → Type 0) → old.config ≡ c → StaysLawful c →
+    (HasCleanDisk (at old.book) → (g : Gated) → OpensTo before c g → GateHolds holds old g.content) →
+    Goes (λ b. HasCleanDisk (at b)) holds old new P → GoesOver before (at new.book) c P
+goes_over at holds shows before c old new P is stays opens goes up g file =
+    let over : IsOver holds old g = record {
       settings = settings_are before c g file ∙ sym is;
-      held = subst (λ k. holds old k g.content) (sym is) (opens (clean up) g file);
+      held = opens (goes.trusted_before up) g file;
       lawful = subst (λ k. IsLawfulContent k g.content) (sym is) (is_lawful before c g stays file);
     } in
-    let went = passes up g over in (
+    let went = goes.passes up g over in
+    let still = goes.settings ∙ is in (
       went.0,
       record {
-        settings = went.1.settings ∙ is;
-        shows = shows new c went.0.content (subst (λ k. holds new k went.0.content) is went.1.held);
-        lawful = subst (λ k. IsLawfulContent k went.0.content) is went.1.lawful;
+        settings = went.1.settings ∙ still;
+        shows = shows new.book c went.0.content (subst (λ k. holds new.book k went.0.content) still went.1.held.book);
+        lawful = subst (λ k. IsLawfulContent k went.0.content) still went.1.lawful;
       },
       went.2,
     )
 
 -- and so where the gate is over a book that keeps answers of that one, none of them yet
 pub goes_over_cached : {B : Type 0} (at : B → State) (holds : B → Settings → Content → Type 0) →
-    ((b : B) (k : Settings) (x : Content) → holds b k x → ShowsFor (at b) k x) → (before : State) (c d : Settings) (book : B)
-    (made old new : CachedBook B) (P : Gated → Gated → Type 0) → d ≡ c → StaysLawful c → made.book ≡ book →
-    ((k : Settings) (x : Content) → Agrees made.cache k x) → old ≡ made →
+    ((b : B) (k : Settings) (x : Content) → holds b k x → ShowsFor (at b) k x) → (before : State) (c : Settings) (book : B)
+    (made : CachedBook B) (old new : Gate (CachedBook B)) (P : Gated → Gated → Type 0) → old.config ≡ c → StaysLawful c →
+    made.book ≡ book → ((k : Settings) (x : Content) → Agrees made.cache k x) → old.book ≡ made →
+    ((x : Content) → HoldsBelow holds made c x → GateHolds (λ r k x. HoldsBelow holds r k x) old x) →
     (HasCleanDisk (at book) → (g : Gated) → OpensTo before c g → holds book c g.content) →
-    (HasCleanDisk (at new.book) → HasCleanDisk (at old.book)) →
-    Passes (λ r. HasCleanDisk (at r.book)) (λ r k x. HoldsBelow holds r k x) d old new P → GoesOver before (at new.book) c P
-goes_over_cached at holds shows before c d book made old new P is stays over agrees same opens clean passes =
-    goes_over (λ r. at r.book) (λ r k x. HoldsBelow holds r k x) (λ r k x held. shows r.book k x held.below) before c d old new P is stays
-    (λ was g file. subst (λ r. HoldsBelow holds r c g.content) (sym same) record {
+    Goes (λ r. HasCleanDisk (at r.book)) (λ r k x. HoldsBelow holds r k x) old new P → GoesOver before (at new.book.book) c P
+goes_over_cached at holds shows before c book made old new P is stays over agrees same held opens goes =
+    goes_over (λ r. at r.book) (λ r k x. HoldsBelow holds r k x) (λ r k x held. shows r.book k x held.below) before c old new P is stays
+    (λ was g file. held g.content record {
       below = subst (λ b. holds b c g.content) (sym over)
           (opens (subst (λ b. HasCleanDisk (at b)) over (subst (λ r. HasCleanDisk (at r.book)) same was)) g file);
       agrees = λ lawful. agrees c g.content;
-    }) clean passes
-
--- a call that leaves the book as it was leads to the same gate
-pub same_passes : {B : Type 0} (trusted : B → Type 0) (holds : B → Settings → Content → Type 0) (d : Settings) (old new : B) → new ≡ old → Passes trusted holds d old new (λ g after. after ≡ g)
-same_passes trusted holds d old new same up g over = (g, subst (λ b. IsOver holds d b g) (sym same) over, refl)
+    }) goes
 
 -- ---- serving
 

@@ -3,6 +3,7 @@ use Rattle.std.specs.Prelude.{◌≡◌}
 use Rattle.gate_types.specs.Settings.{Settings}
 use Rattle.gate_types.specs.Once.{Content}
 use Rattle.gate_book.specs.Memory.{Held, held}
+use Rattle.gate_core.specs.declared.gate.Gate.{Gate}
 use Rattle.gate_core.specs.Gated.{Gated}
 use Rattle.gate_core.specs.Held.{IsOver}
 
@@ -10,6 +11,6 @@ use Rattle.gate_core.specs.Held.{IsOver}
 abbrev pub Holds : Held → Settings → Content → Type 0
 Holds book c x = book ≡ held c x
 
--- under these settings the gate over a book in memory is this one
-abbrev pub IsGate : Settings → Held → Gated → Type 0
-IsGate c book g = IsOver Holds c book g
+-- a gate over a book in memory is this one
+abbrev pub IsGate : Gate Held → Gated → Type 0
+IsGate gate g = IsOver Holds gate g

@@ -194,7 +194,7 @@ fn run_replay<F: Files + GateFiles + AllocGlobal, R: Read, W: Write>(
 
 /// A gate in memory that has seen no delivery.
 fn opened(alloc: Global, config: Config) -> Result<Gate<MemBook>, NoMemory>
-    ensures { IfOk result (λ gate. IsGate gate.config gate.book (opened config)) }
+    ensures { IfOk result (λ gate. IsGate gate (opened config)) }
 {
     // This shows the prover that the settings are sound.
     let _settings = &config.base;

@@ -6,5 +6,6 @@ mod counting;
 mod live;
 mod memory;
 mod needing;
+mod polling;
 mod scene;
 mod starved;

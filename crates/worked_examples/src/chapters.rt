@@ -27,6 +27,7 @@ fn adopts(
     let Gate {
         config: kept,
         mut book,
+        ..
     } = gate;
     let fault = book.adopt(&other).err();
     is(rt, outcome(fault), wanted, words);

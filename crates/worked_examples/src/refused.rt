@@ -162,6 +162,7 @@ fn adopted(
     let Gate {
         config: kept,
         mut book,
+        ..
     } = gate;
     if takes(rt, &mut book, &other) {
         return Gate::new(other, book);

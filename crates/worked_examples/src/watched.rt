@@ -282,7 +282,7 @@ fn reads_no_more_of_a_long_queue<B: Archive + Drop>(
     rt: &(impl Abort + AllocGlobal),
     gate: Gate<B>,
 ) {
-    let Gate { config, book } = gate;
+    let Gate { config, book, .. } = gate;
     let mut gate = Gate::new(config, Watched { book, asked: 0 });
     goes_on(rt, &mut gate, "a full queue", FULL_WEB);
     reads_few(rt, &mut gate, FIRST_ENDS);
@@ -351,7 +351,7 @@ fn asks_about_nobody_else_who_waits<B: Archive + Drop>(
     rt: &(impl Abort + AllocGlobal),
     gate: Gate<B>,
 ) {
-    let Gate { config, book } = gate;
+    let Gate { config, book, .. } = gate;
     let mut gate = Gate::new(config, Watched { book, asked: 0 });
     goes_on(rt, &mut gate, "many wait", MANY_WAIT);
     reads_few(rt, &mut gate, ANOTHER_COMES);

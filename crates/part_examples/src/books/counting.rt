@@ -1,4 +1,4 @@
-//! A book that counts what it is asked for, and can refuse edits once.
+//! A book that counts what it is asked for, and can give a fault once.
 use gate_book::{Book, BookFault, HistoryFault, QueuedItem};
 use gate_types::edits::Edit;
 use gate_types::names::Name;
@@ -8,7 +8,7 @@ use gate_types::sequence::Sequence;
 use gate_types::tap::Tap;
 use std::io::Write;
 
-/// Answers as the book in it; the first edits are refused by a fault, if one is set.
+/// Answers as the book in it; a fault that is set is given once, to edits or to whoever asks for a build by number.
 #[derive(Drop)]
 pub struct Counting<B> {
     pub book: B,
@@ -148,7 +148,10 @@ impl<B: Book> Book for Counting<B> {
 
     fn build(&mut self, number: BuildNo) -> Result<Option<Build>, BookFault> {
         self.reads = self.reads.saturating_add(1);
-        self.book.build(number)
+        match self.refuses.take() {
+            Some(fault) => Err(fault),
+            None => self.book.build(number),
+        }
     }
 
     fn ready(&mut self) -> Result<Sequence<Ready>, BookFault> {

@@ -112,7 +112,7 @@ waits queued POST /forge HTTP/1.1\r\nHost: gate\r\nContent-Length: 89\r\n\r\n{"i
 
 #[test]
 fn a_history_that_breaks_off_is_told_and_the_next_is_served(rt: HostRuntime) {
-    let Gate { config, book } = Gate::<MemBook>::fresh(&rt);
+    let Gate { config, book, .. } = Gate::<MemBook>::fresh(&rt);
     are_served(
         &rt,
         &mut Gate::new(config, Torn(book)),

@@ -1,4 +1,4 @@
-use Rattle.std.proofs.Common.{rules, ◌≡◌, true, false, subst, ap}
+use Rattle.std.proofs.Common.{rules, ◌≡◌, true, false, refl, subst, sym, ap}
 use Rattle.std.proofs.lemmas.Result.{on_err_weaker}
 use Rattle.gate_types.specs.Settings.{are_sound}
 use Rattle.gate_types.specs.Forms.{is_call_in_form}
@@ -6,11 +6,12 @@ use Rattle.gate_types.specs.Once.{is_unavailable}
 use Rattle.gate_core.specs.Answered.{call}
 use Rattle.gate_core.specs.Ruled.{IsRuled}
 use Rattle.gate_core.proofs.Results.{if_ok_so}
-use Rattle.gate_core.proofs.NextContents.{kept_is_lawful, accepted_is_answered, failed_is_answered}
+use Rattle.gate_core.specs.Recent.{IsTrueOf}
+use Rattle.gate_core.proofs.NextContents.{kept_is_lawful, accepted_is_answered, failed_is_answered, next_stays, refused_is_answered}
 use Rattle.gate_core.proofs.delivering.act.Goals as goal
 
 pub returns-in-Accepted-clause-ok : goal.returns-in-Accepted-clause-ok
-returns-in-Accepted-clause-ok g c trusted x holds lawful none =
+returns-in-Accepted-clause-ok g c trusted x holds lawful none told =
     let s = c.args.config.now in
     let d = c.args.delivery.now in
     let k = call c.args.id d false in
@@ -58,3 +59,20 @@ returns-in-Accepted-clause-told g c trusted x holds lawful none =
     let there = c.in_ok-refusal.ensures.kept.holds_on before _ x holds in
     if_ok_so c.accept.result (λ a h. ap is_unavailable h.said)
     (c.accept.ensures.ok trusted s x there lawful ruled.after kept ruled.leads)
+
+pub returns-then-refuses-clause-ok : goal.returns-then-refuses-clause-ok
+returns-then-refuses-clause-ok g c trusted x holds lawful none told =
+    let s = c.args.config.now in
+    refused_is_answered s x c.args.id c.args.delivery.now _ _ _ none (c.if-refuses.ensures refl s x told) lawful holds
+
+pub returns-then-refuses-clause-recent : goal.returns-then-refuses-clause-recent
+returns-then-refuses-clause-recent g c trusted x holds lawful none told =
+    let s = c.args.config.now in
+    subst (IsTrueOf c.args.recent.now s) (sym (next_stays s x c.args.id c.args.delivery.now _ none (c.if-refuses.ensures refl s x told))) told
+
+pub returns-in-Refused-clause-recent : goal.returns-in-Refused-clause-recent
+returns-in-Refused-clause-recent g c trusted x holds lawful none told =
+    let s = c.args.config.now in
+    let ruled = subst (IsRuled s x c.args.delivery.now) c.in-Refused.is (c.in_ok-refusal.ensures.ruled trusted x holds lawful) in
+    subst (IsTrueOf c.keep_refusal.new.self s) (sym (next_stays s x c.args.id c.args.delivery.now _ none ruled.0))
+    (c.keep_refusal.ensures s x ruled.0 told)

@@ -1,8 +1,7 @@
-use Rattle.std.proofs.Common.{◌≡◌, true, sym, ap, subst, ◌∙◌}
+use Rattle.std.proofs.Common.{◌≡◌, true, sym, subst}
 use Rattle.gate_types.specs.Settings.{are_sound}
 use Rattle.gate_types.specs.Once.{empty}
 use Rattle.gate_types.specs.Forms.{IsLawfulContent}
-use Rattle.gate_book.specs.Memory.{held}
 use Rattle.gated_cli.proofs.run.opened.Goals as goal
 
 pub returns : goal.returns
@@ -16,6 +15,6 @@ returns c =
     } in
     record {
       settings = same;
-      held = c.new-2.ensures.book ∙ c.in_ok-book.ensures ∙ ap (λ k. held k (empty s)) same;
+      held = c.new-2.ensures.holds (empty s) c.in_ok-book.ensures;
       lawful = subst (λ k. IsLawfulContent k (empty s)) same lawful;
     }

@@ -1,9 +1,8 @@
-use Rattle.std.proofs.Common.{ap₂, inl, inr, sym, subst}
+use Rattle.std.proofs.Common.{ap₂, inl, inr}
 use Rattle.std.proofs.KnownBytes.{Appends-trans}
 use Rattle.std.proofs.lemmas.Result.{err_from_is_err_and}
 use Rattle.gate_core.specs.Gated.{opened}
 use Rattle.gated_cli.specs.Doing.{status_of, streams}
-use Rattle.gated_cli.specs.InMemory.{IsGate}
 use Rattle.gated_cli.proofs.TellLemmas.{with_status, without_status}
 use Rattle.gated_cli.proofs.EndLemmas.{replay_ends, made_from, refused_status, cut_status, read_for}
 use Rattle.gated_cli.proofs.ShowLemmas.{status_breaks, status_shown}
@@ -14,7 +13,6 @@ pub returns-clause-ok : goal.returns-clause-ok
 returns-clause-ok g c =
     let h = c.in_ok-replay.ensures.ok in
     let went = h.5.passes tt (opened c.in_ok-config.config) c.in_ok-gate.ensures in
-    let over = subst (λ k. IsGate k c.replay.new.gate.book went.0) (sym h.5.settings) went.1 in
     let shown = status_of went.0 in
     record {
       answers = record {
@@ -28,7 +26,7 @@ returns-clause-ok g c =
         answered = went.2;
       };
       written = elim c.if-status.branch [
-        | then-status+in_ok-write_status w ↦ rw w.output-is (with_status _ _ c.args.status h.3 shown w.if-status.true (Appends-trans _ _ _ h.3 shown h.4 (status_shown g.W.Write.contents w.write_status.result w.in_ok-write_status.field-0 went.0 c.replay.new.w w.write_status.new.output w.in_ok-write_status.was (w.write_status.ensures.gate.passes tt went.0 over).2.1)))
+        | then-status+in_ok-write_status w ↦ rw w.output-is (with_status _ _ c.args.status h.3 shown w.if-status.true (Appends-trans _ _ _ h.3 shown h.4 (status_shown g.W.Write.contents w.write_status.result w.in_ok-write_status.field-0 went.0 c.replay.new.w w.write_status.new.output w.in_ok-write_status.was (w.write_status.ensures.gate.passes tt went.0 went.1).2.1)))
         | else-status w ↦ rw w.output-is (without_status _ _ c.args.status h.3 shown w.if-status.false h.4)
       ];
     }
@@ -75,12 +73,11 @@ pub returns-in_err-write_status-clause-err : goal.returns-in_err-write_status-cl
 returns-in_err-write_status-clause-err g c =
     let h = c.in_ok-replay.ensures.ok in
     let went = h.5.passes tt (opened c.in_ok-config.config) c.in_ok-gate.ensures in
-    let over = subst (λ k. IsGate k c.replay.new.gate.book went.0) (sym h.5.settings) went.1 in
     let before = streams g.R.Read.remaining g.W.Write.contents c.args.input.now c.args.output.now in
     let after = streams g.R.Read.remaining g.W.Write.contents c.replay.new.r c.write_status.new.output in
     let p = err_from_is_err_and c.from_residual-in_err-write_status.result c.from_residual-in_err-write_status.ensures.1 in
     rw p.1 (made_from p.0 c.in_err-write_status.field-0.0 c.args.status _ _ p.2 (elim (status_breaks g.W.Write.contents c.write_status.result c.in_err-write_status.field-0.0 went.0 c.replay.new.w c.write_status.new.output
-    c.in_err-write_status.was (c.write_status.ensures.gate.passes tt went.0 over).2.1 c.write_status.ensures.opened c.in_err-write_status.ensures.err) [
+    c.in_err-write_status.was (c.write_status.ensures.gate.passes tt went.0 went.1).2.1 c.write_status.ensures.opened c.in_err-write_status.ensures.err) [
       | inl refused ↦ refused_status c.in_err-write_status.field-0.0 c.args.status before after refused.0 (record {
         wanted = c.if-status.true;
         answers = record {

@@ -32,4 +32,4 @@ returns-in-Running g c =
     (told.Answer c.answer_with-in-Running.result) (λ u. refl) c.running.ensures.settings c.running.ensures.kept
     (λ t x held lawful. shown_is (λ s. string_bytes s) c.running.result c.answer_with-in-Running.result
     (running_text x.state) c.answer_with-in-Running.ensures
-    (c.running.ensures.text t x held lawful) c.running.ensures.unavailable))
+    (c.running.ensures.text t x held.book lawful) c.running.ensures.unavailable))

@@ -17,7 +17,7 @@ returns-in-Some g c =
     (λ t x held lawful. named_is (build_of x.state) (λ o. told.Answer (answer_found o)) (told.Answer c.answer_with.result)
     (Some c.in-Some.number) (build_number c.args.number.now) c.in-Some.ensures
     (found_is (λ s. string_bytes s) c.build.result c.answer_with.result (build_of x.state c.in-Some.number)
-    c.answer_with.ensures (c.build.ensures.answered t x held lawful)))
+    c.answer_with.ensures (c.build.ensures.answered t x held.book lawful)))
 
 pub returns-in-None : goal.returns-in-None
 returns-in-None g c =

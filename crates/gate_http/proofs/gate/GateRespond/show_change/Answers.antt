@@ -20,7 +20,7 @@ returns-in-Some g c =
     (λ o. told.Answer (answer_known o)) (told.Answer c.answer_with.result)
     (Some c.in-Some.number) (change_number c.args.number.now) c.in-Some.ensures
     (known_is (λ s. string_bytes s) (change_text config x.state) c.change.result c.answer_with.result
-    (known_change x.state c.in-Some.number) c.answer_with.ensures (c.change.ensures.answered t x held lawful)))
+    (known_change x.state c.in-Some.number) c.answer_with.ensures (c.change.ensures.answered t x held.book lawful)))
 
 pub returns-in-None : goal.returns-in-None
 returns-in-None g c =

@@ -16,7 +16,7 @@ returns-in-Some g c =
     (λ t x held lawful. named_is (item_text config x.state) told_item c.told_with.result
     (Some c.in-Some.serial) (item_serial c.args.number.now) c.in-Some.ensures
     (item_is (λ s. string_bytes s) c.item.result c.told_with.result (item_text config x.state c.in-Some.serial)
-    c.told_with.ensures (c.item.ensures.text t x held lawful) c.item.ensures.unavailable))
+    c.told_with.ensures (c.item.ensures.text t x held.book lawful) c.item.ensures.unavailable))
 
 pub returns-in-None : goal.returns-in-None
 returns-in-None g c =

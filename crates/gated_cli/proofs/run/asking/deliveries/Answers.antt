@@ -18,12 +18,12 @@ returns-clause-gate g c unfaulted =
     let P : Gated → Gated → Type 0 = λ gate after. (after ≡ gate) × WritesLines (lines_told gate (option_map (λ s. s.now) c.args.after)) g.W.Write.contents c.args.output.now c.write_deliveries-done.new.output c.write_deliveries-done.result in
     let opened = state g.S.Store c.in-Ok.book.conn in
     let over = goes_over (λ book. state g.S.Store book.conn) (λ book k x. HoldsFor (state g.S.Store book.conn) book.queues.items k x) (λ book k x held. held.shows)
-    (state g.S.Store c.args.conn) c.args.config c.new-gate.result.config
-    c.new-gate.result.book c.write_deliveries-done.new.gate.book P c.new-gate.ensures.config c.stays_lawful.ensures
-    (λ clean gate file. subst (λ book. HoldsFor (state g.S.Store book.conn) book.queues.items c.args.config gate.content) (sym c.new-gate.ensures.book)
+    (state g.S.Store c.args.conn) c.args.config c.new-gate.result
+    c.write_deliveries-done.new.gate P c.new-gate.ensures.config c.stays_lawful.ensures
+    (λ clean gate file. c.new-gate.ensures.holds gate.content
     (opens_to (λ x. HasCleanDisk opened → HoldsFor opened c.in-Ok.book.queues.items c.args.config x) (state g.S.Store c.args.conn) c.args.config gate c.in-Ok.ensures.opens c.in-Ok.ensures.adopts file
     (subst (λ book. HasCleanDisk (state g.S.Store book.conn)) c.new-gate.ensures.book clean)))
-    went.trusted_before went.passes in
+    went in
     subst (λ conn. GoesOver (state g.S.Store c.args.conn) (state g.S.Store conn) c.args.config P) (sym last) over
 
 pub returns-clause-judged : goal.returns-clause-judged

@@ -1,8 +1,9 @@
-use Rattle.std.proofs.Common.{◌≡◌, ◌∙◌, ap, subst, sym}
+use Rattle.std.proofs.Common.{◌≡◌, ◌∙◌, ap, refl, subst, sym}
 use Rattle.std.specs.Prelude.{IfSome, length}
 use Rattle.sqlite.specs.Held.{state}
 use Rattle.sqlite.specs.State.{HasCleanDisk}
 use Rattle.gate_cache.specs.Cached.{HoldsBelow}
+use Rattle.gate_core.proofs.ReplyLemmas.{goes_nowhere}
 use Rattle.gate_core.specs.Gated.{Gated}
 use Rattle.gate_core.specs.Lines.{lines_of, whole_lines}
 use Rattle.gate_core.specs.Replies.{Cut, Replayed}
@@ -10,7 +11,7 @@ use Rattle.gate_found_rows.specs.Finds.{Stays}
 use Rattle.gate_content_reads.specs.Held.{HoldsFor}
 use Rattle.gate_file_meta.specs.Opens.{IsJudged}
 use Rattle.gated_cli.specs.OverFile.{GoesOver}
-use Rattle.gated_cli.proofs.FileLemmas.{goes_over_cached, no_replay_fault, of_each, of_memory, of_no_memory, of_read, of_write, opens_to, same_passes}
+use Rattle.gated_cli.proofs.FileLemmas.{goes_over_cached, no_replay_fault, of_each, of_memory, of_no_memory, of_read, of_write, opens_to}
 use Rattle.gated_cli.proofs.run.over_file.deliver.Goals as goal
 
 pub returns-in-Ok-done-clause-ok : goal.returns-in-Ok-done-clause-ok
@@ -20,10 +21,10 @@ returns-in-Ok-done-clause-ok g c =
     let P : Gated → Gated → Type 0 = λ gate after. Replayed gate (lines_of h.0) h.3 after in
     let opened = state g.S.Store c.in-Ok.book.conn in
     let over = goes_over_cached (λ book. state g.S.Store book.conn) (λ book k x. HoldsFor (state g.S.Store book.conn) book.queues.items k x) (λ book k x held. held.shows)
-    (state g.S.Store c.args.conn) c.args.config c.new-gate.result.config c.in-Ok.book c.new.result c.new-gate.result.book c.replay-done.new.gate.book P
-    c.new-gate.ensures.config c.stays_lawful.ensures c.new.ensures.book c.new.ensures.agrees c.new-gate.ensures.book
+    (state g.S.Store c.args.conn) c.args.config c.in-Ok.book c.new.result c.new-gate.result c.replay-done.new.gate P
+    c.new-gate.ensures.config c.stays_lawful.ensures c.new.ensures.book c.new.ensures.agrees c.new-gate.ensures.book c.new-gate.ensures.holds
     (λ clean gate file. opens_to (λ x. HasCleanDisk opened → HoldsFor opened c.in-Ok.book.queues.items c.args.config x) (state g.S.Store c.args.conn) c.args.config gate c.in-Ok.ensures.opens c.in-Ok.ensures.adopts file clean)
-    h.5.trusted_before h.5.passes in
+    h.5 in
     (h.0, h.1, h.2, h.3, h.4, subst (λ conn. GoesOver (state g.S.Store c.args.conn) (state g.S.Store conn) c.args.config P) (sym last) over)
 
 pub returns-in-Ok-done-clause-judged : goal.returns-in-Ok-done-clause-judged
@@ -59,10 +60,10 @@ returns-in-Err-done-clause-read g c e =
     let P : Gated → Gated → Type 0 = λ gate after. Replayed gate (whole_lines h.0) h.2 after in
     let opened = state g.S.Store c.in-Ok.book.conn in
     let over = goes_over_cached (λ book. state g.S.Store book.conn) (λ book k x. HoldsFor (state g.S.Store book.conn) book.queues.items k x) (λ book k x held. held.shows)
-    (state g.S.Store c.args.conn) c.args.config c.new-gate.result.config c.in-Ok.book c.new.result c.new-gate.result.book c.replay-done.new.gate.book P
-    c.new-gate.ensures.config c.stays_lawful.ensures c.new.ensures.book c.new.ensures.agrees c.new-gate.ensures.book
+    (state g.S.Store c.args.conn) c.args.config c.in-Ok.book c.new.result c.new-gate.result c.replay-done.new.gate P
+    c.new-gate.ensures.config c.stays_lawful.ensures c.new.ensures.book c.new.ensures.agrees c.new-gate.ensures.book c.new-gate.ensures.holds
     (λ clean gate file. opens_to (λ x. HasCleanDisk opened → HoldsFor opened c.in-Ok.book.queues.items c.args.config x) (state g.S.Store c.args.conn) c.args.config gate c.in-Ok.ensures.opens c.in-Ok.ensures.adopts file clean)
-    h.4.trusted_before h.4.passes in
+    h.4 in
     (h.0, h.1, h.2, h.3, subst (λ conn. GoesOver (state g.S.Store c.args.conn) (state g.S.Store conn) c.args.config P) (sym last) over)
 
 pub returns-in-Err-done-clause-write : goal.returns-in-Err-done-clause-write
@@ -72,10 +73,10 @@ returns-in-Err-done-clause-write g c e =
     let P : Gated → Gated → Type 0 = λ gate after. (cut : Cut gate h.0 h.1 after) × (length cut.done ≡ h.3) in
     let opened = state g.S.Store c.in-Ok.book.conn in
     let over = goes_over_cached (λ book. state g.S.Store book.conn) (λ book k x. HoldsFor (state g.S.Store book.conn) book.queues.items k x) (λ book k x held. held.shows)
-    (state g.S.Store c.args.conn) c.args.config c.new-gate.result.config c.in-Ok.book c.new.result c.new-gate.result.book c.replay-done.new.gate.book P
-    c.new-gate.ensures.config c.stays_lawful.ensures c.new.ensures.book c.new.ensures.agrees c.new-gate.ensures.book
+    (state g.S.Store c.args.conn) c.args.config c.in-Ok.book c.new.result c.new-gate.result c.replay-done.new.gate P
+    c.new-gate.ensures.config c.stays_lawful.ensures c.new.ensures.book c.new.ensures.agrees c.new-gate.ensures.book c.new-gate.ensures.holds
     (λ clean gate file. opens_to (λ x. HasCleanDisk opened → HoldsFor opened c.in-Ok.book.queues.items c.args.config x) (state g.S.Store c.args.conn) c.args.config gate c.in-Ok.ensures.opens c.in-Ok.ensures.adopts file clean)
-    h.5.trusted_before h.5.passes in
+    h.5 in
     (h.0, h.1, h.2, h.3, h.4, subst (λ conn. GoesOver (state g.S.Store c.args.conn) (state g.S.Store conn) c.args.config P) (sym last) over)
 
 pub returns-in-Err-done-clause-memory : goal.returns-in-Err-done-clause-memory
@@ -85,13 +86,12 @@ returns-in-Err-done-clause-memory g c e =
     let P : Gated → Gated → Type 0 = λ gate after. after ≡ gate in
     let opened = state g.S.Store c.in-Ok.book.conn in
     let over = goes_over_cached (λ book. state g.S.Store book.conn) (λ book k x. HoldsFor (state g.S.Store book.conn) book.queues.items k x) (λ book k x held. held.shows)
-    (state g.S.Store c.args.conn) c.args.config c.new-gate.result.config c.in-Ok.book c.new.result c.new-gate.result.book c.replay-done.new.gate.book P
-    c.new-gate.ensures.config c.stays_lawful.ensures c.new.ensures.book c.new.ensures.agrees c.new-gate.ensures.book
+    (state g.S.Store c.args.conn) c.args.config c.in-Ok.book c.new.result c.new-gate.result c.replay-done.new.gate P
+    c.new-gate.ensures.config c.stays_lawful.ensures c.new.ensures.book c.new.ensures.agrees c.new-gate.ensures.book c.new-gate.ensures.holds
     (λ clean gate file. opens_to (λ x. HasCleanDisk opened → HoldsFor opened c.in-Ok.book.queues.items c.args.config x) (state g.S.Store c.args.conn) c.args.config gate c.in-Ok.ensures.opens c.in-Ok.ensures.adopts file clean)
-    (λ clean. subst (λ gate. HasCleanDisk (state g.S.Store gate.book.book.conn)) same clean)
-    (same_passes (λ cached. HasCleanDisk (state g.S.Store cached.book.conn))
+    (goes_nowhere (λ cached. HasCleanDisk (state g.S.Store cached.book.conn))
     (λ cached k x. HoldsBelow (λ book k x. HoldsFor (state g.S.Store book.conn) book.queues.items k x) cached k x)
-    c.new-gate.result.config c.new-gate.result.book c.replay-done.new.gate.book (ap (λ gate. gate.book) same)) in
+    c.new-gate.result c.replay-done.new.gate P same (λ gate. refl)) in
     subst (λ conn. GoesOver (state g.S.Store c.args.conn) (state g.S.Store conn) c.args.config P) (sym last) over
 
 pub returns-in-Err-done-clause-fault : goal.returns-in-Err-done-clause-fault

@@ -17,10 +17,10 @@ returns-clause-gate g c unfaulted =
     let last = c.into_conn.ensures ∙ ap (λ book. book.conn) (c.into_book-2.ensures ∙ ap (λ cached. cached.book) c.into_book.ensures) in
     let opened = state g.S.Store c.in-Ok.book.conn in
     let over = goes_over_cached (λ book. state g.S.Store book.conn) (λ book k x. HoldsFor (state g.S.Store book.conn) book.queues.items k x) (λ book k x held. held.shows)
-    (state g.S.Store c.args.conn) c.args.config c.new-gate.result.config c.in-Ok.book c.new.result c.new-gate.result.book c.serve-done.new.gate.book (IsCalled c.args.count)
-    c.new-gate.ensures.config c.stays_lawful.ensures c.new.ensures.book c.new.ensures.agrees c.new-gate.ensures.book
+    (state g.S.Store c.args.conn) c.args.config c.in-Ok.book c.new.result c.new-gate.result c.serve-done.new.gate (IsCalled c.args.count)
+    c.new-gate.ensures.config c.stays_lawful.ensures c.new.ensures.book c.new.ensures.agrees c.new-gate.ensures.book c.new-gate.ensures.holds
     (λ clean gate file. opens_to (λ x. HasCleanDisk opened → HoldsFor opened c.in-Ok.book.queues.items c.args.config x) (state g.S.Store c.args.conn) c.args.config gate c.in-Ok.ensures.opens c.in-Ok.ensures.adopts file clean)
-    went.trusted_before went.passes in
+    went in
     subst (λ conn. GoesOver (state g.S.Store c.args.conn) (state g.S.Store conn) c.args.config (IsCalled c.args.count)) (sym last) over
 
 pub returns-clause-judged : goal.returns-clause-judged
