@@ -111,10 +111,14 @@ done
 await grep -q 'hooks come in' "$FORGE/adapter.log"
 
 # Change 1, whose hook comes twice; change 2, which needs it in the same queue; change 3, which needs it from another.
+# Each is awaited, since the adapter numbers changes in the order in which it looks at them.
 push acme/lib 1 'Add two' two=2
 at_forge twice open acme/lib main 'Add two' ''
+await has_said 1 1 'revision: recorded'
 propose acme/app 1 'Use two' use=two 'Depends-On: https://forge.example/acme/lib/pulls/1'
+await has_said 2 1 'revision: recorded'
 propose acme/site 1 'Show two' page=Two 'See there.\n\nDepends-On: acme/lib#1'
+await has_said 3 1 'revision: recorded'
 at_forge approve acme/app 1 ann
 at_forge approve acme/site 1 ann
 await has_said 3 1 'approved: waiting'
