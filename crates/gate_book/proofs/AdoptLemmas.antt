@@ -60,18 +60,7 @@ others_found f q [] n d within none = absurd (omega (arith, within))
 others_found f q (x ∷ xs) zero d within none = sym (ap (λ b. cond b (Some (f x)) (find q (map f xs))) none)
 others_found f q (x ∷ xs) (suc n) d within none = ap (λ o. cond (q (f x)) (Some (f x)) o) (others_found f q xs n d (omega (arith, within)) none)
 
--- what is true of all is true of the others, and of the one
-pub all_but : {X : Type 0} (P : X → Type 0) (xs : List X) (n : ℕ) → AllByRecursion P xs → AllByRecursion P (remove xs n)
-all_but P [] zero all = tt
-all_but P [] (suc n) all = tt
-all_but P (x ∷ xs) zero all = all.1
-all_but P (x ∷ xs) (suc n) all = (all.0, all_but P xs n all.1)
-
-pub all_at : {X : Type 0} (P : X → Type 0) (xs : List X) (n : ℕ) (d : X) → n < length xs → AllByRecursion P xs → P (get_or xs n d)
-all_at P [] n d within all = absurd (omega (arith, within))
-all_at P (x ∷ xs) zero d within all = all.0
-all_at P (x ∷ xs) (suc n) d within all = all_at P xs n d (omega (arith, within)) all.1
-
+-- what is true of all stays so where one is set
 pub all_set : {X : Type 0} (P : X → Type 0) (xs : List X) (n : ℕ) (y : X) → AllByRecursion P xs → P y → AllByRecursion P (set xs n y)
 all_set P [] n y all h = tt
 all_set P (x ∷ xs) zero y all h = (h, all.1)

@@ -2,7 +2,7 @@
 use Rattle.std.proofs.Common.{◌≡◌, ℕ, zero, ◌+◌, ◌<◌, List, [], ◌∷◌, ◌++◌, length, take, drop, get_or, Option, None, Some, Result, Ok, Err, sym, ap, subst, ◌∙◌, arith, append_assoc, append-nil, length-append, take-append-drop}
 use Rattle.std.specs.Prelude.{option_map}
 use Rattle.std.specs.Io.KnownBytes.{Appends}
-use Rattle.std.proofs.KnownBytes.{Appends-trans, Appends-nil}
+use Rattle.std.proofs.KnownBytes.{Appends-nil}
 use Rattle.std.proofs.lemmas.List.Concat.{flat_map-append}
 use Rattle.std.proofs.lemmas.List.{take_more}
 use Rattle.gate_types.specs.Tap.{Took, TookFront, WritesFront}
@@ -11,7 +11,7 @@ use Rattle.gate_types.specs.declared.records.Kept.{Kept}
 use Rattle.gate_types.specs.declared.tap.Tap.{Tap}
 use Rattle.gate_types.proofs.TapLemmas.{writes_later}
 use Rattle.gate_archive.specs.Feed.{feed_line, feed_lines, behind, fed}
-use Rattle.gate_archive.specs.Writes.{TookSome, WritesFeed, StopsFeed}
+use Rattle.gate_archive.specs.Writes.{TookSome, WritesFeed}
 use Rattle.gate_archive.specs.declared.fault.FeedFault.{FeedFault}
 use Rattle.gate_archive.specs.declared.fault.FeedFault.TheVariants as fault
 use Rattle.gate_book.specs.Past.{BreaksOff, LeavesLines, WritesLines}
@@ -65,11 +65,6 @@ module _ {W : Type 0} (held : W → Option (List ℕ)) where
   rest_cut t0 t1 t2 xs ys all fault.Broken e p q h = (subst (WritesFront _ _) (sym e) (writes_later _ _ _ xs ys p q), h)
   rest_cut t0 t1 t2 xs ys all fault.Write e p q h = (subst (WritesFront _ _) (sym e) (writes_later _ _ _ xs ys p q), h)
 
-  -- both parts
-  pub both_parts : (t0 t1 t2 : Tap W) (xs ys all : List ℕ) → all ≡ xs ++ ys → Took held t0 t1 xs → Took held t1 t2 ys →
-      Took held t0 t2 all
-  both_parts t0 t1 t2 xs ys all e p q = subst (Appends _ _) (sym e) (Appends-trans _ _ _ xs ys p q)
-
 -- ---- of a content
 
 module _ {W : Type 0} (held : W → Option (List ℕ)) (t0 t1 : Tap W) where
@@ -89,15 +84,6 @@ module _ {W : Type 0} (held : W → Option (List ℕ)) (t0 t1 : Tap W) where
       record { told = take most ks; are = ap (option_map (λ x. take most x)) e; taken = some_taken _ h.0 }
   of_feed kept after most front ks (Err fault.Write) e h =
       record { told = take most ks; are = ap (option_map (λ x. take most x)) e; taken = some_taken _ h.0 }
-
-  -- what is left of the writer
-  pub feed_stops : (text : List ℕ) (count : ℕ) (r : Result ℕ FeedFault) → WritesLines held t0 t1 text count r →
-      StopsFeed t0 t1 r
-  feed_stops text count (Ok n) h = h.2
-  feed_stops text count (Err fault.NoDelivery) h = absurd h
-  feed_stops text count (Err fault.Unavailable) h = h
-  feed_stops text count (Err fault.Broken) h = h.1
-  feed_stops text count (Err fault.Write) h = h.1
 
 -- where no delivery has the id, none is asked for
 pub none_behind : (kept : List Kept) (after : Option Id) (most : ℕ) → behind after kept ≡ None → fed after most kept ≡ None

@@ -22,7 +22,7 @@ use Rattle.gate_book_trait.specs.declared.fault.HistoryFault.TheVariants as faul
 use Rattle.gate_book_trait.specs.Reads.{queue_named}
 use Rattle.gate_book_trait.specs.RowReads.{rows_named}
 use Rattle.gate_book_trait.specs.Text.{first_line, report_lines, last_line, rows_text, IsWritten, BreaksOff, LeavesTap, LeavesText, WritesText}
-use Rattle.gate_book_trait.specs.Writes.{WritesHistory, Stops}
+use Rattle.gate_book_trait.specs.Writes.{WritesHistory}
 use Rattle.gate_book_trait.proofs.ReadLemmas.{rows_of_queue, named_is, length_reports}
 
 -- the line of a row
@@ -138,14 +138,6 @@ module _ {W : Type 0} (held : W → Option (List ℕ)) (t0 t1 : Tap W) where
           let rows : t ≡ rows_of_queue c x.state q = cc in
           of_queue x.state name front q r n (subst (λ text. WritesText held t0 t1 (front ++ text) r)
           (ap (λ (u : QueueRows). rows_text u.name u.reports) rows ∙ text_of_queue q) h)
-
-  -- what is left of the writer
-  pub stops_so : (all : List ℕ) (r : Result (Unit {0}) HistoryFault) → WritesText held t0 t1 all r → Stops t0 t1 r
-  stops_so all (Ok u) h = h.1
-  stops_so all (Err fault.NoQueue) h = absurd h
-  stops_so all (Err fault.Unavailable) h = h
-  stops_so all (Err fault.Broken) h = h.1
-  stops_so all (Err fault.Write) h = h.1
 
 -- a queue that isn't among the rows isn't there
 pub not_there : (c : Settings) (x : Content) (name : List ℕ) → None ≡ rows_named (tables c x).queues name →

@@ -1,5 +1,5 @@
 //! The lines of accepted deliveries are written, one after another.
-ghost use Rattle.std.specs.Prelude.{◌≡◌, ◌++◌, ℕ, false, length, take, IfOk, string_bytes};
+ghost use Rattle.std.specs.Prelude.{◌≡◌, ◌++◌, false, length, take, IfOk, string_bytes};
 ghost use Rattle.gate_types.specs.Tap.{has_failed};
 ghost use Rattle.gate_archive.specs.Feed.{feed_lines};
 ghost use Rattle.gate_book.specs.Past.{IsFed, LeavesTap, WritesLines};

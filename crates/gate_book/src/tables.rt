@@ -1,5 +1,5 @@
 //! All tables of a book in memory.
-ghost use Rattle.std.specs.Prelude.{◌≡◌, ◌==◌, ◌+◌, ℕ, suc, [], length, find, filter, map, option_map, IfOk, OnErr, OnOk, IfSome};
+ghost use Rattle.std.specs.Prelude.{◌≡◌, ◌==◌, ◌+◌, ℕ, suc, length, find, filter, map, option_map, IfOk, OnErr, OnOk, IfSome};
 ghost use Rattle.std.specs.List.{AllByRecursion};
 ghost use Rattle.std.specs.Option.{option_copied, option_map_or};
 ghost use Rattle.gate_types.specs.Names.{same_name};

@@ -1,5 +1,5 @@
 //! The history text of a queue's rows is written, line by line.
-ghost use Rattle.std.specs.Prelude.{◌≡◌, ◌++◌, ℕ, false, IfOk, string_bytes};
+ghost use Rattle.std.specs.Prelude.{◌≡◌, ◌++◌, false, IfOk, string_bytes};
 ghost use Rattle.gate_types.specs.Tap.{has_failed};
 ghost use Rattle.gate_book_trait.specs.Text.{first_line, report_lines, last_line, rows_text, IsWritten, LeavesTap, WritesText};
 
