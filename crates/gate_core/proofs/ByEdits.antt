@@ -1,14 +1,13 @@
 -- Whoever may enter behind a delivery may by its edits, since before it nobody might.
-use Rattle.std.proofs.Common.{◌≡◌, ◌⊎◌, ℕ, zero, suc, ◌+◌, ◌<◌, ◌≤◌, Bool, true, false, not, ◌&&◌, ◌||◌, cond, Option, Some, None, is_some, List, [], ◌∷◌, ◌++◌, map, fold, filter, length, refl, sym, ap, ◌∙◌, subst, inl, inr, ⊎_elim, arith, true≢false, length-append}
-use Rattle.std.specs.Prelude.{◌==◌, nat_lt, nat_le, if◌then◌else◌, find, filter_map, option_map, unwrap_or, Contains}
-use Rattle.std.specs.List.{list_any, list_all}
+use Rattle.std.proofs.Common.{◌≡◌, ◌⊎◌, ℕ, suc, ◌+◌, ◌≤◌, Bool, true, false, not, ◌&&◌, ◌||◌, cond, Option, Some, None, is_some, List, [], ◌∷◌, map, fold, filter, length, refl, sym, ap, ◌∙◌, subst, inl, inr, ⊎_elim, arith, true≢false, length-append}
+use Rattle.std.specs.Prelude.{◌==◌, nat_lt, nat_le, if◌then◌else◌, find, filter_map, unwrap_or}
+use Rattle.std.specs.List.{list_any}
 use Rattle.std.specs.Option.{option_map_or, option_or}
-use Rattle.std.proofs.lemmas.Bool.{and_parts, and_from, or_parts, not-true, not-false, eqb-true, eq-eqb, ltb-true, lt-ltb}
+use Rattle.std.proofs.lemmas.Bool.{and_parts, and_from, or_parts, not-true, eqb-true, eq-eqb}
 use Rattle.std.proofs.lemmas.Option.{none-some}
 use Rattle.std.proofs.lemmas.List.{length-map, map-id}
 use Rattle.gate_types.specs.declared.records.Change.{Change}
 use Rattle.gate_types.specs.declared.records.Ready.{Ready}
-use Rattle.gate_types.specs.declared.records.Stage.{Stage}
 use Rattle.gate_types.specs.declared.records.Stage.TheVariants as stage
 use Rattle.gate_types.specs.declared.records.Verdict.{Verdict}
 use Rattle.gate_types.specs.declared.records.Verdict.TheVariants as verdict
@@ -24,7 +23,7 @@ use Rattle.gate_types.specs.Settings.{Settings, are_distinct}
 use Rattle.gate_types.specs.State.{Item, Queue, State, put_by, has_change, change_of, known_change, project_of, is_landed}
 use Rattle.gate_types.specs.Slot.{are_met_by}
 use Rattle.gate_types.specs.Standing.{needs_of}
-use Rattle.gate_types.specs.Window.{Bounds, bounds_of}
+use Rattle.gate_types.specs.Window.{bounds_of}
 use Rattle.gate_types.specs.Rebase.{rebase}
 use Rattle.gate_types.specs.Sweep.{Judged, judged, report_of, swept_queue}
 use Rattle.gate_types.specs.Admit.{may_enter}
@@ -34,7 +33,7 @@ use Rattle.gate_types.specs.Rows.{item_rows, numbered, edited_reports}
 use Rattle.gate_types.specs.Once.{Content}
 use Rattle.gate_types.specs.Lawful.{IsSound}
 use Rattle.gate_types.specs.Forms.{IsLawfulContent}
-use Rattle.gate_types.specs.Tables.{Tables, QueueRows, tables, queue_rows, edited_queue, edited_tables, fold_all, Leads}
+use Rattle.gate_types.specs.Tables.{Tables, QueueRows, tables, queue_rows, edited_queue, edited_tables, fold_all}
 use Rattle.gate_laws.specs.Rest.{IsAtRest}
 use Rattle.gate_laws.proofs.Adopting.{found_named}
 use Rattle.gate_laws.proofs.Alone.{same_name_is, same_name_of}
@@ -42,8 +41,7 @@ use Rattle.gate_laws.proofs.EachAccepted.{on_accepted, each_revision, each_appro
 use Rattle.gate_laws.proofs.IdleSweep.{judged_items}
 use Rattle.gate_laws.proofs.Told.{report_on}
 use Rattle.gate_laws.proofs.Members.{In, every, from_map, any_from, any_to, none_from, from_filter, map_map, contains_in}
-use Rattle.gate_reads.specs.Moves.{in_state, swept}
-use Rattle.gate_book_trait.specs.Reads.{queue_named}
+use Rattle.gate_reads.specs.Moves.{swept}
 use Rattle.gate_admission.specs.Led.{IsLed}
 use Rattle.gate_admission.specs.Seen.{change_put, last_put}
 use Rattle.gate_admission.specs.Candidates.{needs_it, puts, is_full, makes_room, lets_in, EntersByEdits}

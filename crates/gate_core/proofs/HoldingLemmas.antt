@@ -3,7 +3,6 @@ use Rattle.std.proofs.Common.{◌≡◌, ◌∙◌, sym, subst, List}
 use Rattle.gate_types.specs.Settings.{Settings}
 use Rattle.gate_types.specs.Once.{Content}
 use Rattle.gate_types.specs.Forms.{IsLawfulContent}
-use Rattle.gate_book_trait.specs.Kept.{IsKept}
 use Rattle.gate_core.specs.declared.gate.Gate.{Gate}
 use Rattle.gate_core.specs.Gated.{Gated}
 use Rattle.gate_core.specs.Held.{IsOver}
@@ -11,14 +10,6 @@ use Rattle.gate_core.specs.Holding.{IsKeptGate}
 
 module _ {B : Type 0} (trusted : B → Type 0) (holds : B → Settings → Content → Type 0)
     (leaves : B → Settings → List Content → Type 0) where
-  -- a gate that keeps what it said
-  pub kept_as_said : (old : Gate B) (book : B) → IsKept trusted holds leaves old.book book →
-      IsKeptGate trusted holds leaves old (record old { book = book })
-  kept_as_said old book kept = record {
-    book = kept;
-    holds_on = λ t x held. record { book = kept.holds_on t old.config x held.book; recent = held.recent };
-  }
-
   -- the gate that it was it still is
   pub over_kept : (old new : Gate B) → new.config ≡ old.config → IsKeptGate trusted holds leaves old new →
       trusted new.book → (g : Gated) → IsOver holds old g → IsOver holds new g

@@ -1,6 +1,6 @@
 -- What lands by a call, from what is true of one delivery.
 use Rattle.std.proofs.Common.{◌≡◌, ℕ, Bool, true, false, ◌&&◌, None, inl, inr, refl, sym, ap, ◌∙◌, subst, true≢false}
-use Rattle.std.specs.Prelude.{◌==◌, ◌⊎◌, if◌then◌else◌, Contains}
+use Rattle.std.specs.Prelude.{◌⊎◌, if◌then◌else◌, Contains}
 use Rattle.std.proofs.lemmas.Bool.{eqb-true}
 use Rattle.gate_types.specs.declared.deliveries.Answer.{Answer}
 use Rattle.gate_types.specs.declared.deliveries.Answer.TheVariants as answer
@@ -14,7 +14,7 @@ use Rattle.gate_types.specs.SubmitOrder.{Order, orders}
 use Rattle.gate_types.specs.Step.{Stepped, step, accepted, refused}
 use Rattle.gate_types.specs.Lawful.{IsLawful}
 use Rattle.gate_types.specs.Forms.{IsLawfulContent}
-use Rattle.gate_types.specs.Once.{Content, Call, kept_for, may_act, is_accepted, content_after, next_content, acts, answer_of, answer_of_step}
+use Rattle.gate_types.specs.Once.{Content, Call, kept_for, may_act, is_accepted, content_after, next_content, acts, answer_of}
 use Rattle.gate_laws.specs.Orders.{answers_order, IsStillShown, AShownOrderStays, is_order_shown, OnlyShownOrdersAreAnswered}
 use Rattle.gate_core.specs.Landing.{LandsRightly}
 

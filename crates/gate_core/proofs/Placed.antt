@@ -1,7 +1,7 @@
 -- Where a change stands: in its project's queue, if it is queued at all.
 use Rattle.std.proofs.Common.{◌≡◌, ℕ, ◌≤◌, inl, inr, Bool, true, false, cond, Option, Some, None, List, [], ◌∷◌, map, refl, sym, ap, ◌∙◌, subst, arith, true≢false}
-use Rattle.std.specs.Prelude.{◌==◌, ◌&&◌, ◌||◌, All, find, flat_map, is_some, option_map, unwrap_or}
-use Rattle.std.specs.List.{list_any, list_all}
+use Rattle.std.specs.Prelude.{◌==◌, ◌&&◌, ◌||◌, All, find, flat_map, option_map, unwrap_or}
+use Rattle.std.specs.List.{list_any}
 use Rattle.std.specs.Option.{option_map_or}
 use Rattle.std.proofs.lemmas.Bool.{and_parts, eqb-true}
 use Rattle.std.proofs.lemmas.Option.{none-some, same_Some}
@@ -10,8 +10,7 @@ use Rattle.gate_types.specs.declared.deliveries.Reply.TheVariants as reply
 use Rattle.gate_types.specs.declared.records.Item.{Item as ItemRow}
 use Rattle.gate_types.specs.Names.{same_name}
 use Rattle.gate_types.specs.declared.config.Project.{Project}
-use Rattle.gate_types.specs.declared.config.Queue.{Queue as QueueSetting}
-use Rattle.gate_types.specs.Settings.{Settings, are_sound, has_queue, are_sound_jobs}
+use Rattle.gate_types.specs.Settings.{Settings, are_sound}
 use Rattle.gate_types.specs.State.{Item, Queue, State, project_of, change_of, is_open}
 use Rattle.gate_types.specs.Standing.{place_of, places_after, next_ahead, with_ahead}
 use Rattle.gate_types.specs.Rows.{row_of, item_rows}
@@ -21,8 +20,7 @@ use Rattle.gate_book_trait.specs.Reads.{queue_named, items_in}
 use Rattle.gate_laws.proofs.Alone.{same_name_is, changes_once, map-flat}
 use Rattle.gate_laws.proofs.Counts.{times}
 use Rattle.gate_laws.proofs.Members.{In, every, found, not_found, from_flat, to_flat}
-use Rattle.gate_reads.proofs.Found.{found_itself, any_found}
-use Rattle.gate_admission.specs.Known.{IsQueue}
+use Rattle.gate_reads.proofs.Found.{found_itself}
 use Rattle.gate_admission.proofs.Admitted.{AreNamed}
 use Rattle.gate_reads.proofs.Queues.{named_itself}
 

@@ -2,11 +2,9 @@
 use Rattle.std.proofs.Common.{◌≡◌, ◌≢◌, ℕ, Bool, true, false, not, cond, List, [], ◌∷◌, ◌++◌, reverse, refl, sym, ap, ◌∙◌, arith, true≢false}
 use Rattle.std.specs.Prelude.{◌==◌, ◌||◌}
 use Rattle.std.specs.List.{list_any}
-use Rattle.std.specs.Ordering.{nat_cmp}
-use Rattle.std.specs.BTreeMap.{is_at}
 use Rattle.std.specs.BTreeSet.{BTreeSet}
 use Rattle.std.proofs.lemmas.Bool.{eqb-true}
-use Rattle.std.proofs.lemmas.List.{map-id, append-nil, append_assoc, reverse-reverse}
+use Rattle.std.proofs.lemmas.List.{map-id, append_assoc}
 use Rattle.std.proofs.lemmas.Grind.{reverse_onto}
 use Rattle.gate_types.specs.declared.rows.ChangeRow.{ChangeRow}
 use Rattle.gate_types.specs.declared.edits.Edit.{Edit}
@@ -134,14 +132,6 @@ pub record Thinning (all rest staying : List Edit) (numbers : BTreeSet ℕ) : Ty
   pub stay : staying ≡ reverse (thinned later)
   pub put : AreNumbersOf later numbers
 
-pub thinning_start : (all : List Edit) (numbers : BTreeSet ℕ) → numbers.keys ≡ [] → Thinning all all [] numbers
-thinning_start all numbers none = record {
-  later = [];
-  split = sym (append-nil all);
-  stay = refl;
-  put = λ n. ap (list_any (is_at (nat_cmp n))) none;
-}
-
 pub thinning_next : {all rest staying : List Edit} {numbers : BTreeSet ℕ} (h : Thinning all rest staying numbers)
     (e : Edit) (left more : List Edit) (stays : Bool) (noted : BTreeSet ℕ) → rest ≡ left ++ e ∷ [] →
     stays ≡ not (is_replaced e h.later) → more ≡ cond stays (staying ++ e ∷ []) staying →
@@ -157,9 +147,3 @@ thinning_next {staying = staying} h e left more stays noted taken told put numbe
         cond (not b) (staying ++ e ∷ []) staying ≡ reverse (cond b (thinned h.later) (e ∷ thinned h.later))
     by_test true = h.stay
     by_test false = ap (λ xs. xs ++ e ∷ []) h.stay ∙ sym (reverse_onto (thinned h.later) e [])
-
-pub thinning_end : {all rest staying : List Edit} {numbers : BTreeSet ℕ} → Thinning all rest staying numbers →
-    rest ≡ [] → reverse staying ≡ thinned all
-thinning_end h none =
-    ap reverse h.stay ∙ reverse-reverse (thinned h.later)
-    ∙ ap thinned (sym (h.split ∙ ap (λ xs. xs ++ h.later) none))

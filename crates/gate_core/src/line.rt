@@ -1,5 +1,5 @@
 //! The line that is being read.
-ghost use Rattle.std.specs.Prelude.{◌≡◌, ◌≤◌, ◌++◌, ◌∷◌, [], ℕ, List, OnErr, IfOk, IfSome, length, IsTrue, ◌↔◌, vec_len, vec_capacity};
+ghost use Rattle.std.specs.Prelude.{◌≡◌, ◌≤◌, ◌++◌, ◌∷◌, [], ℕ, List, IfOk, IfSome, length, IsTrue, ◌↔◌, vec_len, vec_capacity};
 ghost use Rattle.gate_core.specs.Limit.{limit};
 
 use std::alloc::{AllocError, Global};

@@ -1,5 +1,5 @@
 //! A whole conversation: deliveries in, one a line, and replies out.
-ghost use Rattle.std.specs.Prelude.{◌≡◌, [], ℕ, List, OnOk, IfOk, IsErrOf, true, false, length};
+ghost use Rattle.std.specs.Prelude.{◌≡◌, ℕ, List, OnOk, IfOk, IsErrOf, true, false, length};
 ghost use Rattle.std.specs.Io.Iter.{u64_saturate};
 ghost use Rattle.gate_types.specs.Tap.{inside, has_failed, Gave, IsReadOut, Took};
 ghost use Rattle.gate_core.specs.Lines.{whole_lines, lines_of, ReadFor};

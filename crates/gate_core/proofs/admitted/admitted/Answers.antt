@@ -1,5 +1,4 @@
-use Rattle.std.proofs.Common.{◌≡◌, ◌∙◌, true, ap, sym, rules}
-use Rattle.std.specs.Prelude.{map}
+use Rattle.std.proofs.Common.{◌≡◌, ◌∙◌, true, ap, rules}
 use Rattle.gate_types.specs.Settings.{are_sound, are_distinct}
 use Rattle.gate_laws.proofs.Alone.{names_differ}
 use Rattle.gate_reads.specs.Moves.{swept}

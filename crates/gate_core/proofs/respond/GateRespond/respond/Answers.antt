@@ -1,7 +1,5 @@
-use Rattle.std.proofs.Common.{refl, ap, ◌∙◌}
-use Rattle.gate_types.specs.Once.{answer_text}
+use Rattle.std.proofs.Common.{refl}
 use Rattle.gate_types.specs.declared.deliveries.Answer.TheVariants as answer
-use Rattle.gate_core.specs.Replies.{Told}
 use Rattle.gate_core.proofs.ReplyLemmas.{goes_nowhere, goes_told, told_refusal}
 use Rattle.gate_core.proofs.respond.GateRespond.respond.Goals as goal
 
