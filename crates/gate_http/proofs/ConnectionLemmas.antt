@@ -1,11 +1,11 @@
 -- Connections, one after another: the gate after them, and the faults that were told.
-use Rattle.std.proofs.Common.{◌≡◌, ◌≤◌, ℕ, ◌+◌, Bool, true, false, true≢false, List, [], ◌∷◌, ◌++◌, length, Option, None, Some, Result, Ok, Err, IfOk, IfErr, arith, refl, sym, ap, ◌∙◌, subst, append-nil, length-append}
+use Rattle.std.proofs.Common.{◌≡◌, ◌≤◌, ℕ, ◌+◌, Bool, true, false, List, [], ◌∷◌, ◌++◌, length, Option, None, Some, Result, Ok, Err, IfOk, IfErr, arith, refl, sym, ap, ◌∙◌, subst, append-nil, length-append}
 use Rattle.std.specs.Prelude.{IsErrOf, OnOk}
 use Rattle.std.specs.Result.{result_and}
 use Rattle.std.specs.Io.KnownBytes.{Appends, Keeps, append_known}
 use Rattle.std.specs.Io.Buffered.{writer_contents, writer_buffer, writer_inner}
 use Rattle.std.specs.declared.io.buffered.BufWriter.{BufWriter}
-use Rattle.std.proofs.KnownBytes.{Appends-trans, Appends-nil}
+use Rattle.std.proofs.KnownBytes.{Appends-trans}
 use Rattle.std.proofs.lemmas.List.{take-append-le}
 use Rattle.std.proofs.lemmas.List.Concat.{flat_map-append}
 use Rattle.std.proofs.lemmas.List.Sums.{fold-append}
@@ -186,21 +186,6 @@ writes_sooner a b xs ys (n, short, w) = (
 )
 
 module _ {T : Type 0} (held : T → Option (List ℕ)) where
-  -- no fault
-  pub none_told : (tap : Tap T) → has_failed tap ≡ false → AreTold held tap tap []
-  none_told tap unfailed = record {
-    whole = λ _. Appends-nil (held (inside tap));
-    cut = λ failed. absurd (true≢false (sym failed ∙ unfailed));
-  }
-
-  -- a fault, and whether its line was written
-  pub one_told : (old new : Tap T) (f : IoFault) → (has_failed new ≡ false → Took held old new (fault_line f))
-      → (has_failed new ≡ true → TookFront held old new (fault_line f)) → AreTold held old new (f ∷ [])
-  one_told old new f whole cut = record {
-    whole = λ e. subst (Took held old new) (sym (append-nil (fault_line f))) (whole e);
-    cut = λ e. subst (TookFront held old new) (sym (append-nil (fault_line f))) (cut e);
-  }
-
   -- faults, and then one more
   both_told : (old mid new : Tap T) (faults : List IoFault) (f : IoFault) → has_failed mid ≡ false
       → AreTold held old mid faults → AreTold held mid new (f ∷ []) → AreTold held old new (faults ++ f ∷ [])

@@ -315,14 +315,6 @@ module _ {B : Type 0} (trusted : B → Type 0) (holds : B → Settings → Conte
     crash = λ t x held lawful. kept.book.leaves_on t old.config x held.book;
   }
 
-  -- what is so of them whatever a book holds
-  pub recalls_unmoved : (old : Gate B) (wanted : Streamed) (P : Option (List ℕ) → Type 0)
-      → ((x : Content) → P (stream_of x wanted)) → Recalls trusted holds leaves old wanted P old
-  recalls_unmoved old wanted P at = record {
-    answers = stands old _ (λ g. (at g.content, refl));
-    crash = λ t x held lawful. λ ys l. l;
-  }
-
   -- what a request for lines comes to
   serves_told : (form : Form) (old new : Gate B) (wanted : Streamed) (served : Served) (Takes : List ℕ → Type 0)
       (P : Option (List ℕ) → Type 0) → Recalls trusted holds leaves old wanted P new

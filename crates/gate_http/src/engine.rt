@@ -1,6 +1,6 @@
 //! The engine: one request of a connection is answered, by whatever answers requests.
-ghost use Rattle.std.specs.Prelude.{◌≡◌, ◌≤◌, [], false, true, OnOk, OnErr, IfOk, IfErr, IsErrOf, vec_capacity, ◌⊎◌};
-ghost use Rattle.gate_types.specs.Tap.{inside, has_failed, Took, TookFront};
+ghost use Rattle.std.specs.Prelude.{◌≡◌, ◌≤◌, [], false, true, OnOk, IfOk, IfErr, IsErrOf, vec_capacity, ◌⊎◌};
+ghost use Rattle.gate_types.specs.Tap.{inside, has_failed};
 ghost use Rattle.gate_http.specs.Routes.{routes};
 ghost use Rattle.gate_http.specs.Exchange.{AnswersTo, BreaksTo, StopsAt, Waits};
 
