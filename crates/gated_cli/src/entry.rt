@@ -1,9 +1,9 @@
 //! The program over the words of its command line and three streams.
-ghost use Rattle.std.specs.Prelude.{◌≡◌, ◌≢◌, ◌⊎◌, ◌≤◌, OnOk, IfErr, codes, map, true, false};
+ghost use Rattle.std.specs.Prelude.{◌≡◌, ◌⊎◌, ◌≤◌, IfErr, map, true, false};
 ghost use Rattle.clap.specs.Words.{kind_of};
 ghost use Rattle.gate_types.specs.Tap.{has_failed};
 ghost use Rattle.gated_command.specs.CommandLine.{is_help, is_refused, may_be_refused};
-ghost use Rattle.gated_cli.specs.Doing.{Streams, streams};
+ghost use Rattle.gated_cli.specs.Doing.{streams};
 ghost use Rattle.gated_cli.specs.Ending.{Tells};
 ghost use Rattle.gated_cli.specs.Faults.{line_of};
 ghost use Rattle.gated_cli.specs.Program.{Obeys, FailsBy, HelpFails, out_of_memory};

@@ -1,5 +1,5 @@
 //! The texts of a gate, on the output.
-ghost use Rattle.std.specs.Prelude.{◌≡◌, ℕ, List, Ok, OnOk, IfErr, MatchResult, None, option_map, false};
+ghost use Rattle.std.specs.Prelude.{◌≡◌, ℕ, List, Ok, OnOk, IfErr, None, option_map, false};
 ghost use Rattle.gate_types.specs.Tap.{has_failed, Took};
 ghost use Rattle.gate_core.specs.Held.{Goes};
 ghost use Rattle.gated_cli.specs.OverFile.{file_fault};
