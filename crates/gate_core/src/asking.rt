@@ -9,6 +9,7 @@ ghost use Rattle.gate_archive.specs.ItemText.{item_text};
 ghost use Rattle.gate_archive.specs.RunningBuilds.{running_text};
 ghost use Rattle.gate_archive.specs.Writes.{WritesHistoryFrom, WritesFeed, StopsFeed, WritesFeedText, StopsText};
 ghost use Rattle.gate_core.specs.Holding.{IsKeptGate};
+ghost use Rattle.gate_core.specs.Recent.{AfterFault, AfterFeedFault, AfterRefusal};
 
 use crate::gate::Gate;
 use gate_archive::{Archive, FeedFault, write_feed};
@@ -39,6 +40,8 @@ impl<B: Archive> Gate<B> {
             (λ r. (r ≡ Refusal.Unavailable)
             ⊎ ((r ≡ Refusal.UnknownChange) × (known_change x.state number ≡ None)))) }
         ensures refused { IfErr result (λ r. (r ≡ Refusal.Unavailable) ⊎ (r ≡ Refusal.UnknownChange)) }
+        ensures recent { MatchResult result (λ _. self.new.recent ≡ self.old.recent)
+            (AfterRefusal self.old.recent self.new.recent) }
         ensures kept { IsKeptGate B.IsTrusted B.Holds B.LeavesOneOf self.old self.new }
         ensures settings { self.new.config ≡ self.old.config }
     {
@@ -61,6 +64,8 @@ impl<B: Archive> Gate<B> {
         ensures text { OfHeldUnder B.IsTrusted B.Holds self.old.book self.new.book self.old.config (λ x.
             IfOk result (λ found. option_map string_bytes found ≡ item_text self.old.config x.state serial)) }
         ensures unavailable { IfErr result (λ r. r ≡ Refusal.Unavailable) }
+        ensures recent { MatchResult result (λ _. self.new.recent ≡ self.old.recent)
+            (AfterRefusal self.old.recent self.new.recent) }
         ensures kept { IsKeptGate B.IsTrusted B.Holds B.LeavesOneOf self.old self.new }
         ensures settings { self.new.config ≡ self.old.config }
     {
@@ -83,6 +88,8 @@ impl<B: Archive> Gate<B> {
         ensures text { OfHeldUnder B.IsTrusted B.Holds self.old.book self.new.book self.old.config (λ x.
             IfOk result (λ text. string_bytes text ≡ running_text x.state)) }
         ensures unavailable { IfErr result (λ r. r ≡ Refusal.Unavailable) }
+        ensures recent { MatchResult result (λ _. self.new.recent ≡ self.old.recent)
+            (AfterRefusal self.old.recent self.new.recent) }
         ensures kept { IsKeptGate B.IsTrusted B.Holds B.LeavesOneOf self.old self.new }
         ensures settings { self.new.config ≡ self.old.config }
     {
@@ -113,13 +120,13 @@ impl<B: Archive> Gate<B> {
         ensures written { OfHeldUnder B.IsTrusted B.Holds self.old.book self.new.book self.old.config (λ x.
             WritesHistoryFrom x.state queue.now from front.now W.contents w.old w.new result) }
         ensures stops { Stops w.old w.new result }
+        ensures recent { MatchResult result (λ _. self.new.recent ≡ self.old.recent)
+            (AfterFault self.old.recent self.new.recent) }
         ensures kept { IsKeptGate B.IsTrusted B.Holds B.LeavesOneOf self.old self.new }
         ensures settings { self.new.config ≡ self.old.config }
     {
         let told = self.book.history_from(queue, from, front, w);
-        if told.is_err() {
-            self.recent.clear();
-        }
+        self.recent.heed_history(&told);
         told
     }
 
@@ -142,13 +149,13 @@ impl<B: Archive> Gate<B> {
         ensures written { OfHeldUnder B.IsTrusted B.Holds self.old.book self.new.book self.old.config (λ x.
             WritesFeedText x.kept after front.now W.contents w.old w.new result) }
         ensures stops { StopsText w.old w.new result }
+        ensures recent { MatchResult result (λ _. self.new.recent ≡ self.old.recent)
+            (AfterFeedFault self.old.recent self.new.recent) }
         ensures kept { IsKeptGate B.IsTrusted B.Holds B.LeavesOneOf self.old self.new }
         ensures settings { self.new.config ≡ self.old.config }
     {
         let told = write_feed(alloc, &mut self.book, after, front, w);
-        if told.is_err() {
-            self.recent.clear();
-        }
+        self.recent.heed_feed(&told);
         told
     }
 
@@ -167,13 +174,13 @@ impl<B: Archive> Gate<B> {
         ensures written { OfHeldUnder B.IsTrusted B.Holds self.old.book self.new.book self.old.config (λ x.
             WritesFeed x.kept after 18446744073709551615 [] W.contents w.old w.new result) }
         ensures stops { StopsFeed w.old w.new result }
+        ensures recent { MatchResult result (λ _. self.new.recent ≡ self.old.recent)
+            (AfterFeedFault self.old.recent self.new.recent) }
         ensures kept { IsKeptGate B.IsTrusted B.Holds B.LeavesOneOf self.old self.new }
         ensures settings { self.new.config ≡ self.old.config }
     {
         let told = self.book.deliveries(after, ALL, b"", w);
-        if told.is_err() {
-            self.recent.clear();
-        }
+        self.recent.heed_feed(&told);
         told
     }
 }

@@ -7,7 +7,7 @@ ghost use Rattle.gate_book_trait.specs.Faults.{MayAnswer};
 ghost use Rattle.gate_book_trait.specs.Kept.{OfHeldUnder};
 ghost use Rattle.gate_ruling.specs.Faults.{MayRule};
 ghost use Rattle.gate_core.specs.Answered.{Answered, call};
-ghost use Rattle.gate_core.specs.Recent.{IsTrueOf};
+ghost use Rattle.gate_core.specs.Recent.{IsTrueOf, KeepsNothing};
 
 use crate::accepting::accept;
 use crate::recent::Recent;
@@ -40,6 +40,8 @@ pub fn deliver<B: Book>(
     ensures recent { OfHeldUnder B.IsTrusted B.Holds book.old book.new config.now (λ x.
         IsTrueOf recent.old config.now x → IsTrueOf recent.new config.now
         (next_content config.now x (call id delivery.now (is_unavailable result)))) }
+    ensures forgets { OfHeldUnder B.IsTrusted B.Holds book.old book.new config.now (λ _.
+        is_unavailable result ≡ true → KeepsNothing recent.new) }
     ensures trusted { B.IsTrusted book.new → B.IsTrusted book.old }
 {
     match answer(alloc, book, recent, config, id, delivery) {

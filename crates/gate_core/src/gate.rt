@@ -1,5 +1,6 @@
 //! The gate: each delivery is exactly one step of the plain gate.
-ghost use Rattle.std.specs.Prelude.{◌≡◌, ◌⊎◌, false, None, Some, option_map, IfOk, IfErr, MatchResult, string_bytes};
+ghost use Rattle.std.specs.Prelude.{◌≡◌, ◌⊎◌, false, true, None, Some, option_map, string_bytes};
+ghost use Rattle.std.specs.Prelude.{IfOk, IfErr, OnOk, MatchResult};
 ghost use Rattle.gate_types.specs.BuildText.{build_text};
 ghost use Rattle.gate_types.specs.Once.{Content, is_unavailable};
 ghost use Rattle.gate_types.specs.OrderList.{order_list_text};
@@ -11,6 +12,7 @@ ghost use Rattle.gate_book_trait.specs.Writes.{WritesHistory, Stops};
 ghost use Rattle.gate_core.specs.Answered.{Answered, call};
 ghost use Rattle.gate_core.specs.Holding.{GateHolds, OfGate, IsKeptGate};
 ghost use Rattle.gate_core.specs.Landing.{LandsRightly};
+ghost use Rattle.gate_core.specs.Recent.{AfterFault, AfterRefusal, KeepsNothing};
 
 use crate::delivering::deliver;
 use crate::recent::Recent;
@@ -73,6 +75,8 @@ impl<B: Book> Gate<B> {
             (B.LeavesOneOf self.new.book self.old.config)) }
         ensures lands { OfGate B.IsTrusted B.Holds self.old self.new (λ x.
             LandsRightly self.old.config x (call id delivery (is_unavailable result)) result) }
+        ensures forgets { OfGate B.IsTrusted B.Holds self.old self.new (λ _.
+            is_unavailable result ≡ true → KeepsNothing self.new.recent) }
         ensures trusted { B.IsTrusted self.new.book → B.IsTrusted self.old.book }
         ensures settings { self.new.config ≡ self.old.config }
     {
@@ -100,6 +104,9 @@ impl<B: Book> Gate<B> {
         ensures text { OfGate B.IsTrusted B.Holds self.old self.new (λ x.
             IfOk result (λ text. string_bytes text ≡ order_list_text self.old.config x.state)) }
         ensures unavailable { IfErr result (λ r. r ≡ Refusal.Unavailable) }
+        ensures forgets { IfErr result (λ _. KeepsNothing self.new.recent) }
+        ensures keeps { OnOk result ((self.new.recent.status ≡ self.old.recent.status)
+            × (self.new.recent.idle ≡ self.old.recent.idle)) }
         ensures kept { IsKeptGate B.IsTrusted B.Holds B.LeavesOneOf self.old self.new }
         ensures settings { self.new.config ≡ self.old.config }
     {
@@ -129,6 +136,8 @@ impl<B: Book> Gate<B> {
             MatchResult result (λ text. option_map build_text (build_of x.state number) ≡ Some (string_bytes text))
             (λ r. (r ≡ Refusal.Unavailable) ⊎ ((r ≡ Refusal.UnknownBuild) × (build_of x.state number ≡ None)))) }
         ensures refused { IfErr result (λ r. (r ≡ Refusal.Unavailable) ⊎ (r ≡ Refusal.UnknownBuild)) }
+        ensures recent { MatchResult result (λ _. self.new.recent ≡ self.old.recent)
+            (AfterRefusal self.old.recent self.new.recent) }
         ensures kept { IsKeptGate B.IsTrusted B.Holds B.LeavesOneOf self.old self.new }
         ensures settings { self.new.config ≡ self.old.config }
     {
@@ -151,6 +160,9 @@ impl<B: Book> Gate<B> {
         ensures text { OfGate B.IsTrusted B.Holds self.old self.new (λ x.
             IfOk result (λ text. string_bytes text ≡ status_text self.old.config x.state)) }
         ensures unavailable { IfErr result (λ r. r ≡ Refusal.Unavailable) }
+        ensures forgets { IfErr result (λ _. KeepsNothing self.new.recent) }
+        ensures keeps { OnOk result ((self.new.recent.orders ≡ self.old.recent.orders)
+            × (self.new.recent.idle ≡ self.old.recent.idle)) }
         ensures kept { IsKeptGate B.IsTrusted B.Holds B.LeavesOneOf self.old self.new }
         ensures settings { self.new.config ≡ self.old.config }
     {
@@ -186,13 +198,13 @@ impl<B: Book> Gate<B> {
         ensures written { OfHeldUnder B.IsTrusted B.Holds self.old.book self.new.book self.old.config (λ x.
             WritesHistory x.state queue.now front.now W.contents w.old w.new result) }
         ensures stops { Stops w.old w.new result }
+        ensures recent { MatchResult result (λ _. self.new.recent ≡ self.old.recent)
+            (AfterFault self.old.recent self.new.recent) }
         ensures kept { IsKeptGate B.IsTrusted B.Holds B.LeavesOneOf self.old self.new }
         ensures settings { self.new.config ≡ self.old.config }
     {
         let told = self.book.history(queue, front, w);
-        if told.is_err() {
-            self.recent.clear();
-        }
+        self.recent.heed_history(&told);
         told
     }
 }

@@ -1,5 +1,5 @@
 //! What a gate last said, kept to be said again while nothing has changed.
-ghost use Rattle.std.specs.Prelude.{◌≡◌, IfSome, IsTrue, None, Some};
+ghost use Rattle.std.specs.Prelude.{◌≡◌, IfSome, IsTrue, MatchResult, None, Some};
 ghost use Rattle.gate_types.specs.Choice.{choose};
 ghost use Rattle.gate_types.specs.Once.{Content};
 ghost use Rattle.gate_types.specs.OrderList.{order_list_text};
@@ -7,8 +7,10 @@ ghost use Rattle.gate_types.specs.Settings.{Settings};
 ghost use Rattle.gate_types.specs.State.{State};
 ghost use Rattle.gate_types.specs.Status.{status_text};
 ghost use Rattle.gate_types.specs.Step.{step, refused};
-ghost use Rattle.gate_core.specs.Recent.{IsTrueOf};
+ghost use Rattle.gate_core.specs.Recent.{AfterFault, AfterFeedFault, IsTrueOf, KeepsNothing};
 
+use gate_archive::FeedFault;
+use gate_book_trait::HistoryFault;
 use gate_types::deliveries::{Delivery, Refusal};
 use gate_types::names::Text;
 
@@ -44,7 +46,8 @@ fn says_idle(delivery: &Delivery, refusal: Refusal) -> bool
 impl Recent {
     /// Nothing is kept yet.
     pub(crate) fn new() -> Recent
-        ensures { (c : Settings) (x : Content) → IsTrueOf result c x }
+        ensures nothing { KeepsNothing result }
+        ensures holds { (c : Settings) (x : Content) → IsTrueOf result c x }
     {
         Recent {
             status: None,
@@ -55,9 +58,30 @@ impl Recent {
 
     /// Keeps nothing of what was said so far.
     pub(crate) fn clear(&mut self)
-        ensures { (c : Settings) (x : Content) → IsTrueOf self.new c x }
+        ensures nothing { KeepsNothing self.new }
+        ensures holds { (c : Settings) (x : Content) → IsTrueOf self.new c x }
     {
         *self = Recent::new();
+    }
+
+    /// Keeps nothing once a fault of the book ended a history.
+    pub(crate) fn heed_history(&mut self, told: &Result<(), HistoryFault>)
+        ensures kept { MatchResult told.now (λ _. self.new ≡ self.old) (AfterFault self.old self.new) }
+        ensures holds { (c : Settings) (x : Content) → IsTrueOf self.old c x → IsTrueOf self.new c x }
+    {
+        if let Err(HistoryFault::Unavailable | HistoryFault::Broken) = told {
+            self.clear();
+        }
+    }
+
+    /// Keeps nothing once a fault of the book ended a list of deliveries.
+    pub(crate) fn heed_feed<T>(&mut self, told: &Result<T, FeedFault>)
+        ensures kept { MatchResult told.now (λ _. self.new ≡ self.old) (AfterFeedFault self.old self.new) }
+        ensures holds { (c : Settings) (x : Content) → IsTrueOf self.old c x → IsTrueOf self.new c x }
+    {
+        if let Err(FeedFault::Unavailable | FeedFault::Broken) = told {
+            self.clear();
+        }
     }
 
     /// The status text, where it is kept and memory allows to copy it.
@@ -70,8 +94,9 @@ impl Recent {
 
     /// Keeps the status text, where memory allows.
     pub(crate) fn keep_status(&mut self, text: &Text)
-        ensures { (c : Settings) (x : Content) → text.now ≡ status_text c x.state → IsTrueOf self.old c x →
+        ensures holds { (c : Settings) (x : Content) → text.now ≡ status_text c x.state → IsTrueOf self.old c x →
             IsTrueOf self.new c x }
+        ensures rest { (self.new.orders ≡ self.old.orders) × (self.new.idle ≡ self.old.idle) }
     {
         if let Ok(copy) = text.copy() {
             self.status = Some(copy);
@@ -88,8 +113,9 @@ impl Recent {
 
     /// Keeps the text of the orders, where memory allows.
     pub(crate) fn keep_orders(&mut self, text: &Text)
-        ensures { (c : Settings) (x : Content) → text.now ≡ order_list_text c x.state → IsTrueOf self.old c x →
+        ensures holds { (c : Settings) (x : Content) → text.now ≡ order_list_text c x.state → IsTrueOf self.old c x →
             IsTrueOf self.new c x }
+        ensures rest { (self.new.status ≡ self.old.status) × (self.new.idle ≡ self.old.idle) }
     {
         if let Ok(copy) = text.copy() {
             self.orders = Some(copy);

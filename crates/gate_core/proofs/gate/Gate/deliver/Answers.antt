@@ -21,3 +21,7 @@ returns-clause-lands g c trusted x held lawful =
     let sound : are_sound c.args.self.now.config ≡ true = search rules in
     let h = c.deliver.ensures.answered trusted x held.book lawful (held.recent lawful) in
     lands_rightly c.a_shown_order_stays.ensures c.only_shown_orders_are_answered.ensures _ x _ _ sound lawful h.lawful h.answer
+
+pub returns-clause-forgets : goal.returns-clause-forgets
+returns-clause-forgets g c trusted x held lawful unavailable =
+    c.deliver.ensures.forgets trusted x held.book lawful unavailable
