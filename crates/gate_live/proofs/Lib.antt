@@ -1,6 +1,18 @@
 pub mod LiveLemmas
 pub mod ReadLemmas
+mod KeptLemmas
 mod HeldLemmas
 mod RisingLemmas
 mod FilledLemmas
+pub mod CommuteLemmas
+mod RoomLemmas
+mod HeldBuildLemmas
+mod HeldPlanLemmas
+mod HeldChangeLemmas
+mod ChangeEditLemmas
+mod ReadChangeLemmas
+mod ForgetLemmas
 mod BookLemmas
+mod LiveChangeLemmas
+mod BothLemmas
+mod PartLemmas

@@ -1,4 +1,4 @@
--- The items of a lawful content's queue rise by serial, each after its columns are worked out.
+-- The items of a lawful content's queue rise by serial, each after its columns are worked out, and its builds by number.
 use Rattle.std.proofs.Common.{◌≡◌, ℕ, suc, Some, List, [], ◌∷◌, map, sym, arith}
 use Rattle.std.specs.List.Sorted.{IsStrictlyIncreasing}
 use Rattle.gate_types.specs.declared.records.Build.{Build}
@@ -11,6 +11,7 @@ use Rattle.gate_types.specs.Rows.{row_of, item_rows}
 use Rattle.gate_types.specs.Once.{Content}
 use Rattle.gate_types.specs.Forms.{IsLawfulContent}
 use Rattle.gate_memory.specs.Queues.{serial_of}
+use Rattle.gate_memory.specs.Builds.{number_of}
 use Rattle.gate_book_trait.specs.Reads as read
 use Rattle.gate_book_trait.specs.Rising.{RisesFrom}
 use Rattle.gate_book_trait.proofs.Finding.{all_found}
@@ -39,3 +40,13 @@ items_rise c x name q lawful named =
     let all = all_rows (λ (r : Queue). IsStrictlyIncreasing (map item_serial r.items)) s.queues lawful.lawful.sound.items_rise in
     let up : IsStrictlyIncreasing (map item_serial q.items) = all_found (λ (r : Queue). IsStrictlyIncreasing (map item_serial r.items)) (λ (r : Queue). same_name r.name name) s.queues q all (sym named) in
     rows_rise s.builds [] 0 (map (place_of c s q) q.items) (places_rise c s q 0 q.items (numbers_rise 0 (map item_serial q.items) (λ h. omega arith) up))
+
+-- ---- builds
+
+rise_by_numbers : (m : ℕ) (builds : List Build) → RisesFrom (λ (n : ℕ). n) m (map number_of builds) → RisesFrom number_of m builds
+rise_by_numbers m [] up = tt
+rise_by_numbers m (b ∷ bs) up = (up.0, rise_by_numbers (suc b.number) bs up.1)
+
+pub builds_rise : (c : Settings) (x : Content) → IsLawfulContent c x → RisesFrom number_of 0 x.state.builds
+builds_rise c x lawful =
+    rise_by_numbers 0 x.state.builds (numbers_rise 0 (map number_of x.state.builds) (λ h. omega arith) lawful.lawful.sound.builds_rise)

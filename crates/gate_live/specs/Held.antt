@@ -1,4 +1,4 @@
--- How a book holds what is live.
+-- How the live rows of queues, and the counters, are held in memory.
 use Rattle.std.specs.Prelude.{ℕ, ◌≡◌, map, min, Option, IfSome}
 use Rattle.std.specs.List.{AllByRecursion}
 use Rattle.gate_types.specs.Settings.{Settings}
@@ -11,19 +11,19 @@ use Rattle.gate_live.specs.declared.held_queue.HeldQueue.{HeldQueue}
 use Rattle.gate_live.specs.declared.held.LastNumbers.{LastNumbers}
 use Rattle.gate_live.specs.declared.held.Held.{Held}
 
--- what is held of a queue
+-- the live rows of a held queue
 abbrev pub queue_of : HeldQueue → LiveQueue
 queue_of h = record { rows = bare (queue.rows_of h.table); landings = h.landings; reports = h.reports }
 
--- the last numbers drawn
+-- the last numbers drawn, as counters
 abbrev pub drawn_of : LastNumbers → Drawn
 drawn_of d = record { approval = d.approval; build = d.build; order = d.order }
 
--- all that is held
+-- the live rows of all held queues, and the counters
 abbrev pub live_of : Held → LiveTables
 live_of h = record { queues = map queue_of h.queues.items; counters = drawn_of h.drawn }
 
--- the counters, none above the last number
+-- the counters, each capped at the largest number that is drawn
 abbrev pub within : Drawn → Drawn
 within d = record {
   approval = min d.approval 1000000000000000;
@@ -31,22 +31,22 @@ within d = record {
   order = min d.order 1000000000000000;
 }
 
--- room for n more rows in a queue
+-- a held queue has room for n more rows
 abbrev pub HasRoomIn : ℕ → HeldQueue → Type 0
 HasRoomIn n q = queue.HasRoom n q.table
 
--- and in each
+-- each held queue has room for n more rows
 abbrev pub HasRoom : ℕ → Held → Type 0
 HasRoom n h = AllByRecursion (HasRoomIn n) h.queues.items
 
--- a queue is kept as its table says
+-- the table of a held queue satisfies its invariant
 abbrev pub IsKeptQueue : HeldQueue → Type 0
 IsKeptQueue q = queue.IsKept q.table
 
--- and so is each
+-- the table of each held queue satisfies its invariant
 abbrev pub AreKept : Held → Type 0
 AreKept h = AllByRecursion IsKeptQueue h.queues.items
 
--- what is held, if anything is, is what is live of a content
-abbrev pub Agrees : Option LiveTables → Settings → Content → Type 0
-Agrees live c x = IfSome live (λ l. l ≡ live_tables (tables c x))
+-- the queues and counters, if they are held, are the live ones of a content
+abbrev pub IsLiveOf : Option LiveTables → Settings → Content → Type 0
+IsLiveOf live c x = IfSome live (λ l. l ≡ live_tables (tables c x))

@@ -1,4 +1,5 @@
-//! What a book over another one is asked for of the past: the book below answers.
+//! Reads of past rows (`Archive`). The book below answers them all, since only live rows are held in memory.
+use crate::faults::told;
 use crate::live_book::LiveBook;
 use gate_archive::{Archive, BuildSummary, FeedFault, LeftItem};
 use gate_book_trait::{BookFault, HistoryFault};
@@ -10,11 +11,11 @@ use std::io::Write;
 
 impl<B: Archive> Archive for LiveBook<B> {
     fn left(&mut self, serial: Serial) -> Result<Option<LeftItem>, BookFault> {
-        Ok(self.book.left(serial)?)
+        told(&mut self.live, self.alloc, self.book.left(serial))
     }
 
     fn build_count(&mut self, serial: Serial) -> Result<u64, BookFault> {
-        Ok(self.book.build_count(serial)?)
+        told(&mut self.live, self.alloc, self.book.build_count(serial))
     }
 
     fn last_builds(
@@ -22,7 +23,11 @@ impl<B: Archive> Archive for LiveBook<B> {
         serial: Serial,
         most: u32,
     ) -> Result<Sequence<BuildSummary>, BookFault> {
-        Ok(self.book.last_builds(serial, most)?)
+        told(
+            &mut self.live,
+            self.alloc,
+            self.book.last_builds(serial, most),
+        )
     }
 
     fn history_from<W: Write>(
@@ -32,7 +37,11 @@ impl<B: Archive> Archive for LiveBook<B> {
         front: &[u8],
         w: &mut Tap<W>,
     ) -> Result<(), HistoryFault> {
-        self.book.history_from(queue, from, front, w)
+        told(
+            &mut self.live,
+            self.alloc,
+            self.book.history_from(queue, from, front, w),
+        )
     }
 
     fn deliveries<W: Write>(
@@ -42,6 +51,10 @@ impl<B: Archive> Archive for LiveBook<B> {
         front: &[u8],
         w: &mut Tap<W>,
     ) -> Result<u64, FeedFault> {
-        self.book.deliveries(after, most, front, w)
+        told(
+            &mut self.live,
+            self.alloc,
+            self.book.deliveries(after, most, front, w),
+        )
     }
 }

@@ -1,4 +1,4 @@
-//! What is live is read from the book below.
+//! Reads the live rows of the book below into memory.
 ghost use Rattle.std.specs.Prelude.{◌≡◌, [], map, option_map, Some, IfErr, IfOk, IfSome};
 ghost use Rattle.std.specs.List.{AllByRecursion};
 ghost use Rattle.gate_types.specs.Tables.{tables};
@@ -8,9 +8,10 @@ ghost use Rattle.gate_book_trait.specs.Kept.{OfHeld, OfHeldUnder, IsKept};
 ghost use Rattle.gate_book_trait.specs.Rising.{RisesFrom};
 ghost use Rattle.gate_book_trait.specs.RowReads.{rows_named};
 ghost use Rattle.gate_live.specs.Live.{live_queue};
-ghost use Rattle.gate_live.specs.Held.{Agrees, AreKept, IsKeptQueue, live_of, queue_of};
+ghost use Rattle.gate_live.specs.Held.{AreKept, IsKeptQueue, IsLiveOf, live_of, queue_of};
 ghost use Rattle.gate_live.specs.Both.{IsKeptUnder};
 
+use crate::change_reads::read_ready;
 use crate::held::Held;
 use crate::held_queue::HeldQueue;
 use crate::live::Live;
@@ -22,7 +23,7 @@ use gate_types::names::{Name, NoMemory};
 use gate_types::records::Item;
 use std::alloc::Global;
 
-/// What is live of a queue with these items, which rise by serial.
+/// Collects the live rows of a queue from these items, which are sorted by serial. Fails if memory is refused.
 fn queue_with(
     alloc: Global,
     name: &Name,
@@ -51,7 +52,8 @@ fn queue_with(
     Ok(queue)
 }
 
-/// What is live of a queue, if the book has one of this name.
+/// Reads the live rows of a queue. `None` if the book has no queue of this name. Fails if the book does or memory is
+/// refused.
 fn read_queue<B: Book>(
     alloc: Global,
     book: &mut B,
@@ -73,7 +75,8 @@ fn read_queue<B: Book>(
     Ok(Some(queue))
 }
 
-/// What is live of all queues of the settings, if the book has them.
+/// Reads the live rows of all queues in the settings. `None` if the book lacks one of them. Fails if the book does or
+/// memory is refused.
 fn read_queues<B: Book>(
     alloc: Global,
     book: &mut B,
@@ -97,14 +100,15 @@ fn read_queues<B: Book>(
     Ok(Some(queues))
 }
 
-/// All that is live; nothing where the book hasn't the queues of these settings.
+/// Reads the live rows of all queues, and the counters. `None` if the book lacks a queue of these settings. Fails if
+/// the book does or memory is refused.
 fn read_all<B: Book>(
     alloc: Global,
     book: &mut B,
     config: &Config,
 ) -> Result<Option<Held>, BookFault>
     ensures found { OfHeldUnder B.IsTrusted B.Holds book.old book.new config.now (λ x.
-        IfOk result (λ held. Agrees (option_map live_of held) config.now x)) }
+        IfOk result (λ held. IsLiveOf (option_map live_of held) config.now x)) }
     ensures sound { IfOk result (λ held. IfSome held AreKept) }
     ensures kept { IsKept B.IsTrusted B.Holds B.LeavesOneOf book.old book.new }
     ensures fault { IfErr result (MayAnswer B.MayFault) }
@@ -117,14 +121,18 @@ fn read_all<B: Book>(
 }
 
 impl<B: Book> LiveBook<B> {
-    /// Reads what is live, under the settings in force, and holds it from now on. After a fault nothing is held.
+    /// Reads the live rows under the settings in force and holds them from then on. Drops all that was held before, so
+    /// after a fault nothing is held. If the book lacks a queue of the settings, no queue is held; if it lacks a change
+    /// of its own ready list, no change is held. Fails with the book's fault (`Store` if its store fails, `Damaged` if
+    /// a row isn't of its form), or with `NoMemory` if memory is refused.
     pub fn fill(&mut self, config: &Config) -> Result<(), BookFault>
         ensures kept { IsKeptUnder B.IsTrusted B.Holds B.LeavesOneOf config.now self.old self.new }
         ensures fault { IfErr result (MayAnswer B.MayFault) }
     {
-        self.live = Live::new();
+        self.live = Live::new(self.alloc);
         let held = read_all(self.alloc, &mut self.book, config)?;
-        self.live = Live::of(held);
+        let changes = read_ready(self.alloc, &mut self.book)?;
+        self.live = Live::of(self.alloc, held, changes);
         Ok(())
     }
 }

@@ -1,15 +1,17 @@
-//! All that is held.
+//! The live rows of all queues, and the counters, held in memory.
 ghost use Rattle.std.specs.Prelude.{◌≡◌, ◌==◌, ℕ, suc, find, length, map, option_map, IfOk, IfSome, OnOk};
 ghost use Rattle.std.specs.List.{AllByRecursion};
 ghost use Rattle.std.specs.Option.{option_copied, option_map_or};
 ghost use Rattle.gate_types.specs.Names.{same_name};
 ghost use Rattle.gate_types.specs.Tables.{set_counter, edited_counters};
 ghost use Rattle.gate_book_trait.specs.Reads as read;
+ghost use Rattle.gate_memory.specs.Queues as queue_table;
 ghost use Rattle.gate_live.specs.Live.{edited_live, edited_live_queue, fold_live, live_named, live_items, live_queued};
 ghost use Rattle.gate_live.specs.Held.{HasRoom, HasRoomIn, AreKept, IsKeptQueue, drawn_of, live_of, queue_of, within};
 
 use crate::held_queue::HeldQueue;
 use gate_book_trait::QueuedItem;
+use gate_memory::QueueTable;
 use gate_types::edits::{Counter, Edit};
 use gate_types::names::{Name, NoMemory};
 use gate_types::numbers::{ChangeNo, Serial};
@@ -17,10 +19,10 @@ use gate_types::records::{Counters, Item};
 use gate_types::sequence::Sequence;
 use std::alloc::{AllocError, Global};
 
-/// The last number that is ever drawn.
+/// The largest number that is ever drawn.
 const LAST_NUMBER: u64 = 1_000_000_000_000_000;
 
-/// The last number drawn of each kind, as edits set them.
+/// The last number drawn of each kind, as edits set it: it may exceed `LAST_NUMBER`.
 #[derive(Clone, Copy)]
 struct LastNumbers {
     approval: u64,
@@ -28,7 +30,7 @@ struct LastNumbers {
     order: u64,
 }
 
-/// What is live: the queues in the order of the settings, and the last numbers drawn.
+/// The held queues, in the order of the settings, and the last numbers drawn.
 #[derive(Drop)]
 pub struct Held {
     queues: Vec<HeldQueue>,
@@ -45,7 +47,7 @@ fn set_counter(drawn: &mut LastNumbers, counter: Counter, number: u64)
     }
 }
 
-/// An edit of the last numbers drawn; it leaves them if it sets none.
+/// Applies an edit to the last numbers drawn. An edit that sets no counter changes nothing.
 fn apply_to_drawn(drawn: &mut LastNumbers, edit: &Edit)
     ensures { drawn_of drawn.new ≡ edited_counters (drawn_of drawn.old) edit.now }
 {
@@ -58,7 +60,8 @@ fn apply_to_drawn(drawn: &mut LastNumbers, edit: &Edit)
     }
 }
 
-/// Makes room for `n` more items in each queue.
+/// Allocates room for `n` more items in each queue. Fails if memory is refused. Either way, the held rows stay
+/// unchanged.
 fn make_queues_room(queues: &mut Vec<HeldQueue>, n: usize) -> Result<(), AllocError>
     requires { AllByRecursion IsKeptQueue queues.old.items }
     ensures rows { map queue_of queues.new.items ≡ map queue_of queues.old.items }
@@ -71,7 +74,7 @@ fn make_queues_room(queues: &mut Vec<HeldQueue>, n: usize) -> Result<(), AllocEr
     Ok(())
 }
 
-/// One edit of each queue, where there is room.
+/// Applies an edit to each queue. Each queue must have room for one more item.
 fn apply_to_queues(queues: &mut Vec<HeldQueue>, edit: &Edit)
     requires kept { AllByRecursion IsKeptQueue queues.old.items }
     requires room { AllByRecursion (HasRoomIn 1) queues.old.items }
@@ -85,7 +88,7 @@ fn apply_to_queues(queues: &mut Vec<HeldQueue>, edit: &Edit)
     }
 }
 
-/// The queue of a name.
+/// Finds the queue of this name.
 fn queue_in<'a>(queues: &'a [HeldQueue], name: &str) -> Option<&'a HeldQueue>
     requires { AllByRecursion IsKeptQueue queues.now }
     ensures found { option_copied result ≡ find (λ q. same_name (queue_of q).rows.name name.now) queues.now }
@@ -94,7 +97,7 @@ fn queue_in<'a>(queues: &'a [HeldQueue], name: &str) -> Option<&'a HeldQueue>
     queues.iter().find(|queue| queue.has_name(name))
 }
 
-/// The item of a serial, in whichever queue it stands.
+/// Finds the item with this serial, in any of the queues.
 fn item_in(queues: &[HeldQueue], serial: Serial) -> Option<&Item>
     requires { AllByRecursion IsKeptQueue queues.now }
     ensures { option_copied result ≡ option_map (λ k. k.item)
@@ -108,7 +111,7 @@ fn item_in(queues: &[HeldQueue], serial: Serial) -> Option<&Item>
     None
 }
 
-/// The item of a change, with the name of its queue.
+/// Finds the item of a change, with the name of its queue. Fails if memory for the name is refused.
 fn queued_in(queues: &[HeldQueue], change: ChangeNo) -> Result<Option<QueuedItem>, NoMemory>
     requires { AllByRecursion IsKeptQueue queues.now }
     ensures { IfOk result (λ found. found
@@ -138,7 +141,7 @@ impl Held {
         }
     }
 
-    /// Makes room for `n` edits. What is held stays, whatever the result.
+    /// Allocates room for `n` edits. Fails if memory is refused. Either way, the held rows stay unchanged.
     pub(crate) fn make_room(&mut self, n: usize) -> Result<(), AllocError>
         requires { AreKept self.old }
         ensures rows { live_of self.new ≡ live_of self.old }
@@ -149,7 +152,7 @@ impl Held {
         Ok(())
     }
 
-    /// One edit, where there is room.
+    /// Applies an edit. Each queue must have room for one more item.
     fn apply(&mut self, edit: &Edit)
         requires kept { AreKept self.old }
         requires room { HasRoom 1 self.old }
@@ -161,7 +164,7 @@ impl Held {
         apply_to_drawn(&mut self.drawn, edit);
     }
 
-    /// All edits, where there is room.
+    /// Applies all edits. Each queue must have room for one more item per edit, so this can't fail.
     pub(crate) fn apply_all(&mut self, edits: &[Edit])
         requires kept { AreKept self.old }
         requires room { HasRoom (length edits.now) self.old }
@@ -173,7 +176,7 @@ impl Held {
         }
     }
 
-    /// The queue that is called so, if one is.
+    /// Finds the queue of this name, given as text.
     fn queue_called(&self, name: &str) -> Option<&HeldQueue>
         requires { AreKept self.now }
         ensures found { option_map queue_of (option_copied result) ≡ live_named (live_of self.now).queues name.now }
@@ -182,13 +185,34 @@ impl Held {
         queue_in(&self.queues, name)
     }
 
-    /// The queue of a name.
+    /// Finds the queue of this name.
     fn queue_named(&self, name: &Name) -> Option<&HeldQueue>
         requires { AreKept self.now }
         ensures found { option_map queue_of (option_copied result) ≡ live_named (live_of self.now).queues name.now }
         ensures kept { IfSome result (λ q. IsKeptQueue q.now) }
     {
         self.queue_called(name.as_str())
+    }
+
+    pub(crate) fn queues(&self) -> &[HeldQueue]
+        requires { AreKept self.now }
+        ensures rows { map queue_of result.now ≡ (live_of self.now).queues }
+        ensures kept { AllByRecursion IsKeptQueue result.now }
+    {
+        &self.queues
+    }
+
+    /// The table of a queue: its window and its items. `None` if no queue has the name.
+    pub(crate) fn table_of(&self, queue: &Name) -> Option<&QueueTable>
+        requires { AreKept self.now }
+        ensures items { IfSome result (λ table. (queue_table.rows_of table.now).items
+            ≡ live_items (live_of self.now).queues queue.now) }
+        ensures kept { IfSome result (λ table. queue_table.IsKept table.now) }
+    {
+        match self.queue_named(queue) {
+            Some(queue) => Some(queue.table()),
+            None => None,
+        }
     }
 
     pub(crate) fn window(&self, queue: &Name) -> Option<u32>
@@ -294,7 +318,28 @@ impl Held {
         }
     }
 
-    /// The last numbers drawn, none above the last that there is.
+    /// The items of a queue with serials above `above`, up to and including `last`. Fails if memory is refused.
+    pub(crate) fn items_between(
+        &self,
+        alloc: Global,
+        queue: &Name,
+        above: u64,
+        last: Serial,
+    ) -> Result<Sequence<Item>, NoMemory>
+        requires { AreKept self.now }
+        ensures { IfOk result (λ found. found
+            ≡ read.items_between above last (live_items (live_of self.now).queues queue.now)) }
+    {
+        match self.queue_named(queue) {
+            Some(queue) => {
+                let items = Vec::from_slice(alloc, queue.table().items_between(above, last))?;
+                Ok(Sequence::from_vec(items))
+            }
+            None => Ok(Sequence::new(alloc)),
+        }
+    }
+
+    /// The last numbers drawn, each capped at `LAST_NUMBER`.
     pub(crate) fn counters(&self) -> Counters
         ensures { result ≡ within (live_of self.now).counters }
     {

@@ -1,4 +1,4 @@
-//! What is held of one queue.
+//! The live rows of one queue, held in memory.
 ghost use Rattle.std.specs.Prelude.{◌≡◌, ◌==◌, ℕ, suc, [], max, if◌then◌else◌, find, option_map, IfOk, OnOk};
 ghost use Rattle.std.specs.Option.{option_copied};
 ghost use Rattle.gate_types.specs.Names.{same_name};
@@ -14,7 +14,7 @@ use gate_types::numbers::{ChangeNo, Serial};
 use gate_types::records::Item;
 use std::alloc::{AllocError, Global};
 
-/// The window and the items of a queue, and how many landings and reports it has.
+/// The window and the items of a queue, and its numbers of landings and reports.
 #[derive(Drop)]
 pub struct HeldQueue {
     table: QueueTable,
@@ -22,7 +22,7 @@ pub struct HeldQueue {
     reports: u64,
 }
 
-/// The later of two places, if it is this queue's.
+/// The larger of `place` and `last` if an edit of `queue` concerns the queue called `name`; otherwise `last`.
 fn last_place(queue: &Name, name: &str, place: u64, last: u64) -> u64
     ensures { result ≡ (if same_name queue.now name.now then max place last else last) }
 {
@@ -34,7 +34,7 @@ fn last_place(queue: &Name, name: &str, place: u64, last: u64) -> u64
 }
 
 impl HeldQueue {
-    /// A queue without items.
+    /// Creates a queue without items.
     pub(crate) fn new(
         alloc: Global,
         name: Name,
@@ -56,7 +56,7 @@ impl HeldQueue {
         }
     }
 
-    /// Makes room for `n` more items. What is held stays, whatever the result.
+    /// Allocates room for `n` more items. Fails if memory is refused. Either way, the held rows stay unchanged.
     pub(crate) fn make_room(&mut self, n: usize) -> Result<(), AllocError>
         requires { IsKeptQueue self.old }
         ensures rows { queue_of self.new ≡ queue_of self.old }
@@ -67,7 +67,7 @@ impl HeldQueue {
         Ok(())
     }
 
-    /// One edit, where there is room; it leaves the queue if it isn't of its rows.
+    /// Applies an edit. An edit of other rows changes nothing. There must be room for one more item.
     pub(crate) fn apply(&mut self, edit: &Edit)
         requires kept { IsKeptQueue self.old }
         requires room { HasRoomIn 1 self.old }
@@ -92,7 +92,7 @@ impl HeldQueue {
         self.table.has_name(name)
     }
 
-    /// The item of a serial.
+    /// Finds the item with this serial.
     pub(crate) fn item(&self, serial: Serial) -> Option<&Item>
         requires { IsKeptQueue self.now }
         ensures { option_copied result ≡ find (λ i. i.serial == serial) (queue_of self.now).rows.items }
@@ -100,7 +100,7 @@ impl HeldQueue {
         self.table.item(serial)
     }
 
-    /// The item of a change, with the name of this queue.
+    /// Finds the item of a change, with the name of this queue. Fails if memory for the name is refused.
     pub(crate) fn queued(&self, change: ChangeNo) -> Result<Option<QueuedItem>, NoMemory>
         requires { IsKeptQueue self.now }
         ensures { IfOk result (λ found. found
@@ -110,7 +110,7 @@ impl HeldQueue {
         self.table.queued(change)
     }
 
-    /// Its window and its items.
+    /// The table of this queue: its window and its items.
     pub(crate) fn table(&self) -> &QueueTable
         requires { IsKeptQueue self.now }
         ensures table { result.now ≡ self.now.table }

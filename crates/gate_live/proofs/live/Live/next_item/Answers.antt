@@ -3,6 +3,7 @@ use Rattle.std.specs.Prelude.{IfSome}
 use Rattle.gate_types.specs.declared.records.Item.{Item}
 use Rattle.gate_book_trait.specs.Reads as read
 use Rattle.gate_live.specs.Live.{LiveTables, live_items}
+use Rattle.gate_live.specs.Parts.{Parts}
 use Rattle.gate_live.proofs.BookLemmas.{held_is}
 use Rattle.gate_live.proofs.ReadLemmas.{live_items_are, above_rises}
 use Rattle.gate_live.proofs.live.Live.next_item.Goals as goal
@@ -10,7 +11,7 @@ use Rattle.gate_live.proofs.live.Live.next_item.Goals as goal
 pub returns-in-Some-clause-found : goal.returns-in-Some-clause-found
 returns-in-Some-clause-found c k x agrees =
     c.next_item.ensures
-    ∙ ap (λ (l : LiveTables). read.first_above c.args.above (live_items l.queues c.args.queue.now)) (held_is k x c.args.self.now c.self.inside.held _ c.self.view_is c.in-Some.is agrees)
+    ∙ ap (λ (l : LiveTables). read.first_above c.args.above (live_items l.queues c.args.queue.now)) (held_is k x c.args.self.now c.self.inside.held _ (ap (λ (p : Parts). p.tables) c.self.view_is) c.in-Some.is agrees)
     ∙ ap (read.first_above c.args.above) (live_items_are k x c.args.queue.now)
 
 pub returns-in-Some-clause-rises : goal.returns-in-Some-clause-rises

@@ -1,0 +1,21 @@
+-- What reads leave of a book that holds what is live, and of the book below.
+use Rattle.std.proofs.Common.{List}
+use Rattle.gate_types.specs.Once.{Content}
+use Rattle.gate_types.specs.Settings.{Settings}
+use Rattle.gate_book_trait.specs.Kept.{IsKept, OfHeld}
+use Rattle.gate_live.specs.Parts.{Agrees}
+use Rattle.gate_live.specs.Both.{HoldsBoth}
+use Rattle.gate_live.specs.declared.live_book.LiveBook.{LiveBook}
+
+-- calls that only read the book below, and leave what agrees with it
+pub both_kept : {B : Type 0} {trusted : B → Type 0} {holds : B → Settings → Content → Type 0} {leaves : B → Settings → List Content → Type 0} (old new : LiveBook B) →
+    IsKept trusted holds leaves old.book new.book → OfHeld trusted holds old.book new.book (λ c x. Agrees old.live c x → Agrees new.live c x) →
+    IsKept (λ r. trusted r.book) (λ r c x. HoldsBoth holds r c x) (λ r c ys. leaves r.book c ys) old new
+both_kept old new kept agrees = record {
+  trusted_before = kept.trusted_before;
+  holds_on = λ trusted c x held. record {
+    below = kept.holds_on trusted c x held.below;
+    agrees = λ lawful. agrees trusted c x held.below lawful (held.agrees lawful);
+  };
+  leaves_on = λ trusted c x held ys. kept.leaves_on trusted c x held.below ys;
+}

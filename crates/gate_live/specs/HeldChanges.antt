@@ -1,0 +1,121 @@
+-- Which changes are held in memory, and what edits make of them.
+use Rattle.std.specs.Prelude.{ℕ, Bool, ◌≡◌, ◌||◌, ◌+◌, ◌==◌, if◌then◌else◌, List, [], ◌∷◌, nat_lt, filter, find, length, fold, Option, Some, None, is_some, IfSome, IsSome}
+use Rattle.std.specs.List.{list_all, filter_map}
+use Rattle.std.specs.Option.{option_map_or}
+use Rattle.gate_types.specs.declared.edits.Edit.{Edit}
+use Rattle.gate_types.specs.declared.edits.Edit.TheVariants as edit
+use Rattle.gate_types.specs.declared.records.Change.{Change}
+use Rattle.gate_types.specs.declared.records.Item.{Item}
+use Rattle.gate_types.specs.declared.rows.ChangeRow.{ChangeRow}
+use Rattle.gate_types.specs.State.{put_by}
+use Rattle.gate_types.specs.Settings.{Settings}
+use Rattle.gate_types.specs.Once.{Content}
+use Rattle.gate_types.specs.Tables.{edited_changes, tables}
+use Rattle.gate_book_trait.specs.RowReads.{row_of, approval_in}
+use Rattle.gate_memory.specs.Sorted.{without}
+use Rattle.gate_memory.specs.Changes as change_table
+use Rattle.gate_memory.specs.Changes.{number_of}
+use Rattle.gate_live.specs.Live.{LiveQueue, live_queued}
+use Rattle.gate_live.specs.Held.{live_of}
+use Rattle.gate_live.specs.declared.held.Held.{Held}
+use Rattle.gate_live.specs.declared.held_changes.HeldChanges.{HeldChanges}
+
+-- each held row equals the row of its change among all rows, and the rows of all ready changes are held
+pub record AreRowsOf (rows all : List ChangeRow) : Type 0 where
+  pub own : (n : ℕ) → IsSome (row_of rows n) → row_of rows n ≡ row_of all n
+  pub ready : (n : ℕ) → IsSome (approval_in all n) → row_of rows n ≡ row_of all n
+
+-- the rows, if changes are held, are some of all rows, with all ready ones
+abbrev pub AnyAreHeldOf : Option (List ChangeRow) → List ChangeRow → Type 0
+AnyAreHeldOf rows all = IfSome rows (λ rs. AreRowsOf rs all)
+
+-- the rows, if changes are held, are some of the changes of a content, with all ready ones
+abbrev pub AreChangesOf : Option (List ChangeRow) → Settings → Content → Type 0
+AreChangesOf rows c x = AnyAreHeldOf rows (tables c x).changes
+
+-- whether the row of a change is among these rows
+abbrev pub has_row : List ChangeRow → ℕ → Bool
+has_row rows n = is_some (row_of rows n)
+
+-- whether the rows of all these items' changes are among these rows
+abbrev pub has_rows_of : List ChangeRow → List Item → Bool
+has_rows_of rows items = list_all (λ i. has_row rows i.change) items
+
+-- the items above a serial
+abbrev pub items_above : ℕ → List Item → List Item
+items_above above items = filter (λ i. nat_lt above i.serial) items
+
+-- ---- what edits make of the held changes
+
+-- the held rows after a row is put: it is held if its change is ready or was held before
+abbrev pub with_row : List ChangeRow → ChangeRow → List ChangeRow
+with_row rows r = if is_some r.approval || has_row rows r.change.number then put_by number_of r rows else rows
+
+-- the held rows after other rows are put one after another
+abbrev pub with_rows : List ChangeRow → List ChangeRow → List ChangeRow
+with_rows rows rs = fold with_row rows rs
+
+-- the row of a change that an edit puts, if any
+abbrev pub row_put : Edit → Option ChangeRow
+row_put (edit.PutChange k approval) = Some (record { change = k; approval = approval })
+row_put _ = None
+
+-- the rows of changes that a list of edits puts, in the order of the edits
+abbrev pub rows_put : List Edit → List ChangeRow
+rows_put edits = filter_map row_put edits
+
+-- all rows of changes after a list of edits
+abbrev pub fold_changes : List ChangeRow → List Edit → List ChangeRow
+fold_changes all edits = fold edited_changes all edits
+
+-- the total number of needs of these rows
+abbrev pub needs_of_rows : List ChangeRow → ℕ
+needs_of_rows [] = 0
+needs_of_rows (r ∷ rs) = length r.change.needs + needs_of_rows rs
+
+-- the row of a change that isn't ready
+abbrev pub unready : Change → ChangeRow
+unready k = record { change = k; approval = None }
+
+-- ---- which changes are dropped
+
+-- the held rows without the row of a change, unless the change is ready
+abbrev pub without_change : List ChangeRow → ℕ → List ChangeRow
+without_change rows n = if is_some (approval_in rows n) then rows else without number_of n rows
+
+-- the change that may have no item after an edit: the one that the edit puts or reports, if any
+abbrev pub change_touched : Edit → Option ℕ
+change_touched (edit.PutChange k approval) = Some k.number
+change_touched (edit.PutReport queue place r) = Some r.change
+change_touched _ = None
+
+-- whether an item of these queues has the change
+abbrev pub is_queued_in : List LiveQueue → ℕ → Bool
+is_queued_in queues n = is_some (find (λ k. k.item.change == n) (live_queued queues))
+
+-- the held rows without the change that an edit touched, unless the change is ready or queued
+abbrev pub without_left : List LiveQueue → List ChangeRow → Edit → List ChangeRow
+without_left queues rows e =
+    option_map_or (λ n. if is_queued_in queues n then rows else without_change rows n) (change_touched e) rows
+
+-- the held rows after edits that led to these queues: rows are put, then those neither ready nor queued are dropped
+abbrev pub rows_edited : List LiveQueue → List Edit → List ChangeRow → List ChangeRow
+rows_edited queues edits rows = fold (without_left queues) (with_rows rows (rows_put edits)) edits
+
+-- ---- how changes are held
+
+-- the live rows of the held queues; an empty list if no queues are held
+abbrev pub queues_held : Option Held → List LiveQueue
+queues_held held = option_map_or (λ h. (live_of h).queues) held []
+
+-- the held rows of changes
+abbrev pub changes_held : HeldChanges → List ChangeRow
+changes_held h = change_table.changes_of h.table
+
+-- the table of changes satisfies its invariant
+abbrev pub AreKeptChanges : HeldChanges → Type 0
+AreKeptChanges h = change_table.IsKept h.table
+
+-- there is room for n more changes with m needs in total
+abbrev pub HasRoomFor : ℕ → ℕ → HeldChanges → Type 0
+HasRoomFor n m h = change_table.HasRoom n m h.table
