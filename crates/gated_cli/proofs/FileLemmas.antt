@@ -12,8 +12,8 @@ use Rattle.gate_core.specs.Held.{IsOver, Goes}
 use Rattle.gate_core.specs.Holding.{GateHolds}
 use Rattle.gate_core.specs.declared.fault.IoFault.{IoFault}
 use Rattle.gate_core.specs.declared.fault.IoFault.TheVariants as io
-use Rattle.gate_cache.specs.Cached.{HoldsBelow, Agrees}
-use Rattle.gate_cache.specs.declared.cached.CachedBook.{CachedBook}
+use Rattle.gate_live.specs.Both.{HoldsBoth}
+use Rattle.gate_live.specs.declared.live_book.LiveBook.{LiveBook}
 use Rattle.gate_rows.specs.Tells.{StandsFor}
 use Rattle.gate_file_changes.specs.Adopts.{IsKept}
 use Rattle.gate_content_reads.specs.Held.{ShowsFor}
@@ -113,21 +113,20 @@ goes_over at holds shows before c old new P is stays opens goes up g file =
       went.2,
     )
 
--- and so where the gate is over a book that keeps answers of that one, none of them yet
-pub goes_over_cached : {B : Type 0} (at : B → State) (holds : B → Settings → Content → Type 0) →
+-- and so where the gate is over a book that holds in memory what is live of that one
+pub goes_over_live : {B : Type 0} (at : B → State) (holds : B → Settings → Content → Type 0) →
     ((b : B) (k : Settings) (x : Content) → holds b k x → ShowsFor (at b) k x) → (before : State) (c : Settings) (book : B)
-    (made : CachedBook B) (old new : Gate (CachedBook B)) (P : Gated → Gated → Type 0) → old.config ≡ c → StaysLawful c →
-    made.book ≡ book → ((k : Settings) (x : Content) → Agrees made.cache k x) → old.book ≡ made →
-    ((x : Content) → HoldsBelow holds made c x → GateHolds (λ r k x. HoldsBelow holds r k x) old x) →
+    (made : LiveBook B) (old new : Gate (LiveBook B)) (P : Gated → Gated → Type 0) → old.config ≡ c → StaysLawful c →
+    (HasCleanDisk (at made.book) → HasCleanDisk (at book)) →
+    (HasCleanDisk (at made.book) → (x : Content) → holds book c x → HoldsBoth holds made c x) → old.book ≡ made →
+    ((x : Content) → HoldsBoth holds made c x → GateHolds (λ r k x. HoldsBoth holds r k x) old x) →
     (HasCleanDisk (at book) → (g : Gated) → OpensTo before c g → holds book c g.content) →
-    Goes (λ r. HasCleanDisk (at r.book)) (λ r k x. HoldsBelow holds r k x) old new P → GoesOver before (at new.book.book) c P
-goes_over_cached at holds shows before c book made old new P is stays over agrees same held opens goes =
-    goes_over (λ r. at r.book) (λ r k x. HoldsBelow holds r k x) (λ r k x held. shows r.book k x held.below) before c old new P is stays
-    (λ was g file. held g.content record {
-      below = subst (λ b. holds b c g.content) (sym over)
-          (opens (subst (λ b. HasCleanDisk (at b)) over (subst (λ r. HasCleanDisk (at r.book)) same was)) g file);
-      agrees = λ lawful. agrees c g.content;
-    }) goes
+    Goes (λ r. HasCleanDisk (at r.book)) (λ r k x. HoldsBoth holds r k x) old new P → GoesOver before (at new.book.book) c P
+goes_over_live at holds shows before c book made old new P is stays trusted filled same held opens goes =
+    goes_over (λ r. at r.book) (λ r k x. HoldsBoth holds r k x) (λ r k x held. shows r.book k x held.below) before c old new P is stays
+    (λ was g file.
+    let clean = subst (λ r. HasCleanDisk (at r.book)) same was in
+    held g.content (filled clean g.content (opens (trusted clean) g file))) goes
 
 -- ---- serving
 

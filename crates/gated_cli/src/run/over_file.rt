@@ -15,7 +15,8 @@ ghost use Rattle.gate_found_rows.specs.Finds.{Stays};
 ghost use Rattle.gate_schema.specs.Schema.{schema_with};
 ghost use Rattle.gate_rows.specs.Tells.{StandsFor};
 ghost use Rattle.gate_file_changes.specs.Applies.{LeavesOrStands};
-ghost use Rattle.gate_content_reads.specs.Held.{IsShownFor, ShowsFor, queue_names};
+ghost use Rattle.gate_content_reads.specs.Held.{HoldsFor, IsShownFor, ShowsFor, queue_names};
+ghost use Rattle.gate_live.specs.Both.{HoldsBoth};
 ghost use Rattle.gate_migration.specs.Migrates.{HasNoneToMigrate, IsLeft};
 ghost use Rattle.gate_file_meta.specs.Opens.{IsJudged, IsMade, IsMeta, is_taken, with_meta};
 ghost use Rattle.gate_migration.specs.Standing.{IsMigrated, is_newly_taken};
@@ -30,10 +31,10 @@ ghost use Rattle.gated_cli.specs.Telling.{TellsUpTo};
 use crate::run::fault::Fault;
 use crate::run::listening;
 use crate::run::showing::{write_history, write_status};
-use gate_cache::CachedBook;
 use gate_core::{Gate, replay};
 use gate_laws::adoption::adopted_content_is_lawful;
 use gate_laws::typed::settings_are_in_form;
+use gate_live::LiveBook;
 use gate_sql::{Migrated, SqlBook};
 use gate_types::config::Config;
 use gate_types::open_fault::OpenFault;
@@ -117,6 +118,18 @@ pub(crate) fn stays_lawful(config: &Config)
     adopted_content_is_lawful();
 }
 
+/// The book, with what is live of it in memory. If that can't be read, nothing is held, and the book answers each call.
+fn filled<S: Alter + Drop>(alloc: Global, book: SqlBook<S>, config: &Config) -> LiveBook<SqlBook<S>>
+    ensures trusted { HasCleanDisk (state S.Store result.book.conn) → HasCleanDisk (state S.Store book.conn) }
+    ensures holds { HasCleanDisk (state S.Store result.book.conn) → (x : Content) →
+        HoldsFor (state S.Store book.conn) book.queues.items config.now x →
+        HoldsBoth (λ b k y. HoldsFor (state S.Store b.conn) b.queues.items k y) result config.now x }
+{
+    let mut live = LiveBook::new(alloc, book);
+    let _filled = live.fill(config);
+    live
+}
+
 /// Answers each line of the input over the gate of the file, as `replay` does, and hands the connection back.
 pub fn deliver<S: Alter + Drop, R: Read, W: Write>(
     alloc: Global,
@@ -167,7 +180,8 @@ pub fn deliver<S: Alter + Drop, R: Read, W: Write>(
         Ok(book) => book,
         Err((fault, conn)) => return (conn, Err(Fault::File(fault))),
     };
-    let mut gate = Gate::new(config, CachedBook::new(alloc, book));
+    let live = filled(alloc, book, &config);
+    let mut gate = Gate::new(config, live);
     let done = replay(alloc, &mut gate, input, output);
     let conn = gate.into_book().into_book().into_conn();
     match done {
@@ -275,7 +289,8 @@ pub fn serve<M: Net + AllocGlobal, S: Alter + Drop, W: Write, E: Write>(
         Ok(book) => book,
         Err((fault, conn)) => return (conn, Err(Fault::File(fault))),
     };
-    let mut gate = Gate::new(config, CachedBook::new(rt.alloc(), book));
+    let live = filled(rt.alloc(), book, &config);
+    let mut gate = Gate::new(config, live);
     let done = listening::serve(rt, &mut gate, port, count, output, errors);
     (gate.into_book().into_book().into_conn(), done)
 }

@@ -3,8 +3,8 @@
 use crate::claims::is;
 use crate::settings::config;
 use gate_book::Book;
-use gate_cache::CachedBook;
 use gate_core::{Gate, IoFault, replay};
+use gate_live::LiveBook;
 use gate_sql::SqlBook;
 use gate_types::open_fault::OpenFault;
 use gate_types::tap::Tap;
@@ -16,7 +16,7 @@ use std::process::Abort;
 pub const SETTINGS: &str = "core 2 1 and web";
 
 /// A gate over a file, as the program makes it.
-pub type FileGate<S> = Gate<CachedBook<SqlBook<S>>>;
+pub type FileGate<S> = Gate<LiveBook<SqlBook<S>>>;
 
 /// Why there is no book over a file's tables, if there is none, and the file's connection.
 fn parts<S: Alter + Drop>(
@@ -86,7 +86,9 @@ pub fn gate_under<S: Alter + Drop>(
 ) -> Result<FileGate<S>, (OpenFault, Connection<S>)> {
     let config = config(rt, words);
     let book = SqlBook::open(rt.alloc(), conn, &config)?;
-    Ok(Gate::new(config, CachedBook::new(rt.alloc(), book)))
+    let mut live = LiveBook::new(rt.alloc(), book);
+    let _filled = live.fill(&config);
+    Ok(Gate::new(config, live))
 }
 
 /// The gate in a file.

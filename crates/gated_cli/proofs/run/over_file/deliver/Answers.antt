@@ -2,16 +2,16 @@ use Rattle.std.proofs.Common.{◌≡◌, ◌∙◌, ap, refl, subst, sym}
 use Rattle.std.specs.Prelude.{IfSome, length}
 use Rattle.sqlite.specs.Held.{state}
 use Rattle.sqlite.specs.State.{HasCleanDisk}
-use Rattle.gate_cache.specs.Cached.{HoldsBelow}
 use Rattle.gate_core.proofs.ReplyLemmas.{goes_nowhere}
 use Rattle.gate_core.specs.Gated.{Gated}
 use Rattle.gate_core.specs.Lines.{lines_of, whole_lines}
 use Rattle.gate_core.specs.Replies.{Cut, Replayed}
 use Rattle.gate_found_rows.specs.Finds.{Stays}
 use Rattle.gate_content_reads.specs.Held.{HoldsFor}
+use Rattle.gate_live.specs.Both.{HoldsBoth}
 use Rattle.gate_file_meta.specs.Opens.{IsJudged}
 use Rattle.gated_cli.specs.OverFile.{GoesOver}
-use Rattle.gated_cli.proofs.FileLemmas.{goes_over_cached, no_replay_fault, of_each, of_memory, of_no_memory, of_read, of_write, opens_to}
+use Rattle.gated_cli.proofs.FileLemmas.{goes_over_live, no_replay_fault, of_each, of_memory, of_no_memory, of_read, of_write, opens_to}
 use Rattle.gated_cli.proofs.run.over_file.deliver.Goals as goal
 
 pub returns-in-Ok-done-clause-ok : goal.returns-in-Ok-done-clause-ok
@@ -20,9 +20,9 @@ returns-in-Ok-done-clause-ok g c =
     let last = c.into_conn-conn.ensures ∙ ap (λ book. book.conn) (c.into_book-2.ensures ∙ ap (λ cached. cached.book) c.into_book.ensures) in
     let P : Gated → Gated → Type 0 = λ gate after. Replayed gate (lines_of h.0) h.3 after in
     let opened = state g.S.Store c.in-Ok.book.conn in
-    let over = goes_over_cached (λ book. state g.S.Store book.conn) (λ book k x. HoldsFor (state g.S.Store book.conn) book.queues.items k x) (λ book k x held. held.shows)
-    (state g.S.Store c.args.conn) c.args.config c.in-Ok.book c.new.result c.new-gate.result c.replay-done.new.gate P
-    c.new-gate.ensures.config c.stays_lawful.ensures c.new.ensures.book c.new.ensures.agrees c.new-gate.ensures.book c.new-gate.ensures.holds
+    let over = goes_over_live (λ book. state g.S.Store book.conn) (λ book k x. HoldsFor (state g.S.Store book.conn) book.queues.items k x) (λ book k x held. held.shows)
+    (state g.S.Store c.args.conn) c.args.config c.in-Ok.book c.filled-live.result c.new-gate.result c.replay-done.new.gate P
+    c.new-gate.ensures.config c.stays_lawful.ensures c.filled-live.ensures.trusted c.filled-live.ensures.holds c.new-gate.ensures.book c.new-gate.ensures.holds
     (λ clean gate file. opens_to (λ x. HasCleanDisk opened → HoldsFor opened c.in-Ok.book.queues.items c.args.config x) (state g.S.Store c.args.conn) c.args.config gate c.in-Ok.ensures.opens c.in-Ok.ensures.adopts file clean)
     h.5 in
     (h.0, h.1, h.2, h.3, h.4, subst (λ conn. GoesOver (state g.S.Store c.args.conn) (state g.S.Store conn) c.args.config P) (sym last) over)
@@ -31,7 +31,7 @@ pub returns-in-Ok-done-clause-judged : goal.returns-in-Ok-done-clause-judged
 returns-in-Ok-done-clause-judged g c tables indexes views version kept schema meta clean =
     let last = c.into_conn-conn.ensures ∙ ap (λ book. book.conn) (c.into_book-2.ensures ∙ ap (λ cached. cached.book) c.into_book.ensures) in
     let before = c.in-Ok-done.ensures.ok.5.trusted_before (subst (λ conn. HasCleanDisk (state g.S.Store conn)) last clean) in
-    let opened = subst (λ book. HasCleanDisk (state g.S.Store book.conn)) c.new.ensures.book
+    let opened = c.filled-live.ensures.trusted
     (subst (λ cached. HasCleanDisk (state g.S.Store cached.book.conn)) c.new-gate.ensures.book before) in
     c.in-Ok.ensures.judged tables indexes views version kept schema meta opened
 
@@ -43,7 +43,7 @@ returns-in-Err-done-clause-judged g c tables indexes views version kept schema m
     let before = of_each (HasCleanDisk (state g.S.Store c.new-gate.result.book.book.conn)) c.in-Err-done.fault
     (λ e. (said.read e).4.trusted_before after) (λ e. (said.write e).5.trusted_before after)
     (λ e. subst (λ gate. HasCleanDisk (state g.S.Store gate.book.book.conn)) (said.memory e).0 after) said.store in
-    let opened = subst (λ book. HasCleanDisk (state g.S.Store book.conn)) c.new.ensures.book
+    let opened = c.filled-live.ensures.trusted
     (subst (λ cached. HasCleanDisk (state g.S.Store cached.book.conn)) c.new-gate.ensures.book before) in
     subst (λ f. IsJudged f version kept c.args.config) (sym (no_replay_fault c.in-Err-done.fault c.from.result c.from.ensures))
     (c.in-Ok.ensures.judged tables indexes views version kept schema meta opened)
@@ -59,9 +59,9 @@ returns-in-Err-done-clause-read g c e =
     let last = c.into_conn-conn.ensures ∙ ap (λ book. book.conn) (c.into_book-2.ensures ∙ ap (λ cached. cached.book) c.into_book.ensures) in
     let P : Gated → Gated → Type 0 = λ gate after. Replayed gate (whole_lines h.0) h.2 after in
     let opened = state g.S.Store c.in-Ok.book.conn in
-    let over = goes_over_cached (λ book. state g.S.Store book.conn) (λ book k x. HoldsFor (state g.S.Store book.conn) book.queues.items k x) (λ book k x held. held.shows)
-    (state g.S.Store c.args.conn) c.args.config c.in-Ok.book c.new.result c.new-gate.result c.replay-done.new.gate P
-    c.new-gate.ensures.config c.stays_lawful.ensures c.new.ensures.book c.new.ensures.agrees c.new-gate.ensures.book c.new-gate.ensures.holds
+    let over = goes_over_live (λ book. state g.S.Store book.conn) (λ book k x. HoldsFor (state g.S.Store book.conn) book.queues.items k x) (λ book k x held. held.shows)
+    (state g.S.Store c.args.conn) c.args.config c.in-Ok.book c.filled-live.result c.new-gate.result c.replay-done.new.gate P
+    c.new-gate.ensures.config c.stays_lawful.ensures c.filled-live.ensures.trusted c.filled-live.ensures.holds c.new-gate.ensures.book c.new-gate.ensures.holds
     (λ clean gate file. opens_to (λ x. HasCleanDisk opened → HoldsFor opened c.in-Ok.book.queues.items c.args.config x) (state g.S.Store c.args.conn) c.args.config gate c.in-Ok.ensures.opens c.in-Ok.ensures.adopts file clean)
     h.4 in
     (h.0, h.1, h.2, h.3, subst (λ conn. GoesOver (state g.S.Store c.args.conn) (state g.S.Store conn) c.args.config P) (sym last) over)
@@ -72,9 +72,9 @@ returns-in-Err-done-clause-write g c e =
     let last = c.into_conn-conn.ensures ∙ ap (λ book. book.conn) (c.into_book-2.ensures ∙ ap (λ cached. cached.book) c.into_book.ensures) in
     let P : Gated → Gated → Type 0 = λ gate after. (cut : Cut gate h.0 h.1 after) × (length cut.done ≡ h.3) in
     let opened = state g.S.Store c.in-Ok.book.conn in
-    let over = goes_over_cached (λ book. state g.S.Store book.conn) (λ book k x. HoldsFor (state g.S.Store book.conn) book.queues.items k x) (λ book k x held. held.shows)
-    (state g.S.Store c.args.conn) c.args.config c.in-Ok.book c.new.result c.new-gate.result c.replay-done.new.gate P
-    c.new-gate.ensures.config c.stays_lawful.ensures c.new.ensures.book c.new.ensures.agrees c.new-gate.ensures.book c.new-gate.ensures.holds
+    let over = goes_over_live (λ book. state g.S.Store book.conn) (λ book k x. HoldsFor (state g.S.Store book.conn) book.queues.items k x) (λ book k x held. held.shows)
+    (state g.S.Store c.args.conn) c.args.config c.in-Ok.book c.filled-live.result c.new-gate.result c.replay-done.new.gate P
+    c.new-gate.ensures.config c.stays_lawful.ensures c.filled-live.ensures.trusted c.filled-live.ensures.holds c.new-gate.ensures.book c.new-gate.ensures.holds
     (λ clean gate file. opens_to (λ x. HasCleanDisk opened → HoldsFor opened c.in-Ok.book.queues.items c.args.config x) (state g.S.Store c.args.conn) c.args.config gate c.in-Ok.ensures.opens c.in-Ok.ensures.adopts file clean)
     h.5 in
     (h.0, h.1, h.2, h.3, h.4, subst (λ conn. GoesOver (state g.S.Store c.args.conn) (state g.S.Store conn) c.args.config P) (sym last) over)
@@ -85,12 +85,12 @@ returns-in-Err-done-clause-memory g c e =
     let last = c.into_conn-conn.ensures ∙ ap (λ book. book.conn) (c.into_book-2.ensures ∙ ap (λ cached. cached.book) c.into_book.ensures) in
     let P : Gated → Gated → Type 0 = λ gate after. after ≡ gate in
     let opened = state g.S.Store c.in-Ok.book.conn in
-    let over = goes_over_cached (λ book. state g.S.Store book.conn) (λ book k x. HoldsFor (state g.S.Store book.conn) book.queues.items k x) (λ book k x held. held.shows)
-    (state g.S.Store c.args.conn) c.args.config c.in-Ok.book c.new.result c.new-gate.result c.replay-done.new.gate P
-    c.new-gate.ensures.config c.stays_lawful.ensures c.new.ensures.book c.new.ensures.agrees c.new-gate.ensures.book c.new-gate.ensures.holds
+    let over = goes_over_live (λ book. state g.S.Store book.conn) (λ book k x. HoldsFor (state g.S.Store book.conn) book.queues.items k x) (λ book k x held. held.shows)
+    (state g.S.Store c.args.conn) c.args.config c.in-Ok.book c.filled-live.result c.new-gate.result c.replay-done.new.gate P
+    c.new-gate.ensures.config c.stays_lawful.ensures c.filled-live.ensures.trusted c.filled-live.ensures.holds c.new-gate.ensures.book c.new-gate.ensures.holds
     (λ clean gate file. opens_to (λ x. HasCleanDisk opened → HoldsFor opened c.in-Ok.book.queues.items c.args.config x) (state g.S.Store c.args.conn) c.args.config gate c.in-Ok.ensures.opens c.in-Ok.ensures.adopts file clean)
     (goes_nowhere (λ cached. HasCleanDisk (state g.S.Store cached.book.conn))
-    (λ cached k x. HoldsBelow (λ book k x. HoldsFor (state g.S.Store book.conn) book.queues.items k x) cached k x)
+    (λ cached k x. HoldsBoth (λ book k x. HoldsFor (state g.S.Store book.conn) book.queues.items k x) cached k x)
     c.new-gate.result c.replay-done.new.gate P same (λ gate. refl)) in
     subst (λ conn. GoesOver (state g.S.Store c.args.conn) (state g.S.Store conn) c.args.config P) (sym last) over
 

@@ -7,7 +7,7 @@ use Rattle.gate_found_rows.specs.Finds.{Stays}
 use Rattle.gate_content_reads.specs.Held.{HoldsFor}
 use Rattle.gate_file_meta.specs.Opens.{IsJudged}
 use Rattle.gated_cli.specs.OverFile.{GoesOver}
-use Rattle.gated_cli.proofs.FileLemmas.{goes_over_cached, no_file_fault, opens_to, serving_over_file}
+use Rattle.gated_cli.proofs.FileLemmas.{goes_over_live, no_file_fault, opens_to, serving_over_file}
 use Rattle.gated_cli.proofs.TalkLemmas.{none_so_far}
 use Rattle.gated_cli.proofs.run.over_file.serve.Goals as goal
 
@@ -16,9 +16,9 @@ returns-clause-gate g c unfaulted =
     let went = c.serve-done.ensures.gate in
     let last = c.into_conn.ensures ∙ ap (λ book. book.conn) (c.into_book-2.ensures ∙ ap (λ cached. cached.book) c.into_book.ensures) in
     let opened = state g.S.Store c.in-Ok.book.conn in
-    let over = goes_over_cached (λ book. state g.S.Store book.conn) (λ book k x. HoldsFor (state g.S.Store book.conn) book.queues.items k x) (λ book k x held. held.shows)
-    (state g.S.Store c.args.conn) c.args.config c.in-Ok.book c.new.result c.new-gate.result c.serve-done.new.gate (IsCalled c.args.count)
-    c.new-gate.ensures.config c.stays_lawful.ensures c.new.ensures.book c.new.ensures.agrees c.new-gate.ensures.book c.new-gate.ensures.holds
+    let over = goes_over_live (λ book. state g.S.Store book.conn) (λ book k x. HoldsFor (state g.S.Store book.conn) book.queues.items k x) (λ book k x held. held.shows)
+    (state g.S.Store c.args.conn) c.args.config c.in-Ok.book c.filled-live.result c.new-gate.result c.serve-done.new.gate (IsCalled c.args.count)
+    c.new-gate.ensures.config c.stays_lawful.ensures c.filled-live.ensures.trusted c.filled-live.ensures.holds c.new-gate.ensures.book c.new-gate.ensures.holds
     (λ clean gate file. opens_to (λ x. HasCleanDisk opened → HoldsFor opened c.in-Ok.book.queues.items c.args.config x) (state g.S.Store c.args.conn) c.args.config gate c.in-Ok.ensures.opens c.in-Ok.ensures.adopts file clean)
     went in
     subst (λ conn. GoesOver (state g.S.Store c.args.conn) (state g.S.Store conn) c.args.config (IsCalled c.args.count)) (sym last) over
@@ -27,7 +27,7 @@ pub returns-clause-judged : goal.returns-clause-judged
 returns-clause-judged g c tables indexes views version kept schema meta clean =
     let last = c.into_conn.ensures ∙ ap (λ book. book.conn) (c.into_book-2.ensures ∙ ap (λ cached. cached.book) c.into_book.ensures) in
     let served = subst (λ conn. HasCleanDisk (state g.S.Store conn)) last clean in
-    let opened = subst (λ book. HasCleanDisk (state g.S.Store book.conn)) c.new.ensures.book
+    let opened = c.filled-live.ensures.trusted
     (subst (λ cached. HasCleanDisk (state g.S.Store cached.book.conn)) c.new-gate.ensures.book (c.serve-done.ensures.gate.trusted_before served)) in
     subst (λ f. IsJudged f version kept c.args.config) (sym (no_file_fault _ c.serve-done.result c.serve-done.ensures.err))
     (c.in-Ok.ensures.judged tables indexes views version kept schema meta opened)

@@ -1,0 +1,214 @@
+//! A book that counts what it is asked for, and can refuse edits, or a read, once.
+use gate_book::{Book, BookFault, HistoryFault, QueuedItem};
+use gate_types::edits::Edit;
+use gate_types::names::Name;
+use gate_types::numbers::{BuildNo, ChangeNo, Serial};
+use gate_types::records::{Build, Change, Counters, Id, Item, Kept, Plan, Ready};
+use gate_types::sequence::Sequence;
+use gate_types::tap::Tap;
+use std::io::Write;
+
+/// Answers as the book in it; the first edits are refused by a fault, if one is set, and so is one read, by the store.
+#[derive(Drop)]
+pub struct Counting<B> {
+    pub book: B,
+    pub reads: u32,
+    pub refuses: Option<BookFault>,
+    pub fails_at: Option<u32>,
+}
+
+/// Over this book, asked for nothing yet.
+pub fn counted<B: Book>(book: B, refuses: Option<BookFault>) -> Counting<B> {
+    Counting {
+        book,
+        reads: 0,
+        refuses,
+        fails_at: None,
+    }
+}
+
+/// The same, where the store refuses a read: the first one is 1.
+pub fn failing_at<B: Book>(book: B, read: u32) -> Counting<B> {
+    Counting {
+        book,
+        reads: 0,
+        refuses: None,
+        fails_at: Some(read),
+    }
+}
+
+impl<B> Counting<B> {
+    /// One read more.
+    fn count(&mut self) -> Result<(), BookFault> {
+        self.reads = self.reads.saturating_add(1);
+        if self.fails_at == Some(self.reads) {
+            Err(BookFault::Store)
+        } else {
+            Ok(())
+        }
+    }
+}
+
+impl<B: Book> Book for Counting<B> {
+    ghost Holds = { λ _ _ _. ⊥ };
+
+    ghost IsTrusted = { λ _. ⊥ };
+
+    ghost LeavesOneOf = { λ _ _ _. Unit {0} };
+
+    ghost MayFault = { λ _. Unit {0} };
+
+    ghost leaves_more = { λ _ _ _ _ h. h };
+
+    fn delivery(&mut self, id: &Id) -> Result<Option<Kept>, BookFault> {
+        self.count()?;
+        self.book.delivery(id)
+    }
+
+    fn change(&mut self, number: ChangeNo) -> Result<Option<Change>, BookFault> {
+        self.count()?;
+        self.book.change(number)
+    }
+
+    fn window(&mut self, queue: &Name) -> Result<Option<u32>, BookFault> {
+        self.count()?;
+        self.book.window(queue)
+    }
+
+    fn item_count(&mut self, queue: &Name) -> Result<u64, BookFault> {
+        self.count()?;
+        self.book.item_count(queue)
+    }
+
+    fn landing_count(&mut self, queue: &Name) -> Result<u64, BookFault> {
+        self.count()?;
+        self.book.landing_count(queue)
+    }
+
+    fn reports(&mut self, queue: &Name) -> Result<u64, BookFault> {
+        self.count()?;
+        self.book.reports(queue)
+    }
+
+    fn landing_before(&mut self, queue: &Name, serial: Serial) -> Result<u64, BookFault> {
+        self.count()?;
+        self.book.landing_before(queue, serial)
+    }
+
+    fn items(&mut self, queue: &Name) -> Result<Sequence<Item>, BookFault> {
+        self.count()?;
+        self.book.items(queue)
+    }
+
+    fn item(&mut self, serial: Serial) -> Result<Option<Item>, BookFault> {
+        self.count()?;
+        self.book.item(serial)
+    }
+
+    fn queued(&mut self, change: ChangeNo) -> Result<Option<QueuedItem>, BookFault> {
+        self.count()?;
+        self.book.queued(change)
+    }
+
+    fn next_item(&mut self, queue: &Name, above: u64) -> Result<Option<Item>, BookFault> {
+        self.count()?;
+        self.book.next_item(queue, above)
+    }
+
+    fn last_item(&mut self, queue: &Name, below: u64) -> Result<Option<Item>, BookFault> {
+        self.count()?;
+        self.book.last_item(queue, below)
+    }
+
+    fn next_items(
+        &mut self,
+        queue: &Name,
+        above: u64,
+        most: u32,
+    ) -> Result<Sequence<Item>, BookFault> {
+        self.count()?;
+        self.book.next_items(queue, above, most)
+    }
+
+    fn needing(
+        &mut self,
+        queue: &Name,
+        change: ChangeNo,
+        above: u64,
+    ) -> Result<Sequence<Item>, BookFault> {
+        self.count()?;
+        self.book.needing(queue, change, above)
+    }
+
+    fn plan(&mut self, serial: Serial) -> Result<Option<Plan>, BookFault> {
+        self.count()?;
+        self.book.plan(serial)
+    }
+
+    fn live_builds(&mut self, serial: Serial) -> Result<Sequence<Build>, BookFault> {
+        self.count()?;
+        self.book.live_builds(serial)
+    }
+
+    fn plans_between(
+        &mut self,
+        queue: &Name,
+        above: u64,
+        last: Serial,
+    ) -> Result<Sequence<Plan>, BookFault> {
+        self.count()?;
+        self.book.plans_between(queue, above, last)
+    }
+
+    fn builds_between(
+        &mut self,
+        queue: &Name,
+        above: u64,
+        last: Serial,
+    ) -> Result<Sequence<Build>, BookFault> {
+        self.count()?;
+        self.book.builds_between(queue, above, last)
+    }
+
+    fn build(&mut self, number: BuildNo) -> Result<Option<Build>, BookFault> {
+        self.count()?;
+        self.book.build(number)
+    }
+
+    fn ready(&mut self) -> Result<Sequence<Ready>, BookFault> {
+        self.count()?;
+        self.book.ready()
+    }
+
+    fn approval(&mut self, change: ChangeNo) -> Result<Option<u64>, BookFault> {
+        self.count()?;
+        self.book.approval(change)
+    }
+
+    fn ready_needing(&mut self, change: ChangeNo) -> Result<Sequence<Ready>, BookFault> {
+        self.count()?;
+        self.book.ready_needing(change)
+    }
+
+    fn counters(&mut self) -> Result<Counters, BookFault> {
+        self.count()?;
+        self.book.counters()
+    }
+
+    fn history<W: Write>(
+        &mut self,
+        queue: &str,
+        front: &[u8],
+        w: &mut Tap<W>,
+    ) -> Result<(), HistoryFault> {
+        self.reads = self.reads.saturating_add(1);
+        self.book.history(queue, front, w)
+    }
+
+    fn apply(&mut self, edits: &[Edit]) -> Result<(), BookFault> {
+        match self.refuses.take() {
+            Some(fault) => Err(fault),
+            None => self.book.apply(edits),
+        }
+    }
+}

@@ -1,0 +1,27 @@
+//! A book in memory, one over it that holds in memory what is live, and a gate over a book that counts what it is asked.
+#![tactic(auto)]
+
+#[cfg(test)]
+mod adopting;
+#[cfg(test)]
+mod asked;
+#[cfg(test)]
+mod claims;
+#[cfg(test)]
+mod counting;
+#[cfg(test)]
+mod live;
+#[cfg(test)]
+mod live_changes;
+#[cfg(test)]
+mod live_items;
+#[cfg(test)]
+mod memory;
+#[cfg(test)]
+mod needing;
+#[cfg(test)]
+mod polling;
+#[cfg(test)]
+mod scene;
+#[cfg(test)]
+mod starved;
