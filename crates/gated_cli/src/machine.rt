@@ -1,5 +1,5 @@
 //! The gates' files of a machine.
-ghost use Rattle.std.specs.Prelude.{◌≡◌, IfErr, OnErr, OnOk};
+ghost use Rattle.std.specs.Prelude.{◌≡◌, IfErr, IsErrOf, OnErr, OnOk};
 
 use crate::run::{Fault, asking, over_file};
 use gate_sql::Migrated;
@@ -210,10 +210,7 @@ impl<S: Alter + Drop, M: Databases<Database = Connection<S>> + Net + AllocGlobal
     fn migrate(&self, file: &str, config: &Config) -> Result<Migrated, Fault> {
         let conn = self.present(file)?;
         let (conn, done) = over_file::migrate(self.alloc(), conn, config);
-        let closing = self.close(conn);
-        let migrated = done?;
-        closing?;
-        Ok(migrated)
+        closed(self.close(conn), done)
     }
 }
 
@@ -263,15 +260,19 @@ impl Databases for HostRuntime {
     }
 }
 
-/// What became of a command: its fault before one of closing.
-fn closed(closing: Result<(), Fault>, done: Result<(), Fault>) -> Result<(), Fault>
+/// What came of a command: its fault before one of closing.
+fn closed<T: Drop>(closing: Result<(), Fault>, done: Result<T, Fault>) -> Result<T, Fault>
     requires { IfErr closing (λ f. f ≡ Fault.Store) }
     ensures fault { OnErr done (result ≡ done) }
-    ensures closing { OnOk done (result ≡ closing) }
+    ensures well { OnOk done (OnOk closing (result ≡ done)) }
+    ensures unclosed { OnOk done (OnErr closing (IsErrOf result Fault.Store)) }
     ensures store { OnOk done (IfErr result (λ f. f ≡ Fault.Store)) }
 {
     match done {
-        Ok(()) => closing,
+        Ok(done) => match closing {
+            Ok(()) => Ok(done),
+            Err(fault) => Err(fault),
+        },
         Err(fault) => Err(fault),
     }
 }

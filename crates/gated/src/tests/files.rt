@@ -42,6 +42,20 @@ $ gated deliver no_gate.toml no_gate.gate < revision
 = 1
 unread
 $ clear no_gate.toml no_gate.gate no_gate.gate-wal
+# after each command the file alone is enough: what is beside it may go
+$ clear alone.toml alone.gate alone.gate-wal
+$ write alone.toml < one queue
+$ gated init alone.toml alone.gate
+|= 0
+$ clear alone.gate-wal
+$ gated deliver alone.toml alone.gate < revision
+{"reply":"recorded"}
+|= 0
+$ clear alone.gate-wal
+$ gated deliver alone.toml alone.gate < approved
+{"order":1,"reply":"queued"}
+|= 0
+$ clear alone.toml alone.gate alone.gate-wal
 # a folder that is not there is told
 $ write no_folder.toml < one queue
 $ gated init no_folder.toml no_folder/gate

@@ -7,12 +7,19 @@ use std::net::{Net, SocketAddr, TcpListener, TcpStream};
 use std::rt::Files;
 use std::{fs, io};
 
-/// The process's own, of which the reading of files may find no memory, and a port may be bound already.
+/// A listener that answers for one address.
+#[derive(Drop)]
+pub struct Port<'a> {
+    pub address: SocketAddr,
+    pub listener: &'a TcpListener,
+}
+
+/// The process's own, of which the reading of files may find no memory, and which may have one port alone.
 #[derive(Drop)]
 pub struct Machine<'a> {
     pub host: &'a HostRuntime,
     pub is_starved: bool,
-    pub listener: Option<&'a TcpListener>,
+    pub port: Option<Port<'a>>,
 }
 
 impl<'a> Machine<'a> {
@@ -20,7 +27,7 @@ impl<'a> Machine<'a> {
         Self {
             host,
             is_starved: false,
-            listener: None,
+            port: None,
         }
     }
 }
@@ -139,8 +146,9 @@ impl Net for Machine<'_> {
     type Listener = TcpListener;
 
     fn bind(&self, addr: SocketAddr) -> io::Result<TcpListener> {
-        match self.listener {
-            Some(listener) => listener.try_clone(),
+        match &self.port {
+            Some(port) if port.address == addr => port.listener.try_clone(),
+            Some(_) => Err(io::Error::from(io::ErrorKind::AddrNotAvailable)),
             None => self.host.bind(addr),
         }
     }

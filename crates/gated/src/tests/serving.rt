@@ -1,9 +1,9 @@
 //! Clients over loopback, at the gate of a file.
 use crate::tests::claims::holds;
-use crate::tests::machine::Machine;
+use crate::tests::machine::{Machine, Port};
 use crate::tests::sessions::plays;
 use std::io::{Read, Write};
-use std::net::{Net, SocketAddr, TcpListener, TcpStream};
+use std::net::{Ipv4Addr, Net, OpenListener, SocketAddr, TcpListener, TcpStream};
 use std::process::Abort;
 
 const POST: &str =
@@ -69,16 +69,81 @@ $ gated deliver serve_taken.toml serve_taken.gate < revision
 $ clear serve_taken.toml serve_taken.gate serve_taken.gate-wal
 "#;
 
+/// A port that is free, and its address.
+fn free_port<N: Net + Abort>(net: &N) -> (N::Listener, SocketAddr) {
+    let listener = TcpListener::bind(net, "127.0.0.1:0").expect(net, "a port");
+    let address = listener.local_addr().expect(net, "an address");
+    (listener, address)
+}
+
+/// A machine whose only port is that of a listener, which is bound by this number.
+fn machine_at<'a>(host: &'a HostRuntime, listener: &'a TcpListener, number: u16) -> Machine<'a> {
+    let mut machine = Machine::new(host);
+    let address = SocketAddr::from((Ipv4Addr::LOCALHOST, number));
+    machine.port = Some(Port { address, listener });
+    machine
+}
+
 #[test]
 fn a_gate_is_served_at_a_port_that_is_free(rt: HostRuntime) {
-    let listener = TcpListener::bind(&rt, "127.0.0.1:0").expect(&rt, "a port");
-    let address = listener.local_addr().expect(&rt, "an address");
+    let (listener, address) = free_port(&rt);
     plays_at(&rt, &Machine::new(&rt), address, TAKEN);
     let first = client(&rt, address, POST);
     let second = client(&rt, address, STATUS);
-    let mut machine = Machine::new(&rt);
-    machine.listener = Some(&listener);
-    plays_at(&rt, &machine, address, TWO);
+    plays_at(&rt, &machine_at(&rt, &listener, 0), address, TWO);
     received(&rt, first, RECORDED);
     received(&rt, second, SHOWN);
+}
+
+const ASKED: &str = "\
+# the port that is asked for is the one that is bound
+$ clear serve_asked.toml serve_asked.gate serve_asked.gate-wal
+$ write serve_asked.toml < one queue
+$ gated init serve_asked.toml serve_asked.gate
+|= 0
+$ gated serve serve_asked.toml serve_asked.gate --port PORT --count 1
+listening 127.0.0.1:PORT
+|= 0
+$ clear serve_asked.toml serve_asked.gate serve_asked.gate-wal
+";
+
+#[test]
+fn a_gate_is_served_at_the_port_that_is_asked_for(rt: HostRuntime) {
+    let (listener, address) = free_port(&rt);
+    let client = client(&rt, address, STATUS);
+    plays_at(
+        &rt,
+        &machine_at(&rt, &listener, address.port()),
+        address,
+        ASKED,
+    );
+    received(&rt, client, SHOWN);
+}
+
+const ENDED: &str = "\
+# a listener that accepts no more ends the run by a fault, and what was answered stands
+$ clear serve_ended.toml serve_ended.gate serve_ended.gate-wal
+$ write serve_ended.toml < one queue
+$ gated init serve_ended.toml serve_ended.gate
+|= 0
+$ gated serve serve_ended.toml serve_ended.gate --port 0 --count 2
+listening 127.0.0.1:PORT
+|gated: I4 listen
+= 1
+$ gated deliver serve_ended.toml serve_ended.gate < approved
+{\"order\":1,\"reply\":\"queued\"}
+|= 0
+$ clear serve_ended.toml serve_ended.gate serve_ended.gate-wal
+";
+
+/// The listener doesn't wait, so that it has no second connection to accept.
+#[test]
+fn a_listener_that_fails_ends_the_run(rt: HostRuntime) {
+    let (listener, address) = free_port(&rt);
+    listener
+        .set_nonblocking(true)
+        .expect(&rt, "a listener that doesn't wait");
+    let client = client(&rt, address, POST);
+    plays_at(&rt, &machine_at(&rt, &listener, 0), address, ENDED);
+    received(&rt, client, RECORDED);
 }
