@@ -1,5 +1,5 @@
-//! A book that counts the items and the ready changes that a delivery reads: no more of a long queue than of a short
-//! one, and nothing of those who wait for something else, in memory and over the tables of a file.
+//! A book that counts the items, their plans and builds, and the ready changes that a delivery reads: no more of a long
+//! queue than of a short one, and nothing of changes that wait for another one, in memory and over the tables of a file.
 use crate::claims::holds;
 use crate::scenes::gate_in_memory;
 use crate::stored::files::{gate_under, made_under};
@@ -17,8 +17,8 @@ use sqlite::Connection;
 use std::io::Write;
 use std::process::Abort;
 
-/// Answers as the book in it, and counts the items and the ready changes that it was asked for since the last delivery
-/// came, by a key or as many as were told at once.
+/// Answers as the book in it, and counts the items, plans, live builds and ready changes that it was asked for since the
+/// last delivery came: one for each lookup by a key, and each that a list has.
 #[derive(Drop)]
 struct Watched<B> {
     book: B,
@@ -121,11 +121,14 @@ impl<B: Book> Book for Watched<B> {
     }
 
     fn plan(&mut self, serial: Serial) -> Result<Option<Plan>, BookFault> {
+        self.count(1);
         self.book.plan(serial)
     }
 
     fn live_builds(&mut self, serial: Serial) -> Result<Sequence<Build>, BookFault> {
-        self.book.live_builds(serial)
+        let builds = self.book.live_builds(serial)?;
+        self.count(builds.as_slice().len());
+        Ok(builds)
     }
 
     fn plans_between(
@@ -134,7 +137,9 @@ impl<B: Book> Book for Watched<B> {
         above: u64,
         last: Serial,
     ) -> Result<Sequence<Plan>, BookFault> {
-        self.book.plans_between(queue, above, last)
+        let plans = self.book.plans_between(queue, above, last)?;
+        self.count(plans.as_slice().len());
+        Ok(plans)
     }
 
     fn builds_between(
@@ -143,7 +148,9 @@ impl<B: Book> Book for Watched<B> {
         above: u64,
         last: Serial,
     ) -> Result<Sequence<Build>, BookFault> {
-        self.book.builds_between(queue, above, last)
+        let builds = self.book.builds_between(queue, above, last)?;
+        self.count(builds.as_slice().len());
+        Ok(builds)
     }
 
     fn build(&mut self, number: BuildNo) -> Result<Option<Build>, BookFault> {
@@ -268,14 +275,14 @@ queue web window 3 landed 1
 end
 "#;
 
-/// The gate goes on by these parts, of which the last delivery asks for a few items.
+/// The gate goes on by these parts, of which the last delivery asks for a few items, plans and builds.
 fn reads_few<B: Archive>(
     rt: &(impl Abort + AllocGlobal),
     gate: &mut Gate<Watched<B>>,
     parts: &str,
 ) {
     goes_on(rt, gate, "a few items are read", parts);
-    holds(rt, gate.book.asked <= 8, parts);
+    holds(rt, gate.book.asked <= 12, parts);
 }
 
 fn reads_no_more_of_a_long_queue<B: Archive + Drop>(
