@@ -12,7 +12,7 @@ CHANGES = 10
 
 SIZES = {
     "whole": {"opening": (1000, 4000, 16000), "age": (1000, 4000, 16000), "length": (10, 100, 900),
-              "waiting": (0, 100, 1000), "chain": (10, 100, 400), "asked": (100, 10000), "running": (10, 100, 999)},
+              "waiting": (0, 100, 1000), "chain": (10, 100, 400), "asked": (100, 10000), "running": (10, 100, 997)},
     "small": {"opening": (10, 20), "age": (10, 20), "length": (10, 20), "waiting": (0, 10), "chain": (10, 20),
               "asked": (10, 20), "running": (10, 20)},
 }
@@ -47,11 +47,12 @@ class Gate:
         done = subprocess.run(self.words(), input=self.lines(deliveries), capture_output=True, check=True)
         return [json.loads(line) for line in done.stdout.splitlines()]
 
-    def count(self, deliveries):
-        """What deliveries cost, without opening the file, and the replies."""
-        idle, _ = counted(self.words(), b"", self.profile)
-        busy, output = counted(self.words(), self.lines(deliveries), self.profile)
-        replies = [json.loads(line) for line in output.splitlines()]
+    def count(self, deliveries, behind=()):
+        """What deliveries cost, without opening the file and those that they come behind, and the replies. Those are
+        sent twice."""
+        idle, _ = counted(self.words(), self.lines(behind), self.profile)
+        busy, output = counted(self.words(), self.lines([*behind, *deliveries]), self.profile)
+        replies = [json.loads(line) for line in output.splitlines()][len(behind):]
         refused = [reply for reply in replies if "error" in reply]
         if refused:
             raise SystemExit(f"refused: {refused[0]}")
@@ -80,6 +81,15 @@ class Gate:
         words = [self.program, "serve", self.settings, self.file]
         before = serving(words, [("GET", path, None) for path in ("/", *paths[:-1])], self.profile)
         return serving(words, [("GET", path, None) for path in ("/", *paths)], self.profile).over(before, 1)
+
+    def served_after(self, path, once, again):
+        """What this path costs a gate that has answered it, and then a delivery. It has to be given twice: a file takes
+        each once."""
+        words = [self.program, "serve", self.settings, self.file]
+        asked = [("GET", "/", None), ("GET", path, None)]
+        before = serving(words, [*asked, ("POST", "/worker", self.lines([once]))], self.profile)
+        after = [*asked, ("POST", "/worker", self.lines([again])), ("GET", path, None)]
+        return serving(words, after, self.profile).over(before, 1)
 
     def opening(self):
         return counted(self.words(), b"", self.profile)[0]
@@ -210,19 +220,22 @@ def asked(make, size):
 
 
 def running(make, size):
-    """Polls of a gate whose items are all being built, and the delivery of one more item's build."""
+    """Polls of a gate whose items are all being built, and the delivery of one more item's build: the first one after
+    the start, which reads the file, and later ones."""
     gate = make()
     gate.unbound()
     admit(gate, size)
     builds = [reply["build"] for reply in gate.tell([take() for _ in range(size)])]
     middle = len(builds) // 2
-    told = {"take, idle": gate.polled(), "take, idle, again": gate.polled([take()], [take()]),
-            "take, idle, after a result": gate.polled([result(builds[middle])], [result(builds[middle + 1])])}
-    told["result"], _ = gate.count([result(builds[middle + 2])])
-    admit(gate, 1)
-    told["take behind them"], _ = gate.count([take()])
-    for path in ("/status", "/orders", "/running"):
-        told[path], told[f"{path}, again"] = gate.served(path), gate.served(path, path)
+    ended = [result(build) for build in builds[middle:] + builds[:middle]]
+    told = {"take, idle, first": gate.polled(), "take, idle, again": gate.polled([take()], [take()]),
+            "take, idle, after a result": gate.polled([take(), ended[0]], [take(), ended[1]])}
+    told["result"], _ = gate.count([ended[2]], [take()])
+    for number, path in enumerate(("/status", "/orders", "/running")):
+        told[f"{path}, first"], told[f"{path}, again"] = gate.served(path), gate.served(path, path)
+        told[f"{path}, after a result"] = gate.served_after(path, ended[3 + 2 * number], ended[4 + 2 * number])
+    admit(gate, 3)
+    told["take behind them"], _ = gate.count([take()], [take()])
     for name, cost in told.items():
         print(f"{size} running".ljust(28), f"{name:26}", cost, flush=True)
 
