@@ -1,0 +1,94 @@
+//! Settings with as many queues, projects and jobs as there may be.
+use gate_config::read;
+use gate_types::config::Config;
+use std::alloc::{AllocError, Global};
+use std::process::Abort;
+
+/// As many queues as there may be.
+pub const QUEUES: u32 = 32;
+
+/// With this many projects in each queue there are 256, as many as there may be.
+pub const PROJECTS_OF_A_QUEUE: u32 = 8;
+
+/// As many jobs as a project may have.
+pub const JOBS: u32 = 32;
+
+/// The first lines of settings.
+const FORGE: &str = "[forge]\nbase = \"https://forge/c/\"\n";
+
+/// Adds a project with all its jobs.
+fn push_project(text: &mut String, name: &str, queue: &str) -> Result<(), AllocError> {
+    write!(
+        text,
+        "[[project]]\nname = \"{name}\"\nqueue = \"{queue}\"\n"
+    )?;
+    for job in 1..=JOBS {
+        write!(text, "[[project.job]]\nname = \"job-{job}\"\n")?;
+    }
+    Ok(())
+}
+
+/// As large as settings may be: the projects of `queue-7` are `queue-7/1` to `queue-7/8`, and their jobs `job-1` to
+/// `job-32`.
+fn largest_text(alloc: Global) -> Result<String, AllocError> {
+    let mut text = String::from_str(alloc, FORGE)?;
+    for n in 1..=QUEUES {
+        write!(
+            text,
+            "[[queue]]\nname = \"queue-{n}\"\nwindow = 2\nfloor = 1\n"
+        )?;
+    }
+    for n in 1..=QUEUES {
+        let queue = format!(in alloc; "queue-{n}")?;
+        for project in 1..=PROJECTS_OF_A_QUEUE {
+            let name = format!(in alloc; "queue-{n}/{project}")?;
+            push_project(&mut text, name.as_str(), queue.as_str())?;
+        }
+    }
+    Ok(text)
+}
+
+fn many_jobs_text(alloc: Global) -> Result<String, AllocError> {
+    let mut text = String::from_str(alloc, FORGE)?;
+    text.push_str("[[queue]]\nname = \"core\"\nwindow = 2\nfloor = 1\n")?;
+    push_project(&mut text, "lib", "core")?;
+    Ok(text)
+}
+
+const ONE_JOB: &str = r#"
+[forge]
+base = "https://forge/c/"
+
+[[queue]]
+name = "core"
+window = 2
+floor = 1
+
+[[project]]
+name = "lib"
+queue = "core"
+[[project.job]]
+name = "unit"
+"#;
+
+/// The settings of a file.
+fn config(rt: &(impl Abort + AllocGlobal), text: &str) -> Config {
+    read(rt.alloc(), text.as_bytes()).expect(rt, "settings")
+}
+
+/// The largest settings.
+pub fn largest(rt: &(impl Abort + AllocGlobal)) -> Config {
+    let text = largest_text(rt.alloc()).expect(rt, "memory");
+    config(rt, text.as_str())
+}
+
+/// The queue `core`, with a project `lib` that has as many jobs as there may be.
+pub fn many_jobs(rt: &(impl Abort + AllocGlobal)) -> Config {
+    let text = many_jobs_text(rt.alloc()).expect(rt, "memory");
+    config(rt, text.as_str())
+}
+
+/// The queue `core`, with a project `lib` that has one job.
+pub fn one_job(rt: &(impl Abort + AllocGlobal)) -> Config {
+    config(rt, ONE_JOB)
+}
