@@ -1,4 +1,4 @@
-//! A book in memory, one over it that holds in memory what is live, and a gate over a book that counts what it is asked.
+//! A book in memory, a book over it that holds what is live, and a gate over a book that counts what it is asked for.
 #![tactic(auto)]
 
 #[cfg(test)]

@@ -28,8 +28,8 @@ fn fill(rt: &(impl Abort + AllocGlobal), book: &mut Live) {
     book.fill(&config).expect(rt, "memory");
 }
 
-/// Seven reads fill it: the window, the items, the landings and the reports of its queue, the counters, the ready list and
-/// the only change that is ready.
+/// Seven reads fill it: the window, the items, the landings and the reports of its queue, the counters, the ready list
+/// and the only change that is ready.
 pub fn filled(rt: &(impl Abort + AllocGlobal), refuses: Option<BookFault>) -> Live {
     let mut book = unfilled(rt, refuses);
     fill(rt, &mut book);

@@ -1,5 +1,5 @@
-//! Which changes a book holds that holds what is live: those that are ready, and those of its items once they were asked
-//! for. Each test counts what the book below is asked for beside the seven reads that fill it.
+//! Which changes are held by a book that holds what is live: those that are ready, and those of its items once they
+//! were asked for. Each test counts what the book below is asked for beside the seven reads that fill it.
 use crate::asked::{approval_is, needing_is, needs_are, not_known, ready_are, ready_needing_is};
 use crate::live::{Live, filled, is_refused, reads_are};
 use crate::needing::ready;

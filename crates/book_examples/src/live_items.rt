@@ -1,4 +1,4 @@
-//! A book that holds what is live, and of its items the plans and the live builds: each is asked of the book below once.
+//! A book that holds what is live: it asks the book below for each plan and live build of its items once.
 use crate::asked::{live_between, live_builds, no_plan, plan_is, planned_between};
 use crate::live::{Live, filled, reads_are, unfilled};
 use crate::scene::{apply, build_no, put_build, put_plan, serial_no, set_outcome};
@@ -17,7 +17,7 @@ fn items_are_told<B: Book>(rt: &(impl Abort + AllocGlobal), book: &mut B) {
     live_between(rt, book, 0, 4, &[1, 2]);
 }
 
-/// Nine reads: five fill the book, then the plan and the live builds of each item are asked for.
+/// Eleven reads: seven fill the book, then the plan and the live builds of each item are asked for.
 fn asked(rt: &(impl Abort + AllocGlobal)) -> Live {
     let mut book = filled(rt, None);
     items_are_told(rt, &mut book);

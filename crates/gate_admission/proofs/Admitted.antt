@@ -25,8 +25,10 @@ use Rattle.gate_types.specs.Standing.{needs_of, with_ahead, place_of, places_aft
 use Rattle.gate_types.specs.Rows.{row_of, item_rows}
 use Rattle.gate_types.specs.Admit.{may_enter, next_plan, entered, admit_one, admit}
 use Rattle.gate_book_trait.specs.Reads.{queue_named, items_in}
+use Rattle.gate_book_trait.proofs.ReadLemmas.{and_first}
 use Rattle.gate_admission.specs.Known.{IsQueue, has_room, has_place}
 use Rattle.gate_admission.specs.Enters.{item_in}
+use Rattle.gate_reads.proofs.Queues.{names}
 
 -- the names of the queues differ, and none is empty
 pub record AreNamed (s : State) : Type 0 where
@@ -59,9 +61,6 @@ item_found c s name q m e =
     ap (λ o. is_some (item_in m (option_map_or (item_rows c s) o []))) e ∙ found_along c s q m [] q.items
 
 -- ---- one queue is asked
-
-abbrev names : List Queue → List (List ℕ)
-names qs = map (λ q. q.name) qs
 
 -- no queue of a name
 none_named : (f : Queue → Bool) (name : List ℕ) (qs : List Queue) → list_any (same_name name) (names qs) ≡ false →
@@ -139,10 +138,6 @@ pub in_project : (c : Settings) (s : State) (r : Ready) (p : Project) → AreNam
 in_project c s r p a e =
     may_is c s r a ∙ ap (λ (o : Option Project). has_place s
     (unwrap_or o (record { name = []; queue = []; jobs = []; fail_fast = false })).queue (needs_of s r.change)) e
-
-and_first : (a b : Bool) → a && b ≡ true → a ≡ true
-and_first true b e = refl
-and_first false b e = e
 
 -- the names of a sound state are those of the lawful content before it
 pub are_named : (c : Settings) (x : Content) (v : State) → are_sound c ≡ true → IsLawfulContent c x → IsSound c v →

@@ -1,6 +1,5 @@
 -- Tests along a list, from a place on.
-use Rattle.std.proofs.Common.{◌≡◌, ℕ, zero, suc, ◌+◌, ◌<◌, ◌≤◌, Bool, true, false, not, ◌&&◌, ◌||◌, cond, Some, None, List, [], ◌∷◌, ◌++◌, filter, take, drop, length, get_or, refl, sym, ap, ◌∙◌, arith, add-one}
-use Rattle.std.specs.Prelude.{find}
+use Rattle.std.proofs.Common.{◌≡◌, ℕ, zero, suc, ◌+◌, ◌<◌, ◌≤◌, Bool, true, false, not, ◌&&◌, ◌||◌, cond, List, [], ◌∷◌, ◌++◌, filter, take, drop, length, get_or, refl, sym, ap, ◌∙◌, arith, add-one}
 use Rattle.std.specs.List.{list_all, list_any}
 use Rattle.std.proofs.lemmas.Bool.{or_parts}
 
@@ -17,20 +16,6 @@ all_end t [] zero l = refl
 all_end t [] (suc k) l = refl
 all_end t (y ∷ ys) zero l = absurd (omega (arith, l))
 all_end t (y ∷ ys) (suc k) l = all_end t ys k (omega (arith, l))
-
-pub find_step : {X : Type 0} (t : X → Bool) (xs : List X) (k : ℕ) (x : X) → k < length xs → x ≡ get_or xs k x →
-    find t (drop k xs) ≡ cond (t x) (Some x) (find t (drop (k + 1) xs))
-find_step t [] k x l e = absurd (omega (arith, l))
-find_step t (y ∷ ys) zero x l e = ap (λ z. cond (t z) (Some z) (find t ys)) (sym e)
-find_step t (y ∷ ys) (suc k) x l e =
-    find_step t ys k x (omega (arith, l)) e ∙ ap (λ n. cond (t x) (Some x) (find t (drop n ys))) (add-one k)
-    ∙ sym (ap (λ n. cond (t x) (Some x) (find t (drop n (y ∷ ys)))) (add-one (suc k)))
-
-pub find_end : {X : Type 0} (t : X → Bool) (xs : List X) (k : ℕ) → length xs ≤ k → find t (drop k xs) ≡ None
-find_end t [] zero l = refl
-find_end t [] (suc k) l = refl
-find_end t (y ∷ ys) zero l = absurd (omega (arith, l))
-find_end t (y ∷ ys) (suc k) l = find_end t ys k (omega (arith, l))
 
 -- one more is looked at: it stays unless it passes
 pub filter_step : {X : Type 0} (p : X → Bool) (xs : List X) (k : ℕ) (x : X) → k < length xs → x ≡ get_or xs k x →
@@ -67,17 +52,6 @@ any_step t xs k x l e f h = ap (λ n. list_any t (take n xs)) (add-one k) ∙ al
     along t (y ∷ ys) (suc k) x l e f h =
         let both = or_parts (t y) (list_any t (take k ys)) h in
         ap (λ b. b || list_any t (take (suc k) ys)) both.0 ∙ along t ys k x (omega (arith, l)) e f both.1
-
--- one that passes
-pub any_there : {X : Type 0} (t : X → Bool) (xs : List X) (k : ℕ) (x : X) → k < length xs → x ≡ get_or xs k x →
-    t x ≡ true → list_any t xs ≡ true
-any_there t [] k x l e h = absurd (omega (arith, l))
-any_there t (y ∷ ys) zero x l e h = ap (λ z. t z || list_any t ys) (sym e) ∙ ap (λ b. b || list_any t ys) h
-any_there t (y ∷ ys) (suc k) x l e h = ap (λ b. t y || b) (any_there t ys k x (omega (arith, l)) e h) ∙ or_true (t y)
-  where
-    or_true : (b : Bool) → (b || true) ≡ true
-    or_true true = refl
-    or_true false = refl
 
 -- all were looked at
 pub any_end : {X : Type 0} (t : X → Bool) (xs : List X) (k : ℕ) → length xs ≤ k → list_any t (take k xs) ≡ false →

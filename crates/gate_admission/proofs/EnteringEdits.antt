@@ -1,8 +1,8 @@
 -- The edits of a change that enters lead to the state in which it has entered.
 use Rattle.std.proofs.Common.{◌≡◌, ◌≢◌, ℕ, ◌+◌, ◌<◌, ◌≤◌, inl, inr, ⊎_elim, Bool, true, false, not, cond, Option, Some, None, List, [], ◌∷◌, ◌++◌, map, flat_map, refl, sym, ap, ◌∙◌, subst, true≢false, arith}
-use Rattle.std.specs.Prelude.{find, nat_lt, nat_le, ◌==◌, option_map}
+use Rattle.std.specs.Prelude.{find, nat_lt, ◌==◌, option_map}
 use Rattle.std.specs.Option.{option_map_or}
-use Rattle.std.proofs.lemmas.Bool.{eqb-true, eq-eqb, ne_eqb, le-ltb, leb-true}
+use Rattle.std.proofs.lemmas.Bool.{eqb-true, eq-eqb, ne_eqb, le-ltb}
 use Rattle.std.proofs.lemmas.Option.{none-some}
 use Rattle.std.proofs.lemmas.List.Concat.{flat_map-cons}
 use Rattle.gate_types.specs.declared.records.Build.{Build}
@@ -20,14 +20,15 @@ use Rattle.gate_types.specs.State.{Item, Queue, State, put_by, known_change, pro
 use Rattle.gate_types.specs.Once.{Content}
 use Rattle.gate_types.specs.Rows.{item_rows}
 use Rattle.gate_types.specs.Admit.{may_enter, with_item, next_item, next_plan, entered}
-use Rattle.gate_types.specs.Lawful.{IsSound, serials_of, drawn_serials}
+use Rattle.gate_types.specs.Lawful.{IsSound}
 use Rattle.gate_types.specs.Tables.{Tables, QueueRows, tables, queue_rows, change_row, approval_of, edited_queue, edited_tables, fold_all}
+use Rattle.gate_types.proofs.NameLemmas.{same_name_is}
 use Rattle.gate_book_trait.specs.Reads.{queue_named}
-use Rattle.gate_laws.proofs.Members.{In, every, all, found, map_map, map_same, to_map, to_right}
+use Rattle.gate_laws.proofs.Members.{In, all, found, map_map, map_same}
 use Rattle.gate_laws.proofs.Rising.{Rising, rising}
 use Rattle.gate_laws.proofs.Counts.{times, times-append, distinct_to}
-use Rattle.gate_laws.proofs.Alone.{changes_once, item_changes, name_alone, same_name_is, same_name_of}
-use Rattle.gate_laws.proofs.Drawn.{item_drawn}
+use Rattle.gate_laws.proofs.Alone.{changes_once, item_changes, name_alone, same_name_of}
+use Rattle.gate_laws.proofs.Drawn.{item_drawn, build_drawn}
 use Rattle.gate_laws.proofs.AdmitIsSound.{one_sound}
 use Rattle.gate_admission.specs.Led.{IsLed}
 use Rattle.gate_admission.specs.Seen.{ready_without}
@@ -117,14 +118,6 @@ put_last row (y ∷ ys) h =
     (cond (le-ltb row.serial y.serial (omega (arith, low)) i) (row ∷ y ∷ ys)
     (y ∷ put_by (λ (j : ItemRow). j.serial) row ys)))
     ∙ ap (λ zs. y ∷ zs) (put_last row ys (λ r m. h r (inr m)))
-
--- the serials of builds are drawn
-build_drawn : (c : Settings) (s : State) → IsSound c s → (b : Build) → In b s.builds → b.serial ≤ s.counters.order
-build_drawn c s sound b m =
-    leb-true b.serial s.counters.order
-    (every (λ n. nat_le n s.counters.order ≡ true) (drawn_serials s) sound.serials_are_drawn b.serial
-    (to_right (flat_map serials_of s.queues) (map (λ (x : Build). x.serial) s.builds) b.serial
-    (to_map (λ (x : Build). x.serial) s.builds b m)))
 
 times_part : (n : ℕ) (f : Queue → List ℕ) (qs : List Queue) (q : Queue) → In q qs →
     times n (f q) ≤ times n (flat_map f qs)

@@ -1,6 +1,6 @@
 -- What the edits make of the tables is what the state has to which they lead.
-use Rattle.std.proofs.Common.{◌≡◌, ℕ, Bool, true, false, cond, Option, Some, None, List, [], ◌∷◌, map, fold, refl, sym, ap, ◌∙◌}
-use Rattle.std.specs.Prelude.{find, option_map, ◌==◌}
+use Rattle.std.proofs.Common.{◌≡◌, ℕ, Option, Some, None, List, [], ◌∷◌, map, fold, refl, sym, ap, ◌∙◌}
+use Rattle.std.specs.Prelude.{option_map, ◌==◌}
 use Rattle.std.specs.Option.{option_map_or, option_or}
 use Rattle.std.proofs.lemmas.Option.{none-some}
 use Rattle.gate_types.specs.declared.records.Change.{Change}
@@ -12,25 +12,16 @@ use Rattle.gate_types.specs.State.{Queue, State, known_change}
 use Rattle.gate_types.specs.Once.{Content}
 use Rattle.gate_types.specs.Rows.{item_rows}
 use Rattle.gate_types.specs.Tables.{Tables, QueueRows, tables, queue_rows, change_row, edited_changes, edited_counters, edited_queue, edited_tables, fold_all}
+use Rattle.gate_types.proofs.NameLemmas.{same_name_is}
 use Rattle.gate_reads.specs.Moves.{in_state}
 use Rattle.gate_book_trait.specs.Reads.{queue_named, items_in}
 use Rattle.gate_book_trait.specs.RowReads.{change_in, rows_named}
-use Rattle.gate_laws.proofs.Alone.{same_name_is}
+use Rattle.gate_book_trait.proofs.Finding.{find_map}
 use Rattle.gate_laws.proofs.Members.{found}
 use Rattle.gate_admission.specs.Led.{IsLed}
 use Rattle.gate_admission.specs.Known.{IsQueue}
 use Rattle.gate_admission.specs.Seen.{change_put, last_put, items_after}
 use Rattle.gate_admission.proofs.Rows.{changes_fold, last_or}
-
-pub find_map : {X Y : Type 0} (f : X → Y) (test : Y → Bool) (xs : List X) →
-    find test (map f xs) ≡ option_map f (find (λ x. test (f x)) xs)
-find_map f test [] = refl
-find_map f test (x ∷ xs) = by_test (test (f x)) (find_map f test xs)
-  where
-    by_test : (b : Bool) → find test (map f xs) ≡ option_map f (find (λ y. test (f y)) xs) →
-        cond b (Some (f x)) (find test (map f xs)) ≡ option_map f (cond b (Some x) (find (λ y. test (f y)) xs))
-    by_test true h = refl
-    by_test false h = h
 
 -- ---- counters and changes
 
@@ -94,10 +85,6 @@ queues_all t (e ∷ es) name =
     by_found None = refl
     by_found (Some q) = refl
 
-name_after : (edits : List Edit) (q : QueueRows) → (queue_after edits q).name ≡ q.name
-name_after [] q = refl
-name_after (e ∷ es) q = name_after es (edited_queue e q)
-
 items_of_queue : (edits : List Edit) (q : QueueRows) → (queue_after edits q).items ≡ items_after q.name q.items edits
 items_of_queue [] q = refl
 items_of_queue (e ∷ es) q = items_of_queue es (edited_queue e q)
@@ -151,27 +138,3 @@ items_led c x edits v name led there =
     let at = queue_after_is c x edits v name there.queue led there.named in
     ap (λ o. items_after name (option_map_or (item_rows c x.state) o []) edits) at.named ∙ at.items
     ∙ sym (ap (λ o. option_map_or (item_rows c v) o []) there.named)
-
--- where there is no queue before, there is none after
-pub no_queue_led : (c : Settings) (x : Content) (edits : List Edit) (v : State) (name : List ℕ) → IsLed c x edits v →
-    queue_named x.state name ≡ None → queue_named v name ≡ None
-no_queue_led c x edits v name led none = by_found (queue_named v name) refl
-  where
-    by_found : (o : Option Queue) → queue_named v name ≡ o → o ≡ None
-    by_found None e = refl
-    by_found (Some q) e =
-        let at = queue_after_is c x edits v name q led e in
-        absurd (none-some at.before (sym none ∙ at.named))
-
--- where there is one before, there is one after
-pub queue_led : (c : Settings) (x : Content) (edits : List Edit) (v : State) (name : List ℕ) (p : Queue) →
-    IsLed c x edits v → queue_named x.state name ≡ Some p → IsQueue v name
-queue_led c x edits v name p led named = by_found (queue_named v name) refl (queues_led c x edits v name led
-    ∙ ap (λ o. option_map (queue_after edits) (option_map (λ q. queue_rows (item_rows c x.state q) q) o)) named)
-  where
-    by_found : (o : Option Queue) → queue_named v name ≡ o →
-        option_map (λ q. queue_rows (item_rows c v q) q) o ≡
-        Some (queue_after edits (queue_rows (item_rows c x.state p) p)) →
-        IsQueue v name
-    by_found None e same = absurd (none-some (queue_after edits (queue_rows (item_rows c x.state p) p)) same)
-    by_found (Some q) e same = record { queue = q; named = e }

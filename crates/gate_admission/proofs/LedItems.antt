@@ -1,9 +1,8 @@
 -- The items of a queue in the state to which edits lead.
-use Rattle.std.proofs.Common.{◌≡◌, ℕ, ◌+◌, ◌<◌, ◌≤◌, ⊎_elim, false, length, refl, Option, Some, None, List, [], sym, ap, ◌∙◌, subst, arith}
-use Rattle.std.specs.Prelude.{true, option_map, is_some, nat_lt}
+use Rattle.std.proofs.Common.{◌≡◌, ℕ, ◌+◌, ◌<◌, ◌≤◌, ⊎_elim, false, length, Option, Some, List, [], sym, ap, ◌∙◌, subst, arith}
+use Rattle.std.specs.Prelude.{nat_lt}
 use Rattle.std.specs.Option.{option_map_or, option_or}
-use Rattle.std.proofs.lemmas.Bool.{lt-ltb, le-ltb, cases_lt, true≢false}
-use Rattle.std.proofs.lemmas.Option.{none-some}
+use Rattle.std.proofs.lemmas.Bool.{lt-ltb, le-ltb, cases_lt}
 use Rattle.gate_types.specs.declared.records.Item.{Item as ItemRow}
 use Rattle.gate_types.specs.declared.edits.Edit.{Edit}
 use Rattle.gate_types.specs.Settings.{Settings}
@@ -11,7 +10,7 @@ use Rattle.gate_types.specs.State.{Queue, State}
 use Rattle.gate_types.specs.Once.{Content}
 use Rattle.gate_types.specs.Rows.{item_rows}
 use Rattle.gate_types.specs.Lawful.{IsSound}
-use Rattle.gate_book_trait.specs.Reads.{items_in, queued_of, queue_named, window_of, item_count, last_below}
+use Rattle.gate_book_trait.specs.Reads.{items_in, queued_of, item_count, last_below}
 use Rattle.gate_laws.proofs.Rising.{Rising}
 use Rattle.gate_admission.specs.Led.{IsLed}
 use Rattle.gate_admission.specs.Known.{IsQueue, has_room}
@@ -21,7 +20,7 @@ use Rattle.gate_admission.proofs.QueueItems.{serial_of}
 use Rattle.gate_admission.proofs.LastItem.{last_is}
 use Rattle.gate_admission.proofs.ByChange.{AreOnce, AreTold, by_change}
 use Rattle.gate_admission.proofs.Standing.{rows_rise, rows_length, row_once, row_drawn, queue_in, stored_tells}
-use Rattle.gate_admission.proofs.Led.{queue_after_is, items_led, queue_led, no_queue_led}
+use Rattle.gate_admission.proofs.Led.{queue_after_is, items_led}
 
 pub change_led : (c : Settings) (x : Content) (edits : List Edit) (v : State) (name : List ℕ) (n : ℕ) →
     IsSound c x.state → IsLed c x edits v → IsQueue v name →

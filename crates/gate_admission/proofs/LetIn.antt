@@ -1,9 +1,9 @@
 -- Who is looked at: those whom the edits put, and those who need a change that they put as landed.
-use Rattle.std.proofs.Common.{◌≡◌, ◌≢◌, ℕ, Bool, true, false, not, ◌&&◌, ◌||◌, cond, Option, Some, None, List, [], ◌∷◌, ◌++◌, ◌⊎◌, filter, fold, flat_map, refl, sym, ap, ◌∙◌, subst, inl, inr, ⊎_elim, true≢false}
-use Rattle.std.specs.Prelude.{find, nat_lt, ◌==◌, Contains, unwrap_or}
+use Rattle.std.proofs.Common.{◌≡◌, ℕ, Bool, true, false, not, ◌&&◌, ◌||◌, cond, Option, Some, None, List, [], ◌∷◌, ◌⊎◌, filter, fold, flat_map, refl, sym, ap, ◌∙◌, subst, inl, inr, ⊎_elim, true≢false}
+use Rattle.std.specs.Prelude.{nat_lt, ◌==◌, unwrap_or}
 use Rattle.std.specs.List.{list_any}
 use Rattle.std.specs.Option.{option_or}
-use Rattle.std.proofs.lemmas.Bool.{or_parts, and_parts, eqb-true, eq-eqb, ne_eqb, not-true}
+use Rattle.std.proofs.lemmas.Bool.{or_parts, eqb-true, eq-eqb, not-true}
 use Rattle.gate_types.specs.declared.records.Change.{Change}
 use Rattle.gate_types.specs.declared.records.Ready.{Ready}
 use Rattle.gate_types.specs.declared.edits.Edit.{Edit}
@@ -13,11 +13,10 @@ use Rattle.gate_types.specs.Settings.{Settings}
 use Rattle.gate_types.specs.State.{State, known_change, change_of, is_landed}
 use Rattle.gate_types.specs.Once.{Content}
 use Rattle.gate_types.specs.Lawful.{IsSound}
-use Rattle.gate_types.specs.Admit.{may_enter}
 use Rattle.gate_book_trait.specs.Reads.{ready_needing}
 use Rattle.gate_laws.proofs.Members.{In, from_filter, to_filter, from_append, to_left, to_right, from_flat, to_flat, any_from, any_to, none_from, contains_in, in_contains}
 use Rattle.gate_admission.specs.Led.{IsLed}
-use Rattle.gate_admission.specs.Seen.{ready_after, ready_without, with_approval, change_put, last_put}
+use Rattle.gate_admission.specs.Seen.{ready_after, ready_without, with_approval, change_put}
 use Rattle.gate_admission.specs.Candidates.{needs_it, puts, makes_room, lets_in, EntersByEdits, put_ready, left_needing, let_in_by, let_in, AreToLookAt}
 use Rattle.gate_admission.proofs.Led.{known_led}
 use Rattle.gate_admission.proofs.ReadyList.{other_than, stays_in, ready_led}

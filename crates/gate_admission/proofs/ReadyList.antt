@@ -14,13 +14,16 @@ use Rattle.gate_types.specs.State.{State, put_by, known_change, change_of, is_op
 use Rattle.gate_types.specs.Once.{Content}
 use Rattle.gate_types.specs.Lawful.{IsSound, waiting_changes}
 use Rattle.gate_types.specs.Tables.{approval_of, change_row, edited_changes}
+use Rattle.gate_types.proofs.PlainLemmas.{some_is}
 use Rattle.gate_laws.proofs.Members.{In, every, found, not_found, from_filter, to_filter, from_append, to_left, to_right}
 use Rattle.gate_laws.proofs.Rising.{Rising, rising}
 use Rattle.gate_laws.proofs.Counts.{distinct_from, times-append, one_of}
 use Rattle.gate_admission.specs.Led.{IsLed}
 use Rattle.gate_admission.specs.Seen.{ready_after, ready_without, with_approval}
 use Rattle.gate_admission.proofs.Rows.{find_put}
-use Rattle.gate_admission.proofs.Led.{changes_led, find_map}
+use Rattle.gate_admission.proofs.Led.{changes_led}
+use Rattle.gate_book_trait.specs.RowReads.{approval_in}
+use Rattle.gate_book_trait.proofs.Finding.{find_map}
 
 -- ---- lists
 
@@ -81,10 +84,6 @@ apart_same (x ∷ xs) r t h m n e = ⊎_elim
 
 -- ---- the list that rows tell
 
--- the approval in the row of a change
-abbrev pub approval_in : List ChangeRow → ℕ → Option ℕ
-approval_in rows n = option_and_then (λ r. r.approval) (find (λ r. r.change.number == n) rows)
-
 -- the list holds each change whose row has an approval, and no other
 pub record AreReady (rows : List ChangeRow) (rs : List Ready) : Type 0 where
   pub climbing : Climbing rs
@@ -117,13 +116,6 @@ other_than n rs r m =
 pub stays_in : (n : ℕ) (rs : List Ready) (r : Ready) → In r rs → r.change ≢ n → In r (ready_without n rs)
 stays_in n rs r m other =
     to_filter (λ (t : Ready). not (t.change == n)) rs r m (ap not (ne_eqb r.change n other))
-
-some_is : (a b : ℕ) → Some a ≡ Some b → a ≡ b
-some_is a b e = ap (λ (o : Option ℕ). unwrap_or o a) e
-
--- the row of another change
-abbrev other_row : ℕ → Option ℕ → Option ℕ → Bool → Option ℕ
-other_row n a o b = cond b a o
 
 ready_step : (rows : List ChangeRow) (rs : List Ready) (k : Change) (a : Option ℕ) → AreReady rows rs →
     AreReady (edited_changes rows (edit.PutChange k a)) (with_approval a k.number (ready_without k.number rs))

@@ -1,5 +1,5 @@
 -- A queue has no more items than there are serials from its first to its last.
-use Rattle.std.proofs.Common.{◌≡◌, ℕ, zero, suc, ◌+◌, ◌-◌, ◌<◌, ◌≤◌, Bool, true, false, ◌&&◌, cond, Option, Some, None, List, [], ◌∷◌, fold, length, refl, sym, ap, ◌∙◌, subst, arith, inl, inr, ⊎_elim, true≢false}
+use Rattle.std.proofs.Common.{◌≡◌, ℕ, ◌+◌, ◌-◌, ◌<◌, ◌≤◌, true, false, cond, Option, Some, None, List, [], ◌∷◌, fold, length, refl, sym, ap, ◌∙◌, subst, arith, inl, inr, ⊎_elim, true≢false}
 use Rattle.std.specs.Prelude.{nat_lt, nat_le, find, unwrap_or, option_map}
 use Rattle.std.specs.Option.{option_map_or}
 use Rattle.std.proofs.lemmas.Bool.{and_parts, leb-true, lt-ltb}
@@ -17,7 +17,7 @@ use Rattle.gate_laws.proofs.Members.{In, every, all_from, not_found, filter_all}
 use Rattle.gate_laws.proofs.Rising.{Rising}
 use Rattle.gate_admission.specs.Led.{IsLed}
 use Rattle.gate_admission.specs.Known.{IsQueue, has_room}
-use Rattle.gate_admission.specs.Seen.{items_after, grows, shrinks, one_if}
+use Rattle.gate_admission.specs.Seen.{items_after, grows}
 use Rattle.gate_admission.specs.Candidates.{is_full}
 use Rattle.gate_admission.proofs.Led.{items_led}
 use Rattle.gate_admission.proofs.LastItem.{AtMost, last_of, last_most}

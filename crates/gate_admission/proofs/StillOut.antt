@@ -1,8 +1,8 @@
 -- Who may not enter still may not once another has entered that it doesn't need.
-use Rattle.std.proofs.Common.{◌≡◌, ℕ, suc, Bool, true, false, ◌&&◌, ◌||◌, List, [], ◌∷◌, ◌++◌, map, length, refl, sym, ap, ◌∙◌, arith, true≢false, lt-ltb}
+use Rattle.std.proofs.Common.{◌≡◌, ℕ, Bool, true, false, ◌&&◌, ◌||◌, List, [], ◌∷◌, ◌++◌, map, length, refl, sym, ap, ◌∙◌, arith, lt-ltb}
 use Rattle.std.specs.Prelude.{nat_lt, ◌==◌, if◌then◌else◌}
 use Rattle.std.specs.List.{list_any}
-use Rattle.std.proofs.lemmas.Bool.{or_parts, ltb-true, eqb-true, eq-eqb}
+use Rattle.std.proofs.lemmas.Bool.{or_parts, ltb-true}
 use Rattle.gate_types.specs.declared.records.Need.{Need}
 use Rattle.gate_types.specs.Names.{same_name}
 use Rattle.gate_types.specs.Settings.{Settings}
@@ -10,6 +10,8 @@ use Rattle.gate_types.specs.declared.records.Ready.{Ready}
 use Rattle.gate_types.specs.State.{Item, Queue, State, change_of, project_of, has_change, need_of}
 use Rattle.gate_types.specs.Slot.{are_met_by}
 use Rattle.gate_types.specs.Admit.{may_enter, entered, with_item, next_item}
+use Rattle.gate_admission.proofs.EnteringRow.{length_push}
+use Rattle.gate_laws.proofs.Tests.{flipped}
 
 -- a queue with room in which the needs are met
 abbrev fits : List Need → Queue → Bool
@@ -19,24 +21,13 @@ has_more : (is : List Item) (i : Item) (m : ℕ) → i.change == m ≡ false →
 has_more [] i m e = ap (λ t. t || false) e
 has_more (x ∷ is) i m e = ap (λ t. x.change == m || t) (has_more is i m e)
 
-turned : (m n : ℕ) → m == n ≡ false → n == m ≡ false
-turned m n e = by_test (n == m) refl
-  where
-    by_test : (b : Bool) → n == m ≡ b → b ≡ false
-    by_test true f = absurd (true≢false (sym (eq-eqb m n (sym (eqb-true n m f))) ∙ e))
-    by_test false f = refl
-
 -- an item that is none of the needs meets none
 met_same : (s : State) (is : List Item) (i : Item) (ns : List ℕ) → list_any (λ m. m == i.change) ns ≡ false →
     are_met_by (is ++ i ∷ []) (map (need_of s) ns) ≡ are_met_by is (map (need_of s) ns)
 met_same s is i [] h = refl
 met_same s is i (n ∷ ns) h =
     let both = or_parts (n == i.change) (list_any (λ m. m == i.change) ns) h in
-    λ k. ((need_of s n).landed || has_more is i n (turned n i.change both.0) k) && met_same s is i ns both.1 k
-
-length_more : {X : Type 0} (xs : List X) (x : X) → length (xs ++ x ∷ []) ≡ suc (length xs)
-length_more [] x = refl
-length_more (y ∷ xs) x = ap suc (length_more xs x)
+    λ k. ((need_of s n).landed || has_more is i n (flipped n i.change both.0) k) && met_same s is i ns both.1 k
 
 -- where it didn't fit it doesn't with one item more
 fits_less : (s : State) (q : Queue) (i : Item) (ns : List ℕ) → list_any (λ m. m == i.change) ns ≡ false →
@@ -49,7 +40,7 @@ fits_less s q i ns h e =
         (nat_lt (length q.items) 1000 && m) ≡ false → (b && m) ≡ false
     by_test false f m g = refl
     by_test true f m g =
-        let more = length_more q.items i in
+        let more = length_push q.items i in
         let less = ltb-true (length (q.items ++ i ∷ [])) 1000 f in
         ap (λ t. t && m) (sym (lt-ltb (length q.items) 1000 (omega (arith, more, less)))) ∙ g
 

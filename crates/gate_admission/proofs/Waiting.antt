@@ -1,10 +1,9 @@
 -- Candidates, each under the number of its approval: some are added, and the first is taken out.
-use Rattle.std.proofs.Common.{◌≡◌, ◌≢◌, ◌≤◌, ℕ, Bool, true, false, not, cond, Option, Some, None, List, [], ◌∷◌, ◌⊎◌, filter, fold, refl, sym, ap, ◌∙◌, subst, inl, inr, ⊎_elim, true≢false, arith}
-use Rattle.std.specs.Prelude.{find, ◌==◌, Contains, unwrap_or, is_some}
-use Rattle.std.specs.List.{list_any}
-use Rattle.std.specs.Ordering.{nat_cmp, is_eq, is_gt}
-use Rattle.std.specs.BTreeMap.{BTreeMap, get, is_at, Updates, IsLowerBound}
-use Rattle.std.proofs.lemmas.Bool.{eqb-true, eq-eqb, ne_eqb, ltb-true, ltb-false, not-true}
+use Rattle.std.proofs.Common.{◌≡◌, ◌≢◌, ◌≤◌, ℕ, Bool, true, false, not, cond, Option, Some, None, List, [], ◌∷◌, ◌⊎◌, fold, refl, sym, ap, ◌∙◌, inl, inr, ⊎_elim, true≢false, arith}
+use Rattle.std.specs.Prelude.{find, ◌==◌, is_some}
+use Rattle.std.specs.Ordering.{nat_cmp, is_gt}
+use Rattle.std.specs.BTreeMap.{BTreeMap, get, is_at, IsLowerBound}
+use Rattle.std.proofs.lemmas.Bool.{eqb-true, eq-eqb, ne_eqb, not-true}
 use Rattle.std.proofs.lemmas.Bool.Decides.{nat_tests}
 use Rattle.std.proofs.lemmas.Option.{none-some}
 use Rattle.gate_types.specs.declared.records.Ready.{Ready}
@@ -12,14 +11,12 @@ use Rattle.gate_types.specs.Settings.{Settings}
 use Rattle.gate_types.specs.State.{State}
 use Rattle.gate_types.specs.Admit.{may_enter, entered}
 use Rattle.gate_types.specs.Lawful.{IsSound}
-use Rattle.gate_laws.proofs.Members.{In, from_filter, to_filter, not_found, found, contains_in, in_contains}
+use Rattle.gate_types.proofs.PlainLemmas.{some_is}
+use Rattle.gate_laws.proofs.Members.{In, from_filter, to_filter, contains_in, in_contains}
 use Rattle.gate_laws.proofs.Rising.{Rising, rising}
 use Rattle.gate_admission.specs.Candidates.{needs_it, change_under, IsAmong, AreCandidates, AreOthers, AreToLookAt, EntersFirst}
 use Rattle.gate_admission.proofs.ReadyList.{apart_ready, apart_same}
 use Rattle.gate_admission.proofs.StillOut.{stays_out}
-
-approval_of : Ready → ℕ
-approval_of r = r.approval
 
 -- the ready list rises by approval
 pub ready_rise : (c : Settings) (v : State) → IsSound c v → Rising (λ (r : Ready). r.approval) v.ready
@@ -43,9 +40,6 @@ one_approval (w ∷ ws) r t up m n e = ⊎_elim
     m
 
 -- ---- some are added
-
-some_is : (a b : ℕ) → Some a ≡ Some b → a ≡ b
-some_is a b e = ap (λ (o : Option ℕ). unwrap_or o a) e
 
 from_added : (rows : List Ready) (a n : ℕ) (o : Option ℕ) → fold (change_under a) o rows ≡ Some n →
     (o ≡ Some n) ⊎ In (record { approval = a; change = n }) rows

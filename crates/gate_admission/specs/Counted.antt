@@ -1,5 +1,5 @@
 -- For the inside alone: numbers past the last one.
-use Rattle.std.specs.Prelude.{ℕ, Bool, false, nat_lt}
+use Rattle.std.specs.Prelude.{Bool, false, nat_lt}
 use Rattle.gate_types.specs.declared.edits.Edit.{Edit}
 use Rattle.gate_types.specs.declared.edits.Edit.TheVariants as edit
 

@@ -1,7 +1,7 @@
 //! The edits that let ready changes enter their queues.
-ghost use Rattle.std.specs.Prelude.{◌≡◌, ◌≤◌, true, false, nat_lt, MatchOption, IfOk, IfErr};
+ghost use Rattle.std.specs.Prelude.{◌≡◌, true, false, MatchOption, IfOk, IfErr};
 ghost use Rattle.std.specs.List.{list_any};
-ghost use Rattle.std.specs.BTreeMap.{BTreeMap, IsEmpty};
+ghost use Rattle.std.specs.BTreeMap.{IsEmpty};
 ghost use Rattle.gate_types.specs.State.{State};
 ghost use Rattle.gate_types.specs.Admit.{admit};
 ghost use Rattle.gate_types.specs.Step.{is_exhausted};

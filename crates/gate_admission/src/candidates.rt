@@ -1,13 +1,12 @@
 //! Who might enter by what a delivery did, so that not all who wait are asked about.
-ghost use Rattle.std.specs.Prelude.{◌≡◌, ◌++◌, ◌∷◌, [], not, fold, filter, flat_map, take, IfOk, IfErr, OnOk, ℕ};
+ghost use Rattle.std.specs.Prelude.{◌≡◌, ◌++◌, not, fold, filter, IfOk, IfErr, OnOk, ℕ};
 ghost use Rattle.std.specs.List.{list_any};
 ghost use Rattle.std.specs.Ordering.{nat_cmp};
 ghost use Rattle.std.specs.BTreeMap.{get};
-ghost use Rattle.gate_types.specs.State.{State, is_landed};
+ghost use Rattle.gate_types.specs.State.{State};
 ghost use Rattle.gate_book_trait.specs.Faults.{MayAnswer};
 ghost use Rattle.gate_book_trait.specs.Kept.{OfHeld, IsKept};
 ghost use Rattle.gate_admission.specs.Led.{IsLed};
-ghost use Rattle.gate_admission.specs.Seen.{ready_after};
 ghost use Rattle.gate_admission.specs.Candidates as candidate;
 ghost use Rattle.gate_admission.specs.Candidates.{AreCandidates, AreOthers, EntersByEdits, change_under};
 

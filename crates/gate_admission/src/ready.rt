@@ -1,5 +1,5 @@
 //! The ready list, as it is after edits.
-ghost use Rattle.std.specs.Prelude.{◌≡◌, ◌++◌, ◌∷◌, [], not, ◌==◌, nat_lt, fold, filter, IfOk, IfErr};
+ghost use Rattle.std.specs.Prelude.{◌≡◌, ◌++◌, not, nat_lt, fold, filter, IfOk, IfErr};
 ghost use Rattle.gate_book_trait.specs.Faults.{MayAnswer};
 ghost use Rattle.gate_book_trait.specs.Kept.{IsKept};
 ghost use Rattle.gate_admission.specs.Led.{OfLed};

@@ -1,3 +1,2 @@
 pub mod LineLaw
-pub mod Named
 pub mod TextOfLines

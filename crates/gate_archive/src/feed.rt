@@ -1,7 +1,6 @@
 //! The text of accepted deliveries, line by line.
 ghost use Rattle.std.specs.Prelude.{◌≡◌, [], ◌∷◌, ◌++◌, codes, decimal, IfOk, string_bytes};
 ghost use Rattle.std.specs.List.{before_first, after_first};
-ghost use Rattle.uuid.specs.Text.{simple_text, lower};
 ghost use Rattle.gate_types.specs.Columns.{row};
 ghost use Rattle.gate_archive.specs.Feed.{is_k, with_id, id_named};
 

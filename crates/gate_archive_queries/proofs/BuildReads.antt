@@ -35,7 +35,8 @@ use Rattle.gate_found_rows.proofs.ReadLemmas.{answers}
 use Rattle.gate_found_rows.proofs.ShownLemmas.{pass_filter}
 use Rattle.gate_archive.specs.ItemText.{last_of}
 use Rattle.gate_archive_queries.specs.Asked.{builds_of, summary_shown}
-use Rattle.gate_archive_queries.proofs.CountReads.{counted, counted_is, counting, counts}
+use Rattle.gate_archive_queries.proofs.CountReads.{counted_is}
+use Rattle.gate_queue_queries.proofs.CountReads.{counting, counted, counts}
 
 -- ---- the texts
 

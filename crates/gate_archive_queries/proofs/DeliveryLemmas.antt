@@ -36,9 +36,3 @@ module _ {W : Type 0} (held : W → Option (List ℕ)) where
 pub opened_so : (s : State) (result : Result ℕ FeedFault) → IsTrue s.is_open → MatchResult result (λ _. IsTrue s.is_open) (λ f. f ≢ fault.Unavailable → IsTrue s.is_open)
 opened_so s (Ok x) up = up
 opened_so s (Err f) up = λ _. up
-
--- and where it was so later, it was so before
-pub opened_before : (old mid : State) (result : Result ℕ FeedFault) → (IsTrue mid.is_open → IsTrue old.is_open)
-    → MatchResult result (λ _. IsTrue mid.is_open) (λ f. f ≢ fault.Unavailable → IsTrue mid.is_open) → MatchResult result (λ _. IsTrue old.is_open) (λ f. f ≢ fault.Unavailable → IsTrue old.is_open)
-opened_before old mid (Ok x) before up = before up
-opened_before old mid (Err f) before up = λ other. before (up other)

@@ -6,7 +6,7 @@ use Rattle.std.proofs.lemmas.List.{length-map, take-map}
 use Rattle.sqlite.specs.Collation.TheVariants.{Binary}
 use Rattle.sqlite.specs.Edit.{id_in}
 use Rattle.sqlite.specs.Listing.{reads_listing, understood}
-use Rattle.sqlite.specs.Ops.{binary, from_truth, is_true}
+use Rattle.sqlite.specs.Ops.{binary, is_true}
 use Rattle.sqlite.specs.Order.{Row, value_cmp}
 use Rattle.sqlite.specs.Program.{overlay}
 use Rattle.sqlite.specs.Query.{Query, output, output_cmp}
@@ -35,14 +35,13 @@ use Rattle.gate_archive.specs.declared.fault.FeedFault.{FeedFault}
 use Rattle.gate_archive.specs.declared.fault.FeedFault.TheVariants as fault
 use Rattle.gate_schema.specs.Rows.{IsNumbered, Stored, kept_columns}
 use Rattle.gate_schema.specs.Schema.{gate_schema}
-use Rattle.gate_schema.proofs.DeleteLemmas.{is_its}
+use Rattle.gate_schema.proofs.DeleteLemmas.{is_its, filter_same_on}
 use Rattle.gate_schema.proofs.QueryLemmas.{over_table, passes, shows_in_order}
 use Rattle.gate_schema.proofs.Statements.{Asks, key_is, no_limit}
 use Rattle.gate_schema.proofs.ValueLemmas.{equal_blobs}
 use Rattle.gate_found_rows.specs.Finds.{Finds, IsPlainQuery}
 use Rattle.gate_found_rows.specs.Reads.{IsShown}
-use Rattle.gate_found_rows.proofs.KeyedReads.{rising}
-use Rattle.gate_found_rows.proofs.ListFacts.{filter_alike}
+use Rattle.gate_found_rows.proofs.KeyedReads.{rising, truth_of}
 use Rattle.gate_found_rows.proofs.ListedReads.{told_behind}
 use Rattle.gate_found_rows.proofs.ReadLemmas.{answers}
 use Rattle.gate_archive_queries.specs.Deliveries.{HoldAbove, IsFirstOf, IsPlaceOf, WritesLines, accepted, accepted_shown, is_above, line_of}
@@ -94,11 +93,6 @@ unfolding understood everything
 behind_asks = ((refl, (refl, refl)), refl)
 
 -- ---- rows above a rowid
-
--- a truth is read as it was written
-truth_of : (b : Bool) → is_true (from_truth (Some b)) ≡ b
-truth_of true = refl
-truth_of false = refl
 
 -- how SQL tests that an integer is above another
 above_int : (m n : ℤ) → is_true (binary (Compare Gt Binary) (Int m) (Int n)) ≡ is_gt (value_cmp (Int m) (Int n))
@@ -266,7 +260,7 @@ all_streams s b shows = streams_so all_sql [] [] s b (s.now.trees 21) b.kept all
 pub behind_streams : (s : State) (b : Stored) (place : ℤ) (ks : List Kept) → IsShown s b → HoldAbove (s.now.trees 21) place ks → Streams behind_sql (Int place ∷ []) s accepted_shown (map accepted ks)
 behind_streams s b place ks shows above =
     streams_so behind_sql (Int place ∷ []) behind_test s b (filter (is_above place) (s.now.trees 21)) ks behind_asks shows
-    (filter_alike _ _ (s.now.trees 21) (above_rows place (s.now.trees 21) shows.stands.delivery.numbered.1)) above
+    (filter_same_on _ _ (s.now.trees 21) (above_rows place (s.now.trees 21) shows.stands.delivery.numbered.1)) above
 
 -- ---- the text
 

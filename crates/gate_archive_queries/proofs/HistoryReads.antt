@@ -1,13 +1,13 @@
 -- What the read of a queue's reports from a place on finds, and the text that is written of it.
-use Rattle.std.proofs.Common.{◌≡◌, ◌≤◌, ◌<◌, ◌<ℤ◌, ◌+◌, ◌-◌, ◌&&◌, ℕ, zero, suc, pos, Bool, true, false, cond, List, [], ◌∷◌, ◌++◌, drop, filter, fold, length, map, take, max, min, nat_le, nat_lt, is_ge, Some, refl, sym, ap, subst, ◌∙◌, arith, append_assoc, codes, IsPermutation, Less}
+use Rattle.std.proofs.Common.{◌≡◌, ◌≤◌, ◌<◌, ◌<ℤ◌, ◌+◌, ◌-◌, ◌&&◌, ℕ, zero, suc, pos, Bool, true, false, cond, List, [], ◌∷◌, ◌++◌, drop, filter, fold, length, map, take, max, min, nat_le, is_ge, refl, sym, ap, subst, ◌∙◌, arith, append_assoc, IsPermutation, Less}
 use Rattle.std.specs.Prelude.{flat_map}
-use Rattle.std.specs.List.{AllByRecursion, enumerate_from}
+use Rattle.std.specs.List.{enumerate_from}
 use Rattle.std.proofs.lemmas.Bool.Decides.{nat_tests}
 use Rattle.std.proofs.lemmas.Int.{ints}
 use Rattle.std.proofs.lemmas.List.Sorted.{IsPermutation-map, IsPermutation-sym, IsPermutation-trans}
 use Rattle.sqlite.specs.Collation.TheVariants.{Binary}
 use Rattle.sqlite.specs.Listing.{reads_listing, understood}
-use Rattle.sqlite.specs.Ops.{binary, from_truth, is_true}
+use Rattle.sqlite.specs.Ops.{binary, is_true}
 use Rattle.sqlite.specs.Order.{Row}
 use Rattle.sqlite.specs.Program.{overlay}
 use Rattle.sqlite.specs.Query.{Output, Query, output, output_cmp, page}
@@ -40,19 +40,16 @@ use Rattle.gate_schema.proofs.ValueLemmas.{equal_texts, value_cmp-pos}
 use Rattle.gate_found_rows.specs.Asked.{last_report}
 use Rattle.gate_found_rows.specs.Finds.{Finds, IsPlainQuery}
 use Rattle.gate_found_rows.specs.Reads.{IsShown}
-use Rattle.gate_found_rows.specs.Shown.{number_shown}
-use Rattle.gate_found_rows.proofs.GreatestLemmas.{greatest_in_any_order}
-use Rattle.gate_found_rows.proofs.KeyedReads.{rises}
+use Rattle.gate_found_rows.proofs.GreatestLemmas.{greatest_in_any_order, larger}
+use Rattle.gate_found_rows.proofs.KeyedReads.{rises, truth_of}
 use Rattle.gate_found_rows.proofs.ListFacts.{filter_in}
 use Rattle.gate_found_rows.proofs.ListedReads.{kept_shown, told_behind}
 use Rattle.gate_found_rows.proofs.ReadLemmas.{answers}
 use Rattle.gate_queue_queries.specs.History.{report_shown}
+use Rattle.gate_queue_queries.proofs.ReportReads.{report_terms, history_names, numbered_rises, numbered_shown, out}
 use Rattle.gate_archive_queries.specs.HistoryFrom.{HoldsReports, history_sql, line_from, text_from}
 use Rattle.gate_archive_queries.proofs.StreamLemmas.{query_of}
 use Rattle.gate_archive_queries.specs.Streamed.{Streams, body, lines}
-
-abbrev report_terms : List Term
-report_terms = col 1 3 ∷ col 1 4 ∷ col 1 5 ∷ col 1 6 ∷ col 1 7 ∷ []
 
 -- of the queue, at the place or behind it
 abbrev from_test : List Term
@@ -61,19 +58,11 @@ from_test = key_is 1 ∷ op2 (Compare Ge Binary) (col 1 2) (col 0 1) ∷ []
 abbrev pub history_query : Query
 history_query = over_table 18 from_test report_terms ((col 1 2, ascending Binary) ∷ []) no_limit
 
-abbrev pub history_names : List (List ℕ)
-history_names = codes "serial" ∷ codes "change" ∷ codes "revision" ∷ codes "verdict" ∷ codes "n" ∷ []
-
 pub history_asks : Asks history_sql history_query history_names
 unfolding understood everything
 history_asks = ((refl, (refl, refl)), refl)
 
 -- ---- places from one on
-
--- a truth is read as it was written
-truth_of : (b : Bool) → is_true (from_truth (Some b)) ≡ b
-truth_of true = refl
-truth_of false = refl
 
 -- how SQL compares numbers by `>=`
 least_number : (a b : ℕ) → is_true (binary (Compare Ge Binary) (Int (pos a)) (Int (pos b))) ≡ nat_le b a
@@ -104,26 +93,7 @@ some_from first n (suc k) (r ∷ rs) is =
     ap (λ t. cond t ((record { place = suc n; report = r }) ∷ filter (is_from first) (numbered (suc n) rs)) (filter (is_from first) (numbered (suc n) rs))) here
     ∙ some_from first (suc n) k rs (omega (arith, is)) ∙ ap (λ m. numbered m (drop k rs)) e
 
--- each of numbered reports stands behind the number before the first
-numbered_above : (m n : ℕ) (rs : List Report) → m ≤ n → AllByRecursion (λ (s : ReportRow). m < s.place) (numbered n rs)
-numbered_above m n [] low = tt
-numbered_above m n (r ∷ rs) low = (omega arith, numbered_above m (suc n) rs (omega arith))
-
--- so their places rise
-numbered_rises : (n : ℕ) (rs : List Report) → IsAscending (λ (r s : ReportRow). r.place < s.place) (numbered n rs)
-numbered_rises n [] = tt
-numbered_rises n (r ∷ rs) = (numbered_above (suc n) (suc n) rs (omega arith), numbered_rises (suc n) rs)
-
--- what is shown of numbered reports
-numbered_shown : (n : ℕ) (rs : List Report) → map (λ (r : ReportRow). report_shown r.report) (numbered n rs) ≡ map report_shown rs
-numbered_shown n [] = refl
-numbered_shown n (r ∷ rs) = ap (λ l. report_shown r ∷ l) (numbered_shown (suc n) rs)
-
 -- ---- what is found
-
--- what the query makes of a report: what it sorts by, and what it shows
-abbrev out : ReportRow → Output
-out r = (number_shown r.place, report_shown r.report)
 
 -- the read shows the reports from the place on, by their places
 reports_found : (s : State) (b : Stored) (name : List ℕ) (first : ℕ) (rs : List Report) (rows : List Row) → IsShown s b → IsPermutation (reports_of name b.reports) (numbered 0 rs) → 1 ≤ first
@@ -168,10 +138,6 @@ history_streams s b name first rs shown holds some = record {
 }
 
 -- ---- how many there are
-
--- the larger of two
-abbrev larger : ℕ → ℕ → ℕ
-larger m n = cond (nat_lt m n) n m
 
 -- the last of numbered reports has the greatest place
 last_numbered : (n : ℕ) (rs : List Report) → fold larger n (map (λ (r : ReportRow). r.place) (numbered n rs)) ≡ n + length rs

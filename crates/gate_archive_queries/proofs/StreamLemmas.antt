@@ -23,6 +23,7 @@ use Rattle.gate_archive.specs.Writes.{TookSome}
 use Rattle.gate_found_rows.specs.Finds.{Finds, IsPlainQuery}
 use Rattle.gate_found_rows.proofs.StayLemmas.{shown_finds}
 use Rattle.gate_archive_queries.specs.Streamed.{ReadsOn, Streams, body, lines}
+use Rattle.gate_queue_queries.proofs.HistoryLemmas.{unchanged_refl}
 
 -- ---- rows that are given
 
@@ -47,10 +48,6 @@ more_shown shown (d ∷ done) x = ap (λ l. shown d ∷ l) (more_shown shown don
 -- a query with no WITH ends
 ends_so : (q : Query) (names : List (List ℕ)) (c : Command) (db : Database) (params : Row) → c ≡ Select (record { lets = []; body = q }) names → EndsIn c db params
 ends_so q names c db params is = subst (λ (c : Command). EndsIn c db params) (sym is) tt
-
--- what has gone by
-unchanged_refl : (s : State) → IsTrue s.is_open → IsUnchanged s s
-unchanged_refl s up = (record { was_open = up; is_open = up; now_is = refl; committed_is = refl; mode = refl }, record { changes = refl; last_rowid = refl }, refl)
 
 -- the rows so far begin what the query finds
 given_finds : {S : Type 0} (g : Ghosts S) (sql : List ℕ) (params : Row) (h : Held S) (given : List Row) (q : Query) (names : List (List ℕ)) → IsPlainQuery (understood (state g h).now.schema sql) q names
@@ -80,11 +77,6 @@ reads_next {X = X} g sql params shown first old new done rest (Some x) streams w
     let at = next_is shown done rest reads.0 finds.0 are in
     let is : x ≡ at.0 = reads.2 at.0 at.3 in
     (at.1, at.2 ∙ ap (λ y. y ∷ at.1) (sym is), subst (HasGiven g sql params new) (ap (λ (r : Row). map shown done ++ r ∷ []) (at.3 ∙ ap shown (sym is)) ∙ more_shown shown done x) reads.1)
-
--- a query that gives rows stands on an open connection
-pub gave_open : {S : Type 0} (g : Ghosts S) (sql : List ℕ) (params : Row) (h : Held S) (given : List Row) → HasGiven g sql params h given → IsTrue (state g h).is_open
-unfolding HasGiven
-gave_open g sql params h given it = it.0.is_open
 
 -- ---- the query, begun on the connection
 
@@ -209,13 +201,6 @@ module _ {S W X : Type 0} (g : Ghosts S) (sql : List ℕ) (params : Row) (shown 
         taken = subst (Took held old new) (text_more head line it.done x count it.counted) (Appends-trans _ _ _ _ _ it.taken took);
         stands = reads_next g sql params shown first was now done more next (subst (Streams sql params first shown) split streams) before.0.now_is same (reads _ it.stands.2);
       }
-
-  -- where it stops before the end, some of the text is written
-  pub stops_some : (most : ℕ) (new : Tap W) (now : Held S) (count : ℕ) (next : Option X) (xs : List X) → count ≤ most → IsWriting g sql params shown line head held old new now count next xs
-      → TookSome held old new (body head line most xs)
-  stops_some most new now count next xs low it =
-      let within : length it.done ≤ most = omega (arith, low, it.counted) in
-      subst (TookSome held old new) (sym (ap (body head line most) it.split ∙ body_cut head line most it.done it.rest within)) (whole_some _ _ _ _ it.taken)
 
   -- the text with a record to come, cut behind its line
   text_at : (most : ℕ) (done : List X) (x : X) (more : List X) (count : ℕ) (xs : List X) → count < most → length done ≡ count → xs ≡ done ++ x ∷ more

@@ -14,12 +14,13 @@ use Rattle.gate_types.specs.Rows.{numbered}
 use Rattle.gate_types.specs.Settings.{Settings}
 use Rattle.gate_types.specs.State.{Queue, State}
 use Rattle.gate_types.specs.Tables.{tables}
+use Rattle.gate_types.proofs.NameLemmas.{same_name_is}
 use Rattle.gate_book_trait.specs.Reads.{queue_named}
 use Rattle.gate_schema.specs.Rows.{AreNamed, QueueReport, QueueRow, Stored}
 use Rattle.gate_rows.specs.Tells.{Tells, reports_of}
 use Rattle.gate_archive.specs.ItemText as content
 use Rattle.gate_archive.specs.declared.rows.LeftItem.{LeftItem}
-use Rattle.gate_laws.proofs.Alone.{report_serials, same_name_is, same_name_of, serials_once}
+use Rattle.gate_laws.proofs.Alone.{report_serials, same_name_of, serials_once}
 use Rattle.gate_laws.proofs.Counts.{one_of, one_part, times}
 use Rattle.gate_laws.proofs.FewRows.{rows_are_few}
 use Rattle.gate_laws.proofs.Members.{In, all, all_from, every, found, from_filter, from_flat, from_map, to_filter, to_flat, to_map}

@@ -1,5 +1,5 @@
 //! The read of a queue's reports from a place on, a row at a time: each line is written while its report is read.
-ghost use Rattle.std.specs.Prelude.{◌≡◌, ◌≤◌, ◌++◌, ◌+◌, ◌-◌, [], ◌∷◌, ℕ, pos, false, IfOk, IsTrue, List, OnOk, min, max};
+ghost use Rattle.std.specs.Prelude.{◌≡◌, ◌≤◌, ◌++◌, [], ◌∷◌, ℕ, pos, false, IfOk, IsTrue, List, OnOk, min, max};
 ghost use Rattle.sqlite.specs.Given.{HasGiven};
 ghost use Rattle.sqlite.specs.Held.{state};
 ghost use Rattle.sqlite.specs.Order.{Row as Columns};

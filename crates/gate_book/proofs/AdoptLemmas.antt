@@ -14,6 +14,7 @@ use Rattle.gate_types.specs.Settings.{Settings, are_distinct}
 use Rattle.gate_types.specs.Tables.{QueueRows}
 use Rattle.gate_types.specs.AdoptedTables.{adopted_rows, empty_rows, resized_rows}
 use Rattle.gate_types.specs.declared.config.Queue.{Queue as QueueSetting}
+use Rattle.gate_types.proofs.PlainLemmas.{some_is}
 use Rattle.gate_book_trait.specs.RowReads.{rows_named}
 
 -- ---- one is taken out
@@ -27,15 +28,12 @@ found_map {X} {Y} f p q same (x ∷ xs) = ap (λ b. cond b (Some (f x)) (find q 
     by_test true h = refl
     by_test false h = h
 
-same_number : (a b : ℕ) → Some a ≡ Some b → a ≡ b
-same_number a b e = cc
-
 -- the place of the first that passes
 first_place : {X : Type 0} (p : X → Bool) (xs : List X) (n : ℕ) → position p xs ≡ Some n → (position_or_len p xs ≡ n) × (position_or_len p xs < length xs)
 first_place {X} p xs n at = by_test (nat_lt (position_or_len p xs) (length xs)) refl at
   where
     by_test : (b : Bool) → nat_lt (position_or_len p xs) (length xs) ≡ b → cond b (Some (position_or_len p xs)) None ≡ Some n → (position_or_len p xs ≡ n) × (position_or_len p xs < length xs)
-    by_test true h is = (same_number (position_or_len p xs) n is, ltb-true (position_or_len p xs) (length xs) h)
+    by_test true h is = (some_is (position_or_len p xs) n is, ltb-true (position_or_len p xs) (length xs) h)
     by_test false h is = absurd cc
 
 -- the first that passes is found

@@ -2,3 +2,4 @@ pub mod Finding
 pub mod Padding
 pub mod ReportLines
 pub mod ReadLemmas
+pub mod KeptLemmas

@@ -8,7 +8,7 @@ use Rattle.std.proofs.lemmas.List.Folds.{flat_map-map}
 use Rattle.std.proofs.lemmas.Bool.{false≢true}
 use borrow.Author.Tests.{leb-true}
 use Rattle.std.proofs.lemmas.Bool.Decides.{eqb_tells}
-use Rattle.gate_book_trait.proofs.Finding.{all_in, found_has, found_in}
+use Rattle.gate_book_trait.proofs.Finding.{all_in, found_has, found_in, in_weaker}
 use Rattle.gate_types.specs.declared.records.Change.{Change}
 use Rattle.gate_types.specs.declared.records.Item.{Item}
 use Rattle.gate_types.specs.declared.records.Landing.{Landing}
@@ -223,10 +223,6 @@ small_change : (r : Ready) → is_ready_in_form r ≡ true → r.change < 184467
 small_change r e =
     let h : r.change ≤ 999999999 = leb-true r.change 999999999 (and_second (nat_le 1 r.change) _ (and_second (is_drawn_number r.approval) _ e)) in omega arith
 
-each : {X : Type 0} (P Q : X → Type 0) → ((x : X) → P x → Q x) → (xs : List X) → AllByRecursion P xs → AllByRecursion Q xs
-each P Q h [] all = tt
-each P Q h (x ∷ xs) all = (h x all.0, each P Q h xs all.1)
-
 -- the rows of a lawful content tell its ready list
 pub ready_are : (c : Settings) (x : Content) → IsLawfulContent c x → AreReady (tables c x).changes x.state.ready
 ready_are c x lawful =
@@ -235,9 +231,9 @@ ready_are c x lawful =
     record {
       rise = rows_rise (λ (r : Ready). r.approval) 0 s.ready (numbers_rise 0 (map (λ (r : Ready). r.approval) s.ready) (λ h. omega arith) sound.ready_rises);
       differ = changes_differ s.ready (distinct_rest (map (λ i. i.change) (flat_map (λ q. q.items) s.queues)) (map (λ (r : Ready). r.change) s.ready) sound.waiting_differ);
-      fit = each (λ (r : Ready). is_ready_in_form r ≡ true) (λ (r : Ready). r.change < 18446744073709551616) small_change s.ready (all_rows (λ (r : Ready). is_ready_in_form r ≡ true) s.ready lawful.in_form.state.ready);
+      fit = in_weaker (λ (r : Ready). is_ready_in_form r ≡ true) (λ (r : Ready). r.change < 18446744073709551616) small_change s.ready (all_rows (λ (r : Ready). is_ready_in_form r ≡ true) s.ready lawful.in_form.state.ready);
       told = rows_tell s.ready s.changes;
-      known = each (λ (r : Ready). is_open (change_of s r.change) ≡ true) (λ (r : Ready). IsSome (find (λ (k : ChangeRow). k.change.number == r.change) (map (change_row s.ready) s.changes))) (λ r e. open_is_known s r.change e) s.ready (all_rows (λ (r : Ready). is_open (change_of s r.change) ≡ true) s.ready sound.ready_are_open);
+      known = in_weaker (λ (r : Ready). is_open (change_of s r.change) ≡ true) (λ (r : Ready). IsSome (find (λ (k : ChangeRow). k.change.number == r.change) (map (change_row s.ready) s.changes))) (λ r e. open_is_known s r.change e) s.ready (all_rows (λ (r : Ready). is_open (change_of s r.change) ≡ true) s.ready sound.ready_are_open);
     }
 
 -- where there is no row, no ready change has its number

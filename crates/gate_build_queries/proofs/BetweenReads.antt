@@ -1,10 +1,10 @@
 -- What a query of the items of a queue between two serials, and of what another table has of each, shows.
-use Rattle.std.proofs.Common.{◌≡◌, ◌<◌, ◌<ℤ◌, ℕ, pos, List, [], ◌∷◌, map, filter, flat_map, Bool, true, false, ◌&&◌, leb, ltb, is_le, int_cmp, refl, sym, ap, subst, ◌∙◌, arith, Less, Equal, Some}
+use Rattle.std.proofs.Common.{◌≡◌, ◌<◌, ◌<ℤ◌, ℕ, pos, List, [], ◌∷◌, map, filter, flat_map, Bool, ◌&&◌, leb, ltb, is_le, int_cmp, sym, ap, subst, ◌∙◌, arith, Less, Equal}
 use Rattle.std.specs.List.{AllByRecursion, AllZip, list_all}
 use Rattle.std.proofs.lemmas.Bool.Decides.{nat_tests}
 use Rattle.std.proofs.lemmas.Int.{ints}
 use Rattle.sqlite.specs.Collation.TheVariants.{Binary}
-use Rattle.sqlite.specs.Ops.{binary, from_truth, is_true}
+use Rattle.sqlite.specs.Ops.{binary, is_true}
 use Rattle.sqlite.specs.Order.{Row}
 use Rattle.sqlite.specs.Query.{Query, Output, IsAnswer, key_cmp, output, output_cmp}
 use Rattle.sqlite.specs.Term.{Term, col, eval, eval_all, holds, lit, op2}
@@ -26,10 +26,12 @@ use Rattle.gate_types.specs.declared.records.Item.{Item}
 use Rattle.gate_schema.specs.Rows.{IsKeyed, ItemRow, Stored, item_key, item_row}
 use Rattle.gate_schema.proofs.Statements.{key_is}
 use Rattle.gate_schema.proofs.ValueLemmas.{above_number, equal_texts, value_cmp-pos}
+use Rattle.gate_schema.proofs.DeleteLemmas.{filter_same_on}
 use Rattle.gate_found_rows.specs.Whole.{IsWhole}
 use Rattle.gate_item_queries.proofs.ItemReads.{InForm}
 use Rattle.gate_found_rows.proofs.JoinLemmas.{ascending-flat, keyed_told, over_tables, pairs_of, plus_number, shows_pairs}
-use Rattle.gate_found_rows.proofs.ListFacts.{all_so, filter_alike, filter_in}
+use Rattle.gate_found_rows.proofs.ListFacts.{all_so, filter_in}
+use Rattle.gate_found_rows.proofs.KeyedReads.{truth_of}
 use Rattle.gate_item_queries.proofs.NextReads.{above_capped, capped, low}
 
 -- ---- what is asked
@@ -55,10 +57,6 @@ abbrev pub is_between : List ℕ → ℕ → ℕ → ItemRow → Bool
 is_between name above last i = same_name i.queue name && (ltb above i.item.serial && leb i.item.serial last)
 
 -- ---- numbers, as SQL compares them
-
-truth_of : (b : Bool) → is_true (from_truth (Some b)) ≡ b
-truth_of true = refl
-truth_of false = refl
 
 -- `<=` of numbers
 up_to_number : (a b : ℕ) → is_true (binary (Compare Le Binary) (Int (pos a)) (Int (pos b))) ≡ leb a b
@@ -151,7 +149,7 @@ module _ {Y : Type 0} (S : Row → Y → Type 0) (second : ℕ) (with project : 
       let paired = pairs_of (is_between name (capped above) last) (λ i y. is_of y i.item.serial) out b.items ys in
       let up = outs_rise ys (filter (is_between name (capped above) last) b.items) (ascending-filter _ (is_between name (capped above) last) b.items holds.in_order) rise in
       let alike : filter (is_between name (capped above) last) b.items ≡ filter (is_between name above last) b.items =
-      filter_alike _ _ b.items (all_so InForm _ (λ i form. ap (λ t. same_name i.queue name && (t && leb i.item.serial last)) (above_capped above i.item.serial (low i form))) b.items whole.items) in
+      filter_same_on _ _ b.items (all_so InForm _ (λ i form. ap (λ t. same_name i.queue name && (t && leb i.item.serial last)) (above_capped above i.item.serial (low i form))) b.items whole.items) in
       shows_pairs (λ r i. r ≡ item_row i) S 11 second (between_test with) project (by_item order) (between_params name (capped above) last)
       (λ i y. is_between name (capped above) last i && is_of y i.item.serial) out passes_both shows_both db rows b.items ys (keyed_told item_key item_row (db 11) b.items holds) tells
       (subst (λ os. IsAscending (λ a b. output_cmp q a b ≡ Less) os) (sym paired) up) a

@@ -10,6 +10,7 @@ use Rattle.sqlite_trees.specs.Tree.{IsAscending}
 use Rattle.gate_types.specs.declared.config.Job.{Job}
 use Rattle.gate_types.specs.declared.records.Item.{Item}
 use Rattle.gate_types.specs.declared.records.Plan.{Plan}
+use Rattle.gate_types.proofs.PlainLemmas.{same_truth}
 use Rattle.gate_schema.specs.Rows.{JobRow}
 use Rattle.gate_found_rows.specs.Asked.{plan_with}
 use Rattle.gate_build_queries.specs.Planned.{plans_joined, plan_of_one, plans_of, with_job}
@@ -121,12 +122,6 @@ module _ (marked : List ℕ) where
     plans_are is up = plans_in_turn [] is up (λ p none. absurd none)
 
 -- ---- the marks
-
--- two truths that follow from one another are one
-same_truth : (a b : Bool) → (a ≡ true → b ≡ true) → (b ≡ true → a ≡ true) → a ≡ b
-same_truth true b to from = sym (to refl)
-same_truth false true to from = from refl
-same_truth false false to from = refl
 
 -- of the serial of one of these items, a mark among theirs is a mark
 pub marked_alike : (fast : List ℕ) (is : List Item) (i : Item) → Has is i

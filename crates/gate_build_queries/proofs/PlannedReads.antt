@@ -1,6 +1,6 @@
 -- What the read of the plans of a queue's items finds.
 use Rattle.std.proofs.Common.{◌≡◌, ◌<◌, ℕ, pos, List, [], ◌∷◌, filter, map, drop, true, ◌&&◌, codes, eqb, refl, sym, ap, subst, ◌∙◌, arith}
-use Rattle.std.specs.List.{AllByRecursion, AllPass, list_all}
+use Rattle.std.specs.List.{AllPass, list_all}
 use Rattle.std.proofs.lemmas.Bool.{and_from, and_parts}
 use Rattle.std.proofs.lemmas.Bool.Decides.{nat_tests}
 use Rattle.std.proofs.lemmas.Int.{ints}

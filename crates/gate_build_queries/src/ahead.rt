@@ -1,5 +1,5 @@
 //! What is ahead of a build, read from the text of its column.
-ghost use Rattle.std.specs.Prelude.{◌≡◌, [], Some, IfOk, IfErr, IfSome, OnErr, IsTrue};
+ghost use Rattle.std.specs.Prelude.{◌≡◌, [], IfOk, IfErr, IsTrue};
 ghost use Rattle.std.specs.List.{AllPass};
 ghost use Rattle.std.specs.Option.{option_to_list};
 ghost use Rattle.sqlite_value.specs.Order.{column};

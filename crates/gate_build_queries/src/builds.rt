@@ -1,5 +1,5 @@
 //! Reads of builds, each by key.
-ghost use Rattle.std.specs.Prelude.{◌≡◌, true, false, List, map, slice_get};
+ghost use Rattle.std.specs.Prelude.{◌≡◌, true, List, map, slice_get};
 ghost use Rattle.std.specs.List.{AllPass};
 ghost use Rattle.sqlite.specs.Held.{state};
 ghost use Rattle.gate_types.specs.declared.records.Build.{Build as BuildRow};

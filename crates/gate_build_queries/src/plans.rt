@@ -1,6 +1,6 @@
 //! The read of a plan, by serial.
-ghost use Rattle.std.specs.Prelude.{◌≡◌, ◌==◌, true, false, not, List, ℕ, map, filter};
-ghost use Rattle.std.specs.List.{AllPass, list_any};
+ghost use Rattle.std.specs.Prelude.{◌≡◌, true, List, map};
+ghost use Rattle.std.specs.List.{AllPass};
 ghost use Rattle.sqlite.specs.Held.{state};
 ghost use Rattle.gate_types.specs.Names.{is_name};
 ghost use Rattle.gate_types.specs.declared.config.Job.{Job as JobOf};

@@ -1,5 +1,5 @@
 //! Reads of changes, by number.
-ghost use Rattle.std.specs.Prelude.{◌≡◌, ℕ, false, true, List, map, option_and_then, slice_get};
+ghost use Rattle.std.specs.Prelude.{◌≡◌, ℕ, true, List, map, option_and_then, slice_get};
 ghost use Rattle.std.specs.List.{All, AllPass};
 ghost use Rattle.sqlite.specs.Held.{state};
 ghost use Rattle.gate_types.specs.Forms.{is_change_in_form, is_change_number};

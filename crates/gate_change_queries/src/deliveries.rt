@@ -1,5 +1,5 @@
 //! Reads of kept deliveries, by id.
-ghost use Rattle.std.specs.Prelude.{◌≡◌, false, true, List, map, slice_get};
+ghost use Rattle.std.specs.Prelude.{◌≡◌, true, List, map, slice_get};
 ghost use Rattle.std.specs.List.{All};
 ghost use Rattle.sqlite.specs.Held.{state};
 ghost use Rattle.gate_types.specs.Forms.{is_kept_in_form};

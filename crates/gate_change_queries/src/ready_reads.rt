@@ -1,5 +1,5 @@
 //! Reads of the ready list.
-ghost use Rattle.std.specs.Prelude.{◌≡◌, true, false, List, map};
+ghost use Rattle.std.specs.Prelude.{◌≡◌, true, List, map};
 ghost use Rattle.std.specs.List.{AllPass};
 ghost use Rattle.sqlite.specs.Held.{state};
 ghost use Rattle.gate_types.specs.Forms.{is_ready_in_form};

@@ -7,9 +7,9 @@ use Rattle.std.proofs.lemmas.Slice.Eq.{bytes_eq-Decides}
 use Rattle.std.specs.Prelude.{unwrap_or}
 use Rattle.std.specs.List.{list_any, list_all}
 use Rattle.toml.specs.Data.{Data}
-use Rattle.gate_types.specs.Names.{same_name, is_name, is_base}
+use Rattle.gate_types.specs.Names.{same_name, is_name}
 use Rattle.gate_types.specs.Settings.{are_distinct, has_queue, is_sound_window, are_sound_jobs, are_sound}
-use Rattle.gate_config.specs.Document.{queues_of, projects_of, jobs_of, name_of, queue_named_by, base_of, queue_of, job_of, project_of, settings_of, window_of, floor_of, increase_by_of, decrease_by_of, is_voting}
+use Rattle.gate_config.specs.Document.{queues_of, projects_of, jobs_of, name_of, queue_named_by, queue_of, job_of, project_of, settings_of, window_of, floor_of, increase_by_of, decrease_by_of, is_voting}
 use Rattle.gate_config.specs.Members.{misses_member, has_unknown_member}
 use Rattle.gate_config.specs.Kinds.{has_wrong_kind}
 use Rattle.gate_config.specs.Rules.{has_bad_name, has_bad_name_in_project, has_bad_name_anywhere, has_double, has_double_name, has_named, names_no_queue, is_bad_window, is_bad_queue, is_bad_project, has_bad_window, has_no_voting_job, has_too_many_jobs, most_jobs, is_beyond_limits}
@@ -69,9 +69,6 @@ named_is_name name [] h k = absurd cc
 named_is_name name (d ∷ ds) h k =
     let (here, later) = or_parts (has_bad_name d) (list_any has_bad_name ds) h in
     first_named name (name_of d) (same_name (name_of d) name) refl here (has_named name ds) (named_is_name name ds later) k
-
-pub base_is_base : (d : Data) → KeepsRules d → is_base (base_of d) ≡ true
-base_is_base d r = let (a, more) = or_parts _ _ r.names in let (b, rest) = or_parts _ _ a in not-false _ b
 
 queue_names : (d : Data) → KeepsRules d → list_any has_bad_name (queues_of d) ≡ false
 queue_names d r = let (a, more) = or_parts _ _ r.names in (or_parts _ _ a).1

@@ -2,9 +2,9 @@
 ghost use Rattle.std.specs.Prelude.{◌≡◌, ◌==◌, ◌&&◌, ◌||◌, map, not, is_none, unwrap_or, nat_le};
 ghost use Rattle.std.specs.List.{list_any};
 ghost use Rattle.toml.specs.View.{view};
-ghost use Rattle.gate_types.specs.Names.{is_base, same_name};
-ghost use Rattle.gate_types.specs.Settings.{is_factor, is_sound_rule, is_sound_window};
-ghost use Rattle.gate_config.specs.Document.{name_of, queue_named_by, base_of, jobs_of, is_voting, increase_of, decrease_of, rule_of, queue_of};
+ghost use Rattle.gate_types.specs.Names.{same_name};
+ghost use Rattle.gate_types.specs.Settings.{is_factor, is_sound_rule};
+ghost use Rattle.gate_config.specs.Document.{name_of, queue_named_by, jobs_of, is_voting, increase_of, decrease_of, rule_of};
 ghost use Rattle.gate_config.specs.Rules.{has_bad_name, has_bad_name_in_project, has_bad_name_anywhere, has_double, has_double_name, has_named, names_no_queue, is_bad_window, has_bad_window, has_no_voting_job, are_some_up_to, has_too_many_jobs, is_beyond_limits};
 
 use crate::document::{

@@ -26,7 +26,7 @@ use Rattle.gate_content_reads.proofs.told.Whole.{rows_are_whole}
 -- ---- a store that is shut
 
 -- tables that hold no row
-abbrev no_rows : Stored
+abbrev pub no_rows : Stored
 no_rows = record {
   settings = [];
   counters = record { approval = 0; build = 0; order = 0 };
@@ -70,11 +70,11 @@ no_rows_whole = record {
 -- ---- what is read
 
 -- the connection shows what stands for the content
-shown : {s : State} {c : Settings} {x : Content} → (it : IsShownFor s c x) → Shows s it.stands.stored
+pub shown : {s : State} {c : Settings} {x : Content} → (it : IsShownFor s c x) → Shows s it.stands.stored
 shown it up = record { schema_is = it.schema_is; stands = it.stands.stands }
 
 -- a store that is shut shows anything
-shut : {s : State} → s.is_open ≡ false → (b : Stored) → Shows s b
+pub shut : {s : State} → s.is_open ≡ false → (b : Stored) → Shows s b
 shut closed b up = absurd (true≢false (sym up ∙ closed))
 
 -- where what is found of the file's rows is what the content says, a read that reads them answers that

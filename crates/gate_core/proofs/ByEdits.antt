@@ -11,7 +11,6 @@ use Rattle.gate_types.specs.declared.records.Ready.{Ready}
 use Rattle.gate_types.specs.declared.records.Stage.TheVariants as stage
 use Rattle.gate_types.specs.declared.records.Verdict.{Verdict}
 use Rattle.gate_types.specs.declared.records.Verdict.TheVariants as verdict
-use Rattle.gate_types.specs.declared.records.Report.{Report}
 use Rattle.gate_types.specs.declared.rows.ReportRow.{ReportRow}
 use Rattle.gate_types.specs.declared.edits.Edit.{Edit}
 use Rattle.gate_types.specs.declared.edits.Edit.TheVariants as edit
@@ -29,14 +28,15 @@ use Rattle.gate_types.specs.Sweep.{Judged, judged, report_of, swept_queue}
 use Rattle.gate_types.specs.Admit.{may_enter}
 use Rattle.gate_types.specs.SubmitOrder.{Order}
 use Rattle.gate_types.specs.Step.{left_queue, landed_queue, shrunk_queue, raw_step, raw_revision, raw_approved, raw_withdrawn, raw_closed, raw_landed, raw_refused, raw_take, raw_result, accepted}
-use Rattle.gate_types.specs.Rows.{item_rows, numbered, edited_reports}
+use Rattle.gate_types.specs.Rows.{item_rows, edited_reports}
 use Rattle.gate_types.specs.Once.{Content}
 use Rattle.gate_types.specs.Lawful.{IsSound}
 use Rattle.gate_types.specs.Forms.{IsLawfulContent}
 use Rattle.gate_types.specs.Tables.{Tables, QueueRows, tables, queue_rows, edited_queue, edited_tables, fold_all}
+use Rattle.gate_types.proofs.NameLemmas.{same_name_is}
 use Rattle.gate_laws.specs.Rest.{IsAtRest}
 use Rattle.gate_laws.proofs.Adopting.{found_named}
-use Rattle.gate_laws.proofs.Alone.{same_name_is, same_name_of}
+use Rattle.gate_laws.proofs.Alone.{same_name_of}
 use Rattle.gate_laws.proofs.EachAccepted.{on_accepted, each_revision, each_approved, each_withdrawn, each_closed, each_landed, each_refused, each_take, each_result}
 use Rattle.gate_laws.proofs.IdleSweep.{judged_items}
 use Rattle.gate_laws.proofs.Told.{report_on}
@@ -48,6 +48,7 @@ use Rattle.gate_admission.specs.Candidates.{needs_it, puts, is_full, makes_room,
 use Rattle.gate_admission.proofs.Led.{known_led}
 use Rattle.gate_admission.proofs.LetIn.{are_putting, was_ready, change_stays}
 use Rattle.gate_settling.proofs.ListLemmas.{each_same}
+use Rattle.gate_book_trait.proofs.ReadLemmas.{length_reports}
 
 -- ---- a queue that items may have left
 
@@ -269,10 +270,6 @@ reports_after (e ∷ es) q h =
     let both = or_parts (reports_of q.name e) (list_any (reports_of q.name) es) h in
     reports_after es (edited_queue e q) both.1 ∙ same_reports q.name q.reports e both.0
 
-numbered_length : (n : ℕ) (rs : List Report) → length (numbered n rs) ≡ length rs
-numbered_length n [] = refl
-numbered_length n (r ∷ rs) = ap suc (numbered_length (suc n) rs)
-
 -- a change that has landed had landed, or is put as landed
 put_by_edit : (m : ℕ) (o : Option Change) (edits : List Edit) (k : Change) → fold (change_put m) o edits ≡ Some k →
     (o ≡ Some k) ⊎ ((a : Option ℕ) × In (edit.PutChange k a) edits × (k.number == m ≡ true))
@@ -466,8 +463,8 @@ module _ (c : Settings) (x : Content) (edits : List Edit) (v : State) (sound : I
       by_test false f =
           let same = ap (λ (r : QueueRows). length r.reports) (rows_same q m) in
           let stood = ap length (reports_after edits (queue_rows (item_rows c x.state q) q) f) in
-          let few = numbered_length 0 q.reports in
-          let now = numbered_length 0 (less.become q).reports in
+          let few = length_reports 0 q.reports in
+          let now = length_reports 0 (less.become q).reports in
           ap (λ (is : List Item). nat_lt (length is) 1000)
           (sym ((less.each q).stay (omega (arith, same, stood, few, now)))) ∙ h
 

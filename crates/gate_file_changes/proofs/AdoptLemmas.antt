@@ -4,7 +4,6 @@ use Rattle.std.specs.Prelude.{IsPermutation, find, option_map}
 use Rattle.std.specs.List.{list_any, list_all}
 use Rattle.std.specs.Option.{option_map_or}
 use Rattle.std.proofs.lemmas.Bool.{and_parts}
-use Rattle.std.proofs.lemmas.Slice.Eq.{bytes_eq-Decides}
 use Rattle.sqlite.specs.Tree.{Trees}
 use Rattle.sqlite_keyed.proofs.ListLemmas.{map-map}
 use Rattle.gate_types.specs.Adopt.{may_adopt, adopted_content}
@@ -16,18 +15,13 @@ use Rattle.gate_types.specs.SettingsText.{settings_text}
 use Rattle.gate_types.specs.Tables.{QueueRows, tables}
 use Rattle.gate_types.specs.declared.config.Queue.{Queue as QueueSetting}
 use Rattle.gate_types.proofs.AdoptedLemmas.{tables_adopted}
+use Rattle.gate_types.proofs.NameLemmas.{same_name_is}
 use Rattle.gate_rows.specs.Tells.{StandsFor, Tells, of_queue, placed}
 use Rattle.gate_schema.specs.Rows.{QueueRow, Stands, Stored}
 use Rattle.gate_file_changes.specs.Adopts.{CanAdopt, resized, rewritten, window_in}
 use Rattle.gate_file_changes.specs.Making.{first_queue_rows}
 
 -- ---- names
-
-same_is : (a b : List ℕ) → same_name a b ≡ true → a ≡ b
-same_is a b h = (bytes_eq-Decides a b).0 h
-
-same_of : (a b : List ℕ) → a ≡ b → same_name a b ≡ true
-same_of a b h = (bytes_eq-Decides a b).1 h
 
 some_is : {X : Type 0} (x y : X) → Some x ≡ Some y → x ≡ y
 some_is x y e = cc
@@ -66,7 +60,7 @@ named_in p name (m ∷ ms) all any =
     by_name (same_name m name) refl any both.0 (named_in p name ms both.1)
   where
     by_name : (b : Bool) → same_name m name ≡ b → (b || list_any (λ n. same_name n name) ms) ≡ true → p m ≡ true → (list_any (λ n. same_name n name) ms ≡ true → p name ≡ true) → p name ≡ true
-    by_name true h any here later = subst (λ n. p n ≡ true) (same_is m name h) here
+    by_name true h any here later = subst (λ n. p n ≡ true) (same_name_is m name h) here
     by_name false h any here later = later any
 
 -- ---- one queue
@@ -76,7 +70,7 @@ adopted_name c told r = by_found (find (λ q. same_name q.name r.name) told) ref
   where
     by_found : (o : Option QueueRows) → find (λ q. same_name q.name r.name) told ≡ o → (option_map_or (resized_rows c r) o (empty_rows r)).name ≡ r.name
     by_found None e = refl
-    by_found (Some q) e = same_is q.name r.name (found_passes (λ q. same_name q.name r.name) told q e)
+    by_found (Some q) e = same_name_is q.name r.name (found_passes (λ q. same_name q.name r.name) told q e)
 
 -- the rows keep the window that is told
 window_told : (name : List ℕ) (n : ℕ) (told : List QueueRows) → window_in (placed n told) name ≡ option_map (λ (q : QueueRows). q.window) (find (λ q. same_name q.name name) told)
@@ -128,7 +122,7 @@ found_adopted {X} list steady c told name (r ∷ rs) any =
   where
     by_name : (b : Bool) → same_name r.name name ≡ b → (list_any (λ (r : QueueSetting). same_name r.name name) rs ≡ true → of_queue list name (map (adopted_rows c told) rs) ≡ of_queue list name told) → (b || list_any (λ (r : QueueSetting). same_name r.name name) rs) ≡ true →
         option_map_or list (cond b (Some (adopted_rows c told r)) (find (λ q. same_name q.name name) (map (adopted_rows c told) rs))) [] ≡ of_queue list name told
-    by_name true h more any = list_adopted list steady c told r ∙ ap (λ n. of_queue list n told) (same_is r.name name h)
+    by_name true h more any = list_adopted list steady c told r ∙ ap (λ n. of_queue list n told) (same_name_is r.name name h)
     by_name false h more any = more any
 
 lost_adopted : (c : Settings) (told : List QueueRows) (name : List ℕ) (rs : List QueueSetting) → list_any (λ r. same_name r.name name) rs ≡ false →

@@ -26,7 +26,7 @@ use Rattle.gate_types.specs.declared.edits.Edit.{Edit}
 use Rattle.gate_types.specs.declared.edits.Edit.TheVariants as edit
 use Rattle.gate_types.specs.declared.records.Plan.{Plan}
 use Rattle.gate_schema.specs.Edits.{after_edit, after_edits, with_window}
-use Rattle.gate_schema.specs.Rows.{AreNamed, Changes, IsReady, QueueRow, Stands, Stored}
+use Rattle.gate_schema.specs.Rows.{AreNamed, Changes, QueueRow, Stands, Stored}
 use Rattle.gate_rows.specs.Tells.{FitsBeside, HaveJobs, IsInOrder, IsTold, NamesQueue, StandsFor, Tells, placed}
 use Rattle.gate_rows.proofs.PlanTells.{jobs_stay}
 use Rattle.gate_rows.proofs.ThenLemmas.{changes_same, changes_then}
@@ -104,14 +104,6 @@ edits_keep_settings (e ∷ es) b = edits_keep_settings es (after_edit e b) ∙ e
 
 -- ---- one edit after another
 
--- no edit is made
-pub no_steps : (s : State) → IsReady s → Steps s s []
-no_steps s ready = record {
-  changes = record { ready = ready; named = λ b named. named; stands = λ b named stands. stands };
-  planned = λ b t named stands have. have;
-  told = λ b t named stands known have tells. tells;
-}
-
 -- tables that stand for something have rows that rise by their keys
 stands_in_order : (s : State) (b : Stored) → Stands s.now.trees b → IsInOrder b
 stands_in_order s b stands = record { changes = stands.change.in_order; items = stands.item.in_order; builds = stands.build.in_order; fast = stands.fast.in_order }
@@ -188,10 +180,6 @@ unchanged_shows old mid c x same shows = stays_shows old mid c x (record { was_o
 -- a connection that is open shows sound tables
 pub can_lead : (s : State) (c : Settings) (x : Content) (edits : List Edit) (y : Content) → IsLive s → IsTrue s.is_open → IsShownFor s c x → IsLed c x edits y → CanLead s.now.trees c x edits y
 can_lead s c x edits y live up shown led = record { sound = subst (λ t. IsSound t s.now.trees) shown.schema_is (live up).0; stands = shown.stands; led = led }
-
--- tables that stand for a content stand for one of the same tables
-pub same_tables : (db : Trees) (c : Settings) (x y : Content) → tables c x ≡ tables c y → StandsFor db c x → StandsFor db c y
-same_tables db c x y same h = record { stored = h.stored; stands = h.stands; settings = h.settings; tells = subst (Tells h.stored) same h.tells }
 
 -- sound jobs are some
 some_sound : (jobs : List Job) → are_sound_jobs jobs ≡ true → 0 < length jobs

@@ -1,5 +1,5 @@
 -- The tables made one after the other, each empty.
-use Rattle.std.proofs.Common.{◌≡◌, ℕ, ◌+◌, ◌<◌, ◌≤◌, zero, suc, List, [], ◌∷◌, ◌++◌, map, drop, length, get_or, Ok, Err, Result, inl, inr, refl, ap, subst, ◌∙◌, arith}
+use Rattle.std.proofs.Common.{◌≡◌, ℕ, ◌+◌, ◌<◌, ◌≤◌, zero, suc, List, [], ◌∷◌, ◌++◌, map, drop, length, get_or, Ok, Err, Result, inl, inr, ap, subst, ◌∙◌, arith}
 use Rattle.std.specs.List.{AllByRecursion}
 use Rattle.sqlite.specs.Table.{Table}
 use Rattle.sqlite.specs.Schema.{Schema}
@@ -9,7 +9,7 @@ use Rattle.sqlite.specs.Command.TheVariants.{CreateTable, CreateIndex}
 use Rattle.sqlite.specs.Change.{KeepsRows}
 use Rattle.sqlite.specs.Does.{lacks_sequence}
 use Rattle.sqlite.specs.Listing.{understood}
-use Rattle.sqlite.specs.State.{State, ExecutesInside, KeepsCommit, Survives}
+use Rattle.sqlite.specs.State.{State, ExecutesInside}
 use Rattle.sqlite_resolve.specs.declared.compiled.Compiled.{Compiled}
 use Rattle.sqlite_resolve.specs.declared.error.CompileError.{CompileError}
 use Rattle.sqlite.proofs.Callers.{IsPlain, command_of, statement_of}
@@ -80,11 +80,3 @@ leads_end f [] zero s t over h = h
 leads_end f [] (suc i) s t over h = h
 leads_end f (y ∷ ys) zero s t over h = absurd (omega arith)
 leads_end f (y ∷ ys) (suc i) s t over h = leads_end f ys i s t (omega arith) h
-
--- two calls that commit nothing
-pub kept_then : (first second third : State) → KeepsCommit first second → KeepsCommit second third → KeepsCommit first third
-kept_then first second third one two = record { was_open = λ up. one.was_open (two.was_open up); committed = λ up. two.committed up ∙ one.committed (two.was_open up) }
-
--- nothing happened, and a crash leaves nothing new
-pub survives_itself : (s : State) → Survives s s (λ _. ⊥)
-survives_itself s = record { clean = omega arith; shield = λ h. h; counts = omega arith; limit = refl; closes = λ clean up. inl up; crash = λ clean db may. inl may }

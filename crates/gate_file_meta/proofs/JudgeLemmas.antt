@@ -14,7 +14,7 @@ use Rattle.gate_types.specs.declared.open_fault.OpenFault.{OpenFault}
 use Rattle.gate_types.specs.declared.open_fault.OpenFault.TheVariants as fault
 use Rattle.gate_kept_settings.specs.Told.{Tells}
 use Rattle.gate_file_meta.specs.Opens.{IsJudged, MayOpen}
-use Rattle.gate_file_meta.specs.Reading.{IsFound, IsFoundOf, IsMet, IsTold, meta_rows}
+use Rattle.gate_file_meta.specs.Reading.{IsFound, IsFoundOf, IsTold, meta_rows}
 
 -- None is a copy of nothing
 pub no_copy : (r : Option (Bor (List ℕ))) (t : List ℕ) → r ≡ None → option_copied r ≡ Some t → ⊥
@@ -105,15 +105,6 @@ only_refused fault.WrongFile kept d h = absurd h
 only_refused fault.OtherSchema kept d h = absurd (h refl)
 only_refused fault.OtherSettings kept d h = inl refl
 only_refused fault.Unavailable kept d h = inr refl
-
--- ---- a kept text
-
--- the fault of a kept text that is another says that it is refused
-pub met_judged : (f : OpenFault) (version kept : List ℕ) (d : Settings) → version ≡ codes "2" → kept ≢ settings_text d → IsMet (Err f) kept d → IsJudged (Some f) version kept d
-met_judged fault.WrongFile version kept d two other h = absurd cc
-met_judged fault.OtherSchema version kept d two other h = absurd cc
-met_judged fault.OtherSettings version kept d two other h = (two, λ may. elim may [ inl same ↦ other same | inr some ↦ h some.0 some.1 some.2 ])
-met_judged fault.Unavailable version kept d two other h = tt
 
 -- ---- what is found, by what it is
 

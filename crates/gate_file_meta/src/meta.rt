@@ -1,11 +1,10 @@
 //! What the table `meta` of a file says, and what is made of it.
 ghost use Rattle.std.specs.Prelude.{◌≡◌, ◌<◌, [], false, length, bytes_eq, option_copied};
-ghost use Rattle.std.specs.Prelude.{IfErr, IfOk, IfSome, IsTrue, None, OnOk, Some};
+ghost use Rattle.std.specs.Prelude.{IfErr, IfOk, IfSome, IsTrue, OnOk, Some};
 ghost use Rattle.sqlite.specs.Held.{state};
 ghost use Rattle.sqlite.specs.State.{FailsToQuery, HasCleanDisk, IsUnchanged, Shown};
 ghost use Rattle.sqlite.specs.declared.types.Value.TheVariants.{Text};
 ghost use Rattle.sqlite_value.specs.Order.{column};
-ghost use Rattle.gate_types.specs.Adopt.{may_adopt};
 ghost use Rattle.gate_types.specs.SettingsText.{settings_text};
 ghost use Rattle.gate_rows.specs.Writes.{LeavesNothing};
 ghost use Rattle.gate_schema.specs.Rows.{pair_of_words};

@@ -24,7 +24,7 @@ use Rattle.gate_found_rows.proofs.KeyedReads.{descending}
 -- ---- the greatest of a list, in any order
 
 -- the larger of two
-abbrev larger : ℕ → ℕ → ℕ
+abbrev pub larger : ℕ → ℕ → ℕ
 larger m n = cond (nat_lt m n) n m
 
 -- it's the same in either order

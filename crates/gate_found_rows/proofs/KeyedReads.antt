@@ -46,7 +46,7 @@ falling = (col 1 0, descending Binary) ∷ []
 -- ---- a number below another, as SQL compares them
 
 -- a test says what it found
-truth_of : (b : Bool) → is_true (from_truth (Some b)) ≡ b
+pub truth_of : (b : Bool) → is_true (from_truth (Some b)) ≡ b
 truth_of true = refl
 truth_of false = refl
 

@@ -9,11 +9,6 @@ use Rattle.sqlite_keyed.proofs.ListLemmas.{all_weaker, filter-map, slice_get-fil
 
 -- ---- tests
 
--- two tests that agree on all elements pass the same
-pub filter_alike : {X : Type 0} (p q : X → Bool) (xs : List X) → AllByRecursion (λ x. p x ≡ q x) xs → filter p xs ≡ filter q xs
-filter_alike p q [] same = refl
-filter_alike p q (x ∷ xs) same = rw (same.0, filter_alike p q xs same.1)
-
 -- what holds of all elements, and so what follows from it
 pub all_so : {X : Type 0} (P Q : X → Type 0) → ((x : X) → P x → Q x) → (xs : List X) → All P xs → AllByRecursion Q xs
 all_so P Q f xs all = all_weaker P Q f xs (recursion_from_All P xs all)

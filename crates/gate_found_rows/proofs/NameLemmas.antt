@@ -1,20 +1,12 @@
 -- Names are UTF-8.
-use Rattle.std.proofs.Common.{◌≡◌, ℕ, ◌<◌, Bool, true, List, [], ◌∷◌, arith, IsUtf8}
+use Rattle.std.proofs.Common.{◌≡◌, ℕ, ◌<◌, Bool, true, List, [], ◌∷◌, IsUtf8}
 use Rattle.std.specs.List.{list_all}
 use Rattle.std.specs.Str.{IsAscii}
 use Rattle.std.proofs.lemmas.Bool.{and_parts}
-use Rattle.std.proofs.lemmas.Bool.Decides.{nat_tests}
 use Rattle.std.proofs.lemmas.Str.{IsUtf8-from_ascii}
 use Rattle.std.proofs.lemmas.Str.Ascii.{IsAscii-nil, IsAscii-cons}
 use Rattle.gate_types.specs.Names.{is_name, is_name_byte, is_path_byte, is_path_name}
-
--- a byte of a name is ASCII
-name_low : (b : ℕ) → is_name_byte b ≡ true → b < 128
-name_low b h = grind (arith, nat_tests)
-
--- a byte of a project's name is ASCII
-path_low : (b : ℕ) → is_path_byte b ≡ true → b < 128
-path_low b h = grind (arith, nat_tests)
+use Rattle.gate_types.proofs.NameLemmas.{name_low, path_low}
 
 -- a text of such bytes is ASCII
 all_low : (test : ℕ → Bool) → ((b : ℕ) → test b ≡ true → b < 128) → (text : List ℕ) → list_all test text ≡ true →

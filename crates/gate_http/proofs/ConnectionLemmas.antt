@@ -16,6 +16,7 @@ use Rattle.gate_types.specs.declared.tap.Tap.{Tap}
 use Rattle.gate_types.specs.Settings.{Settings}
 use Rattle.gate_types.specs.Tap.{inside, has_failed, WritesFront, Took, TookFront}
 use Rattle.gate_types.specs.Once.{Content, next_content}
+use Rattle.gate_types.proofs.TapLemmas.{writes_later}
 use Rattle.gate_wire.specs.Reading.{says}
 use Rattle.gate_core.specs.declared.fault.IoFault.{IoFault}
 use Rattle.gate_core.specs.declared.fault.IoFault.TheVariants as fault
@@ -32,7 +33,6 @@ use Rattle.gate_http.specs.Way.{Way, silence, refusal, question, stream, Request
 use Rattle.gate_http.specs.Answer.{calls_made, gate_after, is_503}
 use Rattle.gate_http.specs.Serving.{Serves, ServesStream, ServesBy}
 use Rattle.gate_http.specs.Connections.{IsCalled, fault_line, fault_lines, AreTold}
-use Rattle.gate_http.proofs.ResponseLemmas.{writes_later}
 
 -- ---- calls
 

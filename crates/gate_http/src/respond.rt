@@ -1,6 +1,5 @@
 //! What answers the requests that reach it.
 ghost use Rattle.std.specs.Prelude.{◌≡◌, ◌≤◌, ◌++◌, List, ℕ, Option, None, ⊤, false, length, OnOk, IsErrOf};
-ghost use Rattle.gate_types.specs.declared.deliveries.Answer.{Answer};
 ghost use Rattle.gate_types.specs.Once.{answer_text};
 ghost use Rattle.gate_types.specs.Tap.{has_failed, Took, TookFront};
 ghost use Rattle.gate_http.specs.declared.respond.Told.{Told};

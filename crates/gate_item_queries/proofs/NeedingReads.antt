@@ -19,6 +19,7 @@ use Rattle.gate_types.specs.Names.{same_name}
 use Rattle.gate_schema.specs.Rows.{ItemRow, NeedRow, Stored, item_key, item_row, need_columns}
 use Rattle.gate_schema.specs.Shown.{item_shown, needs_it}
 use Rattle.gate_schema.proofs.ValueLemmas.{above_number, equal_numbers, equal_texts}
+use Rattle.gate_schema.proofs.DeleteLemmas.{filter_same_on}
 use Rattle.gate_found_rows.specs.Finds.{Finds}
 use Rattle.gate_found_rows.specs.Reads.{IsShown}
 use Rattle.gate_found_rows.specs.Shown.{number_shown}
@@ -27,7 +28,7 @@ use Rattle.gate_found_rows.proofs.DistinctLemmas.{shows_once}
 use Rattle.gate_item_queries.proofs.ItemReads.{InForm, ShowsItems}
 use Rattle.gate_item_queries.proofs.ItemTexts.{item_names, needing_is, needing_order, needing_query, needing_sql, needing_terms, needing_test}
 use Rattle.gate_found_rows.proofs.JoinLemmas.{keyed_told, listed_told, over_tables, plus_text}
-use Rattle.gate_found_rows.proofs.ListFacts.{all_so, filter_alike}
+use Rattle.gate_found_rows.proofs.ListFacts.{all_so}
 use Rattle.gate_found_rows.proofs.ListedReads.{told_behind}
 use Rattle.gate_item_queries.proofs.NextReads.{above_capped, capped, low}
 use Rattle.gate_found_rows.proofs.NeedLemmas.{need_of, needs_by}
@@ -111,7 +112,7 @@ pub needing_found : (s : State) (b : Stored) (name : List ℕ) (needed above : �
     Finds needing_sql (params_of name (capped above) needed) s.now rows → ShowsItems rows (filter (is_needing b name needed above) b.items)
 needing_found s b name needed above rows shown whole finds =
     let alike : filter (is_needing b name needed (capped above)) b.items ≡ filter (is_needing b name needed above) b.items =
-    filter_alike _ _ b.items (all_so InForm _ (λ i form. ap (λ t. same_name i.queue name && (t && needs_it b.needs needed i.item.change)) (above_capped above i.item.serial (low i form))) b.items whole.items) in
+    filter_same_on _ _ b.items (all_so InForm _ (λ i form. ap (λ t. same_name i.queue name && (t && needs_it b.needs needed i.item.change)) (above_capped above i.item.serial (low i form))) b.items whole.items) in
     record {
       shown = needing_shown b name needed (capped above) s rows shown finds ∙ ap (map item_shown) alike;
       in_form = All-filter (is_needing b name needed above) InForm b.items whole.items;

@@ -21,13 +21,14 @@ use Rattle.gate_book_trait.specs.declared.fault.BookFault.{BookFault}
 use Rattle.gate_schema.specs.Rows.{ItemRow, Stored, item_key, item_row}
 use Rattle.gate_schema.specs.Shown.{item_shown}
 use Rattle.gate_schema.proofs.ValueLemmas.{above_number, equal_texts}
+use Rattle.gate_schema.proofs.DeleteLemmas.{filter_same_on}
 use Rattle.gate_found_rows.specs.Finds.{Finds}
 use Rattle.gate_found_rows.specs.Reads.{IsShown}
 use Rattle.gate_found_rows.specs.Whole.{IsWhole, is_item_row_in_form}
 use Rattle.gate_item_queries.proofs.ItemReads.{InForm, ShowsItems}
 use Rattle.gate_item_queries.proofs.ItemTexts.{item_names, item_terms, last_is, last_query, last_sql, last_test, next_is, next_query, next_sql, next_test, one_row, several_is, several_query, several_sql, third}
 use Rattle.gate_found_rows.proofs.KeyedReads.{below_number, finds_falling, finds_rising}
-use Rattle.gate_found_rows.proofs.ListFacts.{all_so, filter_alike, first_so, passing}
+use Rattle.gate_found_rows.proofs.ListFacts.{all_so, first_so, passing}
 use Rattle.gate_found_rows.proofs.ReadLemmas.{answers}
 
 -- the rows begin with this item, where there is one
@@ -87,7 +88,7 @@ next_found s b name above rows shown whole finds =
     let params = Words name ∷ Int (pos to) ∷ [] in
     let a = answers s next_sql next_query item_names params rows next_is shown.schema_is finds in
     let alike : filter (is_next name to) b.items ≡ filter (is_next name above) b.items =
-    filter_alike _ _ b.items (all_so InForm _ (λ i form. ap (λ t. same_name i.queue name && t) (above_capped above i.item.serial (low i form))) b.items whole.items) in
+    filter_same_on _ _ b.items (all_so InForm _ (λ i form. ap (λ t. same_name i.queue name && t) (above_capped above i.item.serial (low i form))) b.items whole.items) in
     record {
       is = take 1 (filter (is_next name above) b.items);
       shows = record {
@@ -107,7 +108,7 @@ several_found s b name above most rows shown whole finds =
     let params = Words name ∷ Int (pos to) ∷ Int (pos most) ∷ [] in
     let a = answers s several_sql several_query item_names params rows several_is shown.schema_is finds in
     let alike : filter (is_next name to) b.items ≡ filter (is_next name above) b.items =
-    filter_alike _ _ b.items (all_so InForm _ (λ i form. ap (λ t. same_name i.queue name && t) (above_capped above i.item.serial (low i form))) b.items whole.items) in
+    filter_same_on _ _ b.items (all_so InForm _ (λ i form. ap (λ t. same_name i.queue name && t) (above_capped above i.item.serial (low i form))) b.items whole.items) in
     record {
       shown = finds_rising item_key item_row item_shown 11 next_test item_terms third params (is_next name to)
           (λ i. rw (equal_texts i.queue name, above_number i.item.serial to, and_true (ltb to i.item.serial))) (λ i. refl) (λ i. refl) (overlay s.now.trees []) b.items rows shown.stands.item a
@@ -123,7 +124,7 @@ last_found s b name below rows shown whole finds =
     let params = Words name ∷ Int (pos to) ∷ [] in
     let a = answers s last_sql last_query item_names params rows last_is shown.schema_is finds in
     let alike : filter (is_before name to) b.items ≡ filter (is_before name below) b.items =
-    filter_alike _ _ b.items (all_so InForm _ (λ i form. ap (λ t. same_name i.queue name && t) (below_capped below i.item.serial (low i form))) b.items whole.items) in
+    filter_same_on _ _ b.items (all_so InForm _ (λ i form. ap (λ t. same_name i.queue name && t) (below_capped below i.item.serial (low i form))) b.items whole.items) in
     let before = filter (is_before name below) b.items in
     record {
       is = take 1 (reverse before);

@@ -1,5 +1,5 @@
 //! Reads of items, each by key.
-ghost use Rattle.std.specs.Prelude.{◌≡◌, ◌<◌, pos, min, false, IfOk, IfSome};
+ghost use Rattle.std.specs.Prelude.{◌≡◌, ◌<◌, pos, min, IfOk, IfSome};
 ghost use Rattle.sqlite.specs.Held.{state};
 ghost use Rattle.sqlite.specs.Value.{owned};
 ghost use Rattle.sqlite.specs.declared.types.Value.TheVariants.{Int};

@@ -17,7 +17,7 @@ said : {A B : Type 0} (o : Option A) (f : A → Option B) (b : B) → o >>= f �
 said None f b e = absurd cc
 said (Some a) f b e = (a, refl, e)
 
-same : {A : Type 0} (x y : A) → Some x ≡ Some y → x ≡ y
+pub same : {A : Type 0} (x y : A) → Some x ≡ Some y → x ≡ y
 same x y e = cc
 
 passed_by : {A : Type 0} (test : A → Bool) (t : Bool) (x y : A) → test x ≡ t → cond t (Some x) None ≡ Some y → test y ≡ true

@@ -25,6 +25,7 @@ use Rattle.gate_kept_settings.proofs.ReadBack.{IsFit, AreFit, read_back, text_is
 use Rattle.gate_kept_settings.proofs.Entries.{Entry, always, unless_default, present, fit_present, or_else, get_present}
 use Rattle.gate_kept_settings.proofs.ReadingLemmas.{value_found}
 use Rattle.gate_kept_settings.proofs.PlainTexts.{escape_name, escape_path_name, utf8_name, utf8_path_name, utf8_base, prints_plain, prints_escaped, prints_number, prints_boolean, none, and_member, and_unless, prints_object, prints_list}
+use Rattle.gate_kept_settings.proofs.FormLemmas.{same as some_same}
 
 -- ---- the values
 
@@ -317,9 +318,6 @@ settings_found text c h =
     ap (λ t. value_of t >>= settings_at) same
     ∙ ap (λ o. o >>= settings_at) (value_found _ _ (text_is_utf8 (settings_data c) 5 fit) (read_back (settings_data c) 5 fit (omega arith)))
     ∙ settings_said c parts h.sound
-
-some_same : {A : Type 0} (x y : A) → Some x ≡ Some y → x ≡ y
-some_same x y e = cc
 
 pub one_text_a_setting : OneTextASetting
 one_text_a_setting text c d h k = some_same c d (sym (settings_found text c h) ∙ settings_found text d k)

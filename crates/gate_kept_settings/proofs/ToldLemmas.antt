@@ -8,11 +8,8 @@ use Rattle.gate_kept_settings.specs.declared.fault.TextFault.{TextFault}
 use Rattle.gate_kept_settings.specs.declared.fault.TextFault.TheVariants as fault
 use Rattle.gate_kept_settings.specs.Reading.{Gives, said_by}
 use Rattle.gate_kept_settings.specs.Told.{Tells}
-use Rattle.gate_kept_settings.proofs.FormLemmas.{said_is_good}
+use Rattle.gate_kept_settings.proofs.FormLemmas.{said_is_good, same}
 use Rattle.gate_kept_settings.proofs.SettingsData.{settings_found}
-
-same : {A : Type 0} (x y : A) → Some x ≡ Some y → x ≡ y
-same x y e = cc
 
 -- settings that are said, and whose text it is, are told
 pub tells : (text : List ℕ) (c : Settings) → said_by text ≡ Some c → text ≡ settings_text c → Tells text c

@@ -7,7 +7,7 @@
 //! ```
 #![tactic(auto)]
 
-ghost use Rattle.std.specs.Prelude.{◌≡◌, MatchResult, IfOk, ℕ, List};
+ghost use Rattle.std.specs.Prelude.{◌≡◌, MatchResult, IfOk};
 ghost use Rattle.gate_types.specs.Settings.{Settings};
 ghost use Rattle.serde_json.specs.View.{view};
 ghost use Rattle.gate_kept_settings.specs.Reading.{Gives, value_of, said_by};

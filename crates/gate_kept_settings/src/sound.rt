@@ -1,5 +1,5 @@
 //! Whether settings are sound.
-ghost use Rattle.std.specs.Prelude.{◌≡◌, true, map, List, ℕ};
+ghost use Rattle.std.specs.Prelude.{◌≡◌, map, List, ℕ};
 ghost use Rattle.std.specs.List.{list_any, list_all};
 ghost use Rattle.gate_types.specs.Names.{same_name};
 ghost use Rattle.gate_types.specs.Settings.{are_distinct, has_queue, is_factor, is_sound_rule, is_sound_window, are_sound_jobs, are_sound};

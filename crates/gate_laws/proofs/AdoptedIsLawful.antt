@@ -19,10 +19,12 @@ use Rattle.gate_types.specs.Admit.{may_enter}
 use Rattle.gate_types.specs.SubmitOrder.{Order, order_of, orders}
 use Rattle.gate_types.specs.Adopt.{may_adopt, adopted}
 use Rattle.gate_types.specs.Lawful.{IsLawful}
+use Rattle.gate_types.proofs.PlainLemmas.{same_truth}
+use Rattle.gate_types.proofs.NameLemmas.{same_name_is}
 use Rattle.gate_laws.specs.Rest.{IsAtRest}
 use Rattle.gate_laws.specs.Adoption.{AdoptedIsLawful, AdoptedContentIsLawful, AdoptedOrdersStay}
 use Rattle.gate_laws.proofs.Members.{In, every, all, any_from, any_to, all_from, not_found, contains_in, in_contains, from_filter_map}
-use Rattle.gate_laws.proofs.Alone.{same_name_is, same_name_of}
+use Rattle.gate_laws.proofs.Alone.{same_name_of}
 use Rattle.gate_laws.proofs.SettledIsAtRest.{settled_is_at_rest, rest_is_settled}
 use Rattle.gate_laws.proofs.ShownOrders.{order_shown, has_order}
 use Rattle.gate_laws.proofs.Leads.{order_leads, leads_order}
@@ -31,7 +33,7 @@ use Rattle.gate_laws.proofs.RowShapes.{window_shape, windows_of}
 use Rattle.gate_laws.proofs.Shapes.{Shaped, shaped_from}
 use Rattle.gate_laws.proofs.StateShapes.{WholeQueue}
 use Rattle.gate_laws.proofs.StepIsInForm.{form_of, start_queue}
-use Rattle.gate_laws.proofs.Adopting.{Adopts, Resizes, each_queue, still_queue, flat_before, flat_after, same_truth, queue_kept, queue_there, set_kept}
+use Rattle.gate_laws.proofs.Adopting.{Adopts, Resizes, each_queue, still_queue, flat_before, flat_after, queue_kept, queue_there, set_kept}
 use Rattle.gate_laws.proofs.AdoptedIsSound.{adopted_sound}
 
 -- ---- at rest

@@ -18,16 +18,17 @@ use Rattle.gate_types.specs.Step.{has_project}
 use Rattle.gate_types.specs.Adopt.{resized, adopted_queue, adopted}
 use Rattle.gate_types.specs.Evidence.{has_evidence}
 use Rattle.gate_types.specs.Lawful.{IsSound, serials_of, drawn_serials, waiting_changes, landed_changes, is_sound_item, is_sound_build, is_overtaken_rightly, is_of_item, TellsLandings, ArePlanned}
+use Rattle.gate_types.proofs.NameLemmas.{same_name_is}
 use Rattle.gate_laws.specs.Adoption.{AdoptedIsSound}
 use Rattle.gate_laws.proofs.Members.{In, every, all, from_map, to_map, found, not_found, map_map, map_same, in_contains, contains_in}
 use Rattle.gate_laws.proofs.Counts.{times, times-append, distinct_less, all_below}
-use Rattle.gate_laws.proofs.Alone.{same_name_is, same_name_of, map-flat, item_changes}
+use Rattle.gate_laws.proofs.Alone.{same_name_of, map-flat, item_changes}
 use Rattle.gate_laws.proofs.Parts.{ItemsRise, LandingsRise, HasSoundItems, ShowsAll, HasSingles}
 use Rattle.gate_laws.proofs.Facts.{BuildFacts, build_facts, sound_build}
 use Rattle.gate_laws.proofs.WindowIsSound.{with_window}
 use Rattle.gate_laws.proofs.Adopting.{Adopts, each_queue, still_queue, any_queue, flat_before, flat_after, times_adopted, queue_kept, project_kept, set_queue, set_kept}
 
-none_falls : IsStrictlyIncreasing []
+pub none_falls : IsStrictlyIncreasing []
 none_falls k h = absurd (omega (arith, h))
 
 -- the names are those of the settings
@@ -62,7 +63,7 @@ waiting_less c d s a n =
     let less = times_adopted c d s a.after n item_changes (λ q w. refl) (λ r. refl) in
     omega (arith, old, new, old_flat, new_flat, less)
 
-abbrev landed_in : Queue → List ℕ
+abbrev pub landed_in : Queue → List ℕ
 landed_in q = map (λ l. l.change) q.landings
 
 landed_less : (c d : Settings) (s : State) → Adopts c d s → (n : ℕ) →

@@ -16,7 +16,7 @@ use Rattle.gate_laws.proofs.Elements.{rest_of}
 use Rattle.gate_laws.proofs.Alone.{same_name_of, names_differ}
 use Rattle.gate_laws.proofs.Adopting.{found_named}
 
-kept_window : (c : Settings) (r : QueueSetting) → In r c.queues → keeps_window c r ≡ true
+pub kept_window : (c : Settings) (r : QueueSetting) → In r c.queues → keeps_window c r ≡ true
 kept_window c r m =
     any_to (λ (o : QueueSetting). same_name o.name r.name && o.window == r.window && o.floor == r.floor) c.queues r m
     (and_from (same_name r.name r.name && r.window == r.window) (r.floor == r.floor)

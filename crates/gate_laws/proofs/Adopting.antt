@@ -13,9 +13,11 @@ use Rattle.gate_types.specs.State.{Queue, State, empty_queue, change_of, is_open
 use Rattle.gate_types.specs.Step.{has_project}
 use Rattle.gate_types.specs.Adopt.{may_adopt, keeps_window, resized, adopted_queue, adopted}
 use Rattle.gate_types.specs.Lawful.{IsSound}
+use Rattle.gate_types.proofs.PlainLemmas.{same_truth}
+use Rattle.gate_types.proofs.NameLemmas.{same_name_is}
 use Rattle.gate_laws.proofs.Members.{In, every, from_map, to_map, any_from, any_to, all_from, none_from, found, not_found, from_flat, to_flat}
 use Rattle.gate_laws.proofs.Counts.{times, times-append}
-use Rattle.gate_laws.proofs.Alone.{same_name_is, same_name_of, names_differ}
+use Rattle.gate_laws.proofs.Alone.{same_name_of, names_differ}
 use Rattle.gate_laws.proofs.WindowIsSound.{with_window}
 use Rattle.gate_laws.proofs.RecordedChange.{open_known}
 
@@ -141,11 +143,6 @@ set_kept c d s a n e =
     (same_name_of r.0.name n (same_name_is r.0.name o.0.name r.2 ∙ same_name_is o.0.name n o.2))
 
 -- ---- tests and members
-
-pub same_truth : (a b : Bool) → (a ≡ true → b ≡ true) → (b ≡ true → a ≡ true) → a ≡ b
-same_truth true b f g = sym (f refl)
-same_truth false true f g = g refl
-same_truth false false f g = refl
 
 -- a test that windows change nothing for, and that no empty queue passes
 pub any_queue : (c d : Settings) (s : State) → Adopts c d s → (test : Queue → Bool) →

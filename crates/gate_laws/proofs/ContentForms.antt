@@ -32,7 +32,7 @@ use Rattle.gate_laws.proofs.TextLengths.{said_short, reply_short}
 
 -- ---- ids
 
-is_none : {X : Type 0} (o : Option X) → is_some o ≡ false → o ≡ None
+pub is_none : {X : Type 0} (o : Option X) → is_some o ≡ false → o ≡ None
 is_none None e = refl
 is_none (Some x) e = absurd (true≢false e)
 

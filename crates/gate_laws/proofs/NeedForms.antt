@@ -1,48 +1,20 @@
 -- What a commit message needs are numbers of changes.
-use Rattle.std.proofs.Common.{◌≡◌, ℕ, ◌<◌, ◌≤◌, ◌-◌, ◌*◌, ◌+◌, Bool, true, false, ◌&&◌, List, [], ◌∷◌, ◌++◌, length, fold, Option, Some, None, arith, lit<, lit≤, refl, subst, cond, inl, inr}
+use Rattle.std.proofs.Common.{◌≡◌, ℕ, Bool, true, false, ◌&&◌, List, [], ◌∷◌, ◌++◌, length, fold, Option, Some, None, arith, refl, subst, cond, inl, inr}
 use Rattle.std.specs.Prelude.{nat_lt, nat_le, slice_index, filter_map, ◌==◌}
 use Rattle.std.specs.List.{list_all, list_any, slice_split}
 use Rattle.std.specs.Bool.{then_some}
 use Rattle.std.specs.Option.{option_map, option_and_then}
-use Rattle.std.specs.Char.{is_ascii_digit, digit_value}
-use Rattle.std.specs.Str.Parse.{digits_value, AllDigits}
-use Rattle.std.proofs.Math.Nat.{pow-le-pow_right}
+use Rattle.std.specs.Char.{is_ascii_digit}
+use Rattle.std.specs.Str.Parse.{digits_value}
 use Rattle.std.proofs.lemmas.Bool.{and_parts, leb-true}
-use Rattle.std.proofs.lemmas.Bool.Decides.{nat_tests}
-use Rattle.std.proofs.lemmas.Int.Digits.{digits_value-lt}
-use Rattle.std.proofs.lemmas.Str.Parse.{digits_value-take-le}
 use Rattle.std.proofs.lemmas.Option.{none-some}
 use Rattle.gate_types.specs.Needs.{needs, named_change, number_of, after_base, without_blanks, after_footer, without_end, with_number}
 use Rattle.gate_types.specs.Forms.{is_change_number}
+use Rattle.gate_types.proofs.DigitLemmas.{value_small, value_positive}
 use Rattle.gate_laws.proofs.Members.{In, all_to, from_append, from_filter_map}
 use Rattle.gate_laws.proofs.Shapes.{up_to}
 
 -- ---- digits
-
-digit_is : (c : ℕ) → is_ascii_digit c ≡ true → (48 ≤ c) × (c ≤ 57) × (digit_value c ≡ c - 48)
-digit_is c h = grind (arith, nat_tests)
-
-all_digits : (ds : List ℕ) → list_all is_ascii_digit ds ≡ true → AllDigits 10 ds
-all_digits [] h = tt
-all_digits (c ∷ cs) h =
-    let p = and_parts (is_ascii_digit c) (list_all is_ascii_digit cs) h in
-    let d = digit_is c p.0 in
-    (omega (arith, d.0, d.1, d.2), all_digits cs p.1)
-
--- nine digits write a number below 10^9
-value_small : (ds : List ℕ) → list_all is_ascii_digit ds ≡ true → length ds ≤ 9 → digits_value 10 ds < 1000000000
-value_small ds h few = omega (arith, digits_value-lt 10 ds (all_digits ds h), pow-le-pow_right {n = 10} (lit< tt) few)
-
--- above 0 where the first digit is
-value_positive : (ds : List ℕ) → list_all is_ascii_digit ds ≡ true → nat_lt 48 (slice_index ds 0) ≡ true →
-    1 ≤ digits_value 10 ds
-value_positive [] h above = absurd (cc)
-value_positive (c ∷ cs) h above =
-    let p = and_parts (is_ascii_digit c) (list_all is_ascii_digit cs) h in
-    let d = digit_is c p.0 in
-    let least : 0 * 10 + digit_value c ≤ digits_value 10 (c ∷ cs) = digits_value-take-le 10 (c ∷ cs) 1 (lit≤ tt) in
-    let more : 48 < c = grind (arith, nat_tests) in
-    omega (arith, d.2, least, more)
 
 number_in_form : (ds : List ℕ) (n : ℕ) → number_of ds ≡ Some n → is_change_number n ≡ true
 number_in_form ds n h =

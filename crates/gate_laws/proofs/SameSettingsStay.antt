@@ -1,20 +1,20 @@
 -- A gate that is given its own settings stays as it is.
-use Rattle.std.proofs.Common.{◌≡◌, ℕ, true, ◌&&◌, ◌==◌, cond, List, [], ◌∷◌, map, refl, ap, ◌∙◌, inl, inr, arith}
+use Rattle.std.proofs.Common.{◌≡◌, ℕ, true, ◌&&◌, cond, List, [], ◌∷◌, map, refl, ap, ◌∙◌, inl, inr}
 use Rattle.std.specs.Option.{option_map_or}
 use Rattle.std.proofs.lemmas.Bool.{and_from}
-use Rattle.std.proofs.lemmas.Bool.Decides.{nat_tests}
 use Rattle.gate_types.specs.declared.config.Queue.{Queue as QueueSetting}
 use Rattle.gate_types.specs.declared.config.Project.{Project}
 use Rattle.gate_types.specs.Names.{same_name}
 use Rattle.gate_types.specs.Settings.{Settings, are_sound, are_distinct}
 use Rattle.gate_types.specs.State.{Queue, State, empty_queue}
 use Rattle.gate_types.specs.Once.{Content}
-use Rattle.gate_types.specs.Adopt.{may_adopt, keeps_window, resized, adopted_queue, adopted_content}
+use Rattle.gate_types.specs.Adopt.{may_adopt, resized, adopted_queue, adopted_content}
 use Rattle.gate_types.specs.Lawful.{IsSound}
 use Rattle.gate_laws.specs.Sessions.{SameSettingsStay}
 use Rattle.gate_laws.proofs.Members.{In, any_to, all_to}
 use Rattle.gate_laws.proofs.Alone.{same_name_of, names_differ}
 use Rattle.gate_laws.proofs.Adopting.{found_named}
+use Rattle.gate_laws.proofs.AdoptedItself.{kept_window}
 
 own_may : (c : Settings) → may_adopt c c ≡ true
 own_may c =
@@ -22,14 +22,6 @@ own_may c =
     (all_to _ c.queues (λ q m. any_to (λ (r : QueueSetting). same_name r.name q.name) c.queues q m (same_name_of q.name q.name refl)))
     (all_to _ c.projects (λ p m. any_to (λ (r : Project). same_name r.name p.name && same_name r.queue p.queue) c.projects p m
     (and_from _ _ (same_name_of p.name p.name refl) (same_name_of p.queue p.queue refl))))
-
-self_equal : (n : ℕ) → (n == n) ≡ true
-self_equal n = grind (arith, nat_tests)
-
-keeps_own : (c : Settings) (r : QueueSetting) → In r c.queues → keeps_window c r ≡ true
-keeps_own c r m =
-    any_to (λ (o : QueueSetting). same_name o.name r.name && o.window == r.window && o.floor == r.floor) c.queues r m
-    (and_from _ _ (and_from _ _ (same_name_of r.name r.name refl) (self_equal r.window)) (self_equal r.floor))
 
 first_same : (a b : List ℕ) (xs ys : List (List ℕ)) → a ∷ xs ≡ b ∷ ys → a ≡ b
 first_same a b xs ys e = cc
@@ -47,7 +39,7 @@ own_queues c s differ (r ∷ rs) [] ours theirs names = absurd cc
 own_queues c s differ (r ∷ rs) (q ∷ qs) ours theirs names =
     let here = first_same q.name r.name _ _ names in
     let there = found_named (λ (q : Queue). q.name) s.queues differ q (theirs q (inl refl)) r.name (same_name_of q.name r.name here) in
-    let kept : resized c r q ≡ q = ap (λ b. cond b q (record q { window = r.window })) (keeps_own c r (ours r (inl refl))) in
+    let kept : resized c r q ≡ q = ap (λ b. cond b q (record q { window = r.window })) (kept_window c r (ours r (inl refl))) in
     ap (λ x. x ∷ map (adopted_queue c s) rs) (ap (λ o. option_map_or (resized c r) o (empty_queue r)) there ∙ kept)
     ∙ ap (λ l. q ∷ l) (own_queues c s differ rs qs (λ x m. ours x (inr m)) (λ x m. theirs x (inr m)) (rest_same q.name r.name _ _ names))
 

@@ -24,9 +24,10 @@ use Rattle.gate_types.specs.Step.{left_queue, leave, with_stage, made_ready, shr
 use Rattle.gate_types.specs.declared.deliveries.Ending.{Ending}
 use Rattle.gate_types.specs.Lawful.{IsSound}
 use Rattle.gate_types.specs.Forms.{is_change_number, is_revision_number, is_change_in_form, are_settings_in_form, is_project_in_form}
+use Rattle.gate_types.proofs.NameLemmas.{same_name_is}
 use Rattle.gate_laws.proofs.Members.{In, every, all_from, from_map, from_filter, from_append, any_from, found}
 use Rattle.gate_laws.proofs.Rising.{from_put}
-use Rattle.gate_laws.proofs.Alone.{name_alone, same_name_is, same_name_of}
+use Rattle.gate_laws.proofs.Alone.{name_alone, same_name_of}
 use Rattle.gate_laws.proofs.LeaveIsSound.{leaving}
 use Rattle.gate_laws.proofs.RecordedChange.{open_known}
 use Rattle.gate_laws.proofs.RebaseIsSound.{rebase_is_sound}

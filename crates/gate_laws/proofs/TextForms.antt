@@ -3,7 +3,6 @@ use Rattle.std.proofs.Common.{◌≡◌, ℕ, ◌≤◌, ◌<◌, Bool, true, �
 use Rattle.std.specs.List.{list_all}
 use Rattle.std.specs.Str.{is_utf8}
 use Rattle.std.proofs.lemmas.Bool.{and_parts}
-use Rattle.std.proofs.lemmas.Bool.Decides.{nat_tests}
 use Rattle.std.proofs.lemmas.Str.{IsUtf8-append, IsUtf8-from_ascii, IsUtf8-nil, IsUtf8-from_is_utf8, is_utf8-from_IsUtf8}
 use Rattle.std.proofs.lemmas.Str.Ascii.{IsAscii-nil, IsAscii-cons, IsAscii-from_all}
 use Rattle.std.proofs.lemmas.Fmt.{IsAscii-decimal}
@@ -23,6 +22,7 @@ use Rattle.gate_types.specs.JsonText.{Piece, number, plain, escaped, joined, arr
 use Rattle.gate_types.specs.Canonical.{ending_word, kind, on_change, on_order_number, delivery_members, canonical_text}
 use Rattle.gate_types.specs.ReplyText.{reply_member, reply_members, reply_text}
 use Rattle.gate_types.specs.Forms.{is_change_number, is_revision_number, is_drawn_number, is_entry_in_form, is_delivery_in_form, is_build_in_form, is_reply_in_form}
+use Rattle.gate_types.proofs.NameLemmas.{name_low, path_low}
 use Rattle.gate_laws.proofs.Members.{all, all_from}
 use Rattle.gate_laws.proofs.Shapes.{most, build_from}
 
@@ -30,12 +30,6 @@ use Rattle.gate_laws.proofs.Shapes.{most, build_from}
 
 one : (b : ℕ) → b < 128 → (rest : List ℕ) → IsUtf8 rest → IsUtf8 (b ∷ rest)
 one b h rest u = IsUtf8-append (b ∷ []) rest (IsUtf8-from_ascii (b ∷ []) (IsAscii-cons b [] h IsAscii-nil)) u
-
-name_low : (b : ℕ) → is_name_byte b ≡ true → b < 128
-name_low b h = grind (arith, nat_tests)
-
-path_low : (b : ℕ) → is_path_byte b ≡ true → b < 128
-path_low b h = grind (arith, nat_tests)
 
 low_utf8 : (test : ℕ → Bool) → ((b : ℕ) → test b ≡ true → b < 128) → (text : List ℕ) →
     list_all test text ≡ true → IsUtf8 text

@@ -1,5 +1,5 @@
 -- From the edits of the book below to those of a book that holds what is live.
-use Rattle.std.proofs.Common.{◌≡◌, ◌≤◌, min, Bool, true, false, List, Option, Some, None, refl, sym, ap, subst, ◌∙◌, arith, true≢false}
+use Rattle.std.proofs.Common.{◌≡◌, ◌≤◌, min, true, List, Option, Some, sym, subst, arith}
 use Rattle.std.specs.Prelude.{◌&&◌, nat_le, option_map, IfSome, OnOk, OnErr, Result, Ok, Err}
 use Rattle.std.proofs.lemmas.Bool.{and_parts}
 use borrow.Author.Tests.{leb-true}
@@ -9,7 +9,7 @@ use Rattle.gate_types.specs.Once.{Content}
 use Rattle.gate_types.specs.Settings.{Settings}
 use Rattle.gate_types.specs.Tables.{tables}
 use Rattle.gate_types.specs.declared.edits.Edit.{Edit}
-use Rattle.gate_book_trait.specs.Kept.{IsApplied, IsKept}
+use Rattle.gate_book_trait.specs.Kept.{IsApplied}
 use Rattle.gate_book_trait.specs.declared.fault.BookFault.{BookFault}
 use Rattle.gate_live.specs.Live.{live_tables}
 use Rattle.gate_live.specs.Held.{live_of, within}

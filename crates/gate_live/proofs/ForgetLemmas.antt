@@ -1,5 +1,5 @@
 -- What is let go behind edits.
-use Rattle.std.proofs.Common.{◌≡◌, Bool, true, false, Option, None, Some, refl, sym, true≢false}
+use Rattle.std.proofs.Common.{◌≡◌, true, false, Option, None, Some, refl, sym, true≢false}
 use Rattle.std.specs.Prelude.{is_some, option_map}
 use Rattle.std.specs.Option.{option_or}
 

@@ -1,5 +1,5 @@
 -- The ready changes that are held once they were read one by one.
-use Rattle.std.proofs.Common.{◌≡◌, ℕ, suc, ◌+◌, ◌<◌, Bool, true, false, Option, Some, None, List, [], ◌∷◌, length, take, get_or, refl, sym, ap, subst, ◌∙◌, eqb-true, arith, true≢false}
+use Rattle.std.proofs.Common.{◌≡◌, ℕ, ◌+◌, ◌<◌, Bool, true, false, Option, Some, None, List, length, take, get_or, refl, sym, ap, subst, ◌∙◌, eqb-true, true≢false}
 use Rattle.std.specs.Prelude.{◌==◌, find, is_some, IsSome, option_map, option_and_then}
 use Rattle.std.specs.List.{AllByRecursion}
 use Rattle.std.proofs.lemmas.Bool.{eq-eqb, false≢true}
@@ -8,7 +8,7 @@ use Rattle.gate_types.specs.declared.records.Ready.{Ready}
 use Rattle.gate_types.specs.declared.rows.ChangeRow.{ChangeRow}
 use Rattle.gate_types.specs.Tables.{approval_of}
 use Rattle.gate_book_trait.specs.Rising.{In}
-use Rattle.gate_book_trait.specs.RowReads.{AreReady, row_of, approval_in, change_in}
+use Rattle.gate_book_trait.specs.RowReads.{AreReady, row_of, change_in}
 use Rattle.gate_book_trait.proofs.Finding.{all_in, in_weaker, found_in, found_has}
 use Rattle.gate_book_trait.proofs.ReadLemmas.{approval_told}
 use Rattle.gate_memory.proofs.LoopLemmas.{all_at}
@@ -78,10 +78,6 @@ none_missing all rs i r ready within at none =
     by_row : (o : Option ChangeRow) → None ≡ option_map (λ (j : ChangeRow). j.change) o → is_some o ≡ true → ⊥
     by_row None none here = false≢true here
     by_row (Some j) none here = false≢true (ap is_some none)
-
--- none was read yet
-pub none_read : (all : List ChangeRow) → AreRead [] all []
-none_read all = record { own = λ n here. absurd (false≢true here); there = tt }
 
 -- all that are ready were read
 pub all_read : (rows all : List ChangeRow) (rs : List Ready) → AreReady all rs → AreRead rows all rs → AreRowsOf rows all

@@ -13,13 +13,13 @@ is_of_store fault.Store = true
 is_of_store _ = false
 
 -- whether a fault of writing a history may come from the store
-abbrev pub may_be_of_store : HistoryFault → Bool
-may_be_of_store history.Unavailable = true
-may_be_of_store history.Broken = true
-may_be_of_store _ = false
+abbrev pub history_may_be_of_store : HistoryFault → Bool
+history_may_be_of_store history.Unavailable = true
+history_may_be_of_store history.Broken = true
+history_may_be_of_store _ = false
 
 -- whether a fault of writing deliveries may come from the store
-abbrev pub may_be_of_store_too : FeedFault → Bool
-may_be_of_store_too feed.Unavailable = true
-may_be_of_store_too feed.Broken = true
-may_be_of_store_too _ = false
+abbrev pub feed_may_be_of_store : FeedFault → Bool
+feed_may_be_of_store feed.Unavailable = true
+feed_may_be_of_store feed.Broken = true
+feed_may_be_of_store _ = false

@@ -1,5 +1,5 @@
 -- Which builds are held in memory: all live builds of each known item, and no others.
-use Rattle.std.specs.Prelude.{ℕ, Bool, not, ◌&&◌, ◌==◌, ◌≡◌, ◌≤◌, ◌+◌, if◌then◌else◌, is_some, List, filter, find, fold}
+use Rattle.std.specs.Prelude.{ℕ, Bool, not, ◌&&◌, ◌==◌, ◌≡◌, if◌then◌else◌, is_some, List, filter, find, fold}
 use Rattle.gate_types.specs.declared.records.Build.{Build}
 use Rattle.gate_types.specs.declared.edits.Edit.{Edit}
 use Rattle.gate_types.specs.declared.edits.Edit.TheVariants as edit

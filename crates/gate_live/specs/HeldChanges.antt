@@ -1,5 +1,27 @@
 -- Which changes are held in memory, and what edits make of them.
-use Rattle.std.specs.Prelude.{ℕ, Bool, ◌≡◌, ◌||◌, ◌+◌, ◌==◌, if◌then◌else◌, List, [], ◌∷◌, nat_lt, filter, find, length, fold, Option, Some, None, is_some, IfSome, IsSome}
+use Rattle.std.specs.Prelude.{
+  ℕ,
+  Bool,
+  ◌≡◌,
+  ◌||◌,
+  ◌+◌,
+  ◌==◌,
+  if◌then◌else◌,
+  List,
+  [],
+  ◌∷◌,
+  nat_lt,
+  filter,
+  find,
+  length,
+  fold,
+  Option,
+  Some,
+  None,
+  is_some,
+  IfSome,
+  IsSome,
+}
 use Rattle.std.specs.List.{list_all, filter_map}
 use Rattle.std.specs.Option.{option_map_or}
 use Rattle.gate_types.specs.declared.edits.Edit.{Edit}

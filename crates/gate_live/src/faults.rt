@@ -36,7 +36,7 @@ impl Fault for BookFault {
 impl Fault for HistoryFault {
     ghost use Rattle.gate_live.specs.Faults as faults;
 
-    ghost is_of_store = { faults.may_be_of_store };
+    ghost is_of_store = { faults.history_may_be_of_store };
 
     fn is_of_store(&self) -> bool {
         match self {
@@ -49,7 +49,7 @@ impl Fault for HistoryFault {
 impl Fault for FeedFault {
     ghost use Rattle.gate_live.specs.Faults as faults;
 
-    ghost is_of_store = { faults.may_be_of_store_too };
+    ghost is_of_store = { faults.feed_may_be_of_store };
 
     fn is_of_store(&self) -> bool {
         match self {

@@ -1,6 +1,7 @@
 //! The builds held in memory: all live builds of each known item. So memory grows with the queued items, never with the
 //! history.
-ghost use Rattle.std.specs.Prelude.{◌≡◌, ◌<◌, ℕ, suc, List, [], filter, length, true, IfOk, IfSome, OnOk, vec_len, vec_capacity};
+ghost use Rattle.std.specs.Prelude.{◌≡◌, ◌<◌, ℕ, suc, List, [], filter, length, true, IfOk, IfSome, OnOk, vec_len};
+ghost use Rattle.std.specs.Prelude.{vec_capacity};
 ghost use Rattle.std.specs.List.{AllByRecursion};
 ghost use Rattle.gate_types.specs.declared.edits.Edit.TheVariants as edit;
 ghost use Rattle.gate_types.specs.State.{put_by};
@@ -8,7 +9,8 @@ ghost use Rattle.gate_book_trait.specs.Rising.{RisesFrom};
 ghost use Rattle.gate_memory.specs.Builds as build_table;
 ghost use Rattle.gate_memory.specs.Builds.{is_live_of, number_of};
 ghost use Rattle.gate_memory.specs.TableReads.{builds_of_rows};
-ghost use Rattle.gate_live.specs.HeldBuilds.{AreBuildsKept, AreBuildsOf, HaveBuildRoom, edited_held, is_live_known, known_of, knows, put_all, serial_of};
+ghost use Rattle.gate_live.specs.HeldBuilds.{AreBuildsKept, AreBuildsOf, HaveBuildRoom, edited_held, is_live_known};
+ghost use Rattle.gate_live.specs.HeldBuilds.{known_of, knows, put_all, serial_of};
 
 use gate_memory::{BuildTable, Keyed, at, builds_of, put, remove};
 use gate_types::names::NoMemory;

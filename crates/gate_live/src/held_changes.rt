@@ -1,5 +1,6 @@
 //! The changes held in memory: all ready changes, and the changes of queued items once they have been read.
-ghost use Rattle.std.specs.Prelude.{◌≡◌, ◌++◌, ◌||◌, ℕ, List, suc, [], ◌+◌, length, is_some, Some, IfOk, IfSome, OnErr, OnOk};
+ghost use Rattle.std.specs.Prelude.{◌≡◌, ◌++◌, ◌||◌, ℕ, List, suc, [], ◌+◌, length, is_some, Some, IfOk, IfSome, OnErr};
+ghost use Rattle.std.specs.Prelude.{OnOk};
 ghost use Rattle.std.specs.List.{cons_option};
 ghost use Rattle.gate_types.specs.State.{put_by};
 ghost use Rattle.gate_types.specs.declared.rows.ChangeRow.{ChangeRow};
@@ -7,7 +8,9 @@ ghost use Rattle.gate_book_trait.specs.RowReads.{approval_in, change_in, needing
 ghost use Rattle.gate_memory.specs.Changes.{number_of, IsWhatRowsTell};
 ghost use Rattle.gate_memory.specs.Queues as queue_table;
 ghost use Rattle.gate_memory.specs.TableReads.{IsWhatRowsTellOf};
-ghost use Rattle.gate_live.specs.HeldChanges.{AreRowsOf, AreKeptChanges, HasRoomFor, change_touched, changes_held, has_row, has_rows_of, items_above, needs_of_rows, row_put, rows_put, unready, with_row, with_rows, without_change};
+ghost use Rattle.gate_live.specs.HeldChanges.{AreRowsOf, AreKeptChanges, HasRoomFor, change_touched, changes_held};
+ghost use Rattle.gate_live.specs.HeldChanges.{has_row, has_rows_of, items_above, needs_of_rows, row_put, rows_put};
+ghost use Rattle.gate_live.specs.HeldChanges.{unready, with_row, with_rows, without_change};
 
 use gate_memory::{ChangeTable, QueueTable, count_needs, needing_of};
 use gate_types::edits::Edit;

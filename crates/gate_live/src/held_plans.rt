@@ -1,5 +1,6 @@
 //! The plans held in memory: those of queued items that have been read, each as it is in the book below.
-ghost use Rattle.std.specs.Prelude.{◌≡◌, ◌==◌, ℕ, suc, List, [], if◌then◌else◌, find, is_some, true, IfOk, IfSome, OnOk};
+ghost use Rattle.std.specs.Prelude.{◌≡◌, ◌==◌, ℕ, suc, List, [], if◌then◌else◌, find, is_some, true, IfOk, IfSome};
+ghost use Rattle.std.specs.Prelude.{OnOk};
 ghost use Rattle.std.specs.List.{AllByRecursion};
 ghost use Rattle.gate_types.specs.State.{put_by};
 ghost use Rattle.gate_book_trait.specs.RowReads.{plans_of_rows};

@@ -445,7 +445,8 @@ impl Live {
     ) -> Result<Sequence<Item>, BookFault>
         ensures found { OfHeld B.IsTrusted B.Holds book.old book.new (λ c x. Agrees self.old c x →
             read.Answers (read.items_needing x.state change above (read.items_in c x.state queue.now)) result) }
-        ensures agrees { OfHeld B.IsTrusted B.Holds book.old book.new (λ c x. Agrees self.old c x → Agrees self.new c x) }
+        ensures agrees { OfHeld B.IsTrusted B.Holds book.old book.new (λ c x.
+            Agrees self.old c x → Agrees self.new c x) }
         ensures kept { IsKept B.IsTrusted B.Holds B.LeavesOneOf book.old book.new }
         ensures fault { IfErr result (MayAnswer B.MayFault) }
     {

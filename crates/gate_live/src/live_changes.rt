@@ -11,7 +11,8 @@ ghost use Rattle.gate_book_trait.specs.Kept.{OfHeld, IsKept};
 ghost use Rattle.gate_book_trait.specs.Reads as read;
 ghost use Rattle.gate_book_trait.specs.RowReads.{change_in};
 ghost use Rattle.gate_live.specs.Held.{AreKept, IsKeptQueue, IsLiveOf, live_of, queue_of};
-ghost use Rattle.gate_live.specs.HeldChanges.{AnyAreHeldOf, AreChangesOf, AreRowsOf, AreKeptChanges, HasRoomFor, changes_held, rows_edited, needs_of_rows, queues_held, rows_put};
+ghost use Rattle.gate_live.specs.HeldChanges.{AnyAreHeldOf, AreChangesOf, AreRowsOf, AreKeptChanges, HasRoomFor};
+ghost use Rattle.gate_live.specs.HeldChanges.{changes_held, rows_edited, needs_of_rows, queues_held, rows_put};
 
 use crate::change_reads::needing;
 use crate::forgetting::{forget_left, is_queued};

@@ -16,6 +16,7 @@ use Rattle.gate_memory.specs.Changes.{TellsReady, same_number, ready_by, entry_o
 use Rattle.gate_memory.proofs.PairLemmas.{same_pair}
 use Rattle.gate_book_trait.proofs.Finding.{all_in, found_has, found_in}
 use Rattle.gate_memory.proofs.CollectLemmas.{collected}
+use Rattle.gate_memory.proofs.NeedLemmas.{all_from}
 use Rattle.gate_book_trait.proofs.ReadLemmas.{no_row}
 
 -- the key of a ready change is that of its pair
@@ -26,10 +27,6 @@ abbrev any : Ready → Bool
 any r = true
 
 -- ---- lists
-
-all_of_in : {X : Type 0} (P : X → Type 0) (xs : List X) → ((x : X) → In x xs → P x) → AllByRecursion P xs
-all_of_in P [] h = tt
-all_of_in P (x ∷ xs) h = (h x (inl refl), all_of_in P xs (λ y t. h y (inr t)))
 
 in_map : {X : Type 0} (f : X → ℕ) (x : X) (xs : List X) → In x xs → In (f x) (map f xs)
 in_map f x [] there = absurd there
@@ -147,5 +144,5 @@ pub ready_is : (rows : List ChangeRow) (rs : List Ready) (ps : List Pair) → Ar
 ready_is rows rs ps ready rise fit told =
     pairs_tell rows rs ps ready fit
     ∙ collected ready_key any 0 rs (keys_rise 0 0 rs ready.rise ready.fit (omega arith)) 0 (map pair_key ps) (map_rises pair_key 0 ps rise)
-    (all_of_in (λ (r : Ready). true ≡ true → In (ready_key r) (map pair_key ps)) rs (λ r there _. keys_told rows rs ps ready told r there))
+    (all_from (λ (r : Ready). true ≡ true → In (ready_key r) (map pair_key ps)) rs (λ r there _. keys_told rows rs ps ready told r there))
     ∙ filter_any rs

@@ -166,6 +166,3 @@ numbers_push m n rows x place here none e f q =
 
 pub numbers_set : (m : Numbers) (rows : List ChangeRow) (x : ChangeRow) (i : ℕ) → get nat_eq m x.change.number ≡ Some i → FindsNumbers m rows → FindsNumbers m (set rows i x)
 numbers_set m rows x i e f q = f q ∙ sym (place_set number_of x q rows i (sym (f x.change.number) ∙ e))
-
-pub numbers_same : (m n : Numbers) (rows : List ChangeRow) → ((q : ℕ) → get nat_eq n q ≡ get nat_eq m q) → FindsNumbers m rows → FindsNumbers n rows
-numbers_same m n rows e f q = e q ∙ f q

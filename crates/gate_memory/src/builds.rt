@@ -9,7 +9,6 @@ ghost use Rattle.gate_book_trait.specs.Rising.{RisesFrom};
 ghost use Rattle.gate_archive.specs.ItemText.{last_of, summary_of};
 ghost use Rattle.gate_memory.specs.Sorted.{passing, first_of, without};
 ghost use Rattle.gate_memory.specs.Pairs.{pair_key, IsFit};
-ghost use Rattle.gate_memory.specs.declared.pairs.Pair.{Pair};
 ghost use Rattle.gate_memory.specs.Builds as index;
 ghost use Rattle.gate_memory.specs.Builds.{AreKept, HaveRoom, Indexes, number_of, is_live_of, is_of};
 

@@ -9,7 +9,7 @@ ghost use Rattle.gate_book_trait.specs.Rising.{RisesFrom, In};
 ghost use Rattle.gate_memory.specs.Sorted.{without};
 ghost use Rattle.gate_book_trait.specs.RowReads.{change_in, needs_in, approval_in};
 ghost use Rattle.gate_memory.specs.TableReads.{needing_by, IsWhatRowsTellOf};
-ghost use Rattle.gate_memory.specs.Pairs.{pair_key, IsFit};
+ghost use Rattle.gate_memory.specs.Pairs.{pair_key};
 ghost use Rattle.gate_memory.specs.declared.pairs.Pair.{Pair};
 ghost use Rattle.gate_memory.specs.Needs.{AreInOrder, IsRising, IsSmall, TellsNeedsOf, TellsNoneOf, pair_of_need};
 ghost use Rattle.gate_memory.specs.Changes.{AreApart, FindsNumbers, IsKept, HasRoom, IsWhatRowsTell, ready_by, number_of, in_order, changes_of, entry_of};

@@ -1,5 +1,5 @@
 -- The plans that a file of schema 1 gets.
-use Rattle.std.proofs.Common.{◌≡◌, ◌∙◌, ◌++◌, ◌<◌, ◌+◌, ℕ, zero, suc, Bool, true, false, cond, List, [], ◌∷◌, drop, get_or, length, map, Option, Some, None, option_map, find, refl, sym, ap, subst, arith, append_assoc, append-nil, take, ◌≤◌}
+use Rattle.std.proofs.Common.{◌≡◌, ◌∙◌, ◌++◌, ◌<◌, ◌+◌, ℕ, suc, Bool, true, false, cond, List, [], ◌∷◌, drop, get_or, length, map, Option, Some, None, option_map, find, refl, sym, ap, subst, arith, append_assoc, append-nil, take, ◌≤◌}
 use Rattle.std.specs.Prelude.{◌==◌, flat_map, unwrap_or}
 use Rattle.std.specs.List.{AllByRecursion}
 use Rattle.std.proofs.lemmas.List.{map-append}
@@ -24,6 +24,7 @@ use Rattle.gate_rows.proofs.ThenLemmas.{survives_itself}
 use Rattle.gate_queue_queries.specs.First.{IsProjectOf}
 use Rattle.gate_found_rows.specs.Reads.{IsOnlyRead}
 use Rattle.gate_migration.specs.Migrates.{TellsQueue, pair_of_item, pair_of_landing, plan_for, puts}
+use Rattle.gate_book_trait.proofs.Finding.{rest_at, rest_none}
 
 -- ---- the project of a change
 
@@ -64,17 +65,6 @@ nothing_read s = record {
 }
 
 -- ---- lists
-
-pub rest_at : {X : Type 0} (xs : List X) (k : ℕ) (d : X) → k < length xs → drop k xs ≡ get_or xs k d ∷ drop (suc k) xs
-rest_at [] k d l = absurd (omega arith)
-rest_at (x ∷ xs) zero d l = refl
-rest_at (x ∷ xs) (suc k) d l = rest_at xs k d (omega arith)
-
-rest_none : {X : Type 0} (xs : List X) (k : ℕ) → length xs ≤ k → drop k xs ≡ []
-rest_none [] zero l = refl
-rest_none [] (suc k) l = refl
-rest_none (x ∷ xs) zero l = absurd (omega arith)
-rest_none (x ∷ xs) (suc k) l = rest_none xs k (omega arith)
 
 -- the plans of a queue are those of its items and then those of its landings
 pub queue_plans : (c : Settings) (s : State) (q : Queue)

@@ -28,7 +28,7 @@ use Rattle.std.specs.Prelude.{◌⊎◌}
 use Rattle.gate_types.specs.Tables.{Tables}
 use Rattle.gate_types.specs.declared.edits.Edit.{Edit}
 use Rattle.gate_schema.specs.Rows as rows
-use Rattle.gate_schema.specs.Rows.{IsFixed, IsKeyed, IsListed, IsReady, Stands, Stored, pair_of_words}
+use Rattle.gate_schema.specs.Rows.{IsFixed, IsKeyed, IsListed, Stored, pair_of_words}
 use Rattle.gate_schema.specs.Schema.{gate_schema, item_fast_text, item_job_text, meta_at, schema_with}
 use Rattle.gate_schema.proofs.ChangeLemmas.{changed, listed_changed, numbered_changed, updated_rows}
 use Rattle.gate_schema.proofs.QueryLemmas.{over_table, passes, shows_few}

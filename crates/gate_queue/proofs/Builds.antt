@@ -17,8 +17,9 @@ use Rattle.gate_types.specs.Rebase.{with_live, stays_live}
 use Rattle.gate_types.specs.Sweep.{judge, judged_after, verdict_of, next_staying, goes, without_runs}
 use Rattle.gate_types.specs.Rows.{row_of, edited_builds, change_build}
 use Rattle.gate_queue.specs.Edits.{stops, stop_edits, item_edits, edits_at, next_reports}
-use Rattle.gate_queue.proofs.Ordered.{RiseFrom, build_number, place_serial}
+use Rattle.gate_queue.proofs.Ordered.{RiseFrom, build_number}
 use Rattle.gate_queue.proofs.Folds.{edits_along}
+use Rattle.gate_laws.proofs.LiveBuildsCount.{place_serial}
 
 abbrev stopped : Build → Build
 stopped b = with_live false b
@@ -30,7 +31,7 @@ cond_same : {X : Type 0} (t : Bool) (x : X) → cond t x x ≡ x
 cond_same true x = refl
 cond_same false x = refl
 
-or_assoc : (x y z : Bool) → (x || y) || z ≡ x || (y || z)
+pub or_assoc : (x y z : Bool) → (x || y) || z ≡ x || (y || z)
 or_assoc true y z = refl
 or_assoc false y z = refl
 

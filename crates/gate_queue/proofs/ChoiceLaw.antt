@@ -13,8 +13,9 @@ use Rattle.gate_types.specs.Slot.{is_blocked, slot_of, is_waiting_slot}
 use Rattle.gate_types.specs.Standing.{places, place_of}
 use Rattle.gate_types.specs.Choice.{build_for, builds_for}
 use Rattle.gate_queue.specs.Chooses.{first_choice, build_of_choice, FirstChoiceIsGiven}
-use Rattle.gate_queue.proofs.Ordered.{RiseFrom, place_serial, rises, ahead_rise}
+use Rattle.gate_queue.proofs.Ordered.{RiseFrom, rises, ahead_rise}
 use Rattle.gate_queue.proofs.LawLemmas.{items_rise}
+use Rattle.gate_laws.proofs.LiveBuildsCount.{place_serial}
 
 get_drop : {X : Type 0} (xs : List X) (n : ℕ) → slice_get (drop n xs) 0 ≡ slice_get xs n
 get_drop [] zero = refl

@@ -1,6 +1,6 @@
 -- The fold of a queue's edits over its rows, part by part.
-use Rattle.std.proofs.Common.{◌≡◌, ℕ, suc, ◌+◌, ◌<◌, ◌≤◌, Bool, true, cond, not, ◌||◌, Option, Some, None, is_some, List, [], ◌∷◌, ◌++◌, map, fold, length, refl, sym, ap, ◌∙◌, arith, append_assoc, append-nil, length-append}
-use Rattle.std.specs.Prelude.{filter, filter_map, option_map, ◌==◌, nat_lt, ◌&&◌}
+use Rattle.std.proofs.Common.{◌≡◌, ℕ, suc, ◌+◌, ◌<◌, ◌≤◌, Bool, cond, not, ◌||◌, Option, Some, None, is_some, List, [], ◌∷◌, ◌++◌, map, fold, length, refl, sym, ap, ◌∙◌, arith, append_assoc, append-nil, length-append}
+use Rattle.std.specs.Prelude.{filter, filter_map, option_map, ◌==◌, nat_lt}
 use Rattle.std.proofs.lemmas.List.Sums.{fold-append}
 use Rattle.std.proofs.lemmas.Bool.{eq-eqb, ne_eqb, le-ltb}
 use Rattle.gate_types.specs.declared.records.Item.{Item as ItemRow}
@@ -9,7 +9,6 @@ use Rattle.gate_types.specs.declared.records.Report.{Report}
 use Rattle.gate_types.specs.declared.records.Verdict.{Verdict}
 use Rattle.gate_types.specs.declared.edits.Edit.{Edit}
 use Rattle.gate_types.specs.declared.edits.Edit.TheVariants as edit
-use Rattle.gate_types.specs.Names.{same_name}
 use Rattle.gate_types.specs.State.{Item, put_by}
 use Rattle.gate_types.specs.Line.{Place}
 use Rattle.gate_types.specs.Slot.{is_cut}
@@ -20,6 +19,7 @@ use Rattle.gate_types.specs.Rows.{Rows, row_of, numbered, edited, edited_items, 
 use Rattle.gate_queue.specs.Edits.{stops, stop_edits, item_edits, edits_at, edits_after, next_reports}
 use Rattle.gate_queue.proofs.Ordered.{RiseFrom, AllBelow, GoWith, Tells, row_serial}
 use Rattle.gate_laws.proofs.Stays.{stayers}
+use Rattle.gate_laws.proofs.Touches.{name_itself}
 
 -- each part of the rows is edited by itself
 pub fold_parts : (r : Rows) (edits : List Edit) → fold_edits r edits ≡ record {
@@ -31,10 +31,6 @@ pub fold_parts : (r : Rows) (edits : List Edit) → fold_edits r edits ≡ recor
 }
 fold_parts r [] = refl
 fold_parts r (e ∷ edits) = fold_parts (edited r e) edits
-
-pub same_self : (name : List ℕ) → same_name name name ≡ true
-same_self [] = refl
-same_self (x ∷ xs) = ap (λ t. t && same_name xs xs) (eq-eqb x x refl) ∙ same_self xs
 
 -- the edits of items that stand at their places
 abbrev pub edits_along : List ℕ → List Build → ℕ → List Item → List Place → List Edit
@@ -80,7 +76,7 @@ window_fold name w bs n staying (p ∷ ps) =
 -- ---- the reports
 
 -- a report behind all others is the last row
-put_last : (k : ℕ) (rs : List Report) (r : Report) (n : ℕ) → n ≡ k + length rs → put_by (λ (x : ReportRow). x.place) (record { place = n + 1; report = r }) (numbered k rs) ≡ numbered k (rs ++ r ∷ [])
+pub put_last : (k : ℕ) (rs : List Report) (r : Report) (n : ℕ) → n ≡ k + length rs → put_by (λ (x : ReportRow). x.place) (record { place = n + 1; report = r }) (numbered k rs) ≡ numbered k (rs ++ r ∷ [])
 put_last k [] r n e = let at : n + 1 ≡ suc k = omega arith in ap (λ m. record { place = m; report = r } ∷ []) at
 put_last k (x ∷ rs) r n e =
     let rest = put_by (λ (y : ReportRow). y.place) (record { place = n + 1; report = r }) (numbered (suc k) rs) in
@@ -99,7 +95,7 @@ reports_own name rs bs p None js = (rs, refl, refl, refl)
 reports_own name rs bs p (Some v) js =
     let r = report_of v p.item in (
       rs ++ r ∷ [],
-      ap (λ t. cond t (put_by (λ (x : ReportRow). x.place) (record { place = length rs + 1; report = r }) (numbered 0 rs)) (numbered 0 rs)) (same_self name) ∙ put_last 0 rs r (length rs) (omega arith),
+      ap (λ t. cond t (put_by (λ (x : ReportRow). x.place) (record { place = length rs + 1; report = r }) (numbered 0 rs)) (numbered 0 rs)) (name_itself name) ∙ put_last 0 rs r (length rs) (omega arith),
       length-append rs (r ∷ []),
       append_assoc rs (r ∷ []) (reports_of js),
     )
@@ -160,7 +156,7 @@ below_kept n (y ∷ ys) x v l h = (h.0, below_kept n ys x v l h.1)
 pub items_own : (name : List ℕ) (n : ℕ) (done : List ItemRow) (i x : ItemRow) (v : Option Verdict) (rest : List ItemRow) → x.serial ≡ i.serial → AllBelow row_serial i.serial done → RiseFrom row_serial (suc i.serial) rest →
     fold (edited_items name) (done ++ i ∷ rest) (item_edits name n x v) ≡ (done ++ kept v x) ++ rest
 items_own name n done i x None rest e h r =
-    ap (λ t. cond t (put_by row_serial x (done ++ i ∷ rest)) (done ++ i ∷ rest)) (same_self name)
+    ap (λ t. cond t (put_by row_serial x (done ++ i ∷ rest)) (done ++ i ∷ rest)) (name_itself name)
     ∙ put_there done rest i x e h
     ∙ sym (append_assoc done (x ∷ []) rest)
 items_own name n done i x (Some v) rest e h r =

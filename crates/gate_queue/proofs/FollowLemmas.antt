@@ -21,9 +21,6 @@ same_step [] (suc n) e es = refl
 same_step (x ∷ xs) zero e es = refl
 same_step (x ∷ xs) (suc n) e es = same_step xs n e es
 
-pub starts : (ran entries : List Entry) (from : ℕ) → GoesOn ran from entries from entries
-starts ran entries from = record { along = λ tail. refl }
-
 pub goes_on : (ran entries : List Entry) (from n : ℕ) (e : Entry) (left rest : List Entry) → left ≡ e ∷ rest → has_entry ran n e ≡ true → GoesOn ran from entries n left → GoesOn ran from entries (n + 1) rest
 goes_on ran entries from n e left rest is has g = record {
   along = λ tail.
@@ -33,9 +30,6 @@ goes_on ran entries from n e left rest is has g = record {
       ∙ ap (λ t. t && same_entries (drop (suc n) ran) (rest ++ tail)) has
       ∙ ap (λ m. same_entries (drop m ran) (rest ++ tail)) (sym (add-one n));
 }
-
-pub ends : (ran entries : List Entry) (from n : ℕ) (left : List Entry) → left ≡ [] → GoesOn ran from entries n left → Follows ran from entries (Some n)
-ends ran entries from n left is g = record { rest = λ tail. g.along tail ∙ ap (λ l. same_entries (drop n ran) (l ++ tail)) is }
 
 pub breaks : (ran entries : List Entry) (from n : ℕ) (e : Entry) (left rest : List Entry) → left ≡ e ∷ rest → has_entry ran n e ≡ false → GoesOn ran from entries n left → Follows ran from entries None
 breaks ran entries from n e left rest is has g = record {

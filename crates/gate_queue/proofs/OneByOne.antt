@@ -15,11 +15,13 @@ use Rattle.gate_types.specs.Rebase.{with_live}
 use Rattle.gate_types.specs.Sweep.{Judged, judge, judged_after, next_staying, next_window, verdict_of, goes, without_runs}
 use Rattle.gate_queue.specs.Settles.{verdicts}
 use Rattle.gate_queue.specs.Laws.{Scan, report_on, swept, without, one_out, OneSweepIsOneByOne}
-use Rattle.gate_queue.proofs.Ordered.{RiseFrom, place_serial, rises, ahead_rise}
+use Rattle.gate_queue.proofs.Ordered.{RiseFrom, rises, ahead_rise}
 use Rattle.gate_queue.proofs.Builds.{or_false}
 use Rattle.gate_laws.proofs.Alike.{verdict_alike}
 use Rattle.gate_laws.proofs.StoppedRuns.{stopped_alike}
 use Rattle.gate_laws.proofs.Stays.{Among, among_next, goes_failing, at_place, stayers}
+use Rattle.gate_laws.proofs.IdleSweep.{stop_none}
+use Rattle.gate_laws.proofs.LiveBuildsCount.{place_serial}
 
 -- a test passes only items that go
 abbrev Only : (ℕ → Bool) → List Judged → Type 0
@@ -264,15 +266,6 @@ idle bounds (x ∷ xs) e = by_verdict (λ h. idle bounds xs h) (is_some x.verdic
 stay_all : (ps : List Place) (leaves : ℕ → Bool) → ((n : ℕ) → leaves n ≡ false) → stayers leaves ps ≡ ps
 stay_all [] leaves h = refl
 stay_all (p ∷ ps) leaves h = ap (λ t. cond (not t) (p ∷ stayers leaves ps) (stayers leaves ps)) (h p.item.serial) ∙ ap (λ l. p ∷ l) (stay_all ps leaves h)
-
-stop_none : (bs : List Build) (leaves : ℕ → Bool) → ((n : ℕ) → leaves n ≡ false) → without_runs leaves bs ≡ bs
-stop_none [] leaves h = refl
-stop_none (b ∷ bs) leaves h = λ k. with_live ((ap (λ t. b.live && not (is_running b.outcome && t)) (h b.serial) ∙ kept b.live (is_running b.outcome)) k) b ∷ stop_none bs leaves h k
-  where
-    kept : (l r : Bool) → l && not (r && false) ≡ l
-    kept true true = refl
-    kept true false = refl
-    kept false r = refl
 
 idle_same : (bounds : Bounds) (q : Scan) → first_out (verdicts q.places q.builds) ≡ None → swept bounds q ≡ q
 idle_same bounds q e =

@@ -16,6 +16,7 @@ use Rattle.gate_types.specs.declared.records.Landing.{Landing}
 use Rattle.gate_queue.specs.Facts.{places_by}
 use Rattle.std.specs.List.{AllByRecursion as Each}
 use Rattle.gate_laws.proofs.Stays.{Tells as TellsOf}
+use Rattle.gate_laws.proofs.LiveBuildsCount.{place_serial}
 
 -- numbers are at least n, and rise
 abbrev pub RiseFrom : {X : Type 0} → (X → ℕ) → ℕ → List X → Type 0
@@ -29,9 +30,6 @@ AllBelow key n (x ∷ xs) = (key x < n) × AllBelow key n xs
 
 abbrev pub row_serial : ItemRow → ℕ
 row_serial i = i.serial
-
-abbrev pub place_serial : Place → ℕ
-place_serial p = p.item.serial
 
 abbrev pub build_number : Build → ℕ
 build_number b = b.number

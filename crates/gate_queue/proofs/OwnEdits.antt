@@ -22,7 +22,7 @@ use Rattle.gate_queue.specs.declared.facts.ItemFacts.{ItemFacts}
 use Rattle.gate_queue.specs.Facts.{places_by}
 use Rattle.gate_queue.specs.Settles.{has_item, has_build, is_own}
 use Rattle.gate_queue.specs.Edits.{stops, stop_edits, item_edits, edits_at, edits_after, next_reports, window_edits, window_after, edits_of_queue}
-use Rattle.gate_queue.proofs.Folds.{same_self}
+use Rattle.gate_laws.proofs.Touches.{name_itself}
 
 -- this edit is own
 abbrev IsOwn : List ℕ → List ItemRow → List Build → Edit → Type 0
@@ -37,7 +37,7 @@ or_true true = refl
 or_true false = refl
 
 named : (name : List ℕ) (t : Bool) → t ≡ true → same_name name name && t ≡ true
-named name t h = ap (λ s. s && t) (same_self name) ∙ h
+named name t h = ap (λ s. s && t) (name_itself name) ∙ h
 
 -- all of some builds are among others
 abbrev Among : List Build → List Build → Type 0
@@ -67,7 +67,7 @@ own_window name items builds old new = by_test (old == new)
   where
     by_test : (t : Bool) → Own name items builds (cond t [] (edit.SetWindow name new ∷ []))
     by_test true = All-nil (IsOwn name items builds)
-    by_test false = All-cons (IsOwn name items builds) (edit.SetWindow name new) [] (same_self name) (All-nil (IsOwn name items builds))
+    by_test false = All-cons (IsOwn name items builds) (edit.SetWindow name new) [] (name_itself name) (All-nil (IsOwn name items builds))
 
 -- the places' items are among these
 abbrev AllThere : List ItemRow → List Place → Type 0

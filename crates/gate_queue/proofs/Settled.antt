@@ -18,12 +18,14 @@ use Rattle.gate_types.specs.Sweep.{Judged, judge, judged_after, next_staying, ne
 use Rattle.gate_types.specs.Rows.{numbered, row_of, fold_edits, edited_items, edited_builds, edited_reports, edited_window}
 use Rattle.gate_queue.specs.Edits.{edits_after, window_edits, edits_of_queue}
 use Rattle.gate_queue.specs.Settles.{rebased, verdicts, swept_rows, settled_rows}
-use Rattle.gate_queue.proofs.Ordered.{RiseFrom, GoWith, Tells, row_serial, place_serial, build_number, places_rise, ahead_rise, ahead_with}
-use Rattle.gate_queue.proofs.Folds.{fold_parts, same_self, edits_along, along, window_fold, reports_fold, items_fold, reports_of}
+use Rattle.gate_queue.proofs.Ordered.{RiseFrom, GoWith, Tells, row_serial, build_number, places_rise, ahead_rise, ahead_with}
+use Rattle.gate_queue.proofs.Folds.{fold_parts, edits_along, along, window_fold, reports_fold, items_fold, reports_of}
 use Rattle.gate_queue.proofs.Builds.{builds_fold}
 use Rattle.gate_laws.proofs.Members.{from_filter}
 use Rattle.gate_laws.proofs.Keeps.{keeps}
 use Rattle.gate_laws.proofs.Stays.{stayers, places_stay}
+use Rattle.gate_laws.proofs.LiveBuildsCount.{place_serial}
+use Rattle.gate_laws.proofs.Touches.{name_itself}
 use Rattle.gate_queue.proofs.Keeps.{PassesAll, all_alike, places_kept, verdicts_kept, rebase_passes, rows_alike, rows_stay}
 
 -- an item of another serial isn't told of
@@ -74,7 +76,7 @@ window_set name old new = by_test (old == new) refl
   where
     by_test : (t : Bool) → old == new ≡ t → fold (edited_window name) old (window_edits name old new) ≡ new
     by_test true e = ap (λ t. fold (edited_window name) old (cond t [] (edit.SetWindow name new ∷ []))) e ∙ eqb-true old new e
-    by_test false e = ap (λ t. fold (edited_window name) old (cond t [] (edit.SetWindow name new ∷ []))) e ∙ ap (λ t. cond t new old) (same_self name)
+    by_test false e = ap (λ t. fold (edited_window name) old (cond t [] (edit.SetWindow name new ∷ []))) e ∙ ap (λ t. cond t new old) (name_itself name)
 
 -- and leaves all else
 window_leaves : {Y : Type 0} (f : Y → Edit → Y) (name : List ℕ) (old new : ℕ) (y : Y) → f y (edit.SetWindow name new) ≡ y → fold f y (window_edits name old new) ≡ y

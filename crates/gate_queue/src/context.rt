@@ -6,7 +6,7 @@ ghost use Rattle.gate_queue.specs.Shared.{are_below};
 
 use gate_types::config::Job;
 use gate_types::numbers::{ChangeNo, Revision, Serial};
-use gate_types::records::{Entry, Item, Landing, Need};
+use gate_types::records::{Item, Landing, Need};
 use std::marker::Model;
 
 /// An item without what is worked out of it: what is ahead, and whether it fails.

@@ -18,11 +18,11 @@ use Rattle.gate_found_rows.specs.Shown.{number_shown}
 use Rattle.gate_schema.proofs.QueryLemmas.{passes, matches-over_table}
 
 -- a count of all rows
-abbrev all_rows : Aggregate
+abbrev pub all_rows : Aggregate
 all_rows = record { op = CountRows; distinct = false; collation = Binary; argument = lit Null }
 
 -- all rows as one group
-abbrev one_group : Grouping
+abbrev pub one_group : Grouping
 one_group = record { keys = []; collations = []; aggregates = all_rows ∷ []; having = [] }
 
 -- the query that counts the rows that pass a test
@@ -44,7 +44,7 @@ abbrev pub counted : ℕ → Row
 counted n = count n ∷ []
 
 -- a group's one value is its count
-one_value : (group : List Env) (values : Row) → AllZip (λ a v. value_over group a ≡ Some v) (all_rows ∷ []) values → values ≡ counted (length group)
+pub one_value : (group : List Env) (values : Row) → AllZip (λ a v. value_over group a ≡ Some v) (all_rows ∷ []) values → values ≡ counted (length group)
 one_value group [] zip = absurd zip
 one_value group (v ∷ []) zip =
     let same : count (length (map (eval (lit Null)) group)) ≡ v = some_is zip.0 in
@@ -56,7 +56,7 @@ one_value group (v ∷ []) zip =
 one_value group (v ∷ w ∷ vs) zip = absurd zip.1
 
 -- one group has one row
-one_summary : (group : List Env) (rows : List Row) → AllZip (IsSummary one_group) (group ∷ []) rows → rows ≡ counted (length group) ∷ []
+pub one_summary : (group : List Env) (rows : List Row) → AllZip (IsSummary one_group) (group ∷ []) rows → rows ≡ counted (length group) ∷ []
 one_summary group [] zip = absurd zip
 one_summary group (r ∷ []) zip = ap (λ x. x ∷ []) (zip.0.2 ∙ one_value group zip.0.0 zip.0.1)
 one_summary group (r ∷ s ∷ rs) zip = absurd zip.1

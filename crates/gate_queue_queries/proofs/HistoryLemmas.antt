@@ -21,7 +21,6 @@ use Rattle.gate_types.specs.Tap.{Took, TookFront, WritesFront}
 use Rattle.gate_types.specs.declared.records.Report.{Report}
 use Rattle.gate_types.specs.declared.tap.Tap.{Tap}
 use Rattle.gate_book_trait.specs.Text.{BreaksOff, first_line, last_line}
-use Rattle.gate_book_trait.specs.Writes.{StopsBy}
 use Rattle.gate_book_trait.specs.declared.fault.HistoryFault.{HistoryFault}
 use Rattle.gate_book_trait.specs.declared.fault.HistoryFault.TheVariants as fault
 use Rattle.gate_schema.specs.Rows.{Stands, Stored}
@@ -58,7 +57,7 @@ ends_so : (c : Command) (db : Database) (params : Row) → c ≡ Select (record 
 ends_so c db params is = subst (λ (c : Command). EndsIn c db params) (sym is) tt
 
 -- what has gone by
-unchanged_refl : (s : State) → IsTrue s.is_open → IsUnchanged s s
+pub unchanged_refl : (s : State) → IsTrue s.is_open → IsUnchanged s s
 unchanged_refl s up = (record { was_open = up; is_open = up; now_is = refl; committed_is = refl; mode = refl }, record { changes = refl; last_rowid = refl }, refl)
 
 -- the rows so far begin what the query finds
@@ -240,13 +239,6 @@ pub gave_open : {S : Type 0} (g : Ghosts S) (name : List ℕ) (h : Held S) (give
 unfolding HasGiven
 gave_open g name h given it = it.0.is_open
 
--- a late fault leaves the writer as any does
-pub stops_late : {W : Type 0} (old new : Tap W) (f : HistoryFault) → BreaksOff new f → StopsBy old new f
-stops_late old new fault.NoQueue h = absurd h
-stops_late old new fault.Unavailable h = absurd h
-stops_late old new fault.Broken h = h
-stops_late old new fault.Write h = h
-
 -- and a beginning of the text
 pub leaves_late : {W : Type 0} (s : State) (name front : List ℕ) (held : W → Option (List ℕ)) (old new : Tap W) (f : HistoryFault) → BreaksOff new f
     → OfReports s name front (TookFront held old new) → LeavesReports s name front held old new f
@@ -281,10 +273,6 @@ pub written_head : {W : Type 0} (held : W → Option (List ℕ)) (old mid new : 
     → WritesHead held old new (front ++ line) result
 written_head held old mid new front line (Ok x) took it = Appends-trans _ _ _ _ _ took it.taken
 written_head held old mid new front line (Err f) took it = cuts_late held old new (front ++ line) f it.stops (writes_later _ _ _ front line took it.taken)
-
--- or the front isn't
-pub written_front : {W : Type 0} (held : W → Option (List ℕ)) (old new : Tap W) (front line : List ℕ) (f : HistoryFault) → BreaksOff new f → TookFront held old new front → CutsHead held old new (front ++ line) f
-written_front held old new front line f stops cut = cuts_late held old new (front ++ line) f stops (sooner _ _ front line cut)
 
 -- ---- the query, begun on the connection
 

@@ -1,7 +1,7 @@
-mod CountReads
+pub mod CountReads
 mod CounterReads
 pub mod FirstReads
-mod HistoryLemmas
+pub mod HistoryLemmas
 mod QueueReads
 mod QueueTexts
-mod ReportReads
+pub mod ReportReads

@@ -1,11 +1,11 @@
 -- What the reads of queues find.
-use Rattle.std.proofs.Common.{◌≡◌, ℕ, pos, nat_le, Bool, true, false, ◌&&◌, List, [], ◌∷◌, filter, length, map, refl, sym, ap, subst, ◌∙◌, arith, nat_lt, codes, Some, is_lt}
+use Rattle.std.proofs.Common.{◌≡◌, ℕ, pos, nat_le, true, ◌&&◌, List, [], ◌∷◌, filter, length, map, refl, sym, ap, subst, ◌∙◌, arith, nat_lt, codes, is_lt}
 use Rattle.std.proofs.lemmas.Bool.Decides.{nat_tests}
 use Rattle.std.proofs.lemmas.List.{length-map}
 use Rattle.std.proofs.lemmas.List.Elements.{All-from_recursion, recursion_from_All}
 use Rattle.std.specs.List.{AllPass}
 use Rattle.sqlite.specs.Collation.TheVariants.{Binary}
-use Rattle.sqlite.specs.Ops.{binary, from_truth, is_true}
+use Rattle.sqlite.specs.Ops.{binary, is_true}
 use Rattle.sqlite.specs.Order.{Row}
 use Rattle.sqlite.specs.Program.{overlay}
 use Rattle.sqlite.specs.State.{State}
@@ -33,6 +33,7 @@ use Rattle.gate_found_rows.proofs.ListedReads.{listed_greatest, listed_in_turn, 
 use Rattle.gate_queue_queries.proofs.QueueTexts.{before_asks, before_query, before_sql, before_test, count_asks, count_query, count_sql, landing_asks, landing_query, landing_sql, report_asks, report_query, report_sql, window_asks, window_query, window_sql}
 use Rattle.gate_found_rows.proofs.ReadLemmas.{answers}
 use Rattle.gate_found_rows.proofs.ShownLemmas.{pass_filter}
+use Rattle.gate_found_rows.proofs.KeyedReads.{truth_of}
 
 -- ---- the window
 
@@ -83,11 +84,6 @@ landing_found s b name rows shows finds =
     (λ v l is. told_behind (λ v. eval (col 1 2) ((Words name ∷ []) ∷ v ∷ [])) v _ _ (Int (pos l.row.place)) (λ w. refl) is)
     (overlay s.now.trees []) b.landings rows shows.stands.landing
     (answers s landing_sql landing_query (codes "n" ∷ []) params rows landing_asks shows.schema_is finds))
-
--- a truth is read as it was written
-truth_of : (b : Bool) → is_true (from_truth (Some b)) ≡ b
-truth_of true = refl
-truth_of false = refl
 
 -- how SQL compares numbers by `<`
 below_number : (a b : ℕ) → is_true (binary (Compare Lt Binary) (Int (pos a)) (Int (pos b))) ≡ nat_lt a b

@@ -35,7 +35,7 @@ use Rattle.gate_found_rows.proofs.KeyedReads.{rises}
 use Rattle.gate_found_rows.proofs.ListedReads.{kept_shown, told_behind}
 use Rattle.gate_found_rows.proofs.ReadLemmas.{answers}
 
-abbrev report_terms : List Term
+abbrev pub report_terms : List Term
 report_terms = col 1 3 ∷ col 1 4 ∷ col 1 5 ∷ col 1 6 ∷ col 1 7 ∷ []
 
 abbrev pub history_query : Query
@@ -49,21 +49,21 @@ unfolding understood everything
 history_asks = ((refl, (refl, refl)), refl)
 
 -- what the query makes of a report: what it sorts by, and what it shows
-abbrev out : ReportRow → Output
+abbrev pub out : ReportRow → Output
 out r = (number_shown r.place, report_shown r.report)
 
 -- each of numbered reports stands behind the number before the first
-numbered_above : (m n : ℕ) (rs : List Report) → m ≤ n → AllByRecursion (λ (s : ReportRow). m < s.place) (numbered n rs)
+pub numbered_above : (m n : ℕ) (rs : List Report) → m ≤ n → AllByRecursion (λ (s : ReportRow). m < s.place) (numbered n rs)
 numbered_above m n [] low = tt
 numbered_above m n (r ∷ rs) low = (omega arith, numbered_above m (suc n) rs (omega arith))
 
 -- so their places rise
-numbered_rises : (n : ℕ) (rs : List Report) → IsAscending (λ (r s : ReportRow). r.place < s.place) (numbered n rs)
+pub numbered_rises : (n : ℕ) (rs : List Report) → IsAscending (λ (r s : ReportRow). r.place < s.place) (numbered n rs)
 numbered_rises n [] = tt
 numbered_rises n (r ∷ rs) = (numbered_above (suc n) (suc n) rs (omega arith), numbered_rises (suc n) rs)
 
 -- what is shown of numbered reports
-numbered_shown : (n : ℕ) (rs : List Report) → map (λ (r : ReportRow). report_shown r.report) (numbered n rs) ≡ map report_shown rs
+pub numbered_shown : (n : ℕ) (rs : List Report) → map (λ (r : ReportRow). report_shown r.report) (numbered n rs) ≡ map report_shown rs
 numbered_shown n [] = refl
 numbered_shown n (r ∷ rs) = ap (λ l. report_shown r ∷ l) (numbered_shown (suc n) rs)
 

@@ -1,5 +1,5 @@
 //! The read of the counters.
-ghost use Rattle.std.specs.Prelude.{◌≡◌, pos, true, false, IfOk, OnErr};
+ghost use Rattle.std.specs.Prelude.{◌≡◌, pos, true, IfOk, OnErr};
 ghost use Rattle.sqlite.specs.Held.{state};
 ghost use Rattle.sqlite.specs.declared.types.Value.TheVariants.{Int, Text};
 ghost use Rattle.sqlite_value.specs.Order.{column};

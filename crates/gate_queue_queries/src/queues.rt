@@ -1,5 +1,5 @@
 //! Reads of queues, by name: the window, how many items, landings and reports there are.
-ghost use Rattle.std.specs.Prelude.{◌≡◌, ℕ, false, nat_le, List, length, map, slice_get, slice_index};
+ghost use Rattle.std.specs.Prelude.{◌≡◌, ℕ, nat_le, List, length, map, slice_get, slice_index};
 ghost use Rattle.std.specs.List.{AllPass};
 ghost use Rattle.sqlite.specs.Held.{state};
 ghost use Rattle.gate_book_trait.specs.Reads.{Answers};

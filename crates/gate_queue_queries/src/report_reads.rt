@@ -1,6 +1,5 @@
 //! The read of a queue's reports, a row at a time: its history is written while it is read.
-ghost use Rattle.std.specs.Prelude.{◌≡◌, ◌++◌, [], ◌∷◌, ℕ, false, IfOk, List, OnOk};
-ghost use Rattle.sqlite.specs.Given.{IsPlain};
+ghost use Rattle.std.specs.Prelude.{◌≡◌, ◌++◌, [], ℕ, false, IfOk, List, OnOk};
 ghost use Rattle.sqlite.specs.Held.{state};
 ghost use Rattle.sqlite.specs.Order.{Row};
 ghost use Rattle.sqlite.specs.State.{HasCleanDisk, IsUnchanged, Survives};
@@ -18,7 +17,6 @@ use gate_found_rows::fault::book_fault;
 use gate_found_rows::read::check_open;
 use gate_found_rows::words::verdict_in;
 use gate_rows::values::text;
-use gate_types::names::NoMemory;
 use gate_types::records::Report;
 use gate_types::tap::Tap;
 use sqlite::{Alter, Connection, Row, Rows};

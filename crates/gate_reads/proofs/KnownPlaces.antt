@@ -13,14 +13,14 @@ use Rattle.gate_types.specs.declared.records.Stage.TheVariants as stage
 use Rattle.gate_types.specs.Settings.{Settings}
 use Rattle.gate_types.specs.State.{Item, Queue, State, known_change, plan_of, has_change, known_or_closed, need_of}
 use Rattle.gate_types.specs.Line.{Place, item_entry, landings_below}
-use Rattle.gate_types.specs.Slot.{are_met_by, is_blocked, has_failure, is_cut, is_waiting_slot}
+use Rattle.gate_types.specs.Slot.{are_met_by, is_blocked, is_cut, is_waiting_slot}
 use Rattle.gate_types.specs.Standing.{needs_of, places, all_places}
 use Rattle.gate_types.specs.Choice.{build_for, builds_for}
 use Rattle.gate_types.specs.Rows.{row_of}
 use Rattle.gate_types.specs.Lawful.{IsLawful}
 use Rattle.gate_types.specs.Names.{same_name}
+use Rattle.gate_types.proofs.NameLemmas.{same_name_is}
 use Rattle.gate_laws.proofs.Members.{In, contains_in, found, from_flat, to_flat}
-use Rattle.gate_laws.proofs.Alone.{same_name_is}
 use Rattle.gate_laws.proofs.Places.{item_of_place}
 use Rattle.gate_book_trait.specs.Reads.{queue_named, landings_in, landings_before, live_builds}
 use Rattle.gate_reads.specs.NextBuild.{with_number}
@@ -106,16 +106,6 @@ met_is items needs = λ k. list_all (λ n. n.landed || any_entry n.change items 
 pub blocked_is : (p : Place) (ahead : List Entry) (needs : List Need) → ahead ≡ map item_entry p.ahead → needs ≡ p.needs →
     not (are_met_among ahead needs) ≡ is_blocked p
 blocked_is p ahead needs ea en = ap not ((λ k. are_met_among (ea k) (en k)) ∙ met_is p.ahead p.needs)
-
--- one that isn't failing isn't
-pub unblocked_at : {c : Settings} {s : State} {name : List ℕ} {ahead : List Entry} {row : ItemRow} {q : Queue}
-    {p : Place} → IsBehind c s name ahead row q p → row.failing ≡ false → is_blocked p ≡ false
-unblocked_at {s = s} {p = p} at e =
-    neither (is_blocked p) (has_failure s.builds p) (sym (ap (λ (r : ItemRow). r.failing) at.row_is) ∙ e)
-  where
-    neither : (a b : Bool) → a || b ≡ false → a ≡ false
-    neither true b h = h
-    neither false b h = refl
 
 -- another is just where a need isn't met
 pub blocked_at : {c : Settings} {s : State} {name : List ℕ} {ahead : List Entry} {row : ItemRow} {q : Queue} {p : Place} →

@@ -1,5 +1,4 @@
--- calls, lists
-pub mod Kept
+-- lists
 pub mod Found
 -- one item
 pub mod OwnBuilds

@@ -10,9 +10,10 @@ use Rattle.gate_types.specs.Settings.{Settings}
 use Rattle.gate_types.specs.State.{Item, Queue, State}
 use Rattle.gate_types.specs.Line.{Place}
 use Rattle.gate_types.specs.Standing.{is_failing, are_finished, next_ahead, places, all_places}
-use Rattle.gate_types.specs.SubmitOrder.{Order, order_of}
+use Rattle.gate_types.specs.SubmitOrder.{order_of}
 use Rattle.gate_types.specs.Rows.{row_of, item_of, item_rows}
 use Rattle.gate_laws.proofs.Members.{In, in_contains, to_map}
+use Rattle.gate_laws.proofs.Leads.{made}
 use Rattle.gate_book_trait.specs.Reads.{queue_named, items_in, first_above}
 use Rattle.gate_reads.specs.Orders.{order_in, IsRowOf, TellsOrder}
 use Rattle.gate_reads.specs.Places.{IsAt}
@@ -30,9 +31,6 @@ pub record Passed (c : Settings) (s : State) (q : Queue) (above : ℕ) : Type 0 
 
 pub passed_front : (c : Settings) (s : State) (q : Queue) → IsLeft c s q 0 [] q.items → Passed c s q 0
 passed_front c s q l = record { rest = q.items; left = l; same = refl }
-
-abbrev made : Queue → Place → Order
-made q p = record { queue = q; item = p.item }
 
 -- the order, by the first item that isn't failing
 order_by : (c : Settings) (s : State) (q : Queue) (o : Option Place) → find (passes s.builds) (places c s q) ≡ o →

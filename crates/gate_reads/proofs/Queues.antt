@@ -33,7 +33,7 @@ named_itself c s a h q m = by_found (queue_named s q.name) refl
 
 -- ---- the queue at a place
 
-abbrev names : List Queue → List (List ℕ)
+abbrev pub names : List Queue → List (List ℕ)
 names qs = map (λ q. q.name) qs
 
 abbrev set_names : List QueueSetting → List (List ℕ)

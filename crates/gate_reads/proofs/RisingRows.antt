@@ -116,16 +116,6 @@ last_is n (j ∷ k ∷ is) i e =
     let step : length (j ∷ k ∷ is) - 1 ≡ suc (length (k ∷ is) - 1) = omega arith in
     last_is j.serial (k ∷ is) i (sym (ap (slice_get (j ∷ k ∷ is)) step) ∙ e)
 
-no_last : (i : ItemRow) (is : List ItemRow) → slice_get (i ∷ is) (length (i ∷ is) - 1) ≡ None → ⊥
-no_last i [] e = none-some i (sym e)
-no_last i (j ∷ is) e =
-    let step : length (i ∷ j ∷ is) - 1 ≡ suc (length (j ∷ is) - 1) = omega arith in
-    no_last j is (sym (ap (slice_get (i ∷ j ∷ is)) step) ∙ e)
-
-pub last_none : (n : ℕ) (is : List ItemRow) → slice_get is (length is - 1) ≡ None → last_serial n is ≡ n
-last_none n [] e = refl
-last_none n (i ∷ is) e = absurd (no_last i is e)
-
 -- which is above, where there is one
 pub none_above : (low most n : ℕ) (rows items : List ItemRow) → RiseAbove n rows →
     items ≡ first_items_above low most rows → nat_lt low (last_serial low items) ≡ false → items ≡ []

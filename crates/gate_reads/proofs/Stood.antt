@@ -90,7 +90,7 @@ change_once c s h n =
 
 -- ---- what a book finds by key
 
-queued_are : (c : Settings) (s : State) → queued_items c s ≡ map (queued_as s) (stood c s)
+pub queued_are : (c : Settings) (s : State) → queued_items c s ≡ map (queued_as s) (stood c s)
 queued_are c s =
     flat_same (λ q. map (λ i. record { queue = q.name; item = i }) (item_rows c s q))
     (λ q. map (queued_as s) (stood_in c s q)) s.queues

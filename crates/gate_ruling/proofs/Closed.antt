@@ -14,15 +14,12 @@ use Rattle.gate_types.specs.Settings.{Settings}
 use Rattle.gate_types.specs.State.{State, known_change, put_change, is_open, is_landed, is_queued}
 use Rattle.gate_types.specs.Admit.{without_ready}
 use Rattle.gate_types.specs.SubmitOrder.{is_submitting}
-use Rattle.gate_types.specs.Step.{Stepped, raw_closed, raw_revision, accepted, refused, leave, with_stage, revised, has_project, is_known_and}
+use Rattle.gate_types.specs.Step.{Stepped, raw_closed, raw_revision, accepted, refused, leave, revised, has_project, is_known_and}
 use Rattle.gate_walk.specs.Delivery.{is_stale}
 use Rattle.gate_ruling.specs.Guards.{GoesOn}
 use Rattle.gate_ruling.proofs.Guarded.{open_goes}
 use Rattle.gate_ruling.proofs.Withdrawn.{known_number}
-
--- the state that `closed` leaves
-abbrev pub closed_state : ℕ → State → State
-closed_state n s = with_stage stage.Closed n (without_ready n (leave verdict.Closed n s))
+use Rattle.gate_laws.proofs.EachAccepted.{closed_state}
 
 -- the lines on an open change at its latest revision
 abbrev pub closing : Settings → State → ℕ → Change → Stepped

@@ -24,13 +24,14 @@ use Rattle.gate_laws.specs.Touch.{has_serial, queue_of_serial}
 use Rattle.gate_laws.proofs.Members.{In, every, found, not_found, from_map, from_flat, in_contains, any_from, any_to}
 use Rattle.gate_laws.proofs.Facts.{build_facts}
 use Rattle.gate_laws.proofs.Tests.{implied}
-use Rattle.gate_laws.proofs.Alone.{serial_alone, name_alone, same_name_is}
+use Rattle.gate_laws.proofs.Alone.{serial_alone}
 use Rattle.gate_types.specs.Names.{same_name}
-use Rattle.gate_laws.proofs.Touches.{name_itself}
+use Rattle.gate_types.proofs.NameLemmas.{same_name_is}
 use Rattle.gate_laws.proofs.Places.{item_of_place}
 use Rattle.gate_reads.specs.Moves.{Moves}
 use Rattle.gate_reads.specs.Touches.{Touches}
 use Rattle.gate_reads.specs.declared.touched.Event.TheVariants as event
+use Rattle.gate_reads.proofs.Queues.{named_itself}
 use Rattle.gate_ruling.proofs.Folded.{by_parts}
 
 -- the row of a serial is one of a queue of the state
@@ -65,19 +66,6 @@ at_serial c s n row h = by_found (find (λ k. k.item.serial == n) (queued_items 
           serial = ap (λ (r : ItemRow). r.serial) (sym same) ∙ eqb-true k.item.serial n x.1;
         }
 
--- a name finds the queue that has it
-named_queue : (c : Settings) (s : State) → are_sound c ≡ true → IsSound c s → (q : Queue) → In q s.queues →
-    queue_named s q.name ≡ Some q
-named_queue c s settings sound q m = by_found (queue_named s q.name) refl
-  where
-    by_found : (o : Option Queue) → queue_named s q.name ≡ o → o ≡ Some q
-    by_found None e =
-        absurd (true≢false (sym (name_itself q.name)
-        ∙ not_found (λ (o : Queue). same_name o.name q.name) s.queues e q m))
-    by_found (Some o) e =
-        let x = found (λ (o : Queue). same_name o.name q.name) s.queues o e in
-        ap Some (name_alone c s settings sound o q x.0 m x.1)
-
 -- a serial finds the queue of its item
 serial_queue : (c : Settings) (s : State) → IsSound c s → (q : Queue) → In q s.queues → (i : Item) → In i q.items →
     queue_of_serial s i.serial ≡ Some q.name
@@ -107,7 +95,7 @@ ended_touches c s n e b row settings sound known there =
     let own = implied (b.serial == row.serial) (same_name b.queue q.name && _)
     (facts.owned q h.there (item_of row) h.item) (eq-eqb b.serial row.serial (sym h.serial)) in
     let name : b.queue ≡ q.name = same_name_is b.queue q.name (and_parts (same_name b.queue q.name) _ own).0 in
-    let first = ap (queue_named s) name ∙ named_queue c s settings sound q h.there in
+    let first = ap (queue_named s) name ∙ named_itself c s settings sound q h.there in
     record {
       queue = ap (λ o. option_map_or (λ (y : Build). queue_of_serial s y.serial) o None) known
           ∙ ap (queue_of_serial s) (sym h.serial) ∙ serial_queue c s sound q h.there (item_of row) h.item

@@ -1,9 +1,9 @@
 -- An item leaves its queue: its report and the end of its row, then its builds.
-use Rattle.std.proofs.Common.{◌≡◌, ℕ, suc, ◌+◌, ◌<◌, Bool, true, false, not, cond, List, [], ◌∷◌, ◌++◌, map, length, filter, refl, sym, ap, ◌∙◌, subst, arith, inl, inr, true≢false}
-use Rattle.std.specs.Prelude.{◌==◌, nat_lt, min, Contains}
+use Rattle.std.proofs.Common.{◌≡◌, ℕ, ◌+◌, ◌<◌, Bool, true, false, not, cond, List, [], ◌∷◌, ◌++◌, map, length, filter, refl, sym, ap, ◌∙◌, subst, arith, inl, inr, true≢false}
+use Rattle.std.specs.Prelude.{◌==◌, min, Contains}
 use Rattle.std.specs.Option.{option_map_or}
 use Rattle.std.specs.List.Sorted.{IsStrictlyIncreasing}
-use Rattle.std.proofs.lemmas.Bool.{eq-eqb, ne_eqb, eqb-true, le-ltb, false_from_ne_true}
+use Rattle.std.proofs.lemmas.Bool.{eq-eqb, eqb-true, false_from_ne_true}
 use Rattle.gate_types.specs.declared.records.Build.{Build}
 use Rattle.gate_types.specs.declared.records.Item.{Item as ItemRow}
 use Rattle.gate_types.specs.declared.records.Report.{Report}
@@ -21,11 +21,13 @@ use Rattle.gate_types.specs.Once.{Content}
 use Rattle.gate_types.specs.Tables.{change_row, edited_changes, edited_counters, edited_kept, edited_plans, edited_queue}
 use Rattle.gate_types.specs.Lawful.{IsSound}
 use Rattle.gate_types.specs.Forms.{IsLawfulContent}
+use Rattle.gate_types.proofs.PlainLemmas.{same_truth}
+use Rattle.gate_types.proofs.NameLemmas.{same_name_is}
 use Rattle.gate_book_trait.specs.Reads.{items_in, reports_in, live_builds}
 use Rattle.gate_book_trait.specs.declared.rows.QueuedItem.{QueuedItem}
 use Rattle.gate_laws.proofs.Members.{In, every, map_same, map_map, filter_same, filter_none}
 use Rattle.gate_laws.proofs.Rising.{Rising, rising}
-use Rattle.gate_laws.proofs.Alone.{serial_alone, change_alone, name_alone, same_name_is, same_name_of}
+use Rattle.gate_laws.proofs.Alone.{serial_alone, change_alone, name_alone, same_name_of}
 use Rattle.gate_walk.proofs.Leaving.{one_leaves}
 use Rattle.gate_reads.specs.Moves.{Columns, row_by, in_state, Moves}
 use Rattle.gate_ruling.specs.Leaving.{stop_of, out_of_queue}
@@ -33,22 +35,9 @@ use Rattle.gate_ruling.proofs.Folded.{shown, shown_after, by_parts, leave_it, mo
 use Rattle.gate_ruling.proofs.Few.{few_reports}
 use Rattle.gate_ruling.proofs.Stored.{Stored, stored}
 use Rattle.gate_ruling.proofs.Stopped.{stopped}
+use Rattle.gate_queue.proofs.Folds.{put_last}
 
 -- ---- lists
-
--- a row behind all others
-put_last : (k : ℕ) (rs : List Report) (r : Report) (n : ℕ) → n ≡ k + length rs →
-    put_by (λ (x : ReportRow). x.place) (record { place = n + 1; report = r }) (numbered k rs)
-    ≡ numbered k (rs ++ r ∷ [])
-put_last k [] r n e = let at : n + 1 ≡ suc k = omega arith in ap (λ m. record { place = m; report = r } ∷ []) at
-put_last k (x ∷ rs) r n e =
-    let new : ReportRow = record { place = n + 1; report = r } in
-    let first : ReportRow = record { place = suc k; report = x } in
-    let rest = put_by (λ (y : ReportRow). y.place) new (numbered (suc k) rs) in
-    ap (λ t. cond t (new ∷ numbered (suc k) rs) (cond (nat_lt (n + 1) (suc k)) (new ∷ first ∷ numbered (suc k) rs)
-    (first ∷ rest))) (ne_eqb (n + 1) (suc k) (λ s. omega (arith, s)))
-    ∙ ap (λ t. cond t (new ∷ first ∷ numbered (suc k) rs) (first ∷ rest)) (le-ltb (n + 1) (suc k) (omega arith))
-    ∙ ap (λ l. first ∷ l) (put_last (suc k) rs r n (omega arith))
 
 -- what one element alone passes
 only_one : {X : Type 0} (key : X → ℕ) (t : X → Bool) (xs : List X) (x : X) → Rising key xs → In x xs →
@@ -85,18 +74,13 @@ dropped columns n (i ∷ is) = by_test (i.serial == n) (dropped columns n is)
     by_test true h = h
     by_test false h = ap (λ l. row_by columns i ∷ l) h
 
-alike : (a b : Bool) → (a ≡ true → b ≡ true) → (b ≡ true → a ≡ true) → a ≡ b
-alike true b f g = sym (f refl)
-alike false true f g = absurd (true≢false (sym (g refl)))
-alike false false f g = refl
-
 -- ---- one queue
 
 -- in any queue the item's serial is the item's, and so is its change
 same_test : (c : Settings) (s : State) (name : List ℕ) (row : ItemRow) → IsSound c s → Stored c s name row →
     (q : Queue) → In q s.queues → (i : Item) → In i q.items → i.serial == row.serial ≡ (i.change == row.change)
 same_test c s name row sound h q mq i mi =
-    alike (i.serial == row.serial) (i.change == row.change)
+    same_truth (i.serial == row.serial) (i.change == row.change)
     (λ e. let one = serial_alone c s sound q h.queue i (item_of row) mq h.there mi h.item
     (eqb-true i.serial row.serial e) in
     eq-eqb i.change row.change (ap (λ (j : Item). j.change) one.1))

@@ -25,9 +25,10 @@ use Rattle.gate_types.specs.Step.{left_queue, leave, landed_queue, landed_plan, 
 use Rattle.gate_types.specs.Once.{Content}
 use Rattle.gate_types.specs.Tables.{numbered_landings}
 use Rattle.gate_types.specs.Lawful.{IsSound}
+use Rattle.gate_types.proofs.NameLemmas.{same_name_is}
 use Rattle.gate_book_trait.specs.declared.rows.QueuedItem.{QueuedItem}
 use Rattle.gate_laws.proofs.Members.{In, map_same, map_map, from_map, found, filter_all}
-use Rattle.gate_laws.proofs.Alone.{name_alone, same_name_is, same_name_of, queued_unready}
+use Rattle.gate_laws.proofs.Alone.{name_alone, same_name_of, queued_unready}
 use Rattle.gate_laws.proofs.OrderFacts.{shows}
 use Rattle.gate_reads.specs.Moves.{Columns, in_state, Moves}
 use Rattle.gate_reads.specs.Touches.{Touches}

@@ -92,13 +92,6 @@ put_known s n k rises h = along s.changes (rising number_of s.changes rises) h
 
 -- ---- the ready list
 
-pub none_ready : (rs : List Ready) (n : ℕ) → list_any (λ r. r.change == n) rs ≡ false → approval_of rs n ≡ None
-none_ready [] n h = refl
-none_ready (r ∷ rs) n h =
-    let both = or_parts (r.change == n) (list_any (λ y. y.change == n) rs) h in
-    ap (λ b. option_map (λ y. y.approval) (cond b (Some r) (find (λ y. y.change == n) rs))) both.0
-    ∙ none_ready rs n both.1
-
 taken_out : (rs : List Ready) (n : ℕ) → approval_of (filter (λ r. not (r.change == n)) rs) n ≡ None
 taken_out [] n = refl
 taken_out (r ∷ rs) n = by_test (r.change == n) refl (taken_out rs n)
@@ -181,11 +174,6 @@ pub anew_moves : (x : Content) (s : State) (k : Change) → IsStrictlyIncreasing
 anew_moves x s k rises =
     put_moves x s k None (filter (λ r. not (r.change == k.number)) s.ready) rises (taken_out s.ready k.number)
     (λ m apart. others_stay s.ready k.number m apart)
-
--- a change is put that wasn't ready
-pub unready_moves : (x : Content) (s : State) (k : Change) → IsStrictlyIncreasing (map number_of s.changes) →
-    is_ready s k.number ≡ false → Moves (in_state x s) (edit.PutChange k None ∷ []) (put_change k s)
-unready_moves x s k rises h = put_moves x s k None s.ready rises (none_ready s.ready k.number h) (λ m apart. refl)
 
 -- a known change becomes ready
 pub ready_moves : (x : Content) (n : ℕ) (k : Change) → IsStrictlyIncreasing (map number_of x.state.changes) →

@@ -21,6 +21,7 @@ use Rattle.gate_laws.proofs.EndedBuild.{one_build}
 use Rattle.gate_laws.proofs.LeaveIsSound.{leaving}
 use Rattle.gate_ruling.specs.Leaving.{stop_of}
 use Rattle.gate_ruling.proofs.Stored.{Stored}
+use Rattle.gate_queue.proofs.Builds.{or_assoc, or_false}
 
 -- ---- builds stopped one after another
 
@@ -36,14 +37,6 @@ again true b n = by_test (b.number == n)
     by_test true = refl
     by_test false = refl
 again false b n = refl
-
-or_assoc : (x y z : Bool) → (x || y) || z ≡ x || (y || z)
-or_assoc true y z = refl
-or_assoc false y z = refl
-
-or_false : (x : Bool) → x || false ≡ x
-or_false true = refl
-or_false false = refl
 
 one_after_another : (cs : List Build) (test : Build → Bool) (bs : List Build) →
     fold edited_build_rows (map (stop_if test) bs) (map stop_of cs)

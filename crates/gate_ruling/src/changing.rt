@@ -1,5 +1,5 @@
 //! A change is recorded anew.
-ghost use Rattle.std.specs.Prelude.{◌≡◌, ℕ, map, IfOk};
+ghost use Rattle.std.specs.Prelude.{◌≡◌, map, IfOk};
 ghost use Rattle.std.specs.List.Sorted.{IsStrictlyIncreasing};
 ghost use Rattle.gate_types.specs.State.{State, put_change, is_open};
 ghost use Rattle.gate_types.specs.Admit.{without_ready};

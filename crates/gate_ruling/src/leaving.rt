@@ -1,5 +1,5 @@
 //! An item leaves its queue.
-ghost use Rattle.std.specs.Prelude.{◌≡◌, ℕ, ◌++◌, ◌∷◌, [], map, filter, IfOk, IfErr, Contains};
+ghost use Rattle.std.specs.Prelude.{◌≡◌, ℕ, ◌++◌, map, filter, IfOk, IfErr, Contains};
 ghost use Rattle.gate_types.specs.Slot.{is_running};
 ghost use Rattle.gate_types.specs.Step.{leave};
 ghost use Rattle.gate_book_trait.specs.Faults.{MayAnswer};

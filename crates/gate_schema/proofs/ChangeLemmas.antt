@@ -1,5 +1,5 @@
 -- Rows changed where they stand, put and taken out, and the records beside them.
-use Rattle.std.proofs.Common.{◌≡◌, ◌≤◌, ℕ, ℤ, pos, List, [], ◌∷◌, ◌++◌, map, drop, filter, length, Bool, true, false, not, cond, IsTrue, refl, sym, ap, subst, ◌∙◌, arith, is_eq, Ordering, Less, Equal, Greater, int_cmp, true≢false, eqb, ltb}
+use Rattle.std.proofs.Common.{◌≡◌, ◌≤◌, ℕ, pos, List, [], ◌∷◌, map, drop, filter, length, Bool, true, false, not, cond, IsTrue, refl, sym, ap, subst, ◌∙◌, arith, is_eq, Ordering, Less, Equal, Greater, int_cmp, eqb, ltb}
 use Rattle.std.proofs.lemmas.Bool.Decides.{nat_tests}
 use Rattle.std.proofs.lemmas.List.Elements.{filter_passes, recursion_from_All}
 use Rattle.std.proofs.lemmas.List.Sorted.{IsPermutation-refl}

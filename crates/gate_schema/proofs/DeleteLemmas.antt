@@ -1,5 +1,5 @@
 -- Taking out the rows that a query showed.
-use Rattle.std.proofs.Common.{◌≡◌, ℕ, ℤ, List, [], ◌∷◌, map, filter, Bool, true, false, not, cond, ◌||◌, ◌&&◌, IsTrue, refl, sym, ap, subst, ◌∙◌, IsPermutation, Ordering, Less, is_eq, true≢false}
+use Rattle.std.proofs.Common.{◌≡◌, ℕ, ℤ, List, [], ◌∷◌, map, filter, Bool, true, false, not, cond, ◌||◌, ◌&&◌, IsTrue, refl, sym, ap, subst, ◌∙◌, IsPermutation, Less, is_eq, true≢false}
 use Rattle.std.specs.List.{AllByRecursion, list_any}
 use Rattle.std.proofs.lemmas.List.Sorted.{list_any-IsPermutation, IsPermutation-map}
 use Rattle.std.proofs.lemmas.Cmp.{tied_itself}
@@ -56,7 +56,7 @@ without_is (id ∷ ids) rows =
     without_is ids (without_rowid id rows) ∙ filter_two (λ r. not (is_among ids r)) (λ r. not (has_rowid id r)) rows
     ∙ filter_same _ _ (λ r. neither (has_rowid id r) (is_among ids r)) rows
 
-filter_same_on : {X : Type 0} (p q : X → Bool) (xs : List X) → AllByRecursion (λ x. p x ≡ q x) xs → filter p xs ≡ filter q xs
+pub filter_same_on : {X : Type 0} (p q : X → Bool) (xs : List X) → AllByRecursion (λ x. p x ≡ q x) xs → filter p xs ≡ filter q xs
 filter_same_on p q [] same = refl
 filter_same_on p q (x ∷ xs) same = rw (same.0, filter_same_on p q xs same.1)
 
@@ -68,9 +68,6 @@ is_its (Text t) h = absurd (true≢false (sym h))
 is_its (Blob b) h = absurd (true≢false (sym h))
 
 -- the row with this number is not among rows that are above it, or below it
-not_above : (id : ℤ) (x : Row) (o : Ordering) → value_cmp (rowid x) (Int id) ≡ o → is_eq o ≡ false → has_rowid id x ≡ false
-not_above id x o e h = ap is_eq e ∙ h
-
 none_above : (p : Row → Bool) (x : Row) (ys : List Row) → AllByRecursion (λ y. value_cmp (rowid x) (rowid y) ≡ Less) ys → AllByRecursion (λ y. IsTrue (is_int (rowid y))) ys
     → is_among (map (λ r. id_in (rowid r)) (filter p ys)) x ≡ false
 none_above p x [] above ints = refl

@@ -18,6 +18,7 @@ use Rattle.gate_types.specs.Lawful.{serials_of}
 use Rattle.gate_types.specs.Rows.{item_of, item_rows}
 use Rattle.gate_types.specs.Once.{Content}
 use Rattle.gate_types.specs.Forms.{are_counters_in_form}
+use Rattle.gate_types.proofs.NameLemmas.{same_name_is}
 use Rattle.gate_walk.specs.declared.walk.QueueFacts.{QueueFacts}
 use Rattle.gate_walk.specs.declared.walk.Touched.{Touched}
 use Rattle.gate_walk.specs.Rescan.{TakenOut, start, fails_at}
@@ -30,7 +31,7 @@ use Rattle.gate_reads.specs.declared.touched.Event.{Event}
 use Rattle.gate_reads.specs.declared.touched.TouchedItem.{TouchedItem}
 use Rattle.gate_laws.proofs.Members.{In, from_map, to_map, from_append, found, not_found}
 use Rattle.gate_laws.proofs.Counts.{times, in_times, distinct_from, one_part}
-use Rattle.gate_laws.proofs.Alone.{same_name_of, same_name_is}
+use Rattle.gate_laws.proofs.Alone.{same_name_of}
 use Rattle.gate_laws.proofs.Drawn.{item_drawn, report_drawn}
 use Rattle.gate_laws.proofs.FewRows.{few_numbers}
 use Rattle.gate_settling.specs.Touching.{Touching, delivered}

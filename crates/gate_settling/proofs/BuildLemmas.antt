@@ -8,11 +8,12 @@ use Rattle.gate_types.specs.Slot.{is_running}
 use Rattle.gate_types.specs.Rebase.{with_live}
 use Rattle.gate_types.specs.Sweep.{without_runs}
 use Rattle.gate_types.specs.Step.{with_ending}
+use Rattle.gate_types.proofs.PlainLemmas.{and_false}
 use Rattle.gate_walk.specs.Rescan.{live_under}
 use Rattle.gate_reads.specs.declared.touched.Event.TheVariants as event
 use Rattle.gate_laws.proofs.Tests.{and_true, not_and_false}
 use Rattle.gate_settling.specs.Rows.{build_now}
-use Rattle.gate_settling.proofs.ListLemmas.{and_false, filter_kept}
+use Rattle.gate_settling.proofs.ListLemmas.{filter_kept}
 
 -- the builds of another serial stay as they are where those of one stop
 pub live_elsewhere : (m n : ℕ) → n == m ≡ false → (bs : List Build) →

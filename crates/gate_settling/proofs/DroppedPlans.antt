@@ -26,6 +26,7 @@ use Rattle.gate_laws.proofs.Members.{from_map, any_to}
 use Rattle.gate_laws.proofs.Plans.{plans_all_stay}
 use Rattle.gate_settling.proofs.SeamLemmas.{is_own}
 use Rattle.gate_settling.proofs.WantedLemmas.{wanted_in}
+use Rattle.gate_book_trait.proofs.ReadLemmas.{and_first, and_second}
 
 -- ---- the plans that are left
 
@@ -303,14 +304,6 @@ drop_cases d v vs n =
     list_any-append (drops n) b.told (visit_edits b.name b.bounds b.carry v)
     ∙ ap (λ t. is_dropped b.told n || t) (visit_drops b.name n b.bounds b.carry v)
 
-right_of : (a b : Bool) → a && b ≡ true → b ≡ true
-right_of true b h = h
-right_of false b h = absurd (true≢false (sym h))
-
-left_of : (a b : Bool) → a && b ≡ true → a ≡ true
-left_of true b h = refl
-left_of false b h = absurd (true≢false (sym h))
-
 -- what is dropped lies before what is wanted
 drops_before : (d : Delivered) (vs : List Seen) (n : ℕ) → AreWanted d vs → is_dropped (told_by d vs) n ≡ true →
     (v : Seen) → row_wanted d vs ≡ Some v → n < v.row.serial
@@ -321,7 +314,7 @@ drops_before d (u ∷ us) n w h v e =
     (sym (drop_cases d u us n) ∙ h)) [
       | inl a ↦ (let before : n < u.row.serial = drops_before d us n w.1 a u w.0 in omega (arith, before, behind))
       | inr b ↦ (let here : n ≡ u.row.serial = eqb-true n u.row.serial
-          (right_of (is_some (verdict_by (walk_by d us).carry u)) (n == u.row.serial) b) in omega (arith, here, behind))
+          (and_second (is_some (verdict_by (walk_by d us).carry u)) (n == u.row.serial) b) in omega (arith, here, behind))
     ]
 
 -- what is dropped was there
@@ -334,7 +327,7 @@ drops_seen d (u ∷ us) n w h =
       | inl a ↦ drops_seen d us n w.1 a
       | inr b ↦ (
           let here : n ≡ u.row.serial = eqb-true n u.row.serial
-          (right_of (is_some (verdict_by (walk_by d us).carry u)) (n == u.row.serial) b) in
+          (and_second (is_some (verdict_by (walk_by d us).carry u)) (n == u.row.serial) b) in
           let r = from_map _ (stale_rows d) u (wanted_in (walk_by d us).carry.gone (next_by d us) (rows_seen d) u w.0) in
           any_to (λ (x : ItemRow). x.serial == n) (stale_rows d) r.0 r.1
           (eq-eqb r.0.serial n (ap (λ (y : Seen). y.row.serial) r.2 ∙ sym here)))
@@ -372,7 +365,7 @@ drops_are_out d at (v ∷ vs) n rows w h =
     by_visit true e earlier =
         dropped_out at n visit so_far
         (visit_puts b.name n b.bounds b.carry v (some_or (is_some (verdict_by b.carry v)) _
-        (left_of (is_some (verdict_by b.carry v)) (n == v.row.serial) e)))
+        (and_first (is_some (verdict_by b.carry v)) (n == v.row.serial) e)))
         (visit_drops b.name n b.bounds b.carry v ∙ e)
     by_visit false e earlier =
         let before = either (is_dropped (told_by d vs) n) _ (sym (drop_cases d v vs n) ∙ h) e in

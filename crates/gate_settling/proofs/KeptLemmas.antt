@@ -1,16 +1,6 @@
 -- Calls that only read, one after another, and what is known of their results.
 use Rattle.std.proofs.Common.{◌≡◌, Option, Some, None, subst}
 use Rattle.std.specs.Prelude.{Result, Ok, Err, IfOk, MatchOption}
-use Rattle.gate_book_trait.specs.Kept.{IsKept}
-
-pub then : {B : Type 0} → {trusted : B → Type 0} → {holds : _} → {leaves : _} → {a b d : B} →
-    IsKept trusted holds leaves a b → IsKept trusted holds leaves b d → IsKept trusted holds leaves a d
-then h k = record {
-  trusted_before = λ t. h.trusted_before (k.trusted_before t);
-  holds_on = λ t c x held. k.holds_on t c x (h.holds_on (k.trusted_before t) c x held);
-  leaves_on = λ t c x held ys l.
-      k.leaves_on t c x (h.holds_on (k.trusted_before t) c x held) ys (h.leaves_on (k.trusted_before t) c x held ys l);
-}
 
 -- what a result is, made weaker
 pub if_ok_so : {T E : Type 0} {P Q : T → Type 0} (r : Result T E) → ((a : T) → P a → Q a) → IfOk r P → IfOk r Q

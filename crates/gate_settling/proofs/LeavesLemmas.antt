@@ -1,5 +1,5 @@
 -- What an accepted delivery on an item of a lawful state leaves before settling, kind by kind.
-use Rattle.std.proofs.Common.{◌≡◌, ℕ, ◌+◌, true, false, Some, List, ◌∷◌, ◌++◌, length, inl, inr, refl, sym, ◌∙◌, subst, true≢false}
+use Rattle.std.proofs.Common.{◌≡◌, ℕ, ◌+◌, true, false, List, ◌∷◌, ◌++◌, length, inl, inr, refl, sym, ◌∙◌, subst, true≢false}
 use Rattle.std.specs.Prelude.{◌==◌}
 use Rattle.std.proofs.lemmas.Bool.{eqb-true}
 use Rattle.gate_types.specs.declared.records.Verdict.TheVariants as verdict
@@ -8,19 +8,16 @@ use Rattle.gate_types.specs.declared.deliveries.Delivery.TheVariants as delivery
 use Rattle.gate_types.specs.declared.deliveries.Reply.{Reply}
 use Rattle.gate_types.specs.Settings.{Settings}
 use Rattle.gate_types.specs.State.{Item, Queue, State, has_change}
-use Rattle.gate_types.specs.SubmitOrder.{Order, shown_order}
+use Rattle.gate_types.specs.SubmitOrder.{Order}
 use Rattle.gate_types.specs.Step.{accepted, raw_step, leave, left_queue, revised, shrunk_queue, landed_queue, end_build, raw_revision, raw_withdrawn, raw_closed, raw_landed, raw_refused}
-use Rattle.gate_types.specs.Lawful.{IsSound}
 use Rattle.gate_walk.specs.Rescan.{HasLeft, HasLanded}
 use Rattle.gate_walk.specs.Kinds.{IsIn}
 use Rattle.gate_walk.specs.Delivery.{moved, is_on, is_stale}
 use Rattle.gate_laws.proofs.Members.{In, any_to, to_right}
-use Rattle.gate_laws.proofs.Alone.{serial_alone}
 use Rattle.gate_laws.proofs.EachAccepted.{closed_state, new_revision, landed_state, refused_state}
-use Rattle.gate_laws.proofs.ShownOrders.{order_from}
-use Rattle.gate_laws.proofs.OrderTouches.{order_queue, order_item}
 use Rattle.gate_walk.proofs.EachReply.{OnReply, on_reply, withdrawn_reply, closed_reply, revision_reply, landed_reply, refused_reply, result_reply}
 use Rattle.gate_walk.proofs.Leaving.{items_leave}
+use Rattle.gate_walk.proofs.Deliveries.{order_is}
 
 -- the item left, or it landed, or a build has ended
 abbrev pub Leaves : Settings → State → Delivery → Queue → List Item → Item → List Item → State → Type 0
@@ -35,15 +32,6 @@ queue_in {q = q} h = subst (In q) (sym h.queues) (to_right h.before (q ∷ h.aft
 item_in : {c : Settings} {s : State} {q : Queue} {is : List Item} {i : Item} {js : List Item} → IsIn c s q is i js →
     In i q.items
 item_in {is = is} {i = i} {js = js} h = subst (In i) (sym h.items) (to_right is (i ∷ js) i (inl refl))
-
--- a shown order of the item's number is of the item
-order_is : (c : Settings) (s : State) (n : ℕ) (o : Order) → IsSound c s → shown_order c s n ≡ Some o → (q : Queue)
-    (i : Item) → In q s.queues → In i q.items → i.serial == n ≡ true → o ≡ record { queue = q; item = i }
-order_is c s n o sound e q i mq mi on =
-    let f = order_from c s n o e in
-    let alone = serial_alone c s sound o.queue q o.item i (order_queue c s o f.0) mq (order_item c s o f.0) mi
-    (eqb-true o.item.serial n f.1 ∙ sym (eqb-true i.serial n on)) in
-    λ k. record { queue = alone.0 k; item = alone.1 k }
 
 withdrawn_leaves : (c : Settings) (s : State) (n r : ℕ) (q : Queue) (is : List Item) (i : Item) (js : List Item) →
     IsIn c s q is i js → i.change == n ≡ true →

@@ -4,17 +4,10 @@ use Rattle.std.specs.Prelude.{◌==◌, filter, find}
 use Rattle.std.specs.List.{list_any}
 use Rattle.std.proofs.lemmas.Bool.{eqb-true, eq-eqb}
 use Rattle.gate_laws.proofs.Members.{In, any_from, any_to}
+use Rattle.gate_laws.proofs.Elements.{rest_of}
+use Rattle.gate_types.proofs.PlainLemmas.{same_truth}
 
 -- ---- tests
-
-pub same_bool : (a b : Bool) → (a ≡ true → b ≡ true) → (b ≡ true → a ≡ true) → a ≡ b
-same_bool true b f g = sym (f refl)
-same_bool false true f g = g refl
-same_bool false false f g = refl
-
-pub and_false : (b : Bool) → b && false ≡ false
-and_false true = refl
-and_false false = refl
 
 pub or_false : (b : Bool) → b || false ≡ b
 or_false true = refl
@@ -33,15 +26,10 @@ find_kept {X = X} p q (x ∷ xs) = by_test (q x) (find_kept p q xs)
     by_test true rest = ap (λ o. cond (p x) (Some x) o) rest
     by_test false rest = rest
 
-pub any_map : {X Y : Type 0} (t : Y → Bool) (f : X → Y) (xs : List X) →
-    list_any t (map f xs) ≡ list_any (λ x. t (f x)) xs
-any_map t f [] = refl
-any_map t f (x ∷ xs) = ap (λ b. t (f x) || b) (any_map t f xs)
-
 -- whichever list is gone through first
 pub any_swapped : (xs ys : List ℕ) →
     list_any (λ x. list_any (λ y. y == x) ys) xs ≡ list_any (λ y. list_any (λ x. x == y) xs) ys
-any_swapped xs ys = same_bool _ _
+any_swapped xs ys = same_truth _ _
     (λ e. let a = any_from (λ x. list_any (λ y. y == x) ys) xs e in let b = any_from (λ y. y == a.0) ys a.2 in
     any_to (λ y. list_any (λ x. x == y) xs) ys b.0 b.1
     (any_to (λ x. x == b.0) xs a.0 a.1 (eq-eqb a.0 b.0 (sym (eqb-true b.0 a.0 b.2)))))
@@ -55,10 +43,6 @@ any_swapped xs ys = same_bool _ _
 abbrev pub first_or : {X : Type 0} → X → List X → X
 first_or d [] = d
 first_or d (x ∷ xs) = x
-
-abbrev pub rest_of : {X : Type 0} → List X → List X
-rest_of [] = []
-rest_of (x ∷ xs) = xs
 
 -- what two functions make of the items of a list is the same, item by item
 pub each_same : {X Y : Type 0} (f g : X → Y) (xs : List X) → map f xs ≡ map g xs → (x : X) → In x xs → f x ≡ g x

@@ -16,6 +16,7 @@ use Rattle.gate_types.specs.Lawful.{IsSound}
 use Rattle.gate_types.specs.Rows.{item_of, item_rows}
 use Rattle.gate_types.specs.Once.{Content}
 use Rattle.gate_types.specs.Forms.{is_queue_in_form, is_item_in_form, is_report_in_form}
+use Rattle.gate_types.proofs.NameLemmas.{same_name_is}
 use Rattle.gate_walk.specs.Delivery.{touch_of, standing_rows}
 use Rattle.gate_walk.specs.UnderWay.{stale_rows}
 use Rattle.gate_book_trait.specs.Reads.{queue_named, items_in}
@@ -24,7 +25,7 @@ use Rattle.gate_reads.specs.Touches.{event_of}
 use Rattle.gate_reads.specs.declared.touched.Event.{Event}
 use Rattle.gate_reads.specs.declared.touched.TouchedItem.{TouchedItem}
 use Rattle.gate_laws.proofs.Members.{In, every, from_map, to_right, from_filter, to_filter, filter_all, all_from, found, not_found, contains_in}
-use Rattle.gate_laws.proofs.Alone.{serial_alone, name_alone, same_name_of, same_name_is}
+use Rattle.gate_laws.proofs.Alone.{serial_alone, name_alone, same_name_of}
 use Rattle.gate_settling.specs.Touching.{Touching, delivered}
 use Rattle.gate_settling.specs.Rows.{is_out}
 use Rattle.gate_settling.proofs.ColumnLemmas.{columns_found, found_alone}

@@ -21,6 +21,7 @@ use Rattle.gate_types.specs.Lawful.{IsSound, serials_of}
 use Rattle.gate_types.specs.Rows.{Rows, row_of, edited_items, edited_builds, fold_edits}
 use Rattle.gate_types.specs.Once.{Content}
 use Rattle.gate_types.specs.Tables.{edited_plans}
+use Rattle.gate_types.proofs.NameLemmas.{same_name_is}
 use Rattle.gate_laws.specs.Touch.{has_serial, touched_by, rebase_one, settle_one, settle_touched}
 use Rattle.gate_queue.specs.Whole.{swept_of, rows_in}
 use Rattle.gate_queue.specs.Edits.{window_behind}
@@ -35,7 +36,7 @@ use Rattle.gate_laws.proofs.Stays.{Tells}
 use Rattle.gate_laws.proofs.Swept.{staying_items, keeps_items, tells_all}
 use Rattle.gate_laws.proofs.RebaseIsSound.{rebase_is_sound}
 use Rattle.gate_laws.proofs.OtherQueuesStay.{none_goes_there}
-use Rattle.gate_laws.proofs.Alone.{name_alone, same_name_of, same_name_is}
+use Rattle.gate_laws.proofs.Alone.{name_alone, same_name_of}
 use Rattle.gate_laws.proofs.Touches.{serials_apart, name_itself}
 use Rattle.gate_laws.proofs.RunIsLawful.{raw_step_is_sound}
 use Rattle.gate_laws.proofs.OnlyOneQueueIsTouched.{only_one_queue_is_touched}

@@ -1,5 +1,5 @@
 -- The row that a walk wants is the one that is read by key.
-use Rattle.std.proofs.Common.{◌≡◌, ℕ, suc, ◌-◌, ◌<◌, ◌≤◌, Bool, true, false, not, ◌&&◌, cond, Option, Some, None, List, [], ◌∷◌, inl, inr, refl, sym, ap, ◌∙◌, subst, arith, true≢false}
+use Rattle.std.proofs.Common.{◌≡◌, ℕ, suc, ◌-◌, ◌≤◌, Bool, true, false, not, ◌&&◌, cond, Option, Some, None, List, [], ◌∷◌, inl, inr, refl, sym, ap, ◌∙◌, subst, arith, true≢false}
 use Rattle.std.specs.Prelude.{◌==◌, nat_lt, nat_le, find, option_map, IfSome}
 use Rattle.std.specs.List.{list_any}
 use Rattle.std.specs.Option.{option_map_or}
@@ -10,6 +10,7 @@ use Rattle.gate_types.specs.State.{Queue, State, known_change}
 use Rattle.gate_types.specs.Lawful.{IsSound}
 use Rattle.gate_types.specs.Rows.{item_rows}
 use Rattle.gate_types.specs.Once.{Content}
+use Rattle.gate_types.proofs.PlainLemmas.{and_false, same_truth}
 use Rattle.gate_walk.specs.declared.walk.Next.{Next as CodeNext}
 use Rattle.gate_walk.specs.declared.walk.Next.TheVariants as code
 use Rattle.gate_walk.specs.Walk.{SeenNeed, Seen, Walk, is_gone, needs_gone}
@@ -18,23 +19,23 @@ use Rattle.gate_walk.specs.Views.{next_of_code}
 use Rattle.gate_walk.specs.UnderWay.{stale_rows, rows_seen, next_by, row_wanted, Starts, GoesOn}
 use Rattle.gate_book_trait.specs.Reads.{queue_named, items_in, first_above}
 use Rattle.gate_reads.specs.declared.touched.TouchedItem.{TouchedItem}
-use Rattle.gate_laws.proofs.Members.{In, every, from_map, found}
+use Rattle.gate_laws.proofs.Members.{In, every, from_map, found, any_map}
 use Rattle.gate_laws.proofs.Parts.{ItemsRise}
 use Rattle.gate_laws.proofs.Tests.{not_and_false}
 use Rattle.gate_book_trait.proofs.Finding.{find_map}
 use Rattle.gate_queue.proofs.Ordered.{RiseFrom, row_serial, rises}
+use Rattle.gate_queue.proofs.LawLemmas.{items_rise}
 use Rattle.gate_walk.proofs.Visits.{stored_rise}
-use Rattle.gate_walk.proofs.Swept.{items_rise}
 use Rattle.gate_settling.specs.Touching.{Touching, delivered, sees, IsUnderWay}
 use Rattle.gate_settling.specs.Rows.{is_out, need_now, needs_known, first_behind, is_needing, row_for, IsFrom, IsAbove}
-use Rattle.gate_settling.proofs.ListLemmas.{same_bool, and_false, find_same, find_kept, any_map, any_swapped}
+use Rattle.gate_settling.proofs.ListLemmas.{find_same, find_kept, any_swapped}
 use Rattle.gate_settling.proofs.StandingLemmas.{items_are, serial_is_drawn, stands, stale_are, in_stale}
 use Rattle.gate_settling.proofs.SeenLemmas.{needs_of_change, seen_now}
 
 -- ---- rows behind a serial
 
 behind_own : (n m : ℕ) → not (m == n) && nat_le n m ≡ nat_lt n m
-behind_own n m = same_bool _ _
+behind_own n m = same_truth _ _
     (λ e. let both = and_parts (not (m == n)) (nat_le n m) e in by_lt (nat_lt n m) refl both.0 (leb-true n m both.1))
     (λ e. let l = ltb-true n m e in
     and_from (not (m == n)) (nat_le n m) (ap not (ne_eqb m n (λ s. absurd (omega (arith, l, s)))))
@@ -48,7 +49,7 @@ behind_own n m = same_bool _ _
         absurd (true≢false (sym k ∙ ap not (eq-eqb m n same)))
 
 from_own : (n m : ℕ) → 1 ≤ n → nat_le n m ≡ nat_lt (n - 1) m
-from_own n m one = same_bool _ _
+from_own n m one = same_truth _ _
     (λ e. let l = leb-true n m e in lt-ltb (n - 1) m (omega (arith, one, l)))
     (λ e. let l = ltb-true (n - 1) m e in le-leb n m (omega (arith, one, l)))
 
@@ -117,7 +118,7 @@ pub wanted_is : {c : Settings} {x : Content} {k : TouchedItem} (h : Touching c x
     wanted gone (next_of_code next) (rows_seen (delivered h))
     ≡ option_map (sees h) (row_for c x.state k.queue gone next)
 wanted_is {k = k} h gone n (code.Go m) e l =
-    found_seen h (λ v. nat_lt m v.row.serial) (λ r. nat_lt m r.serial) (λ r mr. same_bool _ _
+    found_seen h (λ v. nat_lt m v.row.serial) (λ r. nat_lt m r.serial) (λ r mr. same_truth _ _
     (λ t. (and_parts (stands k r) (nat_lt m r.serial) t).1)
     (λ t. and_from (stands k r) (nat_lt m r.serial)
     (above_stands k r m (subst (λ z. k.item.serial ≤ z) (sym e) l) t) t))
@@ -195,17 +196,6 @@ items_in_rise c s sound name = by_queue (queue_named s name) refl
         (rises (λ j. j.serial) q.items (every ItemsRise s.queues sound.items_rise q there.0)))
 
 -- ---- serials rise
-
--- how far a row is from the end of all serials
-abbrev pub left_above : Option ItemRow → ℕ
-left_above row = option_map_or (λ r. 1000000000000001 - r.serial) row 0
-
-pub nearer : (n : ℕ) (next : CodeNext) (row : Option ItemRow) → n ≤ 1000000000000000 → IsFrom n next →
-    IfSome row (λ r. IsAbove r.serial next) → left_above row < 1000000000000001 - n
-nearer n next None l f h = omega (arith, l)
-nearer n (code.Go m) (Some r) l f h = omega (arith, l, f, h)
-nearer n (code.Need m) (Some r) l f h = omega (arith, l, f, h)
-nearer n code.Stop (Some r) l f h = absurd h
 
 pub further : (n k : ℕ) (next : CodeNext) (row : Option ItemRow) → k ≤ n → IsFrom n next →
     IfSome row (λ r. IsAbove r.serial next) → IfSome row (λ r. k ≤ r.serial)

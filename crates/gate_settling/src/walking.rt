@@ -1,5 +1,5 @@
 //! The visits of a walk, one after another.
-ghost use Rattle.std.specs.Prelude.{◌≡◌, ◌∷◌, Some, List, IfOk, OnOk, IfErr};
+ghost use Rattle.std.specs.Prelude.{◌≡◌, Some, List, IfOk, IfErr};
 ghost use Rattle.gate_walk.specs.Walk as walks;
 ghost use Rattle.gate_walk.specs.UnderWay.{HasVisited, GoesOn, Starts, row_wanted};
 ghost use Rattle.gate_book_trait.specs.Kept.{OfHeldUnder, IsKept};

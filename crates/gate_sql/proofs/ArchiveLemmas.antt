@@ -1,5 +1,5 @@
 -- From what is read of the tables to what is told of the past of a content.
-use Rattle.std.proofs.Common.{◌≡◌, ◌≢◌, ◌∙◌, ◌++◌, ◌||◌, true, false, Bool, ℕ, List, [], ◌∷◌, Option, Some, None, Result, Ok, Err, IsTrue, cond, find, arith, refl, sym, true≢false, ap, subst}
+use Rattle.std.proofs.Common.{◌≡◌, ◌≢◌, ◌∙◌, ◌++◌, ◌||◌, true, false, Bool, ℕ, List, [], ◌∷◌, Option, Some, None, Result, Ok, Err, IsTrue, cond, find, arith, refl, sym, ap, subst}
 use Rattle.std.specs.Prelude.{MatchResult}
 use Rattle.std.specs.List.{AllPass}
 use Rattle.sqlite.specs.State.{HasCleanDisk, State}
@@ -13,6 +13,7 @@ use Rattle.gate_types.specs.Tap.{Took, TookFront}
 use Rattle.gate_types.specs.declared.records.Id.{Id}
 use Rattle.gate_types.specs.declared.records.Report.{Report}
 use Rattle.gate_types.specs.declared.tap.Tap.{Tap}
+use Rattle.gate_types.proofs.NameLemmas.{same_name_is}
 use Rattle.gate_book_trait.specs.Reads.{Answers, queue_named}
 use Rattle.gate_book_trait.specs.declared.fault.BookFault.{BookFault}
 use Rattle.gate_book_trait.specs.declared.fault.BookFault.TheVariants as blame
@@ -25,10 +26,10 @@ use Rattle.gate_schema.specs.Rows.{Stored}
 use Rattle.gate_rows.specs.Tells as rows
 use Rattle.gate_found_rows.specs.Reads.{Opened, Shows}
 use Rattle.gate_found_rows.specs.Whole.{IsWhole}
-use Rattle.gate_laws.proofs.Alone.{names_differ, same_name_is}
+use Rattle.gate_laws.proofs.Alone.{names_differ}
 use Rattle.gate_file_changes.specs.Applies.{is_among}
-use Rattle.gate_content_reads.specs.Held.{HoldsFor, IsShownFor}
-use Rattle.gate_content_reads.proofs.ReadLemmas.{told_of}
+use Rattle.gate_content_reads.specs.Held.{HoldsFor}
+use Rattle.gate_content_reads.proofs.ReadLemmas.{told_of, no_rows, shown, shut}
 use Rattle.gate_content_reads.proofs.told.Names.{queues_are_named}
 use Rattle.gate_archive_queries.specs.Answers.{IsArchiveOf}
 use Rattle.gate_archive_queries.specs.Asked.{TellsReports, is_left_in_form}
@@ -40,32 +41,7 @@ use Rattle.gate_sql.proofs.HistoryLemmas.{names_told, some_known}
 pub archive_of : {c : Settings} {x : Content} {b : Stored} → are_sound c ≡ true → IsLawfulContent c x → rows.Tells b (tables c x) → IsArchiveOf b x
 archive_of {c = c} sound lawful told = past_is_told lawful (queues_are_named (names_differ c sound) lawful told) told
 
--- the connection shows what stands for the content
-shown : {s : State} {c : Settings} {x : Content} → (it : IsShownFor s c x) → Shows s it.stands.stored
-shown it up = record { schema_is = it.schema_is; stands = it.stands.stands }
-
 -- ---- the report of a serial
-
--- tables that hold no row
-abbrev no_rows : Stored
-no_rows = record {
-  settings = [];
-  counters = record { approval = 0; build = 0; order = 0 };
-  queues = [];
-  changes = [];
-  needs = [];
-  items = [];
-  builds = [];
-  landings = [];
-  reports = [];
-  kept = [];
-  jobs = [];
-  fast = [];
-}
-
--- a store that is shut shows anything
-shut : {s : State} → s.is_open ≡ false → (b : Stored) → Shows s b
-shut closed b up = absurd (true≢false (sym up ∙ closed))
 
 -- where what is found of the reports' rows is what the content says, a read that reads them answers that
 pub reports_are : {T : Type 0} {names : List (List ℕ)} {c : Settings} {x : Content} {value : Stored → T} (v : T) (old new : State) (result : Result T BookFault)

@@ -11,11 +11,11 @@ use Rattle.gate_types.specs.Settings.{Settings}
 use Rattle.gate_types.specs.State.{Queue}
 use Rattle.gate_types.specs.Tap.{Took, TookFront}
 use Rattle.gate_types.specs.declared.tap.Tap.{Tap}
+use Rattle.gate_types.proofs.NameLemmas.{same_name_is}
 use Rattle.gate_book_trait.specs.Reads.{queue_named}
 use Rattle.gate_book_trait.specs.Writes.{OfQueue, WritesHistory}
 use Rattle.gate_book_trait.specs.declared.fault.HistoryFault.{HistoryFault}
 use Rattle.gate_book_trait.specs.declared.fault.HistoryFault.TheVariants as fault
-use Rattle.gate_laws.proofs.Alone.{same_name_is}
 use Rattle.gate_rows.specs.Tells.{reports_of}
 use Rattle.gate_queue_queries.specs.History.{OfReports, WritesReports, reports_text}
 use Rattle.gate_file_changes.specs.Applies.{is_among}

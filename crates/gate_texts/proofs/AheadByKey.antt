@@ -13,6 +13,7 @@ use Rattle.gate_types.specs.Line.{Place}
 use Rattle.gate_types.specs.Slot.{are_met_by, is_blocked}
 use Rattle.gate_types.specs.Standing.{is_failing, next_ahead, places}
 use Rattle.gate_types.specs.Lawful.{IsSound}
+use Rattle.gate_types.proofs.PlainLemmas.{and_false}
 use Rattle.gate_laws.proofs.Members.{In, found, not_found, any_to, none_to, to_flat, to_map}
 use Rattle.gate_laws.proofs.Counts.{one_of}
 use Rattle.gate_laws.proofs.Alone.{same_name_of, name_alone}
@@ -35,10 +36,6 @@ is_before bs n serial p = p.item.change == n && stands_before bs serial p
 rise_less : (m n : ℕ) (is : List Item) → m ≤ n → RiseFrom n is → RiseFrom m is
 rise_less m n [] l r = tt
 rise_less m n (i ∷ is) l r = let from : n ≤ i.serial = r.0 in (omega (arith, l, from), r.1)
-
-and_false : (b : Bool) → b && false ≡ false
-and_false true = refl
-and_false false = refl
 
 late : (bs : List Build) (n serial : ℕ) (p : Place) → serial ≤ p.item.serial → is_before bs n serial p ≡ false
 late bs n serial p l =

@@ -16,22 +16,22 @@ use Rattle.gate_types.specs.Slot.{is_blocked, has_failure, is_cut, cut_slot}
 use Rattle.gate_types.specs.Standing.{places, all_places}
 use Rattle.gate_types.specs.Status.{slot_word}
 use Rattle.gate_types.specs.History.{verdict_word}
-use Rattle.gate_types.specs.Rows.{row_of, item_rows}
+use Rattle.gate_types.specs.Rows.{row_of}
 use Rattle.gate_types.specs.Lawful.{IsSound}
 use Rattle.gate_laws.proofs.Members.{In, found, map_map, flat_same, to_flat}
 use Rattle.gate_laws.proofs.Alone.{map-flat}
 use Rattle.gate_book_trait.proofs.Finding.{find_map}
-use Rattle.gate_book_trait.specs.Reads.{queued_items, queued_of, item_at, live_builds}
+use Rattle.gate_book_trait.specs.Reads.{queued_of, item_at, live_builds}
 use Rattle.gate_book_trait.specs.declared.rows.QueuedItem.{QueuedItem}
 use Rattle.gate_archive.specs.OrNull.{or_null}
-use Rattle.gate_archive.specs.ItemText.{queued_at, left_at, told_queued, told_left, told_of, place_at, job_piece, jobs_piece, builds_of, last_builds, summary_piece, text_of, item_text}
+use Rattle.gate_archive.specs.ItemText.{queued_at, left_at, told_queued, told_left, place_at, job_piece, jobs_piece, builds_of, last_builds, summary_piece, text_of, item_text}
 use Rattle.gate_archive.specs.declared.rows.BuildSummary.{BuildSummary}
 use Rattle.gate_archive.specs.declared.rows.LeftItem.{LeftItem}
 use Rattle.gate_reads.proofs.Found.{some_before, none_before, found_itself}
 use Rattle.gate_reads.proofs.KnownPlaces.{place_facts}
 use Rattle.gate_reads.proofs.OwnBuilds.{all_count, slots_are}
 use Rattle.gate_reads.proofs.Queues.{named_itself}
-use Rattle.gate_reads.proofs.Stood.{Stood, stood, stood_in, stood_there, queued_as, serial_of, change_of, change_once, queued_is, item_is}
+use Rattle.gate_reads.proofs.Stood.{Stood, stood, stood_in, stood_there, queued_as, serial_of, change_of, change_once, queued_is, item_is, queued_are}
 use Rattle.gate_reads.proofs.Walking.{lawful_front}
 use Rattle.gate_texts.specs.Items.{job_told, is_cut_by_key, jobs_by_key, verdict_text, item_told, item_front, item_back, IsToldOf}
 use Rattle.gate_texts.specs.Values.{written}
@@ -43,14 +43,6 @@ use Rattle.gate_texts.proofs.Entries.{AreEntries, joined_behind, array_is, name_
 
 abbrev has_serial : ℕ → Stood → Bool
 has_serial n x = serial_of x == n
-
-queued_are : (c : Settings) (s : State) → queued_items c s ≡ map (queued_as s) (stood c s)
-queued_are c s =
-    flat_same (λ q. map (λ i. record { queue = q.name; item = i }) (item_rows c s q))
-    (λ q. map (queued_as s) (stood_in c s q)) s.queues
-    (λ q m. map_map (λ i. record { queue = q.name; item = i }) (row_of s.builds) (places c s q)
-    ∙ sym (map_map (queued_as s) (λ p. record { queue = q; place = p }) (places c s q)))
-    ∙ sym (map-flat (queued_as s) (stood_in c s) s.queues)
 
 queued_at_is : (c : Settings) (s : State) (n : ℕ) →
     queued_at c s n ≡ option_map (queued_as s) (find (has_serial n) (stood c s))
@@ -86,9 +78,6 @@ by_change c s h n row e =
     ∙ queued_is c s (change_of it.0)
     ∙ ap (option_map (queued_as s)) (found_itself change_of (stood c s) it.0 m (change_once c s h (change_of it.0)))
     ∙ sym (queued_at_is c s n ∙ ap (option_map (queued_as s)) it.1)
-
-pub none_at : (c : Settings) (s : State) (n : ℕ) → None ≡ item_at c s n → None ≡ queued_at c s n
-none_at c s n e = sym (none_before (λ (k : QueuedItem). k.item) (queued_at c s n) (sym e))
 
 -- ---- its jobs
 
@@ -168,11 +157,6 @@ left_told c s n l t e f q ch r v j = record {
       (none_before (queued_as s) (find (has_serial n) (stood c s)) (sym (queued_at_is c s n) ∙ sym e))));
 }
 
-pub none_told : (c : Settings) (s : State) (n : ℕ) → None ≡ queued_at c s n → None ≡ left_at s n →
-    told_of c s n ≡ None
-none_told c s n e f =
-    (λ i. option_or (option_map told_queued (sym e i)) (option_map told_left (sym f i)))
-
 -- ---- the text
 
 pub summaries_are : AreEntries summary_piece
@@ -215,6 +199,3 @@ item_is_told c s n t last builds text kept h l b k e =
     member (codes "kept") (number (k i)) ∷ member (codes "order") (number n) ∷ member (codes "queue") (plain t.queue) ∷
     member (codes "revision") (number t.revision) ∷ member (codes "verdict") (λ r. verdict_is t.verdict r i) ∷ []) []))
     ∙ sym (ap (option_map (text_of c s n)) h.told)
-
-pub no_item : (c : Settings) (s : State) (n : ℕ) → told_of c s n ≡ None → None ≡ item_text c s n
-no_item c s n e = sym (ap (option_map (text_of c s n)) e)

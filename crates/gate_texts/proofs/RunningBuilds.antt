@@ -1,15 +1,13 @@
 -- The builds that run, told one after another.
-use Rattle.std.proofs.Common.{◌≡◌, ℕ, suc, ◌+◌, ◌<◌, ◌≤◌, Bool, true, false, cond, Some, None, List, [], ◌∷◌, ◌++◌, map, take, drop, length, get_or, refl, sym, ap, ◌∙◌, subst, append_assoc, append-nil, arith}
+use Rattle.std.proofs.Common.{◌≡◌, ℕ, suc, ◌+◌, ◌≤◌, Bool, true, false, cond, Some, None, List, [], ◌∷◌, ◌++◌, map, take, drop, length, refl, sym, ap, ◌∙◌, subst, append_assoc, append-nil, arith}
 use Rattle.std.specs.Prelude.{nat_lt, flat_map, codes, string_bytes}
 use Rattle.std.proofs.lemmas.Bool.{ltb-true, ltb-false}
-use Rattle.std.proofs.lemmas.List.{take_all, take_more, take-append-le, length-append}
-use Rattle.std.proofs.lemmas.List.Elements.{filter-append}
+use Rattle.std.proofs.lemmas.List.{take_all, take-append-le, length-append}
 use Rattle.std.proofs.lemmas.List.Concat.{flat_map-cons}
 use Rattle.gate_types.specs.declared.records.Build.{Build}
 use Rattle.gate_types.specs.declared.records.Item.{Item as ItemRow}
 use Rattle.gate_types.specs.Settings.{Settings}
 use Rattle.gate_types.specs.State.{Item, Queue, State}
-use Rattle.gate_types.specs.Slot.{is_running}
 use Rattle.gate_types.specs.Standing.{next_ahead}
 use Rattle.gate_types.specs.JsonText.{joined, number, plain, member, object}
 use Rattle.gate_types.specs.Rows.{item_rows}
@@ -73,31 +71,6 @@ tells_more r new builds b h l n = record {
   count = n ∙ ap (λ m. m + 1) h.count ∙ sym (length-append builds (b ∷ []));
 }
 
--- ---- those of an item
-
-pub among_next : (builds : List Build) (k : ℕ) (b : Build) → k < length builds → b ≡ get_or builds k b →
-    running_among (take (k + 1) builds) ≡ running_among (take k builds) ++ running_among (b ∷ [])
-among_next builds k b less at =
-    ap running_among (take_more builds k b less ∙ ap (λ x. take k builds ++ x ∷ []) (sym at))
-    ∙ filter-append (λ x. is_running x.outcome) (take k builds) (b ∷ [])
-
-pub runs_more : (builds before : List Build) (k : ℕ) (b : Build) (r : Running) → k < length builds →
-    b ≡ get_or builds k b → is_running b.outcome ≡ true →
-    Tells r ((before ++ running_among (take k builds)) ++ b ∷ []) →
-    Tells r (before ++ running_among (take (k + 1) builds))
-runs_more builds before k b r less at e h = subst (Tells r) (
-    append_assoc before (running_among (take k builds)) (b ∷ [])
-    ∙ ap (λ bs. before ++ bs) (ap (λ t. running_among (take k builds) ++ cond t (b ∷ []) []) (sym e)
-    ∙ sym (among_next builds k b less at))) h
-
-pub ended_more : (builds before : List Build) (k : ℕ) (b : Build) (r : Running) → k < length builds →
-    b ≡ get_or builds k b → is_running b.outcome ≡ false → Tells r (before ++ running_among (take k builds)) →
-    Tells r (before ++ running_among (take (k + 1) builds))
-ended_more builds before k b r less at e h = subst (Tells r) (
-    ap (λ bs. before ++ bs) (sym (append-nil (running_among (take k builds)))
-    ∙ ap (λ t. running_among (take k builds) ++ cond t (b ∷ []) []) (sym e)
-    ∙ sym (among_next builds k b less at))) h
-
 -- ---- those of a queue
 
 -- up to this serial the builds were told; these are left
@@ -157,9 +130,6 @@ pub record Before (s : State) (k : ℕ) (r : Running) : Type 0 where
   pub done : List Build
   pub tells : Tells r done
   pub left : done ++ flat_map (running_in s) (drop k s.queues) ≡ running_builds s
-
-pub before_front : (s : State) (r : Running) → string_bytes r.list ≡ [] → r.count ≡ 0 → Before s 0 r
-before_front s r l n = record { done = []; tells = record { list = l; count = n }; left = refl }
 
 pub before_next : {c : Settings} {s : State} {k : ℕ} {name : List ℕ} → (there : IsThere c s k name) →
     (r new : Running) → Before s k r →

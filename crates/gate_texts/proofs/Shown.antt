@@ -1,6 +1,6 @@
 -- Going along a queue, line by line.
 use Rattle.std.proofs.Common.{◌≡◌, ℕ, Bool, true, false, not, ◌&&◌, ◌||◌, cond, Option, Some, None, List, [], ◌∷◌, ◌++◌, map, refl, sym, ap, ◌∙◌, subst}
-use Rattle.std.specs.Prelude.{flat_map, decimal, unwrap_or}
+use Rattle.std.specs.Prelude.{flat_map, decimal}
 use Rattle.gate_types.specs.declared.config.Job.{Job}
 use Rattle.gate_types.specs.declared.records.Build.{Build}
 use Rattle.gate_types.specs.declared.records.Change.{Change}
@@ -8,9 +8,8 @@ use Rattle.gate_types.specs.declared.records.Entry.{Entry}
 use Rattle.gate_types.specs.declared.records.Item.{Item as ItemRow}
 use Rattle.gate_types.specs.declared.records.Need.{Need}
 use Rattle.gate_types.specs.declared.records.Plan.{Plan}
-use Rattle.gate_types.specs.declared.records.Stage.TheVariants as stage
 use Rattle.gate_types.specs.Settings.{Settings}
-use Rattle.gate_types.specs.State.{Item, Queue, State, known_change, change_of, plan_of, known_or_closed, need_of}
+use Rattle.gate_types.specs.State.{Item, Queue, State, known_change, plan_of, known_or_closed, need_of}
 use Rattle.gate_types.specs.Line.{Place, item_entry}
 use Rattle.gate_types.specs.Slot.{is_blocked, has_failure, cut_slot}
 use Rattle.gate_types.specs.Standing.{next_ahead, places}
@@ -112,13 +111,3 @@ item_told {c} {s} {name} {ahead} {i} {q} {p} lawful at known needs builds plan j
     cut_by true true h = refl
     cut_by true false h = refl
     cut_by false b h = refl
-
--- the revision of a change, by what is known of it
-pub revision_told : (s : State) (n : ℕ) (known : Option Change) → known ≡ known_change s n →
-    (known_or_closed known).revision ≡ (change_of s n).revision
-revision_told s n known e = ap (λ (o : Option Change). (known_or_closed o).revision) e ∙ by_known (known_change s n)
-  where
-    by_known : (o : Option Change) → (known_or_closed o).revision
-        ≡ (unwrap_or o (record { number = n; project = []; revision = 0; stage = stage.Closed; needs = [] })).revision
-    by_known None = refl
-    by_known (Some k) = refl

@@ -1,5 +1,5 @@
 //! The lines of the status text.
-ghost use Rattle.std.specs.Prelude.{◌≡◌, ◌++◌, ◌∷◌, codes, decimal, flat_map, IfOk, string_bytes};
+ghost use Rattle.std.specs.Prelude.{◌≡◌, ◌++◌, ◌∷◌, decimal, flat_map, IfOk, string_bytes};
 ghost use Rattle.gate_types.specs.Columns.{right, left, number_or_dash};
 ghost use Rattle.gate_types.specs.Status.{slot_word};
 ghost use Rattle.gate_texts.specs.Lines as line;

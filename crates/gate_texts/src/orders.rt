@@ -1,5 +1,5 @@
 //! The orders that are shown, as a text.
-ghost use Rattle.std.specs.Prelude.{◌≡◌, ◌++◌, [], IfOk, IfErr, OnOk, option_map, string_bytes};
+ghost use Rattle.std.specs.Prelude.{◌≡◌, [], IfOk, IfErr, OnOk, option_map, string_bytes};
 ghost use Rattle.gate_types.specs.SubmitOrder.{Order};
 ghost use Rattle.gate_types.specs.OrderList.{shown, order_list_text};
 ghost use Rattle.gate_book_trait.specs.Faults.{MayAnswer};

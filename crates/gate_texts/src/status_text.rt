@@ -14,7 +14,6 @@ use gate_book_trait::{Book, BookFault, plan_of};
 use gate_reads::{are_met_among, needs_of, push_unless_failing};
 use gate_types::config::Config;
 use gate_types::names::{Name, Text};
-use gate_types::numbers::ChangeNo;
 use gate_types::records::{Change, Entry, Item, Ready};
 use gate_types::sequence::Sequence;
 use std::alloc::Global;

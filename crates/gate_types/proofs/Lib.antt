@@ -4,3 +4,6 @@ pub mod SettingsTextLemmas
 pub mod AdoptedLemmas
 pub mod OnceLaw
 pub mod OneTextLaw
+pub mod PlainLemmas
+pub mod DigitLemmas
+pub mod NameLemmas

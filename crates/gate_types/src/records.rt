@@ -5,7 +5,6 @@ use crate::config::{Job, Project, copied_jobs};
 use crate::names::{Name, NoMemory, PathName, Text};
 use crate::numbers::{BuildNo, ChangeNo, Revision, Serial};
 use crate::sequence::Sequence;
-use std::alloc::Global;
 use std::marker::Model;
 
 /// A change at a revision.

@@ -1,5 +1,5 @@
 //! A reader or writer that remembers whether it ever failed.
-ghost use Rattle.std.specs.Prelude.{◌≡◌, ◌≤◌, ◌+◌, ◌++◌, ◌∷◌, [], ℕ, true, false, take, length, MatchResult, OnOk, OnErr, IfOk};
+ghost use Rattle.std.specs.Prelude.{◌≡◌, ◌≤◌, ◌+◌, ◌++◌, ◌∷◌, [], true, false, length, OnOk, OnErr, IfOk};
 ghost use Rattle.gate_types.specs.Tap.{inside, has_failed, turns, ReadsOnce, Took, TookFront};
 
 use std::io::{Read, Write};

@@ -9,13 +9,10 @@ use Rattle.std.proofs.lemmas.List.{map-append}
 use Rattle.std.proofs.lemmas.List.Concat.{flat_map-cons}
 use Rattle.std.proofs.lemmas.List.Folds.{list_any-append}
 use Rattle.gate_types.specs.declared.records.Build.{Build}
-use Rattle.gate_types.specs.declared.records.Change.{Change}
 use Rattle.gate_types.specs.declared.records.Item.{Item as ItemRow}
 use Rattle.gate_types.specs.declared.records.Landing.{Landing}
 use Rattle.gate_types.specs.declared.records.Need.{Need}
 use Rattle.gate_types.specs.declared.records.Verdict.{Verdict}
-use Rattle.gate_types.specs.declared.records.Stage.{Stage}
-use Rattle.gate_types.specs.declared.records.Stage.TheVariants as stage
 use Rattle.gate_types.specs.Names.{same_name}
 use Rattle.gate_types.specs.Settings.{Settings}
 use Rattle.gate_types.specs.declared.records.Ready.{Ready}
@@ -28,8 +25,12 @@ use Rattle.gate_types.specs.Rows.{row_of}
 use Rattle.gate_types.specs.Lawful.{IsSound, is_sound_item, is_sound_build, is_of_item, waiting_changes, landed_changes}
 use Rattle.gate_walk.specs.Rescan.{live_builds_are_wanted, standing_in, IsCalm}
 use Rattle.gate_laws.proofs.Members.{In, every, all_from, any_from, to_map, to_flat}
+use Rattle.gate_laws.proofs.ContentForms.{is_none}
+use Rattle.gate_laws.proofs.LiveBuildsCount.{place_serial}
+use Rattle.gate_laws.proofs.RecordedChange.{open_unlanded}
 use Rattle.gate_walk.proofs.Once.{Once, once, once_left, once_right}
-use Rattle.gate_queue.proofs.Ordered.{RiseFrom, place_serial, rises}
+use Rattle.gate_queue.proofs.Ordered.{RiseFrom, rises}
+use Rattle.gate_queue.proofs.Builds.{or_false}
 use Rattle.gate_walk.proofs.Slots.{is_live_of, wanted_all_count, wanted_all_ended}
 use Rattle.gate_walk.proofs.Resets.{Quiet, NotLanded}
 use Rattle.gate_walk.proofs.Moved.{Elsewhere, Others, IsOther}
@@ -45,10 +46,6 @@ or_split : (x y : Bool) → x || y ≡ true → (x ≡ true) ⊎ (y ≡ true)
 or_split true y h = inl refl
 or_split false y h = inr h
 
-or_off : (x : Bool) → x || false ≡ x
-or_off true = refl
-or_off false = refl
-
 pub fresh_from : (before is : List Item) → Once (map (λ (i : Item). i.change) is) → ((n : ℕ) → has_change before n ≡ true → In n (map (λ (i : Item). i.change) is) → ⊥) → FreshFrom before is
 fresh_from before [] o h = tt
 fresh_from before (i ∷ is) o h = (
@@ -63,7 +60,7 @@ fresh_from before (i ∷ is) o h = (
     next : (n : ℕ) → has_change (before ++ i ∷ []) n ≡ true → In n (map (λ (j : Item). j.change) is) → ⊥
     next n e m =
         ⊎_elim (λ (a : has_change before n ≡ true). h n a (inr m))
-        (λ (b : (i.change == n || false) ≡ true). o.0 (subst (λ y. In y (map (λ (j : Item). j.change) is)) (sym (eqb-true i.change n (sym (or_off (i.change == n)) ∙ b))) m))
+        (λ (b : (i.change == n || false) ≡ true). o.0 (subst (λ y. In y (map (λ (j : Item). j.change) is)) (sym (eqb-true i.change n (sym (or_false (i.change == n)) ∙ b))) m))
         (or_split (has_change before n) (i.change == n || false) (sym (list_any-append (λ (j : Item). j.change == n) before (i ∷ [])) ∙ e))
 
 pub map_flat : {X Y Z : Type 0} (f : Y → Z) (g : X → List Y) (xs : List X) → map f (flat_map g xs) ≡ flat_map (λ x. map f (g x)) xs
@@ -85,20 +82,12 @@ items_once c s h q m =
 
 -- ---- open changes
 
-open_not_landed : (k : Change) → is_open k ≡ true → is_landed k ≡ false
-open_not_landed k h = by_stage k.stage h
-  where
-    by_stage : (g : Stage) → (elim g as (λ x. Bool) [ stage.Open ↦ true | stage.Landed ↦ false | stage.Closed ↦ false ]) ≡ true → (elim g as (λ x. Bool) [ stage.Landed ↦ true | stage.Open ↦ false | stage.Closed ↦ false ]) ≡ false
-    by_stage stage.Open e = refl
-    by_stage stage.Landed e = absurd (true≢false (sym e))
-    by_stage stage.Closed e = refl
-
 pub item_open : (c : Settings) (s : State) → IsSound c s → (q : Queue) → In q s.queues → (i : Item) → In i q.items → is_landed (change_of s i.change) ≡ false
 item_open c s h q m i mi =
     let all = every (λ (o : Queue). AllPass (is_sound_item c s o) o.items) s.queues h.items_are_sound q m in
     let own = every (λ (j : Item). is_sound_item c s q j ≡ true) q.items all i mi in
     let one = and_parts (is_open (change_of s i.change) && (change_of s i.change).revision == i.revision) (same_name (project_of c s i.change).queue q.name) own in
-    open_not_landed (change_of s i.change) (and_parts (is_open (change_of s i.change)) ((change_of s i.change).revision == i.revision) one.0).0
+    open_unlanded (change_of s i.change) (and_parts (is_open (change_of s i.change)) ((change_of s i.change).revision == i.revision) one.0).0
 
 -- ---- each item is quiet
 
@@ -109,11 +98,7 @@ Says stand before rows = (n : ℕ) → has_change before n ≡ false → stand n
 pub says_next : (stand : ℕ → Option Bool) (before : List Item) (i : Item) (r : ItemRow) (rows : List ItemRow) → r.change ≡ i.change → Says stand before (r ∷ rows) → Says stand (before ++ i ∷ []) rows
 says_next stand before i r rows e h n f =
     let both = or_parts (has_change before n) (i.change == n || false) (sym (list_any-append (λ (j : Item). j.change == n) before (i ∷ [])) ∙ f) in
-    h n both.0 ∙ ap (λ x. option_map (λ (y : ItemRow). y.failing) (cond x (Some r) (find (λ y. y.change == n) rows))) (ap (λ m. m == n) e ∙ sym (or_off (i.change == n)) ∙ both.1)
-
-none_of : {X : Type 0} (o : Option X) → is_some o ≡ false → o ≡ None
-none_of None h = refl
-none_of (Some x) h = absurd (true≢false h)
+    h n both.0 ∙ ap (λ x. option_map (λ (y : ItemRow). y.failing) (cond x (Some r) (find (λ y. y.change == n) rows))) (ap (λ m. m == n) e ∙ sym (or_false (i.change == n)) ∙ both.1)
 
 and_off : (x y : Bool) → (y ≡ true → x ≡ false) → not (x && y) ≡ true
 and_off true true h = absurd (true≢false (h refl))
@@ -131,7 +116,7 @@ quiet_from c s q stand tail before ahead (i ∷ is) hc hj f ob oi says =
     let at = with_ahead ahead (place_of c s q i) in
     let bs = s.builds in
     let rest = places_after bs (next_ahead bs at) (map (place_of c s q) is) in
-    let stays : verdict_of bs before at ≡ None = none_of (verdict_of bs before at) (hj (judge bs before at) (inl refl)) in (
+    let stays : verdict_of bs before at ≡ None = is_none (verdict_of bs before at) (hj (judge bs before at) (inl refl)) in (
       record {
         counting = wanted_all_count bs bs at (hc at (inl refl));
         ended = wanted_all_ended bs bs at (hc at (inl refl));
@@ -152,7 +137,7 @@ quiet_from c s q stand tail before ahead (i ∷ is) hc hj f ob oi says =
     open_more : (n : ℕ) → has_change (before ++ i ∷ []) n ≡ true → is_landed (change_of s n) ≡ false
     open_more n e =
         ⊎_elim (λ (a : has_change before n ≡ true). ob n a)
-        (λ (b : (i.change == n || false) ≡ true). ap (λ m. is_landed (change_of s m)) (sym (eqb-true i.change n (sym (or_off (i.change == n)) ∙ b))) ∙ oi i (inl refl))
+        (λ (b : (i.change == n || false) ≡ true). ap (λ m. is_landed (change_of s m)) (sym (eqb-true i.change n (sym (or_false (i.change == n)) ∙ b))) ∙ oi i (inl refl))
         (or_split (has_change before n) (i.change == n || false) (sym (list_any-append (λ (j : Item). j.change == n) before (i ∷ [])) ∙ e))
 
 -- of a sound state at rest

@@ -50,8 +50,9 @@ use Rattle.gate_walk.proofs.Touching.{around, walk_after_build, walk_after_leavi
 use Rattle.gate_walk.proofs.Leaving.{items_leave}
 use Rattle.gate_types.specs.Rows.{fold_edits}
 use Rattle.gate_queue.proofs.Ordered.{rises}
+use Rattle.gate_queue.proofs.LawLemmas.{items_rise}
 use Rattle.gate_walk.proofs.Visits.{stored_rise, standing_rise, seen_increase, visited_is_walked}
-use Rattle.gate_walk.proofs.Swept.{only_named, items_rise, settled_within}
+use Rattle.gate_walk.proofs.Swept.{only_named, settled_within}
 
 -- ---- a lawful state is at rest
 
@@ -90,7 +91,7 @@ serial_touched c s sound q i mq mi =
     ap (option_map (λ (x : Queue). x.name)) (find_only (λ x. has_serial x.items i.serial) s.queues q mq own (λ x mx hx. serials_apart c s sound i.serial x q mx mq hx own))
 
 -- a shown order of the item's number is of the item
-order_is : (c : Settings) (s : State) (n : ℕ) (o : Order) → IsSound c s → shown_order c s n ≡ Some o → (q : Queue) (i : Item) → In q s.queues → In i q.items → i.serial == n ≡ true → o ≡ record { queue = q; item = i }
+pub order_is : (c : Settings) (s : State) (n : ℕ) (o : Order) → IsSound c s → shown_order c s n ≡ Some o → (q : Queue) (i : Item) → In q s.queues → In i q.items → i.serial == n ≡ true → o ≡ record { queue = q; item = i }
 order_is c s n o sound e q i mq mi on =
     let f = order_from c s n o e in
     let alone = serial_alone c s sound o.queue q o.item i (order_queue c s o f.0) mq (order_item c s o f.0) mi (eqb-true o.item.serial n f.1 ∙ sym (eqb-true i.serial n on)) in

@@ -20,8 +20,9 @@ use Rattle.gate_types.specs.Step.{with_ending}
 use Rattle.gate_types.specs.Lawful.{live_builds_of, is_single}
 use Rattle.std.proofs.lemmas.List.Sums.{sum_by-cons}
 use Rattle.gate_laws.proofs.Members.{In, to_filter}
+use Rattle.gate_laws.proofs.EndedBuild.{ended, ended_serial}
 use Rattle.gate_queue.proofs.Ordered.{RiseFrom, build_number}
-use Rattle.gate_walk.proofs.Slots.{is_live_of, all_count}
+use Rattle.gate_walk.proofs.Slots.{is_live_of, all_count, count_all}
 use Rattle.gate_walk.proofs.Moved.{Elsewhere}
 
 -- ---- builds that a function changes
@@ -52,17 +53,6 @@ pub stops_rise : (t n : ℕ) (bs : List Build) → RiseFrom build_number n bs �
 stops_rise t n bs r = rise_map (λ b. with_live (b.live && not (is_running b.outcome && b.serial == t)) b) n bs (λ b. refl) r
 
 -- ---- a build ends
-
--- the builds, one of which has ended
-abbrev pub ended : Ending → ℕ → Build → Build
-ended e n b = cond (b.number == n) (with_ending e b) b
-
-ended_serial : (e : Ending) (n : ℕ) (b : Build) → (ended e n b).serial ≡ b.serial
-ended_serial e n b = at (b.number == n)
-  where
-    at : (t : Bool) → (cond t (with_ending e b) b).serial ≡ b.serial
-    at true = refl
-    at false = refl
 
 ended_number : (e : Ending) (n : ℕ) (b : Build) → (ended e n b).number ≡ b.number
 ended_number e n b = at (b.number == n)
@@ -121,18 +111,6 @@ ended_count e n p (b ∷ bs) = λ k. (not (ended_live e n p b k) || ended_counts
 
 -- ---- a job that fails has no running build
 
--- a live build counts
-live_counts : (p : Place) (bs : List Build) (b : Build) → all_count bs p ≡ true → In b bs → is_live_of p b ≡ true → counts p b ≡ true
-live_counts p [] b h m l = absurd m
-live_counts p (x ∷ xs) b h m l =
-    let both = and_parts (not (is_live_of p x) || counts p x) (all_count xs p) h in
-    ⊎_elim (λ (e : x ≡ b). ap (λ t. not t || counts p b) (sym l) ∙ subst (λ (y : Build). not (is_live_of p y) || counts p y ≡ true) e both.0) (λ (r : In b xs). live_counts p xs b both.1 r l) m
-
-counts_all : (l s n q : Bool) → not (l && s) || l && s && n && q ≡ true → l && s && n && q ≡ (l && s)
-counts_all true true n q h = h
-counts_all true false n q h = refl
-counts_all false s n q h = refl
-
 turn : (j l s : Bool) → j && (l && s) ≡ (l && s && j)
 turn true true true = refl
 turn true true false = refl
@@ -146,7 +124,7 @@ same_builds : (p : Place) (j : Job) (bs : List Build) → all_count bs p ≡ tru
 same_builds p j [] h = refl
 same_builds p j (b ∷ bs) h =
     let both = and_parts (not (is_live_of p b) || counts p b) (all_count bs p) h in
-    let one = ap (λ t. same_name b.job j.name && t) (counts_all b.live (b.serial == p.item.serial) (not (is_blocked p)) (same_entries (ran_on p.landings b) (line p)) both.0) ∙ turn (same_name b.job j.name) b.live (b.serial == p.item.serial) in
+    let one = ap (λ t. same_name b.job j.name && t) (count_all b.live (b.serial == p.item.serial) (not (is_blocked p)) (same_entries (ran_on p.landings b) (line p)) both.0) ∙ turn (same_name b.job j.name) b.live (b.serial == p.item.serial) in
     λ k. cond (one k) (b ∷ same_builds p j bs both.1 k) (same_builds p j bs both.1 k)
 
 -- ---- outcomes, one of which is running

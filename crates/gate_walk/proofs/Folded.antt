@@ -25,10 +25,12 @@ use Rattle.gate_queue.specs.Edits.{stops, stop_edits, item_edits, edits_at, next
 use Rattle.gate_queue.specs.Settles.{verdicts, settled_rows}
 use Rattle.gate_walk.specs.Walk.{Seen, Carry, asks_for, carried, is_same_row, row_edits, visit_edits, walk_edits, window_edits_by}
 use Rattle.gate_queue.proofs.Ordered.{RiseFrom, AllBelow, GoWith, Tells, row_serial, build_number, places_rise, ahead_rise, ahead_with}
-use Rattle.gate_queue.proofs.Folds.{fold_parts, same_self, edits_along, stops_leave, window_own, reports_fold, items_own, below_kept, below_more, kept, kept_cons}
+use Rattle.gate_queue.proofs.Folds.{fold_parts, edits_along, stops_leave, window_own, reports_fold, items_own, below_kept, below_more, kept, kept_cons}
 use Rattle.gate_laws.proofs.Stays.{stayers}
+use Rattle.gate_laws.proofs.Touches.{name_itself}
 use Rattle.gate_queue.proofs.Builds.{builds_fold}
 use Rattle.gate_queue.proofs.Settled.{goes_tells, edits_make, settles}
+use Rattle.gate_queue.proofs.PlaceLemmas.{window_same}
 use Rattle.gate_walk.proofs.Steps.{edits_for}
 use Rattle.gate_walk.proofs.Resets.{Right, asked}
 
@@ -57,22 +59,12 @@ window_aside f name bounds w v y h = by_test (w == window_behind bounds w v)
     by_test true = refl
     by_test false = h (window_behind bounds w v)
 
-window_same : (bounds : Bounds) (w : ℕ) (i : Item) (v : Option Verdict) → window_behind bounds w v ≡ next_window bounds w (record { item = i; verdict = v })
-window_same bounds w i None = refl
-window_same bounds w i (Some verdict.Failed) = refl
-window_same bounds w i (Some verdict.Needs) = refl
-window_same bounds w i (Some verdict.Refused) = refl
-window_same bounds w i (Some verdict.Superseded) = refl
-window_same bounds w i (Some verdict.Withdrawn) = refl
-window_same bounds w i (Some verdict.Closed) = refl
-window_same bounds w i (Some (verdict.Landed n)) = refl
-
 window_set : (name : List ℕ) (bounds : Bounds) (w : ℕ) (i : Item) (v : Option Verdict) → fold (edited_window name) w (window_edits_by name bounds w v) ≡ next_window bounds w (record { item = i; verdict = v })
 window_set name bounds w i v = by_test (w == window_behind bounds w v) refl ∙ window_same bounds w i v
   where
     by_test : (t : Bool) → (w == window_behind bounds w v) ≡ t → fold (edited_window name) w (cond t [] (edit.SetWindow name (window_behind bounds w v) ∷ [])) ≡ window_behind bounds w v
     by_test true e = eqb-true w (window_behind bounds w v) e
-    by_test false e = ap (λ t. cond t (window_behind bounds w v) w) (same_self name)
+    by_test false e = ap (λ t. cond t (window_behind bounds w v) w) (name_itself name)
 
 -- ---- a row that stays as it is stored
 

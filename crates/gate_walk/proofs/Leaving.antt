@@ -5,11 +5,10 @@ use Rattle.std.specs.List.{list_any}
 use Rattle.std.proofs.lemmas.Bool.{and_parts, eqb-true, eq-eqb}
 use Rattle.gate_types.specs.declared.records.Change.{Change}
 use Rattle.gate_types.specs.declared.records.Need.{Need}
-use Rattle.gate_types.specs.declared.records.Stage.{Stage}
 use Rattle.gate_types.specs.declared.records.Stage.TheVariants as stage
 use Rattle.gate_types.specs.declared.records.Verdict.TheVariants as verdict
 use Rattle.gate_types.specs.Settings.{Settings}
-use Rattle.gate_types.specs.State.{Item, Queue, State, put_by, put_change, has_change, change_of, is_open, is_landed, plan_in, plan_of}
+use Rattle.gate_types.specs.State.{Item, Queue, State, put_by, put_change, has_change, change_of, is_landed, plan_in, plan_of}
 use Rattle.gate_types.specs.Line.{Place}
 use Rattle.gate_types.specs.Standing.{needs_of, place_of}
 use Rattle.gate_types.specs.Sweep.{without_runs, without_plans}
@@ -21,6 +20,7 @@ use Rattle.gate_laws.proofs.Tests.{flipped}
 use Rattle.gate_laws.proofs.Plans.{plan_stays, plan_kept, same_place, other_stays}
 use Rattle.gate_laws.proofs.Touches.{changes_apart}
 use Rattle.gate_laws.proofs.Members.{In, any_from, any_to, from_append, to_map, to_left, to_right}
+use Rattle.gate_laws.proofs.RecordedChange.{number_itself, open_unlanded}
 use Rattle.gate_walk.proofs.Once.{Once}
 use Rattle.gate_walk.proofs.Calm.{items_once, item_open}
 
@@ -127,17 +127,6 @@ change_put k s m =
     at true = refl
     at false = refl
 
-found_number : (xs : List Change) (n : ℕ) (d : Change) → d.number ≡ n → (unwrap_or (find (λ x. x.number == n) xs) d).number ≡ n
-found_number [] n d e = e
-found_number (x ∷ xs) n d e = at (x.number == n) refl (found_number xs n d e)
-  where
-    at : (t : Bool) → (x.number == n) ≡ t → (unwrap_or (find (λ y. y.number == n) xs) d).number ≡ n → (unwrap_or (cond t (Some x) (find (λ y. y.number == n) xs)) d).number ≡ n
-    at true k h = eqb-true x.number n k
-    at false k h = h
-
-number_of_change : (s : State) (n : ℕ) → (change_of s n).number ≡ n
-number_of_change s n = found_number s.changes n (record { number = n; project = []; revision = 0; stage = stage.Closed; needs = [] }) refl
-
 -- ---- the other items' places
 
 -- of a change that isn't landed, as it wasn't before
@@ -240,14 +229,6 @@ unplanned : (c : Settings) (s t : State) (o : Queue) (n : ℕ) (xs : List Item) 
 unplanned c s t o n xs h needs plans = each (place_of c t o) (place_of c s o) xs
     (λ j m. same_place c s t o o j refl (needs j) (ap (λ ps. plan_in ps j.serial) plans ∙ plan_stays (leaves s n) s.plans j.serial (h j m)))
 
-open_is : (k : Change) → is_open k ≡ true → is_landed k ≡ false
-open_is k h = by_stage k.stage h
-  where
-    by_stage : (g : Stage) → (elim g as (λ x. Bool) [ stage.Open ↦ true | stage.Landed ↦ false | stage.Closed ↦ false ]) ≡ true → (elim g as (λ x. Bool) [ stage.Landed ↦ true | stage.Open ↦ false | stage.Closed ↦ false ]) ≡ false
-    by_stage stage.Open e = refl
-    by_stage stage.Landed e = absurd (true≢false (sym e))
-    by_stage stage.Closed e = refl
-
 pub items_leave : ItemsLeave
 items_leave = record {
   withdrawn = λ c s q is i js h. let g = gone c s q is i js h in
@@ -260,7 +241,7 @@ items_leave = record {
         builds = g.builds;
         places = unplanned c (with_stage stage.Closed i.change s) (with_stage stage.Closed i.change (leave verdict.Closed i.change s)) q i.change (is ++ js) g.stay (λ j. refl) refl
             ∙ each (place_of c (with_stage stage.Closed i.change s) (left_queue verdict.Closed i.change q)) (place_of c s q) (is ++ js)
-            (λ j m. kept_place c s k q (left_queue verdict.Closed i.change q) i j (number_of_change s i.change) refl g.open_before refl (g.differ j m));
+            (λ j m. kept_place c s k q (left_queue verdict.Closed i.change q) i j (number_itself s i.change) refl g.open_before refl (g.differ j m));
       };
   superseded = λ c s q is i js k h e o.
       let g = gone c s q is i js h in
@@ -269,7 +250,7 @@ items_leave = record {
         builds = ap (λ n. without_runs (leaves s n) s.builds) e ∙ g.builds;
         places = unplanned c (put_change k s) (revised k s) q k.number (is ++ js) (λ j m. ap (λ n. leaves s n j.serial) e ∙ g.stay j m) (λ j. refl) refl
             ∙ each (place_of c (put_change k s) (left_queue verdict.Superseded k.number q)) (place_of c s q) (is ++ js)
-            (λ j m. kept_place c s k q (left_queue verdict.Superseded k.number q) i j e (open_is k o) g.open_before refl (g.differ j m));
+            (λ j m. kept_place c s k q (left_queue verdict.Superseded k.number q) i j e (open_unlanded k o) g.open_before refl (g.differ j m));
       };
   refused = λ c s q is i js h. let g = gone c s q is i js h in
       record { items = g.items; builds = g.builds; places = unplanned c s (leave verdict.Refused i.change s) q i.change (is ++ js) g.stay (λ j. refl) refl };
@@ -284,7 +265,7 @@ items_leave = record {
             (λ j m. same_place c (with_stage stage.Landed i.change s) (with_landing c n (record { queue = q; item = i }) s) o o j refl refl
             (plan_kept (landed_plan s i.serial) (without_plans (leaves s i.change) s.plans) j.serial (g.apart j m) ∙ plan_stays (leaves s i.change) s.plans j.serial (g.stay j m)))
             ∙ each (place_of c (with_stage stage.Landed i.change s) o) (λ j. place_behind i (place_of c s q j)) (is ++ js)
-            (λ j m. landed_other c s k q o i j (number_of_change s i.change) refl refl (g.differ j m))
+            (λ j m. landed_other c s k q o i j (number_itself s i.change) refl refl (g.differ j m))
             ∙ map_twice (place_behind i) (place_of c s q) (is ++ js);
       };
 }

@@ -8,6 +8,7 @@ use Rattle.gate_walk.specs.Walk.{Seen, SeenNeed, Carry, needs_gone, fails, visit
 use Rattle.gate_walk.specs.Rescan.{start}
 use Rattle.gate_walk.specs.Next.{go, need, stop, next_of, wanted, visits_from, VisitsAreTheWalk, WalkStops}
 use Rattle.gate_queue.proofs.Ordered.{RiseFrom, AllBelow, rises}
+use Rattle.gate_laws.proofs.Tests.{and_true}
 
 abbrev pub seen_serial : Seen → ℕ
 seen_serial v = v.row.serial
@@ -28,10 +29,6 @@ find_none : (vs : List Seen) → find (λ v. false) vs ≡ None
 find_none [] = refl
 find_none (v ∷ vs) = find_none vs
 
-and_on : (x : Bool) → x && true ≡ x
-and_on true = refl
-and_on false = refl
-
 and_off : (x : Bool) → x && false ≡ false
 and_off true = refl
 and_off false = refl
@@ -47,7 +44,7 @@ wanted_is k n vs = by_both (k.resets || k.passes) refl (length k.gone == 0) refl
     by_both : (x : Bool) → k.resets || k.passes ≡ x → (y : Bool) → (length k.gone == 0) ≡ y → wanted k.gone (cond (k.resets || k.passes) (go n) (cond (length k.gone == 0) stop (need n))) vs ≡ find (test_of k n) vs
     by_both true ex y ey =
         ap (λ t. wanted k.gone (cond t (go n) (cond (length k.gone == 0) stop (need n))) vs) ex
-        ∙ find_same (λ v. nat_lt n v.row.serial) (test_of k n) vs (λ v. sym (ap (λ t. nat_lt n v.row.serial && (t || needs_gone k.gone v.needs)) ex ∙ and_on (nat_lt n v.row.serial)))
+        ∙ find_same (λ v. nat_lt n v.row.serial) (test_of k n) vs (λ v. sym (ap (λ t. nat_lt n v.row.serial && (t || needs_gone k.gone v.needs)) ex ∙ and_true (nat_lt n v.row.serial)))
     by_both false ex true ey =
         (λ i. wanted k.gone (cond (ex i) (go n) (cond (ey i) stop (need n))) vs)
         ∙ sym (find_same (test_of k n) (λ v. false) vs (λ v. (λ i. nat_lt n v.row.serial && (ex i || nothing_gone k.gone v.needs ey i)) ∙ and_off (nat_lt n v.row.serial)) ∙ find_none vs)

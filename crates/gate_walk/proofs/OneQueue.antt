@@ -13,7 +13,7 @@ use Rattle.gate_types.specs.Rows.{Rows, row_of, numbered, fold_edits}
 use Rattle.gate_queue.specs.Settles.{settled_rows}
 use Rattle.gate_walk.specs.Walk.{Seen, Carry, asks_for, carried, visit_edits, walk_from}
 use Rattle.gate_walk.specs.Rescan.{settled_to}
-use Rattle.gate_queue.proofs.Ordered.{RiseFrom, GoWith, row_serial, place_serial, build_number, ahead_rise, ahead_with}
+use Rattle.gate_queue.proofs.Ordered.{RiseFrom, GoWith, row_serial, build_number, ahead_rise, ahead_with}
 use Rattle.gate_walk.proofs.Slots.{all_count}
 use Rattle.gate_walk.proofs.Steps.{Known}
 use Rattle.gate_walk.proofs.Resets.{Right, asked, rows_seen, last_serial, none_parts, Quiet, visits, same, NotLanded}
@@ -24,6 +24,7 @@ use Rattle.gate_walk.proofs.Events.{forced, forced_told, all_before, ahead_after
 use Rattle.gate_walk.proofs.SoFar.{right_first, carried_on, asked_more, told_so_far}
 use Rattle.gate_walk.proofs.Front.{Front, front_kept}
 use Rattle.gate_walk.proofs.Moved.{Elsewhere, Others, still_quiet, visits_rows}
+use Rattle.gate_laws.proofs.LiveBuildsCount.{place_serial}
 
 -- ---- rows, places, edits
 

@@ -64,7 +64,7 @@ wanted_all_ended cs (b ∷ bs) p h u =
     ends true true true k = k
     ends true false true k = k
 
-count_all : (l s n q : Bool) → not (l && s) || l && s && n && q ≡ true → l && s && n && q ≡ (l && s)
+pub count_all : (l s n q : Bool) → not (l && s) || l && s && n && q ≡ true → l && s && n && q ≡ (l && s)
 count_all true true n q h = h
 count_all true false n q h = refl
 count_all false s n q h = refl

@@ -19,6 +19,7 @@ use Rattle.gate_types.specs.Sweep.{verdict_of}
 use Rattle.gate_types.specs.Rows.{row_of}
 use Rattle.gate_queue.specs.Edits.{stops, stop_edits}
 use Rattle.gate_queue.specs.Outcomes.{outcomes_among}
+use Rattle.gate_queue.proofs.Builds.{or_false}
 use Rattle.gate_walk.specs.Walk.{SeenNeed, Seen, Mark, Carry, mark_of, is_fine, is_gone, is_blocked_by, are_met_without, still_counting, fails, cuts, is_done_by, verdict_by, row_by, row_edits, stopped_by}
 use Rattle.gate_laws.proofs.Cuts.{finished_is}
 use Rattle.gate_walk.proofs.Slots.{live_of}
@@ -44,40 +45,36 @@ pub record Known (stand : ℕ → Option Bool) (marks : List Mark) (gone : List 
   pub not_ahead : (n : ℕ) → has_change before n ≡ false → has_change ahead n ≡ false
   pub not_staying : (n : ℕ) → has_change before n ≡ false → has_change staying n ≡ false
 
-or_off : (x : Bool) → x || false ≡ x
-or_off true = refl
-or_off false = refl
-
 or_on : (x : Bool) → x || true ≡ true
 or_on true = refl
 or_on false = refl
 
 -- one more item, or none
 pub with_one : (g : Bool) (xs : List Item) (i : Item) (n : ℕ) → has_change (cond g xs (xs ++ i ∷ [])) n ≡ (has_change xs n || (not g && i.change == n))
-with_one true xs i n = sym (or_off (has_change xs n))
-with_one false xs i n = list_any-append (λ (j : Item). j.change == n) xs (i ∷ []) ∙ ap (λ t. has_change xs n || t) (or_off (i.change == n))
+with_one true xs i n = sym (or_false (has_change xs n))
+with_one false xs i n = list_any-append (λ (j : Item). j.change == n) xs (i ∷ []) ∙ ap (λ t. has_change xs n || t) (or_false (i.change == n))
 
 gone_one : (g : Bool) (gone : List ℕ) (c n : ℕ) → is_gone (cond g (gone ++ c ∷ []) gone) n ≡ (is_gone gone n || (g && c == n))
-gone_one true gone c n = list_any-append (λ (m : ℕ). m == n) gone (c ∷ []) ∙ ap (λ t. is_gone gone n || t) (or_off (c == n))
-gone_one false gone c n = sym (or_off (is_gone gone n))
+gone_one true gone c n = list_any-append (λ (m : ℕ). m == n) gone (c ∷ []) ∙ ap (λ t. is_gone gone n || t) (or_false (c == n))
+gone_one false gone c n = sym (or_false (is_gone gone n))
 
 -- of another change than the item's nothing is new
 pub other_in : (before : List Item) (i : Item) (n : ℕ) (t : Bool) → (i.change == n) ≡ false → has_change (before ++ i ∷ []) n ≡ t → has_change before n ≡ t
-other_in before i n t e h = sym (with_one false before i n ∙ ap (λ x. has_change before n || x) e ∙ or_off (has_change before n)) ∙ h
+other_in before i n t e h = sym (with_one false before i n ∙ ap (λ x. has_change before n || x) e ∙ or_false (has_change before n)) ∙ h
 
 pub other_one : (g : Bool) (xs : List Item) (i : Item) (n : ℕ) → (i.change == n) ≡ false → has_change (cond g xs (xs ++ i ∷ [])) n ≡ has_change xs n
 other_one g xs i n e = with_one g xs i n ∙ (λ k. has_change xs n || (not g && e k)) ∙ off (not g) (has_change xs n)
   where
     off : (x y : Bool) → y || (x && false) ≡ y
-    off true y = or_off y
-    off false y = or_off y
+    off true y = or_false y
+    off false y = or_false y
 
 pub other_gone : (g : Bool) (gone : List ℕ) (c n : ℕ) → (c == n) ≡ false → is_gone (cond g (gone ++ c ∷ []) gone) n ≡ is_gone gone n
 other_gone g gone c n e = gone_one g gone c n ∙ (λ k. is_gone gone n || (g && e k)) ∙ off g (is_gone gone n)
   where
     off : (x y : Bool) → y || (x && false) ≡ y
-    off true y = or_off y
-    off false y = or_off y
+    off true y = or_false y
+    off false y = or_false y
 
 -- of the item's own
 pub own_one : (g : Bool) (xs : List Item) (i : Item) (n : ℕ) → (i.change == n) ≡ true → has_change xs n ≡ false → has_change (cond g xs (xs ++ i ∷ [])) n ≡ not g

@@ -13,11 +13,12 @@ use Rattle.gate_types.specs.Standing.{with_ahead, next_ahead, places_after, need
 use Rattle.gate_types.specs.Rows.{row_of}
 use Rattle.gate_walk.specs.Walk.{Seen}
 use Rattle.gate_walk.specs.Rescan.{standing_in, row_seen, without_row, rows_from, ahead_at, fails_at}
-use Rattle.gate_queue.proofs.Ordered.{RiseFrom, place_serial}
+use Rattle.gate_queue.proofs.Ordered.{RiseFrom}
 use Rattle.gate_walk.proofs.Steps.{seen_need}
 use Rattle.gate_walk.proofs.Resets.{Quiet, visits}
 use Rattle.gate_walk.proofs.Events.{all_before, ahead_after}
 use Rattle.gate_walk.proofs.Calm.{Says, says_next}
+use Rattle.gate_laws.proofs.LiveBuildsCount.{place_serial}
 
 -- ---- where items stand, by the rows that are left
 

@@ -1,5 +1,5 @@
 -- What settling leaves of a touched queue, within the whole state.
-use Rattle.std.proofs.Common.{◌≡◌, ℕ, Bool, true, false, not, ◌&&◌, cond, is_some, List, [], ◌∷◌, map, inl, inr, refl, sym, ap, ◌∙◌, subst, suc, true≢false, append-nil}
+use Rattle.std.proofs.Common.{◌≡◌, ℕ, Bool, true, false, not, ◌&&◌, cond, is_some, List, [], ◌∷◌, map, inl, inr, refl, sym, ap, ◌∙◌, subst, true≢false, append-nil}
 use Rattle.std.specs.Prelude.{filter, flat_map}
 use Rattle.std.specs.List.{list_any}
 use Rattle.std.specs.List.Sorted.{IsStrictlyIncreasing}
@@ -15,17 +15,19 @@ use Rattle.gate_types.specs.Rebase.{rebase, with_live, stays_live}
 use Rattle.gate_types.specs.Window.{bounds_of}
 use Rattle.gate_types.specs.Sweep.{Judged, verdict_of, judge, judged, judged_after, next_staying, goes, without_runs, without_plans, swept_queue, sweep}
 use Rattle.gate_types.specs.Rows.{rows_of}
+use Rattle.gate_types.proofs.NameLemmas.{same_name_is}
 use Rattle.gate_laws.specs.Touch.{queues_named, rebase_one, settle_one}
 use Rattle.gate_queue.specs.Settles.{rebased, verdicts, settled_rows}
 use Rattle.gate_queue.specs.Whole.{rows_in, swept_of}
 use Rattle.gate_laws.proofs.Members.{In, to_map, none_from, filter_none}
-use Rattle.gate_laws.proofs.Alone.{same_name_is, same_name_of}
+use Rattle.gate_laws.proofs.Alone.{same_name_of}
 use Rattle.gate_laws.proofs.AfterRebase.{judged_rebased}
 use Rattle.gate_laws.proofs.Swept.{items_left, staying_items, staying_not}
 use Rattle.gate_laws.proofs.Plans.{plan_stays, replanned}
-use Rattle.gate_queue.proofs.Ordered.{RiseFrom, Tells, place_serial, rises, ahead_rise}
+use Rattle.gate_queue.proofs.Ordered.{Tells, rises, ahead_rise}
 use Rattle.gate_laws.proofs.Stays.{stayers}
 use Rattle.gate_queue.proofs.Settled.{goes_tells, verdicts_rebased}
+use Rattle.gate_queue.proofs.LawLemmas.{items_rise}
 
 -- ---- the queue of a name
 
@@ -45,10 +47,6 @@ only_named (x ∷ xs) h q m =
     ]
 
 -- ---- the places of the items that stay
-
-pub items_rise : (c : Settings) (s : State) (q : Queue) (is : List Item) (n : ℕ) → RiseFrom (λ i. i.serial) n is → RiseFrom place_serial n (map (place_of c s q) is)
-items_rise c s q [] n r = tt
-items_rise c s q (i ∷ is) n r = (r.0, items_rise c s q is (suc i.serial) r.1)
 
 places_left : (c : Settings) (s : State) (q : Queue) (bs : List Build) (ahead staying is : List Item) (leaves : ℕ → Bool) → Tells leaves (judged_after bs staying (places_after bs ahead (map (place_of c s q) is))) →
     map (place_of c s q) (map (λ j. j.item) (filter (λ j. not (is_some j.verdict)) (judged_after bs staying (places_after bs ahead (map (place_of c s q) is))))) ≡ stayers leaves (map (place_of c s q) is)

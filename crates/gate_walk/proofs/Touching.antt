@@ -22,7 +22,8 @@ use Rattle.gate_walk.specs.Rescan.{settled_to, Walks, IsCalm, standing_in, row_s
 use Rattle.gate_laws.proofs.Members.{In, every, all, to_right, to_left, to_flat}
 use Rattle.std.proofs.lemmas.List.Elements.{All-contains}
 use Rattle.gate_laws.proofs.Rising.{increasing}
-use Rattle.gate_queue.proofs.Ordered.{RiseFrom, GoWith, row_serial, place_serial, build_number, rises}
+use Rattle.gate_laws.proofs.LiveBuildsCount.{place_serial}
+use Rattle.gate_queue.proofs.Ordered.{RiseFrom, GoWith, row_serial, build_number, rises}
 use Rattle.gate_walk.proofs.Parting.{rising_from}
 use Rattle.gate_walk.proofs.Resets.{rows_seen, Quiet, visits, same, last_serial, first_last}
 use Rattle.gate_walk.proofs.Passes.{cast, landed_place, Behind}

@@ -18,7 +18,8 @@ use Rattle.gate_walk.specs.declared.walk.Next.{Next as CodeNext}
 use Rattle.gate_walk.specs.Views.{next_of_code}
 use Rattle.gate_walk.specs.UnderWay.{Delivered, queue_after, bounds_after, stale_rows, tables, places_of, tables_settled, tables_settled_below, begun, rows_seen, walk_by, next_by, row_wanted, AreWanted, HasVisited, IsBehind, rows_walked, IsFor, Starts, GoesOn, Ends, Visits}
 use Rattle.gate_laws.proofs.Members.{found}
-use Rattle.gate_queue.proofs.Ordered.{RiseFrom, row_serial, place_serial, rises}
+use Rattle.gate_laws.proofs.LiveBuildsCount.{place_serial}
+use Rattle.gate_queue.proofs.Ordered.{RiseFrom, row_serial, rises}
 use Rattle.gate_walk.proofs.Parting.{none_under, all_onward, under, onward, cut, under_at, under_behind, rise_at, low_at, onward_onward, onward_many, found_first, none_found, find_in, AllFail, all_fail, parts_at}
 use Rattle.gate_walk.proofs.SoFar.{carried_on}
 use Rattle.gate_walk.proofs.NextRows.{walk_stops, seen_serial, test_of, wanted_is, find_past, passed, below_push, below_up}

@@ -18,7 +18,8 @@ use Rattle.gate_walk.specs.Next.{next_of, visits_from}
 use Rattle.gate_walk.specs.Delivery.{Touch, build_ended, item_left, item_landed, standing_rows, visited}
 use Rattle.std.specs.List.Sorted.{IsStrictlyIncreasing}
 use Rattle.gate_laws.proofs.Rising.{increasing}
-use Rattle.gate_queue.proofs.Ordered.{RiseFrom, AllBelow, row_serial, place_serial, ahead_rise}
+use Rattle.gate_laws.proofs.LiveBuildsCount.{place_serial}
+use Rattle.gate_queue.proofs.Ordered.{RiseFrom, AllBelow, row_serial, ahead_rise}
 use Rattle.gate_walk.proofs.Parting.{rising_from}
 use Rattle.gate_walk.proofs.NextRows.{seen_serial, passed, below_push, below_up, visits_walk}
 

@@ -1,6 +1,6 @@
 //! What a walk sees of a row, and what it makes of it.
 ghost use Rattle.std.specs.Prelude.{◌≡◌, ◌&&◌, ◌||◌, not, IfOk};
-ghost use Rattle.std.specs.List.{list_any, list_all};
+ghost use Rattle.std.specs.List.{list_all};
 ghost use Rattle.gate_types.specs.Slot as rules;
 ghost use Rattle.gate_queue.specs.Outcomes.{slot_among};
 ghost use Rattle.gate_walk.specs.Walk as walk;

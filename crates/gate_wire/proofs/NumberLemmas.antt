@@ -1,38 +1,18 @@
 -- The number that a few digits write.
-use Rattle.std.proofs.Common.{◌≡◌, ℕ, ◌<◌, ◌≤◌, ◌-◌, ◌*◌, ◌+◌, ◌↔◌, Bool, true, false, ◌&&◌, List, [], ◌∷◌, length, take, get_or, Option, Some, None, IsSome, IfSome, arith, rules, lit<, lit≤, refl, ap}
+use Rattle.std.proofs.Common.{◌≡◌, ℕ, ◌<◌, ◌≤◌, ◌-◌, ◌*◌, ◌+◌, ◌↔◌, true, List, length, take, get_or, Option, Some, None, IsSome, IfSome, arith, rules, lit≤, ap}
 use Rattle.std.specs.Prelude.{nat_lt, slice_index}
 use Rattle.std.specs.List.{list_all}
-use Rattle.std.specs.Char.{is_ascii_digit, digit_value}
-use Rattle.std.specs.Str.Parse.{digits_value, AllDigits}
-use Rattle.std.proofs.Math.Nat.{pow-le-pow_right}
-use Rattle.std.proofs.lemmas.Bool.Decides.{nat_tests}
-use Rattle.std.proofs.lemmas.Int.Digits.{digits_value-lt, digits_value_more}
+use Rattle.std.specs.Char.{is_ascii_digit}
+use Rattle.std.specs.Str.Parse.{digits_value}
+use Rattle.std.proofs.lemmas.Int.Digits.{digits_value_more}
 use Rattle.std.proofs.lemmas.List.Elements.{All-get_or}
 use Rattle.std.proofs.lemmas.List.Sums.{AllPass-from_list_all}
 use Rattle.std.proofs.lemmas.Str.Parse.{digits_value-take-le}
 use Rattle.gate_types.specs.Needs.{number_of}
-
--- what a digit is
-pub digit_is : (c : ℕ) → is_ascii_digit c ≡ true → (48 ≤ c) × (c ≤ 57) × (digit_value c ≡ c - 48)
-digit_is c h = grind (arith, nat_tests)
+use Rattle.gate_types.proofs.DigitLemmas.{digit_is, value_small, value_positive}
 
 pub digit_at : (ds : List ℕ) (i d : ℕ) → list_all is_ascii_digit ds ≡ true → i < length ds → is_ascii_digit (get_or ds i d) ≡ true
 digit_at ds i d h lt = All-get_or (λ b. is_ascii_digit b ≡ true) ds i d lt (AllPass-from_list_all is_ascii_digit ds h)
-
-both : (a b : Bool) → (a && b) ≡ true → (a ≡ true) × (b ≡ true)
-both true b h = (refl, h)
-both false b h = absurd (cc)
-
-all_digits : (ds : List ℕ) → list_all is_ascii_digit ds ≡ true → AllDigits 10 ds
-all_digits [] h = tt
-all_digits (c ∷ cs) h =
-    let p = both (is_ascii_digit c) (list_all is_ascii_digit cs) h in
-    let d = digit_is c p.0 in
-    (omega (arith, d.0, d.1, d.2), all_digits cs p.1)
-
--- nine digits write a number below 10^9
-pub value_small : (ds : List ℕ) → list_all is_ascii_digit ds ≡ true → length ds ≤ 9 → digits_value 10 ds < 1000000000
-value_small ds h few = omega (arith, digits_value-lt 10 ds (all_digits ds h), pow-le-pow_right {n = 10} (lit< tt) few)
 
 -- one digit more
 pub value_step : (ds : List ℕ) (i : ℕ) → list_all is_ascii_digit ds ≡ true → length ds ≤ 9 → i < length ds
@@ -42,16 +22,6 @@ value_step ds i h few lt =
       omega (arith, value_small ds h few, digits_value-take-le 10 ds i (lit≤ tt)),
       omega (arith, d.2, digits_value_more 10 ds i lt),
     )
-
--- and it is above 0 where the first digit is
-pub value_positive : (ds : List ℕ) → list_all is_ascii_digit ds ≡ true → nat_lt 48 (slice_index ds 0) ≡ true → 1 ≤ digits_value 10 ds
-value_positive [] h above = absurd (cc)
-value_positive (c ∷ cs) h above =
-    let p = both (is_ascii_digit c) (list_all is_ascii_digit cs) h in
-    let d = digit_is c p.0 in
-    let least : 0 * 10 + digit_value c ≤ digits_value 10 (c ∷ cs) = digits_value-take-le 10 (c ∷ cs) 1 (lit≤ tt) in
-    let more : 48 < c = grind (arith, nat_tests) in
-    omega (arith, d.2, least, more)
 
 found_by : (o : Option ℕ) (n : ℕ) → IsSome o → IfSome o (λ m. m ≡ n) → o ≡ Some n
 found_by (Some m) n s e = ap Some e

@@ -6,11 +6,6 @@ use Rattle.serde_json.specs.Data.{Data}
 use Rattle.serde_json.specs.Read.{read}
 use Rattle.gate_wire.specs.Reading.{value_of}
 
--- an option that is no value is none
-pub none_unless : {A : Type 0} (o : Option A) → ((u : A) → o ≡ Some u → ⊥) → o ≡ None
-none_unless None h = refl
-none_unless (Some u) h = absurd (h u refl)
-
 -- the value of text that reads
 pub value_found : (bytes : List ℕ) (d : Data) → IsUtf8 bytes → read bytes ≡ Some d → value_of bytes ≡ Some d
 unfolding value_of

@@ -1,5 +1,4 @@
 //! Reads a delivery from the bytes of a JSON text.
-ghost use Rattle.std.specs.Prelude.{◌≡◌};
 ghost use Rattle.serde_json.specs.View.{view};
 ghost use Rattle.gate_wire.specs.Reading.{Gives, delivery_at, revision_said, data_says, says};
 

@@ -1,7 +1,7 @@
 //! Writes the text of a reply.
 ghost use Rattle.std.specs.Prelude.{◌≡◌, ◌==◌, if◌then◌else◌, [], ◌++◌, map, codes, decimal, IfOk, OnOk, string_bytes};
-ghost use Rattle.gate_types.specs.JsonText.{array, object, entry as entry_piece};
-ghost use Rattle.gate_types.specs.ReplyText.{reply_member, reply_text};
+ghost use Rattle.gate_types.specs.JsonText.{array, entry as entry_piece};
+ghost use Rattle.gate_types.specs.ReplyText.{reply_text};
 
 use gate_types::deliveries::Reply;
 use gate_types::names::NoMemory;

@@ -1,5 +1,5 @@
-//! What a test claims, and where. Each claim is a call, since all that a test holds beside a message that is written is to
-//! be proved unharmed by each of its words.
+//! What a test claims, and where. Each claim is a call: the prover follows all that a test holds through each word of a
+//! message that it writes.
 use std::process::Abort;
 
 /// The claim holds.

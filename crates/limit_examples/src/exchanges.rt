@@ -92,7 +92,8 @@ impl Exchanges {
         let length = text.len();
         write!(
             self.responses,
-            "HTTP/1.1 {status}\r\nContent-Type: {kind}\r\nContent-Length: {length}\r\nConnection: close\r\n\r\n{text}{CLOSED}"
+            "HTTP/1.1 {status}\r\nContent-Type: {kind}\r\nContent-Length: {length}\r\nConnection: close\r\n\r\n\
+             {text}{CLOSED}"
         )
     }
 }

@@ -1,4 +1,4 @@
-//! The 5,001 deliveries behind a history of 2,500 reports, as they are told again: at most 1,000 in one answer, and all of
+//! The 5,001 deliveries behind a history of 2,500 reports, as they are listed: at most 1,000 in one answer, and all of
 //! them to a program.
 use crate::claims::{holds, is_long};
 use crate::exchanges::Exchanges;

@@ -47,8 +47,8 @@ fn order_of(n: u32) -> u32 {
 }
 
 /// The changes come from the last queue to the first, each once the jobs of the one before are done. So the item whose
-/// jobs wait is in the first queue that has an item, and the gate finds it at once. The last worker gets nothing, after a
-/// look at all queues.
+/// jobs wait is in the first queue that has an item, and the gate finds it at once. The last worker gets nothing, after
+/// a look at all queues.
 fn built(alloc: Global) -> Result<String, AllocError> {
     let mut talk = String::new(alloc);
     let mut build = 0u32;

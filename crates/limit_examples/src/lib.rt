@@ -1,5 +1,5 @@
-//! The gate at the limits of its settings, and with numbers, texts and counts of calls above those of the other tests. A
-//! function that gives up from some size on meets every contract, and fails here.
+//! The gate at the limits of its settings, and with numbers, texts and counts of calls above those of the other tests.
+//! A function that gives up from some size on meets every contract, and fails here.
 #![tactic(auto)]
 
 #[cfg(test)]

@@ -16,8 +16,8 @@ use std::str::from_utf8;
 /// The last numbers that were drawn; the ones that are drawn next are 2^31, 2^32 and 10^15.
 const DRAWN: [u64; 3] = [2_147_483_647, 4_294_967_295, 999_999_999_999_999];
 
-/// Statements after which so many numbers are drawn, and the queue has as many landings and reports, each table with the
-/// last one alone. One approval less is drawn, since the scene draws two.
+/// Statements after which so many numbers are drawn, and the queue has as many landings and reports, with the last row
+/// of each table alone. One approval less is drawn, since the scene draws two.
 const PREPARED: &str = "UPDATE counter SET drawn = <drawn>
 UPDATE counter SET drawn = <drawn> - 1 WHERE name = 'approval'
 INSERT INTO change (num, project, revision, state, approval) VALUES (1, 'lib', 1, 'landed', NULL)

@@ -1,4 +1,4 @@
-//! A gate's file: its tables made and read, closed and opened again, with other settings too, and stopped at each write.
+//! A gate's file: its tables made and read, closed and opened again, under other settings too, stopped at each write.
 mod adopting;
 mod approvals;
 mod days;

@@ -1,5 +1,5 @@
 //! A book that counts the items, their plans and builds, and the ready changes that a delivery reads: no more of a long
-//! queue than of a short one, and nothing of changes that wait for another one, in memory and over the tables of a file.
+//! queue than of a short one, and nothing of changes that wait for another one, in memory and over a file's tables.
 use crate::claims::holds;
 use crate::scenes::gate_in_memory;
 use crate::stored::files::{gate_under, made_under};
@@ -17,8 +17,8 @@ use sqlite::Connection;
 use std::io::Write;
 use std::process::Abort;
 
-/// Answers as the book in it, and counts the items, plans, live builds and ready changes that it was asked for since the
-/// last delivery came: one for each lookup by a key, and each that a list has.
+/// Answers as the book in it, and counts the items, plans, live builds and ready changes that it was asked for since
+/// the last delivery came: one for each lookup by a key, and each that a list has.
 #[derive(Drop)]
 struct Watched<B> {
     book: B,

@@ -1,9 +1,9 @@
 //! A book over the tables of a file in memory: settings, and what becomes of the file, line by line.
 //!
 //! `create: done` makes a file's tables, `open: done` opens them, and `migrate: done` makes those of schema 1 ones of
-//! schema 2; `migrate: already` finds that they are. A fault stands by its name, as in `open as core 2 1: OtherSettings`,
-//! which opens them under other settings. `run DELETE FROM meta` runs a statement, and
-//! `2 is SELECT count(*) FROM queue` is a query with the number that it gives.
+//! schema 2; `migrate: already` finds that they are. A fault stands by its name, as in
+//! `open as core 2 1: OtherSettings`, which opens them under other settings. `run DELETE FROM meta` runs a statement,
+//! and `2 is SELECT count(*) FROM queue` is a query with the number that it gives.
 mod histories;
 mod openings;
 

@@ -1,4 +1,4 @@
-use Rattle.std.proofs.Common.{◌≡◌, ◌∙◌, ◌+◌, ◌<◌, ◌≤◌, ◌||◌, ⊎_elim, None, Some, ℕ, List, sym, ap, subst, refl, arith}
+use Rattle.std.proofs.Common.{◌≡◌, ◌∙◌, ◌+◌, ◌<◌, ◌≤◌, ◌||◌, ⊎_elim, sym, ap, subst, refl, arith}
 use Rattle.std.specs.Prelude.{nat_lt}
 use Rattle.std.specs.List.{list_any}
 use Rattle.std.specs.Ordering.{nat_cmp}
@@ -6,14 +6,13 @@ use Rattle.std.specs.BTreeMap.{is_at}
 use Rattle.std.specs.Map.{lookup}
 use Rattle.std.proofs.lemmas.Bool.{cases_lt, false≢true}
 use Rattle.gate_types.specs.Counters.{Drawn}
-use Rattle.gate_types.specs.declared.edits.Edit.{Edit}
 use Rattle.gate_types.specs.Admit.{entered}
 use Rattle.gate_admission.specs.Led.{IsLed}
 use Rattle.gate_admission.specs.Counted.{sets_past}
 use Rattle.gate_admission.specs.Candidates.{EntersByEdits}
-use Rattle.gate_admission.proofs.Calls.{then}
 use Rattle.gate_admission.proofs.Admitted.{tries}
 use Rattle.gate_admission.proofs.Tries.{past_stays, none_past, idle_stays, next_entered, all_entered, none_for_next}
+use Rattle.gate_book_trait.proofs.KeptLemmas.{then}
 use Rattle.gate_admission.proofs.admit.admitting.Goals as goal
 
 pub returns-then-is_idle-clause-admitted : goal.returns-then-is_idle-clause-admitted

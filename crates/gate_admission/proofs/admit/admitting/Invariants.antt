@@ -1,4 +1,4 @@
-use Rattle.std.proofs.Common.{◌≡◌, ◌≤◌}
+use Rattle.std.proofs.Common.{◌≤◌}
 use Rattle.gate_types.specs.State.{State}
 use Rattle.gate_book_trait.specs.Kept.{IsKept, OfHeldUnder}
 use Rattle.gate_admission.specs.Led.{IsLed}

@@ -1,9 +1,7 @@
-use Rattle.std.proofs.Common.{◌≡◌, ◌∙◌, List, sym, ap, subst}
+use Rattle.std.proofs.Common.{◌≡◌, ◌∙◌, ap}
 use Rattle.std.specs.List.{fold}
 use Rattle.std.specs.Ordering.{nat_cmp}
 use Rattle.std.specs.BTreeMap.{get}
-use Rattle.gate_types.specs.declared.records.Ready.{Ready}
-use Rattle.gate_laws.proofs.Members.{In}
 use Rattle.gate_admission.specs.Candidates.{put_ready, left_needing, change_under}
 use Rattle.gate_admission.proofs.LetIn.{put_are_ready, left_are_ready, needing_is_there}
 use Rattle.gate_admission.proofs.Waiting.{others_and}

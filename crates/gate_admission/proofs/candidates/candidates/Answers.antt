@@ -1,9 +1,9 @@
-use Rattle.std.proofs.Common.{◌≡◌, ◌∙◌, None, sym, ap, subst}
+use Rattle.std.proofs.Common.{◌∙◌, ap}
 use Rattle.std.specs.List.{fold}
 use Rattle.std.specs.Ordering.{nat_cmp}
 use Rattle.std.specs.BTreeMap.{get, is_at}
 use Rattle.std.specs.Map.{lookup}
-use Rattle.gate_admission.specs.Candidates.{change_under, AreToLookAt}
+use Rattle.gate_admission.specs.Candidates.{change_under}
 use Rattle.gate_admission.proofs.Waiting.{candidates_of}
 use Rattle.gate_admission.proofs.candidates.candidates.Goals as goal
 

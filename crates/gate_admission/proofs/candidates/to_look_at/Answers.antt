@@ -1,4 +1,4 @@
-use Rattle.std.proofs.Common.{◌≡◌, ◌∙◌, sym, ap, subst}
+use Rattle.std.proofs.Common.{◌∙◌, sym, subst}
 use Rattle.std.proofs.lemmas.Result.{IfOk-weaker}
 use Rattle.gate_admission.specs.Candidates.{AreToLookAt}
 use Rattle.gate_admission.proofs.LetIn.{let_in_are_all, all_are_there}

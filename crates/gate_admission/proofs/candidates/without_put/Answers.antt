@@ -1,4 +1,4 @@
-use Rattle.std.proofs.Common.{◌∙◌, ◌++◌, not, sym, ap}
+use Rattle.std.proofs.Common.{◌∙◌, ◌++◌, sym}
 use Rattle.std.specs.List.{list_any}
 use Rattle.gate_types.specs.declared.records.Ready.{Ready}
 use Rattle.gate_admission.specs.Candidates.{puts, if_left}

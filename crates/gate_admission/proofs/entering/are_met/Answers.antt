@@ -2,8 +2,8 @@ use Rattle.std.proofs.Common.{◌+◌, ◌∙◌, ◌&&◌, Bool, drop, sym, ap}
 use Rattle.std.specs.List.{list_all}
 use Rattle.gate_types.specs.declared.records.Need.{Need}
 use Rattle.gate_book_trait.specs.Reads.{items_in}
+use Rattle.gate_book_trait.proofs.KeptLemmas.{then}
 use Rattle.gate_admission.specs.Enters.{is_met_by_rows}
-use Rattle.gate_admission.proofs.Calls.{then}
 use Rattle.gate_admission.proofs.Along.{all_step, all_end}
 use Rattle.gate_admission.proofs.entering.are_met.Goals as goal
 

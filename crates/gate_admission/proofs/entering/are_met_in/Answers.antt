@@ -2,8 +2,8 @@ use Rattle.std.proofs.Common.{◌+◌, ◌∙◌, ◌&&◌, ◌||◌, Bool, drop
 use Rattle.std.specs.List.{list_all}
 use Rattle.gate_types.specs.declared.records.Need.{Need}
 use Rattle.gate_types.specs.State.{has_change}
-use Rattle.gate_admission.proofs.Calls.{then}
 use Rattle.gate_admission.proofs.Along.{all_step, all_end}
+use Rattle.gate_book_trait.proofs.KeptLemmas.{then}
 use Rattle.gate_admission.proofs.entering.are_met_in.Goals as goal
 
 pub loop-need-preserved : goal.loop-need-preserved

@@ -1,8 +1,8 @@
 use Rattle.std.proofs.Common.{◌<◌, ◌∙◌, sym, ap, subst}
 use Rattle.std.specs.Prelude.{IfSome}
 use Rattle.gate_book_trait.specs.Reads.{items_in, last_below}
+use Rattle.gate_book_trait.proofs.KeptLemmas.{then}
 use Rattle.gate_admission.specs.Seen.{items_after}
-use Rattle.gate_admission.proofs.Calls.{then}
 use Rattle.gate_admission.proofs.QueueItems.{rising_after}
 use Rattle.gate_admission.proofs.Standing.{items_rise}
 use Rattle.gate_admission.proofs.LastItem.{none_below, last_here, last_lower, most_of, none_of}

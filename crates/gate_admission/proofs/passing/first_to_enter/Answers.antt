@@ -1,4 +1,4 @@
-use Rattle.std.proofs.Common.{◌≡◌, ◌∙◌, None, Some, Option, Bool, true, false, cond, refl, sym, ap, subst}
+use Rattle.std.proofs.Common.{◌≡◌, ◌∙◌, None, Bool, true, false, refl, sym, ap, subst}
 use Rattle.std.specs.Prelude.{find, is_some, MatchOption}
 use Rattle.std.specs.Ordering.{nat_cmp}
 use Rattle.std.specs.BTreeMap.{is_at}
@@ -6,8 +6,8 @@ use Rattle.std.specs.Map.{lookup}
 use Rattle.gate_types.specs.declared.records.Ready.{Ready}
 use Rattle.gate_types.specs.Admit.{may_enter}
 use Rattle.gate_admission.specs.Candidates.{if_so, EntersFirst}
-use Rattle.gate_admission.proofs.Calls.{then}
 use Rattle.gate_admission.proofs.Waiting.{nobody_left, passed, enters_first}
+use Rattle.gate_book_trait.proofs.KeptLemmas.{then}
 use Rattle.gate_admission.proofs.passing.first_to_enter.Goals as goal
 
 some_so : (b : Bool) (r : Ready) → is_some (if_so b r) ≡ true → b ≡ true

@@ -1,8 +1,8 @@
 use Rattle.std.proofs.Common.{◌≡◌, ◌+◌, length, take, ap, arith}
 use Rattle.gate_book_trait.specs.Reads.{items_in}
+use Rattle.gate_book_trait.proofs.KeptLemmas.{then}
 use Rattle.gate_types.specs.Rows.{edited_items}
 use Rattle.gate_admission.specs.Seen.{items_after, grows, shrinks, one_if}
-use Rattle.gate_admission.proofs.Calls.{then}
 use Rattle.gate_admission.proofs.QueueItems.{rising_after}
 use Rattle.gate_admission.proofs.Standing.{items_rise}
 use Rattle.gate_admission.proofs.Sizes.{size_step, after_more, one_if_most}

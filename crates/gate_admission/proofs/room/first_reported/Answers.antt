@@ -1,7 +1,7 @@
-use Rattle.std.proofs.Common.{◌≡◌, ◌∙◌, List, ℕ, Option, None, Some, Bool, false, true, Bor, refl, sym, ap, true≢false}
+use Rattle.std.proofs.Common.{◌≡◌, ◌∙◌, List, ℕ, Option, None, Some, false, Bor, refl, sym, ap, true≢false}
 use Rattle.std.specs.Prelude.{is_some}
 use Rattle.std.specs.Option.{option_copied, option_map_or}
-use Rattle.gate_admission.specs.Candidates.{is_full, makes_room, reported}
+use Rattle.gate_admission.specs.Candidates.{is_full, makes_room}
 use Rattle.gate_admission.proofs.Along.{any_step, any_end}
 use Rattle.gate_admission.proofs.room.first_reported.Goals as goal
 

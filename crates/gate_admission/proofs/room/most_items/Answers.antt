@@ -1,4 +1,4 @@
-use Rattle.std.proofs.Common.{◌∙◌, ap, sym}
+use Rattle.std.proofs.Common.{◌∙◌, sym}
 use Rattle.gate_admission.proofs.Spans.{no_first, no_last, most}
 use Rattle.gate_admission.proofs.room.most_items.Goals as goal
 

@@ -1,7 +1,7 @@
-use Rattle.std.proofs.Common.{◌≡◌, ◌∙◌, sym, ap}
+use Rattle.std.proofs.Common.{◌∙◌, sym}
 use Rattle.gate_admission.specs.Candidates.{makes_room}
-use Rattle.gate_admission.proofs.Along.{any_step, any_there, any_end}
-use Rattle.gate_admission.proofs.Calls.{then}
+use Rattle.gate_admission.proofs.Along.{any_step}
+use Rattle.gate_book_trait.proofs.KeptLemmas.{then}
 use Rattle.gate_admission.proofs.room.others_make_room.Goals as goal
 
 pub loop-edit-preserved : goal.loop-edit-preserved

@@ -1,6 +1,6 @@
 use Rattle.std.proofs.Common.{ap, rules, sym}
 use Rattle.std.specs.Option.{option_map}
-use Rattle.gate_archive.proofs.Named.{none_unless}
+use Rattle.gate_types.proofs.PlainLemmas.{none_unless}
 use Rattle.gate_archive.proofs.feed.id_of.Goals as goal
 
 pub returns-in-Err : goal.returns-in-Err

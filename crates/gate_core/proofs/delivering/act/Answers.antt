@@ -5,9 +5,9 @@ use Rattle.gate_types.specs.Forms.{is_call_in_form}
 use Rattle.gate_types.specs.Once.{is_unavailable}
 use Rattle.gate_core.specs.Answered.{call}
 use Rattle.gate_core.specs.Ruled.{IsRuled}
-use Rattle.gate_core.proofs.Results.{if_ok_so}
 use Rattle.gate_core.specs.Recent.{IsTrueOf}
 use Rattle.gate_core.proofs.NextContents.{kept_is_lawful, accepted_is_answered, failed_is_answered, next_stays, refused_is_answered}
+use Rattle.gate_settling.proofs.KeptLemmas.{if_ok_so}
 use Rattle.gate_core.proofs.delivering.act.Goals as goal
 
 pub returns-in-Accepted-clause-ok : goal.returns-in-Accepted-clause-ok

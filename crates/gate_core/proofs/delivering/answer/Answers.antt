@@ -1,8 +1,8 @@
 use Rattle.std.proofs.Common.{◌≡◌, None, sym, ◌∙◌}
 use Rattle.std.proofs.lemmas.Result.{on_err_weaker}
 use Rattle.gate_types.specs.Once.{kept_for}
-use Rattle.gate_core.proofs.Results.{if_ok_so}
 use Rattle.gate_core.proofs.NextContents.{answered_from}
+use Rattle.gate_settling.proofs.KeptLemmas.{if_ok_so}
 use Rattle.gate_core.proofs.delivering.answer.Goals as goal
 
 pub returns-in-None-clause-ok : goal.returns-in-None-clause-ok

@@ -5,9 +5,10 @@ use Rattle.gate_types.specs.Settle.{settle}
 use Rattle.gate_types.specs.Step.{accepted}
 use Rattle.gate_types.specs.Tables.{Leads}
 use Rattle.gate_reads.specs.Moves.{in_state, swept}
-use Rattle.gate_core.proofs.Results.{at_some, at_none}
+use Rattle.gate_core.proofs.Results.{at_some}
 use Rattle.gate_core.proofs.Steps.{moved_steps, exhausted_steps}
 use Rattle.gate_core.proofs.Thinning.{thinned_leads}
+use Rattle.gate_settling.proofs.KeptLemmas.{at_none}
 use Rattle.gate_core.proofs.ruled.settle.Goals as goal
 
 pub returns-in_ok-reply-in-Some-clause-ruled : goal.returns-in_ok-reply-in-Some-clause-ruled

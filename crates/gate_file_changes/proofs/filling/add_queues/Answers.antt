@@ -4,8 +4,8 @@ use Rattle.sqlite.specs.State.{HasCleanDisk}
 use Rattle.sqlite.specs.Held.{state}
 use Rattle.sqlite.proofs.StateLemmas.{survives_then}
 use Rattle.gate_file_changes.specs.Making.{IsFilled, first_queue_rows, with_rows}
-use Rattle.gate_file_changes.proofs.BareLemmas.{kept_then, survives_itself}
 use Rattle.gate_file_changes.proofs.QueueLemmas.{rows_more}
+use Rattle.gate_rows.proofs.ThenLemmas.{kept_then, survives_itself}
 use Rattle.gate_file_changes.proofs.filling.add_queues.Goals as goal
 
 pub loop-place-init : goal.loop-place-init

@@ -3,7 +3,8 @@ use Rattle.sqlite.specs.State.{HasCleanDisk}
 use Rattle.sqlite.specs.Held.{state}
 use Rattle.sqlite.proofs.StateLemmas.{survives_then}
 use Rattle.gate_file_changes.specs.Making.{IsBare}
-use Rattle.gate_file_changes.proofs.BareLemmas.{leads_on, leads_end, kept_then}
+use Rattle.gate_file_changes.proofs.BareLemmas.{leads_on, leads_end}
+use Rattle.gate_rows.proofs.ThenLemmas.{kept_then}
 use Rattle.gate_file_changes.proofs.making.make_all.Goals as goal
 
 pub loop-text-preserved : goal.loop-text-preserved

@@ -1,6 +1,6 @@
 use Rattle.std.proofs.lemmas.Result.{err_from_is_err_and}
 use Rattle.gate_http.specs.Response.{head_text, head_in}
-use Rattle.gate_http.proofs.ResponseLemmas.{writes_later}
+use Rattle.gate_types.proofs.TapLemmas.{writes_later}
 use Rattle.gate_http.proofs.response.write_answer.Goals as goal
 
 pub returns-in_err-write_all-2-clause-err : goal.returns-in_err-write_all-2-clause-err

@@ -1,4 +1,4 @@
-use Rattle.std.proofs.Common.{◌≡◌, ◌∙◌, ◌+◌, true, false, suc, drop, map, refl, ap, sym, arith}
+use Rattle.std.proofs.Common.{◌≡◌, ◌∙◌, ◌+◌, true, false, suc, drop, map, ap, sym, arith}
 use Rattle.std.specs.Prelude.{◌==◌, find, is_some, Bool, Option}
 use Rattle.gate_types.specs.declared.records.Item.{Item}
 use Rattle.gate_book_trait.specs.declared.rows.QueuedItem.{QueuedItem}

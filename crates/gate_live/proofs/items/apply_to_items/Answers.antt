@@ -1,7 +1,6 @@
 use Rattle.std.proofs.Common.{◌∙◌, suc, length, ap, sym, List}
 use Rattle.std.specs.Prelude.{option_map}
 use Rattle.std.specs.Vec.Iter.{into_iter_items}
-use Rattle.gate_types.specs.declared.edits.Edit.{Edit}
 use Rattle.gate_types.specs.declared.records.Plan.{Plan}
 use Rattle.gate_live.specs.Held.{live_of}
 use Rattle.gate_live.specs.HeldBuilds.{HaveBuildRoom, KnownBuilds, fold_held, known_of}

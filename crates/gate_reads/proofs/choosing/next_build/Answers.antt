@@ -1,7 +1,7 @@
 use Rattle.std.proofs.Common.{◌≡◌, ◌∙◌, sym, ap, subst, true}
 use Rattle.gate_types.specs.Settings.{Settings, are_sound}
-use Rattle.gate_reads.proofs.Kept.{then}
 use Rattle.gate_reads.proofs.Queues.{queue_there, choice_here, choice_next}
+use Rattle.gate_book_trait.proofs.KeptLemmas.{then}
 use Rattle.gate_reads.proofs.choosing.next_build.Goals as goal
 
 pub returns-in-Some-clause-found : goal.returns-in-Some-clause-found

@@ -2,9 +2,9 @@ use Rattle.std.proofs.Common.{◌∙◌, ◌+◌, sym, ap, Some}
 use Rattle.std.specs.Prelude.{option_copied, option_map}
 use Rattle.gate_types.specs.Choice.{build_for}
 use Rattle.gate_reads.specs.NextBuild.{with_number}
-use Rattle.gate_reads.proofs.Kept.{then}
 use Rattle.gate_reads.proofs.KnownPlaces.{none_cut, none_waits, first_is, built_is}
 use Rattle.gate_reads.proofs.OwnBuilds.{blocked_none}
+use Rattle.gate_book_trait.proofs.KeptLemmas.{then}
 use Rattle.gate_reads.proofs.due.build_of_item.Goals as goal
 
 pub returns-then-is_cut-clause-found : goal.returns-then-is_cut-clause-found

@@ -1,7 +1,7 @@
 use Rattle.std.proofs.Common.{◌∙◌, sym, ap, subst, rules}
 use Rattle.gate_book_trait.specs.Reads.{first_above}
+use Rattle.gate_book_trait.proofs.KeptLemmas.{then}
 use Rattle.gate_reads.specs.Orders.{order_in, TellsOrder}
-use Rattle.gate_reads.proofs.Kept.{then}
 use Rattle.gate_reads.proofs.Walking.{lawful_front, rows_are}
 use Rattle.gate_reads.proofs.Passing.{Passed, passed_front, passed_next, passed_here, passed_end, at_here, some_queue, tells_here, tells_none}
 use Rattle.gate_reads.proofs.orders.order_of_queue.Goals as goal

@@ -7,10 +7,10 @@ use Rattle.gate_walk.specs.declared.walk.Next.{Next}
 use Rattle.gate_walk.specs.Walk.{Seen, Walk, behind_visit}
 use Rattle.gate_walk.specs.UnderWay.{HasVisited, GoesOn}
 use Rattle.gate_book_trait.specs.Reads.{items_in}
+use Rattle.gate_book_trait.proofs.KeptLemmas.{then}
 use Rattle.gate_reads.specs.declared.touched.TouchedItem.{TouchedItem}
 use Rattle.gate_settling.specs.Touching.{Touching, delivered, sees}
 use Rattle.gate_settling.specs.Rows.{row_for, AreKept}
-use Rattle.gate_settling.proofs.KeptLemmas.{then}
 use Rattle.gate_settling.proofs.NeedingLemmas.{nothing_kept, kept_by_visit, kept_behind}
 use Rattle.gate_settling.proofs.WantedLemmas.{starts_under_way, goes_under_way, further}
 use Rattle.gate_settling.proofs.walking.walked.Goals as goal

@@ -1,9 +1,9 @@
 use Rattle.std.proofs.Common.{◌∙◌, ap}
 use Rattle.std.specs.Prelude.{string_bytes}
-use Rattle.gate_reads.proofs.Kept.{then}
 use Rattle.gate_texts.specs.Listed.{with_entry}
 use Rattle.gate_texts.proofs.Entries.{entries_next}
 use Rattle.gate_texts.proofs.ChangeTexts.{needs_are}
+use Rattle.gate_book_trait.proofs.KeptLemmas.{then}
 use Rattle.gate_texts.proofs.change.needs_text.Goals as goal
 
 pub loop-need-preserved : goal.loop-need-preserved

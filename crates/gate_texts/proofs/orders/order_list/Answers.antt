@@ -1,10 +1,10 @@
 use Rattle.std.proofs.Common.{◌≡◌, ◌∙◌, ap, subst, true, rules}
 use Rattle.std.specs.Prelude.{string_bytes}
 use Rattle.gate_types.specs.Settings.{Settings, are_sound}
-use Rattle.gate_reads.proofs.Kept.{then}
 use Rattle.gate_reads.proofs.Queues.{queue_there}
 use Rattle.gate_texts.proofs.Pieces.{no_queue_left}
 use Rattle.gate_texts.proofs.Listed.{listed_front, listed_next, listed_end}
+use Rattle.gate_book_trait.proofs.KeptLemmas.{then}
 use Rattle.gate_texts.proofs.orders.order_list.Goals as goal
 
 pub loop-queue-init : goal.loop-queue-init

@@ -1,6 +1,6 @@
 use Rattle.std.proofs.Common.{◌∙◌, sym, ap, rules}
 use Rattle.gate_book_trait.specs.Reads.{first_above}
-use Rattle.gate_reads.proofs.Kept.{then}
+use Rattle.gate_book_trait.proofs.KeptLemmas.{then}
 use Rattle.gate_reads.proofs.Walking.{lawful_front, rows_are}
 use Rattle.gate_texts.proofs.RunningBuilds.{along_front, along_next, along_end}
 use Rattle.gate_texts.proofs.running.push_queue.Goals as goal

@@ -1,9 +1,9 @@
 use Rattle.std.proofs.Common.{◌≡◌, ◌∙◌, ap, subst, true}
 use Rattle.gate_types.specs.Settings.{Settings, are_sound}
-use Rattle.gate_reads.proofs.Kept.{then}
 use Rattle.gate_reads.proofs.Queues.{queue_there}
 use Rattle.gate_texts.proofs.Pieces.{no_queue_left}
 use Rattle.gate_texts.proofs.RunningBuilds.{before_next, before_end}
+use Rattle.gate_book_trait.proofs.KeptLemmas.{then}
 use Rattle.gate_texts.proofs.running.running_of.Goals as goal
 
 pub loop-queue-preserved : goal.loop-queue-preserved

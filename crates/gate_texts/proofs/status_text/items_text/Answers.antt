@@ -1,8 +1,8 @@
 use Rattle.std.proofs.Common.{◌++◌, ◌∙◌, sym, ap, subst, rules}
 use Rattle.std.specs.Prelude.{string_bytes}
 use Rattle.gate_book_trait.specs.Reads.{first_above}
+use Rattle.gate_book_trait.proofs.KeptLemmas.{then}
 use Rattle.gate_reads.specs.Places.{IsBehind}
-use Rattle.gate_reads.proofs.Kept.{then}
 use Rattle.gate_reads.proofs.Walking.{lawful_front, rows_are}
 use Rattle.gate_reads.proofs.Trying.{place_next}
 use Rattle.gate_texts.proofs.Shown.{shown_front, shown_end, next_row, behind_next, shown_next}

@@ -1,9 +1,9 @@
 use Rattle.std.proofs.Common.{◌≡◌, ◌++◌, ◌∙◌, ap, subst, true}
 use Rattle.std.specs.Prelude.{string_bytes}
 use Rattle.gate_types.specs.Settings.{Settings, are_sound}
-use Rattle.gate_reads.proofs.Kept.{then}
 use Rattle.gate_reads.proofs.Queues.{queue_there}
 use Rattle.gate_texts.proofs.Pieces.{queue_more}
+use Rattle.gate_book_trait.proofs.KeptLemmas.{then}
 use Rattle.gate_texts.proofs.status_text.queues_text.Goals as goal
 
 pub loop-queue-preserved : goal.loop-queue-preserved

@@ -1,5 +1,6 @@
 use Rattle.std.proofs.Common.{arith, get_or}
-use Rattle.gate_wire.proofs.NumberLemmas.{digit_is, digit_at, value_step}
+use Rattle.gate_wire.proofs.NumberLemmas.{digit_at, value_step}
+use Rattle.gate_types.proofs.DigitLemmas.{digit_is}
 use Rattle.gate_wire.proofs.footers.value_of.Goals as goal
 
 pub overflow_mul-value : goal.overflow_mul-value

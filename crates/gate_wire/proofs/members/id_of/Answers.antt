@@ -1,6 +1,6 @@
 use Rattle.std.proofs.Common.{ap, rules, Ok}
 use Rattle.gate_wire.specs.Reading.{id_at, or_bad, ◌>>=◌}
-use Rattle.gate_wire.proofs.ReadingLemmas.{none_unless}
+use Rattle.gate_types.proofs.PlainLemmas.{none_unless}
 use Rattle.gate_wire.proofs.members.id_of.Goals as goal
 
 pub returns-in-Err : goal.returns-in-Err

@@ -1,4 +1,4 @@
-use Rattle.std.proofs.Common.{◌≡◌, ◌≤◌, length, sym, arith}
+use Rattle.std.proofs.Common.{◌≤◌, length, arith}
 use Rattle.gate_live.specs.HeldChanges.{rows_put, needs_of_rows}
 use Rattle.gate_live.proofs.ChangeEditLemmas.{rows_fewer, needs_same, room_fewer}
 use Rattle.gate_live.proofs.held_changes.HeldChanges.make_room.Goals as goal

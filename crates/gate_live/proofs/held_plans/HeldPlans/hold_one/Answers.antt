@@ -1,4 +1,4 @@
-use Rattle.std.proofs.Common.{◌≡◌, ◌∙◌, Some, List, ap, sym, subst}
+use Rattle.std.proofs.Common.{◌∙◌, List, sym, subst}
 use Rattle.gate_types.specs.State.{put_by}
 use Rattle.gate_types.specs.declared.records.Plan.{Plan}
 use Rattle.gate_memory.specs.Plans.{serial_of}

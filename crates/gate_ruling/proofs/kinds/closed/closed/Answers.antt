@@ -11,7 +11,8 @@ use Rattle.gate_reads.specs.Touches.{Touches}
 use Rattle.gate_ruling.specs.Guards.{IsLatest}
 use Rattle.gate_ruling.proofs.Guarded.{unless_closed, past_or_closed, closed_stale}
 use Rattle.gate_ruling.proofs.GivenUp.{given_up, queued_by}
-use Rattle.gate_ruling.proofs.Closed.{closed_state, closing, closed_raw, shown_raw, closed_acts, closed_is}
+use Rattle.gate_ruling.proofs.Closed.{closing, closed_raw, shown_raw, closed_acts, closed_is}
+use Rattle.gate_laws.proofs.EachAccepted.{closed_state}
 use Rattle.gate_ruling.proofs.kinds.closed.closed.Goals as goal
 
 pub returns-clause-raw : goal.returns-clause-raw

@@ -1,8 +1,8 @@
 use Rattle.std.proofs.Common.{◌≡◌, ◌∙◌, ◌++◌, [], ◌∷◌, List, ℕ, take, sym, ap, rules}
 use Rattle.std.proofs.lemmas.List.{take_more}
 use Rattle.gate_book_trait.specs.Reads.{items_in, items_needing}
+use Rattle.gate_book_trait.proofs.KeptLemmas.{then}
 use Rattle.gate_settling.specs.Rows.{needing_any, merged}
-use Rattle.gate_settling.proofs.KeptLemmas.{then}
 use Rattle.gate_settling.proofs.NeedingLemmas.{needing_more, kept_above}
 use Rattle.gate_settling.proofs.WantedLemmas.{items_in_rise}
 use Rattle.gate_settling.proofs.needing.Needing.ask.Goals as goal

@@ -1,4 +1,4 @@
--- Calls that only read, one after another.
+-- Calls that keep what a book holds, one after another.
 use Rattle.gate_book_trait.specs.Kept.{IsKept}
 
 pub then : {B : Type 0} → {trusted : B → Type 0} → {holds : _} → {leaves : _} → {a b d : B} →
