@@ -1,5 +1,5 @@
 -- What calls leave of a book.
-use Rattle.std.specs.Prelude.{◌≢◌, ◌<◌, List, [], ◌∷◌, ◌++◌, length, Result, OnOk, OnErr, IfErr}
+use Rattle.std.specs.Prelude.{◌≢◌, ◌<◌, List, [], ◌∷◌, ◌++◌, length, Result, OnOk, IfErr}
 use Rattle.gate_types.specs.Settings.{Settings}
 use Rattle.gate_types.specs.Once.{Content}
 use Rattle.gate_types.specs.Forms.{IsLawfulContent}
@@ -27,13 +27,12 @@ pub record IsKept {B : Type 0} (trusted : B → Type 0) (holds : B → Settings 
   pub leaves_on : trusted new → (c : Settings) (x : Content) → holds old c x →
       (ys : List Content) → leaves old c ys → leaves new c ys
 
--- after edits that lead from x to y, the book holds y, or x after a fault; a crash then leaves y, or what it could
--- leave before, or y
+-- after edits that lead from x to y, the book holds y, unless there was a fault; a crash then leaves y, after a fault
+-- what it could leave before, or y
 pub record IsApplied {B : Type 0} (holds : B → Settings → Content → Type 0)
     (leaves : B → Settings → List Content → Type 0) (old new : B) (c : Settings) (x : Content) (edits : List Edit)
     (y : Content) (result : Result (Unit {0}) BookFault) : Type 0 where
   pub ok : OnOk result (holds new c y)
-  pub err : OnErr result (holds new c x)
   pub undamaged : IfErr result (λ f. f ≢ fault.Damaged)
   pub settled : OnOk result (0 < length edits → leaves new c (y ∷ []))
   pub crash : (ys : List Content) → leaves old c ys → leaves new c (ys ++ y ∷ [])

@@ -12,7 +12,7 @@ use std::io::Write;
 /// A book holds a content: the state of a gate, and what is kept of its deliveries. It is asked by
 /// key, and changed by edits, all or none. After a fault it holds what it held.
 pub trait Book {
-    ghost use Rattle.std.specs.Prelude.{◌≡◌, ◌<◌, false, [], ◌∷◌, ◌++◌, List, IfOk, IfErr, IfSome};
+    ghost use Rattle.std.specs.Prelude.{◌≡◌, ◌<◌, false, [], ◌∷◌, ◌++◌, List, IfOk, IfErr, IfSome, OnErr};
     ghost use Rattle.gate_types.specs.Settings.{Settings};
     ghost use Rattle.gate_types.specs.State.{known_change};
     ghost use Rattle.gate_types.specs.Step.{build_of};
@@ -235,10 +235,11 @@ pub trait Book {
         ensures stops { Stops w.old w.new result }
         ensures kept { IsKept IsTrusted Holds LeavesOneOf self.old self.new };
 
-    /// All edits or none, where they lead from the content that is held to a lawful one.
+    /// All edits or none: all if they lead from the content that is held to a lawful one, none after a fault.
     fn apply(&mut self, edits: &[Edit]) -> Result<(), BookFault>
         ensures applied { OfHeld IsTrusted Holds self.old self.new (λ c x. (y : Content) → IsLawfulContent c y →
             Leads c x edits.now y → IsApplied Holds LeavesOneOf self.old self.new c x edits.now y result) }
+        ensures unchanged { OfHeld IsTrusted Holds self.old self.new (λ c x. OnErr result (Holds self.new c x)) }
         ensures trusted { IsTrusted self.new → IsTrusted self.old }
         ensures fault { IfErr result MayFault };
 

@@ -217,17 +217,15 @@ one_of_last db c (x ∷ xs) y h = inr (one_of_last db c xs y h)
 -- a book holds what its connection shows, and leaves what a crash of that leaves
 pub applied : {B : Type 0} (at : B → State) (names : B → List (List ℕ)) (old new : B) (edits : List Edit) (result : Result (Unit {0}) BookFault) → names new ≡ names old
     → OfLawful (at old) (at new) (names old) edits (λ c y. OnOk result (ShowsFor (at new) c y))
-    → (HasCleanDisk (at new) → (c : Settings) (x : Content) → ShowsFor (at old) c x → OnErr result (ShowsFor (at new) c x))
     → OfLawful (at old) (at new) (names old) edits (λ c y. OnOk result (Settles edits (at new) c y))
     → OfLawful (at old) (at new) (names old) edits (λ c y. LeavesOrStands (at old) (at new) c y)
     → IfErr result (λ f. f ≢ fault.Damaged)
     → HasCleanDisk (at new) → (c : Settings) (x y : Content) → HoldsFor (at old) (names old) c x → IsLawfulContent c x → Leads c x edits y
     → IsApplied (λ b. HoldsFor (at b) (names b)) (λ b c ys. (db : Trees) → (at b).may_leave db → StandsForOne db c ys) old new c x edits y result
-applied at names old new edits result same ok err settled crash undamaged clean c x y held lawful leads =
+applied at names old new edits result same ok settled crash undamaged clean c x y held lawful leads =
     let keep : (z : Content) → ShowsFor (at new) c z → HoldsFor (at new) (names new) c z = λ z shows. record { sound = held.sound; names_are = same ∙ held.names_are; shows = shows } in
     record {
       ok = on_ok_weaker result (keep y) (ok clean c x y held.names_are held.shows lawful leads);
-      err = on_err_weaker result (keep x) (err clean c x held.shows);
       undamaged = undamaged;
       settled = on_ok_weaker result (λ stands some db may. inl (stands some db may)) (settled clean c x y held.names_are held.shows lawful leads);
       crash = λ ys was db may. elim (crash clean c x y held.names_are held.shows lawful leads db may) [
@@ -235,3 +233,10 @@ applied at names old new edits result same ok err settled crash undamaged clean 
         | inr stands ↦ one_of_last db c ys y stands
       ];
     }
+
+-- after a fault it holds what it held
+pub unchanged : {B : Type 0} (at : B → State) (names : B → List (List ℕ)) (old new : B) (result : Result (Unit {0}) BookFault) → names new ≡ names old
+    → (HasCleanDisk (at new) → (c : Settings) (x : Content) → ShowsFor (at old) c x → OnErr result (ShowsFor (at new) c x))
+    → HasCleanDisk (at new) → (c : Settings) (x : Content) → HoldsFor (at old) (names old) c x → OnErr result (HoldsFor (at new) (names new) c x)
+unchanged at names old new result same err clean c x held =
+    on_err_weaker result (λ shows. record { sound = held.sound; names_are = same ∙ held.names_are; shows = shows }) (err clean c x held.shows)

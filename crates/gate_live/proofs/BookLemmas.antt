@@ -21,19 +21,17 @@ use Rattle.gate_live.specs.declared.live_book.LiveBook.{LiveBook}
 -- what edits make of the book below they make of one that holds what is live of the content that then is
 pub applied_over : {B : Type 0} {holds : B → Settings → Content → Type 0} {leaves : B → Settings → List Content → Type 0}
     (c : Settings) (x y : Content) (edits : List Edit) (old new : LiveBook B) (result : Result (Unit {0}) BookFault) →
-    OnOk result (Agrees new.live c y) → OnErr result (Agrees new.live c x) →
+    OnOk result (Agrees new.live c y) →
     IsApplied holds leaves old.book new.book c x edits y result →
     IsApplied (λ r k z. HoldsBoth holds r k z) (λ r k zs. leaves r.book k zs) old new c x edits y result
-applied_over c x y edits old new (Ok done) after still below = record {
+applied_over c x y edits old new (Ok done) after below = record {
   ok = record { below = below.ok; agrees = λ lawful. after };
-  err = tt;
   undamaged = below.undamaged;
   settled = below.settled;
   crash = below.crash;
 }
-applied_over c x y edits old new (Err f) after still below = record {
+applied_over c x y edits old new (Err f) after below = record {
   ok = tt;
-  err = record { below = below.err; agrees = λ lawful. still };
   undamaged = below.undamaged;
   settled = below.settled;
   crash = below.crash;
@@ -65,19 +63,31 @@ within_form d e =
 -- edits made in both, or in none, and what came of them told
 pub applied_told : {B : Type 0} {holds : B → Settings → Content → Type 0} {leaves : B → Settings → List Content → Type 0}
     (c : Settings) (x y : Content) (edits : List Edit) (old new : LiveBook B) (between : Parts) (applied told : Result (Unit {0}) BookFault) → told ≡ applied →
-    ((z : Content) → Agrees between c z → Agrees new.live c z) → OnOk applied (Agrees between c y) → OnErr applied (between ≡ old.live) →
-    Agrees old.live c x → IsApplied holds leaves old.book new.book c x edits y applied →
+    ((z : Content) → Agrees between c z → Agrees new.live c z) → OnOk applied (Agrees between c y) →
+    IsApplied holds leaves old.book new.book c x edits y applied →
     IsApplied (λ r k z. HoldsBoth holds r k z) (λ r k zs. leaves r.book k zs) old new c x edits y told
-applied_told {B} {holds} {leaves} c x y edits old new between applied told as_it_is still edited same agrees below =
+applied_told {B} {holds} {leaves} c x y edits old new between applied told as_it_is still edited below =
     subst (IsApplied (λ r k z. HoldsBoth holds r k z) (λ r k zs. leaves r.book k zs) old new c x edits y) (sym as_it_is)
-    (applied_over c x y edits old new applied (after applied edited) (before applied same) below)
+    (applied_over c x y edits old new applied (after applied edited) below)
   where
     after : (r : Result (Unit {0}) BookFault) → OnOk r (Agrees between c y) → OnOk r (Agrees new.live c y)
     after (Ok done) h = still y h
     after (Err f) h = tt
 
-    before : (r : Result (Unit {0}) BookFault) → OnErr r (between ≡ old.live) → OnErr r (Agrees new.live c x)
-    before (Ok done) h = tt
-    before (Err f) h = still x (subst (λ p. Agrees p c x) (sym h) agrees)
+-- after a fault of the book below, which is told, both hold what they held
+pub unchanged_told : {B : Type 0} (holds : B → Settings → Content → Type 0) (c : Settings) (x : Content) (old new : LiveBook B)
+    (between : Parts) (applied told : Result (Unit {0}) BookFault) → told ≡ applied →
+    ((z : Content) → Agrees between c z → Agrees new.live c z) → OnErr applied (between ≡ old.live) → Agrees old.live c x →
+    OnErr applied (holds new.book c x) → OnErr told (HoldsBoth holds new c x)
+unchanged_told holds c x old new between applied told as_it_is still same agrees below =
+    subst (λ r. OnErr r (HoldsBoth holds new c x)) (sym as_it_is) (both applied same below)
+  where
+    both : (r : Result (Unit {0}) BookFault) → OnErr r (between ≡ old.live) → OnErr r (holds new.book c x) →
+        OnErr r (HoldsBoth holds new c x)
+    both (Ok done) h below = tt
+    both (Err f) h below = record {
+      below = below;
+      agrees = λ lawful. still x (subst (λ p. Agrees p c x) (sym h) agrees);
+    }
 
 -- ---- reads

@@ -67,6 +67,7 @@ fn apply_to_both<B: Book>(book: &mut B, held: &mut Held, edits: &[Edit]) -> Resu
     requires { AreKept held.old }
     ensures applied { OfHeld B.IsTrusted B.Holds book.old book.new (λ c x. (y : Content) → IsLawfulContent c y →
         Leads c x edits.now y → IsApplied B.Holds B.LeavesOneOf book.old book.new c x edits.now y result) }
+    ensures unchanged { OfHeld B.IsTrusted B.Holds book.old book.new (λ c x. OnErr result (B.Holds book.new c x)) }
     ensures trusted { B.IsTrusted book.new → B.IsTrusted book.old }
     ensures fault { IfErr result (MayAnswer B.MayFault) }
     ensures edited { OnOk result (live_of held.new ≡ fold_live (live_of held.old) edits.now) }
@@ -85,6 +86,7 @@ fn apply_to<B: Book>(book: &mut B, held: &mut Option<Held>, edits: &[Edit]) -> R
     requires { IfSome held.old AreKept }
     ensures applied { OfHeld B.IsTrusted B.Holds book.old book.new (λ c x. (y : Content) → IsLawfulContent c y →
         Leads c x edits.now y → IsApplied B.Holds B.LeavesOneOf book.old book.new c x edits.now y result) }
+    ensures unchanged { OfHeld B.IsTrusted B.Holds book.old book.new (λ c x. OnErr result (B.Holds book.new c x)) }
     ensures trusted { B.IsTrusted book.new → B.IsTrusted book.old }
     ensures fault { IfErr result (MayAnswer B.MayFault) }
     ensures edited { OnOk result (option_map live_of held.new
@@ -134,6 +136,7 @@ impl Live {
     ) -> Result<(), BookFault>
         ensures applied { OfHeld B.IsTrusted B.Holds book.old book.new (λ c x. (y : Content) → IsLawfulContent c y →
             Leads c x edits.now y → IsApplied B.Holds B.LeavesOneOf book.old book.new c x edits.now y result) }
+        ensures unchanged { OfHeld B.IsTrusted B.Holds book.old book.new (λ c x. OnErr result (B.Holds book.new c x)) }
         ensures trusted { B.IsTrusted book.new → B.IsTrusted book.old }
         ensures fault { IfErr result (MayAnswer B.MayFault) }
         ensures edited { (c : Settings) (x y : Content) → IsLawfulContent c x → Agrees self.old c x →

@@ -14,7 +14,7 @@ returns-in_err-apply-clause-err g c trusted s x holds lawful u next leads =
     let y = kept_on x u c.args.id c.args.said c.args.reply.now in
     let all : Leads s x c.deref.result.now y = subst (λ es. Leads s x es y) same moved in
     on_err c.from_residual-in_err-apply.result (record {
-      content = (c.in_err-apply.ensures.applied trusted s x holds lawful y next all).err;
+      content = c.in_err-apply.ensures.unchanged trusted s x holds lawful;
       crash = (c.apply.ensures.applied trusted s x holds lawful y next all).crash;
     })
 

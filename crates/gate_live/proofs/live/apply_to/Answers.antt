@@ -5,3 +5,8 @@ pub returns-in_err-apply-in-None-clause-applied : goal.returns-in_err-apply-in-N
 returns-in_err-apply-in-None-clause-applied g c trusted k x holds lawful y after leads =
     let p = err_from_is_err_and c.from_residual.result c.from_residual.ensures.1 in
     rw (p.1, p.2) (c.in_err-apply-in-None.ensures.applied trusted k x holds lawful y after leads)
+
+pub returns-in_err-apply-in-None-clause-unchanged : goal.returns-in_err-apply-in-None-clause-unchanged
+returns-in_err-apply-in-None-clause-unchanged g c trusted k x holds lawful =
+    let p = err_from_is_err_and c.from_residual.result c.from_residual.ensures.1 in
+    rw (p.1, p.2) (c.in_err-apply-in-None.ensures.unchanged trusted k x holds lawful)

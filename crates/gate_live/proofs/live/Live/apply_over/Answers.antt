@@ -35,3 +35,8 @@ pub returns-in_err-apply_to-clause-applied : goal.returns-in_err-apply_to-clause
 returns-in_err-apply_to-clause-applied g c trusted k x holds lawful y after leads =
     let p = err_from_is_err_and c.from_residual-in_err-apply_to.result c.from_residual-in_err-apply_to.ensures.1 in
     rw (p.1, p.2) (c.in_err-apply_to.ensures.applied trusted k x holds lawful y after leads)
+
+pub returns-in_err-apply_to-clause-unchanged : goal.returns-in_err-apply_to-clause-unchanged
+returns-in_err-apply_to-clause-unchanged g c trusted k x holds lawful =
+    let p = err_from_is_err_and c.from_residual-in_err-apply_to.result c.from_residual-in_err-apply_to.ensures.1 in
+    rw (p.1, p.2) (c.in_err-apply_to.ensures.unchanged trusted k x holds lawful)
