@@ -1,5 +1,5 @@
 //! A gate's file of schema 1 made one of schema 2.
-ghost use Rattle.std.specs.Prelude.{◌≡◌, ◌≢◌, map, IfErr, IsTrue, MatchResult, OnOk};
+ghost use Rattle.std.specs.Prelude.{◌≡◌, ◌≢◌, false, map, IfErr, IsTrue, MatchResult, OnOk};
 ghost use Rattle.sqlite.specs.Held.{state};
 ghost use Rattle.sqlite.specs.State.{HasCleanDisk, IsUnchanged};
 ghost use Rattle.sqlite.specs.Tree.{Trees};
@@ -89,6 +89,7 @@ fn standing_in<S: Alter>(conn: &mut Connection<S>, settings: &str) -> Result<boo
     ensures same { HasCleanDisk (state S.Store conn.new) →
         OnOk result (IsUnchanged (state S.Store conn.old) (state S.Store conn.new)) }
     ensures stays { HasCleanDisk (state S.Store conn.new) → Stays (state S.Store conn.old) (state S.Store conn.new) }
+    ensures mode { OnOk result (conn.new.in_transaction ≡ false) }
     ensures crash { LeavesNothing (state S.Store conn.old) (state S.Store conn.new) }
     ensures clean { HasCleanDisk (state S.Store conn.new) → HasCleanDisk (state S.Store conn.old) }
 {
@@ -112,6 +113,7 @@ fn carry_out<S: Alter>(
         Carries (state S.Store conn.old) (state S.Store conn.new) config.now x result }
     ensures answer { MatchResult result (λ m. m ≡ Migrated.Done) (λ f. f ≡ OpenFault.Unavailable) }
     ensures settled { HasCleanDisk (state S.Store conn.new) → OnOk result (IsSettled (state S.Store conn.new)) }
+    ensures mode { OnOk result (conn.new.in_transaction ≡ false) }
     ensures crash { HasCleanDisk (state S.Store conn.new) → IsTrue (state S.Store conn.old).is_open → (x : Content) →
         CanMigrate (state S.Store conn.old) config.now x →
         LeavesOrStands (state S.Store conn.old) (state S.Store conn.new) config.now
@@ -193,7 +195,8 @@ pub fn migrate<S: Alter>(
     ensures unread { HasCleanDisk (state S.Store conn.new) → HasNoMeta (state S.Store conn.old).now.schema →
         IsUnread (met result) }
     ensures refused { HasCleanDisk (state S.Store conn.new) → IfErr result (λ f. f ≢ OpenFault.Unavailable →
-        Stays (state S.Store conn.old) (state S.Store conn.new)) }
+        IsLeft (state S.Store conn.old) (state S.Store conn.new)) }
+    ensures mode { OnOk result (conn.new.in_transaction ≡ false) }
     ensures none { HasCleanDisk (state S.Store conn.new) →
         HasNoneToMigrate (state S.Store conn.old).now config.now →
         IsLeft (state S.Store conn.old) (state S.Store conn.new) }

@@ -135,6 +135,7 @@ pub(crate) fn upgrade_if_open<S: Alter>(
     ensures crash { HasCleanDisk (state S.Store conn.new) → (b : _) (t : _) →
         (IsTrue (state S.Store conn.old).is_open → CanUpgrade (state S.Store conn.old) b edits.now t) → (db : Trees) →
         (state S.Store conn.new).may_leave db → (state S.Store conn.old).may_leave db ⊎ HasUpgraded db b edits.now t }
+    ensures mode { OnOk result (conn.new.in_transaction ≡ false) }
     ensures clean { HasCleanDisk (state S.Store conn.new) → HasCleanDisk (state S.Store conn.old) }
 {
     check_open(conn)?;

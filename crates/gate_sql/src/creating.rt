@@ -12,6 +12,7 @@ ghost use Rattle.gate_found_rows.specs.Reads.{IsShown};
 ghost use Rattle.gate_sql.specs.Handed.{answered, handed};
 ghost use Rattle.gate_content_reads.specs.Held.{HoldsFor};
 ghost use Rattle.gate_sql.specs.Handed.{names_of};
+ghost use Rattle.gate_sql.specs.Refused.{IsRefused};
 ghost use Rattle.gate_file_changes.specs.Making.{IsSettled, first_stored, first_queue_rows};
 ghost use Rattle.gate_file_meta.specs.Opens.{IsMade, is_taken};
 
@@ -86,7 +87,7 @@ impl<S: Alter> SqlBook<S> {
             IfOk result (λ book. HasCleanDisk (state S.Store book.conn) →
             HoldsFor (state S.Store book.conn) (names_of book) config.now (empty config.now)) }
         ensures none { IfErr result (λ e. HasCleanDisk (state S.Store e.1) →
-            Stays (state S.Store conn) (state S.Store e.1)) }
+            IsRefused (state S.Store conn) (state S.Store e.1) e.0) }
         ensures crash { (state S.Store conn).now.schema ≡ schema_with 0 0 →
             Survives (state S.Store conn) (handed S.Store result)
             (λ db. StandsFor db config.now (empty config.now)) }

@@ -10,10 +10,10 @@ ghost use Rattle.gate_types.specs.Settings.{Settings};
 ghost use Rattle.gate_rows.specs.Tells.{StandsFor};
 ghost use Rattle.gate_rows.specs.Writes.{LeavesNothing};
 ghost use Rattle.gate_schema.specs.Schema.{gate_schema};
-ghost use Rattle.gate_found_rows.specs.Finds.{Stays};
 ghost use Rattle.gate_sql.specs.Handed.{answered, handed};
 ghost use Rattle.gate_content_reads.specs.Held.{HoldsFor};
 ghost use Rattle.gate_sql.specs.Handed.{names_of};
+ghost use Rattle.gate_sql.specs.Refused.{IsRefused};
 ghost use Rattle.gate_file_meta.specs.Opens.{IsJudged, IsMeta, with_meta};
 ghost use Rattle.gate_file_changes.specs.Adopts.{IsKept};
 ghost use Rattle.gate_file_meta.specs.Reading.{HasNoMeta, HasNoneToAdopt, HoldsMeta, IsTold, IsUnread, ShowsMeta};
@@ -75,8 +75,8 @@ impl<S: Alter> SqlBook<S> {
             IsTold (answered result) (HoldsMeta (state S.Store conn).now.trees) config.now }
         ensures unread { HasNoMeta (state S.Store conn).now.schema → HasCleanDisk (handed S.Store result) →
             IsUnread (answered result) }
-        ensures none { IfErr result (λ e.
-            HasCleanDisk (state S.Store e.1) → Stays (state S.Store conn) (state S.Store e.1)) }
+        ensures none { IfErr result (λ e. HasCleanDisk (state S.Store e.1) →
+            IsRefused (state S.Store conn) (state S.Store e.1) e.0) }
         ensures lasts { IfOk result (λ book. HasCleanDisk (state S.Store book.conn) → (db : Trees) →
             S.Store.recovers book.conn.store db → db ≡ (state S.Store book.conn).now.trees) }
         ensures crash { HasNoneToAdopt (state S.Store conn).now config.now → HasCleanDisk (handed S.Store result) →

@@ -1,8 +1,8 @@
 //! The gate over a file.
 ghost use Rattle.std.specs.Prelude.{◌≡◌, ◌≢◌, ℕ, Bool, List, Option, None, true, false, length, map};
-ghost use Rattle.std.specs.Prelude.{OnOk, OnErr, IfErr, IfSome, IsErrOf, IsTrue, MatchResult};
+ghost use Rattle.std.specs.Prelude.{OnOk, IfErr, IfSome, IsErrOf, IsTrue, MatchResult};
 ghost use Rattle.sqlite.specs.Held.{state};
-ghost use Rattle.sqlite.specs.State.{HasCleanDisk};
+ghost use Rattle.sqlite.specs.State.{HasCleanDisk, Survives};
 ghost use Rattle.sqlite.specs.Tree.{Trees};
 ghost use Rattle.gate_types.specs.Migrate.{migrated_content};
 ghost use Rattle.gate_types.specs.Once.{Content, empty};
@@ -18,6 +18,7 @@ ghost use Rattle.gate_file_changes.specs.Applies.{LeavesOrStands};
 ghost use Rattle.gate_content_reads.specs.Held.{HoldsFor, IsShownFor, ShowsFor, queue_names};
 ghost use Rattle.gate_live.specs.Both.{HoldsBoth};
 ghost use Rattle.gate_migration.specs.Migrates.{HasNoneToMigrate, IsLeft};
+ghost use Rattle.gate_sql.specs.Refused.{IsRefused};
 ghost use Rattle.gate_file_meta.specs.Opens.{IsJudged, IsMade, IsMeta, is_taken, with_meta};
 ghost use Rattle.gate_migration.specs.Standing.{IsMigrated, is_newly_taken};
 ghost use Rattle.gate_migration.specs.Upgrade.{StandsForFirst};
@@ -54,8 +55,13 @@ pub fn make<S: Alter + Drop>(
     ensures faults { IsMade (file_fault result.1) (is_taken (state S.Store conn).now.schema) conn.in_transaction }
     ensures made { (state S.Store conn).now.schema ≡ schema_with 0 0 → HasCleanDisk (state S.Store result.0) →
         OnOk result.1 (ShowsFor (state S.Store result.0) config.now (empty config.now)) }
+    ensures settled { (state S.Store conn).now.schema ≡ schema_with 0 0 → HasCleanDisk (state S.Store result.0) →
+        OnOk result.1 ((db : Trees) → S.Store.recovers result.0.store db → StandsFor db config.now (empty config.now)) }
     ensures none { HasCleanDisk (state S.Store result.0) →
-        OnErr result.1 (Stays (state S.Store conn) (state S.Store result.0)) }
+        IfSome (file_fault result.1) (IsRefused (state S.Store conn) (state S.Store result.0)) }
+    ensures mode { OnOk result.1 (result.0.in_transaction ≡ false) }
+    ensures crash { (state S.Store conn).now.schema ≡ schema_with 0 0 →
+        Survives (state S.Store conn) (state S.Store result.0) (λ db. StandsFor db config.now (empty config.now)) }
     ensures fault { IfErr result.1 IsOfFile }
 {
     match SqlBook::create(alloc, conn, config) {
@@ -91,7 +97,8 @@ pub fn migrate<S: Alter + Drop>(
         IsMigrated (file_answer result.1) (is_newly_taken (state S.Store conn).now.schema) version kept config.now }
     ensures refused { HasCleanDisk (state S.Store result.0) →
         IfErr result.1 (λ f. f ≢ Fault.File OpenFault.Unavailable →
-        Stays (state S.Store conn) (state S.Store result.0)) }
+        IsLeft (state S.Store conn) (state S.Store result.0)) }
+    ensures mode { OnOk result.1 (result.0.in_transaction ≡ false) }
     ensures none { HasCleanDisk (state S.Store result.0) →
         HasNoneToMigrate (state S.Store conn).now config.now →
         IsLeft (state S.Store conn) (state S.Store result.0) }
@@ -166,7 +173,7 @@ pub fn deliver<S: Alter + Drop, R: Read, W: Write>(
         IsMeta (state S.Store conn).now.trees version kept → HasCleanDisk (state S.Store result.0) →
         IsJudged (file_fault result.1) version kept config }
     ensures none { HasCleanDisk (state S.Store result.0) →
-        IfSome (file_fault result.1) (λ _. Stays (state S.Store conn) (state S.Store result.0)) }
+        IfSome (file_fault result.1) (IsRefused (state S.Store conn) (state S.Store result.0)) }
     ensures fault { IfErr result.1 (λ f. f ≢ Fault.Read → f ≢ Fault.Write →
         IsOfFile f × (input.new ≡ input.old) × (output.new ≡ output.old)) }
     ensures unfailed { OnOk result.1 (has_failed output.new ≡ false) }
@@ -207,7 +214,7 @@ pub fn status<S: Alter + Drop, W: Write>(
         IsMeta (state S.Store conn).now.trees version kept → HasCleanDisk (state S.Store result.0) →
         IsJudged (file_fault result.1) version kept config }
     ensures none { HasCleanDisk (state S.Store result.0) →
-        IfSome (file_fault result.1) (λ _. Stays (state S.Store conn) (state S.Store result.0)) }
+        IfSome (file_fault result.1) (IsRefused (state S.Store conn) (state S.Store result.0)) }
     ensures ok { OnOk result.1 ((has_failed output.new ≡ false)
         × (text : List ℕ) × Took W.contents output.old output.new text) }
     ensures err { IfErr result.1 (StopsStatus W.contents output.old output.new) }
@@ -240,7 +247,7 @@ pub fn history<S: Alter + Drop, W: Write>(
         IsMeta (state S.Store conn).now.trees version kept → HasCleanDisk (state S.Store result.0) →
         IsJudged (file_fault result.1) version kept config }
     ensures none { HasCleanDisk (state S.Store result.0) →
-        IfSome (file_fault result.1) (λ _. Stays (state S.Store conn) (state S.Store result.0)) }
+        IfSome (file_fault result.1) (IsRefused (state S.Store conn) (state S.Store result.0)) }
     ensures ok { OnOk result.1 (has_failed output.new ≡ false) }
     ensures err { IfErr result.1 (StopsHistory output.old output.new) }
 {
@@ -276,7 +283,7 @@ pub fn serve<M: Net + AllocGlobal, S: Alter + Drop, W: Write, E: Write>(
         IsMeta (state S.Store conn).now.trees version kept → HasCleanDisk (state S.Store result.0) →
         IsJudged (file_fault result.1) version kept config }
     ensures none { HasCleanDisk (state S.Store result.0) →
-        IfSome (file_fault result.1) (λ _. Stays (state S.Store conn) (state S.Store result.0)) }
+        IfSome (file_fault result.1) (IsRefused (state S.Store conn) (state S.Store result.0)) }
     ensures told { TellsUpTo E.contents count errors.old errors.new }
     ensures ok { OnOk result.1 ((left : Option (List ℕ)) → (failed : Bool) → Announces port
         (beside W.contents left failed output.old) (beside W.contents left failed output.new)) }

@@ -210,3 +210,11 @@ returns-in-Ok-true-clause-none g c clean nothing =
     let old = state g.S.Store c.args.conn.now in
     let standing = subst (IsStandingOf (Ok c.in-Ok-true.field-0) (ShowsMeta old.now)) text (c.in-Ok-true.ensures.told (c.carry_out.ensures.clean clean)) in
     absurd (some_to_migrate old.now c.args.config.now c.in-Ok-true.field-0 c.in-Ok-true.field-0-test (sym taken ∙ c.if-taken.false) standing nothing)
+
+pub returns-then-taken-clause-refused : goal.returns-then-taken-clause-refused
+returns-then-taken-clause-refused g c clean other =
+    record { stays = c.standing_in.ensures.stays clean; crash = c.standing_in.ensures.crash }
+
+pub returns-clause-refused : goal.returns-clause-refused
+returns-clause-refused g c clean other =
+    record { stays = c.standing_in.ensures.stays clean; crash = c.standing_in.ensures.crash }

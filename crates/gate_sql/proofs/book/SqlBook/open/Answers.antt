@@ -276,7 +276,10 @@ pub returns-in-Ok-Some-clause-none : goal.returns-in-Ok-Some-clause-none
 returns-in-Ok-Some-clause-none g c clean =
     let mid = state g.S.Store c.kept_in.new.conn in
     let early : HasCleanDisk mid = c.adopt.ensures.clean clean in
-    stays_then (state g.S.Store c.args.conn) mid (state g.S.Store c.adopt.new.conn) (c.kept_in.ensures.stays early) (c.in-Err-adopt.ensures.none clean)
+    record {
+      stays = stays_then (state g.S.Store c.args.conn) mid (state g.S.Store c.adopt.new.conn) (c.kept_in.ensures.stays early) (c.in-Err-adopt.ensures.none clean);
+      untouched = λ other. absurd (other c.in-Err-adopt.ensures.fault);
+    }
 
 pub returns-in-Ok-Some-clause-crash : goal.returns-in-Ok-Some-clause-crash
 returns-in-Ok-Some-clause-crash g c none clean =
@@ -344,7 +347,7 @@ returns-clause-held g c tables indexes views has clean =
 
 pub returns-clause-none : goal.returns-clause-none
 returns-clause-none g c clean =
-    c.kept_in.ensures.stays clean
+    record { stays = c.kept_in.ensures.stays clean; untouched = λ other. c.kept_in.ensures.crash }
 
 pub returns-clause-crash : goal.returns-clause-crash
 returns-clause-crash g c none clean =

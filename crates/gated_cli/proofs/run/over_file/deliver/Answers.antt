@@ -6,7 +6,7 @@ use Rattle.gate_core.proofs.ReplyLemmas.{goes_nowhere}
 use Rattle.gate_core.specs.Gated.{Gated}
 use Rattle.gate_core.specs.Lines.{lines_of, whole_lines}
 use Rattle.gate_core.specs.Replies.{Cut, Replayed}
-use Rattle.gate_found_rows.specs.Finds.{Stays}
+use Rattle.gate_sql.specs.Refused.{IsRefused}
 use Rattle.gate_content_reads.specs.Held.{HoldsFor}
 use Rattle.gate_live.specs.Both.{HoldsBoth}
 use Rattle.gate_file_meta.specs.Opens.{IsJudged}
@@ -50,7 +50,7 @@ returns-in-Err-done-clause-judged g c tables indexes views version kept schema m
 
 pub returns-in-Err-done-clause-none : goal.returns-in-Err-done-clause-none
 returns-in-Err-done-clause-none g c clean =
-    subst (λ f. IfSome f (λ _. Stays (state g.S.Store c.args.conn) (state g.S.Store c.into_conn-conn.result)))
+    subst (λ f. IfSome f (IsRefused (state g.S.Store c.args.conn) (state g.S.Store c.into_conn-conn.result)))
     (sym (no_replay_fault c.in-Err-done.fault c.from.result c.from.ensures)) tt
 
 pub returns-in-Err-done-clause-read : goal.returns-in-Err-done-clause-read

@@ -3,7 +3,7 @@ use Rattle.std.specs.Prelude.{IfSome}
 use Rattle.sqlite.specs.Held.{state}
 use Rattle.sqlite.specs.State.{HasCleanDisk}
 use Rattle.gate_core.specs.Gated.{Gated}
-use Rattle.gate_found_rows.specs.Finds.{Stays}
+use Rattle.gate_sql.specs.Refused.{IsRefused}
 use Rattle.gate_content_reads.specs.Held.{HoldsFor}
 use Rattle.gate_file_meta.specs.Opens.{IsJudged}
 use Rattle.gated_cli.specs.OverFile.{GoesOver}
@@ -36,4 +36,4 @@ returns-clause-judged g c tables indexes views version kept schema meta clean =
 
 pub returns-clause-none : goal.returns-clause-none
 returns-clause-none g c clean =
-    subst (λ f. IfSome f (λ _. Stays (state g.S.Store c.args.conn) (state g.S.Store c.into_conn.result))) (sym c.write_history-done.ensures.opened) tt
+    subst (λ f. IfSome f (IsRefused (state g.S.Store c.args.conn) (state g.S.Store c.into_conn.result))) (sym c.write_history-done.ensures.opened) tt

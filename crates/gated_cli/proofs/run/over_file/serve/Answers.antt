@@ -3,7 +3,7 @@ use Rattle.std.specs.Prelude.{IfSome}
 use Rattle.sqlite.specs.Held.{state}
 use Rattle.sqlite.specs.State.{HasCleanDisk}
 use Rattle.gate_http.specs.Connections.{IsCalled}
-use Rattle.gate_found_rows.specs.Finds.{Stays}
+use Rattle.gate_sql.specs.Refused.{IsRefused}
 use Rattle.gate_content_reads.specs.Held.{HoldsFor}
 use Rattle.gate_file_meta.specs.Opens.{IsJudged}
 use Rattle.gated_cli.specs.OverFile.{GoesOver}
@@ -34,7 +34,7 @@ returns-clause-judged g c tables indexes views version kept schema meta clean =
 
 pub returns-clause-none : goal.returns-clause-none
 returns-clause-none g c clean =
-    subst (λ f. IfSome f (λ _. Stays (state g.S.Store c.args.conn) (state g.S.Store c.into_conn.result)))
+    subst (λ f. IfSome f (IsRefused (state g.S.Store c.args.conn) (state g.S.Store c.into_conn.result)))
     (sym (no_file_fault _ c.serve-done.result c.serve-done.ensures.err)) tt
 
 pub returns-clause-err : goal.returns-clause-err
