@@ -1,5 +1,5 @@
 //! Connections are served, one after another.
-ghost use Rattle.std.specs.Prelude.{◌≡◌, ◌≤◌, List, [], ◌∷◌, length, true, false, OnOk, OnErr, IfErr, IsErrOf};
+ghost use Rattle.std.specs.Prelude.{◌≡◌, ◌≤◌, ◌⊎◌, List, [], ◌∷◌, length, true, false, OnOk, OnErr, IfErr, IsErrOf};
 ghost use Rattle.std.specs.Io.Buffered.{writer_buffer, writer_contents};
 ghost use Rattle.std.specs.Io.KnownBytes.{Appends, Keeps};
 ghost use Rattle.gate_types.specs.Tap.{inside, has_failed, Took, TookFront};
@@ -89,6 +89,30 @@ fn serve_whole<B: Archive, R: Read, W: Write + Drop>(
     (served.and(sent), writer.into_parts().0)
 }
 
+/// The two ends of a stream, each with a buffer.
+///
+/// # Errors
+///
+/// `Read`: the stream could not be had twice. `NoMemory`: there was none for a buffer.
+fn buffered<S: Read + Write + OpenStream + Drop>(
+    alloc: Global,
+    stream: S,
+) -> Result<(BufReader<S>, BufWriter<S>), IoFault>
+    // never `Write`, which means that a delivery may stand
+    ensures fault { IfErr result (λ f. (f ≡ IoFault.Read) ⊎ (f ≡ IoFault.NoMemory)) }
+{
+    let Ok(other) = stream.try_clone() else {
+        return Err(IoFault::Read);
+    };
+    let Ok(reader) = BufReader::new(alloc, other) else {
+        return Err(IoFault::NoMemory);
+    };
+    let Ok(writer) = BufWriter::new(alloc, stream) else {
+        return Err(IoFault::NoMemory);
+    };
+    Ok((reader, writer))
+}
+
 /// Serves one connection, says that no more follows, and closes it.
 ///
 /// # Errors
@@ -102,15 +126,7 @@ fn serve_stream<S: Read + Write + OpenStream + Drop, B: Archive>(
 ) -> Result<(), IoFault>
     ensures gate { Goes B.IsTrusted B.Holds gate.old gate.new (IsCalled 1) }
 {
-    let Ok(other) = stream.try_clone() else {
-        return Err(IoFault::Read);
-    };
-    let Ok(reader) = BufReader::new(alloc, other) else {
-        return Err(IoFault::NoMemory);
-    };
-    let Ok(writer) = BufWriter::new(alloc, stream) else {
-        return Err(IoFault::NoMemory);
-    };
+    let (reader, writer) = buffered(alloc, stream)?;
     let (served, stream) = serve_whole(alloc, gate, &mut Tap::new(reader), writer);
     let _ = stream.shutdown(Shutdown::Write);
     served
