@@ -10,6 +10,7 @@ mod ByEdits
 mod Thinning
 pub mod LineLemmas
 pub mod RunLemmas
+pub mod LeftLemmas
 pub mod ReplyLemmas
 pub mod LandingLemmas
 mod LineTrees

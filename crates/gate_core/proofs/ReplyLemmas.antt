@@ -22,8 +22,10 @@ use Rattle.gate_core.specs.Limit.{limit, too_large}
 use Rattle.gate_wire.specs.declared.door.Door.TheVariants as door
 use Rattle.gate_wire.specs.Reading.{says}
 use Rattle.gate_core.specs.Runs.{Answers, Runs, Broke}
-use Rattle.gate_core.specs.Replies.{CallsAreAnswered, call_replies, Marked, is_too_long, call_read, call_of, calls_of_lines, gate_after_lines, text_read, reply_to, replies, Told, Replayed, Cut}
-use Rattle.gate_core.specs.Held.{Goes, Tells}
+use Rattle.gate_core.specs.Replies.{CallsAreAnswered, call_replies, Marked, is_too_long, call_read, call_of, calls_of_lines, gate_after_lines, text_read, reply_to, replies}
+use Rattle.gate_core.specs.Left.{LeavesBy}
+use Rattle.gate_core.specs.Held.{CutOver, Goes, ReplayedOver, Tells, ToldOver}
+use Rattle.gate_core.proofs.LeftLemmas.{MayLeaveMore, leaves_call, leaves_none, leaves_then, leaves_unheard}
 
 -- the reply to a line, by whether it is too long, its mark and what was read
 abbrev reply_by : Bool → Bool → Gated → Result (Id × Delivery) Refusal → List ℕ
@@ -33,14 +35,21 @@ reply_by long u g r = if long then too_large else if u then refusal_text refusal
 abbrev gate_by : Bool → Bool → Gated → Result (Id × Delivery) Refusal → Gated
 gate_by long u g r = record g { content = once g.settings g.content ((if long then [] else call_read u r) ++ []) }
 
--- a line is told of by what its reply and its gate are
-told_by : (g after : Gated) (line text : List ℕ) (u long : Bool) (r : Result (Id × Delivery) Refusal) → is_too_long line ≡ long → says door.Any line ≡ r
-    → text ≡ reply_by long u g r → after ≡ gate_by long u g r → Told g line text after
-told_by g after line text u long r hl hr said stands = record {
-  unavailable = u;
-  said = said ∙ sym (ap (λ l. reply_by l u g r) hl) ∙ ap (λ s. reply_by (is_too_long line) u g s) (sym hr);
-  stands = stands ∙ sym (ap (λ l. gate_by l u g r) hl) ∙ ap (λ s. gate_by (is_too_long line) u g s) (sym hr);
-}
+-- a line is told of by what its reply, its gate and its call are
+told_by : {B : Type 0} (leaves : B → Settings → List Content → Type 0) (old new : Gate B) (g after : Gated)
+    (line text : List ℕ) (u long : Bool) (r : Result (Id × Delivery) Refusal) → is_too_long line ≡ long →
+    says door.Any line ≡ r → text ≡ reply_by long u g r → after ≡ gate_by long u g r →
+    LeavesBy leaves old new g ((if long then [] else call_read u r) ++ []) → ToldOver leaves old new line text g after
+told_by leaves old new g after line text u long r hl hr said stands left =
+    let calls_by : Bool → Result (Id × Delivery) Refusal → List Call = λ l s. (if l then [] else call_read u s) ++ [] in (
+      record {
+        unavailable = u;
+        said = said ∙ sym (ap (λ l. reply_by l u g r) hl) ∙ ap (λ s. reply_by (is_too_long line) u g s) (sym hr);
+        stands = stands ∙ sym (ap (λ l. gate_by l u g r) hl) ∙ ap (λ s. gate_by (is_too_long line) u g s) (sym hr);
+      },
+      subst (LeavesBy leaves old new g)
+          (sym (ap (λ l. calls_by l r) hl) ∙ ap (λ s. calls_by (is_too_long line) s) (sym hr)) left,
+    )
 
 -- a line within the limit isn't too long
 fits : (line : List ℕ) → length line ≤ limit → is_too_long line ≡ false
@@ -54,16 +63,17 @@ answered c x id d true = refl
 answered c x id d false = refl
 
 -- a line that says a delivery, by its answer
-pub told_call : (g : Gated) (line : List ℕ) (id : Id) (d : Delivery) (a : Answer) → length line ≤ limit →
-    says door.Any line ≡ Ok (id, d) →
+told_call : {B : Type 0} (leaves : B → Settings → List Content → Type 0) (old new : Gate B) (g : Gated)
+    (line text : List ℕ) (id : Id) (d : Delivery) (a : Answer) → length line ≤ limit → says door.Any line ≡ Ok (id, d) →
+    text ≡ answer_text a →
     (let k : Call = record { id = id; delivery = d; unavailable = is_unavailable a } in
-    a ≡ answer_of g.settings g.content k →
-    Told g line (answer_text a) (record g { content = next_content g.settings g.content k }))
-told_call g line id d a short said e =
+    a ≡ answer_of g.settings g.content k → LeavesBy leaves old new g (k ∷ []) →
+    ToldOver leaves old new line text g (record g { content = next_content g.settings g.content k }))
+told_call leaves old new g line text id d a short said is e left =
     let u = is_unavailable a in
     let k : Call = record { id = id; delivery = d; unavailable = u } in
-    told_by g (record g { content = next_content g.settings g.content k }) line (answer_text a) u false (Ok (id, d))
-    (fits line short) said (ap answer_text e ∙ answered g.settings g.content id d u) refl
+    told_by leaves old new g (record g { content = next_content g.settings g.content k }) line text u false (Ok (id, d))
+    (fits line short) said (is ∙ ap answer_text e ∙ answered g.settings g.content id d u) refl left
 
 -- a line that is answered `unavailable` changes nothing
 stays_marked : (g : Gated) (r : Result (Id × Delivery) Refusal) → g ≡ gate_by false true g r
@@ -71,21 +81,26 @@ stays_marked g (Ok x) = refl
 stays_marked g (Err e) = refl
 
 -- a line that is refused before any delivery is heard, by whether that is for want of memory
-told_by_refusal : (g : Gated) (line : List ℕ) (r : Refusal) (u : Bool) → length line ≤ limit →
+told_by_refusal : {B : Type 0} (leaves : B → Settings → List Content → Type 0) → MayLeaveMore leaves →
+    (gate : Gate B) (g : Gated) (line : List ℕ) (r : Refusal) (u : Bool) → length line ≤ limit →
     is_unavailable (answer.Refused r) ≡ u → (r ≢ refusal.Unavailable → says door.Any line ≡ Err r) →
-    Told g line (refusal_text r) g
-told_by_refusal g line refusal.Unavailable true short e said =
-    told_by g g line (refusal_text refusal.Unavailable) true false (says door.Any line) (fits line short) refl refl
-    (stays_marked g (says door.Any line))
-told_by_refusal g line r false short e said =
+    ToldOver leaves gate gate line (refusal_text r) g g
+told_by_refusal leaves more gate g line refusal.Unavailable true short e said =
+    told_by leaves gate gate g g line (refusal_text refusal.Unavailable) true false (says door.Any line)
+    (fits line short) refl refl (stays_marked g (says door.Any line))
+    (leaves_unheard leaves more gate g (says door.Any line))
+told_by_refusal leaves more gate g line r false short e said =
     let other : r ≢ refusal.Unavailable = λ same. true≢false (sym (ap (λ q. is_unavailable (answer.Refused q)) same) ∙ e) in
-    told_by g g line (refusal_text r) false false (Err r) (fits line short) (said other) refl refl
-told_by_refusal g line r true short e said = absurd (true≢false (sym e))
+    told_by leaves gate gate g g line (refusal_text r) false false (Err r) (fits line short) (said other) refl refl
+    (leaves_none leaves gate g)
+told_by_refusal leaves more gate g line r true short e said = absurd (true≢false (sym e))
 
 -- a line that is refused before any delivery is heard
-pub told_refusal : (g : Gated) (line : List ℕ) (r : Refusal) → length line ≤ limit →
-    (r ≢ refusal.Unavailable → says door.Any line ≡ Err r) → Told g line (refusal_text r) g
-told_refusal g line r short said = told_by_refusal g line r (is_unavailable (answer.Refused r)) short refl said
+pub told_refusal : {B : Type 0} (leaves : B → Settings → List Content → Type 0) → MayLeaveMore leaves →
+    (gate : Gate B) (g : Gated) (line : List ℕ) (r : Refusal) → length line ≤ limit →
+    (r ≢ refusal.Unavailable → says door.Any line ≡ Err r) → ToldOver leaves gate gate line (refusal_text r) g g
+told_refusal leaves more gate g line r short said =
+    told_by_refusal leaves more gate g line r (is_unavailable (answer.Refused r)) short refl said
 
 -- a line over the limit is
 long : (line : List ℕ) → limit < length line → is_too_long line ≡ true
@@ -118,75 +133,85 @@ goes_on trusted holds old mid new P Q R first next both = record {
 }
 
 -- a line that says a delivery, by what the gate's answer to it came to
-pub goes_told : {B : Type 0} (trusted : B → Type 0) (holds : B → Settings → Content → Type 0) (old new : Gate B)
-    (line : List ℕ) (id : Id) (d : Delivery) (a : Answer) (text : List ℕ) (left leaves : List Content → Type 0) →
-    new.config ≡ old.config → (trusted new.book → trusted old.book) → length line ≤ limit → says door.Any line ≡ Ok (id, d) →
-    text ≡ answer_text a →
-    OfGate trusted holds old new (λ x.
-    Answered old.config x (call id d (is_unavailable a)) a (GateHolds holds new) left leaves) →
-    Goes trusted holds old new (λ g after. Told g line text after)
-goes_told trusted holds old new line id d a text left leaves settings before short said is answered = record {
+pub goes_told : {B : Type 0} (trusted : B → Type 0) (holds : B → Settings → Content → Type 0)
+    (leaves : B → Settings → List Content → Type 0) (old new : Gate B) (line : List ℕ) (id : Id) (d : Delivery)
+    (a : Answer) (text : List ℕ) → new.config ≡ old.config → (trusted new.book → trusted old.book) →
+    length line ≤ limit → says door.Any line ≡ Ok (id, d) → text ≡ answer_text a →
+    OfGate trusted holds old new (λ x. Answered old.config x (call id d (is_unavailable a)) a (GateHolds holds new)
+    (leaves old.book old.config) (leaves new.book old.config)) →
+    Tells trusted holds leaves old line text new
+goes_told trusted holds leaves old new line id d a text settings before short said is answered = record {
   settings = settings;
   trusted_before = before;
   passes = λ t g over.
       let k = call id d (is_unavailable a) in
-      let h = answered t g.content over.held over.lawful in
-      let same = sym over.settings in
+      let h = subst (λ c. Answered c g.content k a (GateHolds holds new) (leaves old.book c) (leaves new.book c))
+      (sym over.settings) (answered t g.content over.held over.lawful) in
       let after : Gated = record g { content = next_content g.settings g.content k } in (
         after,
         record {
           settings = over.settings ∙ sym settings;
-          held = subst (λ c. GateHolds holds new (next_content c g.content k)) same h.content;
-          lawful = subst (λ c. IsLawfulContent c after.content) (sym settings)
-              (subst (λ c. IsLawfulContent old.config (next_content c g.content k)) same h.lawful);
+          held = h.content;
+          lawful = subst (λ c. IsLawfulContent c after.content) (over.settings ∙ sym settings) h.lawful;
         },
-        subst (λ s. Told g line s after) (sym is)
-            (told_call g line id d a short said (subst (λ c. a ≡ answer_of c g.content k) same h.answer)),
+        told_call leaves old new g line text id d a short said is h.answer
+            (leaves_call leaves old new g k h.acted h.stood h.failed),
       );
 }
 
 -- a line that the engine answers, too long or not
-answers_told : {B : Type 0} (trusted : B → Type 0) (holds : B → Settings → Content → Type 0) (old : Gate B)
-    (line text : List ℕ) (new : Gate B) → Answers (Tells trusted holds) old line text new →
-    Tells trusted holds old line text new
-answers_told trusted holds old line text new (inl (short, h)) = h
-answers_told trusted holds old line text new (inr (over, said, stays)) =
-    goes_nowhere trusted holds old new (λ g after. Told g line text after) stays
-    (λ g. told_by g g line text false true (says door.Any line) (long line over) refl said refl)
+answers_told : {B : Type 0} (trusted : B → Type 0) (holds : B → Settings → Content → Type 0)
+    (leaves : B → Settings → List Content → Type 0) (old : Gate B) (line text : List ℕ) (new : Gate B) →
+    Answers (Tells trusted holds leaves) old line text new → Tells trusted holds leaves old line text new
+answers_told trusted holds leaves old line text new (inl (short, h)) = h
+answers_told trusted holds leaves old line text new (inr (over, said, stays)) =
+    goes_nowhere trusted holds old new (ToldOver leaves old new line text) stays
+    (λ g. subst (λ n. ToldOver leaves old n line text g g) (sym stays)
+    (told_by leaves old old g g line text false true (says door.Any line) (long line over) refl said refl
+    (leaves_none leaves old g)))
 
 -- a line, and lines behind it
-replayed_cons : (g mid after : Gated) (line said : List ℕ) (lines : List (List ℕ)) (more text : List ℕ) →
-    text ≡ (said ++ 10 ∷ []) ++ more → Told g line said mid → Replayed mid lines more after →
-    Replayed g (line ∷ lines) text after
-replayed_cons g mid after line said lines more text joined told later =
-    let m : Marked = record { line = line; unavailable = told.unavailable } in record {
-      marked = m ∷ later.marked;
-      every_line = ap (λ l. line ∷ l) later.every_line;
-      said = joined ∙ ap (λ s. (s ++ 10 ∷ []) ++ more) told.said
-          ∙ ap (λ s. (reply_to g m ++ 10 ∷ []) ++ s) (later.said ∙ ap (λ h. replies h later.marked) told.stands);
-      stands = later.stands ∙ ap (λ h. gate_after_lines h later.marked) told.stands
-          ∙ gate_after_lines-append g (m ∷ []) later.marked;
-    }
+replayed_cons : {B : Type 0} (leaves : B → Settings → List Content → Type 0) (old between new : Gate B)
+    (g mid after : Gated) (line said : List ℕ) (lines : List (List ℕ)) (more text : List ℕ) →
+    text ≡ (said ++ 10 ∷ []) ++ more → ToldOver leaves old between line said g mid →
+    ReplayedOver leaves between new lines more mid after → ReplayedOver leaves old new (line ∷ lines) text g after
+replayed_cons leaves old between new g mid after line said lines more text joined (told, left) (later, next) =
+    let m : Marked = record { line = line; unavailable = told.unavailable } in (
+      record {
+        marked = m ∷ later.marked;
+        every_line = ap (λ l. line ∷ l) later.every_line;
+        said = joined ∙ ap (λ s. (s ++ 10 ∷ []) ++ more) told.said
+            ∙ ap (λ s. (reply_to g m ++ 10 ∷ []) ++ s) (later.said ∙ ap (λ h. replies h later.marked) told.stands);
+        stands = later.stands ∙ ap (λ h. gate_after_lines h later.marked) told.stands
+            ∙ gate_after_lines-append g (m ∷ []) later.marked;
+      },
+      leaves_then leaves old between new g mid (m ∷ []) later.marked told.stands left next,
+    )
 
 -- what the engine ran through is replayed
-pub replayed_of_runs : {B : Type 0} (trusted : B → Type 0) (holds : B → Settings → Content → Type 0) (old : Gate B)
-    (lines : List (List ℕ)) (text : List ℕ) (new : Gate B) → Runs (Tells trusted holds) old lines text new →
-    Goes trusted holds old new (λ g after. Replayed g lines text after)
-replayed_of_runs trusted holds old [] text new (said, stays) =
-    goes_nowhere trusted holds old new (λ g after. Replayed g [] text after) stays
-    (λ g. record { marked = []; every_line = refl; said = said; stands = refl })
-replayed_of_runs trusted holds old (line ∷ lines) text new (said, more, mid, answers, joined, rest) =
-    goes_on trusted holds old mid new (λ g after. Told g line said after) (λ g after. Replayed g lines more after)
-    (λ g after. Replayed g (line ∷ lines) text after) (answers_told trusted holds old line said mid answers)
-    (replayed_of_runs trusted holds mid lines more new rest)
-    (λ g h after. replayed_cons g h after line said lines more text joined)
+pub replayed_of_runs : {B : Type 0} (trusted : B → Type 0) (holds : B → Settings → Content → Type 0)
+    (leaves : B → Settings → List Content → Type 0) (old : Gate B) (lines : List (List ℕ)) (text : List ℕ)
+    (new : Gate B) → Runs (Tells trusted holds leaves) old lines text new →
+    Goes trusted holds old new (ReplayedOver leaves old new lines text)
+replayed_of_runs trusted holds leaves old [] text new (said, stays) =
+    goes_nowhere trusted holds old new (ReplayedOver leaves old new [] text) stays
+    (λ g. (
+      record { marked = []; every_line = refl; said = said; stands = refl },
+      subst (λ n. LeavesBy leaves old n g []) (sym stays) (leaves_none leaves old g),
+    ))
+replayed_of_runs trusted holds leaves old (line ∷ lines) text new (said, more, mid, answers, joined, rest) =
+    goes_on trusted holds old mid new (ToldOver leaves old mid line said) (ReplayedOver leaves mid new lines more)
+    (ReplayedOver leaves old new (line ∷ lines) text) (answers_told trusted holds leaves old line said mid answers)
+    (replayed_of_runs trusted holds leaves mid lines more new rest)
+    (λ g h after. replayed_cons leaves old mid new g h after line said lines more text joined)
 
 -- lines, and a line behind them whose answer is cut
-cut_behind : (g mid after : Gated) (lines front : List (List ℕ)) (line : List ℕ) (more : List (List ℕ))
-    (text said : List ℕ) (at : ℕ) → lines ≡ front ++ line ∷ more → at < length (said ++ 10 ∷ []) →
-    Replayed g front text mid → Told mid line said after →
-    (cut : Cut g lines (text ++ take at (said ++ 10 ∷ [])) after) × (length cut.done ≡ length front)
-cut_behind g mid after lines front line more text said at split short done told =
+cut_behind : {B : Type 0} (leaves : B → Settings → List Content → Type 0) (old between new : Gate B)
+    (g mid after : Gated) (lines front : List (List ℕ)) (line : List ℕ) (more : List (List ℕ)) (text said : List ℕ)
+    (at : ℕ) → lines ≡ front ++ line ∷ more → at < length (said ++ 10 ∷ []) →
+    ReplayedOver leaves old between front text g mid → ToldOver leaves between new line said mid after →
+    CutOver leaves old new lines (text ++ take at (said ++ 10 ∷ [])) (length front) g after
+cut_behind leaves old between new g mid after lines front line more text said at split short (done, first) (told, left) =
     let m : Marked = record { line = line; unavailable = told.unavailable } in
     let reply : said ≡ reply_to (gate_after_lines g done.marked) m = told.said ∙ ap (λ h. reply_to h m) done.stands in (
       record {
@@ -202,20 +227,21 @@ cut_behind g mid after lines front line more text said at split short done told 
             ∙ gate_after_lines-append g done.marked (m ∷ []);
       },
       sym (length-map done.marked (λ m. m.line)) ∙ ap length done.every_line,
+      leaves_then leaves old between new g mid done.marked (m ∷ []) done.stands first left,
     )
 
 -- what the engine broke off is cut
-pub cut_of_broke : {B : Type 0} (trusted : B → Type 0) (holds : B → Settings → Content → Type 0) (old new : Gate B)
-    (lines : List (List ℕ)) (w v : Option (List ℕ)) (b : Broke (Tells trusted holds) old lines new w v) →
-    Goes trusted holds old new (λ g after.
-    (cut : Cut g lines (b.text ++ take b.at (b.said ++ 10 ∷ [])) after) × (length cut.done ≡ length b.done))
-cut_of_broke trusted holds old new lines w v b =
-    goes_on trusted holds old b.mid new (λ g after. Replayed g b.done b.text after)
-    (λ g after. Told g b.line b.said after)
-    (λ g after. (cut : Cut g lines (b.text ++ take b.at (b.said ++ 10 ∷ [])) after) × (length cut.done ≡ length b.done))
-    (replayed_of_runs trusted holds old b.done b.text b.mid b.ran)
-    (answers_told trusted holds b.mid b.line b.said new b.answered)
-    (λ g h after. cut_behind g h after lines b.done b.line b.more b.text b.said b.at b.split b.short)
+pub cut_of_broke : {B : Type 0} (trusted : B → Type 0) (holds : B → Settings → Content → Type 0)
+    (leaves : B → Settings → List Content → Type 0) (old new : Gate B) (lines : List (List ℕ)) (w v : Option (List ℕ))
+    (b : Broke (Tells trusted holds leaves) old lines new w v) → Goes trusted holds old new
+    (CutOver leaves old new lines (b.text ++ take b.at (b.said ++ 10 ∷ [])) (length b.done))
+cut_of_broke trusted holds leaves old new lines w v b =
+    goes_on trusted holds old b.mid new (ReplayedOver leaves old b.mid b.done b.text)
+    (ToldOver leaves b.mid new b.line b.said)
+    (CutOver leaves old new lines (b.text ++ take b.at (b.said ++ 10 ∷ [])) (length b.done))
+    (replayed_of_runs trusted holds leaves old b.done b.text b.mid b.ran)
+    (answers_told trusted holds leaves b.mid b.line b.said new b.answered)
+    (λ g h after. cut_behind leaves old b.mid new g h after lines b.done b.line b.more b.text b.said b.at b.split b.short)
 
 -- what a line adds to the replies to calls, by what was read
 abbrev AddsAnswer : Gated → List Marked → Bool → Bool → Result (Id × Delivery) Refusal → Type 0

@@ -1,12 +1,13 @@
 -- What a gate comes to, by what it held.
-use Rattle.std.specs.Prelude.{◌≡◌, ℕ, List}
+use Rattle.std.specs.Prelude.{◌≡◌, ℕ, List, [], ◌∷◌, ◌++◌, length}
 use Rattle.gate_types.specs.Settings.{Settings}
 use Rattle.gate_types.specs.Once.{Content}
 use Rattle.gate_types.specs.Forms.{IsLawfulContent}
 use Rattle.gate_core.specs.declared.gate.Gate.{Gate}
 use Rattle.gate_core.specs.Gated.{Gated}
 use Rattle.gate_core.specs.Holding.{GateHolds}
-use Rattle.gate_core.specs.Replies.{Told}
+use Rattle.gate_core.specs.Left.{LeavesBy}
+use Rattle.gate_core.specs.Replies.{Cut, Replayed, Told, calls_of_lines}
 
 -- a gate over a book holds a lawful content, and is this gate
 pub record IsOver {B : Type 0} (holds : B → Settings → Content → Type 0) (gate : Gate B) (g : Gated) : Type 0 where
@@ -27,7 +28,25 @@ pub record Goes {B : Type 0} (trusted : B → Type 0) (holds : B → Settings �
   pub trusted_before : trusted new.book → trusted old.book
   pub passes : Passes trusted holds old new P
 
+-- a gate over a book answers a line by a text, and a crash leaves what the line's call leaves
+abbrev pub ToldOver : {B : Type 0} → (B → Settings → List Content → Type 0) → Gate B → Gate B → List ℕ → List ℕ →
+    Gated → Gated → Type 0
+ToldOver leaves old new line text g after = (told : Told g line text after)
+    × LeavesBy leaves old new g (calls_of_lines (record { line = line; unavailable = told.unavailable } ∷ []))
+
+-- the same of lines
+abbrev pub ReplayedOver : {B : Type 0} → (B → Settings → List Content → Type 0) → Gate B → Gate B → List (List ℕ) →
+    List ℕ → Gated → Gated → Type 0
+ReplayedOver leaves old new lines text g after = (told : Replayed g lines text after)
+    × LeavesBy leaves old new g (calls_of_lines told.marked)
+
+-- the same of lines of which so many were answered whole, and the next one's answer was cut
+abbrev pub CutOver : {B : Type 0} → (B → Settings → List Content → Type 0) → Gate B → Gate B → List (List ℕ) →
+    List ℕ → ℕ → Gated → Gated → Type 0
+CutOver leaves old new lines text done g after = (cut : Cut g lines text after) × (length cut.done ≡ done)
+    × LeavesBy leaves old new g (calls_of_lines (cut.done ++ cut.last ∷ []))
+
 -- a line is answered by a text, and the gate is another one then
-abbrev pub Tells : {B : Type 0} → (B → Type 0) → (B → Settings → Content → Type 0) → Gate B → List ℕ → List ℕ →
-    Gate B → Type 0
-Tells trusted holds old line text new = Goes trusted holds old new (λ g after. Told g line text after)
+abbrev pub Tells : {B : Type 0} → (B → Type 0) → (B → Settings → Content → Type 0) →
+    (B → Settings → List Content → Type 0) → Gate B → List ℕ → List ℕ → Gate B → Type 0
+Tells trusted holds leaves old line text new = Goes trusted holds old new (ToldOver leaves old new line text)

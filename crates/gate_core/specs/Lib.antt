@@ -4,6 +4,7 @@ pub mod Thinned
 pub mod Gated
 pub mod Recent
 pub mod Holding
+pub mod Left
 pub mod Limit
 pub mod Lines
 pub mod Gathered

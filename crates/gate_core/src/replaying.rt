@@ -4,8 +4,8 @@ ghost use Rattle.std.specs.Io.Iter.{u64_saturate};
 ghost use Rattle.gate_types.specs.Tap.{inside, has_failed, Gave, IsReadOut, Took};
 ghost use Rattle.gate_core.specs.Lines.{whole_lines, lines_of, ReadFor};
 ghost use Rattle.gate_core.specs.Gated.{Gated};
-ghost use Rattle.gate_core.specs.Replies.{Marked, Replayed, Cut, CallsAreAnswered};
-ghost use Rattle.gate_core.specs.Held.{Goes};
+ghost use Rattle.gate_core.specs.Replies.{Marked, CallsAreAnswered};
+ghost use Rattle.gate_core.specs.Held.{Goes, CutOver, ReplayedOver};
 
 use crate::engine::answer_lines;
 use crate::fault::IoFault;
@@ -19,7 +19,7 @@ use std::io::{Read, Write};
 /// refusal, or `{"error":"too-large"}` where it has over 65,536 bytes and is skipped. A line ends
 /// at LF; a last line without LF counts if it isn't empty. Each answer is written before the next
 /// read, so give a writer that holds nothing back. The number of lines is given, at most
-/// `u64::MAX`.
+/// `u64::MAX`. A crash leaves what the calls of these lines leave.
 ///
 /// `Read`: the reader failed; a line that was cut by this isn't acted on. `Write`: the writer
 /// failed within an answer, whose delivery stands, and nothing more was read. `NoMemory`: nothing
@@ -35,19 +35,20 @@ pub fn replay<B: Book, R: Read, W: Write>(
     ensures ok { IfOk result (λ n. (input : List ℕ)
         × Gave R.remaining r.old r.new input × IsReadOut R.remaining r.new
         × (text : List ℕ) × Took W.contents w.old w.new text
-        × Goes B.IsTrusted B.Holds gate.old gate.new (λ g after. Replayed g (lines_of input) text after)
+        × Goes B.IsTrusted B.Holds gate.old gate.new
+        (ReplayedOver B.LeavesOneOf gate.old gate.new (lines_of input) text)
         × (n ≡ u64_saturate (length (lines_of input)))) }
     // the lines before the one that the error cut
     ensures read { IsErrOf result IoFault.Read → (front : List ℕ)
         × Gave R.remaining r.old r.new front
         × (text : List ℕ) × Took W.contents w.old w.new text
-        × Goes B.IsTrusted B.Holds gate.old gate.new (λ g after. Replayed g (whole_lines front) text after) }
+        × Goes B.IsTrusted B.Holds gate.old gate.new
+        (ReplayedOver B.LeavesOneOf gate.old gate.new (whole_lines front) text) }
     // the lines up to the one whose answer was cut, and no read beyond the one that ended it
     ensures write { IsErrOf result IoFault.Write → (lines : List (List ℕ))
         × (text : List ℕ) × Took W.contents w.old w.new text
         × (done : ℕ) × ReadFor (R.remaining (inside r.old)) (R.remaining (inside r.new)) lines done
-        × Goes B.IsTrusted B.Holds gate.old gate.new (λ g after.
-        (cut : Cut g lines text after) × (length cut.done ≡ done)) }
+        × Goes B.IsTrusted B.Holds gate.old gate.new (CutOver B.LeavesOneOf gate.old gate.new lines text done) }
     ensures memory { IsErrOf result IoFault.NoMemory →
         (gate.new ≡ gate.old) × (r.new ≡ r.old) × (w.new ≡ w.old) }
     ensures store { IsErrOf result IoFault.Store → ⊥ }

@@ -9,7 +9,7 @@ use std::alloc::Global;
 impl<B: Book> Respond for Gate<B> {
     ghost use Rattle.gate_core.specs.Held.{Tells};
 
-    ghost replies = { Tells B.IsTrusted B.Holds };
+    ghost replies = { Tells B.IsTrusted B.Holds B.LeavesOneOf };
 
     fn respond(&mut self, alloc: Global, line: &[u8]) -> Said {
         match read_delivery(alloc, line, Door::Any) {

@@ -15,7 +15,7 @@ use Rattle.gate_types.specs.declared.deliveries.Refusal.{Refusal}
 use Rattle.gate_types.specs.declared.tap.Tap.{Tap}
 use Rattle.gate_types.specs.Settings.{Settings}
 use Rattle.gate_types.specs.Tap.{inside, has_failed, WritesFront, Took, TookFront}
-use Rattle.gate_types.specs.Once.{Content, next_content}
+use Rattle.gate_types.specs.Once.{Call, Content, next_content}
 use Rattle.gate_types.proofs.TapLemmas.{writes_later}
 use Rattle.gate_wire.specs.Reading.{says}
 use Rattle.gate_core.specs.declared.fault.IoFault.{IoFault}
@@ -23,7 +23,9 @@ use Rattle.gate_core.specs.declared.fault.IoFault.TheVariants as fault
 use Rattle.gate_core.specs.declared.gate.Gate.{Gate}
 use Rattle.gate_core.specs.Gated.{Gated}
 use Rattle.gate_core.specs.Held.{Goes}
+use Rattle.gate_core.specs.Left.{LeavesBy}
 use Rattle.gate_core.specs.Replies.{call_read}
+use Rattle.gate_core.proofs.LeftLemmas.{leaves_call, leaves_more_calls, leaves_none}
 use Rattle.gate_core.proofs.ReplyLemmas.{goes_nowhere, goes_on}
 use Rattle.gate_http.specs.declared.served.Served.{Served}
 use Rattle.gate_http.specs.declared.served.Served.TheVariants.{Answered}
@@ -31,8 +33,8 @@ use Rattle.gate_http.specs.Asked.{delivery, page, build, change, item, Streamed}
 use Rattle.gate_http.specs.declared.response.Form.TheVariants as form
 use Rattle.gate_http.specs.Way.{Way, silence, refusal, question, stream, Request, way_of}
 use Rattle.gate_http.specs.Answer.{calls_made, gate_after, is_503}
-use Rattle.gate_http.specs.Serving.{Serves, ServesStream, ServesBy}
-use Rattle.gate_http.specs.Connections.{IsCalled, fault_line, fault_lines, AreTold}
+use Rattle.gate_http.specs.Serving.{CrashLeaves, Serves, ServesStream, ServesBy}
+use Rattle.gate_http.specs.Connections.{CalledOver, fault_line, fault_lines, AreTold}
 
 -- ---- calls
 
@@ -53,50 +55,82 @@ one_call u (question (item text)) = omega arith
 one_call u (stream wanted) = omega arith
 
 -- calls, and then others
-more_calls : (m n : ℕ) (g h after : Gated) → IsCalled m g h → IsCalled n h after → IsCalled (m + n) g after
-more_calls m n g h after first next = record {
-  calls = first.calls ++ next.calls;
-  few = omega (arith, first.few, next.few, length-append first.calls next.calls);
-  stands = next.stands ∙ ap (λ x. gate_after x next.calls) first.stands
-      ∙ ap (λ x. record g { content = x }) (sym (fold-append (next_content g.settings) g.content first.calls next.calls));
-}
+more_calls : {B : Type 0} (leaves : B → Settings → List Content → Type 0) (m n : ℕ) (old mid new : Gate B)
+    (g h after : Gated) → CalledOver leaves m old mid g h → CalledOver leaves n mid new h after →
+    CalledOver leaves (m + n) old new g after
+more_calls leaves m n old mid new g h after (first, left) (next, later) = (
+  record {
+    calls = first.calls ++ next.calls;
+    few = omega (arith, first.few, next.few, length-append first.calls next.calls);
+    stands = next.stands ∙ ap (λ x. gate_after x next.calls) first.stands
+        ∙ ap (λ x. record g { content = x }) (sym (fold-append (next_content g.settings) g.content first.calls next.calls));
+  },
+  leaves_more_calls leaves old mid new g h first.calls next.calls first.stands left later,
+)
 
 module _ {B : Type 0} (trusted : B → Type 0) (holds : B → Settings → Content → Type 0)
     (leaves : B → Settings → List Content → Type 0) where
   -- a gate that nothing was asked of
-  pub uncalled : (n : ℕ) (old new : Gate B) → new ≡ old → Goes trusted holds old new (IsCalled n)
-  uncalled n old new stays = goes_nowhere trusted holds old new (IsCalled n) stays
-      (λ g. record { calls = []; few = omega arith; stands = refl })
+  pub uncalled : (n : ℕ) (old new : Gate B) → new ≡ old → Goes trusted holds old new (CalledOver leaves n old new)
+  uncalled n old new stays = goes_nowhere trusted holds old new (CalledOver leaves n old new) stays
+      (λ g. (
+        record { calls = []; few = omega arith; stands = refl },
+        subst (λ b. LeavesBy leaves old b g []) (sym stays) (leaves_none leaves old g),
+      ))
+
+  -- what a crash leaves after at most one call
+  called_leaves : (old new : Gate B) (g : Gated) (ks : List Call) → length ks ≤ 1 →
+      CrashLeaves g.settings g.content ks (leaves old.book g.settings) (leaves new.book g.settings) →
+      LeavesBy leaves old new g ks
+  called_leaves old new g [] few h = h
+  called_leaves old new g (k ∷ []) few h = leaves_call leaves old new g k h.acted h.stood h.failed
+  called_leaves old new g (k ∷ l ∷ ks) few h = absurd (omega (arith, few))
 
   -- a request was served
   served_once : (old new : Gate B) (w : Way) (served : Served) (text : List ℕ)
-      → Serves trusted holds leaves form.Response old new w served text → Goes trusted holds old new (IsCalled 1)
+      → Serves trusted holds leaves form.Response old new w served text
+      → Goes trusted holds old new (CalledOver leaves 1 old new)
   served_once old new w served text s = record {
     settings = s.answers.settings;
     trusted_before = s.answers.trusted_before;
     passes = λ t g over.
-        let p = s.answers.passes t g over in (
+        let p = s.answers.passes t g over in
+        let calls = calls_made (is_503 served) w in
+        let few = one_call (is_503 served) w in (
           p.0,
           p.1,
-          record { calls = calls_made (is_503 served) w; few = one_call (is_503 served) w; stands = p.2.stands },
+          (
+            record { calls = calls; few = few; stands = p.2.stands },
+            called_leaves old new g calls few
+                (subst (λ c. CrashLeaves c g.content calls (leaves old.book c) (leaves new.book c)) (sym over.settings)
+                (s.crash t g.content over.held over.lawful)),
+          ),
         );
   }
 
   -- lines were asked for
   recalled_once : (old new : Gate B) (wanted : Streamed) (served : Served) (Takes : List ℕ → Type 0)
       → ServesStream trusted holds leaves form.Response old new wanted served Takes
-      → Goes trusted holds old new (IsCalled 1)
+      → Goes trusted holds old new (CalledOver leaves 1 old new)
   recalled_once old new wanted served Takes s = record {
     settings = s.answers.settings;
     trusted_before = s.answers.trusted_before;
     passes = λ t g over.
-        let p = s.answers.passes t g over in
-        (p.0, p.1, record { calls = []; few = omega arith; stands = p.2.2.stands });
+        let p = s.answers.passes t g over in (
+          p.0,
+          p.1,
+          (
+            record { calls = []; few = omega arith; stands = p.2.2.stands },
+            subst (λ c. CrashLeaves c g.content [] (leaves old.book c) (leaves new.book c)) (sym over.settings)
+                (s.crash t g.content over.held over.lawful),
+          ),
+        );
   }
 
   -- either was
   done_once : (old new : Gate B) (w : Way) (served : Served) (Takes : List ℕ → Type 0)
-      → ServesBy trusted holds leaves old new w served Takes → Goes trusted holds old new (IsCalled 1)
+      → ServesBy trusted holds leaves old new w served Takes
+      → Goes trusted holds old new (CalledOver leaves 1 old new)
   done_once old new silence served Takes h = served_once old new silence served h.0 h.2
   done_once old new (refusal f bodiless) served Takes h = served_once old new (refusal f bodiless) served h.0 h.2
   done_once old new (question asked) served Takes h = served_once old new (question asked) served h.0 h.2
@@ -111,7 +145,7 @@ module _ {B : Type 0} (trusted : B → Type 0) (holds : B → Settings → Conte
       → (IsErrOf r fault.Read → new ≡ old) → (IsErrOf r fault.NoMemory → new ≡ old)
       → (IsErrOf r fault.Store → (q : Request) × Read q × (wanted : Streamed) × (way_of q ≡ stream wanted)
       × ServesBy trusted holds leaves old new (stream wanted) (Answered 200) Begun)
-      → Goes trusted holds old new (IsCalled 1)
+      → Goes trusted holds old new (CalledOver leaves 1 old new)
   called_once Read Wrote Broke Begun old new (Ok served) ok write read memory store =
       done_once old new (way_of ok.0) served Wrote ok.2
   called_once Read Wrote Broke Begun old new (Err fault.Write) ok write read memory store =
@@ -122,11 +156,26 @@ module _ {B : Type 0} (trusted : B → Type 0) (holds : B → Settings → Conte
   called_once Read Wrote Broke Begun old new (Err fault.Store) ok write read memory store =
       let s = store refl in recalled_once old new s.2 (Answered 200) Begun s.4
 
+  -- at most so many are at most more
+  pub called_within : (m n : ℕ) (old new : Gate B) → m ≤ n → Goes trusted holds old new (CalledOver leaves m old new)
+      → Goes trusted holds old new (CalledOver leaves n old new)
+  called_within m n old new most h = record {
+    settings = h.settings;
+    trusted_before = h.trusted_before;
+    passes = λ t g over.
+        let p = h.passes t g over in
+        let called = p.2.0 in
+        let few : length called.calls ≤ n = omega (arith, called.few, most) in
+        (p.0, p.1, (record { calls = called.calls; few = few; stands = called.stands }, p.2.1));
+  }
+
   -- one connection more
-  pub called_on : (n : ℕ) (old mid new : Gate B) → Goes trusted holds old mid (IsCalled n)
-      → Goes trusted holds mid new (IsCalled 1) → Goes trusted holds old new (IsCalled (n + 1))
+  pub called_on : (n : ℕ) (old mid new : Gate B) → Goes trusted holds old mid (CalledOver leaves n old mid)
+      → Goes trusted holds mid new (CalledOver leaves 1 mid new)
+      → Goes trusted holds old new (CalledOver leaves (n + 1) old new)
   called_on n old mid new first next =
-      goes_on trusted holds old mid new (IsCalled n) (IsCalled 1) (IsCalled (n + 1)) first next (more_calls n 1)
+      goes_on trusted holds old mid new (CalledOver leaves n old mid) (CalledOver leaves 1 mid new)
+      (CalledOver leaves (n + 1) old new) first next (more_calls leaves n 1 old mid new)
 
 -- ---- responses
 

@@ -14,4 +14,4 @@ mod AskedLemmas
 mod LinesLemmas
 mod LawLemmas
 mod GotLemmas
-mod ConnectionLemmas
+pub mod ConnectionLemmas

@@ -3,10 +3,13 @@ use Rattle.std.specs.Prelude.{ℕ, ◌≡◌, ◌≤◌, true, false, List, [], 
 use Rattle.std.specs.List.{flat_map}
 use Rattle.gate_types.specs.declared.tap.Tap.{Tap}
 use Rattle.gate_types.specs.Tap.{has_failed, Took, TookFront}
-use Rattle.gate_types.specs.Once.{Call}
+use Rattle.gate_types.specs.Once.{Call, Content}
+use Rattle.gate_types.specs.Settings.{Settings}
 use Rattle.gate_core.specs.declared.fault.IoFault.{IoFault}
 use Rattle.gate_core.specs.Faults.{fault_text}
 use Rattle.gate_core.specs.Gated.{Gated}
+use Rattle.gate_core.specs.Left.{LeavesBy}
+use Rattle.gate_core.specs.declared.gate.Gate.{Gate}
 use Rattle.gate_http.specs.Answer.{gate_after}
 
 -- the gate after some calls in turn, at most so many
@@ -14,6 +17,12 @@ pub record IsCalled (most : ℕ) (g after : Gated) : Type 0 where
   pub calls : List Call
   pub few : length calls ≤ most
   pub stands : after ≡ gate_after g calls
+
+-- the same of a gate over a book, and a crash leaves what those calls leave
+abbrev pub CalledOver : {B : Type 0} → (B → Settings → List Content → Type 0) → ℕ → Gate B → Gate B → Gated → Gated →
+    Type 0
+CalledOver leaves most old new g after =
+    (called : IsCalled most g after) × LeavesBy leaves old new g called.calls
 
 -- the line that tells of a fault
 abbrev pub fault_line : IoFault → List ℕ

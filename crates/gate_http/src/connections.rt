@@ -9,7 +9,7 @@ ghost use Rattle.gate_http.specs.Asked.{Streamed};
 ghost use Rattle.gate_http.specs.Way.{Request, way_of, stream};
 ghost use Rattle.gate_http.specs.Exchange.{IsRead};
 ghost use Rattle.gate_http.specs.Serving.{ServesBy};
-ghost use Rattle.gate_http.specs.Connections.{IsCalled, fault_line, AreTold};
+ghost use Rattle.gate_http.specs.Connections.{CalledOver, fault_line, AreTold};
 
 use crate::served::Served;
 use crate::serving::serve_one;
@@ -71,7 +71,7 @@ fn serve_whole<B: Archive, R: Read, W: Write + Drop>(
     writer: BufWriter<W>,
 ) -> (Result<(), IoFault>, W)
     requires { has_failed reader.old ≡ false }
-    ensures gate { Goes B.IsTrusted B.Holds gate.old gate.new (IsCalled 1) }
+    ensures gate { Goes B.IsTrusted B.Holds gate.old gate.new (CalledOver B.LeavesOneOf 1 gate.old gate.new) }
     // nothing of the response is left in the buffer
     ensures sent { OnOk result.0 ((r : Request)
         × IsRead (R.remaining (inside reader.old)) (R.remaining (inside reader.new)) r
@@ -124,7 +124,7 @@ fn serve_stream<S: Read + Write + OpenStream + Drop, B: Archive>(
     gate: &mut Gate<B>,
     stream: S,
 ) -> Result<(), IoFault>
-    ensures gate { Goes B.IsTrusted B.Holds gate.old gate.new (IsCalled 1) }
+    ensures gate { Goes B.IsTrusted B.Holds gate.old gate.new (CalledOver B.LeavesOneOf 1 gate.old gate.new) }
 {
     let (reader, writer) = buffered(alloc, stream)?;
     let (served, stream) = serve_whole(alloc, gate, &mut Tap::new(reader), writer);
@@ -151,7 +151,8 @@ where
     L::Stream: Read + Write + OpenStream,
     requires { has_failed errors.old ≡ false }
     // each connection is at most one call
-    ensures gate { Goes B.IsTrusted B.Holds gate.old gate.new (IsCalled count) }
+    ensures gate { Goes B.IsTrusted B.Holds gate.old gate.new
+        (CalledOver B.LeavesOneOf count gate.old gate.new) }
     ensures told { (faults : List IoFault) × (length faults ≤ count)
         × AreTold E.contents errors.old errors.new faults }
 {

@@ -1,12 +1,14 @@
 -- From a gate over a book of tables to a conversation over a file.
-use Rattle.std.proofs.Common.{refl, ◌≡◌, ◌≢◌, ◌∙◌, inl, inr, sym, subst, true, Bool, List, Option, ℕ}
+use Rattle.std.proofs.Common.{refl, ◌≡◌, ◌≢◌, ◌∙◌, inl, inr, sym, subst, true, Bool, List, [], ◌∷◌, Option, ℕ}
 use Rattle.std.specs.Prelude.{Err, IfErr, IsErrOf, IsTrue, None, Ok, OnErr, OnOk, Result}
 use Rattle.sqlite.specs.State.{HasCleanDisk, State}
+use Rattle.sqlite.specs.Tree.{Trees}
 use Rattle.gate_types.specs.Adopt.{may_adopt, adopted_content}
 use Rattle.gate_types.specs.Forms.{IsLawfulContent}
-use Rattle.gate_types.specs.Once.{Content}
+use Rattle.gate_types.specs.Once.{Call, Content}
 use Rattle.gate_types.specs.Settings.{Settings}
 use Rattle.gate_core.specs.Gated.{Gated}
+use Rattle.gate_core.specs.Left.{LeavesBy, left_after}
 use Rattle.gate_core.specs.declared.gate.Gate.{Gate}
 use Rattle.gate_core.specs.Held.{IsOver, Goes}
 use Rattle.gate_core.specs.Holding.{GateHolds}
@@ -16,7 +18,7 @@ use Rattle.gate_live.specs.Both.{HoldsBoth}
 use Rattle.gate_live.specs.declared.live_book.LiveBook.{LiveBook}
 use Rattle.gate_rows.specs.Tells.{StandsFor}
 use Rattle.gate_file_changes.specs.Adopts.{IsKept}
-use Rattle.gate_content_reads.specs.Held.{ShowsFor}
+use Rattle.gate_content_reads.specs.Held.{LeavesFor, ShowsFor}
 use Rattle.gated_cli.specs.Doing.{Announces, Delivers, Streams}
 use Rattle.gated_cli.specs.Ending.{AnnouncementIsCut, DeliveryEnds, DeliveryIsCut, DeliveryStops, IsOfFile, IsOfMaking, IsOfServing, ServingEnds}
 use Rattle.gated_cli.specs.Faults.{of_replay}
@@ -90,16 +92,39 @@ pub opens_to : (Holds : Content → Type 0) (s : State) (c : Settings) (g : Gate
 opens_to Holds s c g opens adopts (inl file) = opens file.up g.content file.stands
 opens_to Holds s c g opens adopts (inr other) = subst Holds (sym other.becomes) (adopts other.up other.kept other.before other.keeps other.may)
 
+-- of a file just opened a crash leaves the content of its gate
+pub opened_leaves : (s new : State) (c : Settings) (g : Gated) →
+    (IsTrue s.is_open → (x : Content) → StandsFor s.now.trees c x → (db : Trees) → new.may_leave db → StandsFor db c x) →
+    (IsTrue s.is_open → (k : Settings) (x : Content) → IsKept s.now.trees k x → may_adopt k c ≡ true →
+    (db : Trees) → new.may_leave db → StandsFor db c (adopted_content k c x)) →
+    OpensTo s c g → LeavesFor new c (g.content ∷ [])
+opened_leaves s new c g settled adopted file =
+    λ db may. inl (opens_to (λ x. (db : Trees) → new.may_leave db → StandsFor db c x) s c g settled adopted file db may)
+
+-- and calls leave of it what they leave of that content
+pub leaves_called : {B : Type 0} (leaves : B → Settings → List Content → Type 0) (old new : Gate B) (c : Settings)
+    (g : Gated) (ks : List Call) → g.settings ≡ c → LeavesBy leaves old new g ks → leaves old.book c (g.content ∷ []) →
+    leaves new.book c (left_after c g.content ks (g.content ∷ []))
+leaves_called leaves old new c g ks is by was =
+    subst (λ k. leaves old.book k (g.content ∷ []) → leaves new.book k (left_after k g.content ks (g.content ∷ []))) is
+    (by (g.content ∷ [])) was
+
 -- what a gate over the book goes to, its file goes to, where a book that holds a content shows it
-pub goes_over : {B : Type 0} (at : B → State) (holds : B → Settings → Content → Type 0) →
-    ((b : B) (k : Settings) (x : Content) → holds b k x → ShowsFor (at b) k x) → (before : State) (c : Settings) (old new : Gate B)
-    (P : Gated → Gated → Type 0) → old.config ≡ c → StaysLawful c →
+pub goes_over : {B : Type 0} (at : B → State) (holds : B → Settings → Content → Type 0)
+    (leaves : B → Settings → List Content → Type 0) →
+    ((b : B) (k : Settings) (x : Content) → holds b k x → ShowsFor (at b) k x) → (before : State) (c : Settings)
+    (old new : Gate B) (P Q : Gated → Gated → Type 0) → old.config ≡ c → StaysLawful c →
     (HasCleanDisk (at old.book) → (g : Gated) → OpensTo before c g → GateHolds holds old g.content) →
-    Goes (λ b. HasCleanDisk (at b)) holds old new P → GoesOver before (at new.book) c P
-goes_over at holds shows before c old new P is stays opens goes up g file =
+    (HasCleanDisk (at old.book) → (g : Gated) → OpensTo before c g → leaves old.book c (g.content ∷ [])) →
+    (HasCleanDisk (at new.book) → (g after : Gated) → g.settings ≡ c → holds old.book c g.content →
+    leaves old.book c (g.content ∷ []) → P g after → Q g after) →
+    Goes (λ b. HasCleanDisk (at b)) holds old new P → GoesOver before (at new.book) c Q
+goes_over at holds leaves shows before c old new P Q is stays opens left gives goes up g file =
+    let clean = goes.trusted_before up in
+    let settings = settings_are before c g file in
     let over : IsOver holds old g = record {
-      settings = settings_are before c g file ∙ sym is;
-      held = opens (goes.trusted_before up) g file;
+      settings = settings ∙ sym is;
+      held = opens clean g file;
       lawful = subst (λ k. IsLawfulContent k g.content) (sym is) (is_lawful before c g stays file);
     } in
     let went = goes.passes up g over in
@@ -110,23 +135,34 @@ goes_over at holds shows before c old new P is stays opens goes up g file =
         shows = shows new.book c went.0.content (subst (λ k. holds new.book k went.0.content) still went.1.held.book);
         lawful = subst (λ k. IsLawfulContent k went.0.content) still went.1.lawful;
       },
-      went.2,
+      gives up g went.0 settings (subst (λ k. holds old.book k g.content) is over.held.book) (left clean g file) went.2,
     )
 
 -- and so where the gate is over a book that holds in memory what is live of that one
-pub goes_over_live : {B : Type 0} (at : B → State) (holds : B → Settings → Content → Type 0) →
+pub goes_over_live : {B : Type 0} (at : B → State) (holds : B → Settings → Content → Type 0)
+    (leaves : B → Settings → List Content → Type 0) →
     ((b : B) (k : Settings) (x : Content) → holds b k x → ShowsFor (at b) k x) → (before : State) (c : Settings) (book : B)
-    (made : LiveBook B) (old new : Gate (LiveBook B)) (P : Gated → Gated → Type 0) → old.config ≡ c → StaysLawful c →
+    (made : LiveBook B) (old new : Gate (LiveBook B)) (P Q : Gated → Gated → Type 0) → old.config ≡ c → StaysLawful c →
     (HasCleanDisk (at made.book) → HasCleanDisk (at book)) →
-    (HasCleanDisk (at made.book) → (x : Content) → holds book c x → HoldsBoth holds made c x) → old.book ≡ made →
+    (HasCleanDisk (at made.book) → (x : Content) → holds book c x → HoldsBoth holds made c x) →
+    (HasCleanDisk (at made.book) → (x : Content) → holds book c x →
+    (ys : List Content) → leaves book c ys → leaves made.book c ys) → old.book ≡ made →
     ((x : Content) → HoldsBoth holds made c x → GateHolds (λ r k x. HoldsBoth holds r k x) old x) →
     (HasCleanDisk (at book) → (g : Gated) → OpensTo before c g → holds book c g.content) →
-    Goes (λ r. HasCleanDisk (at r.book)) (λ r k x. HoldsBoth holds r k x) old new P → GoesOver before (at new.book.book) c P
-goes_over_live at holds shows before c book made old new P is stays trusted filled same held opens goes =
-    goes_over (λ r. at r.book) (λ r k x. HoldsBoth holds r k x) (λ r k x held. shows r.book k x held.below) before c old new P is stays
+    (HasCleanDisk (at book) → (g : Gated) → OpensTo before c g → leaves book c (g.content ∷ [])) →
+    ((g after : Gated) → g.settings ≡ c → leaves old.book.book c (g.content ∷ []) → P g after → Q g after) →
+    Goes (λ r. HasCleanDisk (at r.book)) (λ r k x. HoldsBoth holds r k x) old new P → GoesOver before (at new.book.book) c Q
+goes_over_live at holds leaves shows before c book made old new P Q is stays trusted filled kept same held opens left gives goes =
+    goes_over (λ r. at r.book) (λ r k x. HoldsBoth holds r k x) (λ r k ys. leaves r.book k ys)
+    (λ r k x held. shows r.book k x held.below) before c old new P Q is stays
     (λ was g file.
     let clean = subst (λ r. HasCleanDisk (at r.book)) same was in
-    held g.content (filled clean g.content (opens (trusted clean) g file))) goes
+    held g.content (filled clean g.content (opens (trusted clean) g file)))
+    (λ was g file.
+    let clean = subst (λ r. HasCleanDisk (at r.book)) same was in
+    subst (λ r. leaves r.book c (g.content ∷ [])) (sym same)
+    (kept clean g.content (opens (trusted clean) g file) (g.content ∷ []) (left (trusted clean) g file)))
+    (λ clean g after set held was p. gives g after set was p) goes
 
 -- ---- serving
 

@@ -1,16 +1,19 @@
 -- What a conversation over a file comes to.
-use Rattle.std.specs.Prelude.{IsTrue, ⊤, ◌≡◌, ◌⊎◌, true, Option, Some, None, Result, Ok, Err}
+use Rattle.std.specs.Prelude.{IsTrue, ⊤, ◌≡◌, ◌⊎◌, ℕ, true, Option, Some, None, Result, Ok, Err, List, [], ◌∷◌, ◌++◌, length}
 use Rattle.sqlite.specs.State.{HasCleanDisk, State}
 use Rattle.gate_types.specs.Adopt.{may_adopt, adopted_content}
 use Rattle.gate_types.specs.Forms.{IsLawfulContent}
-use Rattle.gate_types.specs.Once.{Content}
+use Rattle.gate_types.specs.Once.{Call, Content}
 use Rattle.gate_types.specs.Settings.{Settings, are_sound}
 use Rattle.gate_rows.specs.Tells.{StandsFor}
 use Rattle.gate_file_changes.specs.Adopts.{IsKept}
-use Rattle.gate_content_reads.specs.Held.{ShowsFor}
+use Rattle.gate_content_reads.specs.Held.{LeavesFor, ShowsFor}
 use Rattle.gate_types.specs.declared.open_fault.OpenFault.{OpenFault}
 use Rattle.gate_types.specs.declared.open_fault.OpenFault.TheVariants as open_fault
 use Rattle.gate_core.specs.Gated.{Gated}
+use Rattle.gate_core.specs.Left.{left_after}
+use Rattle.gate_core.specs.Replies.{Cut, Replayed, calls_of_lines}
+use Rattle.gate_http.specs.Connections.{IsCalled}
 use Rattle.gated_cli.specs.Ending.{IsOfServing}
 use Rattle.gated_cli.specs.declared.run.fault.Fault.{Fault}
 use Rattle.gated_cli.specs.declared.run.fault.Fault.TheVariants as fault
@@ -47,6 +50,24 @@ pub record ShowsGate (s : State) (c : Settings) (g : Gated) : Type 0 where
 abbrev pub GoesOver : State → State → Settings → (Gated → Gated → Type 0) → Type 0
 GoesOver old new c P =
     HasCleanDisk new → (g : Gated) → OpensTo old c g → (after : Gated) × ShowsGate new c after × P g after
+
+-- a crash leaves one of the contents that these calls leave of the gate over which the file was opened
+abbrev pub LeavesAfter : State → Settings → Gated → List Call → Type 0
+LeavesAfter s c g ks = LeavesFor s c (left_after c g.content ks (g.content ∷ []))
+
+-- lines are replied to, and a crash leaves what their calls leave
+abbrev pub RepliesOver : State → Settings → List (List ℕ) → List ℕ → Gated → Gated → Type 0
+RepliesOver s c lines text g after =
+    (told : Replayed g lines text after) × LeavesAfter s c g (calls_of_lines told.marked)
+
+-- the same of lines of which so many were answered whole, and the next one's answer was cut
+abbrev pub BreaksOver : State → Settings → List (List ℕ) → List ℕ → ℕ → Gated → Gated → Type 0
+BreaksOver s c lines text done g after = (cut : Cut g lines text after) × (length cut.done ≡ done)
+    × LeavesAfter s c g (calls_of_lines (cut.done ++ cut.last ∷ []))
+
+-- at most so many calls are answered, and a crash leaves what they leave
+abbrev pub ServesOver : State → Settings → ℕ → Gated → Gated → Type 0
+ServesOver s c most g after = (called : IsCalled most g after) × LeavesAfter s c g called.calls
 
 -- a lawful content stays lawful where these settings are taken
 abbrev pub StaysLawful : Settings → Type 0

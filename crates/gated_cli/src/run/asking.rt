@@ -3,7 +3,7 @@ ghost use Rattle.std.specs.Prelude.{◌≡◌, None, false, option_map, IfErr, I
 ghost use Rattle.sqlite.specs.Held.{state};
 ghost use Rattle.sqlite.specs.State.{HasCleanDisk};
 ghost use Rattle.gate_types.specs.Tap.{has_failed};
-ghost use Rattle.gate_found_rows.specs.Finds.{Stays};
+ghost use Rattle.gate_sql.specs.Refused.{IsRefused};
 ghost use Rattle.gate_file_meta.specs.Opens.{IsJudged, IsMeta, with_meta};
 ghost use Rattle.gated_cli.specs.OverFile.{GoesOver, file_fault};
 ghost use Rattle.gated_cli.specs.Showing.{lines_told, WritesLines, StopsLines, WritesContent, StopsContent};
@@ -38,7 +38,7 @@ pub fn deliveries<S: Alter + Drop, W: Write>(
         IsMeta (state S.Store conn).now.trees version kept → HasCleanDisk (state S.Store result.0) →
         IsJudged (file_fault result.1) version kept config }
     ensures none { HasCleanDisk (state S.Store result.0) →
-        IfSome (file_fault result.1) (λ _. Stays (state S.Store conn) (state S.Store result.0)) }
+        IfSome (file_fault result.1) (IsRefused (state S.Store conn) (state S.Store result.0)) }
     ensures ok { OnOk result.1 (has_failed output.new ≡ false) }
     ensures err { IfErr result.1 (StopsLines output.old output.new) }
 {
@@ -71,7 +71,7 @@ pub fn get<S: Alter + Drop, W: Write>(
         IsMeta (state S.Store conn).now.trees version kept → HasCleanDisk (state S.Store result.0) →
         IsJudged (file_fault result.1) version kept config }
     ensures none { HasCleanDisk (state S.Store result.0) →
-        IfSome (file_fault result.1) (λ _. Stays (state S.Store conn) (state S.Store result.0)) }
+        IfSome (file_fault result.1) (IsRefused (state S.Store conn) (state S.Store result.0)) }
     ensures ok { OnOk result.1 (has_failed output.new ≡ false) }
     ensures err { IfErr result.1 (StopsContent output.old output.new) }
 {

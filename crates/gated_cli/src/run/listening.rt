@@ -2,7 +2,7 @@
 ghost use Rattle.std.specs.Prelude.{◌≡◌, ℕ, List, Option, Bool, OnOk, IfOk, IfErr, false};
 ghost use Rattle.gate_types.specs.Tap.{has_failed};
 ghost use Rattle.gate_core.specs.Held.{Goes};
-ghost use Rattle.gate_http.specs.Connections.{IsCalled};
+ghost use Rattle.gate_http.specs.Connections.{CalledOver};
 ghost use Rattle.gated_cli.specs.Doing.{Announces, IsPortFor, beside};
 ghost use Rattle.gated_cli.specs.Ending.{ServingEnds, IsOfServing};
 ghost use Rattle.gated_cli.specs.Telling.{TellsUpTo};
@@ -30,7 +30,8 @@ pub(crate) fn serve<M: Net + AllocGlobal, B: Archive, W: Write, E: Write>(
 ) -> Result<(), Fault>
     requires writer { has_failed output.old ≡ false }
     requires teller { has_failed errors.old ≡ false }
-    ensures gate { Goes B.IsTrusted B.Holds gate.old gate.new (IsCalled count) }
+    ensures gate { Goes B.IsTrusted B.Holds gate.old gate.new
+        (CalledOver B.LeavesOneOf count gate.old gate.new) }
     ensures told { TellsUpTo E.contents count errors.old errors.new }
     ensures ok { OnOk result ((left : Option (List ℕ)) → (failed : Bool) → Announces port
         (beside W.contents left failed output.old) (beside W.contents left failed output.new)) }
@@ -63,7 +64,8 @@ where
     L::Stream: Read + Write + OpenStream,
     requires writer { has_failed output.old ≡ false }
     requires teller { has_failed errors.old ≡ false }
-    ensures gate { Goes B.IsTrusted B.Holds gate.old gate.new (IsCalled count) }
+    ensures gate { Goes B.IsTrusted B.Holds gate.old gate.new
+        (CalledOver B.LeavesOneOf count gate.old gate.new) }
     ensures told { TellsUpTo E.contents count errors.old errors.new }
     ensures ok { OnOk result ((left : Option (List ℕ)) → (failed : Bool) → Announces port
         (beside W.contents left failed output.old) (beside W.contents left failed output.new)) }

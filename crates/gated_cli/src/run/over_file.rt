@@ -1,5 +1,5 @@
 //! The gate over a file.
-ghost use Rattle.std.specs.Prelude.{◌≡◌, ◌≢◌, ℕ, Bool, List, Option, None, true, false, length, map};
+ghost use Rattle.std.specs.Prelude.{◌≡◌, ◌≢◌, ℕ, Bool, List, [], Option, None, true, false, map};
 ghost use Rattle.std.specs.Prelude.{OnOk, IfErr, IfSome, IsErrOf, IsTrue, MatchResult};
 ghost use Rattle.sqlite.specs.Held.{state};
 ghost use Rattle.sqlite.specs.State.{HasCleanDisk, Survives};
@@ -10,22 +10,21 @@ ghost use Rattle.gate_types.specs.Settings.{Settings};
 ghost use Rattle.gate_types.specs.State.{Queue as GateQueue};
 ghost use Rattle.gate_types.specs.Tap.{inside, has_failed, Gave, IsReadOut, Took};
 ghost use Rattle.gate_core.specs.Lines.{whole_lines, lines_of, ReadFor};
-ghost use Rattle.gate_core.specs.Replies.{Replayed, Cut};
 ghost use Rattle.gate_found_rows.specs.Finds.{Stays};
 ghost use Rattle.gate_schema.specs.Schema.{schema_with};
 ghost use Rattle.gate_rows.specs.Tells.{StandsFor};
 ghost use Rattle.gate_file_changes.specs.Applies.{LeavesOrStands};
-ghost use Rattle.gate_content_reads.specs.Held.{HoldsFor, IsShownFor, ShowsFor, queue_names};
+ghost use Rattle.gate_content_reads.specs.Held.{HoldsFor, IsShownFor, LeavesFor, ShowsFor, queue_names};
 ghost use Rattle.gate_live.specs.Both.{HoldsBoth};
 ghost use Rattle.gate_migration.specs.Migrates.{HasNoneToMigrate, IsLeft};
 ghost use Rattle.gate_sql.specs.Refused.{IsRefused};
 ghost use Rattle.gate_file_meta.specs.Opens.{IsJudged, IsMade, IsMeta, is_taken, with_meta};
 ghost use Rattle.gate_migration.specs.Standing.{IsMigrated, is_newly_taken};
 ghost use Rattle.gate_migration.specs.Upgrade.{StandsForFirst};
-ghost use Rattle.gate_http.specs.Connections.{IsCalled};
 ghost use Rattle.gated_cli.specs.Doing.{Announces, beside};
 ghost use Rattle.gated_cli.specs.Ending.{IsOfFile, ServingEnds};
-ghost use Rattle.gated_cli.specs.OverFile.{GoesOver, IsOfServingOver, StaysLawful, file_answer, file_fault};
+ghost use Rattle.gated_cli.specs.OverFile.{BreaksOver, GoesOver, IsOfServingOver, LeavesAfter, RepliesOver};
+ghost use Rattle.gated_cli.specs.OverFile.{ServesOver, StaysLawful, file_answer, file_fault};
 ghost use Rattle.gated_cli.specs.Showing.{WritesStatus, StopsStatus, WritesHistory, StopsHistory};
 ghost use Rattle.gated_cli.specs.Telling.{TellsUpTo};
 
@@ -131,6 +130,10 @@ fn filled<S: Alter + Drop>(alloc: Global, book: SqlBook<S>, config: &Config) -> 
     ensures holds { HasCleanDisk (state S.Store result.book.conn) → (x : Content) →
         HoldsFor (state S.Store book.conn) book.queues.items config.now x →
         HoldsBoth (λ b k y. HoldsFor (state S.Store b.conn) b.queues.items k y) result config.now x }
+    ensures leaves { HasCleanDisk (state S.Store result.book.conn) → (x : Content) →
+        HoldsFor (state S.Store book.conn) book.queues.items config.now x → (ys : List Content) →
+        LeavesFor (state S.Store book.conn) config.now ys →
+        LeavesFor (state S.Store result.book.conn) config.now ys }
 {
     let mut live = LiveBook::new(alloc, book);
     let _filled = live.fill(config);
@@ -151,22 +154,23 @@ pub fn deliver<S: Alter + Drop, R: Read, W: Write>(
         × Gave R.remaining input.old input.new read × IsReadOut R.remaining input.new
         × (text : List ℕ) × Took W.contents output.old output.new text
         × GoesOver (state S.Store conn) (state S.Store result.0) config
-        (λ g after. Replayed g (lines_of read) text after)) }
+        (RepliesOver (state S.Store result.0) config (lines_of read) text)) }
     // the lines before the one that the error cut
     ensures read { IsErrOf result.1 Fault.Read → (front : List ℕ)
         × Gave R.remaining input.old input.new front
         × (text : List ℕ) × Took W.contents output.old output.new text
         × GoesOver (state S.Store conn) (state S.Store result.0) config
-        (λ g after. Replayed g (whole_lines front) text after) }
+        (RepliesOver (state S.Store result.0) config (whole_lines front) text) }
     // the lines up to the one whose answer was cut, and no read beyond the one that ended it
     ensures write { IsErrOf result.1 Fault.Write → (lines : List (List ℕ))
         × (text : List ℕ) × Took W.contents output.old output.new text
         × (done : ℕ) × ReadFor (R.remaining (inside input.old)) (R.remaining (inside input.new)) lines done
         × GoesOver (state S.Store conn) (state S.Store result.0) config
-        (λ g after. (cut : Cut g lines text after) × (length cut.done ≡ done)) }
+        (BreaksOver (state S.Store result.0) config lines text done) }
     // nothing is answered, and the gate is as it was
     ensures memory { IsErrOf result.1 Fault.NoMemory →
-        GoesOver (state S.Store conn) (state S.Store result.0) config (λ g after. after ≡ g) }
+        GoesOver (state S.Store conn) (state S.Store result.0) config
+        (λ g after. (after ≡ g) × LeavesAfter (state S.Store result.0) config g []) }
     // whether the file is opened is decided by the file alone
     ensures judged { (tables : _) (indexes : _) (views : _) (version kept : _) →
         (state S.Store conn).now.schema ≡ with_meta tables indexes views →
@@ -207,7 +211,8 @@ pub fn status<S: Alter + Drop, W: Write>(
     requires { has_failed output.old ≡ false }
     ensures gate { file_fault result.1 ≡ None →
         GoesOver (state S.Store conn) (state S.Store result.0) config
-        (λ g after. (after ≡ g) × WritesStatus g W.contents output.old output.new result.1) }
+        (λ g after. (after ≡ g) × WritesStatus g W.contents output.old output.new result.1
+        × LeavesAfter (state S.Store result.0) config g []) }
     // whether the file is opened is decided by the file alone
     ensures judged { (tables : _) (indexes : _) (views : _) (version kept : _) →
         (state S.Store conn).now.schema ≡ with_meta tables indexes views →
@@ -240,7 +245,8 @@ pub fn history<S: Alter + Drop, W: Write>(
     requires { has_failed output.old ≡ false }
     ensures gate { file_fault result.1 ≡ None →
         GoesOver (state S.Store conn) (state S.Store result.0) config
-        (λ g after. (after ≡ g) × WritesHistory g queue.now W.contents output.old output.new result.1) }
+        (λ g after. (after ≡ g) × WritesHistory g queue.now W.contents output.old output.new result.1
+        × LeavesAfter (state S.Store result.0) config g []) }
     // whether the file is opened is decided by the file alone
     ensures judged { (tables : _) (indexes : _) (views : _) (version kept : _) →
         (state S.Store conn).now.schema ≡ with_meta tables indexes views →
@@ -276,7 +282,8 @@ pub fn serve<M: Net + AllocGlobal, S: Alter + Drop, W: Write, E: Write>(
     requires teller { has_failed errors.old ≡ false }
     // each connection is at most one call
     ensures gate { file_fault result.1 ≡ None →
-        GoesOver (state S.Store conn) (state S.Store result.0) config (IsCalled count) }
+        GoesOver (state S.Store conn) (state S.Store result.0) config
+        (ServesOver (state S.Store result.0) config count) }
     // whether the file is opened is decided by the file alone, and not by the port
     ensures judged { (tables : _) (indexes : _) (views : _) (version kept : _) →
         (state S.Store conn).now.schema ≡ with_meta tables indexes views →

@@ -2,6 +2,7 @@
 ghost use Rattle.std.specs.Prelude.{◌≡◌, ℕ, List, Ok, OnOk, IfErr, None, option_map, false};
 ghost use Rattle.gate_types.specs.Tap.{has_failed, Took};
 ghost use Rattle.gate_core.specs.Held.{Goes};
+ghost use Rattle.gate_core.specs.Holding.{IsKeptGate};
 ghost use Rattle.gated_cli.specs.OverFile.{file_fault};
 ghost use Rattle.gated_cli.specs.Showing.{WritesStatus, StopsStatus, WritesHistory, StopsHistory, cursor, lines_behind, lines_told, WritesLines, StopsLines, IsEndedBy, WritesContent, StopsContent};
 
@@ -29,6 +30,7 @@ pub(crate) fn write_status<B: Book, W: Write>(
     requires { has_failed output.old ≡ false }
     ensures gate { Goes B.IsTrusted B.Holds gate.old gate.new
         (λ g after. (after ≡ g) × WritesStatus g W.contents output.old output.new result) }
+    ensures kept { IsKeptGate B.IsTrusted B.Holds B.LeavesOneOf gate.old gate.new }
     ensures ok { OnOk result ((has_failed output.new ≡ false)
         × (text : List ℕ) × Took W.contents output.old output.new text) }
     ensures err { IfErr result (StopsStatus W.contents output.old output.new) }
@@ -55,6 +57,7 @@ pub(crate) fn write_history<B: Book, W: Write>(
     requires { has_failed output.old ≡ false }
     ensures gate { Goes B.IsTrusted B.Holds gate.old gate.new
         (λ g after. (after ≡ g) × WritesHistory g queue.now W.contents output.old output.new result) }
+    ensures kept { IsKeptGate B.IsTrusted B.Holds B.LeavesOneOf gate.old gate.new }
     ensures ok { OnOk result (has_failed output.new ≡ false) }
     ensures err { IfErr result (StopsHistory output.old output.new) }
     ensures opened { file_fault result ≡ None }

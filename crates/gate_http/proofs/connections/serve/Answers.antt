@@ -1,4 +1,6 @@
-use Rattle.gate_http.proofs.ConnectionLemmas.{called_on, told_still, told_on}
+use Rattle.std.proofs.Common.{[], arith, refl, sym, ◌∙◌, true≢false}
+use Rattle.std.proofs.KnownBytes.{Appends-nil}
+use Rattle.gate_http.proofs.ConnectionLemmas.{called_on, called_within, told_still, told_on, uncalled}
 use Rattle.gate_http.proofs.connections.serve.Goals as goal
 use Rattle.gate_http.proofs.connections.serve.Goals.{in-Err, in_default-serve_stream}
 
@@ -13,3 +15,14 @@ loop-preserved g c = record {
         c.loop.errors c.loop.invariant.told)
   ];
 }
+
+pub loop-init : goal.loop-init
+loop-init g c = record {
+  gate = uncalled g.B.Book.IsTrusted g.B.Book.Holds g.B.Book.LeavesOneOf 0 c.args.gate.now c.args.gate.now refl;
+  told = ([], omega arith, record { whole = λ e. Appends-nil _; cut = λ e. absurd (true≢false (sym e ∙ c.requires)) });
+}
+
+pub returns-in_default-clause-gate : goal.returns-in_default-clause-gate
+returns-in_default-clause-gate g c =
+    called_within g.B.Book.IsTrusted g.B.Book.Holds g.B.Book.LeavesOneOf c.loop.counter c.args.count c.args.gate.now
+    c.loop.gate (omega (arith, c.loop.auto.counter-end)) c.loop.invariant.gate

@@ -23,7 +23,7 @@ returns-clause-ok g c =
         ended = h.2;
         replies = h.3;
         gate = went.0;
-        answered = went.2;
+        answered = went.2.0;
       };
       written = elim c.if-status.branch [
         | then-status+in_ok-write_status w ↦ rw w.output-is (with_status _ _ c.args.status h.3 shown w.if-status.true (Appends-trans _ _ _ h.3 shown h.4 (status_shown g.W.Write.contents w.write_status.result w.in_ok-write_status.field-0 went.0 c.replay.new.w w.write_status.new.output w.in_ok-write_status.was (w.write_status.ensures.gate.passes tt went.0 went.1).2.1)))
@@ -48,7 +48,7 @@ returns-in_err-replay-clause-err g c =
       read = h.1;
       replies = h.2;
       gate = went.0;
-      answered = went.2;
+      answered = went.2.0;
       written = h.3;
     })
     (λ e. let h = c.replay.ensures.write e in
@@ -88,7 +88,7 @@ returns-in_err-write_status-clause-err g c =
           ended = h.2;
           replies = h.3;
           gate = went.0;
-          answered = went.2;
+          answered = went.2.0;
         };
         written = rw refused.1 h.4;
       })
@@ -102,7 +102,7 @@ returns-in_err-write_status-clause-err g c =
           ended = h.2;
           replies = h.3;
           gate = went.0;
-          answered = went.2;
+          answered = went.2.0;
         };
         at = front.0;
         short = front.1;

@@ -1,14 +1,14 @@
-use Rattle.std.proofs.Common.{◌≡◌, ◌∙◌, ap, subst, sym}
+use Rattle.std.proofs.Common.{◌≡◌, ◌∙◌, [], ◌∷◌, ap, subst, sym}
 use Rattle.std.specs.Prelude.{IfSome}
 use Rattle.sqlite.specs.Held.{state}
-use Rattle.sqlite.specs.State.{HasCleanDisk}
+use Rattle.sqlite.specs.State.{HasCleanDisk, State}
 use Rattle.gate_core.specs.Gated.{Gated}
 use Rattle.gate_sql.specs.Refused.{IsRefused}
-use Rattle.gate_content_reads.specs.Held.{HoldsFor}
+use Rattle.gate_content_reads.specs.Held.{HoldsFor, LeavesFor}
 use Rattle.gate_file_meta.specs.Opens.{IsJudged}
-use Rattle.gated_cli.specs.OverFile.{GoesOver}
+use Rattle.gated_cli.specs.OverFile.{GoesOver, LeavesAfter}
 use Rattle.gated_cli.specs.Showing.{WritesHistory}
-use Rattle.gated_cli.proofs.FileLemmas.{goes_over, opens_to}
+use Rattle.gated_cli.proofs.FileLemmas.{goes_over, opened_leaves, opens_to}
 use Rattle.gated_cli.proofs.run.over_file.history.Goals as goal
 
 pub returns-clause-gate : goal.returns-clause-gate
@@ -16,15 +16,23 @@ returns-clause-gate g c unfaulted =
     let went = c.write_history-done.ensures.gate in
     let last = c.into_conn.ensures ∙ ap (λ book. book.conn) c.into_book.ensures in
     let P : Gated → Gated → Type 0 = λ gate after. (after ≡ gate) × WritesHistory gate c.args.queue.now g.W.Write.contents c.args.output.now c.write_history-done.new.output c.write_history-done.result in
+    let Q : State → Gated → Gated → Type 0 = λ s gate after. (after ≡ gate) × WritesHistory gate c.args.queue.now g.W.Write.contents c.args.output.now c.write_history-done.new.output c.write_history-done.result × LeavesAfter s c.args.config gate [] in
     let opened = state g.S.Store c.in-Ok.book.conn in
-    let over = goes_over (λ book. state g.S.Store book.conn) (λ book k x. HoldsFor (state g.S.Store book.conn) book.queues.items k x) (λ book k x held. held.shows)
+    let over = goes_over (λ book. state g.S.Store book.conn) (λ book k x. HoldsFor (state g.S.Store book.conn) book.queues.items k x)
+    (λ book k ys. LeavesFor (state g.S.Store book.conn) k ys) (λ book k x held. held.shows)
     (state g.S.Store c.args.conn) c.args.config c.new-gate.result
-    c.write_history-done.new.gate P c.new-gate.ensures.config c.stays_lawful.ensures
+    c.write_history-done.new.gate P (Q (state g.S.Store c.write_history-done.new.gate.book.conn)) c.new-gate.ensures.config c.stays_lawful.ensures
     (λ clean gate file. c.new-gate.ensures.holds gate.content
     (opens_to (λ x. HasCleanDisk opened → HoldsFor opened c.in-Ok.book.queues.items c.args.config x) (state g.S.Store c.args.conn) c.args.config gate c.in-Ok.ensures.opens c.in-Ok.ensures.adopts file
     (subst (λ book. HasCleanDisk (state g.S.Store book.conn)) c.new-gate.ensures.book clean)))
+    (λ clean gate file.
+    let held = subst (λ book. HasCleanDisk (state g.S.Store book.conn)) c.new-gate.ensures.book clean in
+    subst (λ book. LeavesFor (state g.S.Store book.conn) c.args.config (gate.content ∷ [])) (sym c.new-gate.ensures.book)
+    (opened_leaves (state g.S.Store c.args.conn) opened c.args.config gate
+    (λ up x it. c.in-Ok.ensures.settled up x it held) (λ up k x it may. c.in-Ok.ensures.adopted up k x it may held) file))
+    (λ clean gate after set held was p. (p.0, p.1, c.write_history-done.ensures.kept.book.leaves_on clean c.args.config gate.content held (gate.content ∷ []) was))
     went in
-    subst (λ conn. GoesOver (state g.S.Store c.args.conn) (state g.S.Store conn) c.args.config P) (sym last) over
+    subst (λ conn. GoesOver (state g.S.Store c.args.conn) (state g.S.Store conn) c.args.config (Q (state g.S.Store conn))) (sym last) over
 
 pub returns-clause-judged : goal.returns-clause-judged
 returns-clause-judged g c tables indexes views version kept schema meta clean =
