@@ -47,7 +47,8 @@ SIGNS = {":", "=", "→", "×", "↦", "|", "λ", "∀", "[", "]", "_", "let", "
          "unfolding", "unfold", "ruleset", "module", "mutual", "Type"}
 PLAIN = {"ℕ", "List", "Bool", "[]", "∷"}
 # Traits of libraries, which are imported for their methods.
-TRAITS = {"BufRead", "Read", "Write", "Seek", "FromStr", "Iterator", "Hash", "Hasher", "ToSql", "Disk", "Crash"}
+TRAITS = {"BufRead", "Read", "Write", "Seek", "FromStr", "Iterator", "Hash", "Hasher", "ToSql", "Disk", "Crash",
+          "OpenListener", "OpenStream"}
 
 
 @dataclass(frozen=True)
@@ -110,9 +111,12 @@ class Source:
 
 
 def lines_alone(match: re.Match[str]) -> str:
-    """What stands for a comment or a text: its lines, so that those after it stay, and a number of the text's own."""
-    number = f'"{crc32(match[0].encode())}"' if '"' in match[0] else ""
-    return number + "\n" * match[0].count("\n")
+    """What stands for a comment or a text: its lines, so that those after it stay, and a number of the text's own with
+    the names that a format takes."""
+    is_text = '"' in match[0]
+    number = f'"{crc32(match[0].encode())}"' if is_text else ""
+    names = re.findall(r"(?<!\{)\{([A-Za-z_]\w*)(?=[}:])", match[0]) if is_text else []
+    return " ".join([number, *names]) + "\n" * match[0].count("\n")
 
 
 def line_of(text: str, at: int) -> int:

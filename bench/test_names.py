@@ -58,7 +58,7 @@ returns c = is_itself c.args.n
 ghost use Rattle.std.specs.Prelude.{◌≡◌, true, length};
 ghost use Rattle.low.specs.Words.{is_own, most, Short};
 
-use std::io::Write;
+use std::io::{WIDTH, Write};
 use std::alloc::Global;
 use std::fmt::{
     Debug,
@@ -70,7 +70,7 @@ pub fn told(n: u64) -> bool
     ensures same { result ≡ is_own n n }
     ensures { most ≡ most }
 {
-    let length = "is_spare(n) and unused()";
+    let length = "is_spare(n) and unused() {WIDTH:>3} {{Global}}";
     shown(Short) && told(n)
 }
 
