@@ -4,4 +4,5 @@ pub mod CheckLemmas
 mod FileLemmas
 pub mod ShowLemmas
 pub mod TalkLemmas
+mod OfFileLemmas
 mod AskLemmas

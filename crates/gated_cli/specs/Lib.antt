@@ -2,7 +2,8 @@ pub mod Faults
 pub mod Doing
 pub mod Ending
 pub mod Telling
-pub mod Program
 pub mod InMemory
 pub mod OverFile
 pub mod Showing
+pub mod OfFile
+pub mod Program

@@ -1,10 +1,12 @@
 -- What the program has done at each status.
 use Rattle.std.specs.Prelude.{◌≡◌, ◌⊎◌, true, ℕ, List, Option, codes}
 use Rattle.clap.specs.Words.{Text}
+use Rattle.sqlite.specs.State.{State}
 use Rattle.gate_types.specs.Tap.{has_failed}
 use Rattle.gate_types.specs.declared.tap.Tap.{Tap}
 use Rattle.gated_command.specs.CommandLine.{Names, may_ask_help}
 use Rattle.gated_cli.specs.Doing.{Streams, Does}
+use Rattle.gated_cli.specs.OfFile.{Made}
 use Rattle.gated_cli.specs.Ending.{EndsBy, Tells}
 use Rattle.gated_cli.specs.Faults.{line_of}
 use Rattle.gated_cli.specs.Telling.{ToldBy, TellsBy}
@@ -12,11 +14,12 @@ use Rattle.gated_command.specs.declared.words.Cmd.{Cmd}
 use Rattle.gated_cli.specs.declared.run.fault.Fault.{Fault}
 use Rattle.gated_cli.specs.declared.run.fault.Fault.TheVariants as fault
 
--- the words name a command and it is done, or they ask for help or the version, the input is left alone and nothing is
--- told
-abbrev pub Obeys : {E : Type 0} → (E → Option (List ℕ)) → List Text → Streams → Streams → Tap E → Tap E → Type 0
-Obeys held words before after old new =
-    ((cmd : Cmd) × Names words cmd × Does cmd before after × ToldBy held cmd old new)
+-- the words name a command and it is done, over the file at its path where it has one, or they ask for help or the
+-- version, the input is left alone and nothing is told
+abbrev pub Obeys : {E : Type 0} → (List ℕ → (State → State → Type 0) → Type 0) → (E → Option (List ℕ)) → List Text →
+    Streams → Streams → Tap E → Tap E → Type 0
+Obeys Led held words before after old new =
+    ((cmd : Cmd) × Names words cmd × Does cmd before after × Made Led cmd before after × ToldBy held cmd old new)
     ⊎ ((may_ask_help words ≡ true) × (after.left ≡ before.left) × (new ≡ old))
 
 -- help or the version couldn't be given: there was no memory for it, or the output failed

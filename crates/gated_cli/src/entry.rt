@@ -37,7 +37,7 @@ pub fn program<F: Files + GateFiles + AllocGlobal, S: AsStr, R: Read, W: Write, 
     requires writer { has_failed output.old ≡ false }
     requires teller { has_failed errors.old ≡ false }
     ensures status { result ≤ 2 }
-    ensures done { result ≡ 0 → Obeys E.contents (map S.text words.now)
+    ensures done { result ≡ 0 → Obeys F.Led E.contents (map S.text words.now)
         (streams R.remaining W.contents input.old output.old)
         (streams R.remaining W.contents input.new output.new) errors.old errors.new }
     ensures fault { result ≡ 1 → (fault : Fault) × FailsBy E.contents fault (map S.text words.now)

@@ -13,16 +13,24 @@ use std::net::Net;
 
 /// The gates' files of a machine, by their paths.
 pub trait GateFiles {
-    ghost use Rattle.std.specs.Prelude.{◌≡◌, ℕ, Bool, List, Option, IfErr, OnOk, false};
-    ghost use Rattle.gate_types.specs.Tap.{has_failed};
+    ghost use Rattle.std.specs.Prelude.{◌≡◌, ℕ, Bool, List, Option, IfErr, IfOk, OnOk, false, option_map};
+    ghost use Rattle.sqlite.specs.State.{State};
+    ghost use Rattle.gate_types.specs.Tap.{has_failed, inside};
     ghost use Rattle.gated_cli.specs.Doing.{Announces, Delivers, Looks, Prints, beside, streams};
     ghost use Rattle.gated_cli.specs.Ending.{AskingEnds, DeliveryEnds, HistoryEnds, IsOfMaking, LinesEnd, ServingEnds, StatusEnds};
+    ghost use Rattle.gated_cli.specs.OfFile.{ContentOf, DeliveriesOf, HistoryOf, MakesGate, PrintsOf, RepliesTo, StatusOf};
+    ghost use Rattle.gated_cli.specs.OfFile.{Upgrades};
+    ghost use Rattle.gated_cli.specs.OverFile.{GoesOver, ServesOver};
     ghost use Rattle.gated_cli.specs.Telling.{TellsUpTo};
+
+    // the file at this path was opened in one state and closed in another, and this is so of the two
+    ghost Led: { List ℕ → (State → State → Type 0) → Type 0 };
 
     /// Makes the tables of a new gate in a file, which is made where it isn't there. `File` as for `SqlBook::create`,
     /// and where it can't be opened; `Store` where it can't be closed.
     fn make(&self, file: &str, config: &Config) -> Result<(), Fault>
-        ensures { IfErr result IsOfMaking };
+        ensures made { OnOk result (Led file.now (MakesGate config.now)) }
+        ensures fault { IfErr result IsOfMaking };
 
     /// Answers each line of the input over the gate that a file keeps. `File` where the file isn't there or can't be
     /// opened, and as for `SqlBook::open`; `Read`, `Write` and `NoMemory` as for `replay`; `Store` where all is
@@ -39,6 +47,9 @@ pub trait GateFiles {
         ensures ok { OnOk result (Delivers
             (streams R.remaining W.contents input.old output.old)
             (streams R.remaining W.contents input.new output.new)) }
+        ensures made { OnOk result (Led file.now (RepliesTo config
+            (streams R.remaining W.contents input.old output.old)
+            (streams R.remaining W.contents input.new output.new))) }
         ensures err { IfErr result (λ fault. DeliveryEnds fault
             (streams R.remaining W.contents input.old output.old)
             (streams R.remaining W.contents input.new output.new)) };
@@ -49,6 +60,8 @@ pub trait GateFiles {
         requires { has_failed output.old ≡ false }
         ensures ok { OnOk result ((left : Option (List ℕ)) → (failed : Bool) → Prints
             (beside W.contents left failed output.old) (beside W.contents left failed output.new)) }
+        ensures made { OnOk result (Led file.now (PrintsOf config StatusOf
+            (W.contents (inside output.old)) (W.contents (inside output.new)))) }
         ensures err { IfErr result (λ fault. (left : Option (List ℕ)) → (failed : Bool) → StatusEnds fault
             (beside W.contents left failed output.old) (beside W.contents left failed output.new)) };
 
@@ -65,6 +78,8 @@ pub trait GateFiles {
         requires { has_failed output.old ≡ false }
         ensures ok { OnOk result ((left : Option (List ℕ)) → (failed : Bool) → Looks
             (beside W.contents left failed output.old) (beside W.contents left failed output.new)) }
+        ensures made { OnOk result (Led file.now (PrintsOf config (HistoryOf queue.now)
+            (W.contents (inside output.old)) (W.contents (inside output.new)))) }
         ensures err { IfErr result (λ fault. (left : Option (List ℕ)) → (failed : Bool) → HistoryEnds fault
             (beside W.contents left failed output.old) (beside W.contents left failed output.new)) };
 
@@ -81,6 +96,8 @@ pub trait GateFiles {
         requires { has_failed output.old ≡ false }
         ensures ok { OnOk result ((left : Option (List ℕ)) → (failed : Bool) → Looks
             (beside W.contents left failed output.old) (beside W.contents left failed output.new)) }
+        ensures made { OnOk result (Led file.now (PrintsOf config (DeliveriesOf (option_map (λ s. s.now) after.entry))
+            (W.contents (inside output.old)) (W.contents (inside output.new)))) }
         ensures err { IfErr result (λ fault. (left : Option (List ℕ)) → (failed : Bool) → LinesEnd fault
             (beside W.contents left failed output.old) (beside W.contents left failed output.new)) };
 
@@ -97,6 +114,8 @@ pub trait GateFiles {
         requires { has_failed output.old ≡ false }
         ensures ok { OnOk result ((left : Option (List ℕ)) → (failed : Bool) → Looks
             (beside W.contents left failed output.old) (beside W.contents left failed output.new)) }
+        ensures made { OnOk result (Led file.now (PrintsOf config (ContentOf path.now)
+            (W.contents (inside output.old)) (W.contents (inside output.new)))) }
         ensures err { IfErr result (λ fault. (left : Option (List ℕ)) → (failed : Bool) → AskingEnds fault
             (beside W.contents left failed output.old) (beside W.contents left failed output.new)) };
 
@@ -118,16 +137,23 @@ pub trait GateFiles {
         ensures told { TellsUpTo E.contents count errors.old errors.new }
         ensures ok { OnOk result ((left : Option (List ℕ)) → (failed : Bool) → Announces port
             (beside W.contents left failed output.old) (beside W.contents left failed output.new)) }
+        ensures made { OnOk result (Led file.now (λ old new. GoesOver old new config (ServesOver new config count))) }
         ensures err { IfErr result (λ fault. (left : Option (List ℕ)) → (failed : Bool) → ServingEnds port fault
             (beside W.contents left failed output.old) (beside W.contents left failed output.new)) };
 
     /// Makes a file of schema 1 one of schema 2. `File` where the file isn't there or can't be opened, and as for
     /// `gate_sql::migrate`; `Store` where it can't be closed.
     fn migrate(&self, file: &str, config: &Config) -> Result<Migrated, Fault>
-        ensures { IfErr result IsOfMaking };
+        ensures made { IfOk result (λ done. Led file.now (Upgrades config.now done)) }
+        ensures fault { IfErr result IsOfMaking };
 }
 
 impl<S: Alter + Drop, M: Databases<Database = Connection<S>> + Net + AllocGlobal> GateFiles for M {
+    ghost use Rattle.sqlite.specs.Held.{Held, state};
+
+    ghost Led = { λ path P. (old : Held S) × (new : Held S) × M.IsOf old path × M.IsClosed new
+        × P (state S.Store old) (state S.Store new) };
+
     fn make(&self, file: &str, config: &Config) -> Result<(), Fault> {
         let conn = self.database(file)?;
         let (conn, done) = over_file::make(self.alloc(), conn, config);
@@ -216,27 +242,43 @@ impl<S: Alter + Drop, M: Databases<Database = Connection<S>> + Net + AllocGlobal
 
 /// The databases of a machine, by the paths of their files.
 pub trait Databases {
-    ghost use Rattle.std.specs.Prelude.{◌≡◌, IfErr};
+    ghost use Rattle.std.specs.Prelude.{◌≡◌, ℕ, List, IfErr, IfOk, OnOk};
     ghost use Rattle.gate_types.specs.declared.open_fault.OpenFault.{OpenFault};
 
     /// An open database.
     type Database;
 
+    // this is the database of the file at that path, as it was opened
+    ghost IsOf: { Self.Database → List ℕ → Type 0 };
+
+    // a database was closed as this one
+    ghost IsClosed: { Self.Database → Type 0 };
+
     /// The database of a file, which is made where it isn't there. `File` where it can't be opened.
     fn database(&self, file: &str) -> Result<Self::Database, Fault>
-        ensures { IfErr result (λ f. f ≡ Fault.File OpenFault.Unavailable) };
+        ensures of { IfOk result (λ conn. IsOf conn file.now) }
+        ensures fault { IfErr result (λ f. f ≡ Fault.File OpenFault.Unavailable) };
 
     /// The database of a file that is there. `File` where it isn't, or can't be opened.
     fn present(&self, file: &str) -> Result<Self::Database, Fault>
-        ensures { IfErr result (λ f. f ≡ Fault.File OpenFault.Unavailable) };
+        ensures of { IfOk result (λ conn. IsOf conn file.now) }
+        ensures fault { IfErr result (λ f. f ≡ Fault.File OpenFault.Unavailable) };
 
     /// Closes a database. `Store` where it can't be.
     fn close(&self, conn: Self::Database) -> Result<(), Fault>
-        ensures { IfErr result (λ f. f ≡ Fault.Store) };
+        ensures closed { OnOk result (IsClosed conn) }
+        ensures fault { IfErr result (λ f. f ≡ Fault.Store) };
 }
 
 impl Databases for HostRuntime {
+    ghost use Rattle.std.specs.Prelude.{⊤};
+
     type Database = Connection<FileStore<File>>;
+
+    // the kit says nothing of paths
+    ghost IsOf = { λ _ _. ⊤ };
+
+    ghost IsClosed = { λ _. ⊤ };
 
     fn database(&self, file: &str) -> Result<Connection<FileStore<File>>, Fault> {
         match Connection::open(self, file) {

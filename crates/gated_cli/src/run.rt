@@ -1,10 +1,17 @@
 //! Does what a command line asks for.
-ghost use Rattle.std.specs.Prelude.{◌≡◌, ◌⊎◌, ◌≤◌, ℕ, List, Option, Bool, OnOk, IfOk, IfErr, length, false, true};
-ghost use Rattle.gate_types.specs.Tap.{has_failed};
+ghost use Rattle.std.specs.Prelude.{◌≡◌, ◌⊎◌, ◌≤◌, ℕ, List, [], ◌∷◌, ◌++◌, Option, Bool, OnOk, IfOk, IfErr, length};
+ghost use Rattle.std.specs.Prelude.{false, true, option_map};
+ghost use Rattle.std.specs.Io.KnownBytes.{Appends};
+ghost use Rattle.gate_types.specs.Settings.{Settings};
+ghost use Rattle.gate_types.specs.Tap.{has_failed, inside};
+ghost use Rattle.gate_migration.specs.declared.migrating.Migrated.{Migrated};
 ghost use Rattle.gated_cli.specs.Doing.{Does, Announces, Checks, Delivers, Looks, Migrates, Prints, Replays, HasSettings, beside, streams, settings_limit, migrated_text};
 ghost use Rattle.gated_cli.specs.Ending.{EndsBy, AskingEnds, CheckEnds, DeliveryEnds, HistoryEnds, LinesEnd, MigrationEnds, ReplayEnds, ServingEnds, StatusEnds, IsEarly, IsOfMaking, Tells};
 ghost use Rattle.gated_cli.specs.Faults.{line_of};
 ghost use Rattle.gated_cli.specs.InMemory.{IsGate};
+ghost use Rattle.gated_cli.specs.OfFile.{ContentOf, DeliveriesOf, HistoryOf, Made, MakesGate, PrintsOf, RepliesTo, StatusOf};
+ghost use Rattle.gated_cli.specs.OfFile.{Upgrades};
+ghost use Rattle.gated_cli.specs.OverFile.{GoesOver, ServesOver};
 ghost use Rattle.gated_cli.specs.Telling.{ToldBy, TellsBy, TellsUpTo};
 ghost use Rattle.gate_core.specs.Gated.{opened};
 
@@ -53,6 +60,9 @@ pub fn run<F: Files + GateFiles + AllocGlobal, R: Read, W: Write, E: Write>(
     requires teller { has_failed errors.old ≡ false }
     ensures status { (result ≡ 0) ⊎ (result ≡ 1) }
     ensures done { result ≡ 0 → ToldBy E.contents cmd.entry errors.old errors.new × Does cmd.entry
+        (streams R.remaining W.contents input.old output.old)
+        (streams R.remaining W.contents input.new output.new) }
+    ensures made { result ≡ 0 → Made F.Led cmd.entry
         (streams R.remaining W.contents input.old output.old)
         (streams R.remaining W.contents input.new output.new) }
     // all of the fault's line, or a beginning where the writer has failed
@@ -112,6 +122,9 @@ fn perform<F: Files + GateFiles + AllocGlobal, R: Read, W: Write, E: Write>(
     requires teller { has_failed errors.old ≡ false }
     ensures told { ToldBy E.contents cmd.entry errors.old errors.new }
     ensures ok { OnOk result (Does cmd.entry
+        (streams R.remaining W.contents input.old output.old)
+        (streams R.remaining W.contents input.new output.new)) }
+    ensures made { OnOk result (Made F.Led cmd.entry
         (streams R.remaining W.contents input.old output.old)
         (streams R.remaining W.contents input.new output.new)) }
     ensures err { IfErr result (λ fault. EndsBy fault cmd.entry
@@ -211,7 +224,8 @@ fn run_init<F: Files + GateFiles + AllocGlobal>(
     settings: &str,
     file: &str,
 ) -> Result<(), Fault>
-    ensures { IfErr result IsOfMaking }
+    ensures made { OnOk result ((c : Settings) × HasSettings c × F.Led file.now (MakesGate c)) }
+    ensures fault { IfErr result IsOfMaking }
 {
     let config = settings_of(rt, settings)?;
     rt.make(file, &config)
@@ -230,6 +244,9 @@ fn run_deliver<F: Files + GateFiles + AllocGlobal, R: Read, W: Write>(
     ensures ok { OnOk result (Delivers
         (streams R.remaining W.contents input.old output.old)
         (streams R.remaining W.contents input.new output.new)) }
+    ensures made { OnOk result ((c : Settings) × HasSettings c × F.Led file.now (RepliesTo c
+        (streams R.remaining W.contents input.old output.old)
+        (streams R.remaining W.contents input.new output.new))) }
     ensures err { IfErr result (λ fault. DeliveryEnds fault
         (streams R.remaining W.contents input.old output.old)
         (streams R.remaining W.contents input.new output.new)) }
@@ -248,6 +265,8 @@ fn run_status<F: Files + GateFiles + AllocGlobal, W: Write>(
     requires { has_failed output.old ≡ false }
     ensures ok { OnOk result ((left : Option (List ℕ)) → (failed : Bool) → Prints
         (beside W.contents left failed output.old) (beside W.contents left failed output.new)) }
+    ensures made { OnOk result ((c : Settings) × HasSettings c × F.Led file.now (PrintsOf c StatusOf
+        (W.contents (inside output.old)) (W.contents (inside output.new)))) }
     ensures err { IfErr result (λ fault. (left : Option (List ℕ)) → (failed : Bool) → StatusEnds fault
         (beside W.contents left failed output.old) (beside W.contents left failed output.new)) }
 {
@@ -266,6 +285,8 @@ fn run_history<F: Files + GateFiles + AllocGlobal, W: Write>(
     requires { has_failed output.old ≡ false }
     ensures ok { OnOk result ((left : Option (List ℕ)) → (failed : Bool) → Looks
         (beside W.contents left failed output.old) (beside W.contents left failed output.new)) }
+    ensures made { OnOk result ((c : Settings) × HasSettings c × F.Led file.now (PrintsOf c (HistoryOf queue.now)
+        (W.contents (inside output.old)) (W.contents (inside output.new)))) }
     ensures err { IfErr result (λ fault. (left : Option (List ℕ)) → (failed : Bool) → HistoryEnds fault
         (beside W.contents left failed output.old) (beside W.contents left failed output.new)) }
 {
@@ -284,6 +305,8 @@ fn run_deliveries<F: Files + GateFiles + AllocGlobal, W: Write>(
     requires { has_failed output.old ≡ false }
     ensures ok { OnOk result ((left : Option (List ℕ)) → (failed : Bool) → Looks
         (beside W.contents left failed output.old) (beside W.contents left failed output.new)) }
+    ensures made { OnOk result ((c : Settings) × HasSettings c × F.Led file.now (PrintsOf c (DeliveriesOf (option_map (λ s. s.now) after.entry))
+        (W.contents (inside output.old)) (W.contents (inside output.new)))) }
     ensures err { IfErr result (λ fault. (left : Option (List ℕ)) → (failed : Bool) → LinesEnd fault
         (beside W.contents left failed output.old) (beside W.contents left failed output.new)) }
 {
@@ -302,6 +325,8 @@ fn run_get<F: Files + GateFiles + AllocGlobal, W: Write>(
     requires { has_failed output.old ≡ false }
     ensures ok { OnOk result ((left : Option (List ℕ)) → (failed : Bool) → Looks
         (beside W.contents left failed output.old) (beside W.contents left failed output.new)) }
+    ensures made { OnOk result ((c : Settings) × HasSettings c × F.Led file.now (PrintsOf c (ContentOf path.now)
+        (W.contents (inside output.old)) (W.contents (inside output.new)))) }
     ensures err { IfErr result (λ fault. (left : Option (List ℕ)) → (failed : Bool) → AskingEnds fault
         (beside W.contents left failed output.old) (beside W.contents left failed output.new)) }
 {
@@ -324,6 +349,8 @@ fn run_serve<F: Files + GateFiles + AllocGlobal, W: Write, E: Write>(
     ensures told { TellsUpTo E.contents count errors.old errors.new }
     ensures ok { OnOk result ((left : Option (List ℕ)) → (failed : Bool) → Announces port
         (beside W.contents left failed output.old) (beside W.contents left failed output.new)) }
+    ensures made { OnOk result ((c : Settings) × HasSettings c × F.Led file.now (λ old new.
+        GoesOver old new c (ServesOver new c count))) }
     ensures err { IfErr result (λ fault. (left : Option (List ℕ)) → (failed : Bool) → ServingEnds port fault
         (beside W.contents left failed output.old) (beside W.contents left failed output.new)) }
 {
@@ -341,6 +368,9 @@ fn run_migrate<F: Files + GateFiles + AllocGlobal, W: Write>(
     requires { has_failed output.old ≡ false }
     ensures ok { OnOk result ((left : Option (List ℕ)) → (failed : Bool) → Migrates
         (beside W.contents left failed output.old) (beside W.contents left failed output.new)) }
+    ensures made { OnOk result ((c : Settings) × HasSettings c × (done : Migrated)
+        × Appends (W.contents (inside output.old)) (W.contents (inside output.new)) (migrated_text done ++ 10 ∷ [])
+        × F.Led file.now (Upgrades c done)) }
     ensures err { IfErr result (λ fault. (left : Option (List ℕ)) → (failed : Bool) → MigrationEnds fault
         (beside W.contents left failed output.old) (beside W.contents left failed output.new)) }
 {

@@ -159,7 +159,13 @@ impl Net for Machine<'_> {
 }
 
 impl Databases for Machine<'_> {
+    ghost use Rattle.std.specs.Prelude.{⊤};
+
     type Database = Connection<FileStore<File>>;
+
+    ghost IsOf = { λ _ _. ⊤ };
+
+    ghost IsClosed = { λ _. ⊤ };
 
     fn database(&self, file: &str) -> Result<Connection<FileStore<File>>, Fault> {
         self.host.database(file)

@@ -17,3 +17,7 @@ returns-clause-fault g c e =
           c.perform.ensures.told h.1 c.ended.ensures.silent,
       h.2,
     )
+
+pub returns-clause-made : goal.returns-clause-made
+returns-clause-made g c e =
+    (is_done _ _ _ c.perform.result c.ended.result c.ended.ensures.done c.ended.ensures.fault c.perform.ensures.made e).1

@@ -2,6 +2,7 @@ use Rattle.std.proofs.Common.{ap₂}
 use Rattle.std.proofs.lemmas.Result.{on_ok_weaker, IfErr-weaker}
 use Rattle.gated_cli.specs.Doing.{streams}
 use Rattle.gated_cli.proofs.FileLemmas.{delivery_ends}
+use Rattle.gated_cli.proofs.OfFileLemmas.{closed_led, replied_led}
 use Rattle.gated_cli.proofs.machine.AnyGateFiles.deliver.Goals as goal
 
 pub returns-clause-err : goal.returns-clause-err
@@ -32,3 +33,10 @@ returns-clause-err g c =
     })
     (IfErr-weaker done _ _ (λ f other unread unwritten. let it = other unread unwritten in
     (it.0, ap₂ (streams g.R.Read.remaining g.W.Write.contents) it.1 it.2)) said.fault)
+
+pub returns-clause-made : goal.returns-clause-made
+returns-clause-made g c =
+    closed_led _ _ c.deliver-conn.result.1 c.close.result c.closed.result _ c.closed.ensures.fault c.closed.ensures.well
+    c.closed.ensures.unclosed
+    (replied_led _ c.deliver-conn.result.1 c.deliver-conn.ensures.ok)
+    c.close.ensures.closed (λ u is shut. (c.in_ok-conn.conn, c.deliver-conn.result.0, c.in_ok-conn.ensures.of, shut, is))

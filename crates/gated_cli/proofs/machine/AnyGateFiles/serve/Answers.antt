@@ -1,7 +1,10 @@
+use Rattle.sqlite.specs.Held.{state}
+use Rattle.gated_cli.specs.OverFile.{GoesOver, ServesOver}
 use Rattle.std.proofs.Common.{refl}
 use Rattle.gated_cli.specs.Doing.{beside}
 use Rattle.gated_cli.proofs.FileLemmas.{serving_ends}
 use Rattle.gated_cli.proofs.TalkLemmas.{none_so_far}
+use Rattle.gated_cli.proofs.OfFileLemmas.{closed_led, opened_led}
 use Rattle.gated_cli.proofs.machine.AnyGateFiles.serve.Goals as goal
 
 pub returns-clause-err : goal.returns-clause-err
@@ -13,3 +16,13 @@ returns-clause-err g c = serving_ends c.args.port c.serve-conn.result.1 c.closed
 pub returns-in_err-conn-clause-told : goal.returns-in_err-conn-clause-told
 returns-in_err-conn-clause-told g c =
     none_so_far g.E.Write.contents c.args.count c.args.errors.now c.args.errors.now c.requires.teller refl
+
+pub returns-clause-made : goal.returns-clause-made
+returns-clause-made g c =
+    let old = state g.S.Store c.in_ok-conn.conn in
+    let new = state g.S.Store c.serve-conn.result.0 in
+    closed_led _ _ c.serve-conn.result.1 c.close.result c.closed.result _ c.closed.ensures.fault c.closed.ensures.well
+    c.closed.ensures.unclosed
+    (opened_led (λ r. GoesOver old new c.args.config (ServesOver new c.args.config c.args.count)) c.serve-conn.result.1
+    c.serve-conn.ensures.gate)
+    c.close.ensures.closed (λ u is shut. (c.in_ok-conn.conn, c.serve-conn.result.0, c.in_ok-conn.ensures.of, shut, is))
