@@ -8,11 +8,11 @@ use Rattle.std.specs.Prelude.{unwrap_or}
 use Rattle.std.specs.List.{list_any, list_all}
 use Rattle.toml.specs.Data.{Data}
 use Rattle.gate_types.specs.Names.{same_name, is_name}
-use Rattle.gate_types.specs.Settings.{are_distinct, has_queue, is_sound_window, are_sound_jobs, are_sound}
+use Rattle.gate_types.specs.Settings.{most_queues, most_projects, most_jobs, most_window, most_factor, are_distinct, has_queue, is_sound_window, are_sound_jobs, are_sound}
 use Rattle.gate_config.specs.Document.{queues_of, projects_of, jobs_of, name_of, queue_named_by, queue_of, job_of, project_of, settings_of, window_of, floor_of, increase_by_of, decrease_by_of, is_voting}
 use Rattle.gate_config.specs.Members.{misses_member, has_unknown_member}
 use Rattle.gate_config.specs.Kinds.{has_wrong_kind}
-use Rattle.gate_config.specs.Rules.{has_bad_name, has_bad_name_in_project, has_bad_name_anywhere, has_double, has_double_name, has_named, names_no_queue, is_bad_window, is_bad_queue, is_bad_project, has_bad_window, has_no_voting_job, has_too_many_jobs, most_jobs, is_beyond_limits}
+use Rattle.gate_config.specs.Rules.{has_bad_name, has_bad_name_in_project, has_bad_name_anywhere, has_double, has_double_name, has_named, names_no_queue, is_bad_window, is_bad_queue, is_bad_project, has_bad_window, has_no_voting_job, has_too_many_jobs, is_beyond_limits}
 use Rattle.gate_config.specs.Faults.{fault_of}
 use Rattle.gate_config.specs.declared.fault.ConfigFault.{ConfigFault}
 use Rattle.gate_config.proofs.DocumentLemmas.{list_any_map}
@@ -99,7 +99,7 @@ names_of_jobs : (ds : List Data) → map (λ j. j.name) (map job_of ds) ≡ map 
 names_of_jobs [] = refl
 names_of_jobs (d ∷ ds) = ap (λ ns. name_of d ∷ ns) (names_of_jobs ds)
 
-few_jobs : (n : ℕ) → nat_lt most_jobs n ≡ false → nat_le n 32 ≡ true
+few_jobs : (n : ℕ) → nat_lt most_jobs n ≡ false → nat_le n most_jobs ≡ true
 few_jobs n h = grind (arith, nat_tests)
 
 sound_windows : (ds : List Data) → list_any is_bad_window ds ≡ false → list_all is_sound_window (map queue_of ds) ≡ true
@@ -110,10 +110,10 @@ sound_windows (d ∷ ds) h =
 
 -- the numbers of a queue that isn't bad
 pub record SmallNumbers (d : Data) : Type 0 where
-  pub window : unwrap_or (window_of d) 0 ≤ 1000
-  pub floor : unwrap_or (floor_of d) 0 ≤ 1000
-  pub increase_by : unwrap_or (increase_by_of d) 0 ≤ 1000
-  pub decrease_by : unwrap_or (decrease_by_of d) 0 ≤ 1000
+  pub window : unwrap_or (window_of d) 0 ≤ most_window
+  pub floor : unwrap_or (floor_of d) 0 ≤ most_window
+  pub increase_by : unwrap_or (increase_by_of d) 0 ≤ most_factor
+  pub decrease_by : unwrap_or (decrease_by_of d) 0 ≤ most_factor
 
 pub small_numbers : (d : Data) → is_bad_queue d ≡ false → SmallNumbers d
 small_numbers d h =
@@ -124,15 +124,15 @@ small_numbers d h =
     let (window, least) = and_parts _ _ low in
     let (grows, shrinks) = and_parts _ _ rule in
     record {
-      window = leb-true (unwrap_or (window_of d) 0) 1000 window;
-      floor = leb-true (unwrap_or (floor_of d) 0) 1000 floor;
-      increase_by = leb-true (unwrap_or (increase_by_of d) 0) 1000 (and_parts _ _ grows).1;
-      decrease_by = leb-true (unwrap_or (decrease_by_of d) 0) 1000 (and_parts _ _ shrinks).1;
+      window = leb-true (unwrap_or (window_of d) 0) most_window window;
+      floor = leb-true (unwrap_or (floor_of d) 0) most_window floor;
+      increase_by = leb-true (unwrap_or (increase_by_of d) 0) most_factor (and_parts _ _ grows).1;
+      decrease_by = leb-true (unwrap_or (decrease_by_of d) 0) most_factor (and_parts _ _ shrinks).1;
     }
 
 sound_jobs : (ds : List Data) → has_double ds ≡ false → list_any is_voting ds ≡ true → nat_lt most_jobs (length ds) ≡ false → are_sound_jobs (map job_of ds) ≡ true
 sound_jobs ds doubles votes few =
-    both _ _ (both _ _ (ap (λ n. nat_le n 32) (length-map ds job_of) ∙ few_jobs _ few) (ap are_distinct (names_of_jobs ds) ∙ not-false _ doubles))
+    both _ _ (both _ _ (ap (λ n. nat_le n most_jobs) (length-map ds job_of) ∙ few_jobs _ few) (ap are_distinct (names_of_jobs ds) ∙ not-false _ doubles))
     (list_any_map (λ j. j.voting) job_of ds ∙ votes)
 
 -- each project is in a queue that is there, and has sound jobs
@@ -162,9 +162,9 @@ settings_are_sound d r =
     let n = length-map (projects_of d) project_of in
     both _ _ (both _ _ (both _ _ (both _ _ (both _ _ (both _ _ (both _ _
     (ap (λ n. nat_le 1 n) m ∙ a_queue)
-    (ap (λ n. nat_le n 32) m ∙ few_queues))
+    (ap (λ n. nat_le n most_queues) m ∙ few_queues))
     (ap (λ n. nat_le 1 n) n ∙ a_project))
-    (ap (λ n. nat_le n 256) n ∙ few_projects))
+    (ap (λ n. nat_le n most_projects) n ∙ few_projects))
     (ap are_distinct (names_of_queues (queues_of d)) ∙ not-false _ queue_doubles))
     (ap are_distinct (names_of_projects (projects_of d)) ∙ not-false _ project_doubles))
     (sound_windows (queues_of d) r.windows))

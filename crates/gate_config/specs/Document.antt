@@ -1,9 +1,8 @@
 -- What a document says at a place, and what stands for it where nothing of the kind is there.
-use Rattle.std.specs.Prelude.{ℕ, ℤ, pos, negsuc, codes, List, [], ◌∷◌, map, Bool, true, false, if◌then◌else◌, Option, Some, None, unwrap_or, option_and_then}
+use Rattle.std.specs.Prelude.{ℕ, ℤ, pos, negsuc, codes, List, [], ◌∷◌, map, Bool, true, false, Option, Some, None, unwrap_or, option_and_then}
 use Rattle.std.specs.Option.{option_map_or}
 use Rattle.toml.specs.Data.{Data, Items, no_items, item, get, as_str, as_integer, as_bool, as_array}
-use Rattle.gate_types.specs.Names.{same_name}
-use Rattle.gate_types.specs.Settings.{Settings}
+use Rattle.gate_types.specs.Settings.{Settings, pace_named}
 use Rattle.gate_types.specs.declared.config.Job.{Job}
 use Rattle.gate_types.specs.declared.config.Pace.{Pace}
 use Rattle.gate_types.specs.declared.config.Pace.TheVariants as pace
@@ -62,15 +61,9 @@ window_of q = number_at (codes "window") 20 q
 abbrev pub floor_of : Data → Option ℕ
 floor_of q = number_at (codes "floor") 3 q
 
--- the pace of a word, if it is one
-abbrev pub pace_said : List ℕ → Option Pace
-pace_said word =
-    if same_name word (codes "linear") then Some pace.Linear else (
-    if same_name word (codes "exponential") then Some pace.Exponential else None)
-
 -- the pace at a key, or the default where it is left out
 abbrev pub pace_at : List ℕ → Pace → Data → Option Pace
-pace_at key default d = option_map_or pace_said (option_and_then as_str (get key d)) (Some default)
+pace_at key default d = option_map_or pace_named (option_and_then as_str (get key d)) (Some default)
 
 -- how the window of a queue grows, and by what
 abbrev pub increase_of : Data → Option Pace

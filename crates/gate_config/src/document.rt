@@ -2,7 +2,7 @@
 ghost use Rattle.std.specs.Prelude.{◌≡◌, map};
 ghost use Rattle.toml.specs.View.{view};
 ghost use Rattle.gate_types.specs.Names.{same_name};
-ghost use Rattle.gate_config.specs.Document.{items_at, queues_of, projects_of, jobs_of, text_at, name_of, queue_named_by, base_of, number_at, window_of, floor_of, pace_said, pace_at, increase_of, increase_by_of, decrease_of, decrease_by_of, is_fast, is_voting};
+ghost use Rattle.gate_config.specs.Document.{items_at, queues_of, projects_of, jobs_of, text_at, name_of, queue_named_by, base_of, number_at, window_of, floor_of, pace_at, increase_of, increase_by_of, decrease_of, decrease_by_of, is_fast, is_voting};
 
 use gate_types::config::Pace;
 use toml::Value;
@@ -111,26 +111,13 @@ pub(crate) fn is_same(text: &str, other: &str) -> bool
     text == other
 }
 
-/// The pace of a word, if it is one.
-fn pace_said(word: &str) -> Option<Pace>
-    ensures { result ≡ pace_said word.now }
-{
-    if is_same(word, "linear") {
-        Some(Pace::Linear)
-    } else if is_same(word, "exponential") {
-        Some(Pace::Exponential)
-    } else {
-        None
-    }
-}
-
 /// The pace at a key, or the default where it is left out. None where the word says none.
 fn pace_at(value: &Value, key: &str, default: Pace) -> Option<Pace>
     ensures { result ≡ pace_at key.now default (view value.now) }
 {
     match value.get(key) {
         Some(member) => match member.as_str() {
-            Some(word) => pace_said(word),
+            Some(word) => Pace::of_word(word),
             None => Some(default),
         },
         None => Some(default),

@@ -1,9 +1,9 @@
 //! What names, windows, jobs and numbers of things have to be.
-ghost use Rattle.std.specs.Prelude.{◌≡◌, ◌==◌, ◌&&◌, ◌||◌, map, not, is_none, unwrap_or, nat_le};
+ghost use Rattle.std.specs.Prelude.{◌≡◌, ◌||◌, map, not, is_none};
 ghost use Rattle.std.specs.List.{list_any};
 ghost use Rattle.toml.specs.View.{view};
 ghost use Rattle.gate_types.specs.Names.{same_name};
-ghost use Rattle.gate_types.specs.Settings.{is_factor, is_sound_rule};
+ghost use Rattle.gate_types.specs.Settings.{is_sound_rule};
 ghost use Rattle.gate_config.specs.Document.{name_of, queue_named_by, jobs_of, is_voting, increase_of, decrease_of, rule_of};
 ghost use Rattle.gate_config.specs.Rules.{has_bad_name, has_bad_name_in_project, has_bad_name_anywhere, has_double, has_double_name, has_named, names_no_queue, is_bad_window, has_bad_window, has_no_voting_job, are_some_up_to, has_too_many_jobs, is_beyond_limits};
 
@@ -11,14 +11,10 @@ use crate::document::{
     base_of, decrease_by_of, decrease_of, floor_of, increase_by_of, increase_of, is_same,
     is_voting, jobs_of, name_of, projects_of, queue_named_by, queues_of, window_of,
 };
+use gate_types::limits::{MOST_JOBS, MOST_PROJECTS, MOST_QUEUES};
 use gate_types::names::{has_base_form, has_name_form, has_path_form};
+use gate_types::sound::{is_factor, is_window_over};
 use toml::Value;
-
-const MOST_QUEUES: usize = 32;
-
-const MOST_PROJECTS: usize = 256;
-
-const MOST_JOBS: usize = 32;
 
 fn any_has_bad_name(values: &[Value]) -> bool
     ensures { result ≡ list_any (λ v. has_bad_name (view v)) values.now }
@@ -115,28 +111,10 @@ fn any_names_none_of(projects: &[Value], queues: &[Value]) -> bool
         .any(|project| !has_named(queue_named_by(project), queues))
 }
 
-/// Whether a number that a window changes by is in its range.
-fn is_factor(number: Option<u64>) -> bool
-    ensures { result ≡ is_factor (unwrap_or number 0) }
-{
-    match number {
-        Some(number) => 1 <= number && number <= 1000,
-        None => false,
-    }
-}
-
 fn has_sound_rule(queue: &Value) -> bool
     ensures { result ≡ is_sound_rule (rule_of (view queue.now)) }
 {
-    is_factor(increase_by_of(queue)) && is_factor(decrease_by_of(queue))
-}
-
-/// Whether a window is in its range and stands over its floor.
-fn is_over(window: u64, floor: u64) -> bool
-    ensures { result ≡ nat_le window 1000 && nat_le 1 floor && nat_le floor 1000
-        && (window == 0 || nat_le floor window) }
-{
-    window <= 1000 && 1 <= floor && floor <= 1000 && (window == 0 || floor <= window)
+    is_factor(increase_by_of(queue).unwrap_or(0)) && is_factor(decrease_by_of(queue).unwrap_or(0))
 }
 
 /// Whether how the window changes is no word for it.
@@ -153,7 +131,7 @@ fn is_bad_window(queue: &Value) -> bool
 {
     match (window_of(queue), floor_of(queue)) {
         (Some(window), Some(floor)) => {
-            has_no_pace(queue) || !(is_over(window, floor) && has_sound_rule(queue))
+            has_no_pace(queue) || !(is_window_over(window, floor) && has_sound_rule(queue))
         }
         _ => true,
     }

@@ -1,10 +1,7 @@
 -- Lists, value by value.
-use Rattle.std.proofs.Common.{◌≡◌, ℕ, suc, ◌+◌, ◌<◌, Bool, true, false, ◌||◌, List, [], ◌∷◌, ◌++◌, map, length, drop, get_or, Option, Some, None, refl, sym, ap, ◌∙◌, append_assoc, add-one}
+use Rattle.std.proofs.Common.{◌≡◌, ℕ, suc, ◌+◌, ◌<◌, List, [], ◌∷◌, ◌++◌, map, length, drop, get_or, Option, Some, None, refl, sym, ap, ◌∙◌, append_assoc, add-one}
 use Rattle.std.proofs.Math.Seq.{drop-cons}
 use Rattle.std.specs.Prelude.{option_map}
-use Rattle.std.specs.List.{list_any}
-use Rattle.gate_types.specs.Names.{same_name}
-use Rattle.gate_types.specs.Settings.{are_distinct}
 use Rattle.gate_kept_settings.specs.Reading.{◌>>=◌, each}
 
 -- some values behind those that were read before
@@ -34,15 +31,3 @@ pub reads_none : {V A X : Type 0} (f : A → Option X) (g : V → A) (vs : List 
     → each f (map g vs) ≡ more done (each f (map g (drop k vs))) → k < length vs → v ≡ get_or vs k v → f (g v) ≡ None → each f (map g vs) ≡ None
 reads_none f g vs k v done so_far l is said =
     so_far ∙ ap (more done) (each_from f g vs k v l is ∙ ap (λ o. o >>= λ y. option_map (λ ys. y ∷ ys) (each f (map g (drop (k + 1) vs)))) said)
-
-list_any_map : {X Y : Type 0} (p : Y → Bool) (f : X → Y) (xs : List X) → list_any p (map f xs) ≡ list_any (λ x. p (f x)) xs
-list_any_map p f [] = refl
-list_any_map p f (x ∷ xs) = ap (λ b. p (f x) || b) (list_any_map p f xs)
-
--- the first name stands again behind it
-pub double_here : {X : Type 0} (f : X → List ℕ) (name : List ℕ) (x : X) (xs : List X) → name ≡ f x → list_any (λ y. same_name name (f y)) xs ≡ true → are_distinct (map f (x ∷ xs)) ≡ false
-double_here f name x xs e h = rw (← e, list_any_map (same_name name) f xs, h) refl
-
--- it doesn't
-pub double_later : {X : Type 0} (f : X → List ℕ) (name : List ℕ) (x : X) (xs : List X) → name ≡ f x → list_any (λ y. same_name name (f y)) xs ≡ false → are_distinct (map f (x ∷ xs)) ≡ are_distinct (map f xs)
-double_later f name x xs e h = rw (← e, list_any_map (same_name name) f xs, h) refl

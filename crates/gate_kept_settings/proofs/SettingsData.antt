@@ -16,10 +16,10 @@ use Rattle.gate_types.specs.declared.config.Project.{Project}
 use Rattle.gate_types.specs.declared.config.Pace.{Pace}
 use Rattle.gate_types.specs.declared.config.Pace.TheVariants as pace
 use Rattle.gate_types.specs.Names.{is_name, is_path_name, is_base}
-use Rattle.gate_types.specs.Settings.{Settings, are_sound, is_sound_window, is_factor, is_linear}
+use Rattle.gate_types.specs.Settings.{Settings, are_sound, is_sound_window, is_factor, is_linear, most_window, most_factor, pace_word, pace_named}
 use Rattle.gate_types.specs.Forms.{is_project_in_form, are_settings_in_form}
-use Rattle.gate_types.specs.SettingsText.{pace_word, job_text, project_text, queue_text, settings_text}
-use Rattle.gate_kept_settings.specs.Reading.{list_of, each, ◌>>=◌, passing, name_at, path_name_at, base_at, number_at, said_or, pace_named, pace_at, factor_at, flag_at, rule_at, job_at, queue_at, project_at, settings_at, value_of, said_by}
+use Rattle.gate_types.specs.SettingsText.{job_text, project_text, queue_text, settings_text}
+use Rattle.gate_kept_settings.specs.Reading.{list_of, each, ◌>>=◌, passing, name_at, path_name_at, base_at, number_at, said_or, pace_at, factor_at, flag_at, rule_at, job_at, queue_at, project_at, settings_at, value_of, said_by}
 use Rattle.gate_kept_settings.specs.Told.{Tells, OneTextASetting}
 use Rattle.gate_kept_settings.proofs.ReadBack.{IsFit, AreFit, read_back, text_is_utf8}
 use Rattle.gate_kept_settings.proofs.Entries.{Entry, always, unless_default, present, fit_present, or_else, get_present}
@@ -77,8 +77,8 @@ is_good_queue q = is_name q.name && is_sound_window q
 
 -- the window and the floor of a queue
 record Numbers (q : Queue) : Type 0 where
-  window : nat_le q.window 1000 ≡ true
-  floor : nat_le q.floor 1000 ≡ true
+  window : nat_le q.window most_window ≡ true
+  floor : nat_le q.floor most_window ≡ true
   increase : is_factor q.rule.increase_by ≡ true
   decrease : is_factor q.rule.decrease_by ≡ true
 
@@ -91,8 +91,8 @@ numbers_of q h =
     let (increase, decrease) = and_parts _ _ rule in
     record { window = (and_parts _ _ second).0; floor = floor; increase = increase; decrease = decrease }
 
-fits : (n : ℕ) → nat_le n 1000 ≡ true → n < 2 ^ 64
-fits n h = omega (arith, leb-true n 1000 h)
+fits : (n : ℕ) → nat_le n most_window ≡ true → n < 2 ^ 64
+fits n h = omega (arith, leb-true n most_window h)
 
 fits_factor : (n : ℕ) → is_factor n ≡ true → n < 2 ^ 64
 fits_factor n h = fits n (and_parts _ _ h).1

@@ -1,6 +1,6 @@
 -- The settings that a text says at its members, whatever stands beside them.
-use Rattle.std.specs.Prelude.{◌≡◌, ℕ, Bool, false, ◌&&◌, nat_le, List, [], ◌∷◌, codes, if◌then◌else◌, Option, Some, None, option_map, Result, Ok, Err, ⊤}
-use Rattle.std.specs.Str.{is_utf8, bytes_eq}
+use Rattle.std.specs.Prelude.{◌≡◌, ℕ, Bool, false, nat_le, List, [], ◌∷◌, codes, if◌then◌else◌, Option, Some, None, option_map, Result, Ok, Err, ⊤}
+use Rattle.std.specs.Str.{is_utf8}
 use Rattle.serde_json.specs.Data.{Data, Items, no_items, item}
 use Rattle.serde_json.specs.Read.{read}
 use Rattle.serde_json.specs.Find.{get, as_number, as_u64, as_str, as_bool, as_array}
@@ -11,7 +11,7 @@ use Rattle.gate_types.specs.declared.config.Pace.{Pace}
 use Rattle.gate_types.specs.declared.config.WindowRule.{WindowRule}
 use Rattle.gate_types.specs.declared.config.Pace.TheVariants as pace
 use Rattle.gate_types.specs.Names.{is_name, is_path_name, is_base}
-use Rattle.gate_types.specs.Settings.{Settings, are_sound, are_sound_jobs, has_queue, is_factor}
+use Rattle.gate_types.specs.Settings.{Settings, most_window, is_factor, pace_named, are_sound}
 use Rattle.gate_kept_settings.specs.declared.fault.TextFault.{TextFault}
 use Rattle.gate_kept_settings.specs.declared.fault.TextFault.TheVariants as fault
 
@@ -69,21 +69,14 @@ path_name_at key d = text_at key d >>= passing is_path_name
 unfoldable pub base_at : List ℕ → Data → Option (List ℕ)
 base_at key d = text_at key d >>= passing is_base
 
--- a number of items, up to 1,000
+-- a number of items, up to the largest window
 unfoldable pub number_at : List ℕ → Data → Option ℕ
-number_at key d = whole_at key d >>= passing (λ n. nat_le n 1000)
+number_at key d = whole_at key d >>= passing (λ n. nat_le n most_window)
 
 -- what a member says, or the default where it isn't there
 abbrev pub said_or : {X : Type 0} → X → (Data → Option X) → Option Data → Option X
 said_or default says None = Some default
 said_or default says (Some d) = says d
-
--- the pace of a word
-abbrev pub pace_named : List ℕ → Option Pace
-pace_named word =
-    if bytes_eq word (codes "linear") then Some pace.Linear
-    else if bytes_eq word (codes "exponential") then Some pace.Exponential
-    else None
 
 -- a pace, or the default
 unfoldable pub pace_at : Pace → List ℕ → Data → Option Pace
@@ -134,10 +127,6 @@ settings_at d =
 -- the value of bytes
 unfoldable pub value_of : List ℕ → Option Data
 value_of bytes = if is_utf8 bytes then read bytes else None
-
--- a project of sound settings with these queues
-abbrev pub is_sound_project : List Queue → Project → Bool
-is_sound_project queues p = has_queue queues p.queue && are_sound_jobs p.jobs
 
 -- the settings that bytes say
 abbrev pub said_by : List ℕ → Option Settings

@@ -17,7 +17,6 @@ mod fault;
 mod laws;
 mod members;
 mod reading;
-mod sound;
 
 pub use fault::TextFault;
 use gate_types::config::Config;

@@ -1,11 +1,13 @@
 //! The members of a JSON value, each read by its kind.
 ghost use Rattle.std.specs.Prelude.{◌≡◌, Some, map, string_bytes};
 ghost use Rattle.serde_json.specs.View.{view};
-ghost use Rattle.gate_kept_settings.specs.Reading.{Gives, text_at, whole_at, truth_at, list_at, name_at, path_name_at, base_at, number_at, pace_named, pace_at, factor_at, flag_at};
+ghost use Rattle.gate_kept_settings.specs.Reading.{Gives, text_at, whole_at, truth_at, list_at, name_at, path_name_at, base_at, number_at, pace_at, factor_at, flag_at};
 
 use crate::fault::TextFault;
 use gate_types::config::Pace;
+use gate_types::limits::MOST_WINDOW;
 use gate_types::names::{Base, Name, PathName};
+use gate_types::sound::is_factor;
 use serde_json::Value;
 use std::alloc::Global;
 
@@ -98,29 +100,16 @@ pub(crate) fn base_of(alloc: Global, value: &Value, key: &str) -> Result<Base, T
     }
 }
 
-/// A number of items, up to 1,000.
+/// A number of items, up to the largest window.
 #[tactic(auto, unfolding(crate::specs::Reading::number_at))]
 pub(crate) fn number_of(value: &Value, key: &str) -> Result<u32, TextFault>
     ensures { Gives (λ n. n) result (number_at key.now (view value.now)) }
 {
     let number = whole_of(value, key)?;
-    if number <= 1000 {
+    if number <= MOST_WINDOW {
         Ok(number as u32)
     } else {
         Err(TextFault::NotSettings)
-    }
-}
-
-/// The pace of a word.
-fn pace_named(word: &str) -> Option<Pace>
-    ensures { result ≡ pace_named word.now }
-{
-    if word == "linear" {
-        Some(Pace::Linear)
-    } else if word == "exponential" {
-        Some(Pace::Exponential)
-    } else {
-        None
     }
 }
 
@@ -131,7 +120,7 @@ pub(crate) fn pace_of(value: &Value, key: &str, default: Pace) -> Result<Pace, T
 {
     match value.get(key) {
         Some(member) => match member.as_str() {
-            Some(word) => match pace_named(word) {
+            Some(word) => match Pace::of_word(word) {
                 Some(pace) => Ok(pace),
                 None => Err(TextFault::NotSettings),
             },
@@ -141,7 +130,7 @@ pub(crate) fn pace_of(value: &Value, key: &str, default: Pace) -> Result<Pace, T
     }
 }
 
-/// What a window changes by, 1 to 1,000, or the default where that isn't told.
+/// What a window changes by, if it may, or the default where that isn't told.
 #[tactic(auto, unfolding(crate::specs::Reading::factor_at))]
 pub(crate) fn factor_of(value: &Value, key: &str, default: u32) -> Result<u32, TextFault>
     ensures { Gives (λ n. n) result (factor_at default key.now (view value.now)) }
@@ -149,7 +138,7 @@ pub(crate) fn factor_of(value: &Value, key: &str, default: u32) -> Result<u32, T
     match value.get(key) {
         Some(member) => match member.as_u64() {
             Some(number) => {
-                if 1 <= number && number <= 1000 {
+                if is_factor(number) {
                     Ok(number as u32)
                 } else {
                     Err(TextFault::NotSettings)

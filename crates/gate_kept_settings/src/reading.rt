@@ -7,9 +7,9 @@ use crate::fault::TextFault;
 use crate::members::{
     base_of, factor_of, flag_of, list_of, name_of, number_of, pace_of, path_name_of, truth_of,
 };
-use crate::sound::are_sound;
 use gate_types::config::{Config, Job, Pace, Project, Queue, WindowRule};
 use gate_types::sequence::Sequence;
+use gate_types::sound::are_sound;
 use serde_json::Value;
 use std::alloc::{AllocError, Global};
 

@@ -7,3 +7,4 @@ pub mod OneTextLaw
 pub mod PlainLemmas
 pub mod DigitLemmas
 pub mod NameLemmas
+mod DistinctLemmas

@@ -4,9 +4,9 @@ use Rattle.std.specs.Prelude.{decimal, if◌then◌else◌}
 use Rattle.std.specs.List.{join_by}
 use Rattle.gate_types.specs.declared.config.Queue.{Queue}
 use Rattle.gate_types.specs.declared.config.Project.{Project}
-use Rattle.gate_types.specs.Settings.{is_linear}
+use Rattle.gate_types.specs.Settings.{is_linear, pace_word}
 use Rattle.gate_types.specs.JsonText.{Piece, number, plain, boolean, member, listed, joined, leading}
-use Rattle.gate_types.specs.SettingsText.{pace_word, unless, job_text, queue_text, project_text}
+use Rattle.gate_types.specs.SettingsText.{unless, job_text, queue_text, project_text}
 
 -- pieces that may be left out, before one that isn't
 before_one : (a b : Bool) (x y z : Piece) (zs : List Piece) (rest : List ℕ) →

@@ -1,5 +1,5 @@
 -- The settings, and the tests that sound ones pass.
-use Rattle.std.specs.Prelude.{ℕ, Bool, true, false, ◌&&◌, ◌||◌, not, ◌==◌, nat_le, List, [], ◌∷◌, map, length}
+use Rattle.std.specs.Prelude.{ℕ, Bool, true, false, ◌&&◌, ◌||◌, not, ◌==◌, nat_le, if◌then◌else◌, List, [], ◌∷◌, map, length, codes, Option, Some, None}
 use Rattle.std.specs.List.{list_any, list_all}
 use Rattle.gate_types.specs.Names.{same_name}
 use Rattle.gate_types.specs.declared.config.Job.{Job}
@@ -14,6 +14,36 @@ pub record Settings : Type 0 where
   pub base : List ℕ
   pub queues : List Queue
   pub projects : List Project
+
+-- how many queues, projects, and jobs of a project there may be
+abbrev pub most_queues : ℕ
+most_queues = 32
+
+abbrev pub most_projects : ℕ
+most_projects = 256
+
+abbrev pub most_jobs : ℕ
+most_jobs = 32
+
+-- the largest window, and the largest floor of one
+abbrev pub most_window : ℕ
+most_window = 1000
+
+-- the most that a window changes by
+abbrev pub most_factor : ℕ
+most_factor = 1000
+
+-- the word of a pace
+abbrev pub pace_word : Pace → List ℕ
+pace_word pace.Linear = codes "linear"
+pace_word pace.Exponential = codes "exponential"
+
+-- the pace of a word, if it is one
+abbrev pub pace_named : List ℕ → Option Pace
+pace_named word =
+    if same_name word (codes "linear") then Some pace.Linear
+    else if same_name word (codes "exponential") then Some pace.Exponential
+    else None
 
 -- whether a window changes by a number of items
 abbrev pub is_linear : Pace → Bool
@@ -35,26 +65,34 @@ has_queue queues name = list_any (λ q. same_name q.name name) queues
 
 -- what a window changes by: 1 to 1,000
 abbrev pub is_factor : ℕ → Bool
-is_factor n = nat_le 1 n && nat_le n 1000
+is_factor n = nat_le 1 n && nat_le n most_factor
 
 -- the numbers of a rule
 abbrev pub is_sound_rule : WindowRule → Bool
 is_sound_rule r = is_factor r.increase_by && is_factor r.decrease_by
 
--- a window up to 1,000, over a floor of 1 to 1,000, by a sound rule; the window 0 has no bound
+-- a window up to 1,000, over a floor of 1 to 1,000; the window 0 has no bound
+abbrev pub is_window_over : ℕ → ℕ → Bool
+is_window_over window floor =
+    nat_le window most_window && nat_le 1 floor && nat_le floor most_window && (window == 0 || nat_le floor window)
+
+-- the numbers of a queue
 abbrev pub is_sound_window : Queue → Bool
-is_sound_window q =
-    nat_le q.window 1000 && nat_le 1 q.floor && nat_le q.floor 1000 &&
-    (q.window == 0 || nat_le q.floor q.window) && is_sound_rule q.rule
+is_sound_window q = is_window_over q.window q.floor && is_sound_rule q.rule
 
 -- up to 32 jobs of different names, one of them voting
 abbrev pub are_sound_jobs : List Job → Bool
-are_sound_jobs jobs = nat_le (length jobs) 32 && are_distinct (map (λ j. j.name) jobs) && list_any (λ j. j.voting) jobs
+are_sound_jobs jobs =
+    nat_le (length jobs) most_jobs && are_distinct (map (λ j. j.name) jobs) && list_any (λ j. j.voting) jobs
+
+-- a project in one of these queues, with such jobs
+abbrev pub is_sound_project : List Queue → Project → Bool
+is_sound_project queues p = has_queue queues p.queue && are_sound_jobs p.jobs
 
 -- 1 to 32 queues and 1 to 256 projects, of different names, each project in a queue that is there
 abbrev pub are_sound : Settings → Bool
 are_sound s =
-    nat_le 1 (length s.queues) && nat_le (length s.queues) 32 && nat_le 1 (length s.projects) &&
-    nat_le (length s.projects) 256 &&
+    nat_le 1 (length s.queues) && nat_le (length s.queues) most_queues && nat_le 1 (length s.projects) &&
+    nat_le (length s.projects) most_projects &&
     are_distinct (map (λ q. q.name) s.queues) && are_distinct (map (λ p. p.name) s.projects) &&
-    list_all is_sound_window s.queues && list_all (λ p. has_queue s.queues p.queue && are_sound_jobs p.jobs) s.projects
+    list_all is_sound_window s.queues && list_all (λ p. is_sound_project s.queues p) s.projects

@@ -2,21 +2,14 @@
 -- Defaults are written out, but for those of a queue's rule and of `fail_fast`.
 use Rattle.std.specs.Prelude.{ℕ, Bool, ◌==◌, not, if◌then◌else◌, List, [], ◌∷◌, ◌++◌, codes}
 use Rattle.gate_types.specs.declared.config.Job.{Job}
-use Rattle.gate_types.specs.declared.config.Pace.{Pace}
 use Rattle.gate_types.specs.declared.config.Queue.{Queue}
 use Rattle.gate_types.specs.declared.config.Project.{Project}
-use Rattle.gate_types.specs.declared.config.Pace.TheVariants as pace
-use Rattle.gate_types.specs.Settings.{Settings, is_linear}
+use Rattle.gate_types.specs.Settings.{Settings, is_linear, pace_word}
 use Rattle.gate_types.specs.JsonText.{Piece, number, plain, escaped, boolean, member, object, listed}
 
 -- a job
 abbrev pub job_text : Job → List ℕ
 job_text j = object (member (codes "name") (plain j.name) ∷ member (codes "voting") (boolean j.voting) ∷ []) []
-
--- the word of a pace
-abbrev pub pace_word : Pace → List ℕ
-pace_word pace.Linear = codes "linear"
-pace_word pace.Exponential = codes "exponential"
 
 -- a member, unless it says the default
 abbrev pub unless : Bool → Piece → List Piece

@@ -33,6 +33,34 @@ pub enum Pace {
     Exponential,
 }
 
+impl Pace {
+    ghost use Rattle.std.specs.Prelude.{◌≡◌};
+    ghost use Rattle.gate_types.specs.Settings.{pace_word, pace_named};
+
+    /// The word that settings have for it.
+    pub fn word(self) -> &'static str
+        ensures { result.now ≡ pace_word self }
+    {
+        match self {
+            Pace::Linear => "linear",
+            Pace::Exponential => "exponential",
+        }
+    }
+
+    /// The pace of a word, if it is one.
+    pub fn of_word(word: &str) -> Option<Pace>
+        ensures { result ≡ pace_named word.now }
+    {
+        if word == "linear" {
+            Some(Pace::Linear)
+        } else if word == "exponential" {
+            Some(Pace::Exponential)
+        } else {
+            None
+        }
+    }
+}
+
 /// How a window changes: with each landing it grows by `increase_by`, with each failure it shrinks by
 /// `decrease_by` (1 to 1,000 each).
 #[derive(Clone, Copy, PartialEq, Eq)]

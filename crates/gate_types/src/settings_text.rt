@@ -1,9 +1,9 @@
 //! The settings as one text.
 ghost use Rattle.std.specs.Prelude.{◌≡◌, [], codes, if◌then◌else◌, IfOk, string_bytes};
 ghost use Rattle.std.specs.List.{join_by};
-ghost use Rattle.gate_types.specs.Settings.{is_linear};
+ghost use Rattle.gate_types.specs.Settings.{is_linear, pace_word};
 ghost use Rattle.gate_types.specs.JsonText.{number as number_piece, plain, member, leading};
-ghost use Rattle.gate_types.specs.SettingsText.{job_text, project_text, pace_word, unless, queue_text};
+ghost use Rattle.gate_types.specs.SettingsText.{job_text, project_text, unless, queue_text};
 
 use crate::config::{Config, Job, Pace, Project, Queue};
 use crate::json_text::quote;
@@ -34,15 +34,6 @@ fn job_text(alloc: Global, job: &Job) -> Result<String, NoMemory>
     format!(in alloc; "{{\"name\":\"{name}\",\"voting\":{voting}}}")
 }
 
-fn pace_word(pace: Pace) -> &'static str
-    ensures { result.now ≡ pace_word pace }
-{
-    match pace {
-        Pace::Linear => "linear",
-        Pace::Exponential => "exponential",
-    }
-}
-
 fn is_linear(pace: Pace) -> bool
     ensures { result ≡ is_linear pace }
 {
@@ -57,7 +48,7 @@ fn pace_text(alloc: Global, name: &str, pace: Pace, is_default: bool) -> Result<
     if is_default {
         return Ok(String::new(alloc));
     }
-    let word = pace_word(pace);
+    let word = pace.word();
     format!(in alloc; "\"{name}\":\"{word}\",")
 }
 

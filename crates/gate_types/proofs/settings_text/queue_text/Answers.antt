@@ -1,6 +1,7 @@
 use Rattle.std.proofs.Common.{[], not, ap, ◌∙◌, codes}
 use Rattle.gate_types.specs.JsonText.{leading, member, plain}
-use Rattle.gate_types.specs.SettingsText.{unless, pace_word}
+use Rattle.gate_types.specs.Settings.{pace_word}
+use Rattle.gate_types.specs.SettingsText.{unless}
 use Rattle.gate_types.proofs.SettingsTextLemmas.{queue_told}
 use Rattle.gate_types.proofs.settings_text.queue_text.Goals as goal
 

@@ -2,10 +2,10 @@
 ghost use Rattle.std.specs.Prelude.{◌≡◌, map, List, ℕ};
 ghost use Rattle.std.specs.List.{list_any, list_all};
 ghost use Rattle.gate_types.specs.Names.{same_name};
-ghost use Rattle.gate_types.specs.Settings.{are_distinct, has_queue, is_factor, is_sound_rule, is_sound_window, are_sound_jobs, are_sound};
-ghost use Rattle.gate_kept_settings.specs.Reading.{is_sound_project};
+ghost use Rattle.gate_types.specs.Settings.{are_distinct, has_queue, is_factor, is_sound_rule, is_window_over, is_sound_window, are_sound_jobs, is_sound_project, are_sound};
 
-use gate_types::config::{Job, Project, Queue, WindowRule};
+use crate::config::{Job, Project, Queue, WindowRule};
+use crate::limits::{MOST_FACTOR, MOST_JOBS, MOST_PROJECTS, MOST_QUEUES, MOST_WINDOW};
 
 /// What has a name.
 trait Named {
@@ -61,26 +61,30 @@ fn are_distinct<T: Named>(values: &[T]) -> bool
     true
 }
 
-fn is_factor(number: u32) -> bool
+/// Whether a window may change by this number.
+pub fn is_factor(number: u64) -> bool
     ensures { result ≡ is_factor number }
 {
-    1 <= number && number <= 1000
+    1 <= number && number <= MOST_FACTOR
 }
 
 fn is_sound_rule(rule: &WindowRule) -> bool
     ensures { result ≡ is_sound_rule rule.now }
 {
-    is_factor(rule.increase_by) && is_factor(rule.decrease_by)
+    is_factor(u64::from(rule.increase_by)) && is_factor(u64::from(rule.decrease_by))
+}
+
+/// Whether a window and its floor are in their ranges, and the floor isn't above a window other than 0.
+pub fn is_window_over(window: u64, floor: u64) -> bool
+    ensures { result ≡ is_window_over window floor }
+{
+    window <= MOST_WINDOW && 1 <= floor && floor <= MOST_WINDOW && (window == 0 || floor <= window)
 }
 
 fn is_sound_window(queue: &Queue) -> bool
     ensures { result ≡ is_sound_window queue.now }
 {
-    queue.window <= 1000
-        && 1 <= queue.floor
-        && queue.floor <= 1000
-        && (queue.window == 0 || queue.floor <= queue.window)
-        && is_sound_rule(&queue.rule)
+    is_window_over(u64::from(queue.window), u64::from(queue.floor)) && is_sound_rule(&queue.rule)
 }
 
 fn are_sound_windows(queues: &[Queue]) -> bool
@@ -98,7 +102,7 @@ fn has_vote(jobs: &[Job]) -> bool
 fn are_sound_jobs(jobs: &[Job]) -> bool
     ensures { result ≡ are_sound_jobs jobs.now }
 {
-    jobs.len() <= 32 && are_distinct(jobs) && has_vote(jobs)
+    jobs.len() <= MOST_JOBS && are_distinct(jobs) && has_vote(jobs)
 }
 
 fn has_queue(queues: &[Queue], name: &str) -> bool
@@ -122,14 +126,14 @@ fn are_sound_projects(queues: &[Queue], projects: &[Project]) -> bool
 }
 
 /// Whether settings of these queues and projects are sound, whatever their base.
-pub(crate) fn are_sound(queues: &[Queue], projects: &[Project]) -> bool
+pub fn are_sound(queues: &[Queue], projects: &[Project]) -> bool
     ensures { (base : List ℕ) → result
         ≡ are_sound (record { base = base; queues = queues.now; projects = projects.now }) }
 {
     1 <= queues.len()
-        && queues.len() <= 32
+        && queues.len() <= MOST_QUEUES
         && 1 <= projects.len()
-        && projects.len() <= 256
+        && projects.len() <= MOST_PROJECTS
         && are_distinct(queues)
         && are_distinct(projects)
         && are_sound_windows(queues)

@@ -1,7 +1,7 @@
 use Rattle.std.proofs.Common.{map, sym, ap, ◌∙◌}
 use Rattle.gate_types.specs.Settings.{are_distinct}
-use Rattle.gate_kept_settings.proofs.ListLemmas.{double_here, double_later}
-use Rattle.gate_kept_settings.proofs.sound.are_distinct.Goals as goal
+use Rattle.gate_types.proofs.DistinctLemmas.{double_here, double_later}
+use Rattle.gate_types.proofs.sound.are_distinct.Goals as goal
 
 pub returns-then-any_is_named : goal.returns-then-any_is_named
 returns-then-any_is_named g c =

@@ -1,6 +1,6 @@
 use Rattle.std.proofs.Common.{◌≡◌, map, length}
 use Rattle.gate_types.specs.Settings.{are_distinct}
-use Rattle.gate_kept_settings.proofs.sound.are_distinct.Given as goal
+use Rattle.gate_types.proofs.sound.are_distinct.Given as goal
 
 -- the answer is that for the rest
 abbrev pub invariant-loop-first : goal.invariant-loop-first

@@ -1,0 +1,18 @@
+-- Names that stand twice, or don't.
+use Rattle.std.proofs.Common.{◌≡◌, ℕ, Bool, true, false, ◌||◌, List, [], ◌∷◌, map, refl, ap}
+use Rattle.std.specs.List.{list_any}
+use Rattle.gate_types.specs.Names.{same_name}
+use Rattle.gate_types.specs.Settings.{are_distinct}
+
+-- a test of some item of a list, seen by a function
+list_any_map : {X Y : Type 0} (p : Y → Bool) (f : X → Y) (xs : List X) → list_any p (map f xs) ≡ list_any (λ x. p (f x)) xs
+list_any_map p f [] = refl
+list_any_map p f (x ∷ xs) = ap (λ b. p (f x) || b) (list_any_map p f xs)
+
+-- the first name stands again behind it
+pub double_here : {X : Type 0} (f : X → List ℕ) (name : List ℕ) (x : X) (xs : List X) → name ≡ f x → list_any (λ y. same_name name (f y)) xs ≡ true → are_distinct (map f (x ∷ xs)) ≡ false
+double_here f name x xs e h = rw (← e, list_any_map (same_name name) f xs, h) refl
+
+-- it doesn't
+pub double_later : {X : Type 0} (f : X → List ℕ) (name : List ℕ) (x : X) (xs : List X) → name ≡ f x → list_any (λ y. same_name name (f y)) xs ≡ false → are_distinct (map f (x ∷ xs)) ≡ are_distinct (map f xs)
+double_later f name x xs e h = rw (← e, list_any_map (same_name name) f xs, h) refl

@@ -1,0 +1,16 @@
+//! How much settings may ask for.
+
+/// The most queues.
+pub const MOST_QUEUES: usize = 32;
+
+/// The most projects.
+pub const MOST_PROJECTS: usize = 256;
+
+/// The most jobs of a project.
+pub const MOST_JOBS: usize = 32;
+
+/// The largest window of a queue, and the largest floor of one.
+pub const MOST_WINDOW: u64 = 1000;
+
+/// The most that a window changes by.
+pub const MOST_FACTOR: u64 = 1000;
