@@ -92,7 +92,7 @@ pub opens_to : (Holds : Content → Type 0) (s : State) (c : Settings) (g : Gate
 opens_to Holds s c g opens adopts (inl file) = opens file.up g.content file.stands
 opens_to Holds s c g opens adopts (inr other) = subst Holds (sym other.becomes) (adopts other.up other.kept other.before other.keeps other.may)
 
--- of a file just opened a crash leaves the content of its gate
+-- if a file was just opened, a crash leaves the content of its gate
 pub opened_leaves : (s new : State) (c : Settings) (g : Gated) →
     (IsTrue s.is_open → (x : Content) → StandsFor s.now.trees c x → (db : Trees) → new.may_leave db → StandsFor db c x) →
     (IsTrue s.is_open → (k : Settings) (x : Content) → IsKept s.now.trees k x → may_adopt k c ≡ true →
@@ -101,7 +101,7 @@ pub opened_leaves : (s new : State) (c : Settings) (g : Gated) →
 opened_leaves s new c g settled adopted file =
     λ db may. inl (opens_to (λ x. (db : Trees) → new.may_leave db → StandsFor db c x) s c g settled adopted file db may)
 
--- and calls leave of it what they leave of that content
+-- and after calls it leaves what they leave of that content
 pub leaves_called : {B : Type 0} (leaves : B → Settings → List Content → Type 0) (old new : Gate B) (c : Settings)
     (g : Gated) (ks : List Call) → g.settings ≡ c → LeavesBy leaves old new g ks → leaves old.book c (g.content ∷ []) →
     leaves new.book c (left_after c g.content ks (g.content ∷ []))

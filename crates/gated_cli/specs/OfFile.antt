@@ -18,7 +18,8 @@ use Rattle.gate_core.specs.Gated.{Gated}
 use Rattle.gate_core.specs.Lines.{lines_of}
 use Rattle.gate_http.specs.declared.served.Served.TheVariants.{Answered}
 use Rattle.gated_command.specs.declared.words.Cmd.{Cmd}
-use Rattle.gated_command.specs.declared.words.Cmd.TheVariants.{Check, Init, Replay, Deliver, Status, History, Deliveries, Get, Serve, Migrate}
+use Rattle.gated_command.specs.declared.words.Cmd.TheVariants.{Check, Init, Replay, Deliver, Status, History}
+use Rattle.gated_command.specs.declared.words.Cmd.TheVariants.{Deliveries, Get, Serve, Migrate}
 use Rattle.gated_cli.specs.Doing.{HasSettings, Streams, migrated_text, status_of}
 use Rattle.gated_cli.specs.OverFile.{GoesOver, RepliesOver, ServesOver}
 use Rattle.gated_cli.specs.Showing.{OfContent, OfLines, lines_told}
@@ -59,7 +60,8 @@ Upgrades c done old new = HasCleanDisk new → IsTrue old.is_open →
     (done ≡ migrated.Done) × IsShownFor new c (migrated_content c x))
     × ((k : Settings) (x : Content) → StandsFor old.now.trees k x → (done ≡ migrated.Already) × IsLeft old new)
 
--- a command that is done led the file at its path so; `Led` says of a path that its file was led in some way
+-- what a command that is done did to the file at its path; `Led path P` says that the file there was led from one state
+-- to another, and that `P` is so of the two
 abbrev pub Made : (List ℕ → (State → State → Type 0) → Type 0) → Cmd → Streams → Streams → Type 0
 Made Led (Check settings) before after = ⊤
 Made Led (Init settings file) before after = (c : Settings) × HasSettings c × Led file.now (MakesGate c)
@@ -71,7 +73,8 @@ Made Led (Status settings file) before after =
 Made Led (History settings file queue) before after =
     (c : Settings) × HasSettings c × Led file.now (PrintsOf c (HistoryOf queue.now) before.held after.held)
 Made Led (Deliveries settings file behind) before after =
-    (c : Settings) × HasSettings c × Led file.now (PrintsOf c (DeliveriesOf (option_map (λ s. s.now) behind)) before.held after.held)
+    let named = option_map (λ s. s.now) behind in
+    (c : Settings) × HasSettings c × Led file.now (PrintsOf c (DeliveriesOf named) before.held after.held)
 Made Led (Get settings file path) before after =
     (c : Settings) × HasSettings c × Led file.now (PrintsOf c (ContentOf path.now) before.held after.held)
 Made Led (Serve settings file port count) before after =

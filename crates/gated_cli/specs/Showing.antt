@@ -1,5 +1,6 @@
 -- What printing the texts of a gate writes.
-use Rattle.std.specs.Prelude.{◌≡◌, ◌≢◌, ⊤, true, false, ℕ, List, [], Option, Some, None, option_map, Result, Ok, Err, MatchResult}
+use Rattle.std.specs.Prelude.{◌≡◌, ◌≢◌, ⊤, true, false, ℕ, List, [], Option, Some, None, option_map, Result, Ok, Err}
+use Rattle.std.specs.Prelude.{MatchResult}
 use Rattle.gate_types.specs.Tap.{has_failed, Took, TookFront}
 use Rattle.gate_types.specs.declared.tap.Tap.{Tap}
 use Rattle.gate_types.specs.declared.records.Id.{Id}

@@ -6,7 +6,8 @@ use Rattle.gate_http.specs.Connections.{AreTold, fault_lines}
 use Rattle.gated_cli.specs.Ending.{Tells}
 use Rattle.gated_cli.specs.Faults.{line_of}
 use Rattle.gated_command.specs.declared.words.Cmd.{Cmd}
-use Rattle.gated_command.specs.declared.words.Cmd.TheVariants.{Check, Init, Replay, Deliver, Status, History, Deliveries, Get, Serve, Migrate}
+use Rattle.gated_command.specs.declared.words.Cmd.TheVariants.{Check, Init, Replay, Deliver, Status, History}
+use Rattle.gated_command.specs.declared.words.Cmd.TheVariants.{Deliveries, Get, Serve, Migrate}
 use Rattle.gated_cli.specs.declared.run.fault.Fault.{Fault}
 
 -- at most so many faults of connections are told, by a line each; a writer that failed took a beginning

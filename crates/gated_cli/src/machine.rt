@@ -17,8 +17,10 @@ pub trait GateFiles {
     ghost use Rattle.sqlite.specs.State.{State};
     ghost use Rattle.gate_types.specs.Tap.{has_failed, inside};
     ghost use Rattle.gated_cli.specs.Doing.{Announces, Delivers, Looks, Prints, beside, streams};
-    ghost use Rattle.gated_cli.specs.Ending.{AskingEnds, DeliveryEnds, HistoryEnds, IsOfMaking, LinesEnd, ServingEnds, StatusEnds};
-    ghost use Rattle.gated_cli.specs.OfFile.{ContentOf, DeliveriesOf, HistoryOf, MakesGate, PrintsOf, RepliesTo, StatusOf};
+    ghost use Rattle.gated_cli.specs.Ending.{AskingEnds, DeliveryEnds, HistoryEnds, IsOfMaking, LinesEnd};
+    ghost use Rattle.gated_cli.specs.Ending.{ServingEnds, StatusEnds};
+    ghost use Rattle.gated_cli.specs.OfFile.{ContentOf, DeliveriesOf, HistoryOf, MakesGate, PrintsOf, RepliesTo};
+    ghost use Rattle.gated_cli.specs.OfFile.{StatusOf};
     ghost use Rattle.gated_cli.specs.OfFile.{Upgrades};
     ghost use Rattle.gated_cli.specs.OverFile.{GoesOver, ServesOver};
     ghost use Rattle.gated_cli.specs.Telling.{TellsUpTo};
@@ -248,10 +250,10 @@ pub trait Databases {
     /// An open database.
     type Database;
 
-    // this is the database of the file at that path, as it was opened
+    // this is the database of the file at that path, in the state in which it was opened
     ghost IsOf: { Self.Database → List ℕ → Type 0 };
 
-    // a database was closed as this one
+    // this is a database in the state in which it was closed
     ghost IsClosed: { Self.Database → Type 0 };
 
     /// The database of a file, which is made where it isn't there. `File` where it can't be opened.

@@ -5,11 +5,15 @@ ghost use Rattle.std.specs.Io.KnownBytes.{Appends};
 ghost use Rattle.gate_types.specs.Settings.{Settings};
 ghost use Rattle.gate_types.specs.Tap.{has_failed, inside};
 ghost use Rattle.gate_migration.specs.declared.migrating.Migrated.{Migrated};
-ghost use Rattle.gated_cli.specs.Doing.{Does, Announces, Checks, Delivers, Looks, Migrates, Prints, Replays, HasSettings, beside, streams, settings_limit, migrated_text};
-ghost use Rattle.gated_cli.specs.Ending.{EndsBy, AskingEnds, CheckEnds, DeliveryEnds, HistoryEnds, LinesEnd, MigrationEnds, ReplayEnds, ServingEnds, StatusEnds, IsEarly, IsOfMaking, Tells};
+ghost use Rattle.gated_cli.specs.Doing.{Does, Announces, Checks, Delivers, Looks, Migrates, Prints, Replays};
+ghost use Rattle.gated_cli.specs.Doing.{HasSettings, beside, streams, settings_limit, migrated_text};
+ghost use Rattle.gated_cli.specs.Ending.{EndsBy, AskingEnds, CheckEnds, DeliveryEnds, HistoryEnds, LinesEnd};
+ghost use Rattle.gated_cli.specs.Ending.{MigrationEnds, ReplayEnds, ServingEnds, StatusEnds, IsEarly, IsOfMaking};
+ghost use Rattle.gated_cli.specs.Ending.{Tells};
 ghost use Rattle.gated_cli.specs.Faults.{line_of};
 ghost use Rattle.gated_cli.specs.InMemory.{IsGate};
-ghost use Rattle.gated_cli.specs.OfFile.{ContentOf, DeliveriesOf, HistoryOf, Made, MakesGate, PrintsOf, RepliesTo, StatusOf};
+ghost use Rattle.gated_cli.specs.OfFile.{ContentOf, DeliveriesOf, HistoryOf, Made, MakesGate, PrintsOf, RepliesTo};
+ghost use Rattle.gated_cli.specs.OfFile.{StatusOf};
 ghost use Rattle.gated_cli.specs.OfFile.{Upgrades};
 ghost use Rattle.gated_cli.specs.OverFile.{GoesOver, ServesOver};
 ghost use Rattle.gated_cli.specs.Telling.{ToldBy, TellsBy, TellsUpTo};
@@ -305,7 +309,8 @@ fn run_deliveries<F: Files + GateFiles + AllocGlobal, W: Write>(
     requires { has_failed output.old ≡ false }
     ensures ok { OnOk result ((left : Option (List ℕ)) → (failed : Bool) → Looks
         (beside W.contents left failed output.old) (beside W.contents left failed output.new)) }
-    ensures made { OnOk result ((c : Settings) × HasSettings c × F.Led file.now (PrintsOf c (DeliveriesOf (option_map (λ s. s.now) after.entry))
+    ensures made { OnOk result ((c : Settings) × HasSettings c × F.Led file.now
+        (PrintsOf c (DeliveriesOf (option_map (λ s. s.now) after.entry))
         (W.contents (inside output.old)) (W.contents (inside output.new)))) }
     ensures err { IfErr result (λ fault. (left : Option (List ℕ)) → (failed : Bool) → LinesEnd fault
         (beside W.contents left failed output.old) (beside W.contents left failed output.new)) }

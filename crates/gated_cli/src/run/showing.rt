@@ -4,7 +4,9 @@ ghost use Rattle.gate_types.specs.Tap.{has_failed, Took};
 ghost use Rattle.gate_core.specs.Held.{Goes};
 ghost use Rattle.gate_core.specs.Holding.{IsKeptGate};
 ghost use Rattle.gated_cli.specs.OverFile.{file_fault};
-ghost use Rattle.gated_cli.specs.Showing.{WritesStatus, StopsStatus, WritesHistory, StopsHistory, cursor, lines_behind, lines_told, WritesLines, StopsLines, IsEndedBy, WritesContent, StopsContent};
+ghost use Rattle.gated_cli.specs.Showing.{WritesStatus, StopsStatus, WritesHistory, StopsHistory, cursor};
+ghost use Rattle.gated_cli.specs.Showing.{lines_behind, lines_told, WritesLines, StopsLines, IsEndedBy};
+ghost use Rattle.gated_cli.specs.Showing.{WritesContent, StopsContent};
 
 use crate::run::fault::Fault;
 use gate_archive::{Archive, id_of};
