@@ -29,6 +29,8 @@ use Rattle.gate_book_trait.proofs.ReadLemmas.{and_first}
 use Rattle.gate_admission.specs.Known.{IsQueue, has_room, has_place}
 use Rattle.gate_admission.specs.Enters.{item_in}
 use Rattle.gate_reads.proofs.Queues.{names}
+use Rattle.gate_types.specs.Counters.{last_number}
+use Rattle.gate_types.specs.Limits.{most_items}
 
 -- the names of the queues differ, and none is empty
 pub record AreNamed (s : State) : Type 0 where
@@ -36,7 +38,7 @@ pub record AreNamed (s : State) : Type 0 where
   pub not_empty : list_any (same_name []) (map (λ q. q.name) s.queues) ≡ false
 
 abbrev last_serial : ℕ
-last_serial = 1000000000000000
+last_serial = last_number
 
 found_along : (c : Settings) (s : State) (q : Queue) (m : ℕ) (ahead is : List Item) →
     is_some (item_in m (map (row_of s.builds) (places_after s.builds ahead (map (place_of c s q) is)))) ≡
@@ -107,9 +109,9 @@ and_assoc false y z = refl
 pub may_is : (c : Settings) (s : State) (r : Ready) → AreNamed s →
     may_enter c s r ≡ has_place s (project_of c s r.change).queue (needs_of s r.change)
 may_is c s r a =
-    (λ k. list_any (λ q. and_assoc (same_name q.name (project_of c s r.change).queue) (nat_lt (length q.items) 1000)
+    (λ k. list_any (λ q. and_assoc (same_name q.name (project_of c s r.change).queue) (nat_lt (length q.items) most_items)
     (are_met_by q.items (needs_of s r.change)) k) s.queues)
-    ∙ one_named (λ q. nat_lt (length q.items) 1000 && are_met_by q.items (needs_of s r.change))
+    ∙ one_named (λ q. nat_lt (length q.items) most_items && are_met_by q.items (needs_of s r.change))
     (project_of c s r.change).queue s.queues a.distinct
 
 -- a change of no project may not
@@ -130,7 +132,7 @@ pub no_project : (c : Settings) (s : State) (r : Ready) → AreNamed s →
 no_project c s r a e =
     may_is c s r a ∙ ap (λ (o : Option Project). has_place s
     (unwrap_or o (record { name = []; queue = []; jobs = []; fail_fast = false })).queue (needs_of s r.change)) e
-    ∙ none_empty (λ q. nat_lt (length q.items) 1000 && are_met_by q.items (needs_of s r.change)) s.queues a.not_empty
+    ∙ none_empty (λ q. nat_lt (length q.items) most_items && are_met_by q.items (needs_of s r.change)) s.queues a.not_empty
 
 pub in_project : (c : Settings) (s : State) (r : Ready) (p : Project) → AreNamed s →
     find (λ p. same_name p.name (change_of s r.change).project) c.projects ≡ Some p →
@@ -222,17 +224,17 @@ place_is v name needs h = by_queue (queue_named v name) refl
     and_true false t e = refl
 
     by_queue : (o : Option Queue) → queue_named v name ≡ o →
-        option_map_or (λ (q : Queue). nat_lt (length q.items) 1000) o false ≡
-        option_map_or (λ (q : Queue). nat_lt (length q.items) 1000 && are_met_by q.items needs) o false
+        option_map_or (λ (q : Queue). nat_lt (length q.items) most_items) o false ≡
+        option_map_or (λ (q : Queue). nat_lt (length q.items) most_items && are_met_by q.items needs) o false
     by_queue None e = refl
-    by_queue (Some q) e = and_true (nat_lt (length q.items) 1000) (are_met_by q.items needs) (h q e)
+    by_queue (Some q) e = and_true (nat_lt (length q.items) most_items) (are_met_by q.items needs) (h q e)
 
 -- a queue with a place is there
 pub place_there : (v : State) (name : List ℕ) (needs : List Need) → has_place v name needs ≡ true → IsQueue v name
 place_there v name needs e = by_queue (queue_named v name) refl e
   where
     by_queue : (o : Option Queue) → queue_named v name ≡ o →
-        option_map_or (λ (q : Queue). nat_lt (length q.items) 1000 && are_met_by q.items needs) o false ≡ true →
+        option_map_or (λ (q : Queue). nat_lt (length q.items) most_items && are_met_by q.items needs) o false ≡ true →
         IsQueue v name
     by_queue None f h = absurd (true≢false (sym h))
     by_queue (Some q) f h = record { queue = q; named = f }

@@ -21,6 +21,7 @@ use Rattle.gate_admission.proofs.LastItem.{last_is}
 use Rattle.gate_admission.proofs.ByChange.{AreOnce, AreTold, by_change}
 use Rattle.gate_admission.proofs.Standing.{rows_rise, rows_length, row_once, row_drawn, queue_in, stored_tells}
 use Rattle.gate_admission.proofs.Led.{queue_after_is, items_led}
+use Rattle.gate_types.specs.Limits.{most_items}
 
 pub change_led : (c : Settings) (x : Content) (edits : List Edit) (v : State) (name : List ℕ) (n : ℕ) →
     IsSound c x.state → IsLed c x edits v → IsQueue v name →
@@ -58,20 +59,20 @@ last_led c x edits v name led there =
 
 -- ---- room
 
-shifted : (a l d : ℕ) → l + d ≡ a → nat_lt a (1000 + d) ≡ nat_lt l 1000
+shifted : (a l d : ℕ) → l + d ≡ a → nat_lt a (most_items + d) ≡ nat_lt l most_items
 shifted a l d e = ⊎_elim
-    (λ (h : l < 1000). lt-ltb a (1000 + d) (omega (arith, h, e)) ∙ sym (lt-ltb l 1000 h))
-    (λ (h : 1000 ≤ l). le-ltb a (1000 + d) (omega (arith, h, e)) ∙ sym (le-ltb l 1000 h))
-    (cases_lt l 1000)
+    (λ (h : l < most_items). lt-ltb a (most_items + d) (omega (arith, h, e)) ∙ sym (lt-ltb l most_items h))
+    (λ (h : most_items ≤ l). le-ltb a (most_items + d) (omega (arith, h, e)) ∙ sym (le-ltb l most_items h))
+    (cases_lt l most_items)
 
 pub room_led : (c : Settings) (x : Content) (edits : List Edit) (v : State) (name : List ℕ) (items added dropped : ℕ) →
     IsLed c x edits v → IsQueue v name → items ≡ item_count c x.state name →
     length (items_after name (items_in c x.state name) edits) + dropped ≡ length (items_in c x.state name) + added →
-    nat_lt (items + added) (1000 + dropped) ≡ has_room v name
+    nat_lt (items + added) (most_items + dropped) ≡ has_room v name
 room_led c x edits v name items added dropped led there count sum =
     let q = there.queue in
     let new : length (items_after name (items_in c x.state name) edits) ≡ length q.items =
     ap length (items_led c x edits v name led there)
     ∙ ap (λ o. length (option_map_or (item_rows c v) o [])) there.named ∙ rows_length c v q in
     shifted (items + added) (length q.items) dropped (omega (arith, count, new, sum))
-    ∙ sym (ap (λ (o : Option Queue). option_map_or (λ q. nat_lt (length q.items) 1000) o false) there.named)
+    ∙ sym (ap (λ (o : Option Queue). option_map_or (λ q. nat_lt (length q.items) most_items) o false) there.named)

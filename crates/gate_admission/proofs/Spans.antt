@@ -24,6 +24,8 @@ use Rattle.gate_admission.proofs.LastItem.{AtMost, last_of, last_most}
 use Rattle.gate_admission.proofs.QueueItems.{serial_of, rising_after}
 use Rattle.gate_admission.proofs.Sizes.{size_step, one_if_most}
 use Rattle.gate_admission.proofs.Standing.{queue_in, items_rise, row_is_of, row_drawn, rows_length}
+use Rattle.gate_types.specs.Counters.{last_number}
+use Rattle.gate_types.specs.Limits.{most_items}
 
 -- ---- the rows of a queue
 
@@ -71,7 +73,7 @@ none_above (y ∷ ys) low e = absurd (true≢false
     ∙ not_found (λ (i : ItemRow). nat_lt 0 i.serial) (y ∷ ys) e y (inl refl)))
 
 -- a state's serials are up to 10^15
-order_small : (s : State) → is_exhausted s ≡ false → s.counters.order ≤ 1000000000000000
+order_small : (s : State) → is_exhausted s ≡ false → s.counters.order ≤ last_number
 order_small s h = grind (arith, h)
 
 -- ---- of the queue of a name
@@ -133,13 +135,13 @@ module _ (c : Settings) (x : Content) (name : List ℕ) (lawful : IsLawfulConten
           (last_most None rows r up m)
 
 -- a queue is full where a thousand are counted
-pub full_is : (c : Settings) (s : State) (name : List ℕ) → is_full s name ≡ nat_le 1000 (item_count c s name)
+pub full_is : (c : Settings) (s : State) (name : List ℕ) → is_full s name ≡ nat_le most_items (item_count c s name)
 full_is c s name = by_found (queue_named s name)
   where
-    by_found : (o : Option Queue) → option_map_or (λ (q : Queue). nat_le 1000 (length q.items)) o false ≡
-        nat_le 1000 (length (option_map_or (item_rows c s) o []))
+    by_found : (o : Option Queue) → option_map_or (λ (q : Queue). nat_le most_items (length q.items)) o false ≡
+        nat_le most_items (length (option_map_or (item_rows c s) o []))
     by_found None = refl
-    by_found (Some q) = ap (nat_le 1000) (sym (rows_length c s q))
+    by_found (Some q) = ap (nat_le most_items) (sym (rows_length c s q))
 
 -- ---- after edits
 
@@ -155,12 +157,12 @@ few_added name items (e ∷ es) rise =
 -- where its serials don't allow 1,000 it has room
 pub room_by_most : (c : Settings) (x : Content) (edits : List Edit) (v : State) (name : List ℕ) (n : ℕ) →
     IsLawfulContent c x → IsLed c x edits v → IsQueue v name → item_count c x.state name ≤ n →
-    n + length edits < 1000 → has_room v name ≡ true
+    n + length edits < most_items → has_room v name ≡ true
 room_by_most c x edits v name n lawful led there most few =
     let q = there.queue in
     let added = few_added name (items_in c x.state name) edits (items_rise c x.state name lawful.lawful.sound) in
     let same : length (items_after name (items_in c x.state name) edits) ≡ length q.items =
     ap length (items_led c x edits v name led there)
     ∙ ap (λ o. length (option_map_or (item_rows c v) o [])) there.named ∙ rows_length c v q in
-    ap (λ (o : Option Queue). option_map_or (λ p. nat_lt (length p.items) 1000) o false) there.named
-    ∙ lt-ltb (length q.items) 1000 (omega (arith, added, same, most, few))
+    ap (λ (o : Option Queue). option_map_or (λ p. nat_lt (length p.items) most_items) o false) there.named
+    ∙ lt-ltb (length q.items) most_items (omega (arith, added, same, most, few))

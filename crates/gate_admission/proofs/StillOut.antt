@@ -12,10 +12,11 @@ use Rattle.gate_types.specs.Slot.{are_met_by}
 use Rattle.gate_types.specs.Admit.{may_enter, entered, with_item, next_item}
 use Rattle.gate_admission.proofs.EnteringRow.{length_push}
 use Rattle.gate_laws.proofs.Tests.{flipped}
+use Rattle.gate_types.specs.Limits.{most_items}
 
 -- a queue with room in which the needs are met
 abbrev fits : List Need → Queue → Bool
-fits needs q = nat_lt (length q.items) 1000 && are_met_by q.items needs
+fits needs q = nat_lt (length q.items) most_items && are_met_by q.items needs
 
 has_more : (is : List Item) (i : Item) (m : ℕ) → i.change == m ≡ false → has_change (is ++ i ∷ []) m ≡ has_change is m
 has_more [] i m e = ap (λ t. t || false) e
@@ -33,16 +34,16 @@ met_same s is i (n ∷ ns) h =
 fits_less : (s : State) (q : Queue) (i : Item) (ns : List ℕ) → list_any (λ m. m == i.change) ns ≡ false →
     fits (map (need_of s) ns) q ≡ false → fits (map (need_of s) ns) (with_item i q) ≡ false
 fits_less s q i ns h e =
-    ap (λ t. nat_lt (length (q.items ++ i ∷ [])) 1000 && t) (met_same s q.items i ns h)
-    ∙ by_test (nat_lt (length (q.items ++ i ∷ [])) 1000) refl (are_met_by q.items (map (need_of s) ns)) e
+    ap (λ t. nat_lt (length (q.items ++ i ∷ [])) most_items && t) (met_same s q.items i ns h)
+    ∙ by_test (nat_lt (length (q.items ++ i ∷ [])) most_items) refl (are_met_by q.items (map (need_of s) ns)) e
   where
-    by_test : (b : Bool) → nat_lt (length (q.items ++ i ∷ [])) 1000 ≡ b → (m : Bool) →
-        (nat_lt (length q.items) 1000 && m) ≡ false → (b && m) ≡ false
+    by_test : (b : Bool) → nat_lt (length (q.items ++ i ∷ [])) most_items ≡ b → (m : Bool) →
+        (nat_lt (length q.items) most_items && m) ≡ false → (b && m) ≡ false
     by_test false f m g = refl
     by_test true f m g =
         let more = length_push q.items i in
-        let less = ltb-true (length (q.items ++ i ∷ [])) 1000 f in
-        ap (λ t. t && m) (sym (lt-ltb (length q.items) 1000 (omega (arith, more, less)))) ∙ g
+        let less = ltb-true (length (q.items ++ i ∷ [])) most_items f in
+        ap (λ t. t && m) (sym (lt-ltb (length q.items) most_items (omega (arith, more, less)))) ∙ g
 
 and_or : (a b d : Bool) → (a && b && d) ≡ (a && (b && d))
 and_or true b d = refl
@@ -50,16 +51,16 @@ and_or false b d = refl
 
 -- whether a queue of this name takes it
 abbrev takes : List ℕ → List Need → Queue → Bool
-takes name needs q = same_name q.name name && nat_lt (length q.items) 1000 && are_met_by q.items needs
+takes name needs q = same_name q.name name && nat_lt (length q.items) most_items && are_met_by q.items needs
 
 takes_less : (s : State) (name : List ℕ) (i : Item) (ns : List ℕ) (q : Queue) (b : Bool) →
     list_any (λ m. m == i.change) ns ≡ false → takes name (map (need_of s) ns) q ≡ false →
     takes name (map (need_of s) ns) (if b then with_item i q else q) ≡ false
 takes_less s name i ns q false h e = e
 takes_less s name i ns q true h e =
-    and_or (same_name q.name name) (nat_lt (length (q.items ++ i ∷ [])) 1000) (are_met_by (q.items ++ i ∷ []) (map
+    and_or (same_name q.name name) (nat_lt (length (q.items ++ i ∷ [])) most_items) (are_met_by (q.items ++ i ∷ []) (map
     (need_of s) ns))
-    ∙ by_name (same_name q.name name) (sym (and_or (same_name q.name name) (nat_lt (length q.items) 1000)
+    ∙ by_name (same_name q.name name) (sym (and_or (same_name q.name name) (nat_lt (length q.items) most_items)
     (are_met_by q.items (map (need_of s) ns))) ∙ e)
   where
     by_name : (t : Bool) → (t && fits (map (need_of s) ns) q) ≡ false →

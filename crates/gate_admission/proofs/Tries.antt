@@ -10,7 +10,7 @@ use Rattle.gate_types.specs.declared.records.Ready.{Ready}
 use Rattle.gate_types.specs.declared.edits.Edit.{Edit}
 use Rattle.gate_types.specs.declared.edits.Edit.TheVariants as edit
 use Rattle.gate_types.specs.declared.edits.Counter.TheVariants as counter
-use Rattle.gate_types.specs.Counters.{Drawn}
+use Rattle.gate_types.specs.Counters.{Drawn, last_number}
 use Rattle.gate_types.specs.Settings.{Settings}
 use Rattle.gate_types.specs.State.{State}
 use Rattle.gate_types.specs.Once.{Content}
@@ -28,16 +28,16 @@ use Rattle.gate_admission.proofs.Admitted.{tries, admit_tries, tries_more, all_i
 
 -- each number is at most the last one
 record AreInRange (d : Drawn) : Type 0 where
-  approval : d.approval ≤ 1000000000000000
-  build : d.build ≤ 1000000000000000
-  order : d.order ≤ 1000000000000000
+  approval : d.approval ≤ last_number
+  build : d.build ≤ last_number
+  order : d.order ≤ last_number
 
 -- the edits lead to a state with this order counter, and its other counters aren't past the last number
 pub record IsUnder (c : Settings) (x : Content) (edits : List Edit) (drawn : ℕ) (u : State) : Type 0 where
   pub led : IsLed c x edits u
   pub order : u.counters.order ≡ drawn
-  pub approval : u.counters.approval ≤ 1000000000000000
-  pub build : u.counters.build ≤ 1000000000000000
+  pub approval : u.counters.approval ≤ last_number
+  pub build : u.counters.build ≤ last_number
 
 -- ---- counters
 
@@ -55,63 +55,63 @@ same_counters c s (suc n) =
     by_found (Some r) = (refl, refl)
 
 -- one is past the last number
-past_one : (a b o : ℕ) → (nat_lt 1000000000000000 a || nat_lt 1000000000000000 b || nat_lt 1000000000000000 o) ≡ true →
-    1000000000000000 < max a (max b o)
-past_one a b o h = by_tests (nat_lt 1000000000000000 a) refl (nat_lt 1000000000000000 b) refl
-    (nat_lt 1000000000000000 o) refl h
+past_one : (a b o : ℕ) → (nat_lt last_number a || nat_lt last_number b || nat_lt last_number o) ≡ true →
+    last_number < max a (max b o)
+past_one a b o h = by_tests (nat_lt last_number a) refl (nat_lt last_number b) refl
+    (nat_lt last_number o) refl h
   where
-    by_tests : (p : Bool) → nat_lt 1000000000000000 a ≡ p → (q : Bool) → nat_lt 1000000000000000 b ≡ q → (r : Bool) →
-        nat_lt 1000000000000000 o ≡ r → (p || q || r) ≡ true → 1000000000000000 < max a (max b o)
-    by_tests true e q f r g k = let low = ltb-true 1000000000000000 a e in omega (arith, low)
-    by_tests false e true f r g k = let low = ltb-true 1000000000000000 b f in omega (arith, low)
-    by_tests false e false f true g k = let low = ltb-true 1000000000000000 o g in omega (arith, low)
+    by_tests : (p : Bool) → nat_lt last_number a ≡ p → (q : Bool) → nat_lt last_number b ≡ q → (r : Bool) →
+        nat_lt last_number o ≡ r → (p || q || r) ≡ true → last_number < max a (max b o)
+    by_tests true e q f r g k = let low = ltb-true last_number a e in omega (arith, low)
+    by_tests false e true f r g k = let low = ltb-true last_number b f in omega (arith, low)
+    by_tests false e false f true g k = let low = ltb-true last_number o g in omega (arith, low)
     by_tests false e false f false g k = absurd (true≢false (sym k))
 
 -- none is
-pub none_past : (a b o : ℕ) → (nat_lt 1000000000000000 a || nat_lt 1000000000000000 b || nat_lt 1000000000000000 o) ≡
+pub none_past : (a b o : ℕ) → (nat_lt last_number a || nat_lt last_number b || nat_lt last_number o) ≡
     false →
-    (a ≤ 1000000000000000) × (b ≤ 1000000000000000) × (o ≤ 1000000000000000)
-none_past a b o h = by_tests (nat_lt 1000000000000000 a) refl (nat_lt 1000000000000000 b) refl
-    (nat_lt 1000000000000000 o) refl h
+    (a ≤ last_number) × (b ≤ last_number) × (o ≤ last_number)
+none_past a b o h = by_tests (nat_lt last_number a) refl (nat_lt last_number b) refl
+    (nat_lt last_number o) refl h
   where
-    by_tests : (p : Bool) → nat_lt 1000000000000000 a ≡ p → (q : Bool) → nat_lt 1000000000000000 b ≡ q → (r : Bool) →
-        nat_lt 1000000000000000 o ≡ r → (p || q || r) ≡ false →
-        (a ≤ 1000000000000000) × (b ≤ 1000000000000000) × (o ≤ 1000000000000000)
+    by_tests : (p : Bool) → nat_lt last_number a ≡ p → (q : Bool) → nat_lt last_number b ≡ q → (r : Bool) →
+        nat_lt last_number o ≡ r → (p || q || r) ≡ false →
+        (a ≤ last_number) × (b ≤ last_number) × (o ≤ last_number)
     by_tests true e q f r g k = absurd (true≢false k)
     by_tests false e true f r g k = absurd (true≢false k)
     by_tests false e false f true g k = absurd (true≢false k)
     by_tests false e false f false g k =
-        (ltb-false 1000000000000000 a e, ltb-false 1000000000000000 b f, ltb-false 1000000000000000 o g)
+        (ltb-false last_number a e, ltb-false last_number b f, ltb-false last_number o g)
 
 -- what is past stays so
 pub past_stays : (c : Settings) (v : State) →
-    (nat_lt 1000000000000000 v.counters.approval || nat_lt 1000000000000000 v.counters.build ||
-    nat_lt 1000000000000000 v.counters.order) ≡ true → is_exhausted (admit c v) ≡ true
+    (nat_lt last_number v.counters.approval || nat_lt last_number v.counters.build ||
+    nat_lt last_number v.counters.order) ≡ true → is_exhausted (admit c v) ≡ true
 past_stays c v h =
     let n = length v.ready in
     let past = past_one v.counters.approval v.counters.build v.counters.order h in
     let same = same_counters c v n in
     let more = order_rises c v n in
     ap is_exhausted (admit_tries c v)
-    ∙ lt-ltb 1000000000000000 (max (tries c v n).counters.approval
+    ∙ lt-ltb last_number (max (tries c v n).counters.approval
     (max (tries c v n).counters.build (tries c v n).counters.order))
     (omega (arith, past, same.0, same.1, more))
 
 -- where no serial is left for one, the counter passes the last number
 pub runs_out : (c : Settings) (v : State) (m : ℕ) (r : Ready) → m + 1 ≤ length v.ready →
-    find (may_enter c (tries c v m)) (tries c v m).ready ≡ Some r → 1000000000000000 ≤ (tries c v m).counters.order →
+    find (may_enter c (tries c v m)) (tries c v m).ready ≡ Some r → last_number ≤ (tries c v m).counters.order →
     is_exhausted (admit c v) ≡ true
 runs_out c v m r l e h =
     let n = length v.ready in
-    let past = ltb-true 1000000000000000 (tries c v n).counters.order (none_left c v m n r l e h) in
+    let past = ltb-true last_number (tries c v n).counters.order (none_left c v m n r l e h) in
     ap is_exhausted (admit_tries c v)
-    ∙ lt-ltb 1000000000000000 (max (tries c v n).counters.approval
+    ∙ lt-ltb last_number (max (tries c v n).counters.approval
     (max (tries c v n).counters.build (tries c v n).counters.order))
     (omega (arith, past))
 
 -- ---- the end
 
-pub at_the_end : (c : Settings) (x : Content) (edits : List Edit) (order : ℕ) (v u : State) → order ≤ 1000000000000000 →
+pub at_the_end : (c : Settings) (x : Content) (edits : List Edit) (order : ℕ) (v u : State) → order ≤ last_number →
     IsUnder c x edits order u → admit c v ≡ u →
     Leads c x edits (in_state x (admit c v)) × (is_exhausted (admit c v) ≡ false)
 at_the_end c x edits order v u low under e =
@@ -119,7 +119,7 @@ at_the_end c x edits order v u low under e =
     let a = under.approval in
     let b = under.build in (
       subst (λ (t : State). Leads c x edits (in_state x t)) (sym e) under.led.leads,
-      ap is_exhausted e ∙ le-ltb 1000000000000000 (max u.counters.approval (max u.counters.build u.counters.order))
+      ap is_exhausted e ∙ le-ltb last_number (max u.counters.approval (max u.counters.build u.counters.order))
           (omega (arith, low, o, a, b)),
     )
 
@@ -198,7 +198,7 @@ next_entered c x edits all drawn v r waiting next h first led are =
 
 -- all have: nobody else may enter
 pub all_entered : (c : Settings) (x : Content) (edits : List Edit) (drawn : ℕ) (v : State) (waiting : BTreeMap ℕ ℕ)
-    (h : AreEntering c x edits drawn v waiting) → drawn ≤ 1000000000000000 →
+    (h : AreEntering c x edits drawn v waiting) → drawn ≤ last_number →
     find (may_enter c (tries c v h.entered)) (tries c v h.entered).ready ≡ None →
     Leads c x edits (in_state x (admit c v)) × (is_exhausted (admit c v) ≡ false)
 all_entered c x edits drawn v waiting h low none =
@@ -209,7 +209,7 @@ all_entered c x edits drawn v waiting h low none =
 -- no serial is left for the next
 pub none_for_next : (c : Settings) (x : Content) (edits : List Edit) (drawn : ℕ) (v : State) (r : Ready)
     (waiting : BTreeMap ℕ ℕ) (h : AreEntering c x edits drawn v waiting) →
-    find (may_enter c (tries c v h.entered)) (tries c v h.entered).ready ≡ Some r → 1000000000000000 ≤ drawn →
+    find (may_enter c (tries c v h.entered)) (tries c v h.entered).ready ≡ Some r → last_number ≤ drawn →
     is_exhausted (admit c v) ≡ true
 none_for_next c x edits drawn v r waiting h first last =
     let less = still_ready c (tries c v h.entered) r first in
@@ -227,11 +227,11 @@ not_past d (e ∷ es) h r =
   where
     one : (e : Edit) → sets_past e ≡ false → AreInRange (edited_counters d e)
     one (edit.SetCounter counter.Approval n) f =
-        record { approval = ltb-false 1000000000000000 n f; build = r.build; order = r.order }
+        record { approval = ltb-false last_number n f; build = r.build; order = r.order }
     one (edit.SetCounter counter.Build n) f =
-        record { approval = r.approval; build = ltb-false 1000000000000000 n f; order = r.order }
+        record { approval = r.approval; build = ltb-false last_number n f; order = r.order }
     one (edit.SetCounter counter.Order n) f =
-        record { approval = r.approval; build = r.build; order = ltb-false 1000000000000000 n f }
+        record { approval = r.approval; build = r.build; order = ltb-false last_number n f }
     one (edit.PutItem q i) f = r
     one (edit.DropItem k) f = r
     one (edit.PutChange k a) f = r
@@ -250,7 +250,7 @@ pub idle_stays : (c : Settings) (x : Content) (edits : List Edit) (v : State) (w
     ((a : ℕ) → get nat_cmp waiting a ≡ None) →
     Leads c x edits (in_state x (admit c v)) × (is_exhausted (admit c v) ≡ false)
 idle_stays c x edits v waiting before led none are empty =
-    let most = ltb-false 1000000000000000 _ before in
+    let most = ltb-false last_number _ before in
     let start : AreInRange x.state.counters = record {
       approval = omega (arith, most);
       build = omega (arith, most);

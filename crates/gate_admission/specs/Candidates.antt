@@ -12,6 +12,7 @@ use Rattle.gate_types.specs.State.{State, change_of, is_landed}
 use Rattle.gate_types.specs.Admit.{may_enter, entered}
 use Rattle.gate_book_trait.specs.Reads.{queue_named, ready_needing}
 use Rattle.gate_admission.specs.Seen.{ready_after}
+use Rattle.gate_types.specs.Limits.{most_items}
 
 -- ---- what edits let in
 
@@ -26,7 +27,7 @@ puts n _ = false
 
 -- the queue of a name has its 1,000 items
 abbrev pub is_full : State → List ℕ → Bool
-is_full s name = option_map_or (λ q. nat_le 1000 (length q.items)) (queue_named s name) false
+is_full s name = option_map_or (λ q. nat_le most_items (length q.items)) (queue_named s name) false
 
 -- the queue that an edit reports a leaving item of
 abbrev pub reported : Edit → Option (List ℕ)

@@ -1,7 +1,7 @@
 //! The counters, as they are after edits.
 ghost use Rattle.std.specs.Prelude.{◌≡◌, ◌||◌, nat_lt, fold, IfOk, IfErr};
 ghost use Rattle.std.specs.List.{list_any};
-ghost use Rattle.gate_types.specs.Counters.{Drawn};
+ghost use Rattle.gate_types.specs.Counters.{Drawn, last_number};
 ghost use Rattle.gate_types.specs.Tables.{edited_counters};
 ghost use Rattle.gate_book_trait.specs.Faults.{MayAnswer};
 ghost use Rattle.gate_book_trait.specs.Kept.{IsKept};
@@ -11,6 +11,7 @@ ghost use Rattle.gate_admission.specs.Counted as counting;
 use gate_book_trait::{Book, BookFault};
 use gate_types::edits::{Counter, Edit};
 use std::marker::Model;
+use gate_types::numbers::LAST_NUMBER;
 
 /// The last number drawn of each kind, which may be past 10^15.
 #[derive(Clone, Copy)]
@@ -83,19 +84,19 @@ pub(crate) fn last_drawn<B: Book>(book: &mut B, edits: &[Edit]) -> Result<LastDr
 
 /// Whether one of them is past 10^15.
 pub(crate) fn is_past(drawn: LastDrawn) -> bool
-    ensures { result ≡ (nat_lt 1000000000000000 drawn.approval || nat_lt 1000000000000000 drawn.build ||
-        nat_lt 1000000000000000 drawn.order) }
+    ensures { result ≡ (nat_lt last_number drawn.approval || nat_lt last_number drawn.build ||
+        nat_lt last_number drawn.order) }
 {
-    drawn.approval > 1_000_000_000_000_000
-        || drawn.build > 1_000_000_000_000_000
-        || drawn.order > 1_000_000_000_000_000
+    drawn.approval > LAST_NUMBER
+        || drawn.build > LAST_NUMBER
+        || drawn.order > LAST_NUMBER
 }
 
 fn passes(edit: &Edit) -> bool
     ensures { result ≡ counting.sets_past edit.now }
 {
     match edit {
-        Edit::SetCounter { drawn, .. } => *drawn > 1_000_000_000_000_000,
+        Edit::SetCounter { drawn, .. } => *drawn > LAST_NUMBER,
         _ => false,
     }
 }

@@ -16,6 +16,7 @@ use gate_book_trait::{Book, BookFault};
 use gate_types::edits::Edit;
 use gate_types::names::{Name, same_name};
 use gate_types::numbers::Serial;
+use gate_types::limits::MOST_ITEMS;
 
 /// Whether an edit after others puts an item into a queue where none had its serial.
 fn grows<B: Book>(
@@ -124,10 +125,10 @@ fn is_full<B: Book>(book: &mut B, queue: &Name) -> Result<bool, BookFault>
     ensures kept { IsKept B.IsTrusted B.Holds B.LeavesOneOf book.old book.new }
     ensures fault { IfErr result (MayAnswer B.MayFault) }
 {
-    if most_items(book, queue)? < 1000 {
+    if most_items(book, queue)? < MOST_ITEMS {
         return Ok(false);
     }
-    Ok(book.item_count(queue)? >= 1000)
+    Ok(book.item_count(queue)? >= MOST_ITEMS)
 }
 
 /// The queue that an edit reports a leaving item of.
@@ -215,10 +216,10 @@ pub(crate) fn has_room<B: Book>(
     ensures fault { IfErr result (MayAnswer B.MayFault) }
 {
     let most = most_items(book, queue)?;
-    if u128::from(most) + (edits.len() as u128) < 1000 {
+    if u128::from(most) + (edits.len() as u128) < (MOST_ITEMS as u128) {
         return Ok(true);
     }
     let items = book.item_count(queue)?;
     let moves = count_moves(book, edits, queue)?;
-    Ok(u128::from(items) + (moves.added as u128) < 1000 + (moves.dropped as u128))
+    Ok(u128::from(items) + (moves.added as u128) < (MOST_ITEMS as u128) + (moves.dropped as u128))
 }

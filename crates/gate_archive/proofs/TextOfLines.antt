@@ -9,9 +9,10 @@ use Rattle.gate_types.specs.declared.records.Id.{Id}
 use Rattle.gate_types.specs.declared.records.Kept.{Kept}
 use Rattle.gate_types.specs.declared.tap.Tap.{Tap}
 use Rattle.gate_archive.specs.Feed.{feed_lines}
-use Rattle.gate_archive.specs.Writes.{TookSome, OfFeed, OfFeedText, LeavesFeed, LeavesFeedText, most_fed}
+use Rattle.gate_archive.specs.Writes.{TookSome, OfFeed, OfFeedText, LeavesFeed, LeavesFeedText}
 use Rattle.gate_archive.specs.declared.fault.FeedFault.{FeedFault}
 use Rattle.gate_archive.specs.declared.fault.FeedFault.TheVariants as fault
+use Rattle.gate_types.specs.Limits.{most_listed}
 
 -- the last line of a text with n deliveries
 abbrev pub end_line : ℕ → List ℕ
@@ -30,7 +31,7 @@ some_end n = omega (arith, length-append (codes "end" ++ 32 ∷ decimal n) (10 �
 
 -- a writer that took some first bytes of the lines took a beginning of the text
 cut_text : {W : Type 0} (kept : List Kept) (after : Option Id) (front : List ℕ) (held : W → Option (List ℕ)) (old new : Tap W)
-    → OfFeed kept after most_fed front (λ told. TookSome held old new) → OfFeedText kept after front (TookFront held old new)
+    → OfFeed kept after most_listed front (λ told. TookSome held old new) → OfFeedText kept after front (TookFront held old new)
 cut_text kept after front held old new it = record {
   told = it.told;
   are = it.are;
@@ -39,7 +40,7 @@ cut_text kept after front held old new it = record {
 
 -- what a fault of the lines leaves is a beginning of the text
 pub leaves_text : {W : Type 0} (kept : List Kept) (after : Option Id) (front : List ℕ) (held : W → Option (List ℕ)) (old new : Tap W) (f : FeedFault)
-    → LeavesFeed kept after most_fed front held old new f → LeavesFeedText kept after front held old new f
+    → LeavesFeed kept after most_listed front held old new f → LeavesFeedText kept after front held old new f
 leaves_text kept after front held old new fault.NoDelivery it = it
 leaves_text kept after front held old new fault.Unavailable it = it
 leaves_text kept after front held old new fault.Broken it = cut_text kept after front held old new it
@@ -47,7 +48,7 @@ leaves_text kept after front held old new fault.Write it = cut_text kept after f
 
 -- lines that were taken whole, and how many they are
 abbrev pub WholeLines : {W : Type 0} → List Kept → Option Id → List ℕ → (W → Option (List ℕ)) → Tap W → Tap W → ℕ → Type 0
-WholeLines kept after front held old new n = OfFeed kept after most_fed front (λ told text. Took held old new text × (n ≡ length told))
+WholeLines kept after front held old new n = OfFeed kept after most_listed front (λ told text. Took held old new text × (n ≡ length told))
 
 -- whole lines are some first bytes of them
 pub no_end : {W : Type 0} (kept : List Kept) (after : Option Id) (front : List ℕ) (held : W → Option (List ℕ)) (old new : Tap W) (n : ℕ)

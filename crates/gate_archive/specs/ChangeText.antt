@@ -10,6 +10,7 @@ use Rattle.gate_types.specs.JsonText.{Piece, number, plain, boolean, array, memb
 use Rattle.gate_types.specs.Tables.{approval_of}
 use Rattle.gate_book_trait.specs.Reads.{queued_of, item_count}
 use Rattle.gate_archive.specs.OrNull.{or_null}
+use Rattle.gate_types.specs.Limits.{most_items}
 
 -- the word of a stage
 abbrev pub stage_word : Stage → List ℕ
@@ -39,7 +40,7 @@ need_piece c s n = object (
 
 -- a queue takes no more items
 abbrev pub is_full : Settings → State → List ℕ → Bool
-is_full c s queue = nat_le 1000 (item_count c s queue)
+is_full c s queue = nat_le most_items (item_count c s queue)
 
 -- the text of a change at its latest revision, with the queue of its project
 abbrev pub change_text : Settings → State → Change → List ℕ

@@ -18,6 +18,7 @@ use Rattle.gate_book_trait.specs.declared.rows.QueuedItem.{QueuedItem}
 use Rattle.gate_archive.specs.declared.rows.BuildSummary.{BuildSummary}
 use Rattle.gate_archive.specs.declared.rows.LeftItem.{LeftItem}
 use Rattle.gate_archive.specs.OrNull.{or_null}
+use Rattle.gate_types.specs.Limits.{most_listed}
 
 -- ---- what an item was
 
@@ -103,7 +104,7 @@ summary_piece b = object (
 -- the text of an item of which this is told
 abbrev pub text_of : Settings → State → ℕ → Told → List ℕ
 text_of c s serial t = object (
-    member (codes "builds") (array (map summary_piece (last_builds s serial 1000))) ∷
+    member (codes "builds") (array (map summary_piece (last_builds s serial most_listed))) ∷
     member (codes "change") (number t.change) ∷
     member (codes "jobs") (or_null (jobs_piece s.builds) (place_at c s serial)) ∷
     member (codes "kept") (number (length (builds_of s serial))) ∷

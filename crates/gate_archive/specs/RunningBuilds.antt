@@ -5,6 +5,7 @@ use Rattle.gate_types.specs.State.{State}
 use Rattle.gate_types.specs.Slot.{is_running}
 use Rattle.gate_types.specs.JsonText.{Piece, number, plain, array, member, object}
 use Rattle.gate_book_trait.specs.Reads.{live_builds}
+use Rattle.gate_types.specs.Limits.{most_listed}
 
 -- the live builds of an item that run, by number
 abbrev pub running_of : State → ℕ → List Build
@@ -24,5 +25,5 @@ running_piece b = object (
 -- the text: the first 1,000 of them, and how many there are
 abbrev pub running_text : State → List ℕ
 running_text s = object (
-    member (codes "builds") (array (map running_piece (take 1000 (running_builds s)))) ∷
+    member (codes "builds") (array (map running_piece (take most_listed (running_builds s)))) ∷
     member (codes "running") (number (length (running_builds s))) ∷ []) []

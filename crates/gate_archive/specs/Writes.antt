@@ -13,6 +13,7 @@ use Rattle.gate_archive.specs.HistoryFrom.{history_from}
 use Rattle.gate_archive.specs.Feed.{fed, feed_lines, feed_text}
 use Rattle.gate_archive.specs.declared.fault.FeedFault.{FeedFault}
 use Rattle.gate_archive.specs.declared.fault.FeedFault.TheVariants as feed
+use Rattle.gate_types.specs.Limits.{most_listed}
 
 -- ---- a history from a place
 
@@ -79,20 +80,16 @@ StopsFeed old new result = MatchResult result (λ _. has_failed new ≡ false) (
 
 -- ---- deliveries, and how many there are
 
--- the most that one answer has
-abbrev pub most_fed : ℕ
-most_fed = 1000
-
 -- these are the deliveries that are asked for, and the writer took bytes of the front and of their text
 pub record OfFeedText (kept : List Kept) (after : Option Id) (front : List ℕ) (Takes : List ℕ → Type 0) : Type 0 where
   pub told : List Kept
-  pub are : fed after most_fed kept ≡ Some told
+  pub are : fed after most_listed kept ≡ Some told
   pub taken : Takes (front ++ feed_text told)
 
 -- why it was not written whole: no delivery has the id, or a beginning was written
 abbrev pub LeavesFeedText : {W : Type 0} → List Kept → Option Id → List ℕ → (W → Option (List ℕ)) → Tap W → Tap W →
     FeedFault → Type 0
-LeavesFeedText kept after front held old new feed.NoDelivery = fed after most_fed kept ≡ None
+LeavesFeedText kept after front held old new feed.NoDelivery = fed after most_listed kept ≡ None
 LeavesFeedText kept after front held old new feed.Unavailable = ⊤
 LeavesFeedText kept after front held old new _ = OfFeedText kept after front (TookFront held old new)
 

@@ -11,9 +11,7 @@ use gate_types::records::Id;
 use gate_types::tap::Tap;
 use std::alloc::Global;
 use std::io::Write;
-
-/// The most deliveries that one answer has.
-const MOST_FED: u64 = 1000;
+use gate_types::limits::MOST_LISTED;
 
 /// Writes the front, a line for each of at most 1,000 accepted deliveries, from the first on or behind that of an id,
 /// and a last line with how many these are.
@@ -36,7 +34,7 @@ pub fn write_feed<B: Archive, W: Write>(
     ensures stops { StopsText w.old w.new result }
     ensures kept { IsKept B.IsTrusted B.Holds B.LeavesOneOf book.old book.new }
 {
-    let count = match book.deliveries(after, MOST_FED, front, w) {
+    let count = match book.deliveries(after, MOST_LISTED, front, w) {
         Ok(count) => count,
         Err(fault) => return Err(fault),
     };

@@ -37,6 +37,7 @@ use Rattle.gate_archive.specs.ItemText.{last_of}
 use Rattle.gate_archive_queries.specs.Asked.{builds_of, summary_shown}
 use Rattle.gate_archive_queries.proofs.CountReads.{counted_is}
 use Rattle.gate_queue_queries.proofs.CountReads.{counting, counted, counts}
+use Rattle.gate_types.specs.Counters.{last_number}
 
 -- ---- the texts
 
@@ -98,16 +99,16 @@ pub job_form : (x : Build) → is_build_row_in_form x ≡ true → is_name x.job
 job_form x form = second_of_both _ _ (first_of_both _ _ (first_of_both _ _ (first_of_both _ _ (first_of_both _ _ form))))
 
 -- a number that may be drawn lies between 1 and the last
-drawn : (n : ℕ) → is_drawn_number n ≡ true → (1 ≤ n) × (n ≤ 1000000000000000)
+drawn : (n : ℕ) → is_drawn_number n ≡ true → (1 ≤ n) × (n ≤ last_number)
 drawn n form = grind (arith, nat_tests)
 
 -- the builds of a serial are no more than numbers may be drawn
-builds_few : (b : Stored) (serial : ℕ) → IsWhole b → IsKeyedBy (λ x. pos (build_key x)) b.builds → length (builds_of b serial) ≤ 1000000000000000
+builds_few : (b : Stored) (serial : ℕ) → IsWhole b → IsKeyedBy (λ x. pos (build_key x)) b.builds → length (builds_of b serial) ≤ last_number
 builds_few b serial whole up =
-    few_rise build_key 1000000000000000 (builds_of b serial) (ascending-filter _ (λ (x : Build). eqb x.serial serial) b.builds up)
+    few_rise build_key last_number (builds_of b serial) (ascending-filter _ (λ (x : Build). eqb x.serial serial) b.builds up)
     (forms (builds_of b serial) (recursion_from_All (λ x. is_build_row_in_form x ≡ true) _ (pass_filter is_build_row_in_form (λ (x : Build). eqb x.serial serial) b.builds whole.builds)))
   where
-    forms : (xs : List Build) → AllByRecursion (λ x. is_build_row_in_form x ≡ true) xs → AllByRecursion (λ x. (1 ≤ build_key x) × (build_key x ≤ 1000000000000000)) xs
+    forms : (xs : List Build) → AllByRecursion (λ x. is_build_row_in_form x ≡ true) xs → AllByRecursion (λ x. (1 ≤ build_key x) × (build_key x ≤ last_number)) xs
     forms [] all = tt
     forms (x ∷ xs) all = (drawn x.number (number_form x all.0), forms xs all.1)
 

@@ -50,6 +50,8 @@ use Rattle.gate_queue_queries.proofs.ReportReads.{report_terms, history_names, n
 use Rattle.gate_archive_queries.specs.HistoryFrom.{HoldsReports, history_sql, line_from, text_from}
 use Rattle.gate_archive_queries.proofs.StreamLemmas.{query_of}
 use Rattle.gate_archive_queries.specs.Streamed.{Streams, body, lines}
+use Rattle.gate_types.specs.Counters.{last_number}
+use Rattle.gate_types.specs.Limits.{most_listed}
 
 -- of the queue, at the place or behind it
 abbrev from_test : List Term
@@ -182,7 +184,7 @@ drop_none zero (x ∷ xs) long = absurd (omega (arith, long))
 drop_none (suc k) (x ∷ xs) long = drop_none k xs (omega (arith, long))
 
 -- a place behind the last may be any that is
-rest_is : {X : Type 0} (from : ℕ) (xs : List X) → length xs ≤ 1000000000000000
+rest_is : {X : Type 0} (from : ℕ) (xs : List X) → length xs ≤ last_number
     → enumerate_from (max (min from 9223372036854775807) 1) (drop (max (min from 9223372036854775807) 1 - 1) xs) ≡ drop (from - 1) (enumerate_from 1 xs)
 rest_is {X} from xs few = by_size (nat_le from 9223372036854775807) refl
   where
@@ -202,15 +204,15 @@ rest_is {X} from xs few = by_size (nat_le from 9223372036854775807) refl
         ap (enumerate_from at) one ∙ ap (enumerate_from (1 + (from - 1))) (sym two) ∙ sym (drop-enumerate (from - 1) 1 xs)
 
 -- what is written is the history text from the place on
-pub text_is : (front name : List ℕ) (from count : ℕ) (rs : List Report) → length rs ≤ 1000000000000000 → count ≡ length rs
-    → body (front ++ first_line name) (line_from (max (min from 9223372036854775807) 1)) 1000 (drop (max (min from 9223372036854775807) 1 - 1) rs) ++ last_line count ≡ front ++ text_from name from rs
+pub text_is : (front name : List ℕ) (from count : ℕ) (rs : List Report) → length rs ≤ last_number → count ≡ length rs
+    → body (front ++ first_line name) (line_from (max (min from 9223372036854775807) 1)) most_listed (drop (max (min from 9223372036854775807) 1 - 1) rs) ++ last_line count ≡ front ++ text_from name from rs
 text_is front name from count rs few counted =
     let at = max (min from 9223372036854775807) 1 in
     let e : max (min from 9223372036854775807) 1 + 0 ≡ max (min from 9223372036854775807) 1 = omega arith in
-    let told : lines (line_from (max (min from 9223372036854775807) 1)) 0 (take 1000 (drop (max (min from 9223372036854775807) 1 - 1) rs)) ≡ flat_map report_row (take 1000 (drop (from - 1) (enumerate_from 1 rs))) =
+    let told : lines (line_from (max (min from 9223372036854775807) 1)) 0 (take most_listed (drop (max (min from 9223372036854775807) 1 - 1) rs)) ≡ flat_map report_row (take most_listed (drop (from - 1) (enumerate_from 1 rs))) =
     lines_are (max (min from 9223372036854775807) 1) 0 _
-    ∙ ap (λ m. flat_map report_row (enumerate_from m (take 1000 (drop (max (min from 9223372036854775807) 1 - 1) rs)))) e
-    ∙ ap (flat_map report_row) (sym (take-enumerate 1000 (max (min from 9223372036854775807) 1) (drop (max (min from 9223372036854775807) 1 - 1) rs)) ∙ ap (take 1000) (rest_is from rs few)) in
+    ∙ ap (λ m. flat_map report_row (enumerate_from m (take most_listed (drop (max (min from 9223372036854775807) 1 - 1) rs)))) e
+    ∙ ap (flat_map report_row) (sym (take-enumerate most_listed (max (min from 9223372036854775807) 1) (drop (max (min from 9223372036854775807) 1 - 1) rs)) ∙ ap (take most_listed) (rest_is from rs few)) in
     ap (λ l. ((front ++ first_line name) ++ l) ++ last_line count) told
-    ∙ ap (λ n. ((front ++ first_line name) ++ flat_map report_row (take 1000 (drop (from - 1) (enumerate_from 1 rs)))) ++ last_line n) counted
+    ∙ ap (λ n. ((front ++ first_line name) ++ flat_map report_row (take most_listed (drop (from - 1) (enumerate_from 1 rs)))) ++ last_line n) counted
     ∙ append_assoc (front ++ first_line name) _ _ ∙ append_assoc front (first_line name) _

@@ -30,6 +30,7 @@ use Rattle.gate_content_reads.proofs.told.QueueReads.{report_rows, reports_in}
 use Rattle.gate_archive_queries.specs.Answers.{IsArchiveOf}
 use Rattle.gate_archive_queries.specs.Asked as file
 use Rattle.gate_archive_queries.specs.HistoryFrom.{HoldsReports, text_from}
+use Rattle.gate_types.specs.Counters.{last_number}
 
 -- ---- numbered reports
 
@@ -165,7 +166,7 @@ module _ (c : Settings) (x : Content) (b : Stored) (lawful : IsLawfulContent c x
       let at = found (λ (q : Queue). same_name q.name name) x.state.queues q e in
       let few = every (λ (q : Queue). length q.reports ≤ x.state.counters.order) x.state.queues (rows_are_few c x.state lawful.lawful.sound lawful.in_form.state).reports q at.0 in
       let drawn = and_parts _ _ lawful.in_form.state.counters in
-      let most = leb-true x.state.counters.order 1000000000000000 drawn.1 in
+      let most = leb-true x.state.counters.order last_number drawn.1 in
       (subst (λ o. IsPermutation (reports_of name b.reports) (numbered 0 (option_map_or (λ (y : Queue). y.reports) o []))) e (rows_are name), omega (arith, few, most))
 
   -- all of it

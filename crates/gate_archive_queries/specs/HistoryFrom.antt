@@ -12,6 +12,8 @@ use Rattle.gate_book_trait.specs.declared.fault.HistoryFault.{HistoryFault}
 use Rattle.gate_book_trait.specs.declared.fault.HistoryFault.TheVariants as fault
 use Rattle.gate_rows.specs.Tells.{reports_of}
 use Rattle.gate_schema.specs.Rows.{Stored}
+use Rattle.gate_types.specs.Counters.{last_number}
+use Rattle.gate_types.specs.Limits.{most_listed}
 
 -- the query that reads the reports of a queue from a place on
 abbrev pub history_sql : List ℕ
@@ -19,13 +21,13 @@ history_sql = codes "SELECT serial, change, revision, verdict, n FROM report WHE
 
 -- the tables hold these reports of the queue, the first at place 1, and no more than serials may be drawn
 abbrev pub HoldsReports : Stored → List ℕ → List Report → Type 0
-HoldsReports b name rs = IsPermutation (reports_of name b.reports) (numbered 0 rs) × (length rs ≤ 1000000000000000)
+HoldsReports b name rs = IsPermutation (reports_of name b.reports) (numbered 0 rs) × (length rs ≤ last_number)
 
 -- the history text of a queue of this name from a place on, of all its reports
 abbrev pub text_from : List ℕ → ℕ → List Report → List ℕ
 text_from name from rs =
     first_line name
-    ++ (flat_map report_row (take 1000 (drop (from - 1) (enumerate_from 1 rs))) ++ last_line (length rs))
+    ++ (flat_map report_row (take most_listed (drop (from - 1) (enumerate_from 1 rs))) ++ last_line (length rs))
 
 -- the line of a report that follows so many others, where the first stands at a place
 abbrev pub line_from : ℕ → ℕ → Report → List ℕ

@@ -17,6 +17,7 @@ ghost use Rattle.gate_found_rows.specs.Whole.{IsWhole};
 ghost use Rattle.gate_queue_queries.specs.History.{IsSettled, WritesHead, WritesPart, report_shown};
 ghost use Rattle.gate_archive_queries.specs.HistoryFrom.{HoldsReports, OpenedHistory, WritesAll, history_sql, line_from, text_from};
 ghost use Rattle.gate_archive_queries.specs.Streamed.{ReadsOn, Streams, body};
+ghost use Rattle.gate_types.specs.Limits.{most_listed};
 
 use gate_book_trait::{BookFault, HistoryFault, history_end, history_head, report_line};
 use gate_found_rows::columns::{change_in, revision_in, serial_in};
@@ -31,9 +32,7 @@ use gate_types::tap::Tap;
 use sqlite::{Alter, Connection, Row, Rows};
 use std::alloc::Global;
 use std::io::Write;
-
-/// How many reports one answer has at most.
-const MOST_REPORTS: u64 = 1000;
+use gate_types::limits::MOST_LISTED;
 
 /// The report of a row; `Damaged` where a column isn't in form.
 fn report_in(row: &Row) -> Result<Report, BookFault>
@@ -143,7 +142,7 @@ fn write_reports<S: Alter, W: Write>(
         HasGiven S.Store sql params rows.old.conn.now [] → (rs : List Told) →
         Streams sql params (state S.Store rows.old.conn.now) report_shown rs →
         WritesAll W.contents w.old w.new
-        (body (front.now ++ first_line queue.now) (line_from first) 1000 rs ++ last_line count) result }
+        (body (front.now ++ first_line queue.now) (line_from first) most_listed rs ++ last_line count) result }
     ensures stops { Stops w.old w.new result }
     ensures stays { HasCleanDisk (state S.Store rows.new.conn.now) → IsSettled (state S.Store rows.old.conn.now) →
         Stays (state S.Store rows.old.conn.now) (state S.Store rows.new.conn.now) }
@@ -154,7 +153,7 @@ fn write_reports<S: Alter, W: Write>(
         Err(_) => return Err(HistoryFault::Unavailable),
     };
     write_head(alloc, queue, front, w)?;
-    for step in 0..MOST_REPORTS {
+    for step in 0..MOST_LISTED {
         let Some(report) = next else {
             return write_end(alloc, count, w);
         };
@@ -184,7 +183,7 @@ fn write_queried<S: Alter, W: Write>(
         (IsTrue (state S.Store conn.old).is_open →
         Streams history_sql (Words queue.now ∷ Int (pos first) ∷ []) (state S.Store conn.old) report_shown rs) →
         WritesAll W.contents w.old w.new
-        (body (front.now ++ first_line queue.now) (line_from first) 1000 rs ++ last_line count) result }
+        (body (front.now ++ first_line queue.now) (line_from first) most_listed rs ++ last_line count) result }
     ensures opened { OpenedHistory (state S.Store conn.old) (state S.Store conn.new) result }
     ensures stops { Stops w.old w.new result }
     ensures stays { HasCleanDisk (state S.Store conn.new) → OnlyReads history_sql →

@@ -28,6 +28,7 @@ use Rattle.gate_archive.specs.Writes.{WritesHistoryFrom}
 use Rattle.gate_memory.specs.declared.queues.QueueTable.{QueueTable}
 use Rattle.gate_memory.specs.Queues as queue
 use Rattle.gate_book.specs.Past.{left_rows, all_left}
+use Rattle.gate_types.specs.Limits.{most_listed}
 
 -- ---- items that left
 
@@ -78,16 +79,16 @@ beside_places n (r ∷ rs) =
 
 -- the lines of some rows are those of their reports
 lines_from : (from : ℕ) (rs : List Report) →
-    report_lines (take 1000 (drop from (numbered 0 rs))) ≡ flat_map report_row (take 1000 (drop from (enumerate_from 1 rs)))
+    report_lines (take most_listed (drop from (numbered 0 rs))) ≡ flat_map report_row (take most_listed (drop from (enumerate_from 1 rs)))
 lines_from from rs =
-    sym (flat_map-map report_row beside (take 1000 (drop from (numbered 0 rs))))
+    sym (flat_map-map report_row beside (take most_listed (drop from (numbered 0 rs))))
     ∙ ap (flat_map report_row)
-    (sym (take-map beside 1000 (drop from (numbered 0 rs)))
-    ∙ ap (λ ps. take 1000 ps) (sym (drop-map beside from (numbered 0 rs)) ∙ ap (drop from) (beside_places 0 rs)))
+    (sym (take-map beside most_listed (drop from (numbered 0 rs)))
+    ∙ ap (λ ps. take most_listed ps) (sym (drop-map beside from (numbered 0 rs)) ∙ ap (drop from) (beside_places 0 rs)))
 
 -- the text of some rows
 abbrev pub text_from : ℕ → QueueRows → List ℕ
-text_from from t = first_line t.name ++ (report_lines (take 1000 (drop (from - 1) t.reports)) ++ last_line (length t.reports))
+text_from from t = first_line t.name ++ (report_lines (take most_listed (drop (from - 1) t.reports)) ++ last_line (length t.reports))
 
 text_of_queue : (c : Settings) (s : State) (from : ℕ) (q : Queue) → text_from from (rows_of_queue c s q) ≡ history_from from q
 text_of_queue c s from q =

@@ -2,7 +2,7 @@
 use Rattle.std.specs.Prelude.{◌≡◌, ⊤, ℕ, Bool, false, [], map, min}
 use Rattle.std.specs.List.{AllByRecursion}
 use Rattle.gate_types.specs.Settings.{Settings}
-use Rattle.gate_types.specs.Counters.{Drawn}
+use Rattle.gate_types.specs.Counters.{Drawn, last_number}
 use Rattle.gate_types.specs.State.{start}
 use Rattle.gate_types.specs.AdoptedTables.{adopted_tables}
 use Rattle.gate_types.specs.Once.{Content}
@@ -24,9 +24,9 @@ drawn_of d = record { approval = d.approval; build = d.build; order = d.order }
 -- the counters, none above the last number
 abbrev pub within : Drawn → Drawn
 within d = record {
-  approval = min d.approval 1000000000000000;
-  build = min d.build 1000000000000000;
-  order = min d.order 1000000000000000;
+  approval = min d.approval last_number;
+  build = min d.build last_number;
+  order = min d.order last_number;
 }
 
 -- the content before the first delivery, with these numbers drawn

@@ -28,9 +28,7 @@ use gate_types::records::{Build, Change, Counters, Id, Item, Kept, Plan, Ready};
 use gate_types::rows::ChangeRow;
 use gate_types::sequence::Sequence;
 use std::alloc::{AllocError, Global};
-
-/// The last number that is ever drawn.
-const LAST_NUMBER: u64 = 1_000_000_000_000_000;
+use gate_types::numbers::LAST_NUMBER;
 
 /// The last number drawn of each kind, as edits set them.
 #[derive(Clone, Copy)]

@@ -8,7 +8,8 @@ use Rattle.std.specs.Prelude.{unwrap_or}
 use Rattle.std.specs.List.{list_any, list_all}
 use Rattle.toml.specs.Data.{Data}
 use Rattle.gate_types.specs.Names.{same_name, is_name}
-use Rattle.gate_types.specs.Settings.{most_queues, most_projects, most_jobs, most_window, most_factor, are_distinct, has_queue, is_sound_window, are_sound_jobs, are_sound}
+use Rattle.gate_types.specs.Limits.{most_queues, most_projects, most_jobs, most_window, most_factor}
+use Rattle.gate_types.specs.Settings.{are_distinct, has_queue, is_sound_window, are_sound_jobs, are_sound}
 use Rattle.gate_config.specs.Document.{queues_of, projects_of, jobs_of, name_of, queue_named_by, queue_of, job_of, project_of, settings_of, window_of, floor_of, increase_by_of, decrease_by_of, is_voting}
 use Rattle.gate_config.specs.Members.{misses_member, has_unknown_member}
 use Rattle.gate_config.specs.Kinds.{has_wrong_kind}

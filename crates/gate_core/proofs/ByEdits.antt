@@ -49,6 +49,7 @@ use Rattle.gate_admission.proofs.Led.{known_led}
 use Rattle.gate_admission.proofs.LetIn.{are_putting, was_ready, change_stays}
 use Rattle.gate_settling.proofs.ListLemmas.{each_same}
 use Rattle.gate_book_trait.proofs.ReadLemmas.{length_reports}
+use Rattle.gate_types.specs.Limits.{most_items}
 
 -- ---- a queue that items may have left
 
@@ -333,14 +334,14 @@ not_full s name (edit.SetWindow q w) none h = absurd (true≢false (sym h))
 not_full s name (edit.SetCounter k n) none h = absurd (true≢false (sym h))
 not_full s name (edit.Keep k) none h = absurd (true≢false (sym h))
 
-not_thousand : (n : ℕ) → nat_le 1000 n ≡ false → nat_lt n 1000 ≡ true
+not_thousand : (n : ℕ) → nat_le most_items n ≡ false → nat_lt n most_items ≡ true
 not_thousand n h = grind (arith, h)
 
 -- ---- nobody else may enter
 
 -- whether a ready change may enter a queue
 abbrev fits : Settings → State → Ready → Queue → Bool
-fits c s r q = same_name q.name (project_of c s r.change).queue && nat_lt (length q.items) 1000 &&
+fits c s r q = same_name q.name (project_of c s r.change).queue && nat_lt (length q.items) most_items &&
     are_met_by q.items (needs_of s r.change)
 
 three : (a b d : Bool) → a && b && d ≡ true → (a ≡ true) × (b ≡ true) × (d ≡ true)
@@ -449,15 +450,15 @@ module _ (c : Settings) (x : Content) (edits : List Edit) (v : State) (sound : I
       ∙ map_map after less.become s.queues) q m
 
   -- a queue that has room now had it
-  had_room : (q : Queue) → In q x.state.queues → nat_lt (length (less.become q).items) 1000 ≡ true →
-      nat_lt (length q.items) 1000 ≡ true
+  had_room : (q : Queue) → In q x.state.queues → nat_lt (length (less.become q).items) most_items ≡ true →
+      nat_lt (length q.items) most_items ≡ true
   had_room q m h = by_test (list_any (reports_of q.name) edits) refl
     where
-      by_test : (b : Bool) → list_any (reports_of q.name) edits ≡ b → nat_lt (length q.items) 1000 ≡ true
+      by_test : (b : Bool) → list_any (reports_of q.name) edits ≡ b → nat_lt (length q.items) most_items ≡ true
       by_test true t =
           let one = any_from (reports_of q.name) edits t in
           not_thousand (length q.items)
-          (sym (ap (λ o. option_map_or (λ (p : Queue). nat_le 1000 (length p.items)) o false)
+          (sym (ap (λ o. option_map_or (λ (p : Queue). nat_le most_items (length p.items)) o false)
           (found_named (λ (p : Queue). p.name) x.state.queues names q m q.name (same_name_of q.name q.name refl)))
           ∙ not_full x.state q.name one.0 (neither one.0 one.1).0 one.2)
       by_test false f =
@@ -465,7 +466,7 @@ module _ (c : Settings) (x : Content) (edits : List Edit) (v : State) (sound : I
           let stood = ap length (reports_after edits (queue_rows (item_rows c x.state q) q) f) in
           let few = length_reports 0 q.reports in
           let now = length_reports 0 (less.become q).reports in
-          ap (λ (is : List Item). nat_lt (length is) 1000)
+          ap (λ (is : List Item). nat_lt (length is) most_items)
           (sym ((less.each q).stay (omega (arith, same, stood, few, now)))) ∙ h
 
   -- so it might have entered before

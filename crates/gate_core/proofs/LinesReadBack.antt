@@ -33,6 +33,7 @@ use Rattle.gate_archive.proofs.LineLaw.{a_line_is_its_delivery_under_its_id}
 use Rattle.gate_core.specs.ReadBack.{EachLineReadsBack}
 use Rattle.gate_core.proofs.LineTrees.{hex, change_members, order_members, tree, printed, digits_read}
 use Rattle.gate_core.proofs.LineUtf8.{InForm, in_form, tree_utf8}
+use Rattle.gate_types.specs.Counters.{last_number}
 
 -- ---- the value that is read
 
@@ -173,7 +174,7 @@ change_said made digits word n r hn hr =
 
 order_said : (digits word : List ℕ) (n : ℕ) → is_drawn_number n ≡ true → order_at (order_data digits word n) ≡ Ok n
 unfolding order_at
-order_said digits word n h = number_said 1000000000000000 n (codes "order") (order_data digits word n) refl h
+order_said digits word n h = number_said last_number n (codes "order") (order_data digits word n) refl h
 
 delivery_said : (digits : List ℕ) (d : Delivery) → InForm d → said_by digits d ≡ Ok d
 unfolding change_at revision_at project_at message_at worker_at build_at
@@ -193,7 +194,7 @@ delivery_said digits (delivery.Refused n) h = ap (λ o. o >>= λ order. Ok (deli
 delivery_said digits (delivery.Take worker) h =
     ap (λ o. o >>= λ worker. Ok (delivery.Take worker)) (text_said is_path_name (codes "worker") worker (data_of digits (delivery.Take worker)) refl h)
 delivery_said digits (delivery.Result n e) h =
-    ap (λ o. o >>= λ build. Ok (delivery.Result build e)) (number_said 1000000000000000 n (codes "build") (data_of digits (delivery.Result n e)) refl h)
+    ap (λ o. o >>= λ build. Ok (delivery.Result build e)) (number_said last_number n (codes "build") (data_of digits (delivery.Result n e)) refl h)
 
 said : (id : Id) (d : Delivery) → Some id.0 ≡ parsed (hex id) → InForm d → data_says door.Any (data_of (hex id) d) ≡ Ok (id, d)
 said id d parses form =

@@ -12,6 +12,8 @@ use Rattle.gate_schema.specs.Edits.{job_rows}
 use Rattle.gate_schema.specs.Rows.{ItemRow, JobRow, QueueRow, Stored}
 use Rattle.gate_rows.specs.Tells.{TellsNeeds, items_of}
 use Rattle.gate_found_rows.specs.Asked.{jobs_of, ready_rows}
+use Rattle.gate_types.specs.Limits.{most_items, most_window}
+use Rattle.gate_types.specs.Counters.{last_number}
 
 -- an item's row: its queue's name and its numbers
 abbrev pub is_item_row_in_form : ItemRow → Bool
@@ -29,7 +31,7 @@ abbrev pub is_build_row_in_form : Build → Bool
 is_build_row_in_form x =
     is_drawn_number x.number && is_name x.queue && is_name x.job &&
     (is_drawn_number x.serial && is_change_number x.change && is_revision_number x.revision) &&
-    nat_le x.after 1000000000000000 && nat_le (length x.ahead) 1000 && list_all is_entry_in_form x.ahead
+    nat_le x.after last_number && nat_le (length x.ahead) most_items && list_all is_entry_in_form x.ahead
 
 -- a job's row: its name
 abbrev pub is_job_row_in_form : JobRow → Bool
@@ -47,13 +49,13 @@ ArePlaced b = (n : ℕ) → filter (λ (x : JobRow). x.serial == n) b.jobs ≡ j
 -- placed; no queue has over 1,000 items
 pub record IsWhole (b : Stored) : Type 0 where
   pub counters : are_counters_in_form b.counters ≡ true
-  pub windows : AllPass (λ (q : QueueRow). nat_le q.window 1000) b.queues
+  pub windows : AllPass (λ (q : QueueRow). nat_le q.window most_window) b.queues
   pub changes : AllPass is_change_row_in_form b.changes
   pub approvals_differ : AllPairs (λ (r s : Ready). r.approval ≢ s.approval) (ready_rows b.changes)
   pub needs : TellsNeeds b.needs b.changes
   pub items : AllPass is_item_row_in_form b.items
   pub changes_differ : AllPairs (λ (r s : ItemRow). r.item.change ≢ s.item.change) b.items
-  pub items_are_few : (name : List ℕ) → length (items_of name b.items) ≤ 1000
+  pub items_are_few : (name : List ℕ) → length (items_of name b.items) ≤ most_items
   pub builds : AllPass is_build_row_in_form b.builds
   pub jobs : AllPass is_job_row_in_form b.jobs
   pub jobs_are_placed : ArePlaced b

@@ -21,7 +21,6 @@ use Rattle.gate_archive.specs.ItemText.{item_text}
 use Rattle.gate_archive.specs.RunningBuilds.{running_text}
 use Rattle.gate_archive.specs.HistoryFrom.{history_from}
 use Rattle.gate_archive.specs.Feed.{fed, feed_text, id_named}
-use Rattle.gate_archive.specs.Writes.{most_fed}
 use Rattle.gate_core.specs.Gated.{Gated}
 use Rattle.gate_core.specs.Replies.{call_read}
 use Rattle.gate_http.specs.declared.respond.Page.TheVariants as pages
@@ -35,12 +34,14 @@ use Rattle.gate_http.specs.Faults.{fault_status}
 use Rattle.gate_http.specs.Asked.{Asked, delivery, page, build, change, item, is_status_page, told_status, Streamed, whole_history, later_history, all_deliveries, later_deliveries}
 use Rattle.gate_http.specs.Way.{Way, silence, refusal as refusing, question, stream}
 use Rattle.gate_http.specs.Response.{fault_in, told_in, stream_in, failure_in}
+use Rattle.gate_types.specs.Counters.{last_number}
+use Rattle.gate_types.specs.Limits.{most_listed}
 
 -- ---- what is told at once
 
 -- the number of a build in a path
 abbrev pub build_number : List ℕ → Option ℕ
-build_number text = number_up_to 1000000000000000 text
+build_number text = number_up_to last_number text
 
 -- the number of a change in a path
 abbrev pub change_number : List ℕ → Option ℕ
@@ -48,7 +49,7 @@ change_number text = number_up_to 999999999 text
 
 -- the serial of an item in a path
 abbrev pub item_serial : List ℕ → Option ℕ
-item_serial text = number_up_to 1000000000000000 text
+item_serial text = number_up_to last_number text
 
 -- the answer to what was read of a delivery
 abbrev pub answer_read : Gated → Result (Id × Delivery) Refusal → Answer
@@ -94,13 +95,13 @@ answer_to unavailable g asked =
 
 -- the accepted deliveries behind that of an id, at most 1,000
 abbrev pub fed_behind : Content → Id → Option (List ℕ)
-fed_behind x id = option_map feed_text (fed (Some id) most_fed x.kept)
+fed_behind x id = option_map feed_text (fed (Some id) most_listed x.kept)
 
 -- the lines that are asked for, if there is such a queue, or such a delivery
 abbrev pub stream_of : Content → Streamed → Option (List ℕ)
 stream_of x (whole_history name) = option_map history_text (queue_named x.state name)
 stream_of x (later_history name place) = option_map (history_from place) (queue_named x.state name)
-stream_of x all_deliveries = option_map feed_text (fed None most_fed x.kept)
+stream_of x all_deliveries = option_map feed_text (fed None most_listed x.kept)
 stream_of x (later_deliveries text) = option_and_then (fed_behind x) (id_named text)
 
 -- the status of the answer with it

@@ -20,12 +20,13 @@ use gate_types::tap::Tap;
 use gate_wire::{Door, read_delivery};
 use std::alloc::Global;
 use std::io::Write;
+use gate_types::numbers::LAST_NUMBER;
 
 /// The number of a build, by what stands for it in a path.
 fn build_named(text: &[u8]) -> Option<BuildNo>
     ensures { result ≡ build_number text.now }
 {
-    match number_up_to(text, 1_000_000_000_000_000) {
+    match number_up_to(text, LAST_NUMBER) {
         Some(number) => BuildNo::new(number as u64),
         None => None,
     }
@@ -45,7 +46,7 @@ fn change_named(text: &[u8]) -> Option<ChangeNo>
 fn serial_named(text: &[u8]) -> Option<Serial>
     ensures { result ≡ item_serial text.now }
 {
-    match number_up_to(text, 1_000_000_000_000_000) {
+    match number_up_to(text, LAST_NUMBER) {
         Some(number) => Serial::new(number as u64),
         None => None,
     }

@@ -30,6 +30,7 @@ use Rattle.gate_item_queries.proofs.ItemTexts.{item_names, item_terms, last_is, 
 use Rattle.gate_found_rows.proofs.KeyedReads.{below_number, finds_falling, finds_rising}
 use Rattle.gate_found_rows.proofs.ListFacts.{all_so, first_so, passing}
 use Rattle.gate_found_rows.proofs.ReadLemmas.{answers}
+use Rattle.gate_types.specs.Counters.{last_number}
 
 -- the rows begin with this item, where there is one
 pub record Leads (rows : List Row) (first : Option ItemRow) : Type 0 where
@@ -53,21 +54,21 @@ abbrev pub capped : ℕ → ℕ
 capped n = min n 9223372036854775807
 
 -- a serial in form is far below that
-pub low : (i : ItemRow) → is_item_row_in_form i ≡ true → i.item.serial ≤ 1000000000000000
+pub low : (i : ItemRow) → is_item_row_in_form i ≡ true → i.item.serial ≤ last_number
 low i form =
     let numbers = (and_parts (is_name i.queue) _ (and_parts _ _ form).0).1 in
     let drawn : is_drawn_number i.item.serial ≡ true = (and_parts _ _ (and_parts (is_drawn_number i.item.serial && is_change_number i.item.change) (is_revision_number i.item.revision) numbers).0).0 in
     up_to i.item.serial drawn
   where
-    up_to : (n : ℕ) → is_drawn_number n ≡ true → n ≤ 1000000000000000
+    up_to : (n : ℕ) → is_drawn_number n ≡ true → n ≤ last_number
     up_to n drawn = grind (arith, nat_tests)
 
 -- it leaves the same serials above
-pub above_capped : (n s : ℕ) → s ≤ 1000000000000000 → ltb (min n 9223372036854775807) s ≡ ltb n s
+pub above_capped : (n s : ℕ) → s ≤ last_number → ltb (min n 9223372036854775807) s ≡ ltb n s
 above_capped n s h = grind (arith, nat_tests)
 
 -- and the same below
-below_capped : (n s : ℕ) → s ≤ 1000000000000000 → ltb s (min n 9223372036854775807) ≡ ltb s n
+below_capped : (n s : ℕ) → s ≤ last_number → ltb s (min n 9223372036854775807) ≡ ltb s n
 below_capped n s h = grind (arith, nat_tests)
 
 -- ---- the next above a serial, and the last below

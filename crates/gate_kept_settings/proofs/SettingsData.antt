@@ -16,7 +16,8 @@ use Rattle.gate_types.specs.declared.config.Project.{Project}
 use Rattle.gate_types.specs.declared.config.Pace.{Pace}
 use Rattle.gate_types.specs.declared.config.Pace.TheVariants as pace
 use Rattle.gate_types.specs.Names.{is_name, is_path_name, is_base}
-use Rattle.gate_types.specs.Settings.{Settings, are_sound, is_sound_window, is_factor, is_linear, most_window, most_factor, pace_word, pace_named}
+use Rattle.gate_types.specs.Limits.{most_window, most_factor}
+use Rattle.gate_types.specs.Settings.{Settings, are_sound, is_sound_window, is_factor, is_linear, pace_word, pace_named}
 use Rattle.gate_types.specs.Forms.{is_project_in_form, are_settings_in_form}
 use Rattle.gate_types.specs.SettingsText.{job_text, project_text, queue_text, settings_text}
 use Rattle.gate_kept_settings.specs.Reading.{list_of, each, ◌>>=◌, passing, name_at, path_name_at, base_at, number_at, said_or, pace_at, factor_at, flag_at, rule_at, job_at, queue_at, project_at, settings_at, value_of, said_by}

@@ -11,7 +11,8 @@ use Rattle.gate_types.specs.declared.config.Pace.{Pace}
 use Rattle.gate_types.specs.declared.config.WindowRule.{WindowRule}
 use Rattle.gate_types.specs.declared.config.Pace.TheVariants as pace
 use Rattle.gate_types.specs.Names.{is_name, is_path_name, is_base}
-use Rattle.gate_types.specs.Settings.{Settings, most_window, is_factor, pace_named, are_sound}
+use Rattle.gate_types.specs.Limits.{most_window}
+use Rattle.gate_types.specs.Settings.{Settings, is_factor, pace_named, are_sound}
 use Rattle.gate_kept_settings.specs.declared.fault.TextFault.{TextFault}
 use Rattle.gate_kept_settings.specs.declared.fault.TextFault.TheVariants as fault
 

@@ -12,7 +12,7 @@ use Rattle.gate_types.specs.declared.records.Kept.{Kept}
 use Rattle.gate_types.specs.declared.deliveries.Delivery.{Delivery}
 use Rattle.gate_types.specs.declared.deliveries.Reply.{Reply}
 use Rattle.gate_types.specs.Settings.{Settings, are_sound}
-use Rattle.gate_types.specs.Counters.{Drawn}
+use Rattle.gate_types.specs.Counters.{Drawn, last_number}
 use Rattle.gate_types.specs.State.{State, start}
 use Rattle.gate_types.specs.Step.{Stepped, accepted, refused, step, is_exhausted}
 use Rattle.gate_types.specs.Canonical.{canonical_text}
@@ -82,9 +82,9 @@ not_past : (c : Settings) (d : Drawn) → are_counters_in_form d ≡ true → is
 not_past c d v =
     let both = and_parts _ _ v in
     let first = and_parts _ _ both.0 in
-    le-ltb 1000000000000000 (max d.approval (max d.build d.order))
-    (max-le (leb-true d.approval 1000000000000000 first.0)
-    (max-le (leb-true d.build 1000000000000000 first.1) (leb-true d.order 1000000000000000 both.1)))
+    le-ltb last_number (max d.approval (max d.build d.order))
+    (max-le (leb-true d.approval last_number first.0)
+    (max-le (leb-true d.build last_number first.1) (leb-true d.order last_number both.1)))
 
 pub start_with_is_lawful : StartWithIsLawful
 start_with_is_lawful c d w f v =

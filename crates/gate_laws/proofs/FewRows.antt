@@ -27,6 +27,7 @@ use Rattle.gate_laws.proofs.Told.{length-told}
 use Rattle.gate_laws.proofs.Drawn.{report_drawn}
 use Rattle.gate_laws.proofs.Plans.{serial_of, plan_drawn}
 use Rattle.gate_laws.proofs.Shapes.{Shaped, shaped_from, least, most}
+use Rattle.gate_types.specs.Counters.{last_number}
 
 -- ---- numbers
 
@@ -123,13 +124,13 @@ few_landings c s h k q mq =
 -- ---- the tops
 
 pub record Tops (s : State) : Type 0 where
-  pub approval : s.counters.approval ≤ 1000000000000000
-  pub build : s.counters.build ≤ 1000000000000000
-  pub order : s.counters.order ≤ 1000000000000000
+  pub approval : s.counters.approval ≤ last_number
+  pub build : s.counters.build ≤ last_number
+  pub order : s.counters.order ≤ last_number
 
 pub tops : (s : State) → is_exhausted s ≡ false → Tops s
 tops s e =
-    let all = ltb-false 1000000000000000 (max s.counters.approval (max s.counters.build s.counters.order)) e in
+    let all = ltb-false last_number (max s.counters.approval (max s.counters.build s.counters.order)) e in
     record { approval = omega (arith, all); build = omega (arith, all); order = omega (arith, all) }
 
 -- ---- the law

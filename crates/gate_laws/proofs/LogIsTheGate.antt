@@ -21,11 +21,12 @@ use Rattle.gate_types.proofs.OneTextLaw.{one_text_a_delivery}
 use Rattle.gate_laws.specs.Sessions.{Session, after_session}
 use Rattle.gate_laws.proofs.Shapes.{most}
 use Rattle.gate_laws.specs.Feed.{FormsAreInRange, IsCallOfKept, AreCallsOfKept, AreInRange, ActingCallsAreKept, KeptToldAgain, LogIsTheGate, IsSessionAgain, SessionsToldAgain}
+use Rattle.gate_types.specs.Counters.{last_number}
 
 -- ---- numbers in range
 
 drawn : (n : ℕ) → is_drawn_number n ≡ true → n < 2 ^ 64
-drawn n h = let m = most 1000000000000000 n h in omega arith
+drawn n h = let m = most last_number n h in omega arith
 
 -- a change and a revision
 on_change : (n r : ℕ) → is_change_number n ≡ true → is_revision_number r ≡ true → (n < 2 ^ 64) × (r < 2 ^ 64)

@@ -12,7 +12,7 @@ use Rattle.gate_types.specs.declared.deliveries.Reply.{Reply}
 use Rattle.gate_types.specs.declared.deliveries.Reply.TheVariants as reply
 use Rattle.gate_types.specs.Names.{same_name}
 use Rattle.gate_types.specs.Needs.{needs}
-use Rattle.gate_types.specs.Counters.{Drawn}
+use Rattle.gate_types.specs.Counters.{Drawn, last_number}
 use Rattle.gate_types.specs.Settings.{Settings, are_sound}
 use Rattle.gate_types.specs.declared.records.Ready.{Ready}
 use Rattle.gate_types.specs.State.{Item, Queue, State, is_open, is_landed, is_queued, is_ready}
@@ -46,8 +46,8 @@ use Rattle.gate_laws.proofs.EachAccepted.{OnReply, on_reply, reply_test, reply_s
 -- the serial of an item once it is settled, the place of a landing, a build under the last number drawn
 abbrev RawReply : Settings → Reply → State → Type 0
 RawReply c (reply.Queued n) u = (q : Queue) × In q (settle c u).queues × (i : Item) × In i q.items × (i.serial ≡ n)
-RawReply c (reply.Landed n) u = (1 ≤ n) × (n ≤ 1000000000000000)
-RawReply c (reply.Build b) u = BuildShape c b × (b.serial ≤ 1000000000000000) × (b.number ≡ u.counters.build)
+RawReply c (reply.Landed n) u = (1 ≤ n) × (n ≤ last_number)
+RawReply c (reply.Build b) u = BuildShape c b × (b.serial ≤ last_number) × (b.number ≡ u.counters.build)
 RawReply c _ u = Unit {0}
 
 -- where a test says nothing of the two
@@ -148,12 +148,12 @@ builds_as_drawn c s (r ∷ rs) = builds_as_drawn c (admit_one c s) rs ∙ build_
 settled_builds : (c : Settings) (u : State) → (settle c u).counters.build ≡ u.counters.build
 settled_builds c u = let t = sweep c (rebase c u) in builds_as_drawn c t t.ready
 
-build_top : (d : Drawn) → are_counters_in_form d ≡ true → d.build ≤ 1000000000000000
+build_top : (d : Drawn) → are_counters_in_form d ≡ true → d.build ≤ last_number
 build_top d f =
-    let last = and_parts (nat_le d.approval 1000000000000000 && nat_le d.build 1000000000000000)
-    (nat_le d.order 1000000000000000) f in
-    leb-true d.build 1000000000000000
-    (and_parts (nat_le d.approval 1000000000000000) (nat_le d.build 1000000000000000) last.0).1
+    let last = and_parts (nat_le d.approval last_number && nat_le d.build last_number)
+    (nat_le d.order last_number) f in
+    leb-true d.build last_number
+    (and_parts (nat_le d.approval last_number) (nat_le d.build last_number) last.0).1
 
 -- the reply, by what the settled state keeps to
 from_raw : (c : Settings) (u : State) (r : Reply) → RawReply c r u → IsInForm c (settle c u) →
@@ -171,7 +171,7 @@ from_raw c u (reply.Queued n) h f =
     let p2 = and_parts _ _ (all_from is_item_in_form h.0.items items.1 h.2 h.3) in
     let serial = and_parts _ _ p2.0 in
     subst (λ m. is_drawn_number m ≡ true) h.4 serial.0
-from_raw c u (reply.Landed n) h f = up_to 1000000000000000 n h.0 h.1
+from_raw c u (reply.Landed n) h f = up_to last_number n h.0 h.1
 from_raw c u (reply.Build b) h f =
     let top = build_top (settle c u).counters f.counters in
     let same = settled_builds c u in

@@ -17,6 +17,7 @@ use Rattle.gate_types.specs.declared.records.Ready.{Ready}
 use Rattle.gate_types.specs.State.{Item, Queue, State, plan_of}
 use Rattle.gate_types.specs.Forms.{is_up_to, is_change_number, is_revision_number, is_drawn_number, is_entry_in_form, is_change_in_form, is_ready_in_form, is_item_in_form, is_landing_in_form, is_plan_in_form, is_verdict_in_form, is_report_in_form, is_queue_in_form, is_build_in_form, IsInForm}
 use Rattle.gate_laws.proofs.Members.{In, every, all_from, all_to, found}
+use Rattle.gate_types.specs.Counters.{last_number}
 
 -- ---- what is said of rows
 
@@ -53,7 +54,7 @@ pub record Began (c : Settings) (number : ℕ) (queue job : List ℕ) (after : �
   pub in_queue : has_queue c.queues queue ≡ true
   pub queue_name : is_name queue ≡ true
   pub job_name : is_name job ≡ true
-  pub base : after ≤ 1000000000000000
+  pub base : after ≤ last_number
   pub few : length ahead ≤ 1000
   pub entries : list_all is_entry_in_form ahead ≡ true
 
@@ -92,13 +93,13 @@ numbered_from : (serial change revision : ℕ) → is_drawn_number serial && is_
 numbered_from serial change revision h =
     let last = and_parts (is_drawn_number serial && is_change_number change) (is_revision_number revision) h in
     let first = and_parts (is_drawn_number serial) (is_change_number change) last.0 in
-    (least 1000000000000000 serial first.0, first.1, last.1)
+    (least last_number serial first.0, first.1, last.1)
 
-numbered_to : (serial change revision : ℕ) → serial ≤ 1000000000000000 → Numbered serial change revision →
+numbered_to : (serial change revision : ℕ) → serial ≤ last_number → Numbered serial change revision →
     is_drawn_number serial && is_change_number change && is_revision_number revision ≡ true
 numbered_to serial change revision m n =
     and_from (is_drawn_number serial && is_change_number change) (is_revision_number revision)
-    (and_from (is_drawn_number serial) (is_change_number change) (up_to 1000000000000000 serial n.0 m) n.1) n.2
+    (and_from (is_drawn_number serial) (is_change_number change) (up_to last_number serial n.0 m) n.1) n.2
 
 tells_from : (m : ℕ) (v : Verdict) → is_verdict_in_form m v ≡ true → TellsOf m v
 tells_from m (verdict.Landed n) h = (least m n h, most m n h)
@@ -150,11 +151,11 @@ build_from c b h =
     let p2 = and_parts _ _ p3.0 in
     let p1 = and_parts _ _ p2.0 in (
       record {
-        counted = least 1000000000000000 b.number p1.0;
+        counted = least last_number b.number p1.0;
         in_queue = p1.1;
         queue_name = p2.1;
         job_name = p3.1;
-        base = leb-true b.after 1000000000000000 p5.1;
+        base = leb-true b.after last_number p5.1;
         few = leb-true (length b.ahead) 1000 p6.1;
         entries = p7.1;
       },
@@ -164,12 +165,12 @@ build_from c b h =
 ready_from : (r : Ready) → is_ready_in_form r ≡ true → ReadyShape r
 ready_from r h =
     let both = and_parts (is_drawn_number r.approval) (is_change_number r.change) h in
-    (least 1000000000000000 r.approval both.0, both.1)
+    (least last_number r.approval both.0, both.1)
 
 plan_from : (p : Plan) → is_plan_in_form p ≡ true → PlanShape p
 plan_from p h =
     let both = and_parts (is_drawn_number p.serial) (list_all (λ j. is_name j.name) p.jobs) h in
-    (least 1000000000000000 p.serial both.0, both.1)
+    (least last_number p.serial both.0, both.1)
 
 pub shaped_from : (c : Settings) (s : State) → IsInForm c s → Shaped c s
 shaped_from c s h = record {
@@ -192,38 +193,38 @@ plan_named c s h n = by_plan (find (λ p. p.serial == n) s.plans) refl
 
 -- ---- to the form, by the tops
 
-pub item_to : (i : Item) → i.serial ≤ 1000000000000000 → NumberedItem i → is_item_in_form i ≡ true
+pub item_to : (i : Item) → i.serial ≤ last_number → NumberedItem i → is_item_in_form i ≡ true
 item_to i m n = numbered_to i.serial i.change i.revision m n
 
-pub landing_to : (l : Landing) → l.serial ≤ 1000000000000000 → NumberedLanding l → is_landing_in_form l ≡ true
+pub landing_to : (l : Landing) → l.serial ≤ last_number → NumberedLanding l → is_landing_in_form l ≡ true
 landing_to l m n = numbered_to l.serial l.change l.revision m n
 
-pub report_to : (m : ℕ) (r : Report) → r.serial ≤ 1000000000000000 → ReportShape m r → is_report_in_form m r ≡ true
+pub report_to : (m : ℕ) (r : Report) → r.serial ≤ last_number → ReportShape m r → is_report_in_form m r ≡ true
 report_to m r t h =
     and_from (is_drawn_number r.serial && is_change_number r.change && is_revision_number r.revision)
     (is_verdict_in_form m r.verdict)
     (numbered_to r.serial r.change r.revision t h.0) (tells_to m r.verdict h.1)
 
-pub plan_to : (p : Plan) → p.serial ≤ 1000000000000000 → PlanShape p → is_plan_in_form p ≡ true
+pub plan_to : (p : Plan) → p.serial ≤ last_number → PlanShape p → is_plan_in_form p ≡ true
 plan_to p t h = and_from (is_drawn_number p.serial) (list_all (λ j. is_name j.name) p.jobs)
-    (up_to 1000000000000000 p.serial h.0 t) h.1
+    (up_to last_number p.serial h.0 t) h.1
 
-pub ready_to : (r : Ready) → r.approval ≤ 1000000000000000 → ReadyShape r → is_ready_in_form r ≡ true
+pub ready_to : (r : Ready) → r.approval ≤ last_number → ReadyShape r → is_ready_in_form r ≡ true
 ready_to r t h = and_from (is_drawn_number r.approval) (is_change_number r.change)
-    (up_to 1000000000000000 r.approval h.0 t) h.1
+    (up_to last_number r.approval h.0 t) h.1
 
-pub build_to : (c : Settings) (b : Build) → b.number ≤ 1000000000000000 → b.serial ≤ 1000000000000000 → BuildShape c b →
+pub build_to : (c : Settings) (b : Build) → b.number ≤ last_number → b.serial ≤ last_number → BuildShape c b →
     is_build_in_form c b ≡ true
 build_to c b n t h =
     and_from _ _ (and_from _ _ (and_from _ _ (and_from _ _ (and_from _ _ (and_from _ _ (and_from _ _
-    (up_to 1000000000000000 b.number h.0.counted n) h.0.in_queue) h.0.queue_name) h.0.job_name)
-    (numbered_to b.serial b.change b.revision t h.1)) (le-leb b.after 1000000000000000 h.0.base))
+    (up_to last_number b.number h.0.counted n) h.0.in_queue) h.0.queue_name) h.0.job_name)
+    (numbered_to b.serial b.change b.revision t h.1)) (le-leb b.after last_number h.0.base))
     (le-leb (length b.ahead) 1000 h.0.few)) h.0.entries
 
 -- a queue, by the tops of its serials
-pub queue_to : (q : Queue) → is_name q.name ≡ true → ((i : Item) → In i q.items → i.serial ≤ 1000000000000000) →
-    ((l : Landing) → In l q.landings → l.serial ≤ 1000000000000000) →
-    ((r : Report) → In r q.reports → r.serial ≤ 1000000000000000) → QueueShape (length q.landings) q →
+pub queue_to : (q : Queue) → is_name q.name ≡ true → ((i : Item) → In i q.items → i.serial ≤ last_number) →
+    ((l : Landing) → In l q.landings → l.serial ≤ last_number) →
+    ((r : Report) → In r q.reports → r.serial ≤ last_number) → QueueShape (length q.landings) q →
     is_queue_in_form q ≡ true
 queue_to q name ti tl tr h =
     and_from _ _ (and_from _ _

@@ -13,7 +13,7 @@ use Rattle.gate_types.specs.declared.deliveries.Reply.{Reply}
 use Rattle.gate_types.specs.Names.{same_name, is_path_name}
 use Rattle.gate_types.specs.Needs.{needs}
 use Rattle.gate_types.specs.Settings.{Settings, are_sound, is_sound_window}
-use Rattle.gate_types.specs.Counters.{Drawn}
+use Rattle.gate_types.specs.Counters.{Drawn, last_number}
 use Rattle.gate_types.specs.State.{State, start, empty_queue, is_landed}
 use Rattle.gate_types.specs.Admit.{without_ready}
 use Rattle.gate_types.specs.Settle.{settle}
@@ -66,8 +66,8 @@ form_of c s f h k =
           (every (λ b. nat_le b.number s.counters.build ≡ true) s.builds h.sound.builds_are_drawn b m) in
           let serial = build_drawn c s h.sound b m in
           build_to c b (omega (arith, number, build)) (omega (arith, serial, order)) (k.builds b m));
-      counters = and_from _ _ (and_from _ _ (le-leb s.counters.approval 1000000000000000 approval)
-          (le-leb s.counters.build 1000000000000000 build)) (le-leb s.counters.order 1000000000000000 order);
+      counters = and_from _ _ (and_from _ _ (le-leb s.counters.approval last_number approval)
+          (le-leb s.counters.build last_number build)) (le-leb s.counters.order last_number order);
     }
 
 -- ---- kind by kind, before settling

@@ -25,6 +25,7 @@ use Rattle.gate_types.specs.Forms.{is_change_number, is_revision_number, is_draw
 use Rattle.gate_types.proofs.NameLemmas.{name_low, path_low}
 use Rattle.gate_laws.proofs.Members.{all, all_from}
 use Rattle.gate_laws.proofs.Shapes.{most, build_from}
+use Rattle.gate_types.specs.Counters.{last_number}
 
 -- ---- bytes and names
 
@@ -51,7 +52,7 @@ abbrev AllKeep : List Piece → Type 0
 AllKeep [] = Unit {0}
 AllKeep (p ∷ ps) = KeepsUtf8 p × AllKeep ps
 
-number_keeps : (n : ℕ) → n ≤ 1000000000000000 → KeepsUtf8 (number n)
+number_keeps : (n : ℕ) → n ≤ last_number → KeepsUtf8 (number n)
 number_keeps n h rest u =
     IsUtf8-append (decimal n) rest (IsUtf8-from_ascii (decimal n) (IsAscii-decimal n (omega (arith, h)))) u
 
@@ -84,14 +85,14 @@ object_utf8 ps h = one 123 (omega arith) (joined ps (125 ∷ []))
 
 -- ---- numbers in form
 
-pub change_fits : (n : ℕ) → is_change_number n ≡ true → n ≤ 1000000000000000
+pub change_fits : (n : ℕ) → is_change_number n ≡ true → n ≤ last_number
 change_fits n h = let top = most 999999999 n h in omega (arith, top)
 
-pub revision_fits : (n : ℕ) → is_revision_number n ≡ true → n ≤ 1000000000000000
+pub revision_fits : (n : ℕ) → is_revision_number n ≡ true → n ≤ last_number
 revision_fits n h = let top = most 9999 n h in omega (arith, top)
 
-pub drawn_fits : (n : ℕ) → is_drawn_number n ≡ true → n ≤ 1000000000000000
-drawn_fits n h = most 1000000000000000 n h
+pub drawn_fits : (n : ℕ) → is_drawn_number n ≡ true → n ≤ last_number
+drawn_fits n h = most last_number n h
 
 -- ---- deliveries
 

@@ -25,6 +25,7 @@ use Rattle.gate_types.specs.Forms.{is_change_number, is_revision_number, is_draw
 use Rattle.gate_laws.specs.InForm.{AheadIsShort}
 use Rattle.gate_laws.proofs.Shapes.{build_from}
 use Rattle.gate_laws.proofs.TextForms.{change_fits, revision_fits, drawn_fits}
+use Rattle.gate_types.specs.Counters.{last_number}
 
 -- a piece adds at most so many bytes
 abbrev Adds : ℕ → Piece → Type 0
@@ -41,7 +42,7 @@ abbrev total : List ℕ → ℕ
 total [] = 0
 total (n ∷ ns) = n + 1 + total ns
 
-number_adds : (n : ℕ) → n ≤ 1000000000000000 → Adds 16 (number n)
+number_adds : (n : ℕ) → n ≤ last_number → Adds 16 (number n)
 number_adds n h rest = let few = length-decimal-le 16 n (omega arith) (omega (arith, h)) (omega (arith, h)) in
     let sum = length-append (decimal n) rest in omega (arith, few, sum)
 

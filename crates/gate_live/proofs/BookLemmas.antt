@@ -3,7 +3,7 @@ use Rattle.std.proofs.Common.{◌≡◌, ◌≤◌, min, true, List, Option, Som
 use Rattle.std.specs.Prelude.{◌&&◌, nat_le, option_map, IfSome, OnOk, OnErr, Result, Ok, Err}
 use Rattle.std.proofs.lemmas.Bool.{and_parts}
 use borrow.Author.Tests.{leb-true}
-use Rattle.gate_types.specs.Counters.{Drawn}
+use Rattle.gate_types.specs.Counters.{Drawn, last_number}
 use Rattle.gate_types.specs.Forms.{are_counters_in_form}
 use Rattle.gate_types.specs.Once.{Content}
 use Rattle.gate_types.specs.Settings.{Settings}
@@ -48,14 +48,14 @@ held_is c x p held h view e agrees =
 -- counters in form are none above the last number
 pub within_form : (d : Drawn) → are_counters_in_form d ≡ true → within d ≡ d
 within_form d e =
-    let outer = and_parts (nat_le d.approval 1000000000000000 && nat_le d.build 1000000000000000) (nat_le d.order 1000000000000000) e in
-    let inner = and_parts (nat_le d.approval 1000000000000000) (nat_le d.build 1000000000000000) outer.0 in
-    let a : d.approval ≤ 1000000000000000 = leb-true d.approval 1000000000000000 inner.0 in
-    let b : d.build ≤ 1000000000000000 = leb-true d.build 1000000000000000 inner.1 in
-    let o : d.order ≤ 1000000000000000 = leb-true d.order 1000000000000000 outer.1 in
-    let approval : min d.approval 1000000000000000 ≡ d.approval = omega (arith, a) in
-    let build : min d.build 1000000000000000 ≡ d.build = omega (arith, b) in
-    let order : min d.order 1000000000000000 ≡ d.order = omega (arith, o) in
+    let outer = and_parts (nat_le d.approval last_number && nat_le d.build last_number) (nat_le d.order last_number) e in
+    let inner = and_parts (nat_le d.approval last_number) (nat_le d.build last_number) outer.0 in
+    let a : d.approval ≤ last_number = leb-true d.approval last_number inner.0 in
+    let b : d.build ≤ last_number = leb-true d.build last_number inner.1 in
+    let o : d.order ≤ last_number = leb-true d.order last_number outer.1 in
+    let approval : min d.approval last_number ≡ d.approval = omega (arith, a) in
+    let build : min d.build last_number ≡ d.build = omega (arith, b) in
+    let order : min d.order last_number ≡ d.order = omega (arith, o) in
     λ i. record { approval = approval i; build = build i; order = order i }
 
 -- ---- edits

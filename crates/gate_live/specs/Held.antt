@@ -2,7 +2,7 @@
 use Rattle.std.specs.Prelude.{ℕ, ◌≡◌, map, min, Option, IfSome}
 use Rattle.std.specs.List.{AllByRecursion}
 use Rattle.gate_types.specs.Settings.{Settings}
-use Rattle.gate_types.specs.Counters.{Drawn}
+use Rattle.gate_types.specs.Counters.{Drawn, last_number}
 use Rattle.gate_types.specs.Once.{Content}
 use Rattle.gate_types.specs.Tables.{tables}
 use Rattle.gate_memory.specs.Queues as queue
@@ -26,9 +26,9 @@ live_of h = record { queues = map queue_of h.queues.items; counters = drawn_of h
 -- the counters, each capped at the largest number that is drawn
 abbrev pub within : Drawn → Drawn
 within d = record {
-  approval = min d.approval 1000000000000000;
-  build = min d.build 1000000000000000;
-  order = min d.order 1000000000000000;
+  approval = min d.approval last_number;
+  build = min d.build last_number;
+  order = min d.order last_number;
 }
 
 -- a held queue has room for n more rows

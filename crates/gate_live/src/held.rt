@@ -18,9 +18,7 @@ use gate_types::numbers::{ChangeNo, Serial};
 use gate_types::records::{Counters, Item};
 use gate_types::sequence::Sequence;
 use std::alloc::{AllocError, Global};
-
-/// The largest number that is ever drawn.
-const LAST_NUMBER: u64 = 1_000_000_000_000_000;
+use gate_types::numbers::LAST_NUMBER;
 
 /// The last number drawn of each kind, as edits set it: it may exceed `LAST_NUMBER`.
 #[derive(Clone, Copy)]

@@ -13,6 +13,7 @@ ghost use Rattle.gate_memory.specs.Queues as entries;
 ghost use Rattle.gate_memory.specs.Queues.{IsKept, HasRoom, rows_of, serial_of, is_of_change};
 ghost use Rattle.gate_book_trait.specs.RowReads.{landing_serial};
 ghost use Rattle.gate_book_trait.specs.Reads as read;
+ghost use Rattle.gate_types.specs.Limits.{most_listed};
 
 use crate::needs::add_seconds;
 use crate::pairs::{Pair, of_first};
@@ -307,7 +308,7 @@ impl QueueTable {
 
     /// The reports from the `from`th on, from 1, no more than 1,000.
     pub fn reports_from(&self, from: u64) -> &[ReportRow]
-        ensures { result.now ≡ take 1000 (drop (from - 1) (rows_of self.now).reports) }
+        ensures { result.now ≡ take most_listed (drop (from - 1) (rows_of self.now).reports) }
     {
         self.reports.page(from)
     }

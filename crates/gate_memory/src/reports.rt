@@ -8,6 +8,7 @@ ghost use Rattle.gate_memory.specs.Sorted.{passing, first_of};
 ghost use Rattle.gate_memory.specs.Pairs.{IsFit};
 ghost use Rattle.gate_memory.specs.Reports as entries;
 ghost use Rattle.gate_memory.specs.Reports.{IsKept, HasRoom, report_place, is_of_serial};
+ghost use Rattle.gate_types.specs.Limits.{most_listed};
 
 use crate::pairs::{Pair, of_first, paired};
 use crate::sorted;
@@ -15,6 +16,7 @@ use crate::sorted::Keyed;
 use gate_types::numbers::Serial;
 use gate_types::rows::ReportRow;
 use std::alloc::{AllocError, Global};
+use gate_types::limits::MOST_LISTED;
 
 /// The reports of a queue by place, and an index of them: pairs of serial and place.
 #[derive(Drop)]
@@ -124,10 +126,10 @@ impl ReportTable {
 
     /// The reports from the `from`th on, from 1, no more than 1,000.
     pub fn page(&self, from: u64) -> &[ReportRow]
-        ensures { result.now ≡ take 1000 (drop (from - 1) self.now.rows.items) }
+        ensures { result.now ≡ take most_listed (drop (from - 1) self.now.rows.items) }
     {
         let count = self.rows.len();
         let start = from.saturating_sub(1).min(count as u64) as usize;
-        &self.rows[start..start + (count - start).min(1000)]
+        &self.rows[start..start + (count - start).min(MOST_LISTED as usize)]
     }
 }

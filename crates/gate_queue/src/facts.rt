@@ -1,5 +1,6 @@
 //! What the rules of a queue ask for beside its items and builds.
 ghost use Rattle.std.specs.Prelude.{◌≤◌};
+ghost use Rattle.gate_types.specs.Counters.{last_number};
 
 use gate_types::config::{Job, Queue};
 use gate_types::records::{Landing, Need};
@@ -22,7 +23,7 @@ pub struct Facts<'a> {
     pub landings: &'a [Landing],
     pub items: &'a [ItemFacts<'a>],
     pub reports: u64,
-    pub ghost reports_in_range: { reports ≤ 1000000000000000 },
+    pub ghost reports_in_range: { reports ≤ last_number },
 }
 
 /// The jobs of an item's plan, whether one failure ends them all, and whether the item is blocked.

@@ -15,9 +15,7 @@ use gate_found_rows::read::read_rows;
 use gate_types::records::Counters;
 use sqlite::types::ValueRef;
 use sqlite::{Alter, Connection, Row};
-
-/// The greatest number that is ever drawn.
-const LAST_NUMBER: u64 = 1_000_000_000_000_000;
+use gate_types::numbers::LAST_NUMBER;
 
 /// Whether the row is of the counter of this name.
 fn is_named(row: &Row, name: &str) -> bool

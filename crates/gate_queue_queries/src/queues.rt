@@ -7,11 +7,13 @@ ghost use Rattle.gate_rows.specs.Tells.{items_of};
 ghost use Rattle.gate_found_rows.specs.Asked.{landing_before, last_landing, last_report, window_of};
 ghost use Rattle.gate_found_rows.specs.Reads.{IsOnlyRead, Opened, Tells};
 ghost use Rattle.gate_found_rows.specs.Shown.{number_shown};
+ghost use Rattle.gate_types.specs.Limits.{most_window};
 
 use gate_book_trait::BookFault;
 use gate_found_rows::columns::number_in;
 use gate_found_rows::read::read_rows;
 use gate_rows::values::{serial, text};
+use gate_types::limits::MOST_WINDOW;
 use gate_types::names::Name;
 use gate_types::numbers::Serial;
 use sqlite::{Alter, Connection, Row};
@@ -28,14 +30,14 @@ fn first_number(rows: &[Row]) -> Result<u64, BookFault>
 
 /// The window in the first row, if there is one; `Damaged` where it is over 1,000.
 fn first_window(rows: &[Row]) -> Result<Option<u32>, BookFault>
-    ensures { (ns : List ℕ) → rows.now ≡ map number_shown ns → AllPass (λ n. nat_le n 1000) ns →
+    ensures { (ns : List ℕ) → rows.now ≡ map number_shown ns → AllPass (λ n. nat_le n most_window) ns →
         Answers (slice_get ns 0) result }
 {
     let [row, ..] = rows else {
         return Ok(None);
     };
     match number_in(row, 0)? {
-        window if window <= 1000 => Ok(Some(window as u32)),
+        window if window <= MOST_WINDOW => Ok(Some(window as u32)),
         _ => Err(BookFault::Damaged),
     }
 }

@@ -6,7 +6,7 @@ use Rattle.std.proofs.lemmas.Bool.{lt-ltb}
 use Rattle.gate_types.specs.declared.records.Ready.{Ready}
 use Rattle.gate_types.specs.declared.deliveries.Reply.{Reply}
 use Rattle.gate_types.specs.declared.deliveries.Refusal.TheVariants as refusal
-use Rattle.gate_types.specs.Counters.{Drawn}
+use Rattle.gate_types.specs.Counters.{Drawn, last_number}
 use Rattle.gate_types.specs.Settings.{Settings}
 use Rattle.gate_types.specs.State.{State}
 use Rattle.gate_types.specs.Rebase.{rebase}
@@ -38,16 +38,16 @@ refused_past : (c : Settings) (said : Reply) (t : State) → is_exhausted (settl
     settled_step c (accepted said t) ≡ refused refusal.Exhausted
 refused_past c said t e = ap (λ b. cond b (refused refusal.Exhausted) (accepted said (settle c t))) e
 
-pub approval_past : (c : Settings) (said : Reply) (t : State) → 1000000000000000 < t.counters.approval →
+pub approval_past : (c : Settings) (said : Reply) (t : State) → last_number < t.counters.approval →
     settled_step c (accepted said t) ≡ refused refusal.Exhausted
 approval_past c said t h =
     let d = (settle c t).counters in
     let same = settled_drawn c (λ d. d.approval) (λ d n. refl) t in
-    refused_past c said t (lt-ltb 1000000000000000 (max d.approval (max d.build d.order)) (omega (arith, h, same)))
+    refused_past c said t (lt-ltb last_number (max d.approval (max d.build d.order)) (omega (arith, h, same)))
 
-pub build_past : (c : Settings) (said : Reply) (t : State) → 1000000000000000 < t.counters.build →
+pub build_past : (c : Settings) (said : Reply) (t : State) → last_number < t.counters.build →
     settled_step c (accepted said t) ≡ refused refusal.Exhausted
 build_past c said t h =
     let d = (settle c t).counters in
     let same = settled_drawn c (λ d. d.build) (λ d n. refl) t in
-    refused_past c said t (lt-ltb 1000000000000000 (max d.approval (max d.build d.order)) (omega (arith, h, same)))
+    refused_past c said t (lt-ltb last_number (max d.approval (max d.build d.order)) (omega (arith, h, same)))

@@ -2,7 +2,7 @@
 use Rattle.std.proofs.Common.{◌≡◌, ◌≤◌, true, ◌&&◌, length, arith}
 use Rattle.std.specs.Prelude.{nat_le}
 use Rattle.std.proofs.lemmas.Bool.{and_parts, leb-true}
-use Rattle.gate_types.specs.Counters.{Drawn}
+use Rattle.gate_types.specs.Counters.{Drawn, last_number}
 use Rattle.gate_types.specs.Settings.{Settings}
 use Rattle.gate_types.specs.State.{Queue}
 use Rattle.gate_types.specs.Once.{Content}
@@ -10,14 +10,14 @@ use Rattle.gate_types.specs.Forms.{IsLawfulContent, are_counters_in_form}
 use Rattle.gate_laws.proofs.Members.{In, every}
 use Rattle.gate_laws.proofs.FewRows.{rows_are_few}
 
-order_small : (d : Drawn) → are_counters_in_form d ≡ true → d.order ≤ 1000000000000000
+order_small : (d : Drawn) → are_counters_in_form d ≡ true → d.order ≤ last_number
 order_small d h =
-    leb-true d.order 1000000000000000
-    (and_parts (nat_le d.approval 1000000000000000 && nat_le d.build 1000000000000000)
-    (nat_le d.order 1000000000000000) h).1
+    leb-true d.order last_number
+    (and_parts (nat_le d.approval last_number && nat_le d.build last_number)
+    (nat_le d.order last_number) h).1
 
 pub few_reports : (c : Settings) (x : Content) → IsLawfulContent c x → (q : Queue) → In q x.state.queues →
-    length q.reports ≤ 1000000000000000
+    length q.reports ≤ last_number
 few_reports c x h q m =
     let few = every (λ (o : Queue). length o.reports ≤ x.state.counters.order) x.state.queues
     (rows_are_few c x.state h.lawful.sound h.in_form.state).reports q m in
@@ -25,7 +25,7 @@ few_reports c x h q m =
     omega (arith, few, top)
 
 pub few_landings : (c : Settings) (x : Content) → IsLawfulContent c x → (q : Queue) → In q x.state.queues →
-    length q.landings ≤ 1000000000000000
+    length q.landings ≤ last_number
 few_landings c x h q m =
     let few = every (λ (o : Queue). length o.landings ≤ x.state.counters.order) x.state.queues
     (rows_are_few c x.state h.lawful.sound h.in_form.state).landings q m in

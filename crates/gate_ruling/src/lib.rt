@@ -13,7 +13,6 @@ mod edits;
 mod guards;
 mod kinds;
 mod leaving;
-mod numbers;
 mod windows;
 
 pub use dispatch::raw;

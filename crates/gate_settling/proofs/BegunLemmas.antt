@@ -38,6 +38,7 @@ use Rattle.gate_settling.specs.Touching.{Touching, delivered}
 use Rattle.gate_settling.specs.Rows.{is_out, has_landed, taken_out, reports_now, window_now}
 use Rattle.gate_settling.proofs.LeftLemmas.{left}
 use Rattle.gate_settling.proofs.StandingLemmas.{queue_there, item_there, item_from_1, report_from_1, queue_is, touched_row}
+use Rattle.gate_types.specs.Counters.{last_number}
 
 -- ---- the queue is there
 
@@ -96,8 +97,8 @@ serial_once {x = x} h n = by_count (times n (serials_of h.queue)) refl
         let there = in_times n (serials_of h.queue) (omega (arith, e)) in
         (one_part n serials_of x.state.queues h.queue h.queue all_once (queue_there h) (queue_there h) there there).1
 
-last_drawn : (s : State) → are_counters_in_form s.counters ≡ true → s.counters.order ≤ 1000000000000000
-last_drawn s form = leb-true s.counters.order 1000000000000000 (and_parts _ _ form).1
+last_drawn : (s : State) → are_counters_in_form s.counters ≡ true → s.counters.order ≤ last_number
+last_drawn s form = leb-true s.counters.order last_number (and_parts _ _ form).1
 
 some_item : (q : Queue) (i : Item) → In i q.items → 1 ≤ length q.items
 some_item q i m = by_items q.items m
@@ -107,7 +108,7 @@ some_item q i m = by_items q.items m
     by_items (j ∷ js) n = omega arith
 
 pub few_reports : {c : Settings} {x : Content} {k : TouchedItem} (h : Touching c x k) →
-    length h.queue.reports < 1000000000000000
+    length h.queue.reports < last_number
 few_reports {x = x} {k = k} h =
     let q = h.queue in
     let few = few_numbers (serials_of q) x.state.counters.order (serial_once h) (serial_drawn h) in

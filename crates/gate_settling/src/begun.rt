@@ -18,6 +18,7 @@ use gate_types::names::{Name, same_name};
 use gate_types::records::Verdict;
 use gate_walk::{QueueFacts, TakenOut, Touched, Walk};
 use std::alloc::Global;
+use gate_types::numbers::LAST_NUMBER;
 
 fn queue_named<'c>(config: &'c Config, name: &Name) -> Option<&'c Queue>
     ensures { option_copied result ≡ find (λ q. same_name q.name name.now) config.now.queues }
@@ -86,7 +87,7 @@ pub(crate) fn begun<B: Book>(
         return Ok(None);
     };
     let before = book.reports(&touched.queue)?;
-    if before >= 1_000_000_000_000_000 {
+    if before >= LAST_NUMBER {
         return Ok(None);
     }
     let reports = if is_out(touched.event) {

@@ -38,6 +38,7 @@ use Rattle.gate_texts.specs.Values.{written}
 use Rattle.gate_texts.specs.declared.item.ToldItem.{ToldItem}
 use Rattle.gate_texts.proofs.AheadByKey.{blocked_by_key}
 use Rattle.gate_texts.proofs.Entries.{AreEntries, joined_behind, array_is, name_is}
+use Rattle.gate_types.specs.Limits.{most_listed}
 
 -- ---- the item of a serial
 
@@ -186,14 +187,14 @@ pub item_parts : (serial : ℕ) (t : ToldItem) (builds : List ℕ) (kept : ℕ) 
 item_parts serial t builds kept = simp append_assoc
 
 pub item_is_told : (c : Settings) (s : State) (n : ℕ) (t : ToldItem) (last : List BuildSummary)
-    (builds text : List ℕ) (kept : ℕ) → IsToldOf c s n t → last ≡ last_builds s n 1000 →
+    (builds text : List ℕ) (kept : ℕ) → IsToldOf c s n t → last ≡ last_builds s n most_listed →
     builds ≡ joined (map summary_piece last) [] → kept ≡ length (builds_of s n) → text ≡ item_told n t builds kept [] →
     Some text ≡ item_text c s n
 item_is_told c s n t last builds text kept h l b k e =
-    let all : builds ≡ joined (map summary_piece (last_builds s n 1000)) [] =
+    let all : builds ≡ joined (map summary_piece (last_builds s n most_listed)) [] =
     b ∙ ap (λ bs. joined (map summary_piece bs) []) l in
     ap Some (e ∙ (λ i. object (
-    member (codes "builds") (λ r. array_is summaries_are (last_builds s n 1000) builds r all i) ∷
+    member (codes "builds") (λ r. array_is summaries_are (last_builds s n most_listed) builds r all i) ∷
     member (codes "change") (number t.change) ∷
     member (codes "jobs") (λ r. jobs_behind s.builds (place_at c s n) (string_bytes t.jobs) r h.jobs i) ∷
     member (codes "kept") (number (k i)) ∷ member (codes "order") (number n) ∷ member (codes "queue") (plain t.queue) ∷

@@ -20,6 +20,7 @@ use Rattle.gate_texts.specs.Running.{running_among, running_in, Tells, listed_wi
 use Rattle.gate_texts.specs.Values.{written}
 use Rattle.gate_texts.specs.declared.running.Running.{Running}
 use Rattle.gate_texts.proofs.Entries.{AreEntries, joined_more, array_is}
+use Rattle.gate_types.specs.Limits.{most_listed}
 
 pub are_running : AreEntries running_piece
 are_running = record { begins = λ b. refl; behind = behind }
@@ -41,9 +42,9 @@ running_grouped number change job order queue revision = simp append_assoc
 -- ---- one more
 
 first_more : (builds : List Build) (b : Build) (count : ℕ) (list : List ℕ) → count ≡ length builds →
-    list ≡ joined (map running_piece (take 1000 builds)) [] →
-    listed_with count list (running_piece b []) ≡ joined (map running_piece (take 1000 (builds ++ b ∷ []))) []
-first_more builds b count list n l = by_count (nat_lt count 1000) refl
+    list ≡ joined (map running_piece (take most_listed builds)) [] →
+    listed_with count list (running_piece b []) ≡ joined (map running_piece (take most_listed (builds ++ b ∷ []))) []
+first_more builds b count list n l = by_count (nat_lt count most_listed) refl
   where
     text : List Build → List ℕ
     text bs = joined (map running_piece bs) []
@@ -51,17 +52,17 @@ first_more builds b count list n l = by_count (nat_lt count 1000) refl
     long : length (builds ++ b ∷ []) ≡ length builds + 1
     long = length-append builds (b ∷ [])
 
-    by_count : (t : Bool) → nat_lt count 1000 ≡ t →
-        cond t (with_entry list (running_piece b [])) list ≡ text (take 1000 (builds ++ b ∷ []))
+    by_count : (t : Bool) → nat_lt count most_listed ≡ t →
+        cond t (with_entry list (running_piece b [])) list ≡ text (take most_listed (builds ++ b ∷ []))
     by_count true e =
-        let less = ltb-true count 1000 e in
+        let less = ltb-true count most_listed e in
         let more = long in
-        ap (λ s. with_entry s (running_piece b [])) (l ∙ ap text (take_all 1000 builds (omega (arith, n, less))))
+        ap (λ s. with_entry s (running_piece b [])) (l ∙ ap text (take_all most_listed builds (omega (arith, n, less))))
         ∙ sym (joined_more are_running builds b)
-        ∙ ap text (sym (take_all 1000 (builds ++ b ∷ []) (omega (arith, n, less, more))))
+        ∙ ap text (sym (take_all most_listed (builds ++ b ∷ []) (omega (arith, n, less, more))))
     by_count false e =
-        let full : 1000 ≤ count = ltb-false count 1000 e in
-        l ∙ ap text (sym (take-append-le 1000 builds (b ∷ []) (omega (arith, n, full))))
+        let full : most_listed ≤ count = ltb-false count most_listed e in
+        l ∙ ap text (sym (take-append-le most_listed builds (b ∷ []) (omega (arith, n, full))))
 
 pub tells_more : (r new : Running) (builds : List Build) (b : Build) → Tells r builds →
     string_bytes new.list ≡ listed_with r.count (string_bytes r.list) (running_piece b []) →
@@ -156,5 +157,5 @@ pub running_is : (s : State) (r : Running) (text : List ℕ) → Tells r (runnin
 running_is s r text h t = t
     ∙ (λ i. object (
     member (codes "builds")
-    (λ z. array_is are_running (take 1000 (running_builds s)) (string_bytes r.list) z h.list i) ∷
+    (λ z. array_is are_running (take most_listed (running_builds s)) (string_bytes r.list) z h.list i) ∷
     member (codes "running") (number (h.count i)) ∷ []) [])

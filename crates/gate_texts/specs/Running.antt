@@ -8,6 +8,7 @@ use Rattle.gate_archive.specs.RunningBuilds.{running_of, running_piece}
 use Rattle.gate_texts.specs.Listed.{with_entry}
 use Rattle.gate_texts.specs.Values.{bracketed}
 use Rattle.gate_texts.specs.declared.running.Running.{Running}
+use Rattle.gate_types.specs.Limits.{most_listed}
 
 -- those that run
 abbrev pub running_among : List Build → List Build
@@ -19,12 +20,12 @@ running_in s q = flat_map (λ i. running_of s i.serial) q.items
 
 -- these builds were told: the first 1,000 stand in the list, and all are counted
 pub record Tells (r : Running) (builds : List Build) : Type 0 where
-  pub list : string_bytes r.list ≡ joined (map running_piece (take 1000 builds)) []
+  pub list : string_bytes r.list ≡ joined (map running_piece (take most_listed builds)) []
   pub count : r.count ≡ length builds
 
 -- a list with one more, unless this many were told before
 abbrev pub listed_with : ℕ → List ℕ → List ℕ → List ℕ
-listed_with count list entry = if nat_lt count 1000 then with_entry list entry else list
+listed_with count list entry = if nat_lt count most_listed then with_entry list entry else list
 
 -- the list, and how many there are
 abbrev pub running_told : List ℕ → ℕ → Piece

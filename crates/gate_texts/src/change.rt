@@ -15,6 +15,7 @@ use gate_types::numbers::ChangeNo;
 use gate_types::records::{Change, Stage};
 use gate_types::words::truth_word;
 use std::alloc::Global;
+use gate_types::limits::MOST_ITEMS;
 
 /// Where a change stands: its approval while it is ready, and the item that it is.
 #[derive(Drop)]
@@ -169,7 +170,7 @@ fn text_in<B: Book>(
     ensures fault { IfErr result (MayAnswer B.MayFault) }
 {
     let standing = standing_of(book, change.number)?;
-    let full = 1000 <= book.item_count(queue)?;
+    let full = MOST_ITEMS <= book.item_count(queue)?;
     let needs = needs_text(alloc, book, change.needs.as_slice())?;
     let front = change_front(alloc, change.number, &standing, full, needs.as_str())?;
     let back = change_back(alloc, change, queue, &standing)?;

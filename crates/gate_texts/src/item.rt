@@ -20,6 +20,7 @@ use gate_types::numbers::{ChangeNo, Revision, Serial};
 use gate_types::records::{Build, Verdict};
 use gate_types::words::{outcome_word, truth_word};
 use std::alloc::Global;
+use gate_types::limits::MOST_LISTED;
 
 /// What is told of an item beside its builds. `jobs` is written already, null for one that left.
 #[derive(Drop)]
@@ -243,7 +244,7 @@ pub fn item_text<B: Archive>(
         return Ok(None);
     };
     let kept = book.build_count(serial)?;
-    let last = book.last_builds(serial, 1000)?;
+    let last = book.last_builds(serial, MOST_LISTED)?;
     let builds = builds_text(alloc, last.as_slice())?;
     let front = item_front(alloc, &item, builds.as_str(), kept)?;
     let back = item_back(alloc, serial, &item)?;

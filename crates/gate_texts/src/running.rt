@@ -15,6 +15,7 @@ use gate_types::config::Config;
 use gate_types::names::{Name, NoMemory, Text};
 use gate_types::records::{Build, Outcome};
 use std::alloc::{AllocError, Global};
+use gate_types::limits::MOST_LISTED;
 
 /// The builds that were told so far: the text of the first, and how many they are.
 #[derive(Drop)]
@@ -52,7 +53,7 @@ fn push_listed(alloc: Global, running: &mut Running, build: &Build) -> Result<()
     ensures list { OnOk result (string_bytes running.new.list
         ≡ told.listed_with running.old.count (string_bytes running.old.list) (running_piece build.now [])) }
 {
-    if running.count < 1000 {
+    if running.count < MOST_LISTED {
         let entry = entry_of(alloc, build)?;
         push_entry(&mut running.list, entry.as_str())?;
     }

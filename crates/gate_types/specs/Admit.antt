@@ -9,11 +9,12 @@ use Rattle.gate_types.specs.declared.records.Plan.{Plan}
 use Rattle.gate_types.specs.State.{Item, Queue, State, change_queue, change_of, project_of, put_plan}
 use Rattle.gate_types.specs.Slot.{are_met_by}
 use Rattle.gate_types.specs.Standing.{needs_of}
+use Rattle.gate_types.specs.Limits.{most_items}
 
 -- a ready change may enter if its queue has room, and each of its needs has landed or is an item of that queue
 abbrev pub may_enter : Settings → State → Ready → Bool
 may_enter c s r =
-    list_any (λ q. same_name q.name (project_of c s r.change).queue && nat_lt (length q.items) 1000 &&
+    list_any (λ q. same_name q.name (project_of c s r.change).queue && nat_lt (length q.items) most_items &&
     are_met_by q.items (needs_of s r.change)) s.queues
 
 -- a change as an item under the next serial

@@ -1,6 +1,10 @@
 -- The counters: approvals, builds and orders each get the numbers 1, 2, 3 and so on.
 use Rattle.std.specs.Prelude.{ℕ}
 
+-- the last number that may be drawn of each: 10^15
+abbrev pub last_number : ℕ
+last_number = 1000000000000000
+
 -- the last number drawn of each
 pub record Drawn : Type 0 where
   pub approval : ℕ

@@ -1,4 +1,5 @@
 pub mod Names
+pub mod Limits
 pub mod Settings
 pub mod Needs
 pub mod Counters

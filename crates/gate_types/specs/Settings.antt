@@ -2,6 +2,7 @@
 use Rattle.std.specs.Prelude.{ℕ, Bool, true, false, ◌&&◌, ◌||◌, not, ◌==◌, nat_le, if◌then◌else◌, List, [], ◌∷◌, map, length, codes, Option, Some, None}
 use Rattle.std.specs.List.{list_any, list_all}
 use Rattle.gate_types.specs.Names.{same_name}
+use Rattle.gate_types.specs.Limits.{most_queues, most_projects, most_jobs, most_window, most_factor}
 use Rattle.gate_types.specs.declared.config.Job.{Job}
 use Rattle.gate_types.specs.declared.config.Queue.{Queue}
 use Rattle.gate_types.specs.declared.config.Project.{Project}
@@ -14,24 +15,6 @@ pub record Settings : Type 0 where
   pub base : List ℕ
   pub queues : List Queue
   pub projects : List Project
-
--- how many queues, projects, and jobs of a project there may be
-abbrev pub most_queues : ℕ
-most_queues = 32
-
-abbrev pub most_projects : ℕ
-most_projects = 256
-
-abbrev pub most_jobs : ℕ
-most_jobs = 32
-
--- the largest window, and the largest floor of one
-abbrev pub most_window : ℕ
-most_window = 1000
-
--- the most that a window changes by
-abbrev pub most_factor : ℕ
-most_factor = 1000
 
 -- the word of a pace
 abbrev pub pace_word : Pace → List ℕ

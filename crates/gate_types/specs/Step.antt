@@ -30,6 +30,8 @@ use Rattle.gate_types.specs.Admit.{without_ready}
 use Rattle.gate_types.specs.Settle.{settle}
 use Rattle.gate_types.specs.SubmitOrder.{Order, shown_order, is_submitting}
 use Rattle.gate_types.specs.Choice.{choose}
+use Rattle.gate_types.specs.Counters.{last_number}
+use Rattle.gate_types.specs.Limits.{most_needs}
 
 -- a delivery is accepted, with its reply and the state after it, or refused
 pub data Stepped : Type 0 where
@@ -84,7 +86,7 @@ raw_revision c s n name r message =
     if is_known_and s n (λ k. not (same_name k.project name)) then refused refusal.ProjectChanged else (
     if is_known_and s n (λ k. nat_le r k.revision || is_landed k) then accepted reply.Stale s else (
     if is_submitting c s n then refused refusal.Submitting else (
-    if nat_lt 32 (length (needs c.base message)) then refused refusal.TooManyNeeds else
+    if nat_lt most_needs (length (needs c.base message)) then refused refusal.TooManyNeeds else
     accepted reply.Recorded (revised
     (record { number = n; project = name; revision = r; stage = stage.Open; needs = needs c.base message }) s)))))
 
@@ -207,7 +209,7 @@ raw_step c s (delivery.Result n e) = raw_result s n e
 
 -- a counter gave a number past 10^15
 abbrev pub is_exhausted : State → Bool
-is_exhausted s = nat_lt 1000000000000000 (max s.counters.approval (max s.counters.build s.counters.order))
+is_exhausted s = nat_lt last_number (max s.counters.approval (max s.counters.build s.counters.order))
 
 -- what was accepted is settled, unless that takes a number past 10^15
 abbrev pub settled_step : Settings → Stepped → Stepped

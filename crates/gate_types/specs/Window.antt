@@ -7,10 +7,11 @@ use Rattle.gate_types.specs.declared.config.Pace.TheVariants as pace
 use Rattle.gate_types.specs.Settings.{Settings, default_rule}
 use Rattle.gate_types.specs.Names.{same_name}
 use Rattle.gate_types.specs.State.{Queue}
+use Rattle.gate_types.specs.Limits.{most_window}
 
 -- more, by the rule, up to 1,000
 abbrev pub grow : ℕ → WindowRule → ℕ
-grow w rule = if w == 0 then 0 else min 1000 (elim rule.increase [
+grow w rule = if w == 0 then 0 else min most_window (elim rule.increase [
   | pace.Linear ↦ w + rule.increase_by
   | pace.Exponential ↦ w * rule.increase_by
 ])

@@ -1,4 +1,4 @@
-//! How much settings may ask for.
+//! How much settings may ask for, and how much a gate holds and tells.
 
 /// The most queues.
 pub const MOST_QUEUES: usize = 32;
@@ -14,3 +14,12 @@ pub const MOST_WINDOW: u64 = 1000;
 
 /// The most that a window changes by.
 pub const MOST_FACTOR: u64 = 1000;
+
+/// The most items of a queue.
+pub const MOST_ITEMS: u64 = 1000;
+
+/// The most changes that one revision needs.
+pub const MOST_NEEDS: usize = 32;
+
+/// The most reports, deliveries or builds that one answer lists.
+pub const MOST_LISTED: u64 = 1000;

@@ -1,7 +1,11 @@
 //! Numbers in their ranges.
 ghost use Rattle.std.specs.Prelude.{◌≡◌, ℕ, ◌≤◌, ◌↔◌, IsSome, IfSome};
+ghost use Rattle.gate_types.specs.Counters.{last_number};
 
 use std::marker::Model;
+
+/// The last number that is drawn of orders, builds and approvals: 10^15.
+pub const LAST_NUMBER: u64 = 1_000_000_000_000_000;
 
 /// The number of a change: 1 to 999,999,999.
 #[derive(Clone, Copy, PartialEq, Eq, PartialOrd, Ord)]
@@ -94,7 +98,7 @@ impl Model for Serial {
 
     ghost view = { λ s. s.number };
 
-    ghost invariant = { λ s. (1 ≤ s.number) × (s.number ≤ 1000000000000000) };
+    ghost invariant = { λ s. (1 ≤ s.number) × (s.number ≤ last_number) };
 
     ghost inverse = { λ n. record { number = n } };
 }
@@ -102,10 +106,10 @@ impl Model for Serial {
 impl Serial {
     /// None where the number is out of range.
     pub fn new(number: u64) -> Option<Self>
-        ensures range { IsSome result ↔ ((1 ≤ number) × (number ≤ 1000000000000000)) }
+        ensures range { IsSome result ↔ ((1 ≤ number) × (number ≤ last_number)) }
         ensures value { IfSome result (λ s. s ≡ number) }
     {
-        if 1 <= number && number <= 1_000_000_000_000_000 {
+        if 1 <= number && number <= LAST_NUMBER {
             Some(Serial { number })
         } else {
             None
@@ -114,7 +118,7 @@ impl Serial {
 
     pub fn get(self) -> u64
         ensures value { result ≡ self }
-        ensures range { (1 ≤ self) × (self ≤ 1000000000000000) }
+        ensures range { (1 ≤ self) × (self ≤ last_number) }
     {
         let Serial { number } = self;
         number
@@ -132,7 +136,7 @@ impl Model for BuildNo {
 
     ghost view = { λ b. b.number };
 
-    ghost invariant = { λ b. (1 ≤ b.number) × (b.number ≤ 1000000000000000) };
+    ghost invariant = { λ b. (1 ≤ b.number) × (b.number ≤ last_number) };
 
     ghost inverse = { λ n. record { number = n } };
 }
@@ -140,10 +144,10 @@ impl Model for BuildNo {
 impl BuildNo {
     /// None where the number is out of range.
     pub fn new(number: u64) -> Option<Self>
-        ensures range { IsSome result ↔ ((1 ≤ number) × (number ≤ 1000000000000000)) }
+        ensures range { IsSome result ↔ ((1 ≤ number) × (number ≤ last_number)) }
         ensures value { IfSome result (λ b. b ≡ number) }
     {
-        if 1 <= number && number <= 1_000_000_000_000_000 {
+        if 1 <= number && number <= LAST_NUMBER {
             Some(BuildNo { number })
         } else {
             None
@@ -152,7 +156,7 @@ impl BuildNo {
 
     pub fn get(self) -> u64
         ensures value { result ≡ self }
-        ensures range { (1 ≤ self) × (self ≤ 1000000000000000) }
+        ensures range { (1 ≤ self) × (self ≤ last_number) }
     {
         let BuildNo { number } = self;
         number

@@ -212,14 +212,14 @@ pub struct Counters {
 
 impl Model for Counters {
     ghost use Rattle.std.specs.Prelude.{◌≤◌};
-    ghost use Rattle.gate_types.specs.Counters.{Drawn};
+    ghost use Rattle.gate_types.specs.Counters.{Drawn, last_number};
 
     ghost Value = { Drawn };
 
     ghost view = { λ c. record { approval = c.approval; build = c.build; order = c.order } };
 
     ghost invariant = { λ c.
-        (c.approval ≤ 1000000000000000) × (c.build ≤ 1000000000000000) × (c.order ≤ 1000000000000000) };
+        (c.approval ≤ last_number) × (c.build ≤ last_number) × (c.order ≤ last_number) };
 
     ghost inverse = { λ d. record { approval = d.approval; build = d.build; order = d.order } };
 }

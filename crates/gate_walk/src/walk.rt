@@ -6,6 +6,7 @@ ghost use Rattle.gate_walk.specs.Walk as rules;
 ghost use Rattle.gate_walk.specs.Rescan as law;
 ghost use Rattle.gate_walk.specs.Next as next;
 ghost use Rattle.gate_walk.specs.TakenOut.{out_of};
+ghost use Rattle.gate_types.specs.Counters.{last_number};
 
 use crate::seen::{Mark, SeenNeed, judge};
 use crate::told::{Beside, edits_of_visit};
@@ -53,7 +54,7 @@ pub struct QueueFacts<'a> {
     pub settings: &'a Queue,
     pub window: u32,
     pub reports: u64,
-    pub ghost reports_in_range: { reports ≤ 1000000000000000 },
+    pub ghost reports_in_range: { reports ≤ last_number },
 }
 
 /// What a walk wants next: the queue's first item above a serial, its first item above it that needs a
@@ -105,7 +106,7 @@ impl Model for Walk {
     } };
 
     // each visit adds a mark, and one report at most
-    ghost invariant = { λ w. w.reports ≤ 1000000000000000 + vec_len w.marks };
+    ghost invariant = { λ w. w.reports ≤ last_number + vec_len w.marks };
 }
 
 fn still_counting<'a>(resets: bool, builds: &'a [Build]) -> &'a [Build]

@@ -17,6 +17,7 @@ use Rattle.gate_wire.specs.declared.door.Door.{Door}
 use Rattle.gate_wire.specs.declared.door.Kind.{Kind}
 use Rattle.gate_wire.specs.declared.door.Kind.TheVariants as kind
 use Rattle.gate_wire.specs.Kinds.{kind_named, opens_to}
+use Rattle.gate_types.specs.Counters.{last_number}
 
 -- a value or the first refusal, and then the next one's
 infixl 10 ◌>>=◌
@@ -67,11 +68,11 @@ revision_at d = number_up_to 9999 (codes "revision") d
 
 -- the order: 1 to 10^15
 unfoldable pub order_at : Data → Result ℕ Refusal
-order_at d = number_up_to 1000000000000000 (codes "order") d
+order_at d = number_up_to last_number (codes "order") d
 
 -- the build: 1 to 10^15
 unfoldable pub build_at : Data → Result ℕ Refusal
-build_at d = number_up_to 1000000000000000 (codes "build") d
+build_at d = number_up_to last_number (codes "build") d
 
 -- the project, by the form of its name
 unfoldable pub project_at : Data → Result (List ℕ) Refusal

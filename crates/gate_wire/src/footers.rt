@@ -4,16 +4,15 @@ ghost use Rattle.std.specs.List.{list_all, list_any};
 ghost use Rattle.std.specs.Char.{is_ascii_digit};
 ghost use Rattle.std.specs.Str.Parse.{digits_value};
 ghost use Rattle.gate_types.specs.Needs.{without_end, without_blanks, after_footer, after_base, number_of, named_change, with_number, needs};
+ghost use Rattle.gate_types.specs.Limits.{most_needs};
 
 use gate_types::deliveries::Refusal;
 use gate_types::numbers::ChangeNo;
 use std::alloc::Global;
+use gate_types::limits::MOST_NEEDS;
 
 /// What a footer begins with, in whatever case.
 const FOOTER: &[u8; 11] = b"depends-on:";
-
-/// The most changes that one message may need.
-const MOST: usize = 32;
 
 /// Whether a byte is ignored at a line's end.
 fn is_trailing(byte: u8) -> bool
@@ -134,14 +133,14 @@ fn has(found: &Vec<ChangeNo>, change: ChangeNo) -> bool
 
 /// Adds a change, unless it is there.
 fn keep(found: &mut Vec<ChangeNo>, change: ChangeNo) -> Result<(), Refusal>
-    requires { length found.old.items ≤ 32 }
+    requires { length found.old.items ≤ most_needs }
     ensures ok { OnOk result (found.new.items ≡ with_number found.old.items change) }
-    ensures few { OnOk result (length found.new.items ≤ 32) }
-    ensures many { IsErrOf result Refusal.TooManyNeeds → 32 < length (with_number found.old.items change) }
+    ensures few { OnOk result (length found.new.items ≤ most_needs) }
+    ensures many { IsErrOf result Refusal.TooManyNeeds → most_needs < length (with_number found.old.items change) }
     ensures others { IfErr result (λ e. (e ≡ Refusal.TooManyNeeds) ⊎ (e ≡ Refusal.Unavailable)) }
 {
     if !has(found, change) {
-        if found.len() == MOST {
+        if found.len() == MOST_NEEDS {
             return Err(Refusal::TooManyNeeds);
         }
         if found.push(change).is_err() {
@@ -165,8 +164,8 @@ fn keep(found: &mut Vec<ChangeNo>, change: ChangeNo) -> Result<(), Refusal>
 /// memory was refused.
 pub fn needs(alloc: Global, base: &str, message: &str) -> Result<Vec<ChangeNo>, Refusal>
     ensures ok { IfOk result (λ found. found.items ≡ needs base.now message.now) }
-    ensures few { OnOk result (length (needs base.now message.now) ≤ 32) }
-    ensures many { IsErrOf result Refusal.TooManyNeeds → 32 < length (needs base.now message.now) }
+    ensures few { OnOk result (length (needs base.now message.now) ≤ most_needs) }
+    ensures many { IsErrOf result Refusal.TooManyNeeds → most_needs < length (needs base.now message.now) }
     ensures others { IfErr result (λ e. (e ≡ Refusal.TooManyNeeds) ⊎ (e ≡ Refusal.Unavailable)) }
 {
     let mut found = Vec::new(alloc);

@@ -19,6 +19,7 @@ use Rattle.gate_rows.specs.Tells.{Tells, placed}
 use Rattle.gate_book_trait.proofs.ReadLemmas.{rows_of_queue}
 use Rattle.gate_found_rows.specs.Whole.{is_build_row_in_form, is_change_row_in_form}
 use Rattle.gate_laws.proofs.Members.{In, all, every, found, from_map}
+use Rattle.gate_types.specs.Counters.{last_number}
 
 -- the row of a queue has its window
 window_of_row : (c : Settings) (s : State) (n : ℕ) (qs : List Queue) (r : QueueRow) →
@@ -61,7 +62,7 @@ build_form : (c : Settings) (x : Build) → is_build_in_form c x ≡ true → is
 build_form c x h =
     without_second (is_drawn_number x.number) (has_queue c.queues x.queue) (is_name x.queue) (is_name x.job)
     (is_drawn_number x.serial && is_change_number x.change && is_revision_number x.revision)
-    (nat_le x.after 1000000000000000) (nat_le (length x.ahead) 1000) (list_all is_entry_in_form x.ahead) h
+    (nat_le x.after last_number) (nat_le (length x.ahead) 1000) (list_all is_entry_in_form x.ahead) h
 
 module _ (c : Settings) (x : Content) (b : Stored) (lawful : IsLawfulContent c x) (told : Tells b (tables c x)) where
   -- the windows of the queues

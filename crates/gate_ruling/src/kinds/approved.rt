@@ -10,7 +10,6 @@ ghost use Rattle.gate_ruling.specs.Approving.{is_nowhere};
 
 use crate::changing::is_open;
 use crate::guards::latest;
-use crate::numbers::LAST_NUMBER;
 use gate_book_trait::{Book, BookFault};
 use gate_reads::{Moved, Raw, Said, Stand, stand_of};
 use gate_types::config::Config;
@@ -21,6 +20,7 @@ use gate_types::names::NoMemory;
 use gate_types::numbers::{ChangeNo, Revision};
 use gate_types::records::Change;
 use std::alloc::Global;
+use gate_types::numbers::LAST_NUMBER;
 
 fn is_nowhere(stand: &Stand) -> bool
     ensures { result ≡ is_nowhere stand.now }

@@ -7,7 +7,6 @@ ghost use Rattle.gate_book_trait.specs.Faults.{MayAnswer};
 ghost use Rattle.gate_book_trait.specs.Kept.{OfHeldUnder, IsKept};
 ghost use Rattle.gate_reads.specs.Raw.{IsRaw};
 
-use crate::numbers::LAST_NUMBER;
 use gate_book_trait::{Book, BookFault};
 use gate_reads::{Moved, Raw, Said, next_build};
 use gate_types::config::Config;
@@ -18,6 +17,7 @@ use gate_types::names::{NoMemory, PathName};
 use gate_types::numbers::BuildNo;
 use gate_types::records::Build;
 use std::alloc::Global;
+use gate_types::numbers::LAST_NUMBER;
 
 /// The number after those that were drawn; the last one again where all were.
 fn number_after(drawn: u64) -> Option<BuildNo>

@@ -5,7 +5,7 @@ use Rattle.std.specs.Ordering.{nat_cmp}
 use Rattle.std.specs.BTreeMap.{is_at}
 use Rattle.std.specs.Map.{lookup}
 use Rattle.std.proofs.lemmas.Bool.{cases_lt, false≢true}
-use Rattle.gate_types.specs.Counters.{Drawn}
+use Rattle.gate_types.specs.Counters.{Drawn, last_number}
 use Rattle.gate_types.specs.Admit.{entered}
 use Rattle.gate_admission.specs.Led.{IsLed}
 use Rattle.gate_admission.specs.Counted.{sets_past}
@@ -36,8 +36,8 @@ returns-then-is_past-clause-admitted g c = λ trusted x holds lawful v sound lea
     let so_far = subst (λ es. IsLed s x es v) (sym c.as_slice-3.ensures.value)
     (record { sound = sound; leads = leads }) in
     past_stays s v
-    (ap (λ (d : Drawn). nat_lt 1000000000000000 d.approval || nat_lt 1000000000000000 d.build || nat_lt
-    1000000000000000 d.order)
+    (ap (λ (d : Drawn). nat_lt last_number d.approval || nat_lt last_number d.build || nat_lt
+    last_number d.order)
     (sym (c.in_ok-drawn.ensures.found trusted s x next lawful v so_far))
     ∙ sym c.is_past.ensures ∙ c.if-is_past.true)
 
@@ -98,11 +98,11 @@ returns-in_default-new-clause-admitted g c = λ trusted x holds lawful v sound l
     h.under.led in
     let first = rw c.in-Some.is at (c.in_ok-entrant.ensures.found trusted x start lawful (tries s v h.entered) so_far
     h.candidates) in
-    let last : 1000000000000000 ≤ c.loop-order.order = ⊎_elim
-    (λ (l : c.loop-order.order < 1000000000000000). absurd
+    let last : last_number ≤ c.loop-order.order = ⊎_elim
+    (λ (l : c.loop-order.order < last_number). absurd
     (false≢true (c.in_default-new.ensures.range.1 (omega arith, omega arith))))
-    (λ (l : 1000000000000000 ≤ c.loop-order.order). l)
-    (cases_lt c.loop-order.order 1000000000000000) in
+    (λ (l : last_number ≤ c.loop-order.order). l)
+    (cases_lt c.loop-order.order last_number) in
     none_for_next s x c.loop-order.edits.items c.loop-order.order v c.in-Some.entrant c.loop-order.waiting h first.first
     last
 

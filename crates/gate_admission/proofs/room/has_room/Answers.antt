@@ -3,11 +3,12 @@ use Rattle.std.specs.Prelude.{nat_lt}
 use Rattle.gate_admission.proofs.LedItems.{room_led}
 use Rattle.gate_admission.proofs.Spans.{room_by_most}
 use Rattle.gate_admission.proofs.room.has_room.Goals as goal
+use Rattle.gate_types.specs.Limits.{most_items}
 
-pub returns-then-from-edits-lt1000-clause-found : goal.returns-then-from-edits-lt1000-clause-found
-returns-then-from-edits-lt1000-clause-found g c = λ trusted s x holds lawful v led there.
+pub returns-then-from-edits-lt-MOST_ITEMS-clause-found : goal.returns-then-from-edits-lt-MOST_ITEMS-clause-found
+returns-then-from-edits-lt-MOST_ITEMS-clause-found g c = λ trusted s x holds lawful v led there.
     sym (room_by_most s x c.args.edits.now v c.args.queue.now c.in_ok-most.most lawful led there
-    (c.in_ok-most.ensures.found trusted s x holds lawful) (omega (arith, c.if-from-edits-lt1000.true, c.from.ensures)))
+    (c.in_ok-most.ensures.found trusted s x holds lawful) (omega (arith, c.if-from-edits-lt-MOST_ITEMS.true, c.from.ensures)))
 
 pub returns-clause-found : goal.returns-clause-found
 returns-clause-found g c = λ trusted s x holds lawful v led there.
@@ -16,7 +17,7 @@ returns-clause-found g c = λ trusted s x holds lawful v led there.
     let at_zero = c.in_ok-most.ensures.kept.holds_on zero s x holds in
     let at_one = c.in_ok-items.ensures.kept.holds_on one s x at_zero in
     let moves = c.in_ok-moves.moves in
-    ap (λ n. nat_lt (n + moves.added) (1000 + moves.dropped)) c.from-2.ensures
+    ap (λ n. nat_lt (n + moves.added) (most_items + moves.dropped)) c.from-2.ensures
     ∙ room_led s x c.args.edits.now v c.args.queue.now c.in_ok-items.items moves.added moves.dropped led there
     (c.in_ok-items.ensures.found one s x at_zero lawful)
     (c.in_ok-moves.ensures.found trusted s x at_one lawful)

@@ -4,6 +4,7 @@ use Rattle.gate_book_trait.specs.Kept.{OfHeldUnder, IsKept}
 use Rattle.gate_book_trait.specs.Reads.{queue_named}
 use Rattle.gate_reads.proofs.Passing.{Passed}
 use Rattle.gate_reads.proofs.orders.order_of_queue.Given as goal
+use Rattle.gate_types.specs.Counters.{last_number}
 
 abbrev pub invariant-loop-item : goal.invariant-loop-item
 invariant-loop-item g l = record {
@@ -13,4 +14,4 @@ invariant-loop-item g l = record {
 }
 
 abbrev pub decreases-loop-item : goal.decreases-loop-item
-decreases-loop-item g l = 1000000000000000 - l.above
+decreases-loop-item g l = last_number - l.above

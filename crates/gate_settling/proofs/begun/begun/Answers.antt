@@ -17,13 +17,13 @@ returns-in_default-2-clause-begun g c trusted x holds lawful h =
     none-some h.queue.window
     (sym c.in_default-2.is ∙ c.in_ok-window.ensures.found trusted _ x holds lawful ∙ window_is h)
 
-pub returns-then-before-ge1000000000000000-clause-begun : goal.returns-then-before-ge1000000000000000-clause-begun
-returns-then-before-ge1000000000000000-clause-begun g c trusted x holds lawful h =
+pub returns-then-before-ge-LAST_NUMBER-clause-begun : goal.returns-then-before-ge-LAST_NUMBER-clause-begun
+returns-then-before-ge-LAST_NUMBER-clause-begun g c trusted x holds lawful h =
     let first = c.in_ok-before.ensures.kept.trusted_before trusted in
     let held = c.in_ok-window.ensures.kept.holds_on first _ x holds in
     let many = c.in_ok-before.ensures.found trusted _ x held lawful ∙ reports_are h in
     let few = few_reports h in
-    let no_fewer = c.if-before-ge1000000000000000.true in
+    let no_fewer = c.if-before-ge-LAST_NUMBER.true in
     absurd (omega (arith, many, few, no_fewer))
 
 pub returns-clause-begun : goal.returns-clause-begun

@@ -5,12 +5,13 @@ use Rattle.gate_archive.specs.ChangeText.{need_piece}
 use Rattle.gate_texts.specs.Changes.{change_front}
 use Rattle.gate_texts.proofs.ChangeTexts.{change_is, change_parts}
 use Rattle.gate_texts.proofs.change.text_in.Goals as goal
+use Rattle.gate_types.specs.Limits.{most_items}
 
 pub returns-clause-found : goal.returns-clause-found
 returns-clause-found g c trusted config x holds lawful =
     let k = c.args.change.now in
     let w = c.in_ok-standing.standing in
-    let full = nat_le 1000 c.in_ok-full.field-0 in
+    let full = nat_le most_items c.in_ok-full.field-0 in
     let two = c.in_ok-needs.ensures.kept.trusted_before trusted in
     let one = c.in_ok-full.ensures.kept.trusted_before two in
     let at_one = c.in_ok-standing.ensures.kept.holds_on one config x holds in
@@ -18,7 +19,7 @@ returns-clause-found g c trusted config x holds lawful =
     let front = c.in_ok-front.ensures ∙ ap (change_front k.number w full) c.as_str.ensures.value in
     change_is config x.state k c.args.queue.now w full (string_bytes c.in_ok-needs.needs) c.new.result
     (c.in_ok-standing.ensures.found one config x holds lawful)
-    (ap (nat_le 1000) (c.in_ok-full.ensures.found two config x at_one lawful))
+    (ap (nat_le most_items) (c.in_ok-full.ensures.found two config x at_one lawful))
     (c.in_ok-needs.ensures.found trusted config x at_two lawful
     ∙ ap (λ ns. joined (map (need_piece config x.state) ns) []) c.as_slice.ensures)
     (c.new.ensures ∙ c.in_ok-text.ensures.ok ∙ (λ i. front i ++ c.in_ok-back.ensures i)

@@ -6,6 +6,7 @@ use Rattle.gate_book_trait.specs.Reads.{queue_named}
 use Rattle.gate_texts.specs.Running.{Tells}
 use Rattle.gate_texts.proofs.RunningBuilds.{Along}
 use Rattle.gate_texts.proofs.running.push_queue.Given as goal
+use Rattle.gate_types.specs.Counters.{last_number}
 
 abbrev pub invariant-along : goal.invariant-along
 invariant-along g l = record {
@@ -16,4 +17,4 @@ invariant-along g l = record {
 }
 
 abbrev pub decreases-along : goal.decreases-along
-decreases-along g l = 1000000000000000 - l.above
+decreases-along g l = last_number - l.above

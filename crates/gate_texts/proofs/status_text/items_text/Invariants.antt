@@ -5,6 +5,7 @@ use Rattle.gate_book_trait.specs.Kept.{OfHeldUnder, IsKept}
 use Rattle.gate_book_trait.specs.Reads.{queue_named}
 use Rattle.gate_texts.proofs.Shown.{Shown}
 use Rattle.gate_texts.proofs.status_text.items_text.Given as goal
+use Rattle.gate_types.specs.Counters.{last_number}
 
 abbrev pub invariant-along : goal.invariant-along
 invariant-along g l = record {
@@ -15,4 +16,4 @@ invariant-along g l = record {
 }
 
 abbrev pub decreases-along : goal.decreases-along
-decreases-along g l = 1000000000000000 - l.above
+decreases-along g l = last_number - l.above

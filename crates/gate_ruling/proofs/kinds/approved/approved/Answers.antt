@@ -1,5 +1,5 @@
 use Rattle.std.proofs.Common.{◌≡◌, ◌∙◌, ◌<◌, ◌+◌, true, refl, sym, ap, subst, arith}
-use Rattle.gate_types.specs.Counters.{Drawn}
+use Rattle.gate_types.specs.Counters.{Drawn, last_number}
 use Rattle.gate_types.specs.declared.deliveries.Delivery.TheVariants as delivery
 use Rattle.gate_types.specs.State.{is_open}
 use Rattle.gate_types.specs.Settle.{settle}
@@ -30,7 +30,7 @@ returns-then-drawn-ge-LAST_NUMBER-clause-raw g c trusted x holds lawful =
     ∙ c.in_ok-drawn.ensures.found trusted s x at_two lawful) in
     let top = c.if-drawn-ge-LAST_NUMBER.true in
     let t = made_ready n x.state in
-    let over : 1000000000000000 < t.counters.approval = omega (arith, drawn, top) in (
+    let over : last_number < t.counters.approval = omega (arith, drawn, top) in (
       ap (settled_step s) (approved_raw s x.state n r k latest.1 opens away)
           ∙ approval_past s (approval_reply n (settle s t)) t over,
       refl,

@@ -1,6 +1,6 @@
 use Rattle.std.proofs.Common.{◌≡◌, ◌∙◌, ◌<◌, ◌+◌, Some, refl, sym, ap, subst, arith}
 use Rattle.std.specs.Prelude.{option_map, unwrap_or, min}
-use Rattle.gate_types.specs.Counters.{Drawn}
+use Rattle.gate_types.specs.Counters.{Drawn, last_number}
 use Rattle.gate_types.specs.declared.deliveries.Reply.TheVariants as reply
 use Rattle.gate_types.specs.Choice.{choose}
 use Rattle.gate_types.specs.Step.{with_build, settled_step}
@@ -21,7 +21,7 @@ returns-then-drawn-ge-LAST_NUMBER-clause-raw g c trusted x holds lawful =
     sym c.in-Some-2.is ∙ c.in_ok-build.ensures.found trusted x at_one lawful in
     let a = some_choice s x.state c.in-Some.number c.in-Some-2.build found in
     let number = a.2 in
-    let over : 1000000000000000 < a.0.number = omega (arith, drawn, top, number) in (
+    let over : last_number < a.0.number = omega (arith, drawn, top, number) in (
       ap (settled_step s) (taken_raw s x.state a.0 a.1)
           ∙ build_past s (reply.Build a.0) (with_build a.0 x.state) over,
       refl,
