@@ -35,6 +35,7 @@ use Rattle.gate_laws.proofs.StateShapes.{WholeQueue}
 use Rattle.gate_laws.proofs.StepIsInForm.{form_of, start_queue}
 use Rattle.gate_laws.proofs.Adopting.{Adopts, Resizes, each_queue, still_queue, flat_before, flat_after, queue_kept, queue_there, set_kept}
 use Rattle.gate_laws.proofs.AdoptedIsSound.{adopted_sound}
+use Rattle.gate_types.specs.Limits.{most_items, most_window}
 
 -- ---- at rest
 
@@ -66,7 +67,7 @@ still_out c d s a r m out = false_from_ne_true (may_enter d t r) (λ e.
     t = adopted c d s
 
     enters : Settings → State → Queue → Bool
-    enters e u q = same_name q.name (project_of e u r.change).queue && nat_lt (length q.items) 1000 && are_met_by q.items
+    enters e u q = same_name q.name (project_of e u r.change).queue && nat_lt (length q.items) most_items && are_met_by q.items
         (needs_of u r.change)
 
     is_open_now : is_open (change_of s r.change) ≡ true
@@ -78,14 +79,14 @@ still_out c d s a r m out = false_from_ne_true (may_enter d t r) (λ e.
     old : (q : Queue) → In q s.queues → (w : ℕ) → Resizes d w q → enters d t (with_window w q) ≡ true → ⊥
     old q mq w z e =
         true≢false (sym (any_to (enters c s) s.queues q mq
-        (ap (λ n. same_name q.name n && nat_lt (length q.items) 1000 && are_met_by q.items (needs_of s r.change))
+        (ap (λ n. same_name q.name n && nat_lt (length q.items) most_items && are_met_by q.items (needs_of s r.change))
         (sym same) ∙ e)) ∙ out)
 
     new : (y : QueueSetting) → In y d.queues → find (λ q. same_name q.name y.name) s.queues ≡ None →
         enters d t (empty_queue y) ≡ true → ⊥
     new y my none e =
-        let named = (and_parts (same_name y.name (project_of d s r.change).queue) (nat_lt 0 1000)
-        (and_parts (same_name y.name (project_of d s r.change).queue && nat_lt 0 1000)
+        let named = (and_parts (same_name y.name (project_of d s r.change).queue) (nat_lt 0 most_items)
+        (and_parts (same_name y.name (project_of d s r.change).queue && nat_lt 0 most_items)
         (are_met_by [] (needs_of s r.change)) e).0).0 in
         let q = queue_there c d s a r.change is_open_now in
         true≢false (sym (same_name_of q.0.name y.name (q.2 ∙ sym same
@@ -146,18 +147,18 @@ shaped_adopted c d s a h = record {
   );
 }
   where
-    small : (q : Queue) (w : ℕ) → q.window ≤ 1000 → Resizes d w q → w ≤ 1000
+    small : (q : Queue) (w : ℕ) → q.window ≤ most_window → Resizes d w q → w ≤ most_window
     small q w l z = elim z [
-      | inl e ↦ subst (λ n. n ≤ 1000) (sym e) l
+      | inl e ↦ subst (λ n. n ≤ most_window) (sym e) l
       | inr r ↦ (
           let sound = all_from is_sound_window d.queues (windows_of d a.after) r.0 r.1 in
-          let whole = and_parts (nat_le r.0.window 1000 && nat_le 1 r.0.floor && nat_le r.0.floor 1000 &&
+          let whole = and_parts (nat_le r.0.window most_window && nat_le 1 r.0.floor && nat_le r.0.floor most_window &&
           (r.0.window == 0 || nat_le r.0.floor r.0.window)) (is_sound_rule r.0.rule) sound in
-          let x = and_parts (nat_le r.0.window 1000 && nat_le 1 r.0.floor && nat_le r.0.floor 1000)
+          let x = and_parts (nat_le r.0.window most_window && nat_le 1 r.0.floor && nat_le r.0.floor most_window)
           (r.0.window == 0 || nat_le r.0.floor r.0.window) whole.0 in
-          let y = and_parts (nat_le r.0.window 1000 && nat_le 1 r.0.floor) (nat_le r.0.floor 1000) x.0 in
-          let z = and_parts (nat_le r.0.window 1000) (nat_le 1 r.0.floor) y.0 in
-          subst (λ n. n ≤ 1000) (sym r.2) (leb-true r.0.window 1000 z.0))
+          let y = and_parts (nat_le r.0.window most_window && nat_le 1 r.0.floor) (nat_le r.0.floor most_window) x.0 in
+          let z = and_parts (nat_le r.0.window most_window) (nat_le 1 r.0.floor) y.0 in
+          subst (λ n. n ≤ most_window) (sym r.2) (leb-true r.0.window most_window z.0))
     ]
 
 pub adopted_content_is_lawful : AdoptedContentIsLawful

@@ -18,6 +18,7 @@ use Rattle.gate_types.specs.State.{Item, Queue, State, plan_of}
 use Rattle.gate_types.specs.Forms.{is_up_to, is_change_number, is_revision_number, is_drawn_number, is_entry_in_form, is_change_in_form, is_ready_in_form, is_item_in_form, is_landing_in_form, is_plan_in_form, is_verdict_in_form, is_report_in_form, is_queue_in_form, is_build_in_form, IsInForm}
 use Rattle.gate_laws.proofs.Members.{In, every, all_from, all_to, found}
 use Rattle.gate_types.specs.Counters.{last_number}
+use Rattle.gate_types.specs.Limits.{most_items, most_window}
 
 -- ---- what is said of rows
 
@@ -42,8 +43,8 @@ ReportShape m r = Numbered r.serial r.change r.revision × TellsOf m r.verdict
 
 -- a queue whose reports tell of its first m landings
 pub record QueueShape (m : ℕ) (q : Queue) : Type 0 where
-  pub window : q.window ≤ 1000
-  pub room : length q.items ≤ 1000
+  pub window : q.window ≤ most_window
+  pub room : length q.items ≤ most_items
   pub items : (i : Item) → In i q.items → NumberedItem i
   pub landings : (l : Landing) → In l q.landings → NumberedLanding l
   pub reports : (r : Report) → In r q.reports → ReportShape m r
@@ -55,7 +56,7 @@ pub record Began (c : Settings) (number : ℕ) (queue job : List ℕ) (after : �
   pub queue_name : is_name queue ≡ true
   pub job_name : is_name job ≡ true
   pub base : after ≤ last_number
-  pub few : length ahead ≤ 1000
+  pub few : length ahead ≤ most_items
   pub entries : list_all is_entry_in_form ahead ≡ true
 
 abbrev pub BuildShape : Settings → Build → Type 0
@@ -133,8 +134,8 @@ queue_from q h =
     let b = and_parts _ _ c.0 in
     let a = and_parts _ _ b.0 in
     record {
-      window = leb-true q.window 1000 a.1;
-      room = leb-true (length q.items) 1000 b.1;
+      window = leb-true q.window most_window a.1;
+      room = leb-true (length q.items) most_items b.1;
       items = λ i m. numbered_from i.serial i.change i.revision (all_from is_item_in_form q.items c.1 i m);
       landings = λ l m. numbered_from l.serial l.change l.revision (all_from is_landing_in_form q.landings d.1 l m);
       reports = λ r m. report_from (length q.landings) r
@@ -156,7 +157,7 @@ build_from c b h =
         queue_name = p2.1;
         job_name = p3.1;
         base = leb-true b.after last_number p5.1;
-        few = leb-true (length b.ahead) 1000 p6.1;
+        few = leb-true (length b.ahead) most_items p6.1;
         entries = p7.1;
       },
       numbered_from b.serial b.change b.revision p4.1,
@@ -219,7 +220,7 @@ build_to c b n t h =
     and_from _ _ (and_from _ _ (and_from _ _ (and_from _ _ (and_from _ _ (and_from _ _ (and_from _ _
     (up_to last_number b.number h.0.counted n) h.0.in_queue) h.0.queue_name) h.0.job_name)
     (numbered_to b.serial b.change b.revision t h.1)) (le-leb b.after last_number h.0.base))
-    (le-leb (length b.ahead) 1000 h.0.few)) h.0.entries
+    (le-leb (length b.ahead) most_items h.0.few)) h.0.entries
 
 -- a queue, by the tops of its serials
 pub queue_to : (q : Queue) → is_name q.name ≡ true → ((i : Item) → In i q.items → i.serial ≤ last_number) →
@@ -228,8 +229,8 @@ pub queue_to : (q : Queue) → is_name q.name ≡ true → ((i : Item) → In i 
     is_queue_in_form q ≡ true
 queue_to q name ti tl tr h =
     and_from _ _ (and_from _ _
-    (and_from _ _ (and_from _ _ (and_from _ _ name (le-leb q.window 1000 h.window))
-    (le-leb (length q.items) 1000 h.room))
+    (and_from _ _ (and_from _ _ (and_from _ _ name (le-leb q.window most_window h.window))
+    (le-leb (length q.items) most_items h.room))
     (all_to is_item_in_form q.items (λ i m. item_to i (ti i m) (h.items i m))))
     (all_to is_landing_in_form q.landings (λ l m. landing_to l (tl l m) (h.landings l m))))
     (all_to (is_report_in_form (length q.landings)) q.reports

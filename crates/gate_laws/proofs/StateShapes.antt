@@ -36,6 +36,7 @@ use Rattle.gate_laws.proofs.AdmitIsSound.{one_sound, project_in_settings}
 use Rattle.gate_laws.proofs.Plans.{serial_of}
 use Rattle.gate_laws.proofs.Shapes.{NumberedItem, TellsOf, PlanShape, ReadyShape, QueueShape, BuildShape, Shaped}
 use Rattle.gate_laws.proofs.RowShapes.{builds_shaped, shrunk_small, floor_small, window_shape, left_shape, entered_shape, swept_shape}
+use Rattle.gate_types.specs.Limits.{most_items}
 
 -- the whole shape of a queue
 abbrev pub WholeQueue : Queue → Type 0
@@ -83,15 +84,15 @@ record Room (c : Settings) (s : State) (r : Ready) : Type 0 where
   queue : Queue
   there : In queue s.queues
   named : same_name queue.name (project_of c s r.change).queue ≡ true
-  room : length queue.items < 1000
+  room : length queue.items < most_items
 
 room_of : (c : Settings) (s : State) (r : Ready) → may_enter c s r ≡ true → Room c s r
 room_of c s r h =
-    let x = any_from (λ q. same_name q.name (project_of c s r.change).queue && nat_lt (length q.items) 1000 &&
+    let x = any_from (λ q. same_name q.name (project_of c s r.change).queue && nat_lt (length q.items) most_items &&
     are_met_by q.items (needs_of s r.change)) s.queues h in
     let last = and_parts _ _ x.2 in
     let first = and_parts _ _ last.0 in
-    record { queue = x.0; there = x.1; named = first.0; room = ltb-true (length x.0.items) 1000 first.1 }
+    record { queue = x.0; there = x.1; named = first.0; room = ltb-true (length x.0.items) most_items first.1 }
 
 entered_shaped : (c : Settings) (s : State) (r : Ready) → are_sound c ≡ true → are_settings_in_form c ≡ true →
     IsSound c s → Shaped c s → In r s.ready →
@@ -143,7 +144,7 @@ entered_shaped c s r w f k h mr e = record {
         name_alone c s w k q here.queue m here.there
         (same_name_of q.name here.queue.name (same_name_is q.name name g
         ∙ sym (same_name_is here.queue.name name here.named))) in
-        entered_shape (length q.landings) i q (subst (λ (x : Queue). length x.items < 1000) (sym same) here.room)
+        entered_shape (length q.landings) i q (subst (λ (x : Queue). length x.items < most_items) (sym same) here.room)
         numbered (h.queues q m)
 
 one_shaped : (c : Settings) (s : State) → are_sound c ≡ true → are_settings_in_form c ≡ true → IsSound c s →

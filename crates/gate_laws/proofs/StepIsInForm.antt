@@ -38,6 +38,7 @@ use Rattle.gate_laws.proofs.Plans.{plan_drawn}
 use Rattle.gate_laws.proofs.FewRows.{tops}
 use Rattle.gate_laws.proofs.ChosenShape.{queue_set, take_shaped}
 use Rattle.gate_laws.proofs.LandedShape.{after_shaped}
+use Rattle.gate_types.specs.Limits.{most_window}
 
 -- ---- shape and lawfulness are form
 
@@ -158,7 +159,7 @@ start_queue c w q m =
     let p2 = and_parts _ _ p3.0 in
     let p1 = and_parts _ _ p2.0 in
     record {
-      window = leb-true q.window 1000 p1.0;
+      window = leb-true q.window most_window p1.0;
       room = omega arith;
       items = λ i n. absurd n;
       landings = λ l n. absurd n;

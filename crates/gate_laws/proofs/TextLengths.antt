@@ -26,6 +26,7 @@ use Rattle.gate_laws.specs.InForm.{AheadIsShort}
 use Rattle.gate_laws.proofs.Shapes.{build_from}
 use Rattle.gate_laws.proofs.TextForms.{change_fits, revision_fits, drawn_fits}
 use Rattle.gate_types.specs.Counters.{last_number}
+use Rattle.gate_types.specs.Limits.{most_items}
 
 -- a piece adds at most so many bytes
 abbrev Adds : ℕ → Piece → Type 0
@@ -131,7 +132,7 @@ entries_add (e ∷ f ∷ es) h rest =
     let all = entries_add (f ∷ es) both.1 rest in
     omega (arith, few, all)
 
-ahead_adds : (es : List Entry) → list_all is_entry_in_form es ≡ true → length es ≤ 1000 →
+ahead_adds : (es : List Entry) → list_all is_entry_in_form es ≡ true → length es ≤ most_items →
     Adds 37002 (array (map entry es))
 ahead_adds es h top rest = let few = entries_add es h (93 ∷ rest) in omega (arith, few, top)
 

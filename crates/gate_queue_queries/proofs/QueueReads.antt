@@ -34,6 +34,7 @@ use Rattle.gate_queue_queries.proofs.QueueTexts.{before_asks, before_query, befo
 use Rattle.gate_found_rows.proofs.ReadLemmas.{answers}
 use Rattle.gate_found_rows.proofs.ShownLemmas.{pass_filter}
 use Rattle.gate_found_rows.proofs.KeyedReads.{truth_of}
+use Rattle.gate_types.specs.Limits.{most_window}
 
 -- ---- the window
 
@@ -49,11 +50,11 @@ window_found s b name rows shows finds =
     (answers s window_sql window_query (codes "win" ∷ []) params rows window_asks shows.schema_is finds) ∙ sym (map-map number_shown (λ (q : QueueRow). q.window) _)
 
 -- each is at most 1,000
-pub windows_in_form : (name : List ℕ) (qs : List QueueRow) → AllPass (λ (q : QueueRow). nat_le q.window 1000) qs
-    → AllPass (λ n. nat_le n 1000) (map (λ (q : QueueRow). q.window) (filter (λ (q : QueueRow). same_name q.name name) qs))
+pub windows_in_form : (name : List ℕ) (qs : List QueueRow) → AllPass (λ (q : QueueRow). nat_le q.window most_window) qs
+    → AllPass (λ n. nat_le n most_window) (map (λ (q : QueueRow). q.window) (filter (λ (q : QueueRow). same_name q.name name) qs))
 windows_in_form name qs all =
-    All-from_recursion (λ n. nat_le n 1000 ≡ true) _ (all_map (λ n. nat_le n 1000 ≡ true) (λ (q : QueueRow). q.window) _
-    (recursion_from_All (λ (q : QueueRow). nat_le q.window 1000 ≡ true) _ (pass_filter (λ (q : QueueRow). nat_le q.window 1000) (λ (q : QueueRow). same_name q.name name) qs all)))
+    All-from_recursion (λ n. nat_le n most_window ≡ true) _ (all_map (λ n. nat_le n most_window ≡ true) (λ (q : QueueRow). q.window) _
+    (recursion_from_All (λ (q : QueueRow). nat_le q.window most_window ≡ true) _ (pass_filter (λ (q : QueueRow). nat_le q.window most_window) (λ (q : QueueRow). same_name q.name name) qs all)))
 
 -- ---- the items
 

@@ -20,6 +20,7 @@ use Rattle.gate_book_trait.proofs.ReadLemmas.{rows_of_queue}
 use Rattle.gate_found_rows.specs.Whole.{is_build_row_in_form, is_change_row_in_form}
 use Rattle.gate_laws.proofs.Members.{In, all, every, found, from_map}
 use Rattle.gate_types.specs.Counters.{last_number}
+use Rattle.gate_types.specs.Limits.{most_items, most_window}
 
 -- the row of a queue has its window
 window_of_row : (c : Settings) (s : State) (n : ℕ) (qs : List Queue) (r : QueueRow) →
@@ -31,7 +32,7 @@ window_of_row c s n (q ∷ qs) r m = elim m [
 ]
 
 -- the window of a queue in form
-window_form : (q : Queue) → is_queue_in_form q ≡ true → nat_le q.window 1000 ≡ true
+window_form : (q : Queue) → is_queue_in_form q ≡ true → nat_le q.window most_window ≡ true
 window_form q h =
     let landings = and_parts _ _ (and_parts _ _ h).0 in
     let few = and_parts _ _ (and_parts _ _ landings.0).0 in
@@ -62,16 +63,16 @@ build_form : (c : Settings) (x : Build) → is_build_in_form c x ≡ true → is
 build_form c x h =
     without_second (is_drawn_number x.number) (has_queue c.queues x.queue) (is_name x.queue) (is_name x.job)
     (is_drawn_number x.serial && is_change_number x.change && is_revision_number x.revision)
-    (nat_le x.after last_number) (nat_le (length x.ahead) 1000) (list_all is_entry_in_form x.ahead) h
+    (nat_le x.after last_number) (nat_le (length x.ahead) most_items) (list_all is_entry_in_form x.ahead) h
 
 module _ (c : Settings) (x : Content) (b : Stored) (lawful : IsLawfulContent c x) (told : Tells b (tables c x)) where
   -- the windows of the queues
-  pub windows_in_form : AllPass (λ (q : QueueRow). nat_le q.window 1000) b.queues
+  pub windows_in_form : AllPass (λ (q : QueueRow). nat_le q.window most_window) b.queues
   windows_in_form =
-      subst (λ l. AllPass (λ (q : QueueRow). nat_le q.window 1000) l) (sym told.queues_are.places)
-      (all (λ (r : QueueRow). nat_le r.window 1000 ≡ true) (placed 0 (tables c x).queues) (λ r m.
+      subst (λ l. AllPass (λ (q : QueueRow). nat_le q.window most_window) l) (sym told.queues_are.places)
+      (all (λ (r : QueueRow). nat_le r.window most_window ≡ true) (placed 0 (tables c x).queues) (λ r m.
       let at = window_of_row c x.state 0 x.state.queues r m in
-      subst (λ n. nat_le n 1000 ≡ true) at.2 (window_form at.0 (every (λ (q : Queue). is_queue_in_form q ≡ true)
+      subst (λ n. nat_le n most_window ≡ true) at.2 (window_form at.0 (every (λ (q : Queue). is_queue_in_form q ≡ true)
       x.state.queues lawful.in_form.state.queues at.0 at.1))))
 
   -- the changes, with their approvals
