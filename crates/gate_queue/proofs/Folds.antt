@@ -7,16 +7,18 @@ use Rattle.gate_types.specs.declared.records.Item.{Item as ItemRow}
 use Rattle.gate_types.specs.declared.records.Build.{Build}
 use Rattle.gate_types.specs.declared.records.Report.{Report}
 use Rattle.gate_types.specs.declared.records.Verdict.{Verdict}
+use Rattle.gate_types.specs.declared.records.Verdict.TheVariants as verdict
 use Rattle.gate_types.specs.declared.edits.Edit.{Edit}
 use Rattle.gate_types.specs.declared.edits.Edit.TheVariants as edit
 use Rattle.gate_types.specs.State.{Item, put_by}
 use Rattle.gate_types.specs.Line.{Place}
 use Rattle.gate_types.specs.Slot.{is_cut}
 use Rattle.gate_types.specs.Standing.{places_after, with_ahead, next_ahead}
-use Rattle.gate_types.specs.Sweep.{Judged, judge, judged_after, verdict_of, next_staying, report_of}
+use Rattle.gate_types.specs.Sweep.{Judged, judge, judged_after, verdict_of, next_staying, next_window, report_of}
+use Rattle.gate_types.specs.Window.{Bounds}
 use Rattle.gate_types.specs.declared.rows.ReportRow.{ReportRow}
 use Rattle.gate_types.specs.Rows.{Rows, row_of, numbered, edited, edited_items, edited_builds, edited_reports, edited_window, fold_edits}
-use Rattle.gate_queue.specs.Edits.{stops, stop_edits, item_edits, edits_at, edits_after, next_reports}
+use Rattle.gate_queue.specs.Edits.{stops, stop_edits, item_edits, edits_at, edits_after, next_reports, window_behind}
 use Rattle.gate_queue.proofs.Ordered.{RiseFrom, AllBelow, GoWith, Tells, row_serial}
 use Rattle.gate_laws.proofs.Stays.{stayers}
 use Rattle.gate_laws.proofs.Touches.{name_itself}
@@ -72,6 +74,16 @@ window_fold name w bs n staying (p ∷ ps) =
     at_step (edited_window name) (λ y k. refl) name bs n staying p w rest
     ∙ ap (λ z. fold (edited_window name) z rest) (window_own name w n (row_of bs p) v)
     ∙ window_fold name w bs (next_reports n v) (next_staying staying (judge bs staying p)) ps
+
+pub window_same : (bounds : Bounds) (w : ℕ) (i : Item) (v : Option Verdict) → window_behind bounds w v ≡ next_window bounds w (record { item = i; verdict = v })
+window_same bounds w i None = refl
+window_same bounds w i (Some verdict.Failed) = refl
+window_same bounds w i (Some verdict.Needs) = refl
+window_same bounds w i (Some verdict.Refused) = refl
+window_same bounds w i (Some verdict.Superseded) = refl
+window_same bounds w i (Some verdict.Withdrawn) = refl
+window_same bounds w i (Some verdict.Closed) = refl
+window_same bounds w i (Some (verdict.Landed n)) = refl
 
 -- ---- the reports
 

@@ -12,7 +12,6 @@ use Rattle.gate_types.specs.Standing.{is_failing, places, all_places, places_aft
 use Rattle.gate_types.specs.Rebase.{rebase, stays_live}
 use Rattle.gate_types.specs.Sweep.{judged, judged_after, judge, next_staying, goes}
 use Rattle.gate_queue.specs.Laws.{RebaseKeepsMarks, SlotsTellFailing, WhatGoesStandsInNoLine}
-use Rattle.gate_queue.specs.Examples.{TwoItemsAreSettled}
 use Rattle.gate_queue.proofs.Ordered.{RiseFrom, Tells, rises, ahead_rise}
 use Rattle.gate_laws.proofs.Members.{all}
 use Rattle.gate_laws.proofs.Stays.{Among, among_next, goes_failing}
@@ -21,9 +20,6 @@ use Rattle.gate_laws.proofs.AfterRebase.{all_places_rebased}
 use Rattle.gate_laws.proofs.LiveBuildsCount.{place_serial}
 use Rattle.gate_queue.proofs.Keeps.{passes_at, all_alike, slot_kept, rebase_passes}
 use Rattle.gate_queue.proofs.Settled.{goes_tells}
-
-pub two_items_are_settled : TwoItemsAreSettled
-two_items_are_settled = record { first_fails = refl; first_goes = refl; both_go = refl; nobody_fails = refl }
 
 -- ---- a rebase
 

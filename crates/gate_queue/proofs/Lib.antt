@@ -1,14 +1,8 @@
-pub mod FollowLemmas
-pub mod SharedLemmas
-pub mod PlaceLemmas
 pub mod Ordered
 pub mod Folds
 pub mod Keeps
 pub mod Builds
-pub mod OwnEdits
 pub mod Settled
-pub mod Choosing
 pub mod LawLemmas
-pub mod ChoiceLaw
 pub mod OneByOne
-pub mod WholeState
+pub mod WholeQueue

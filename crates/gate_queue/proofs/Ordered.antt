@@ -1,5 +1,5 @@
 -- Rows, builds and places in order, and rows that go with places.
-use Rattle.std.proofs.Common.{◌≡◌, ℕ, ◌-◌, get_or, ⊎_elim, suc, ◌+◌, ◌<◌, ◌≤◌, Bool, List, [], ◌∷◌, map, length, arith, refl, sym, ap, ◌∙◌, subst}
+use Rattle.std.proofs.Common.{◌≡◌, ℕ, ◌-◌, get_or, ⊎_elim, suc, ◌+◌, ◌<◌, ◌≤◌, Bool, List, [], ◌∷◌, map, length, arith, sym, ap, ◌∙◌, subst}
 use Rattle.std.specs.Prelude.{All, AllPairs}
 use Rattle.std.proofs.lemmas.List.Kept.{AllPairs-from_increasing}
 use Rattle.std.specs.List.Sorted.{IsStrictlyIncreasing}
@@ -11,9 +11,6 @@ use Rattle.gate_types.specs.State.{Item}
 use Rattle.gate_types.specs.Line.{Place}
 use Rattle.gate_types.specs.Standing.{places_after, with_ahead, next_ahead}
 use Rattle.gate_types.specs.Sweep.{Judged}
-use Rattle.gate_queue.specs.declared.facts.ItemFacts.{ItemFacts}
-use Rattle.gate_types.specs.declared.records.Landing.{Landing}
-use Rattle.gate_queue.specs.Facts.{places_by}
 use Rattle.std.specs.List.{AllByRecursion as Each}
 use Rattle.gate_laws.proofs.Stays.{Tells as TellsOf}
 use Rattle.gate_laws.proofs.LiveBuildsCount.{place_serial}
@@ -61,12 +58,6 @@ by_key key n (x ∷ xs) h = (h.0, by_key key (suc (key x)) xs h.1)
 
 pub rises : {X : Type 0} (key : X → ℕ) (xs : List X) → IsStrictlyIncreasing (map key xs) → RiseFrom key 0 xs
 rises key xs h = by_key key 0 xs (numbers_rise 0 (map key xs) (AllPairs-from_increasing (map key xs) h) (λ k d b. omega arith))
-
--- rows with as many facts go with their places
-pub go_with : (ls : List Landing) (is : List ItemRow) (fs : List ItemFacts) → length fs ≡ length is → GoWith is (places_by ls is fs)
-go_with ls [] fs e = tt
-go_with ls (i ∷ is) [] e = absurd (omega arith)
-go_with ls (i ∷ is) (f ∷ fs) e = (refl, go_with ls is fs (omega arith))
 
 -- the places rise with the rows
 pub places_rise : (n : ℕ) (is : List ItemRow) (ps : List Place) → GoWith is ps → RiseFrom row_serial n is → RiseFrom place_serial n ps

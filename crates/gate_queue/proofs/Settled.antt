@@ -17,7 +17,7 @@ use Rattle.gate_types.specs.Rebase.{stays_live}
 use Rattle.gate_types.specs.Sweep.{Judged, judge, judged_after, next_staying, next_window, verdict_of, goes, without_runs}
 use Rattle.gate_types.specs.Rows.{numbered, row_of, fold_edits, edited_items, edited_builds, edited_reports, edited_window}
 use Rattle.gate_queue.specs.Edits.{edits_after, window_edits, edits_of_queue}
-use Rattle.gate_queue.specs.Settles.{rebased, verdicts, swept_rows, settled_rows}
+use Rattle.gate_queue.specs.Settled.{rebased, verdicts, swept_rows, settled_rows}
 use Rattle.gate_queue.proofs.Ordered.{RiseFrom, GoWith, Tells, row_serial, build_number, places_rise, ahead_rise, ahead_with}
 use Rattle.gate_queue.proofs.Folds.{fold_parts, edits_along, along, window_fold, reports_fold, items_fold, reports_of}
 use Rattle.gate_queue.proofs.Builds.{builds_fold}

@@ -1,12 +1,5 @@
-pub mod Facts
 pub mod Outcomes
-pub mod Settles
-pub mod Chooses
-pub mod Laws
-pub mod Whole
-pub mod Examples
 pub mod Edits
-pub mod Follows
-pub mod Waiting
-pub mod Shared
-pub mod Visits
+pub mod Settled
+pub mod Laws
+pub mod WholeQueue

@@ -1,37 +1,25 @@
-//! The rules of one queue of a speculative merge gate, over plain lists: which builds count, which
-//! items fail and which of them go, how many may be tested at once, and which build is due. Nothing
-//! is stored here, and nothing is kept between two calls.
+//! The rules of one queue of a speculative merge gate: what a job has come to (`slot_among`), how many items may be
+//! tested at once (`grow`, `shrink`), why an item goes (`verdict_of`), and the edits of an item (`push_item`) and of the
+//! window (`push_window`). Nothing is stored here, and nothing is kept between two calls.
 //!
-//! `settle` and `choose` want a whole queue at hand. The program calls neither: it goes row by row, as
-//! `gate_walk` and `gate_reads` do, and takes from here what a job has come to (`slot_among`), the
-//! window (`grow`, `shrink`, `window_behind`), the verdict (`verdict_of`), and the reports and edits of
-//! an item (`reports_behind`, `push_item`, `push_window`).
+//! The program goes through a queue row by row, as `gate_walk` and `gate_reads` do, and applies these rules to each row.
+//! `whole_queue` applies them to a queue whose items and builds are all in memory. The program doesn't call it.
 //!
 //! ```text
-//! let edits = settle(alloc, &items, &builds, &facts)?;
-//! let due = choose(&items, &builds, window, &jobs);
 //! let slot = slot_among(alloc, &builds, &job)?;
+//! let verdict = verdict_of(met, failed);
+//! let window = shrink(window, floor, rule);
 //! ```
 #![tactic(auto)]
 
-mod choice;
-mod context;
 mod edits;
-mod facts;
-mod judge;
 pub mod laws;
-mod line;
 mod outcomes;
-mod settling;
-mod shared;
-mod slots;
+mod verdict;
+pub mod whole_queue;
 mod window;
 
-pub use choice::choose;
-pub use edits::{push_item, push_window};
-pub use facts::{Facts, ItemFacts, ItemJobs, Jobs};
-pub use judge::verdict_of;
+pub use edits::{push_item, push_window, reports_behind};
 pub use outcomes::{is_failed, is_finished, slot_among, slot_where};
-pub use settling::{reports_behind, settle, window_behind};
-pub use slots::Marks;
-pub use window::{grow, shrink};
+pub use verdict::{Marks, verdict_of};
+pub use window::{grow, shrink, window_behind};

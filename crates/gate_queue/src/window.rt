@@ -1,8 +1,10 @@
 //! How many items of a queue may be tested at once.
 ghost use Rattle.std.specs.Prelude.{◌≡◌, ◌/◌};
 ghost use Rattle.gate_types.specs.Window as rules;
+ghost use Rattle.gate_queue.specs.Edits as edits_of;
 
 use gate_types::config::{Pace, WindowRule};
+use gate_types::records::Verdict;
 
 /// The window after a landing: more by the queue's rule, up to 1,000. A window of 0 sets no bound and
 /// stays 0.
@@ -29,6 +31,16 @@ pub fn shrink(window: u32, floor: u32, rule: WindowRule) -> u32
     match rule.decrease {
         Pace::Linear => window.saturating_sub(rule.decrease_by).max(floor),
         Pace::Exponential => divided(window, rule.decrease_by).max(floor),
+    }
+}
+
+/// The window behind an item with a verdict: each failure shrinks it.
+pub fn window_behind(window: u32, floor: u32, rule: WindowRule, verdict: Option<Verdict>) -> u32
+    ensures { result ≡ edits_of.window_behind (record { floor = floor; rule = rule }) window verdict }
+{
+    match verdict {
+        Some(Verdict::Failed) => shrink(window, floor, rule),
+        _ => window,
     }
 }
 

@@ -25,7 +25,7 @@ use Rattle.gate_laws.specs.Touch.{has_serial, queue_of_change, queue_of_serial, 
 use Rattle.gate_walk.specs.Rescan.{live_builds_are_wanted, IsCalm, HasLeft, TakenOut, rows_with, Walks, start, stored, ahead_at, fails_at, without_row, rows_from, row_seen}
 use Rattle.gate_walk.specs.Kinds.{IsIn}
 use Rattle.gate_walk.specs.Delivery.{build_ended, item_left, item_landed, moved, is_on, touch_of, out_by, standing_rows, WalksFrom, TouchedQueueIsWalked, AWalkIsEnough}
-use Rattle.gate_queue.specs.Whole.{swept_of}
+use Rattle.gate_queue.specs.Settled.{swept_of}
 use Rattle.gate_laws.proofs.Members.{In, every, all, to_map, to_right, found, not_found, any_to, all_to, in_contains}
 use Rattle.gate_laws.proofs.Parts.{ItemsRise}
 use Rattle.gate_laws.proofs.Alone.{serial_alone, names_differ}

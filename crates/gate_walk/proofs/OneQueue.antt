@@ -10,7 +10,7 @@ use Rattle.gate_types.specs.State.{Item, has_change}
 use Rattle.gate_types.specs.Line.{Place}
 use Rattle.gate_types.specs.Standing.{is_failing, with_ahead, next_ahead, places_after}
 use Rattle.gate_types.specs.Rows.{Rows, row_of, numbered, fold_edits}
-use Rattle.gate_queue.specs.Settles.{settled_rows}
+use Rattle.gate_queue.specs.Settled.{settled_rows}
 use Rattle.gate_walk.specs.Walk.{Seen, Carry, asks_for, carried, visit_edits, walk_from}
 use Rattle.gate_walk.specs.Rescan.{settled_to}
 use Rattle.gate_queue.proofs.Ordered.{RiseFrom, GoWith, row_serial, build_number, ahead_rise, ahead_with}

@@ -17,8 +17,7 @@ use Rattle.gate_types.specs.Sweep.{Judged, verdict_of, judge, judged, judged_aft
 use Rattle.gate_types.specs.Rows.{rows_of}
 use Rattle.gate_types.proofs.NameLemmas.{same_name_is}
 use Rattle.gate_laws.specs.Touch.{queues_named, rebase_one, settle_one}
-use Rattle.gate_queue.specs.Settles.{rebased, verdicts, settled_rows}
-use Rattle.gate_queue.specs.Whole.{rows_in, swept_of}
+use Rattle.gate_queue.specs.Settled.{rebased, verdicts, settled_rows, rows_in, swept_of}
 use Rattle.gate_laws.proofs.Members.{In, to_map, none_from, filter_none}
 use Rattle.gate_laws.proofs.Alone.{same_name_of}
 use Rattle.gate_laws.proofs.AfterRebase.{judged_rebased}

@@ -1,7 +1,7 @@
 //! What a whole queue is asked: its settling and its next build. What the items' columns say plays no part in either.
 use crate::queues::board::{Board, is_blocked};
 use crate::queues::rising::{builds_rise, items_rise};
-use gate_queue::{Facts, ItemFacts, ItemJobs, Jobs, choose, settle};
+use gate_queue::whole_queue::{Facts, ItemFacts, ItemJobs, Jobs, choose, settle};
 use gate_types::edits::Edit;
 use gate_types::numbers::Serial;
 use gate_types::records::Item;

@@ -1,7 +1,0 @@
-use Rattle.std.proofs.Common.{◌≡◌, ◌++◌, take}
-use Rattle.gate_queue.specs.Facts.{place_of}
-use Rattle.gate_queue.specs.Edits.{stop_edits}
-use Rattle.gate_queue.proofs.edits.push_stops.Given as goal
-
-abbrev pub invariant-loop-build : goal.invariant-loop-build
-invariant-loop-build l = l.edits ≡ l.fn.edits ++ stop_edits (take l.build-index l.builds) (place_of l.context) l.over

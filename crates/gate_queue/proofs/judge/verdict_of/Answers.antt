@@ -1,5 +1,0 @@
-use Rattle.std.proofs.Common.{rules}
-use Rattle.gate_queue.proofs.judge.verdict_of.Goals as goal
-
-pub returns-then-not-met : goal.returns-then-not-met
-returns-then-not-met c = search rules

@@ -1,5 +1,0 @@
-use Rattle.gate_queue.proofs.WholeState as law
-use Rattle.gate_queue.proofs.laws.each_queue_is_settled_by_itself.Goals as goal
-
-pub returns : goal.returns
-returns c = law.each_queue_is_settled_by_itself

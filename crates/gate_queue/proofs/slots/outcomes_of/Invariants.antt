@@ -1,7 +1,0 @@
-use Rattle.std.proofs.Common.{◌≡◌, take}
-use Rattle.gate_types.specs.Slot.{outcomes_of}
-use Rattle.gate_queue.specs.Facts.{place_of}
-use Rattle.gate_queue.proofs.slots.outcomes_of.Given as goal
-
-abbrev pub invariant-loop-build : goal.invariant-loop-build
-invariant-loop-build l = l.found.items ≡ outcomes_of (take l.build-index l.builds) (place_of l.context) l.job
