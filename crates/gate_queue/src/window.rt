@@ -4,6 +4,7 @@ ghost use Rattle.gate_types.specs.Window as rules;
 ghost use Rattle.gate_queue.specs.Edits as edits_of;
 
 use gate_types::config::{Pace, WindowRule};
+use gate_types::limits::MOST_WINDOW;
 use gate_types::records::Verdict;
 
 /// The window after a landing: more by the queue's rule, up to 1,000. A window of 0 sets no bound and
@@ -15,8 +16,8 @@ pub fn grow(window: u32, rule: WindowRule) -> u32
         return 0;
     }
     match rule.increase {
-        Pace::Linear => window.saturating_add(rule.increase_by).min(1000),
-        Pace::Exponential => window.saturating_mul(rule.increase_by).min(1000),
+        Pace::Linear => window.saturating_add(rule.increase_by).min(MOST_WINDOW as u32),
+        Pace::Exponential => window.saturating_mul(rule.increase_by).min(MOST_WINDOW as u32),
     }
 }
 
