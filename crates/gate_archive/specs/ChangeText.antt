@@ -2,21 +2,14 @@
 use Rattle.std.specs.Prelude.{ℕ, Bool, nat_le, List, [], ◌∷◌, map, Option, option_map, codes}
 use Rattle.std.specs.Option.{option_map_or}
 use Rattle.gate_types.specs.declared.records.Change.{Change}
-use Rattle.gate_types.specs.declared.records.Stage.{Stage}
-use Rattle.gate_types.specs.declared.records.Stage.TheVariants as stage
 use Rattle.gate_types.specs.Settings.{Settings}
 use Rattle.gate_types.specs.State.{State, known_change, project_of}
 use Rattle.gate_types.specs.JsonText.{Piece, number, plain, boolean, array, member, object}
 use Rattle.gate_types.specs.Tables.{approval_of}
+use Rattle.gate_types.specs.Words.{stage_word}
 use Rattle.gate_book_trait.specs.Reads.{queued_of, item_count}
 use Rattle.gate_archive.specs.OrNull.{or_null}
 use Rattle.gate_types.specs.Limits.{most_items}
-
--- the word of a stage
-abbrev pub stage_word : Stage → List ℕ
-stage_word stage.Open = codes "open"
-stage_word stage.Landed = codes "landed"
-stage_word stage.Closed = codes "closed"
 
 -- the queue in which a change is an item
 abbrev pub stands_in : Settings → State → ℕ → Option (List ℕ)

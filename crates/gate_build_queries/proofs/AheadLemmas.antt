@@ -13,7 +13,7 @@ use Rattle.gate_types.specs.declared.records.Entry.{Entry}
 use Rattle.gate_build_queries.specs.declared.ahead.Part.{Part}
 use Rattle.gate_build_queries.specs.declared.ahead.Part.TheVariants.{Start, Outer, Opened, InChange, Between, InRevision, Closed, Next, End}
 use Rattle.gate_build_queries.specs.Ahead.{digit_of, grown, more_of, or_bad, step, ended, go}
-use Rattle.gate_schema.specs.Words.{ahead_text, entries_text, entry_text}
+use Rattle.gate_schema.specs.AheadText.{ahead_text, entries_text, entry_text}
 use Rattle.std.specs.List.{AllByRecursion, AllPass}
 
 -- ---- a digit

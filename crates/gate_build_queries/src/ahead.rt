@@ -5,7 +5,7 @@ ghost use Rattle.std.specs.Option.{option_to_list};
 ghost use Rattle.sqlite_value.specs.Order.{column};
 ghost use Rattle.sqlite.specs.declared.types.Value.TheVariants.{Text};
 ghost use Rattle.gate_types.specs.Forms.{is_entry_in_form};
-ghost use Rattle.gate_schema.specs.Words.{ahead_text};
+ghost use Rattle.gate_schema.specs.AheadText.{ahead_text};
 ghost use Rattle.gate_build_queries.specs.Ahead.{digit_of, ended, go, grown, step, step_in_change, step_in_revision};
 
 use gate_book_trait::BookFault;

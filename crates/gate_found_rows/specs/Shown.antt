@@ -8,7 +8,7 @@ use Rattle.gate_types.specs.declared.records.Kept.{Kept}
 use Rattle.gate_types.specs.declared.records.Ready.{Ready}
 use Rattle.gate_types.specs.declared.rows.ChangeRow.{ChangeRow}
 use Rattle.gate_schema.specs.Rows.{JobRow, bit, number_or_null}
-use Rattle.gate_schema.specs.Words.{stage_word}
+use Rattle.gate_types.specs.Words.{stage_word}
 
 -- a change that is ready
 abbrev pub ready_shown : Ready → Row

@@ -3,7 +3,7 @@ use Rattle.std.proofs.Common.{◌≡◌, ℕ, ◌+◌, ◌<◌, zero, suc, List,
 use mathlib.Core.List.{append_assoc}
 use Rattle.std.proofs.lemmas.Bool.Decides.{nat_tests}
 use Rattle.gate_types.specs.declared.records.Entry.{Entry}
-use Rattle.gate_schema.specs.Words.{entry_text, entries_text, comma_if}
+use Rattle.gate_schema.specs.AheadText.{entry_text, entries_text, comma_if}
 
 -- one more entry is written
 or_true : (b : Bool) → (b || true) ≡ true

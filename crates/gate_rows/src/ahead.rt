@@ -1,6 +1,6 @@
 //! What is ahead of a build, as the text of its column.
 ghost use Rattle.std.specs.Prelude.{◌≡◌, ◌++◌, IfOk, OnOk, string_bytes, not, ◌==◌};
-ghost use Rattle.gate_schema.specs.Words.{ahead_text, comma_if, entry_text};
+ghost use Rattle.gate_schema.specs.AheadText.{ahead_text, comma_if, entry_text};
 
 use gate_types::records::Entry;
 use std::alloc::{AllocError, Global};

@@ -1,7 +1,7 @@
 //! Edits of builds, within a transaction.
 ghost use Rattle.std.specs.Prelude.{◌≡◌};
 ghost use Rattle.sqlite.specs.Held.{state};
-ghost use Rattle.gate_schema.specs.Words.{ahead_text};
+ghost use Rattle.gate_schema.specs.AheadText.{ahead_text};
 ghost use Rattle.gate_schema.specs.Edits as edits;
 ghost use Rattle.gate_rows.specs.Writes.{Keeps, LeavesNothing, Makes};
 
@@ -10,7 +10,6 @@ use crate::statement::run;
 use crate::values::{any_number, build, change, flag, revision, serial, text, too_large};
 use gate_types::numbers::BuildNo;
 use gate_types::records::{Build, Outcome};
-use gate_types::words::outcome_word;
 use sqlite::{Alter, Error, ErrorCode, Transaction};
 use std::alloc::Global;
 
@@ -50,7 +49,7 @@ fn add_build<S: Alter>(tx: &mut Transaction<'_, S>, b: &Build, ahead: &str) -> R
             text(b.job.as_str()),
             after,
             text(ahead),
-            text(outcome_word(b.outcome)),
+            text(b.outcome.word()),
             flag(b.live),
         ],
     )
@@ -107,7 +106,7 @@ pub(crate) fn set_outcome<S: Alter>(
     run(
         tx,
         "UPDATE build SET outcome = ?2 WHERE num = ?1",
-        &[build(n), text(outcome_word(outcome))],
+        &[build(n), text(outcome.word())],
     )
 }
 

@@ -6,7 +6,6 @@ ghost use Rattle.gate_rows.specs.Writes.{Keeps, LeavesNothing, Makes};
 
 use crate::statement::run;
 use crate::values::{change, number, number_if_any, revision, text, too_large};
-use crate::words::stage_text;
 use gate_types::numbers::ChangeNo;
 use gate_types::records::Change;
 use sqlite::{Alter, Error, Transaction};
@@ -34,7 +33,7 @@ fn renew_change<S: Alter>(
             change(k.number),
             text(k.project.as_str()),
             revision(k.revision),
-            text(stage_text(k.stage)),
+            text(k.stage.word()),
             approval,
         ],
     )

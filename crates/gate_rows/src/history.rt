@@ -8,7 +8,6 @@ ghost use Rattle.gate_rows.specs.Writes.{Found, Keeps, LeavesNothing, Makes};
 
 use crate::statement::run;
 use crate::values::{any_number, bytes, change, landing_place, revision, serial, text, too_large};
-use crate::words::verdict_text;
 use gate_types::names::Name;
 use gate_types::records::{Kept, Landing, Report};
 use sqlite::{Alter, Error, Transaction};
@@ -75,7 +74,7 @@ pub(crate) fn put_report<S: Alter>(
             serial(r.serial),
             change(r.change),
             revision(r.revision),
-            text(verdict_text(r.verdict)),
+            text(r.verdict.word()),
             landed,
         ],
     )

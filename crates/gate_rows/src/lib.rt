@@ -18,7 +18,6 @@ mod numbers;
 mod plans;
 mod statement;
 pub mod values;
-mod words;
 
 pub use ahead::write_ahead;
 pub use apply::apply_one;

@@ -6,7 +6,6 @@ ghost use Rattle.gate_rows.specs.Writes.{Keeps, LeavesNothing, Makes};
 
 use crate::statement::run;
 use crate::values::{any_number, number, text, too_large};
-use crate::words::counter_text;
 use gate_types::edits::Counter;
 use gate_types::names::Name;
 use sqlite::{Alter, Error, Transaction};
@@ -48,6 +47,6 @@ pub(crate) fn set_counter<S: Alter>(
     run(
         tx,
         "UPDATE counter SET drawn = ?2 WHERE name = ?1",
-        &[text(counter_text(counter)), drawn],
+        &[text(counter.word()), drawn],
     )
 }

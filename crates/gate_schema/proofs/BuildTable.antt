@@ -27,7 +27,7 @@ use Rattle.gate_types.specs.declared.records.Outcome.{Outcome}
 use Rattle.gate_schema.specs.Edits.{add_build, drop_build, set_outcome, stop_build}
 use Rattle.gate_schema.specs.Rows.{IsReady, Changes, IsKeyed, bit, build_row, build_key}
 use Rattle.gate_schema.specs.Schema.{gate_schema, build_at}
-use Rattle.gate_schema.specs.Words.{ahead_text}
+use Rattle.gate_schema.specs.AheadText.{ahead_text}
 use Rattle.gate_types.specs.BuildText.{outcome_word}
 use Rattle.gate_schema.proofs.ChangeLemmas.{changed, keyed_put, keyed_without, keyed_numbered, keyed_changed, one_keyed, updated_rows}
 use Rattle.gate_schema.proofs.DeleteLemmas.{deleted_ids, leaves_others}

@@ -27,7 +27,7 @@ use Rattle.sqlite_value.specs.Keys.{first_key}
 use Rattle.gate_schema.specs.Edits.{add_change, drop_change}
 use Rattle.gate_schema.specs.Rows.{Stored, Stands, IsReady, Changes, IsKeyed, number_or_null, change_row, change_key}
 use Rattle.gate_schema.specs.Schema.{gate_schema, change_at}
-use Rattle.gate_schema.specs.Words.{stage_word}
+use Rattle.gate_types.specs.Words.{stage_word}
 use Rattle.gate_schema.proofs.ChangeLemmas.{keyed_put, keyed_without}
 use Rattle.gate_schema.proofs.DeleteLemmas.{without_one}
 use Rattle.gate_schema.proofs.RowLemmas.{cast_int, cast_null, cast_or_null}

@@ -22,7 +22,7 @@ use Rattle.gate_types.specs.declared.edits.Counter.TheVariants.{Approval, Build,
 use Rattle.gate_schema.specs.Edits.{draw}
 use Rattle.gate_schema.specs.Rows.{IsReady, Changes, IsFixed, counter_columns}
 use Rattle.gate_schema.specs.Schema.{gate_schema, counter_at}
-use Rattle.gate_schema.specs.Words.{counter_word}
+use Rattle.gate_types.specs.Words.{counter_word}
 use Rattle.gate_schema.proofs.ChangeLemmas.{changed, listed_changed, numbered_changed, updated_rows}
 use Rattle.gate_schema.proofs.QueryLemmas.{over_table, passes, shows_few}
 use Rattle.gate_schema.proofs.RowLemmas.{cast_int, int_cast, behind, few_found, out, renewed, written_update}

@@ -1,6 +1,6 @@
 pub mod Schema
 pub mod Made
-pub mod Words
+pub mod AheadText
 pub mod Rows
 pub mod Edits
 pub mod Shown

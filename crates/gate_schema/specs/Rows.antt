@@ -22,7 +22,8 @@ use Rattle.gate_types.specs.declared.rows.ChangeRow.{ChangeRow}
 use Rattle.gate_types.specs.declared.rows.LandingRow.{LandingRow}
 use Rattle.gate_types.specs.declared.rows.ReportRow.{ReportRow}
 use Rattle.gate_schema.specs.Schema.{gate_schema}
-use Rattle.gate_schema.specs.Words.{stage_word, ahead_text}
+use Rattle.gate_types.specs.Words.{stage_word}
+use Rattle.gate_schema.specs.AheadText.{ahead_text}
 use Rattle.gate_types.specs.History.{verdict_word, landing_place}
 use Rattle.gate_types.specs.BuildText.{outcome_word}
 

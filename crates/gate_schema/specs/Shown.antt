@@ -4,7 +4,7 @@ use Rattle.std.specs.List.{list_any}
 use Rattle.sqlite.specs.Order.{Row}
 use Rattle.sqlite.specs.declared.types.Value.TheVariants.{Int, Text as Words}
 use Rattle.gate_types.specs.declared.records.Build.{Build}
-use Rattle.gate_schema.specs.Words.{ahead_text}
+use Rattle.gate_schema.specs.AheadText.{ahead_text}
 use Rattle.gate_types.specs.BuildText.{outcome_word}
 use Rattle.gate_schema.specs.Rows.{ItemRow, NeedRow, bit, number_or_null}
 

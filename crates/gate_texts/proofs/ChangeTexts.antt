@@ -13,7 +13,8 @@ use Rattle.gate_types.specs.Tables.{approval_of}
 use Rattle.gate_types.specs.Step.{has_project}
 use Rattle.gate_types.specs.Lawful.{IsSound}
 use Rattle.gate_laws.proofs.Members.{every, found, not_found, any_from}
-use Rattle.gate_archive.specs.ChangeText.{stage_word, stands_in, serial_of, need_word, need_piece, is_full, change_text}
+use Rattle.gate_types.specs.Words.{stage_word}
+use Rattle.gate_archive.specs.ChangeText.{stands_in, serial_of, need_word, need_piece, is_full, change_text}
 use Rattle.gate_texts.specs.Changes.{standing_of, need_told, change_told, change_front, change_back, change_text_in}
 use Rattle.gate_texts.specs.declared.change.Standing.{Standing}
 use Rattle.gate_texts.proofs.Entries.{AreEntries, array_is, number_is, name_is}

@@ -7,7 +7,8 @@ use Rattle.gate_types.specs.JsonText.{Piece, joined, leading, number, plain, boo
 use Rattle.gate_types.specs.Tables.{approval_of}
 use Rattle.gate_book_trait.specs.Reads.{queued_of}
 use Rattle.gate_archive.specs.OrNull.{or_null}
-use Rattle.gate_archive.specs.ChangeText.{stage_word, serial_of, need_piece, is_full}
+use Rattle.gate_types.specs.Words.{stage_word}
+use Rattle.gate_archive.specs.ChangeText.{serial_of, need_piece, is_full}
 use Rattle.gate_texts.specs.Values.{written, bracketed, number_text, name_text}
 use Rattle.gate_texts.specs.declared.change.Standing.{Standing}
 

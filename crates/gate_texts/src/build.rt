@@ -9,7 +9,7 @@ use gate_book_trait::{Book, BookFault};
 use gate_types::names::{NoMemory, Text};
 use gate_types::numbers::BuildNo;
 use gate_types::records::{Build, Outcome};
-use gate_types::words::{outcome_word, truth_word};
+use gate_types::words::truth_word;
 use gate_wire::{ahead_text, build_front};
 use std::alloc::Global;
 
@@ -27,7 +27,7 @@ fn build_back(
         ++ (decimal revision ++ codes "}")))))))) }
 {
     let live = truth_word(live);
-    let outcome = outcome_word(outcome);
+    let outcome = outcome.word();
     let text = format!(in alloc;
         ",\"live\":{live},\"outcome\":\"{outcome}\",\"queue\":\"{queue}\",\"revision\":{revision}}}"
     )?;

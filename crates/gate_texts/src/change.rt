@@ -2,7 +2,7 @@
 ghost use Rattle.std.specs.Prelude.{◌≡◌, [], IfOk, IfErr, map, option_map, string_bytes};
 ghost use Rattle.gate_types.specs.State.{known_change};
 ghost use Rattle.gate_types.specs.JsonText.{joined};
-ghost use Rattle.gate_archive.specs.ChangeText.{stage_word, need_word, need_piece, change_text};
+ghost use Rattle.gate_archive.specs.ChangeText.{need_word, need_piece, change_text};
 ghost use Rattle.gate_book_trait.specs.Faults.{MayAnswer};
 ghost use Rattle.gate_book_trait.specs.Kept.{OfHeld, OfHeldUnder, IsKept};
 ghost use Rattle.gate_texts.specs.Changes as told;
@@ -12,7 +12,7 @@ use gate_book_trait::{Book, BookFault, QueuedItem};
 use gate_types::config::Config;
 use gate_types::names::{Name, NoMemory, Text};
 use gate_types::numbers::ChangeNo;
-use gate_types::records::{Change, Stage};
+use gate_types::records::Change;
 use gate_types::words::truth_word;
 use std::alloc::Global;
 use gate_types::limits::MOST_ITEMS;
@@ -35,21 +35,11 @@ fn standing_of<B: Book>(book: &mut B, change: ChangeNo) -> Result<Standing, Book
     Ok(Standing { approval, queued })
 }
 
-fn stage_word(stage: Stage) -> &'static str
-    ensures { result.now ≡ stage_word stage }
-{
-    match stage {
-        Stage::Open => "open",
-        Stage::Landed => "landed",
-        Stage::Closed => "closed",
-    }
-}
-
 fn need_word(known: &Option<Change>) -> &'static str
     ensures { result.now ≡ need_word known.now }
 {
     match known {
-        Some(change) => stage_word(change.stage),
+        Some(change) => change.stage.word(),
         None => "unknown",
     }
 }
@@ -149,7 +139,7 @@ fn change_back(
     let project = change.project.as_str();
     let queue = queue.as_str();
     let revision = change.revision.get();
-    let state = stage_word(change.stage);
+    let state = change.stage.word();
     let text = format!(in alloc;
         "\"order\":{order},\"project\":\"{project}\",\"queue\":\"{queue}\",\
          \"revision\":{revision},\"state\":\"{state}\"}}"

@@ -1,7 +1,6 @@
 //! An item, there or gone, with its builds.
 ghost use Rattle.std.specs.Prelude.{◌≡◌, [], Some, None, IfOk, IfErr, map, string_bytes};
 ghost use Rattle.gate_types.specs.JsonText.{joined};
-ghost use Rattle.gate_types.specs.History.{verdict_word};
 ghost use Rattle.gate_archive.specs.ItemText.{queued_at, summary_piece, item_text};
 ghost use Rattle.gate_book_trait.specs.Faults.{MayAnswer};
 ghost use Rattle.gate_book_trait.specs.Kept.{OfHeld, OfHeldUnder, IsKept};
@@ -18,7 +17,7 @@ use gate_types::config::{Config, Job};
 use gate_types::names::{Name, NoMemory, Text};
 use gate_types::numbers::{ChangeNo, Revision, Serial};
 use gate_types::records::{Build, Verdict};
-use gate_types::words::{outcome_word, truth_word};
+use gate_types::words::truth_word;
 use std::alloc::Global;
 use gate_types::limits::MOST_LISTED;
 
@@ -157,7 +156,7 @@ fn summary_text(alloc: Global, build: &BuildSummary) -> Result<String, NoMemory>
     let number = build.number.get();
     let job = build.job.as_str();
     let live = truth_word(build.live);
-    let outcome = outcome_word(build.outcome);
+    let outcome = build.outcome.word();
     let text = format!(in alloc;
         "{{\"build\":{number},\"job\":\"{job}\",\"live\":{live},\"outcome\":\"{outcome}\"}}"
     )?;
@@ -178,26 +177,12 @@ fn builds_text(alloc: Global, builds: &[BuildSummary]) -> Result<String, NoMemor
 
 // ---- the text
 
-fn verdict_word(verdict: Verdict) -> &'static str
-    ensures { result.now ≡ verdict_word verdict }
-{
-    match verdict {
-        Verdict::Landed(_) => "landed",
-        Verdict::Failed => "failed",
-        Verdict::Refused => "refused",
-        Verdict::Needs => "needs",
-        Verdict::Superseded => "superseded",
-        Verdict::Withdrawn => "withdrawn",
-        Verdict::Closed => "closed",
-    }
-}
-
 /// The word of a verdict, or null.
 fn verdict_text(alloc: Global, verdict: Option<Verdict>) -> Result<String, NoMemory>
     ensures { IfOk result (λ s. string_bytes s ≡ told.verdict_text verdict) }
 {
     match verdict {
-        Some(verdict) => in_quotes(alloc, verdict_word(verdict)),
+        Some(verdict) => in_quotes(alloc, verdict.word()),
         None => String::from_str(alloc, "null"),
     }
 }

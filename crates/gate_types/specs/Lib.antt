@@ -37,4 +37,5 @@ pub mod Status
 pub mod OrderList
 pub mod BuildText
 pub mod History
+pub mod Words
 pub mod Tap

@@ -1,7 +1,7 @@
 //! The one text of a delivery: its kind and members, without its id.
 ghost use Rattle.std.specs.Prelude.{◌≡◌, [], IfOk, string_bytes};
 ghost use Rattle.gate_types.specs.JsonText.{object};
-ghost use Rattle.gate_types.specs.Canonical.{canonical_text, ending_word, on_change, on_order_number};
+ghost use Rattle.gate_types.specs.Canonical.{canonical_text, on_change, on_order_number};
 
 use crate::deliveries::{Delivery, Ending};
 use crate::json_text::quote;
@@ -58,21 +58,11 @@ fn take_text(alloc: Global, worker: &PathName) -> Result<String, NoMemory>
     format!(in alloc; "{{\"kind\":\"take\",\"worker\":{worker}}}")
 }
 
-fn word_of(ending: Ending) -> &'static str
-    ensures { result.now ≡ ending_word ending }
-{
-    match ending {
-        Ending::Success => "success",
-        Ending::Failure => "failure",
-        Ending::Lost => "lost",
-    }
-}
-
 fn result_text(alloc: Global, build: BuildNo, ending: Ending) -> Result<String, NoMemory>
     ensures { IfOk result (λ s. string_bytes s ≡ canonical_text (Delivery.Result build ending)) }
 {
     let build = build.get();
-    let outcome = word_of(ending);
+    let outcome = ending.word();
     format!(in alloc; "{{\"build\":{build},\"kind\":\"result\",\"outcome\":\"{outcome}\"}}")
 }
 

@@ -2,3 +2,4 @@ pub mod ReadingLemmas
 pub mod NumberLemmas
 pub mod FooterLemmas
 pub mod ReplyLemmas
+pub mod EndingLemmas

@@ -12,6 +12,7 @@ use Rattle.gate_types.specs.declared.deliveries.Delivery.{Delivery}
 use Rattle.gate_types.specs.declared.deliveries.Delivery.TheVariants as delivery
 use Rattle.gate_types.specs.declared.deliveries.Refusal.{Refusal}
 use Rattle.gate_types.specs.declared.deliveries.Refusal.TheVariants as refusal
+use Rattle.gate_types.specs.Canonical.{ending_word}
 use Rattle.gate_types.specs.Names.{is_path_name, is_message}
 use Rattle.gate_wire.specs.declared.door.Door.{Door}
 use Rattle.gate_wire.specs.declared.door.Kind.{Kind}
@@ -89,9 +90,9 @@ message_at d = text_of_form is_message (codes "message") d
 -- the ending of a word
 abbrev pub ending_named : List ℕ → Option Ending
 ending_named word =
-    if bytes_eq word (codes "success") then Some ending.Success
-    else if bytes_eq word (codes "failure") then Some ending.Failure
-    else if bytes_eq word (codes "lost") then Some ending.Lost
+    if bytes_eq word (ending_word ending.Success) then Some ending.Success
+    else if bytes_eq word (ending_word ending.Failure) then Some ending.Failure
+    else if bytes_eq word (ending_word ending.Lost) then Some ending.Lost
     else None
 
 -- the outcome that a worker reports

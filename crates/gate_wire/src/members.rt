@@ -142,15 +142,7 @@ pub(crate) fn message_of(alloc: Global, value: &Value) -> Result<Message, Refusa
 fn ending_named(word: &str) -> Option<Ending>
     ensures { result ≡ ending_named word.now }
 {
-    if word == "success" {
-        Some(Ending::Success)
-    } else if word == "failure" {
-        Some(Ending::Failure)
-    } else if word == "lost" {
-        Some(Ending::Lost)
-    } else {
-        None
-    }
+    Ending::of_word(word.as_bytes())
 }
 
 #[tactic(auto, unfolding(crate::specs::Reading::ending_at))]

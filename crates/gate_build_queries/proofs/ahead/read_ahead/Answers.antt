@@ -1,5 +1,5 @@
 use Rattle.std.proofs.Common.{true≢false, ◌∙◌, sym, ap}
-use Rattle.gate_schema.specs.Words.{ahead_text}
+use Rattle.gate_schema.specs.AheadText.{ahead_text}
 use Rattle.gate_build_queries.proofs.AheadLemmas.{never_other, parts_told}
 use Rattle.gate_build_queries.proofs.ahead.read_ahead.Goals as goal
 

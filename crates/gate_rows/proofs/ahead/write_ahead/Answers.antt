@@ -1,5 +1,5 @@
 use Rattle.std.proofs.Common.{◌∙◌, ◌∷◌, ◌++◌, ap, arith, take, false, not, eqb}
-use Rattle.gate_schema.specs.Words.{entry_text, entries_text, comma_if}
+use Rattle.gate_schema.specs.AheadText.{entry_text, entries_text, comma_if}
 use Rattle.gate_rows.proofs.AheadLemmas.{entries_more}
 use Rattle.gate_rows.proofs.ahead.write_ahead.Goals as goal
 

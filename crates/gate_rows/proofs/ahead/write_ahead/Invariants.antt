@@ -1,5 +1,5 @@
 use Rattle.std.proofs.Common.{◌≡◌, ◌∷◌, take, string_bytes, false}
-use Rattle.gate_schema.specs.Words.{entries_text}
+use Rattle.gate_schema.specs.AheadText.{entries_text}
 use Rattle.gate_rows.proofs.ahead.write_ahead.Given as goal
 
 abbrev pub invariant-loop-place : goal.invariant-loop-place

@@ -6,4 +6,4 @@ use Rattle.gate_rows.proofs.numbers.set_counter.Goals as goal
 pub returns-clause-changes : goal.returns-clause-changes
 returns-clause-changes g c clean ready =
     ran_so _ (λ ran. sets_counter c.args.counter c.args.drawn (state g.S.Store c.args.tx.now.conn.now) (state g.S.Store c.run.new.tx.conn.now) ran.0 ready
-    (rw (c.text.ensures, c.counter_text.ensures, c.in-Some.ensures) at ran.1)) (c.run.ensures.ran clean ready)
+    (rw (c.text.ensures, c.word.ensures, c.in-Some.ensures) at ran.1)) (c.run.ensures.ran clean ready)

@@ -7,5 +7,5 @@ returns c =
       c.as_str-project.ensures.value,
       c.as_str-queue.ensures.value,
       c.get-revision.ensures.value,
-      c.stage_word-state.ensures,
+      c.word-state.ensures,
     ) at c.in_ok-text.ensures.ok
