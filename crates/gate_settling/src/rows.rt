@@ -1,7 +1,6 @@
 //! What a visit is given of a row: as it is stored, with what the delivery makes of it.
 ghost use Rattle.std.specs.Prelude.{◌≡◌, ◌++◌, ◌∷◌, [], IfOk, map, IfErr};
 ghost use Rattle.gate_types.specs.State.{known_change, plan_of};
-ghost use Rattle.gate_types.specs.Step.{outcome_of_ending};
 ghost use Rattle.gate_book_trait.specs.Kept.{OfHeld, IsKept};
 ghost use Rattle.gate_book_trait.specs.Reads as read;
 ghost use Rattle.gate_settling.specs.Rows as rows;
@@ -9,7 +8,6 @@ ghost use Rattle.gate_book_trait.specs.Faults.{MayAnswer};
 
 use gate_book_trait::{Book, BookFault, QueuedItem, plan_of};
 use gate_reads::{Event, TouchedItem};
-use gate_types::deliveries::Ending;
 use gate_types::lists::with_one;
 use gate_types::names::{NoMemory, same_name};
 use gate_types::numbers::{ChangeNo, Serial};
@@ -112,16 +110,6 @@ fn needs_known(known: &Option<Change>) -> &[ChangeNo]
     }
 }
 
-fn outcome_of(ending: Ending) -> Outcome
-    ensures { result ≡ outcome_of_ending ending }
-{
-    match ending {
-        Ending::Success => Outcome::Success,
-        Ending::Failure => Outcome::Failure,
-        Ending::Lost => Outcome::Lost,
-    }
-}
-
 /// A build once the delivery is done: the one that ended has its outcome.
 fn build_now(event: Event, build: Build) -> Build
     ensures { result ≡ rows.build_now event build }
@@ -133,7 +121,7 @@ fn build_now(event: Event, build: Build) -> Build
         } => {
             if build.number == number {
                 Build {
-                    outcome: outcome_of(ending),
+                    outcome: Outcome::from(ending),
                     ..build
                 }
             } else {
