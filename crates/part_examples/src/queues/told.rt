@@ -1,6 +1,6 @@
 //! Rows and edits as text, a line each, with all that they say.
 use gate_types::edits::Edit;
-use gate_types::records::{Item, Report, Verdict};
+use gate_types::records::{Item, Report};
 use std::process::Abort;
 
 /// The row of an item; `-` stands for no item ahead.
@@ -28,11 +28,7 @@ fn tell_report(rt: &impl Abort, told: &mut String, place: u64, report: &Report) 
         report.change.get(),
         report.revision.get(),
     );
-    let verdict = match report.verdict {
-        Verdict::Failed => "failed",
-        Verdict::Needs => "needs",
-        _ => "other",
-    };
+    let verdict = report.verdict.word();
     write!(
         told,
         "report {place}: {serial} {change},{revision} {verdict}\n"

@@ -119,13 +119,7 @@ fn entries(rt: &(impl Abort + AllocGlobal), words: &mut SplitWhitespace) -> Sequ
 }
 
 pub fn outcome(rt: &impl Abort, word: &str) -> Outcome {
-    match word {
-        "running" => Outcome::Running,
-        "success" => Outcome::Success,
-        "failure" => Outcome::Failure,
-        "lost" => Outcome::Lost,
-        _ => panic!(rt; "no outcome: {word}"),
-    }
+    Outcome::of_word(word.as_bytes()).expect(rt, "an outcome")
 }
 
 /// A live build: its number, the item's serial and change, the job, after how many landings it runs, its outcome,
