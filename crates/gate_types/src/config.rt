@@ -193,6 +193,16 @@ impl Config {
     ghost use Rattle.std.specs.Prelude.{◌≡◌, find, option_copied, IfOk};
     ghost use Rattle.gate_types.specs.Names.{same_name};
 
+    /// The queue of a name.
+    pub fn queue(&self, name: &str) -> Option<&Queue>
+        ensures { option_copied result ≡ find (λ q. same_name q.name name.now) self.now.queues }
+    {
+        self.queues
+            .as_slice()
+            .iter()
+            .find(|queue| queue.name.as_str() == name)
+    }
+
     /// The project of a name.
     pub fn project(&self, name: &str) -> Option<&Project>
         ensures { option_copied result ≡ find (λ p. same_name p.name name.now) self.now.projects }
