@@ -47,7 +47,7 @@ use Rattle.gate_found_rows.proofs.ReadLemmas.{answers}
 use Rattle.gate_archive_queries.specs.Deliveries.{HoldAbove, IsFirstOf, IsPlaceOf, WritesLines, accepted, accepted_shown, is_above, line_of}
 use Rattle.gate_archive_queries.proofs.StreamLemmas.{query_of}
 use Rattle.gate_archive_queries.specs.Streamed.{Streams, body, lines}
-use Rattle.gate_archive_queries.specs.declared.delivery_rows.Place.{Place}
+use Rattle.gate_archive_queries.specs.declared.delivery_rows.FeedPlace.{FeedPlace}
 
 -- ---- the texts
 
@@ -147,7 +147,7 @@ abbrev id_shown : Row → Row
 id_shown r = rowid r ∷ []
 
 -- what is below all of some rows is below the first of them
-first_below : (r : Row) (rows : List Row) (p : Place) → AllByRecursion (λ s. value_cmp (rowid r) (rowid s) ≡ Less) rows → IsFirstOf (map id_shown rows) (Some p) → value_cmp (rowid r) (Int p.rowid) ≡ Less
+first_below : (r : Row) (rows : List Row) (p : FeedPlace) → AllByRecursion (λ s. value_cmp (rowid r) (rowid s) ≡ Less) rows → IsFirstOf (map id_shown rows) (Some p) → value_cmp (rowid r) (Int p.rowid) ≡ Less
 first_below r [] p up first = let none = first.2 in absurd cc
 first_below r (s ∷ ss) p up first =
     let same : id_shown s ≡ first.0 = (let e = first.2 in cc) in
@@ -156,7 +156,7 @@ first_below r (s ∷ ss) p up first =
 
 -- where the rows of an id are found, its place is the first of theirs
 place_told : (id : Id) (test : Row → Bool) → ((v : Row) (k : Kept) → drop 1 v ≡ kept_columns k → test v ≡ same_name k.id.0 id.0) → (rows : List Row) (ks : List Kept)
-    → map (drop 1) rows ≡ map kept_columns ks → IsNumbered rows → (place : Option Place) → IsFirstOf (map id_shown (filter test rows)) place → IsPlaceOf rows ks id place
+    → map (drop 1) rows ≡ map kept_columns ks → IsNumbered rows → (place : Option FeedPlace) → IsFirstOf (map id_shown (filter test rows)) place → IsPlaceOf rows ks id place
 place_told id test same [] [] told numbered None first = refl
 place_told id test same [] [] told numbered (Some p) first = let none = first.2 in absurd cc
 place_told id test same [] (k ∷ ks) told numbered place first = absurd cc
@@ -172,8 +172,8 @@ place_told id test same (r ∷ rs) (k ∷ ks) told numbered place first =
     rest : map (drop 1) rs ≡ map kept_columns ks
     rest = cc
 
-    by_id : (t : Bool) → same_name k.id.0 id.0 ≡ t → (place : Option Place) → IsFirstOf (map id_shown (cond (same_name k.id.0 id.0) (r ∷ filter test rs) (filter test rs))) place
-        → ((place : Option Place) → IsFirstOf (map id_shown (filter test rs)) place → IsPlaceOf rs ks id place) → IsPlaceOf (r ∷ rs) (k ∷ ks) id place
+    by_id : (t : Bool) → same_name k.id.0 id.0 ≡ t → (place : Option FeedPlace) → IsFirstOf (map id_shown (cond (same_name k.id.0 id.0) (r ∷ filter test rs) (filter test rs))) place
+        → ((place : Option FeedPlace) → IsFirstOf (map id_shown (filter test rs)) place → IsPlaceOf rs ks id place) → IsPlaceOf (r ∷ rs) (k ∷ ks) id place
     by_id true e None first more =
         let none : id_shown r ∷ map id_shown (filter test rs) ≡ [] = subst (λ t. map id_shown (cond t (r ∷ filter test rs) (filter test rs)) ≡ []) e first in
         absurd cc
@@ -206,7 +206,7 @@ rowids_rise params test project rows up =
     (λ r s less. rw less) _ (ascending-filter _ (passes test params) rows up))
 
 -- the read of a rowid finds the place of the id
-pub place_found : (s : State) (b : Stored) (id : Id) (rows : List Row) (place : Option Place) → IsShown s b → Finds place_sql (Octets id.0 ∷ []) s.now rows → IsFirstOf rows place
+pub place_found : (s : State) (b : Stored) (id : Id) (rows : List Row) (place : Option FeedPlace) → IsShown s b → Finds place_sql (Octets id.0 ∷ []) s.now rows → IsFirstOf rows place
     → IsPlaceOf (s.now.trees 21) b.kept id place
 place_found s b id rows place shows finds first =
     let is = shows.stands.delivery in

@@ -17,7 +17,7 @@ use Rattle.gate_archive.specs.declared.fault.FeedFault.TheVariants as fault
 use Rattle.gate_schema.specs.Rows.{kept_columns}
 use Rattle.gate_archive_queries.specs.Streamed.{body}
 use Rattle.gate_archive_queries.specs.declared.delivery_rows.Accepted.{Accepted}
-use Rattle.gate_archive_queries.specs.declared.delivery_rows.Place.{Place}
+use Rattle.gate_archive_queries.specs.declared.delivery_rows.FeedPlace.{FeedPlace}
 
 -- ---- the place of a delivery
 
@@ -30,12 +30,12 @@ abbrev pub HoldAbove : List Row → ℤ → List Kept → Type 0
 HoldAbove rows place ks = map (drop 1) (filter (is_above place) rows) ≡ map kept_columns ks
 
 -- of deliveries whose rows these are, none has the id, or the rows above the place hold those behind the one of the id
-abbrev pub IsPlaceOf : List Row → List Kept → Id → Option Place → Type 0
+abbrev pub IsPlaceOf : List Row → List Kept → Id → Option FeedPlace → Type 0
 IsPlaceOf rows kept id None = behind_id id kept ≡ None
 IsPlaceOf rows kept id (Some place) = (ks : List Kept) × (behind_id id kept ≡ Some ks) × HoldAbove rows place.rowid ks
 
 -- there is no row, or the first holds this place
-abbrev pub IsFirstOf : List Row → Option Place → Type 0
+abbrev pub IsFirstOf : List Row → Option FeedPlace → Type 0
 IsFirstOf rows None = rows ≡ []
 IsFirstOf rows (Some place) =
     (row : Row) × (rest : List Row) × (rows ≡ row ∷ rest) × (column row 0 ≡ Int place.rowid)

@@ -16,7 +16,7 @@ ghost use Rattle.gate_archive_queries.specs.Deliveries.{IsPlaceOf, OpenedFeed, W
 ghost use Rattle.gate_archive_queries.specs.Streamed.{ReadsOn, Streams};
 ghost use Rattle.gate_archive_queries.specs.declared.delivery_rows.Accepted.{Accepted as Told};
 
-use crate::delivery_rows::{Accepted, Place, accepted_in, first_place, place_value};
+use crate::delivery_rows::{Accepted, FeedPlace, accepted_in, first_place, place_value};
 use gate_archive::{FeedFault, feed_line};
 use gate_book_trait::BookFault;
 use gate_found_rows::fault::book_fault;
@@ -146,7 +146,7 @@ fn write_queried<S: Alter, W: Write>(
 }
 
 /// The place of the delivery of an id, if there is one.
-fn place_of<S: Alter>(conn: &mut Connection<S>, id: Id) -> Result<Option<Place>, BookFault>
+fn place_of<S: Alter>(conn: &mut Connection<S>, id: Id) -> Result<Option<FeedPlace>, BookFault>
     ensures found { HasCleanDisk (state S.Store conn.new) → (b : Stored) → Shows (state S.Store conn.old) b →
         IfOk result (IsPlaceOf ((state S.Store conn.old).now.trees 21) b.kept id) }
     ensures opened { Opened (state S.Store conn.old) (state S.Store conn.new) result }

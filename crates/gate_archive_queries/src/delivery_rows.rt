@@ -23,7 +23,7 @@ pub(crate) struct Accepted {
 
 /// Where a delivery stands among all: deliveries are accepted in the order of their rowids.
 #[derive(Clone, Copy)]
-pub(crate) struct Place {
+pub(crate) struct FeedPlace {
     pub rowid: i64,
 }
 
@@ -51,20 +51,20 @@ pub(crate) fn accepted_in(row: &Row) -> Result<Accepted, BookFault>
 }
 
 /// A place as a parameter.
-pub(crate) fn place_value<'a>(place: &Place) -> ValueRef<'a>
+pub(crate) fn place_value<'a>(place: &FeedPlace) -> ValueRef<'a>
     ensures { owned result ≡ Int place.now.rowid }
 {
     ValueRef::Int(place.rowid)
 }
 
 /// The place in the first row, if there is one; `Damaged` where the column holds no integer.
-pub(crate) fn first_place(rows: &[Row]) -> Result<Option<Place>, BookFault>
+pub(crate) fn first_place(rows: &[Row]) -> Result<Option<FeedPlace>, BookFault>
     ensures { IfOk result (IsFirstOf rows.now) }
 {
     match rows {
         [] => Ok(None),
         [row, ..] => match row.get_ref(0) {
-            Ok(ValueRef::Int(rowid)) => Ok(Some(Place { rowid })),
+            Ok(ValueRef::Int(rowid)) => Ok(Some(FeedPlace { rowid })),
             _ => Err(BookFault::Damaged),
         },
     }

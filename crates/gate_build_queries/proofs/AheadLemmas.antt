@@ -10,8 +10,8 @@ use Rattle.std.specs.Fmt.{decimal}
 use Rattle.sqlite_keyed.proofs.RuleLemmas.{first_of_both, second_of_both}
 use Rattle.gate_types.specs.Forms.{is_change_number, is_entry_in_form, is_revision_number}
 use Rattle.gate_types.specs.declared.records.Entry.{Entry}
-use Rattle.gate_build_queries.specs.declared.ahead.Part.{Part}
-use Rattle.gate_build_queries.specs.declared.ahead.Part.TheVariants.{Start, Outer, Opened, InChange, Between, InRevision, Closed, Next, End}
+use Rattle.gate_build_queries.specs.declared.ahead.Progress.{Progress}
+use Rattle.gate_build_queries.specs.declared.ahead.Progress.TheVariants.{Start, Outer, Opened, InChange, Between, InRevision, Closed, Next, End}
 use Rattle.gate_build_queries.specs.Ahead.{digit_of, grown, more_of, or_bad, step, ended, go}
 use Rattle.gate_schema.specs.AheadText.{ahead_text, entries_text, entry_text}
 use Rattle.std.specs.List.{AllByRecursion, AllPass}
@@ -27,11 +27,11 @@ grown_is : (n d : ℕ) → 1 ≤ n → n ≤ 99999999 → grown n d ≡ Some (n 
 grown_is n d some small = grind (arith, nat_tests)
 
 -- a byte that ends no entry leads to the next part
-step_on : (p q : Part) (es : List Entry) (c : ℕ) (rest : List ℕ) → step p c ≡ q → ended q ≡ [] → go p es (c ∷ rest) ≡ go q es rest
+step_on : (p q : Progress) (es : List Entry) (c : ℕ) (rest : List ℕ) → step p c ≡ q → ended q ≡ [] → go p es (c ∷ rest) ≡ go q es rest
 step_on p q es c rest is none = ap (λ r. go r (es ++ ended r) rest) is ∙ ap (λ l. go q (es ++ l) rest) none ∙ ap (λ l. go q l rest) (append-nil es)
 
 -- a number is read digit by digit, from a part where none of it was read
-digits_read : (from : Part) (at : ℕ → Part) (es : List Entry)
+digits_read : (from : Progress) (at : ℕ → Progress) (es : List Entry)
     → ((d : ℕ) → d < 10 → step from (48 + d) ≡ at d) → ((n : ℕ) → ended (at n) ≡ [])
     → ((n d : ℕ) → d < 10 → 1 ≤ n → n ≤ 99999999 → step (at n) (48 + d) ≡ at (n * 10 + d))
     → (n : ℕ) → n ≤ 999999999 → (rest : List ℕ) → go from es (decimal n ++ rest) ≡ go (at n) es rest
@@ -113,7 +113,7 @@ ahead_is_read (e ∷ es) form =
     ∙ entry_read e [] _ form.0 ∙ more_read e es (e ∷ []) form.1
 
 -- the same, of what the reader holds at the end
-pub parts_told : (part : Part) (entries : List Entry) (text : List ℕ) (es : List Entry) → (part, entries) ≡ go Start [] text → text ≡ ahead_text es → AllPass is_entry_in_form es → (part ≡ End) × (entries ≡ es)
+pub parts_told : (part : Progress) (entries : List Entry) (text : List ℕ) (es : List Entry) → (part, entries) ≡ go Start [] text → text ≡ ahead_text es → AllPass is_entry_in_form es → (part ≡ End) × (entries ≡ es)
 parts_told part entries text es read is form =
     let both : (part, entries) ≡ (End, es) = read ∙ ap (go Start []) is ∙ ahead_is_read es (recursion_from_All (λ e. is_entry_in_form e ≡ true) es form) in
     (ap (λ p. p.0) both, ap (λ p. p.1) both)

@@ -2,8 +2,8 @@
 use Rattle.std.specs.Prelude.{ℕ, ◌+◌, ◌*◌, ◌-◌, ◌&&◌, ◌||◌, ◌==◌, nat_lt, if◌then◌else◌, List, [], ◌∷◌, ◌++◌, Option, Some, None}
 use Rattle.gate_types.specs.Forms.{is_change_number, is_revision_number}
 use Rattle.gate_types.specs.declared.records.Entry.{Entry}
-use Rattle.gate_build_queries.specs.declared.ahead.Part.{Part}
-use Rattle.gate_build_queries.specs.declared.ahead.Part.TheVariants.{Start, Outer, Opened, InChange, Between, InRevision, Closed, Next, End, Bad}
+use Rattle.gate_build_queries.specs.declared.ahead.Progress.{Progress}
+use Rattle.gate_build_queries.specs.declared.ahead.Progress.TheVariants.{Start, Outer, Opened, InChange, Between, InRevision, Closed, Next, End, Bad}
 
 -- the value of a digit
 abbrev pub digit_of : ℕ → Option ℕ
@@ -14,7 +14,7 @@ abbrev pub grown : ℕ → ℕ → Option ℕ
 grown n d = if n == 0 || nat_lt 99999999 n then None else Some (n * 10 + d)
 
 -- the part of a number, if there is one
-abbrev pub or_bad : Option ℕ → (ℕ → Part) → Part
+abbrev pub or_bad : Option ℕ → (ℕ → Progress) → Progress
 or_bad None f = Bad
 or_bad (Some n) f = f n
 
@@ -24,19 +24,19 @@ more_of n None = None
 more_of n (Some d) = grown n d
 
 -- a byte within the number of a change
-abbrev pub step_in_change : ℕ → ℕ → Part
+abbrev pub step_in_change : ℕ → ℕ → Progress
 step_in_change n c =
     if c == 44 then (if is_change_number n then Between n else Bad)
     else or_bad (more_of n (digit_of c)) (λ m. InChange m)
 
 -- a byte within a revision
-abbrev pub step_in_revision : ℕ → ℕ → ℕ → Part
+abbrev pub step_in_revision : ℕ → ℕ → ℕ → Progress
 step_in_revision n r c =
     if c == 93 then (if is_revision_number r then Closed (record { change = n; revision = r }) else Bad)
     else or_bad (more_of r (digit_of c)) (λ m. InRevision n m)
 
 -- the part behind a byte
-abbrev pub step : Part → ℕ → Part
+abbrev pub step : Progress → ℕ → Progress
 step Start c = if c == 91 then Outer else Bad
 step Outer c = if c == 91 then Opened else (if c == 93 then End else Bad)
 step Opened c = or_bad (digit_of c) (λ n. InChange n)
@@ -49,11 +49,11 @@ step End c = Bad
 step Bad c = Bad
 
 -- the entry that has just ended
-abbrev pub ended : Part → List Entry
+abbrev pub ended : Progress → List Entry
 ended (Closed e) = e ∷ []
 ended _ = []
 
 -- the part behind a text, and the entries that end in it
-abbrev pub go : Part → List Entry → List ℕ → Part × List Entry
+abbrev pub go : Progress → List Entry → List ℕ → Progress × List Entry
 go p es [] = (p, es)
 go p es (c ∷ cs) = go (step p c) (es ++ ended (step p c)) cs

@@ -19,7 +19,7 @@ use std::alloc::{AllocError, Global};
 
 /// How far the text has been read.
 #[derive(Clone, Copy, PartialEq, Eq)]
-pub(crate) enum Part {
+pub(crate) enum Progress {
     Start,
     /// Behind the outer bracket.
     Outer,
@@ -62,81 +62,81 @@ fn grow(number: u64, digit: u8) -> Option<u64>
 }
 
 /// The byte within the number of a change.
-fn next_in_change(number: u64, byte: u8) -> Part
+fn next_in_change(number: u64, byte: u8) -> Progress
     ensures { result ≡ step_in_change number byte }
 {
     if byte == b',' {
         return match ChangeNo::new(number) {
-            Some(change) => Part::Between(change),
-            None => Part::Bad,
+            Some(change) => Progress::Between(change),
+            None => Progress::Bad,
         };
     }
     let Some(digit) = digit(byte) else {
-        return Part::Bad;
+        return Progress::Bad;
     };
     match grow(number, digit) {
-        Some(number) => Part::InChange(number),
-        None => Part::Bad,
+        Some(number) => Progress::InChange(number),
+        None => Progress::Bad,
     }
 }
 
 /// The byte within a revision.
-fn next_in_revision(change: ChangeNo, number: u64, byte: u8) -> Part
+fn next_in_revision(change: ChangeNo, number: u64, byte: u8) -> Progress
     ensures { result ≡ step_in_revision change number byte }
 {
     if byte == b']' {
         return match Revision::new(number) {
-            Some(revision) => Part::Closed(Entry { change, revision }),
-            None => Part::Bad,
+            Some(revision) => Progress::Closed(Entry { change, revision }),
+            None => Progress::Bad,
         };
     }
     let Some(digit) = digit(byte) else {
-        return Part::Bad;
+        return Progress::Bad;
     };
     match grow(number, digit) {
-        Some(number) => Part::InRevision(change, number),
-        None => Part::Bad,
+        Some(number) => Progress::InRevision(change, number),
+        None => Progress::Bad,
     }
 }
 
 /// The part behind a byte.
-fn next_part(part: Part, byte: u8) -> Part
+fn next_part(part: Progress, byte: u8) -> Progress
     ensures { result ≡ step part byte }
 {
     match part {
-        Part::Start if byte == b'[' => Part::Outer,
-        Part::Outer | Part::Next if byte == b'[' => Part::Opened,
-        Part::Outer | Part::Closed(_) if byte == b']' => Part::End,
-        Part::Closed(_) if byte == b',' => Part::Next,
-        Part::Opened => match digit(byte) {
-            Some(digit) => Part::InChange(u64::from(digit)),
-            None => Part::Bad,
+        Progress::Start if byte == b'[' => Progress::Outer,
+        Progress::Outer | Progress::Next if byte == b'[' => Progress::Opened,
+        Progress::Outer | Progress::Closed(_) if byte == b']' => Progress::End,
+        Progress::Closed(_) if byte == b',' => Progress::Next,
+        Progress::Opened => match digit(byte) {
+            Some(digit) => Progress::InChange(u64::from(digit)),
+            None => Progress::Bad,
         },
-        Part::InChange(number) => next_in_change(number, byte),
-        Part::Between(change) => match digit(byte) {
-            Some(digit) => Part::InRevision(change, u64::from(digit)),
-            None => Part::Bad,
+        Progress::InChange(number) => next_in_change(number, byte),
+        Progress::Between(change) => match digit(byte) {
+            Some(digit) => Progress::InRevision(change, u64::from(digit)),
+            None => Progress::Bad,
         },
-        Part::InRevision(change, number) => next_in_revision(change, number, byte),
-        _ => Part::Bad,
+        Progress::InRevision(change, number) => next_in_revision(change, number, byte),
+        _ => Progress::Bad,
     }
 }
 
 /// The entry that has just ended.
-fn ended_entry(part: &Part) -> Option<Entry>
+fn ended_entry(part: &Progress) -> Option<Entry>
     ensures { option_to_list result ≡ ended part.now }
 {
     match part {
-        Part::Closed(entry) => Some(*entry),
+        Progress::Closed(entry) => Some(*entry),
         _ => None,
     }
 }
 
 /// The entries that end within the text, and the part behind all of it.
-fn read_parts(alloc: Global, text: &[u8]) -> Result<(Part, Vec<Entry>), AllocError>
-    ensures { IfOk result (λ read. (read.0, read.1.items) ≡ go Part.Start [] text.now) }
+fn read_parts(alloc: Global, text: &[u8]) -> Result<(Progress, Vec<Entry>), AllocError>
+    ensures { IfOk result (λ read. (read.0, read.1.items) ≡ go Progress.Start [] text.now) }
 {
-    let mut part = Part::Start;
+    let mut part = Progress::Start;
     let mut entries = Vec::new(alloc);
     for byte in text {
         let next = next_part(part, *byte);
@@ -148,10 +148,10 @@ fn read_parts(alloc: Global, text: &[u8]) -> Result<(Part, Vec<Entry>), AllocErr
     Ok((part, entries))
 }
 
-fn is_end(part: Part) -> bool
-    ensures { part ≡ Part.End → IsTrue result }
+fn is_end(part: Progress) -> bool
+    ensures { part ≡ Progress.End → IsTrue result }
 {
-    part == Part::End
+    part == Progress::End
 }
 
 /// The entries of a text. `NoMemory` where memory is refused, `Damaged` where the text is of no entries: it

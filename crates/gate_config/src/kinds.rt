@@ -11,7 +11,7 @@ use toml::Value;
 
 /// What a member may be.
 #[derive(Clone, Copy)]
-enum Kind {
+enum ValueKind {
     Table,
     /// An array of tables.
     Tables,
@@ -28,7 +28,7 @@ fn are_tables(values: &[Value]) -> bool
 
 #[tactic(auto, using(crate::proofs::DocumentLemmas::list_of_view, crate::proofs::DocumentLemmas::list_all_map))]
 fn is_array_of_tables(value: &Value) -> bool
-    ensures { result ≡ is_of Kind.Tables (view value.now) }
+    ensures { result ≡ is_of ValueKind.Tables (view value.now) }
 {
     match value.as_array() {
         Some(list) => are_tables(list.as_slice()),
@@ -36,20 +36,20 @@ fn is_array_of_tables(value: &Value) -> bool
     }
 }
 
-fn is_of(kind: Kind, value: &Value) -> bool
+fn is_of(kind: ValueKind, value: &Value) -> bool
     ensures { result ≡ is_of kind (view value.now) }
 {
     match kind {
-        Kind::Table => value.is_table(),
-        Kind::Tables => is_array_of_tables(value),
-        Kind::Text => value.is_str(),
-        Kind::WholeNumber => value.is_integer(),
-        Kind::TruthValue => value.is_bool(),
+        ValueKind::Table => value.is_table(),
+        ValueKind::Tables => is_array_of_tables(value),
+        ValueKind::Text => value.is_str(),
+        ValueKind::WholeNumber => value.is_integer(),
+        ValueKind::TruthValue => value.is_bool(),
     }
 }
 
 /// Whether the member is there and of another kind.
-fn is_wrong(kind: Kind, key: &str, value: &Value) -> bool
+fn is_wrong(kind: ValueKind, key: &str, value: &Value) -> bool
     ensures { result ≡ is_wrong kind key.now (view value.now) }
 {
     match value.get(key) {
@@ -61,13 +61,13 @@ fn is_wrong(kind: Kind, key: &str, value: &Value) -> bool
 fn is_wrong_queue(queue: &Value) -> bool
     ensures { result ≡ is_wrong_queue (view queue.now) }
 {
-    is_wrong(Kind::Text, "name", queue)
-        || is_wrong(Kind::WholeNumber, "window", queue)
-        || is_wrong(Kind::WholeNumber, "floor", queue)
-        || is_wrong(Kind::Text, "increase", queue)
-        || is_wrong(Kind::WholeNumber, "increase_by", queue)
-        || is_wrong(Kind::Text, "decrease", queue)
-        || is_wrong(Kind::WholeNumber, "decrease_by", queue)
+    is_wrong(ValueKind::Text, "name", queue)
+        || is_wrong(ValueKind::WholeNumber, "window", queue)
+        || is_wrong(ValueKind::WholeNumber, "floor", queue)
+        || is_wrong(ValueKind::Text, "increase", queue)
+        || is_wrong(ValueKind::WholeNumber, "increase_by", queue)
+        || is_wrong(ValueKind::Text, "decrease", queue)
+        || is_wrong(ValueKind::WholeNumber, "decrease_by", queue)
 }
 
 fn any_is_wrong_queue(queues: &[Value]) -> bool
@@ -79,7 +79,7 @@ fn any_is_wrong_queue(queues: &[Value]) -> bool
 fn is_wrong_job(job: &Value) -> bool
     ensures { result ≡ is_wrong_job (view job.now) }
 {
-    is_wrong(Kind::Text, "name", job) || is_wrong(Kind::TruthValue, "voting", job)
+    is_wrong(ValueKind::Text, "name", job) || is_wrong(ValueKind::TruthValue, "voting", job)
 }
 
 fn any_is_wrong_job(jobs: &[Value]) -> bool
@@ -92,10 +92,10 @@ fn any_is_wrong_job(jobs: &[Value]) -> bool
 fn is_wrong_project(project: &Value) -> bool
     ensures { result ≡ is_wrong_project (view project.now) }
 {
-    is_wrong(Kind::Text, "name", project)
-        || is_wrong(Kind::Text, "queue", project)
-        || is_wrong(Kind::Tables, "job", project)
-        || is_wrong(Kind::TruthValue, "fail_fast", project)
+    is_wrong(ValueKind::Text, "name", project)
+        || is_wrong(ValueKind::Text, "queue", project)
+        || is_wrong(ValueKind::Tables, "job", project)
+        || is_wrong(ValueKind::TruthValue, "fail_fast", project)
         || any_is_wrong_job(jobs_of(project))
 }
 
@@ -107,10 +107,10 @@ fn any_is_wrong_project(projects: &[Value]) -> bool
 
 fn has_wrong_base(document: &Value) -> bool
     ensures { result
-        ≡ option_map_or (is_wrong Kind.Text (codes "base")) (get (codes "forge") (view document.now)) false }
+        ≡ option_map_or (is_wrong ValueKind.Text (codes "base")) (get (codes "forge") (view document.now)) false }
 {
     match document.get("forge") {
-        Some(forge) => is_wrong(Kind::Text, "base", forge),
+        Some(forge) => is_wrong(ValueKind::Text, "base", forge),
         None => false,
     }
 }
@@ -120,9 +120,9 @@ fn has_wrong_base(document: &Value) -> bool
 pub(crate) fn has_wrong_kind(document: &Value) -> bool
     ensures { result ≡ has_wrong_kind (view document.now) }
 {
-    is_wrong(Kind::Table, "forge", document)
-        || is_wrong(Kind::Tables, "queue", document)
-        || is_wrong(Kind::Tables, "project", document)
+    is_wrong(ValueKind::Table, "forge", document)
+        || is_wrong(ValueKind::Tables, "queue", document)
+        || is_wrong(ValueKind::Tables, "project", document)
         || has_wrong_base(document)
         || any_is_wrong_queue(queues_of(document))
         || any_is_wrong_project(projects_of(document))

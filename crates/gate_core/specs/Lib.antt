@@ -11,7 +11,7 @@ pub mod Gathered
 pub mod Replies
 pub mod Held
 pub mod Landing
-pub mod Said
+pub mod LineAnswer
 pub mod Line
 pub mod Runs
 pub mod Faults

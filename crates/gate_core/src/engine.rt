@@ -7,7 +7,7 @@ ghost use Rattle.gate_core.specs.Line.{Holds};
 ghost use Rattle.gate_core.specs.Gathered.{whole_from, rest_from};
 ghost use Rattle.gate_core.specs.Lines.{whole_lines, lines_of, ReadFor};
 ghost use Rattle.gate_core.specs.Runs.{Answers, FedTo, BrokeTo};
-ghost use Rattle.gate_core.specs.Said.{text_of};
+ghost use Rattle.gate_core.specs.LineAnswer.{text_of};
 
 use crate::fault::IoFault;
 use crate::line::Line;
@@ -20,22 +20,22 @@ const LONGEST_READ: usize = 4096;
 
 /// What a line is answered by.
 #[derive(Drop)]
-pub enum Said {
+pub enum LineAnswer {
     Text(String),
     Refused(&'static str),
 }
 
 /// What answers lines, one after another.
-pub trait Respond {
+pub trait AnswerLines {
     // the text for a line in a state, and the state after it
     ghost replies: { Self → List ℕ → List ℕ → Self → Type 0 };
 
-    fn respond(&mut self, alloc: Global, line: &[u8]) -> Said
+    fn respond(&mut self, alloc: Global, line: &[u8]) -> LineAnswer
         requires { length line.now ≤ limit }
         ensures { replies self.old line.now (text_of result) self.new };
 }
 
-fn answer<G: Respond, W: Write>(
+fn answer<G: AnswerLines, W: Write>(
     alloc: Global,
     gate: &mut G,
     line: &Line,
@@ -54,14 +54,14 @@ fn answer<G: Respond, W: Write>(
     match line.get() {
         None => w.write_line("{\"error\":\"too-large\"}")?,
         Some(bytes) => match gate.respond(alloc, bytes) {
-            Said::Text(text) => w.write_line(text.as_str())?,
-            Said::Refused(text) => w.write_line(text)?,
+            LineAnswer::Text(text) => w.write_line(text.as_str())?,
+            LineAnswer::Refused(text) => w.write_line(text)?,
         },
     }
     Ok(())
 }
 
-fn feed<G: Respond, W: Write>(
+fn feed<G: AnswerLines, W: Write>(
     alloc: Global,
     gate: &mut G,
     line: &mut Line,
@@ -93,7 +93,7 @@ fn feed<G: Respond, W: Write>(
 
 /// Answers each line of the reader by a line to the writer, and gives the number of lines.
 /// Each answer is written before the next read.
-pub(crate) fn answer_lines<G: Respond, R: Read, W: Write>(
+pub(crate) fn answer_lines<G: AnswerLines, R: Read, W: Write>(
     alloc: Global,
     gate: &mut G,
     r: &mut Tap<R>,

@@ -7,7 +7,7 @@ use Rattle.httparse.specs.Grammar.{RequestHead}
 use Rattle.httparse.specs.Spans.{name_and_value}
 use Rattle.gate_http.specs.declared.fields.BodyLength.{BodyLength}
 use Rattle.gate_http.specs.declared.fields.BodyLength.TheVariants as body
-use Rattle.gate_http.specs.declared.fault.Fault.TheVariants as fault
+use Rattle.gate_http.specs.declared.fault.HttpFault.TheVariants as fault
 use Rattle.gate_http.specs.declared.routes.Route.{Route}
 use Rattle.gate_http.specs.declared.routes.Route.TheVariants as route
 use Rattle.gate_wire.specs.declared.door.Door.{Door}

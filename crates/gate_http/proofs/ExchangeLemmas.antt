@@ -7,8 +7,8 @@ use Rattle.std.proofs.lemmas.List.{take_all}
 use Rattle.std.proofs.lemmas.Bool.{le-ltb, lt-ltb}
 use Rattle.httparse.specs.Grammar.{RequestHead}
 use Rattle.gate_wire.specs.declared.door.Door.{Door}
-use Rattle.gate_http.specs.declared.fault.Fault.{Fault}
-use Rattle.gate_http.specs.declared.fault.Fault.TheVariants as fault
+use Rattle.gate_http.specs.declared.fault.HttpFault.{HttpFault}
+use Rattle.gate_http.specs.declared.fault.HttpFault.TheVariants as fault
 use Rattle.gate_http.specs.declared.head.Came.TheVariants as came
 use Rattle.gate_http.specs.declared.request.Wanted.{Wanted}
 use Rattle.gate_http.specs.declared.request.Wanted.TheVariants as wanted
@@ -99,7 +99,7 @@ read_head_alone from left head d w h decides alone =
     (subst (Consumes from left) (sym (append-nil head)) h.read)))
 
 -- it is refused by its head
-pub read_refused : (from left : Option (List ℕ)) (head : List ℕ) (f : Fault) (bodiless : Bool)
+pub read_refused : (from left : Option (List ℕ)) (head : List ℕ) (f : HttpFault) (bodiless : Bool)
     → HeadComes came.Whole head from left → Decides head (refused f bodiless) → Reads from left (refusal f bodiless)
 read_refused from left head f bodiless h decides =
     read_head_alone from left head (refused f bodiless) (refusal f bodiless) h decides (λ rest. (refl, refl))

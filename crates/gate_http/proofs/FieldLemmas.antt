@@ -5,8 +5,8 @@ use Rattle.std.proofs.lemmas.List.Elements.{filter-append}
 use Rattle.httparse.specs.Spans.{header_bytes}
 use Rattle.httparse.specs.declared.spans.HeaderSpan.{HeaderSpan}
 use Rattle.gate_http.specs.Fields.{Pair, is_named, named}
-use Rattle.gate_http.specs.declared.fields.Named.{Named}
-use Rattle.gate_http.specs.declared.fields.Named.TheVariants as found
+use Rattle.gate_http.specs.declared.fields.NamedField.{NamedField}
+use Rattle.gate_http.specs.declared.fields.NamedField.TheVariants as found
 use Rattle.gate_http.specs.Parts.{HasSeveral, ShowsNamed}
 
 -- one more header
@@ -30,13 +30,13 @@ several_next (y ∷ []) x some = tt
 several_next (y ∷ z ∷ xs) x some = tt
 
 -- a find is a find
-pub found_some : (head : List ℕ) (n : Named) (fields : List Pair) → ShowsNamed head n fields → (n ≡ found.None → ⊥) → fields ≡ [] → ⊥
+pub found_some : (head : List ℕ) (n : NamedField) (fields : List Pair) → ShowsNamed head n fields → (n ≡ found.None → ⊥) → fields ≡ [] → ⊥
 found_some head found.None fields h not = λ e. not refl
 found_some head (found.One value) fields h not = λ e. let k = h.1.1 in cc
 found_some head found.Several fields h not = λ e. subst HasSeveral e h
 
 -- another of the name after a find
-pub several_found : (head name : List ℕ) (headers : List HeaderSpan) (i : ℕ) (d : HeaderSpan) (n : Named) → i < length headers
+pub several_found : (head name : List ℕ) (headers : List HeaderSpan) (i : ℕ) (d : HeaderSpan) (n : NamedField) → i < length headers
     → is_named name (header_bytes head (get_or headers i d)) ≡ true → (n ≡ found.None → ⊥)
     → ShowsNamed head n (named name (map (header_bytes head) (take i headers)))
     → HasSeveral (named name (map (header_bytes head) headers))

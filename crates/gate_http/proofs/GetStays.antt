@@ -6,7 +6,7 @@ use Rattle.gate_types.specs.Once.{Content}
 use Rattle.gate_core.specs.declared.gate.Gate.{Gate}
 use Rattle.gate_core.specs.Gated.{Gated}
 use Rattle.gate_core.specs.Held.{Goes}
-use Rattle.gate_http.specs.declared.fault.Fault.TheVariants as fault
+use Rattle.gate_http.specs.declared.fault.HttpFault.TheVariants as fault
 use Rattle.gate_http.specs.declared.response.Form.TheVariants as form
 use Rattle.gate_http.specs.declared.routes.Route.{Route}
 use Rattle.gate_http.specs.declared.routes.Route.TheVariants as route

@@ -1,8 +1,8 @@
 -- What a GET of a path asks for.
 use Rattle.std.proofs.Common.{◌≡◌, ℕ, ◌≤◌, true, false, cond, List, length, Option, Some, Result, refl, sym, ap, ◌∙◌}
 use Rattle.std.proofs.lemmas.Bool.{le-ltb}
-use Rattle.gate_http.specs.declared.fault.Fault.{Fault}
-use Rattle.gate_http.specs.declared.fault.Fault.TheVariants as fault
+use Rattle.gate_http.specs.declared.fault.HttpFault.{HttpFault}
+use Rattle.gate_http.specs.declared.fault.HttpFault.TheVariants as fault
 use Rattle.gate_http.specs.declared.request.Wanted.{Wanted}
 use Rattle.gate_http.specs.declared.routes.Route.{Route}
 use Rattle.gate_http.specs.Got.{is_target, get_head, got}
@@ -12,7 +12,7 @@ use Rattle.gate_http.specs.Way.{refused, is_head, on_route, decided_of}
 use Rattle.gate_http.proofs.RequestLemmas.{reads_on}
 
 -- what is read at a path that a head can hold is what a GET of it asks for
-pub got_read : (path before : List ℕ) (r : Option Route) (read : Result Wanted Fault) → length path ≤ 8175
+pub got_read : (path before : List ℕ) (r : Option Route) (read : Result Wanted HttpFault) → length path ≤ 8175
     → is_target path ≡ true → before ≡ path_of path → r ≡ route_of before
     → read_or (is_head (get_head path)) read ≡ reading (get_head path) before r → read_or false read ≡ got path
 got_read path before r read short fits cuts routed reads =

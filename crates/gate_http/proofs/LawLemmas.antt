@@ -4,8 +4,8 @@ use Rattle.std.specs.List.{count_by, flat_map}
 use Rattle.std.proofs.lemmas.List.Sums.{sum_by-append}
 use Rattle.httparse.specs.Grammar.{LineEnd, crlf, lf, print_end, print_field, Field, print_section, print_blank, print_version, print_request, RequestHead}
 use Rattle.httparse.proofs.GrammarLemmas.{request_unique}
-use Rattle.gate_http.specs.declared.fault.Fault.{Fault}
-use Rattle.gate_http.specs.declared.fault.Fault.TheVariants as fault
+use Rattle.gate_http.specs.declared.fault.HttpFault.{HttpFault}
+use Rattle.gate_http.specs.declared.fault.HttpFault.TheVariants as fault
 use Rattle.gate_http.specs.Asked.{Asked, delivery}
 use Rattle.gate_http.specs.Head.{Front, empty, cut, too_large, whole, front_of, front_with, head_from}
 use Rattle.gate_http.specs.Way.{Finds, Decided, refused, posted, shown, recalled, decided, way_on, way_from, silence, refusal, question}
@@ -65,7 +65,7 @@ few_lines head h rest = λ reads few.
     omega (arith, all, lines_request h)
 
 -- an input that is answered by nothing is empty
-silent_if : (t : Bool) (f : Fault) (a : Asked) → cond t (refusal f false) (question a) ≡ silence → ⊥
+silent_if : (t : Bool) (f : HttpFault) (a : Asked) → cond t (refusal f false) (question a) ≡ silence → ⊥
 silent_if true f a e = cc
 silent_if false f a e = cc
 

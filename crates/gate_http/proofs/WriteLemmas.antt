@@ -3,7 +3,7 @@ use Rattle.std.proofs.Common.{◌≡◌, List, ℕ, Bool, Option, Result, Ok, Er
 use Rattle.std.specs.Prelude.{IsErrOf}
 use Rattle.gate_core.specs.declared.fault.IoFault.{IoFault}
 use Rattle.gate_core.specs.declared.fault.IoFault.TheVariants as io
-use Rattle.gate_http.specs.declared.fault.Fault.{Fault}
+use Rattle.gate_http.specs.declared.fault.HttpFault.{HttpFault}
 use Rattle.gate_http.specs.declared.respond.Told.{Told}
 use Rattle.gate_http.specs.declared.response.Form.{Form}
 use Rattle.gate_http.specs.declared.served.Served.{Served}
@@ -36,7 +36,7 @@ read_whole from left w P (Err e) reads h = tt
 
 module _ {S : Type 0} (responds : Responding S) (recalls : Recalling S) (form : Form) where
   -- an answer of HTTP's own
-  pub refused_whole : (old : S) (f : Fault) (bodiless : Bool) (Takes : List ℕ → Type 0) (r : Result Served IoFault)
+  pub refused_whole : (old : S) (f : HttpFault) (bodiless : Bool) (Takes : List ℕ → Type 0) (r : Result Served IoFault)
       → IfOk r (λ served. (served ≡ Answered (fault_status f)) × Takes (fault_in form f bodiless))
       → IfOk r (Comes responds recalls form (refusal f bodiless) old Takes old)
   refused_whole old f bodiless Takes r h =
@@ -44,7 +44,7 @@ module _ {S : Type 0} (responds : Responding S) (recalls : Recalling S) (form : 
       (Takes (fault_in form f bodiless)) r (λ served e takes. (e, takes, refl)) h
 
   -- its beginning
-  pub refused_front : (old : S) (f : Fault) (bodiless : Bool) (Takes : List ℕ → Type 0) (r : Result Served IoFault)
+  pub refused_front : (old : S) (f : HttpFault) (bodiless : Bool) (Takes : List ℕ → Type 0) (r : Result Served IoFault)
       → OnErr r (Takes (fault_in form f bodiless)) → IsErrOf r io.Write
       → (served : Served) × Comes responds recalls form (refusal f bodiless) old Takes old served
   refused_front old f bodiless Takes r h e =
@@ -85,7 +85,7 @@ module _ {S : Type 0} (responds : Responding S) (recalls : Recalling S) (form : 
       read_as from left w (λ v. (served : Served) × Comes responds recalls form v old Takes new served) reads h
 
   -- an answer of HTTP's own
-  pub refused_read : (from left : Option (List ℕ)) (old : S) (f : Fault) (bodiless : Bool) (Takes : List ℕ → Type 0)
+  pub refused_read : (from left : Option (List ℕ)) (old : S) (f : HttpFault) (bodiless : Bool) (Takes : List ℕ → Type 0)
       (r : Result Served IoFault) → Reads from left (refusal f bodiless)
       → IfOk r (λ served. (served ≡ Answered (fault_status f)) × Takes (fault_in form f bodiless))
       → IfOk r (λ served. OfRead from left (λ v. Comes responds recalls form v old Takes old served))
@@ -93,7 +93,7 @@ module _ {S : Type 0} (responds : Responding S) (recalls : Recalling S) (form : 
       comes_read from left (refusal f bodiless) old old Takes r reads (refused_whole old f bodiless Takes r h)
 
   -- its beginning
-  pub refused_begun : (from left : Option (List ℕ)) (old : S) (f : Fault) (bodiless : Bool) (Takes : List ℕ → Type 0)
+  pub refused_begun : (from left : Option (List ℕ)) (old : S) (f : HttpFault) (bodiless : Bool) (Takes : List ℕ → Type 0)
       (r : Result Served IoFault) → Reads from left (refusal f bodiless)
       → OnErr r (Takes (fault_in form f bodiless)) → IsErrOf r io.Write
       → OfRead from left (λ v. (served : Served) × Comes responds recalls form v old Takes old served)

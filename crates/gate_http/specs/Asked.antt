@@ -5,8 +5,8 @@ use Rattle.gate_types.specs.declared.deliveries.Answer.TheVariants as answer
 use Rattle.gate_types.specs.Once.{answer_text, is_unavailable}
 use Rattle.gate_types.specs.Refusals.{refusal_row}
 use Rattle.gate_wire.specs.declared.door.Door.{Door}
-use Rattle.gate_http.specs.declared.fault.Fault.{Fault}
-use Rattle.gate_http.specs.declared.fault.Fault.TheVariants as fault
+use Rattle.gate_http.specs.declared.fault.HttpFault.{HttpFault}
+use Rattle.gate_http.specs.declared.fault.HttpFault.TheVariants as fault
 use Rattle.gate_http.specs.declared.respond.Page.{Page}
 use Rattle.gate_http.specs.declared.respond.Page.TheVariants as pages
 use Rattle.gate_http.specs.declared.respond.Stream.{Stream}
@@ -39,7 +39,7 @@ streamed_by stream.Deliveries = all_deliveries
 streamed_by (stream.DeliveriesAfter text) = later_deliveries text.now
 
 -- what is answered where there is nothing of the kind
-abbrev pub missing_of : Streamed → Fault
+abbrev pub missing_of : Streamed → HttpFault
 missing_of (whole_history name) = fault.NoQueue
 missing_of (later_history name place) = fault.NoQueue
 missing_of all_deliveries = fault.NoDelivery

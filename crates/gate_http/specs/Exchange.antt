@@ -3,7 +3,7 @@ use Rattle.std.specs.Prelude.{ℕ, ◌≡◌, true, false, List, [], ◌++◌, O
 use Rattle.std.specs.Io.KnownBytes.{Consumes}
 use Rattle.gate_types.specs.declared.tap.Tap.{Tap}
 use Rattle.gate_types.specs.Tap.{inside, has_failed, Took, TookFront}
-use Rattle.gate_http.specs.declared.fault.Fault.TheVariants as fault
+use Rattle.gate_http.specs.declared.fault.HttpFault.TheVariants as fault
 use Rattle.gate_http.specs.declared.respond.StreamFault.{StreamFault}
 use Rattle.gate_http.specs.declared.respond.StreamFault.TheVariants as stopped
 use Rattle.gate_http.specs.declared.respond.Told.{Told}

@@ -2,7 +2,7 @@
 use Rattle.std.specs.Prelude.{ℕ, Bool, false, ◌&&◌, List, [], length, Some, nat_lt, if◌then◌else◌, codes}
 use Rattle.std.specs.List.{list_all}
 use Rattle.httparse.specs.Grammar.{RequestHead, is_uri_byte, crlf}
-use Rattle.gate_http.specs.declared.fault.Fault.TheVariants as fault
+use Rattle.gate_http.specs.declared.fault.HttpFault.TheVariants as fault
 use Rattle.gate_http.specs.declared.response.Form.TheVariants as form
 use Rattle.gate_http.specs.declared.served.Served.{Served}
 use Rattle.gate_http.specs.Exchange.{Responding, Recalling, Comes, Broke}

@@ -1,7 +1,7 @@
 -- Laws of the definitions, and examples.
 use Rattle.std.specs.Prelude.{ℕ, ◌≡◌, ◌≤◌, ◌==◌, List, [], ◌∷◌, ◌++◌, length, count_by, Option, Some, None, true, false, codes}
 use Rattle.httparse.specs.Grammar.{RequestHead, ReadsRequest, crlf, lf}
-use Rattle.gate_http.specs.declared.fault.Fault.TheVariants as fault
+use Rattle.gate_http.specs.declared.fault.HttpFault.TheVariants as fault
 use Rattle.gate_wire.specs.declared.door.Door.TheVariants as door
 use Rattle.gate_http.specs.declared.respond.Page.TheVariants as pages
 use Rattle.gate_http.specs.declared.routes.Route.TheVariants as route

@@ -9,8 +9,8 @@ use Rattle.gate_archive.specs.declared.fault.FeedFault.{FeedFault}
 use Rattle.gate_archive.specs.declared.fault.FeedFault.TheVariants as feed
 use Rattle.gate_http.specs.declared.head.Came.{Came}
 use Rattle.gate_http.specs.declared.head.Came.TheVariants as came
-use Rattle.gate_http.specs.declared.fields.Named.{Named}
-use Rattle.gate_http.specs.declared.fields.Named.TheVariants as found
+use Rattle.gate_http.specs.declared.fields.NamedField.{NamedField}
+use Rattle.gate_http.specs.declared.fields.NamedField.TheVariants as found
 use Rattle.gate_http.specs.declared.request.Decision.{Decision}
 use Rattle.gate_http.specs.declared.request.Decision.TheVariants as decision
 use Rattle.gate_http.specs.Head.{cut, too_large, whole, front_of}
@@ -19,8 +19,8 @@ use Rattle.gate_http.specs.declared.request.Question.{Question}
 use Rattle.gate_http.specs.declared.request.Question.TheVariants as question
 use Rattle.gate_http.specs.declared.request.Wanted.{Wanted}
 use Rattle.gate_http.specs.declared.request.Wanted.TheVariants as wanted
-use Rattle.gate_http.specs.declared.fault.Fault.{Fault}
-use Rattle.gate_http.specs.declared.fault.Fault.TheVariants as fault
+use Rattle.gate_http.specs.declared.fault.HttpFault.{HttpFault}
+use Rattle.gate_http.specs.declared.fault.HttpFault.TheVariants as fault
 use Rattle.gate_http.specs.declared.respond.StreamFault.{StreamFault}
 use Rattle.gate_http.specs.declared.respond.StreamFault.TheVariants as stopped
 use Rattle.gate_http.specs.declared.response.Form.{Form}
@@ -65,7 +65,7 @@ HasSeveral (field ∷ []) = ⊥
 HasSeveral (field ∷ another ∷ more) = ⊤
 
 -- the fields of a name that were found
-abbrev pub ShowsNamed : List ℕ → Named → List Pair → Type 0
+abbrev pub ShowsNamed : List ℕ → NamedField → List Pair → Type 0
 ShowsNamed head found.None fields = fields ≡ []
 ShowsNamed head (found.One value) fields =
     IsWithin (length head) value × ((name : List ℕ) × (fields ≡ (name, span_bytes head value) ∷ []))
@@ -84,7 +84,7 @@ read_by (wanted.Ask q) = shown (asked_by q)
 read_by (wanted.Lines s) = recalled (streamed_by s)
 
 -- what is read, or what HTTP itself refuses, maybe without its body
-abbrev pub read_or : Bool → Result Wanted Fault → Decided
+abbrev pub read_or : Bool → Result Wanted HttpFault → Decided
 read_or bodiless (Ok w) = read_by w
 read_or bodiless (Err f) = refused f bodiless
 

@@ -2,8 +2,8 @@
 use Rattle.std.specs.Prelude.{ℕ, Bool, false, ◌&&◌, List, [], ◌++◌, length, ◌==◌, if◌then◌else◌, Option, None, Some, codes, decimal}
 use Rattle.gate_types.specs.declared.deliveries.Answer.TheVariants.{Refused}
 use Rattle.gate_types.specs.declared.deliveries.Refusal.TheVariants as refusal
-use Rattle.gate_http.specs.declared.fault.Fault.{Fault}
-use Rattle.gate_http.specs.declared.fault.Fault.TheVariants as fault
+use Rattle.gate_http.specs.declared.fault.HttpFault.{HttpFault}
+use Rattle.gate_http.specs.declared.fault.HttpFault.TheVariants as fault
 use Rattle.gate_http.specs.declared.respond.Told.{Told}
 use Rattle.gate_http.specs.declared.respond.Told.TheVariants as told
 use Rattle.gate_http.specs.declared.response.Form.{Form}
@@ -27,7 +27,7 @@ phrase status =
     if status == 507 then codes "Insufficient Storage" else []
 
 -- the line of the method that a route takes, where it was asked by another
-abbrev pub allow_line : Fault → List ℕ
+abbrev pub allow_line : HttpFault → List ℕ
 allow_line fault.NotPost = codes "Allow: POST\r\n"
 allow_line fault.NotGet = codes "Allow: GET\r\n"
 allow_line fault.HeadTooLarge = []
@@ -65,11 +65,11 @@ abbrev pub plain : List ℕ
 plain = codes "text/plain"
 
 -- the content of an answer of HTTP's own, maybe without its body
-abbrev pub fault_content : Fault → Bool → List ℕ
+abbrev pub fault_content : HttpFault → Bool → List ℕ
 fault_content f bodiless = if bodiless then [] else fault_text f
 
 -- the head of the response with it
-abbrev pub fault_head : Fault → List ℕ
+abbrev pub fault_head : HttpFault → List ℕ
 fault_head f = head_text (fault_status f) json (length (fault_text f)) (allow_line f)
 
 -- the type of what is told; the status text is plain text, all else is JSON
@@ -97,7 +97,7 @@ abbrev pub written_in : Form → List ℕ → List ℕ → List ℕ
 written_in a head content = head_in a head ++ content
 
 -- the answer of HTTP's own
-abbrev pub fault_in : Form → Fault → Bool → List ℕ
+abbrev pub fault_in : Form → HttpFault → Bool → List ℕ
 fault_in a f bodiless = written_in a (fault_head f) (fault_content f bodiless)
 
 -- the answer with what is told

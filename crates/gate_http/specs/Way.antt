@@ -3,8 +3,8 @@ use Rattle.std.specs.Prelude.{ℕ, ◌≡◌, ◌≤◌, Bool, false, List, [], 
 use Rattle.std.specs.Str.{bytes_eq}
 use Rattle.httparse.specs.Grammar.{RequestHead, ReadsRequest}
 use Rattle.httparse.specs.Spans.{name_and_value}
-use Rattle.gate_http.specs.declared.fault.Fault.{Fault}
-use Rattle.gate_http.specs.declared.fault.Fault.TheVariants as fault
+use Rattle.gate_http.specs.declared.fault.HttpFault.{HttpFault}
+use Rattle.gate_http.specs.declared.fault.HttpFault.TheVariants as fault
 use Rattle.gate_wire.specs.declared.door.Door.{Door}
 use Rattle.gate_wire.specs.declared.door.Door.TheVariants as door
 use Rattle.gate_http.specs.declared.respond.Page.TheVariants as pages
@@ -29,7 +29,7 @@ Finds head (Some h) = IsRequest head h
 -- what a head asks for: an answer of HTTP's own, maybe without its body; a delivery of so many bytes; what is told at
 -- once; what is written line by line
 pub data Decided : Type 0 where
-  refused : Fault → Bool → Decided
+  refused : HttpFault → Bool → Decided
   posted : Door → ℕ → Decided
   shown : Asked → Decided
   recalled : Streamed → Decided
@@ -91,7 +91,7 @@ decided head found =
 -- what becomes of an input: nothing, an answer of HTTP's own, a question to the gate, or what is written line by line
 pub data Way : Type 0 where
   silence : Way
-  refusal : Fault → Bool → Way
+  refusal : HttpFault → Bool → Way
   question : Asked → Way
   stream : Streamed → Way
 

@@ -7,7 +7,7 @@ ghost use Rattle.gate_http.specs.Response.{fault_content, told_kind, fault_in, t
 ghost use Rattle.gate_http.specs.Exchange.{OfLines, Recalled};
 ghost use Rattle.gate_http.specs.Parts.{asked_by, ReadsTo, BreaksOff};
 
-use crate::fault::Fault;
+use crate::fault::HttpFault;
 use crate::request::{Question, Wanted};
 use crate::respond::{Page, Respond, Stream, StreamFault, Told, status_of, text_of};
 use crate::response::{Form, allow_of, front_of, write_answer};
@@ -19,7 +19,7 @@ use std::alloc::Global;
 use std::io::Write;
 
 /// The content of an answer of HTTP's own, or nothing.
-fn content_of(fault: Fault, bodiless: bool) -> &'static str
+fn content_of(fault: HttpFault, bodiless: bool) -> &'static str
     ensures { result.now ≡ fault_content fault bodiless }
 {
     if bodiless { "" } else { fault.text() }
@@ -48,7 +48,7 @@ pub(crate) fn refuse<W: Write>(
     writer: &mut Tap<W>,
     room: &mut Vec<u8>,
     form: Form,
-    fault: Fault,
+    fault: HttpFault,
     bodiless: bool,
 ) -> Result<Served, IoFault>
     requires writer { has_failed writer.old ≡ false }
@@ -120,12 +120,12 @@ fn ask<G: Respond>(alloc: Global, gate: &mut G, question: Question<'_>) -> Told
 }
 
 /// The answer where there is nothing of the kind.
-fn missing_of(wanted: Stream<'_>) -> Fault
+fn missing_of(wanted: Stream<'_>) -> HttpFault
     ensures { result ≡ missing_of (streamed_by wanted.entry) }
 {
     match wanted {
-        Stream::History(_) | Stream::HistoryFrom(_, _) => Fault::NoQueue,
-        Stream::Deliveries | Stream::DeliveriesAfter(_) => Fault::NoDelivery,
+        Stream::History(_) | Stream::HistoryFrom(_, _) => HttpFault::NoQueue,
+        Stream::Deliveries | Stream::DeliveriesAfter(_) => HttpFault::NoDelivery,
     }
 }
 

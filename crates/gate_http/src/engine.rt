@@ -6,7 +6,7 @@ ghost use Rattle.gate_http.specs.Exchange.{AnswersTo, BreaksTo, StopsAt, Waits};
 
 use crate::answering::{answer_wanted, refuse, tell};
 use crate::body::{BODY_LIMIT, read_body};
-use crate::fault::Fault;
+use crate::fault::HttpFault;
 use crate::head::{Came, HEAD_LIMIT, read_head};
 use crate::request::{Decision, decide};
 use crate::respond::{Respond, Told};
@@ -54,8 +54,8 @@ fn answer<G: Respond, R: Read, W: Write>(
     let form = Form::Response;
     match read_head(reader, head) {
         Ok(Came::Nothing) => return Ok(Served::Nothing),
-        Ok(Came::Part) => return refuse(writer, room, form, Fault::Cut, false),
-        Ok(Came::TooMuch) => return refuse(writer, room, form, Fault::HeadTooLarge, false),
+        Ok(Came::Part) => return refuse(writer, room, form, HttpFault::Cut, false),
+        Ok(Came::TooMuch) => return refuse(writer, room, form, HttpFault::HeadTooLarge, false),
         Ok(Came::Whole) => {}
         Err(_) => return Err(IoFault::Read),
     }
@@ -66,7 +66,7 @@ fn answer<G: Respond, R: Read, W: Write>(
                 let said = gate.hear(alloc, door, body.as_slice());
                 tell(writer, room, form, &Told::Answer(said), false)
             }
-            Ok(false) => refuse(writer, room, form, Fault::Cut, false),
+            Ok(false) => refuse(writer, room, form, HttpFault::Cut, false),
             Err(_) => Err(IoFault::Read),
         },
         Decision::Read(wanted) => answer_wanted(alloc, gate, writer, room, form, wanted),

@@ -3,7 +3,7 @@ ghost use Rattle.std.specs.Prelude.{◌≡◌};
 
 /// Why a request gets an answer of HTTP's own.
 #[derive(Clone, Copy)]
-pub enum Fault {
+pub enum HttpFault {
     /// The first 8,192 bytes hold no head, or the head has over 66 lines.
     HeadTooLarge,
     /// The input ends within the request.
@@ -28,7 +28,7 @@ pub enum Fault {
     NoDelivery,
 }
 
-impl Fault {
+impl HttpFault {
     ghost use Rattle.gate_http.specs.Faults.{fault_status, fault_text};
 
     /// The status of the answer.
@@ -36,13 +36,13 @@ impl Fault {
         ensures { result ≡ fault_status self }
     {
         match self {
-            Fault::HeadTooLarge => 431,
-            Fault::Cut | Fault::BadRequest => 400,
-            Fault::NoRoute => 404,
-            Fault::NotPost | Fault::NotGet => 405,
-            Fault::NoLength => 411,
-            Fault::TooLarge => 413,
-            Fault::NoQueue | Fault::NoItem | Fault::NoDelivery => 404,
+            HttpFault::HeadTooLarge => 431,
+            HttpFault::Cut | HttpFault::BadRequest => 400,
+            HttpFault::NoRoute => 404,
+            HttpFault::NotPost | HttpFault::NotGet => 405,
+            HttpFault::NoLength => 411,
+            HttpFault::TooLarge => 413,
+            HttpFault::NoQueue | HttpFault::NoItem | HttpFault::NoDelivery => 404,
         }
     }
 
@@ -51,16 +51,16 @@ impl Fault {
         ensures { result.now ≡ fault_text self }
     {
         match self {
-            Fault::HeadTooLarge => "{\"error\":\"head-too-large\"}",
-            Fault::Cut => "{\"error\":\"cut\"}",
-            Fault::BadRequest => "{\"error\":\"bad-request\"}",
-            Fault::NoRoute => "{\"error\":\"no-route\"}",
-            Fault::NotPost | Fault::NotGet => "{\"error\":\"method\"}",
-            Fault::NoLength => "{\"error\":\"length\"}",
-            Fault::TooLarge => "{\"error\":\"too-large\"}",
-            Fault::NoQueue => "{\"error\":\"no-queue\"}",
-            Fault::NoItem => "{\"error\":\"no-item\"}",
-            Fault::NoDelivery => "{\"error\":\"no-delivery\"}",
+            HttpFault::HeadTooLarge => "{\"error\":\"head-too-large\"}",
+            HttpFault::Cut => "{\"error\":\"cut\"}",
+            HttpFault::BadRequest => "{\"error\":\"bad-request\"}",
+            HttpFault::NoRoute => "{\"error\":\"no-route\"}",
+            HttpFault::NotPost | HttpFault::NotGet => "{\"error\":\"method\"}",
+            HttpFault::NoLength => "{\"error\":\"length\"}",
+            HttpFault::TooLarge => "{\"error\":\"too-large\"}",
+            HttpFault::NoQueue => "{\"error\":\"no-queue\"}",
+            HttpFault::NoItem => "{\"error\":\"no-item\"}",
+            HttpFault::NoDelivery => "{\"error\":\"no-delivery\"}",
         }
     }
 }

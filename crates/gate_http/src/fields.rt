@@ -22,7 +22,7 @@ pub(crate) enum BodyLength {
 
 /// The fields of a name: none, one with this value, or several.
 #[derive(Clone, Copy)]
-pub(crate) enum Named {
+pub(crate) enum NamedField {
     None,
     One(Span),
     Several,
@@ -34,16 +34,16 @@ fn same_name(a: &[u8], b: &[u8]) -> bool
     a.eq_ignore_ascii_case(b)
 }
 
-fn find_named(head: &[u8], headers: &[HeaderSpan], name: &[u8]) -> Named
+fn find_named(head: &[u8], headers: &[HeaderSpan], name: &[u8]) -> NamedField
     requires { All (IsHeaderWithin (length head.now)) headers.now }
     ensures { ShowsNamed head.now result (named name.now (map (header_bytes head.now) headers.now)) }
 {
-    let mut found = Named::None;
+    let mut found = NamedField::None;
     for header in headers {
         if same_name(header.name.of(head), name) {
             match found {
-                Named::None => found = Named::One(header.value),
-                _ => return Named::Several,
+                NamedField::None => found = NamedField::One(header.value),
+                _ => return NamedField::Several,
             }
         }
     }
@@ -67,10 +67,10 @@ pub(crate) fn body_length(head: &[u8], headers: &[HeaderSpan]) -> BodyLength
     ensures { result ≡ length_of (map (header_bytes head.now) headers.now) }
 {
     match find_named(head, headers, b"transfer-encoding") {
-        Named::None => match find_named(head, headers, b"content-length") {
-            Named::None => BodyLength::Missing,
-            Named::One(value) => length_said(value.of(head)),
-            Named::Several => BodyLength::Bad,
+        NamedField::None => match find_named(head, headers, b"content-length") {
+            NamedField::None => BodyLength::Missing,
+            NamedField::One(value) => length_said(value.of(head)),
+            NamedField::Several => BodyLength::Bad,
         },
         _ => BodyLength::Missing,
     }

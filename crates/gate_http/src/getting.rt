@@ -9,7 +9,7 @@ ghost use Rattle.gate_http.specs.Got.{is_target, got, Gets, GetsPart};
 ghost use Rattle.gate_http.specs.Serving.{ServesGet};
 
 use crate::answering::{answer_wanted, refuse};
-use crate::fault::Fault;
+use crate::fault::HttpFault;
 use crate::request::{Wanted, read};
 use crate::respond::Respond;
 use crate::response::{Form, HEAD_ROOM};
@@ -45,15 +45,15 @@ fn is_target(path: &str) -> bool
 ///
 /// `HeadTooLarge` where no head has room for the path; `BadRequest` where no request line can hold it; else those of
 /// the path itself.
-fn find<'a>(router: &Router<Route>, path: &'a str) -> Result<Wanted<'a>, Fault>
+fn find<'a>(router: &Router<Route>, path: &'a str) -> Result<Wanted<'a>, HttpFault>
     requires { router.now ≡ routes }
     ensures { read_or false result ≡ got path.now }
 {
     if path.len() > PATH_LIMIT {
-        return Err(Fault::HeadTooLarge);
+        return Err(HttpFault::HeadTooLarge);
     }
     if !is_target(path) {
-        return Err(Fault::BadRequest);
+        return Err(HttpFault::BadRequest);
     }
     let path = cut_query(path);
     read(find_route(router, path), path, true)

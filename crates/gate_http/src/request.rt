@@ -7,7 +7,7 @@ ghost use Rattle.gate_http.specs.Routes.{routes};
 ghost use Rattle.gate_http.specs.Way.{IsRequest, Finds, decided, decided_of, posted_of, read_at, is_head};
 ghost use Rattle.gate_http.specs.Parts.{view, read_by, read_or, reading};
 
-use crate::fault::Fault;
+use crate::fault::HttpFault;
 use crate::fields::{BodyLength, body_length};
 use crate::respond::{Page, Stream};
 use crate::routes::{Route, cut_query, find_route, parameter, place, queue};
@@ -46,7 +46,7 @@ pub(crate) enum Wanted<'a> {
 /// What a head asks for.
 pub(crate) enum Decision<'a> {
     /// An answer of HTTP's own, without its body if that is said.
-    Refuse(Fault, bool),
+    Refuse(HttpFault, bool),
     /// A delivery of so many bytes.
     Post(Door, usize),
     Read(Wanted<'a>),
@@ -70,9 +70,9 @@ fn posted<'a>(door: Door, length: BodyLength) -> Decision<'a>
     ensures { view result ≡ posted_of door length }
 {
     match length {
-        BodyLength::Missing => Decision::Refuse(Fault::NoLength, false),
-        BodyLength::Bad => Decision::Refuse(Fault::BadRequest, false),
-        BodyLength::Long => Decision::Refuse(Fault::TooLarge, false),
+        BodyLength::Missing => Decision::Refuse(HttpFault::NoLength, false),
+        BodyLength::Bad => Decision::Refuse(HttpFault::BadRequest, false),
+        BodyLength::Long => Decision::Refuse(HttpFault::TooLarge, false),
         BodyLength::Bytes(n) => Decision::Post(door, n),
     }
 }
@@ -111,17 +111,17 @@ pub(crate) fn read<'a>(
     route: Option<Route>,
     path: &'a str,
     is_get: bool,
-) -> Result<Wanted<'a>, Fault>
+) -> Result<Wanted<'a>, HttpFault>
     ensures { (h : RequestHead) → bytes_eq h.method (codes "GET") ≡ is_get →
         read_or (is_head h) result ≡ reading h path.now route }
 {
     match route {
-        None => Err(Fault::NoRoute),
-        Some(Route::Forge | Route::Worker) => Err(Fault::NotPost),
+        None => Err(HttpFault::NoRoute),
+        Some(Route::Forge | Route::Worker) => Err(HttpFault::NotPost),
         Some(route) => match read_at(route, path) {
-            None => Err(Fault::NoRoute),
+            None => Err(HttpFault::NoRoute),
             Some(wanted) if is_get => Ok(wanted),
-            Some(_) => Err(Fault::NotGet),
+            Some(_) => Err(HttpFault::NotGet),
         },
     }
 }
@@ -141,7 +141,7 @@ fn ask<'a>(
     let method = spans.method.of(head);
     let bodiless = method == Method::HEAD.as_str().as_bytes();
     let Ok(target) = from_utf8(spans.path.of(head)) else {
-        return Decision::Refuse(Fault::NoRoute, bodiless);
+        return Decision::Refuse(HttpFault::NoRoute, bodiless);
     };
     let path = cut_query(target);
     let route = find_route(router, path);
@@ -172,10 +172,10 @@ pub(crate) fn decide<'a>(router: &Router<Route>, head: &'a [u8]) -> Decision<'a>
     let mut headers = [EMPTY_HEADER_SPAN; FIELDS];
     let found = parse(head, &mut headers);
     if line_ends(head) > LINES {
-        return Decision::Refuse(Fault::HeadTooLarge, false);
+        return Decision::Refuse(HttpFault::HeadTooLarge, false);
     }
     match found {
         Some(spans) => ask(router, head, &headers, spans),
-        None => Decision::Refuse(Fault::BadRequest, false),
+        None => Decision::Refuse(HttpFault::BadRequest, false),
     }
 }

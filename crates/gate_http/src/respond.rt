@@ -8,7 +8,7 @@ ghost use Rattle.gate_http.specs.Asked.{Streamed, streamed_by};
 ghost use Rattle.gate_http.specs.Exchange.{HasText, Stops};
 ghost use Rattle.gate_http.specs.Fields.{body_limit};
 
-use crate::fault::Fault;
+use crate::fault::HttpFault;
 use gate_types::deliveries::Answer;
 use gate_types::tap::{Failed, Tap};
 use gate_wire::Door;
@@ -98,7 +98,7 @@ pub(crate) fn status_of(told: &Told) -> u16
 {
     match told {
         Told::Answer(answer) => answer_status(answer),
-        Told::NoItem => Fault::NoItem.status(),
+        Told::NoItem => HttpFault::NoItem.status(),
     }
 }
 
@@ -108,7 +108,7 @@ pub(crate) fn text_of(told: &Told) -> &str
 {
     match told {
         Told::Answer(answer) => answer_text(answer),
-        Told::NoItem => Fault::NoItem.text(),
+        Told::NoItem => HttpFault::NoItem.text(),
     }
 }
 

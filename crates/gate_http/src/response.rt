@@ -3,7 +3,7 @@ ghost use Rattle.std.specs.Prelude.{◌≡◌, ◌≤◌, ◌+◌, ◌++◌, [],
 ghost use Rattle.gate_types.specs.Tap.{has_failed, Took, TookFront};
 ghost use Rattle.gate_http.specs.Response.{phrase, line, status_line, head_text, allow_line, stream_head, front_in, head_in, written_in};
 
-use crate::fault::Fault;
+use crate::fault::HttpFault;
 use gate_types::tap::{Failed, Tap};
 use http::StatusCode;
 use itoa::Buffer;
@@ -39,13 +39,13 @@ fn phrase_of(status: u16) -> &'static str
 }
 
 /// The line of the method that a route takes.
-pub(crate) fn allow_of(fault: Fault) -> &'static str
+pub(crate) fn allow_of(fault: HttpFault) -> &'static str
     ensures value { result.now ≡ allow_line fault }
     ensures short { length result.now ≤ 13 }
 {
     match fault {
-        Fault::NotPost => "Allow: POST\r\n",
-        Fault::NotGet => "Allow: GET\r\n",
+        HttpFault::NotPost => "Allow: POST\r\n",
+        HttpFault::NotGet => "Allow: GET\r\n",
         _ => "",
     }
 }

@@ -10,7 +10,7 @@ use gate_book_trait::{BookFault, HistoryFault};
 use std::alloc::Global;
 
 /// A fault that the book below returns.
-pub(crate) trait Fault {
+pub(crate) trait FaultBelow {
     ghost use Rattle.std.specs.Prelude.{◌≡◌, Bool};
 
     // Whether the fault may come from the book's store.
@@ -20,7 +20,7 @@ pub(crate) trait Fault {
         ensures { result ≡ is_of_store self.now };
 }
 
-impl Fault for BookFault {
+impl FaultBelow for BookFault {
     ghost use Rattle.gate_live.specs.Faults as faults;
 
     ghost is_of_store = { faults.is_of_store };
@@ -33,7 +33,7 @@ impl Fault for BookFault {
     }
 }
 
-impl Fault for HistoryFault {
+impl FaultBelow for HistoryFault {
     ghost use Rattle.gate_live.specs.Faults as faults;
 
     ghost is_of_store = { faults.history_may_be_of_store };
@@ -46,7 +46,7 @@ impl Fault for HistoryFault {
     }
 }
 
-impl Fault for FeedFault {
+impl FaultBelow for FeedFault {
     ghost use Rattle.gate_live.specs.Faults as faults;
 
     ghost is_of_store = { faults.feed_may_be_of_store };
@@ -60,7 +60,7 @@ impl Fault for FeedFault {
 }
 
 /// Drops all held rows if this fault may come from the store.
-fn heed<F: Fault>(live: &mut Live, alloc: Global, fault: &F)
+fn heed<F: FaultBelow>(live: &mut Live, alloc: Global, fault: &F)
     ensures forgets { F.is_of_store fault.now ≡ true → live.new ≡ nothing }
     ensures agrees { (c : Settings) (x : Content) → Agrees live.old c x → Agrees live.new c x }
 {
@@ -71,7 +71,7 @@ fn heed<F: Fault>(live: &mut Live, alloc: Global, fault: &F)
 
 /// Passes on an answer of the book below. If the answer is a fault that may come from the store, drops all held rows
 /// first, since the store may no longer have them.
-pub(crate) fn told<T, F: Fault>(
+pub(crate) fn told<T, F: FaultBelow>(
     live: &mut Live,
     alloc: Global,
     answer: Result<T, F>,

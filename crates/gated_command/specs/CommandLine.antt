@@ -120,20 +120,20 @@ gated = with_subcommand (with_subcommand (with_subcommand (with_subcommand (with
     migrate.top
 
 -- what a command line says
-pub data Said : Type 0 where
-  check_of : Text → Said
-  init_of : Text × Text → Said
-  replay_of : Text → Bool → Said
-  deliver_of : Text × Text → Said
-  showing_of : Text × Text → Said
-  history_of : Text × Text → Text → Said
-  deliveries_of : Text × Text → Option Text → Said
-  get_of : Text × Text → Text → Said
-  serve_of : Text × Text → ℕ → ℕ → Said
-  migrate_of : Text × Text → Said
+pub data Instruction : Type 0 where
+  check_of : Text → Instruction
+  init_of : Text × Text → Instruction
+  replay_of : Text → Bool → Instruction
+  deliver_of : Text × Text → Instruction
+  showing_of : Text × Text → Instruction
+  history_of : Text × Text → Text → Instruction
+  deliveries_of : Text × Text → Option Text → Instruction
+  get_of : Text × Text → Text → Instruction
+  serve_of : Text × Text → ℕ → ℕ → Instruction
+  migrate_of : Text × Text → Instruction
 
 -- what a command asks for
-abbrev pub asks_for : Option Cmd → Option Said
+abbrev pub asks_for : Option Cmd → Option Instruction
 asks_for None = None
 asks_for (Some (Check settings)) = Some (check_of settings.now)
 asks_for (Some (Init settings file)) = Some (init_of (settings.now, file.now))
@@ -169,24 +169,24 @@ numbers_of rows = option_and_then (λ p. option_map (λ n. (p, n))
     (option_and_then (number_in 0 most_port) (first_of (codes "port") rows))
 
 -- what `history` and its rows say
-abbrev pub told_of : List Row → Option Said
+abbrev pub told_of : List Row → Option Instruction
 told_of rows =
     option_and_then (λ f. option_map (λ q. history_of f q) (first_of (codes "queue") rows)) (files_of rows)
 
 -- what `deliveries` and its rows say
-abbrev pub fed_of : List Row → Option Said
+abbrev pub fed_of : List Row → Option Instruction
 fed_of rows = option_map (λ f. deliveries_of f (first_of (codes "after") rows)) (files_of rows)
 
 -- what `get` and its rows say
-abbrev pub got_of : List Row → Option Said
+abbrev pub got_of : List Row → Option Instruction
 got_of rows = option_and_then (λ f. option_map (λ p. get_of f p) (first_of (codes "path") rows)) (files_of rows)
 
 -- what `serve` and its rows say
-abbrev pub served_of : List Row → Option Said
+abbrev pub served_of : List Row → Option Instruction
 served_of rows = option_and_then (λ f. option_map (λ n. serve_of f n.0 n.1) (numbers_of rows)) (files_of rows)
 
 -- what a subcommand and its rows say
-abbrev pub said_of : Text × List Row → Option Said
+abbrev pub said_of : Text × List Row → Option Instruction
 said_of (name, rows) =
     if bytes_eq name (codes "check") then option_map check_of (first_of (codes "settings") rows) else (
     if bytes_eq name (codes "init") then option_map init_of (files_of rows) else (
@@ -204,7 +204,7 @@ abbrev pub says : Option Cmd → Option (Text × List Row) → Type 0
 says cmd rows = asks_for cmd ≡ option_and_then said_of rows
 
 -- what the words ask for, if they name a command
-abbrev pub asked : List Text → Option Said
+abbrev pub asked : List Text → Option Instruction
 asked words = option_and_then said_of (subcommand_of gated words)
 
 -- `clap` takes the words, and they name this command

@@ -1,5 +1,5 @@
 use Rattle.std.proofs.Common.{◌≡◌, [], drop}
-use Rattle.gate_build_queries.specs.declared.ahead.Part.TheVariants.{Start}
+use Rattle.gate_build_queries.specs.declared.ahead.Progress.TheVariants.{Start}
 use Rattle.gate_build_queries.specs.Ahead.{go}
 use Rattle.gate_build_queries.proofs.ahead.read_parts.Given as goal
 

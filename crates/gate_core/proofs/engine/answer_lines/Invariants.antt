@@ -6,7 +6,7 @@ abbrev pub invariant-loop-n : goal.invariant-loop-n
 invariant-loop-n g l = record {
   reads : l.r.failed ≡ false;
   writes : l.w.failed ≡ false;
-  between : Between g.G.Respond.replies l.fn.gate (g.R.Read.remaining l.fn.r.inner) (g.R.Read.remaining l.r.inner) l.gate
+  between : Between g.G.AnswerLines.replies l.fn.gate (g.R.Read.remaining l.fn.r.inner) (g.R.Read.remaining l.r.inner) l.gate
       (g.W.Write.contents l.fn.w.inner) (g.W.Write.contents l.w.inner) l.line l.count;
 }
 

@@ -7,5 +7,5 @@ abbrev pub invariant-loop-byte : goal.invariant-loop-byte
 invariant-loop-byte g l = record {
   unfailed : l.w.failed ≡ false;
   so_far : (begun : List ℕ) → Holds l.fn.line begun
-      → SoFar g.G.Respond.replies l.fn.gate begun l.bytes (drop l.byte-index l.bytes) l.gate (g.W.Write.contents l.fn.w.inner) (g.W.Write.contents l.w.inner) l.line l.fn.count l.count;
+      → SoFar g.G.AnswerLines.replies l.fn.gate begun l.bytes (drop l.byte-index l.bytes) l.gate (g.W.Write.contents l.fn.w.inner) (g.W.Write.contents l.w.inner) l.line l.fn.count l.count;
 }

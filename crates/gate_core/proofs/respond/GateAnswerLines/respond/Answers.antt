@@ -1,7 +1,7 @@
 use Rattle.std.proofs.Common.{refl}
 use Rattle.gate_types.specs.declared.deliveries.Answer.TheVariants as answer
 use Rattle.gate_core.proofs.ReplyLemmas.{goes_nowhere, goes_told, told_refusal}
-use Rattle.gate_core.proofs.respond.GateRespond.respond.Goals as goal
+use Rattle.gate_core.proofs.respond.GateAnswerLines.respond.Goals as goal
 
 pub returns-in-Said : goal.returns-in-Said
 returns-in-Said g c =
