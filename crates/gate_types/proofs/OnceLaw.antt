@@ -4,7 +4,8 @@ use Rattle.std.specs.Bool.{if◌then◌else◌}
 use Rattle.gate_types.specs.Settings.{Settings}
 use Rattle.gate_types.specs.declared.deliveries.Delivery.{Delivery}
 use Rattle.gate_types.specs.Step.{Stepped, accepted, refused, step}
-use Rattle.gate_types.specs.Once.{Content, Call, may_act, is_accepted, content_after, once, acting, state_of_step, state_after}
+use Rattle.gate_types.specs.Once.{Content, Call, may_act, is_accepted, content_after, once, acting, state_of_step}
+use Rattle.gate_types.specs.Once.{state_after}
 
 abbrev pub deliveries : List Call → List Delivery
 deliveries ks = map (λ k. k.delivery) ks

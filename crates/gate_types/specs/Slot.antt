@@ -1,5 +1,6 @@
 -- Which builds count for an item, and what its jobs have come to.
-use Rattle.std.specs.Prelude.{Bool, true, false, ◌&&◌, ◌||◌, not, ◌==◌, nat_le, if◌then◌else◌, List, map, filter, count_by}
+use Rattle.std.specs.Prelude.{Bool, true, false, ◌&&◌, ◌||◌, not, ◌==◌, nat_le, if◌then◌else◌, List, map, filter}
+use Rattle.std.specs.Prelude.{count_by}
 use Rattle.std.specs.List.{list_any, list_all}
 use Rattle.gate_types.specs.declared.config.Job.{Job}
 use Rattle.gate_types.specs.declared.records.Outcome.{Outcome}

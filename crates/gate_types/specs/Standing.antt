@@ -1,5 +1,6 @@
 -- Which items are failing, and what is ahead of each: worked out from the front, never kept.
-use Rattle.std.specs.Prelude.{ℕ, Bool, ◌||◌, if◌then◌else◌, ◌-◌, List, [], ◌∷◌, ◌++◌, map, length, slice_get, Option, option_map, flat_map}
+use Rattle.std.specs.Prelude.{ℕ, Bool, ◌||◌, if◌then◌else◌, ◌-◌, List, [], ◌∷◌, ◌++◌, map, length, slice_get, Option}
+use Rattle.std.specs.Prelude.{option_map, flat_map}
 use Rattle.std.specs.List.{list_all}
 use Rattle.gate_types.specs.Settings.{Settings}
 use Rattle.gate_types.specs.declared.records.Build.{Build}

@@ -1,5 +1,6 @@
 -- One delivery in the plain gate.
-use Rattle.std.specs.Prelude.{ℕ, Bool, false, ◌&&◌, ◌||◌, not, ◌==◌, nat_lt, nat_le, if◌then◌else◌, max, ◌+◌, List, [], ◌∷◌, ◌++◌, map, filter, length, Option, flat_map, find}
+use Rattle.std.specs.Prelude.{ℕ, Bool, false, ◌&&◌, ◌||◌, not, ◌==◌, nat_lt, nat_le, if◌then◌else◌, max, ◌+◌, List}
+use Rattle.std.specs.Prelude.{[], ◌∷◌, ◌++◌, map, filter, length, Option, flat_map, find}
 use Rattle.std.specs.List.{list_any}
 use Rattle.std.specs.Option.{option_map_or}
 use Rattle.gate_types.specs.Settings.{Settings}
@@ -22,7 +23,8 @@ use Rattle.gate_types.specs.declared.deliveries.Reply.TheVariants as reply
 use Rattle.gate_types.specs.declared.deliveries.Refusal.TheVariants as refusal
 use Rattle.gate_types.specs.Needs.{needs}
 use Rattle.gate_types.specs.Names.{same_name}
-use Rattle.gate_types.specs.State.{Item, Queue, State, put_change, change_queue, known_change, change_of, is_open, is_landed, is_queued, is_ready, plan_of, put_plan}
+use Rattle.gate_types.specs.State.{Item, Queue, State, put_change, change_queue, known_change, change_of, is_open}
+use Rattle.gate_types.specs.State.{is_landed, is_queued, is_ready, plan_of, put_plan}
 use Rattle.gate_types.specs.Slot.{is_running}
 use Rattle.gate_types.specs.Window.{grow, shrink, bounds_of}
 use Rattle.gate_types.specs.Sweep.{report_of, without_runs, without_plans}

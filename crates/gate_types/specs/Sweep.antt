@@ -1,5 +1,6 @@
 -- Sweep: which items go, and what they leave behind.
-use Rattle.std.specs.Prelude.{ℕ, Bool, ◌&&◌, not, ◌==◌, if◌then◌else◌, List, [], ◌∷◌, ◌++◌, map, filter, fold, length, Option, Some, None, is_some, option_map, flat_map, filter_map}
+use Rattle.std.specs.Prelude.{ℕ, Bool, ◌&&◌, not, ◌==◌, if◌then◌else◌, List, [], ◌∷◌, ◌++◌, map, filter, fold, length}
+use Rattle.std.specs.Prelude.{Option, Some, None, is_some, option_map, flat_map, filter_map}
 use Rattle.std.specs.List.{list_any}
 use Rattle.gate_types.specs.Settings.{Settings}
 use Rattle.gate_types.specs.declared.records.Verdict.{Verdict}

@@ -1,5 +1,6 @@
 -- What the tables hold of a whole content, and what edits make of that.
-use Rattle.std.specs.Prelude.{ℕ, false, not, ◌==◌, ◌≡◌, if◌then◌else◌, suc, List, [], ◌∷◌, ◌++◌, map, filter, fold, Option, option_map, find}
+use Rattle.std.specs.Prelude.{ℕ, false, not, ◌==◌, ◌≡◌, if◌then◌else◌, suc, List, [], ◌∷◌, ◌++◌, map, filter, fold}
+use Rattle.std.specs.Prelude.{Option, option_map, find}
 use Rattle.gate_types.specs.declared.records.Change.{Change}
 use Rattle.gate_types.specs.declared.records.Item.{Item as ItemRow}
 use Rattle.gate_types.specs.declared.records.Landing.{Landing}
@@ -19,7 +20,8 @@ use Rattle.gate_types.specs.Settings.{Settings}
 use Rattle.gate_types.specs.State.{Queue, put_by}
 use Rattle.gate_types.specs.Rebase.{with_live}
 use Rattle.gate_types.specs.declared.rows.ReportRow.{ReportRow}
-use Rattle.gate_types.specs.Rows.{item_rows, numbered, with_outcome, change_build, edited_items, edited_reports, edited_window}
+use Rattle.gate_types.specs.Rows.{item_rows, numbered, with_outcome, change_build, edited_items, edited_reports}
+use Rattle.gate_types.specs.Rows.{edited_window}
 use Rattle.gate_types.specs.Once.{Content}
 
 -- what stands of a queue, each list in the order of its key

@@ -190,8 +190,16 @@ impl Model for Config {
 }
 
 impl Config {
-    ghost use Rattle.std.specs.Prelude.{◌≡◌, find, option_copied, IfOk};
+    ghost use Rattle.std.specs.Prelude.{◌≡◌, find, option_copied, true, IfOk};
     ghost use Rattle.gate_types.specs.Names.{same_name};
+    ghost use Rattle.gate_types.specs.Settings.{are_sound};
+
+    /// Shows a proof that the settings are sound. It does nothing when it runs.
+    pub fn show_sound(&self)
+        ensures { are_sound self.now ≡ true }
+    {
+        let _base = &self.base;
+    }
 
     /// The queue of a name.
     pub fn queue(&self, name: &str) -> Option<&Queue>

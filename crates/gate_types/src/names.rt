@@ -1,6 +1,7 @@
 //! Names and texts within their limits, each made from a `String`.
 ghost use Rattle.std.specs.Prelude.{◌≡◌, is_some, IfSome, IfOk, IsTrue, true, string_bytes};
-ghost use Rattle.gate_types.specs.Names.{is_name, is_path_name, is_base, is_message, is_letter_or_digit, is_name_byte, is_path_byte, is_base_byte, same_name};
+ghost use Rattle.gate_types.specs.Names.{is_name, is_path_name, is_base, is_message, is_letter_or_digit};
+ghost use Rattle.gate_types.specs.Names.{is_name_byte, is_path_byte, is_base_byte, same_name};
 ghost use Rattle.std.specs.List.{list_all};
 
 use std::alloc::AllocError;

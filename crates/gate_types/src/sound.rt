@@ -2,7 +2,8 @@
 ghost use Rattle.std.specs.Prelude.{◌≡◌, map, List, ℕ};
 ghost use Rattle.std.specs.List.{list_any, list_all};
 ghost use Rattle.gate_types.specs.Names.{same_name};
-ghost use Rattle.gate_types.specs.Settings.{are_distinct, has_queue, is_factor, is_sound_rule, is_window_over, is_sound_window, are_sound_jobs, is_sound_project, are_sound};
+ghost use Rattle.gate_types.specs.Settings.{are_distinct, has_queue, is_factor, is_sound_rule, is_window_over};
+ghost use Rattle.gate_types.specs.Settings.{is_sound_window, are_sound_jobs, is_sound_project, are_sound};
 
 use crate::config::{Job, Project, Queue, WindowRule};
 use crate::limits::{MOST_FACTOR, MOST_JOBS, MOST_PROJECTS, MOST_QUEUES, MOST_WINDOW};
