@@ -1,5 +1,6 @@
 -- The accepted deliveries, in the order in which they were accepted, a line each.
-use Rattle.std.specs.Prelude.{ℕ, ◌==◌, Bool, nat_eq, if◌then◌else◌, List, [], ◌∷◌, ◌++◌, length, take, flat_map, codes, decimal, Option, Some, None, option_map}
+use Rattle.std.specs.Prelude.{ℕ, ◌==◌, Bool, nat_eq, if◌then◌else◌, List, [], ◌∷◌, ◌++◌, length, take, flat_map}
+use Rattle.std.specs.Prelude.{codes, decimal, Option, Some, None, option_map}
 use Rattle.std.specs.List.{before_first, after_first}
 use Rattle.uuid.specs.Text.{simple_text, lower, parsed}
 use lib.Pointwise.{pointwise}

@@ -1,5 +1,6 @@
 -- An item, there or gone, with its builds, as JSON: which job failed, and what shows a landing.
-use Rattle.std.specs.Prelude.{ℕ, ◌==◌, ◌-◌, List, [], ◌∷◌, map, filter, find, length, drop, Option, Some, None, option_map, flat_map, codes}
+use Rattle.std.specs.Prelude.{ℕ, ◌==◌, ◌-◌, List, [], ◌∷◌, map, filter, find, length, drop, Option, Some, None}
+use Rattle.std.specs.Prelude.{option_map, flat_map, codes}
 use Rattle.std.specs.Option.{option_or}
 use Rattle.gate_types.specs.declared.config.Job.{Job}
 use Rattle.gate_types.specs.declared.records.Build.{Build}

@@ -1,5 +1,6 @@
 -- What asking a book for a history from a place, or for deliveries, writes.
-use Rattle.std.specs.Prelude.{◌≡◌, ◌≤◌, ⊤, true, false, ℕ, List, length, take, ◌++◌, Option, Some, None, Result, MatchResult}
+use Rattle.std.specs.Prelude.{◌≡◌, ◌≤◌, ⊤, true, false, ℕ, List, length, take, ◌++◌, Option, Some, None, Result}
+use Rattle.std.specs.Prelude.{MatchResult}
 use Rattle.std.specs.Io.KnownBytes.{Appends}
 use Rattle.gate_types.specs.declared.records.Id.{Id}
 use Rattle.gate_types.specs.declared.records.Kept.{Kept}

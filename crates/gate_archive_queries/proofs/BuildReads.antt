@@ -1,9 +1,11 @@
 -- What the texts of the reads of a serial's builds ask, and what they find.
-use Rattle.std.proofs.Common.{◌≡◌, ◌≤◌, ◌<◌, ◌<ℤ◌, ◌+◌, ◌-◌, ◌∙◌, ℕ, pos, Bool, true, false, List, [], ◌∷◌, ◌++◌, codes, drop, filter, length, map, reverse, take, refl, sym, ap, eqb, nat_le, arith}
+use Rattle.std.proofs.Common.{◌≡◌, ◌≤◌, ◌<◌, ◌<ℤ◌, ◌+◌, ◌-◌, ◌∙◌, ℕ, pos, Bool, true, false, List, [], ◌∷◌, ◌++◌}
+use Rattle.std.proofs.Common.{codes, drop, filter, length, map, reverse, take, refl, sym, ap, eqb, nat_le, arith}
 use Rattle.std.specs.List.{AllByRecursion, AllPass}
 use Rattle.std.proofs.lemmas.Bool.Decides.{nat_tests}
 use Rattle.std.proofs.lemmas.Int.{ints}
-use Rattle.std.proofs.lemmas.List.{length-drop, length-map, length-reverse, map-append, reverse-append, reverse-reverse, take-append-drop, take-map, take_all}
+use Rattle.std.proofs.lemmas.List.{length-drop, length-map, length-reverse, map-append, reverse-append}
+use Rattle.std.proofs.lemmas.List.{reverse-reverse, take-append-drop, take-map, take_all}
 use Rattle.std.proofs.lemmas.List.Elements.{All-take, recursion_from_All}
 use Rattle.std.proofs.lemmas.List.Sorted.{All-permutation, IsPermutation-reverse}
 use Rattle.std.proofs.Math.Seq.{take-append_seam}

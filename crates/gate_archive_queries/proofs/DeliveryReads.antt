@@ -1,5 +1,7 @@
 -- What the reads of accepted deliveries find.
-use Rattle.std.proofs.Common.{◌≡◌, ◌<ℤ◌, ℕ, ℤ, Bool, true, false, cond, List, [], ◌∷◌, ◌++◌, Option, None, Some, Less, Ok, Err, Result, option_map, ◌+◌, drop, filter, length, map, take, codes, is_gt, int_cmp, refl, sym, ap, subst, ◌∙◌, arith, IsTrue}
+use Rattle.std.proofs.Common.{◌≡◌, ◌<ℤ◌, ℕ, ℤ, Bool, true, false, cond, List, [], ◌∷◌, ◌++◌, Option, None, Some, Less}
+use Rattle.std.proofs.Common.{Ok, Err, Result, option_map, ◌+◌, drop, filter, length, map, take, codes, is_gt}
+use Rattle.std.proofs.Common.{int_cmp, refl, sym, ap, subst, ◌∙◌, arith, IsTrue}
 use Rattle.std.specs.List.{AllByRecursion}
 use Rattle.std.proofs.lemmas.Int.{ints}
 use Rattle.std.proofs.lemmas.List.{length-map, take-map}
@@ -44,7 +46,8 @@ use Rattle.gate_found_rows.specs.Reads.{IsShown}
 use Rattle.gate_found_rows.proofs.KeyedReads.{rising, truth_of}
 use Rattle.gate_found_rows.proofs.ListedReads.{told_behind}
 use Rattle.gate_found_rows.proofs.ReadLemmas.{answers}
-use Rattle.gate_archive_queries.specs.Deliveries.{HoldAbove, IsFirstOf, IsPlaceOf, WritesLines, accepted, accepted_shown, is_above, line_of}
+use Rattle.gate_archive_queries.specs.Deliveries.{HoldAbove, IsFirstOf, IsPlaceOf, WritesLines, accepted}
+use Rattle.gate_archive_queries.specs.Deliveries.{accepted_shown, is_above, line_of}
 use Rattle.gate_archive_queries.proofs.StreamLemmas.{query_of}
 use Rattle.gate_archive_queries.specs.Streamed.{Streams, body, lines}
 use Rattle.gate_archive_queries.specs.declared.delivery_rows.FeedPlace.{FeedPlace}

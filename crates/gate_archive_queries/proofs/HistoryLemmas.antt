@@ -1,5 +1,6 @@
 -- What is left of a history text from a place on where it is cut off.
-use Rattle.std.proofs.Common.{◌≢◌, ◌<◌, ℕ, List, [], ◌∷◌, ◌++◌, Option, Ok, Err, Result, length, codes, decimal, sym, subst, arith, length-append, IsTrue}
+use Rattle.std.proofs.Common.{◌≢◌, ◌<◌, ℕ, List, [], ◌∷◌, ◌++◌, Option, Ok, Err, Result, length, codes, decimal, sym}
+use Rattle.std.proofs.Common.{subst, arith, length-append, IsTrue}
 use Rattle.std.specs.Prelude.{MatchResult}
 use Rattle.std.proofs.lemmas.List.{take-append-le}
 use Rattle.std.proofs.KnownBytes.{Appends-trans}

@@ -1,5 +1,7 @@
 -- What the read of a queue's reports from a place on finds, and the text that is written of it.
-use Rattle.std.proofs.Common.{◌≡◌, ◌≤◌, ◌<◌, ◌<ℤ◌, ◌+◌, ◌-◌, ◌&&◌, ℕ, zero, suc, pos, Bool, true, false, cond, List, [], ◌∷◌, ◌++◌, drop, filter, fold, length, map, take, max, min, nat_le, is_ge, refl, sym, ap, subst, ◌∙◌, arith, append_assoc, IsPermutation, Less}
+use Rattle.std.proofs.Common.{◌≡◌, ◌≤◌, ◌<◌, ◌<ℤ◌, ◌+◌, ◌-◌, ◌&&◌, ℕ, zero, suc, pos, Bool, true, false, cond, List}
+use Rattle.std.proofs.Common.{[], ◌∷◌, ◌++◌, drop, filter, fold, length, map, take, max, min, nat_le, is_ge, refl}
+use Rattle.std.proofs.Common.{sym, ap, subst, ◌∙◌, arith, append_assoc, IsPermutation, Less}
 use Rattle.std.specs.Prelude.{flat_map}
 use Rattle.std.specs.List.{enumerate_from}
 use Rattle.std.proofs.lemmas.Bool.Decides.{nat_tests}

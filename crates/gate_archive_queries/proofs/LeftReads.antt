@@ -1,5 +1,6 @@
 -- What the text of the read of a report asks, and what it finds.
-use Rattle.std.proofs.Common.{◌≡◌, ◌≤◌, ◌∙◌, ℕ, pos, true, List, [], ◌∷◌, codes, filter, get_or, length, map, eqb, refl, ap, arith}
+use Rattle.std.proofs.Common.{◌≡◌, ◌≤◌, ◌∙◌, ℕ, pos, true, List, [], ◌∷◌, codes, filter, get_or, length, map, eqb}
+use Rattle.std.proofs.Common.{refl, ap, arith}
 use Rattle.std.specs.List.{AllPass}
 use Rattle.std.proofs.lemmas.List.Elements.{recursion_from_All}
 use Rattle.sqlite.specs.Listing.{understood}

@@ -1,5 +1,6 @@
 -- What is asked of the past, of the file's rows and of a content.
-use Rattle.std.proofs.Common.{◌≡◌, ◌≤◌, ℕ, suc, true, ◌&&◌, Option, Some, None, List, [], ◌∷◌, filter, length, map, refl, sym, ap, ◌∙◌, subst, inl, inr, arith}
+use Rattle.std.proofs.Common.{◌≡◌, ◌≤◌, ℕ, suc, true, ◌&&◌, Option, Some, None, List, [], ◌∷◌, filter, length, map}
+use Rattle.std.proofs.Common.{refl, sym, ap, ◌∙◌, subst, inl, inr, arith}
 use Rattle.std.specs.Prelude.{◌==◌, flat_map, IsPermutation}
 use Rattle.std.specs.List.{AllPass}
 use Rattle.std.specs.Option.{option_map_or}
@@ -7,7 +8,8 @@ use Rattle.std.proofs.lemmas.Bool.{and_from, and_parts, eqb-true, leb-true}
 use Rattle.gate_types.specs.declared.records.Build.{Build}
 use Rattle.gate_types.specs.declared.records.Report.{Report}
 use Rattle.gate_types.specs.declared.rows.ReportRow.{ReportRow}
-use Rattle.gate_types.specs.Forms.{IsLawfulContent, is_change_number, is_drawn_number, is_queue_in_form, is_report_in_form, is_revision_number, is_verdict_in_form}
+use Rattle.gate_types.specs.Forms.{IsLawfulContent, is_change_number, is_drawn_number, is_queue_in_form}
+use Rattle.gate_types.specs.Forms.{is_report_in_form, is_revision_number, is_verdict_in_form}
 use Rattle.gate_types.specs.Names.{is_name, same_name}
 use Rattle.gate_types.specs.Once.{Content}
 use Rattle.gate_types.specs.Rows.{numbered}
@@ -23,7 +25,8 @@ use Rattle.gate_archive.specs.declared.rows.LeftItem.{LeftItem}
 use Rattle.gate_laws.proofs.Alone.{report_serials, same_name_of, serials_once}
 use Rattle.gate_laws.proofs.Counts.{one_of, one_part, times}
 use Rattle.gate_laws.proofs.FewRows.{rows_are_few}
-use Rattle.gate_laws.proofs.Members.{In, all, all_from, every, found, from_filter, from_flat, from_map, to_filter, to_flat, to_map}
+use Rattle.gate_laws.proofs.Members.{In, all, all_from, every, found, from_filter, from_flat, from_map, to_filter}
+use Rattle.gate_laws.proofs.Members.{to_flat, to_map}
 use Rattle.gate_content_reads.proofs.told.Items.{names_placed}
 use Rattle.gate_content_reads.proofs.told.Lists.{lone_found, permuted_same, same_find}
 use Rattle.gate_content_reads.proofs.told.QueueReads.{report_rows, reports_in}

@@ -1,5 +1,6 @@
 -- What each read of the past says of what the tables hold.
-use Rattle.std.specs.Prelude.{ℕ, pos, ◌==◌, ◌&&◌, ◌≡◌, ◌≢◌, Bool, List, [], ◌∷◌, map, filter, find, Option, option_map, Result, MatchResult}
+use Rattle.std.specs.Prelude.{ℕ, pos, ◌==◌, ◌&&◌, ◌≡◌, ◌≢◌, Bool, List, [], ◌∷◌, map, filter, find, Option}
+use Rattle.std.specs.Prelude.{option_map, Result, MatchResult}
 use Rattle.std.specs.List.{AllPass}
 use Rattle.sqlite.specs.Order.{Row}
 use Rattle.sqlite.specs.State.{HasCleanDisk, State}

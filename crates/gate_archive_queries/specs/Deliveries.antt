@@ -1,5 +1,6 @@
 -- What is read of the accepted deliveries, in the order in which they were accepted, and what is written of it.
-use Rattle.std.specs.Prelude.{◌≡◌, ◌≢◌, ⊤, true, false, ℕ, ℤ, Bool, IsTrue, List, [], ◌∷◌, drop, filter, length, map, take, Option, Some, None, Result, MatchResult}
+use Rattle.std.specs.Prelude.{◌≡◌, ◌≢◌, ⊤, true, false, ℕ, ℤ, Bool, IsTrue, List, [], ◌∷◌, drop, filter, length, map}
+use Rattle.std.specs.Prelude.{take, Option, Some, None, Result, MatchResult}
 use Rattle.std.specs.Ordering.{is_gt}
 use Rattle.sqlite.specs.Order.{Row, value_cmp}
 use Rattle.sqlite.specs.State.{HasCleanDisk, State}

@@ -1,5 +1,6 @@
 -- What is written of a queue's reports from a place on.
-use Rattle.std.specs.Prelude.{◌≢◌, ◌≤◌, ◌++◌, ◌-◌, ◌+◌, ⊤, ℕ, IsTrue, List, codes, drop, flat_map, length, take, IsPermutation, Option, Result, MatchResult}
+use Rattle.std.specs.Prelude.{◌≢◌, ◌≤◌, ◌++◌, ◌-◌, ◌+◌, ⊤, ℕ, IsTrue, List, codes, drop, flat_map, length, take}
+use Rattle.std.specs.Prelude.{IsPermutation, Option, Result, MatchResult}
 use Rattle.std.specs.List.{enumerate_from}
 use Rattle.sqlite.specs.State.{HasCleanDisk, State}
 use Rattle.gate_types.specs.History.{report_row}

@@ -15,7 +15,8 @@ ghost use Rattle.gate_found_rows.specs.Finds.{OnlyReads, Stays};
 ghost use Rattle.gate_found_rows.specs.Reads.{IsOnlyRead, Shows};
 ghost use Rattle.gate_found_rows.specs.Whole.{IsWhole};
 ghost use Rattle.gate_queue_queries.specs.History.{IsSettled, WritesHead, WritesPart, report_shown};
-ghost use Rattle.gate_archive_queries.specs.HistoryFrom.{HoldsReports, OpenedHistory, WritesAll, history_sql, line_from, text_from};
+ghost use Rattle.gate_archive_queries.specs.HistoryFrom.{HoldsReports, OpenedHistory, WritesAll, history_sql};
+ghost use Rattle.gate_archive_queries.specs.HistoryFrom.{line_from, text_from};
 ghost use Rattle.gate_archive_queries.specs.Streamed.{ReadsOn, Streams, body};
 ghost use Rattle.gate_types.specs.Limits.{most_listed};
 

@@ -1,5 +1,7 @@
 -- Queues of other settings, taken one by one.
-use Rattle.std.proofs.Common.{◌≡◌, ◌<◌, ◌≤◌, ℕ, zero, suc, Bool, true, false, not, ◌||◌, cond, Some, None, List, [], ◌∷◌, ◌++◌, map, take, drop, length, get_or, set, refl, sym, ap, ◌∙◌, subst, arith, true≢false}
+use Rattle.std.proofs.Common.{◌≡◌, ◌<◌, ◌≤◌, ℕ, zero, suc, Bool, true, false, not, ◌||◌, cond, Some, None, List, []}
+use Rattle.std.proofs.Common.{◌∷◌, ◌++◌, map, take, drop, length, get_or, set, refl, sym, ap, ◌∙◌, subst, arith}
+use Rattle.std.proofs.Common.{true≢false}
 use Rattle.std.specs.Prelude.{find, nat_lt, option_map, remove}
 use Rattle.std.specs.List.{AllByRecursion, list_any, position, position_or_len}
 use Rattle.std.specs.Option.{option_map_or}

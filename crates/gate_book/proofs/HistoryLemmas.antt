@@ -1,5 +1,7 @@
 -- The history text, line by line, and its writing.
-use Rattle.std.proofs.Common.{◌≡◌, ℕ, zero, suc, ◌+◌, ◌<◌, List, [], ◌∷◌, ◌++◌, length, take, drop, get_or, Option, None, Some, Result, Ok, Err, refl, sym, ap, subst, ◌∙◌, arith, append_assoc, append-nil, length-append, take-append-drop}
+use Rattle.std.proofs.Common.{◌≡◌, ℕ, zero, suc, ◌+◌, ◌<◌, List, [], ◌∷◌, ◌++◌, length, take, drop, get_or, Option}
+use Rattle.std.proofs.Common.{None, Some, Result, Ok, Err, refl, sym, ap, subst, ◌∙◌, arith, append_assoc, append-nil}
+use Rattle.std.proofs.Common.{length-append, take-append-drop}
 use Rattle.std.specs.Prelude.{flat_map, option_map}
 use Rattle.std.specs.List.{enumerate_from}
 use Rattle.std.specs.Io.KnownBytes.{Appends}
@@ -21,7 +23,8 @@ use Rattle.gate_book_trait.specs.declared.fault.HistoryFault.{HistoryFault}
 use Rattle.gate_book_trait.specs.declared.fault.HistoryFault.TheVariants as fault
 use Rattle.gate_book_trait.specs.Reads.{queue_named}
 use Rattle.gate_book_trait.specs.RowReads.{rows_named}
-use Rattle.gate_book_trait.specs.Text.{first_line, report_lines, last_line, rows_text, IsWritten, BreaksOff, LeavesTap, LeavesText, WritesText}
+use Rattle.gate_book_trait.specs.Text.{first_line, report_lines, last_line, rows_text, IsWritten, BreaksOff}
+use Rattle.gate_book_trait.specs.Text.{LeavesTap, LeavesText, WritesText}
 use Rattle.gate_book_trait.specs.Writes.{WritesHistory}
 use Rattle.gate_book_trait.proofs.ReadLemmas.{rows_of_queue, named_is, length_reports}
 

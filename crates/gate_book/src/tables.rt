@@ -1,5 +1,6 @@
 //! All tables of a book in memory.
-ghost use Rattle.std.specs.Prelude.{◌≡◌, ◌==◌, ◌+◌, ℕ, suc, length, find, filter, map, option_map, IfOk, OnErr, OnOk, IfSome};
+ghost use Rattle.std.specs.Prelude.{◌≡◌, ◌==◌, ◌+◌, ℕ, suc, length, find, filter, map, option_map, IfOk, OnErr, OnOk};
+ghost use Rattle.std.specs.Prelude.{IfSome};
 ghost use Rattle.std.specs.List.{AllByRecursion};
 ghost use Rattle.std.specs.Option.{option_copied, option_map_or};
 ghost use Rattle.gate_types.specs.Names.{same_name};
@@ -10,7 +11,8 @@ ghost use Rattle.gate_memory.specs.Queues as queue;
 ghost use Rattle.gate_memory.specs.Builds.{is_live_of};
 ghost use Rattle.gate_memory.specs.Needs.{needs_of, needs_of_all};
 ghost use Rattle.gate_book_trait.specs.Reads as read;
-ghost use Rattle.gate_book_trait.specs.RowReads.{approval_in, change_in, rows_named, items_named, needing_in, plans_of_rows, all_queued, landings_below, LandingsRise};
+ghost use Rattle.gate_book_trait.specs.RowReads.{approval_in, change_in, rows_named, items_named, needing_in};
+ghost use Rattle.gate_book_trait.specs.RowReads.{plans_of_rows, all_queued, landings_below, LandingsRise};
 ghost use Rattle.gate_memory.specs.TableReads.{IsWhatRowsTellOf, builds_of_rows};
 ghost use Rattle.gate_book.specs.Memory.{within, tables_of, IsKept, HasRoom, HasRoomBeside, drawn_of, start_with};
 ghost use Rattle.gate_types.specs.AdoptedTables.{adopted_tables, empty_rows};

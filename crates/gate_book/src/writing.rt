@@ -1,7 +1,8 @@
 //! The history text of a queue's rows is written, line by line.
 ghost use Rattle.std.specs.Prelude.{◌≡◌, ◌++◌, false, IfOk, string_bytes};
 ghost use Rattle.gate_types.specs.Tap.{has_failed};
-ghost use Rattle.gate_book_trait.specs.Text.{first_line, report_lines, last_line, rows_text, IsWritten, LeavesTap, WritesText};
+ghost use Rattle.gate_book_trait.specs.Text.{first_line, report_lines, last_line, rows_text, IsWritten, LeavesTap};
+ghost use Rattle.gate_book_trait.specs.Text.{WritesText};
 
 use gate_book_trait::{HistoryFault, history_end, history_head, report_line};
 use gate_types::names::NoMemory;

@@ -1,5 +1,6 @@
 -- A number that is written right in some places.
-use Rattle.std.proofs.Common.{false, ◌≡◌, ℕ, ◌-◌, List, [], ◌∷◌, ◌++◌, length, zero, suc, refl, sym, ap, ◌∙◌, arith, append-nil}
+use Rattle.std.proofs.Common.{false, ◌≡◌, ℕ, ◌-◌, List, [], ◌∷◌, ◌++◌, length, zero, suc, refl, sym, ap, ◌∙◌, arith}
+use Rattle.std.proofs.Common.{append-nil}
 use Rattle.std.specs.Prelude.{replicate}
 use Rattle.std.specs.List.{repeat}
 use Rattle.std.specs.Fmt.{padded_integral, format_spec, char_count}

@@ -1,6 +1,8 @@
 -- What is read of the tables of a content is what is asked of the content.
-use Rattle.std.proofs.Common.{⊎_elim, ◌≡◌, ◌≢◌, ℕ, suc, ◌+◌, ◌<◌, ◌≤◌, Bool, true, false, cond, Option, Some, None, List, [], ◌∷◌, ◌++◌, length, map, refl, sym, ap, subst, ◌∙◌, arith}
-use Rattle.std.specs.Prelude.{◌==◌, ◌&&◌, nat_lt, filter, find, fold, option_and_then, option_map, unwrap_or, slice_index, slice_index_or, nat_le, flat_map, IsSome, IfSome, All, AllPairs}
+use Rattle.std.proofs.Common.{⊎_elim, ◌≡◌, ◌≢◌, ℕ, suc, ◌+◌, ◌<◌, ◌≤◌, Bool, true, false, cond, Option, Some, None}
+use Rattle.std.proofs.Common.{List, [], ◌∷◌, ◌++◌, length, map, refl, sym, ap, subst, ◌∙◌, arith}
+use Rattle.std.specs.Prelude.{◌==◌, ◌&&◌, nat_lt, filter, find, fold, option_and_then, option_map, unwrap_or}
+use Rattle.std.specs.Prelude.{slice_index, slice_index_or, nat_le, flat_map, IsSome, IfSome, All, AllPairs}
 use Rattle.std.specs.List.{list_any, AllByRecursion}
 use Rattle.std.specs.List.Sorted.{IsStrictlyIncreasing}
 use Rattle.std.specs.Option.{option_map_or}
@@ -23,7 +25,9 @@ use Rattle.gate_types.specs.Rows.{item_rows, numbered}
 use Rattle.gate_types.specs.Once.{Content}
 use Rattle.gate_types.specs.Tables.{QueueRows, approval_of, change_row, queue_rows, numbered_landings, tables}
 use Rattle.gate_types.specs.Forms.{IsLawfulContent, is_ready_in_form, is_drawn_number}
-use Rattle.gate_book_trait.specs.RowReads.{AreReady, Differ, approval_in, change_in, needs_in, rows_named, items_named, landings_below, needing_in, ready_needing_in, all_queued, LandingsRise, landing_serial}
+use Rattle.gate_book_trait.specs.RowReads.{AreReady, Differ, approval_in, change_in, needs_in, rows_named}
+use Rattle.gate_book_trait.specs.RowReads.{items_named, landings_below, needing_in, ready_needing_in, all_queued}
+use Rattle.gate_book_trait.specs.RowReads.{LandingsRise, landing_serial}
 use Rattle.gate_book_trait.specs.Reads as read
 use Rattle.gate_book_trait.specs.Rising.{RisesFrom}
 use Rattle.gate_book_trait.proofs.Finding.{find_map}

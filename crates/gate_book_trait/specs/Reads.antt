@@ -1,5 +1,6 @@
 -- What a book is asked for: each answer, of a content.
-use Rattle.std.specs.Prelude.{ℕ, ◌&&◌, ◌==◌, ◌≢◌, nat_lt, nat_le, ◌≡◌, List, [], map, filter, find, fold, length, take, Option, Some, None, option_map, option_to_list, flat_map, Result, MatchResult}
+use Rattle.std.specs.Prelude.{ℕ, ◌&&◌, ◌==◌, ◌≢◌, nat_lt, nat_le, ◌≡◌, List, [], map, filter, find, fold, length}
+use Rattle.std.specs.Prelude.{take, Option, Some, None, option_map, option_to_list, flat_map, Result, MatchResult}
 use Rattle.std.specs.List.{list_any}
 use Rattle.std.specs.Option.{option_map_or}
 use Rattle.gate_types.specs.declared.records.Item.{Item as ItemRow}

@@ -1,5 +1,6 @@
 -- What the rows of a content answer.
-use Rattle.std.specs.Prelude.{ℕ, Bool, ◌&&◌, ◌==◌, ◌≡◌, ◌≢◌, ◌<◌, nat_lt, List, [], ◌∷◌, map, filter, find, length, Option, option_map, option_and_then, option_to_list, flat_map, IsSome}
+use Rattle.std.specs.Prelude.{ℕ, Bool, ◌&&◌, ◌==◌, ◌≡◌, ◌≢◌, ◌<◌, nat_lt, List, [], ◌∷◌, map, filter, find, length}
+use Rattle.std.specs.Prelude.{Option, option_map, option_and_then, option_to_list, flat_map, IsSome}
 use Rattle.std.specs.List.{AllByRecursion, list_any}
 use Rattle.std.specs.Option.{option_map_or}
 use Rattle.gate_types.specs.declared.records.Change.{Change}

@@ -1,5 +1,6 @@
 -- The history text of a queue's rows, and its writing part by part.
-use Rattle.std.specs.Prelude.{ℕ, ◌≡◌, true, false, List, [], ◌∷◌, ◌++◌, length, Option, codes, decimal, flat_map, Result, MatchResult}
+use Rattle.std.specs.Prelude.{ℕ, ◌≡◌, true, false, List, [], ◌∷◌, ◌++◌, length, Option, codes, decimal, flat_map}
+use Rattle.std.specs.Prelude.{Result, MatchResult}
 use Rattle.gate_types.specs.Columns.{row}
 use Rattle.gate_types.specs.History.{report_row}
 use Rattle.gate_types.specs.Tap.{has_failed, Took, TookFront}

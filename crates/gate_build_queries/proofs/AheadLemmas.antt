@@ -1,5 +1,6 @@
 -- The text of entries is read as those entries.
-use Rattle.std.proofs.Common.{◌≡◌, ℕ, ◌+◌, ◌*◌, ◌/◌, ◌%◌, ◌<◌, ◌≤◌, List, [], ◌∷◌, ◌++◌, not, eqb, true, false, true≢false, Some, refl, sym, ap, ◌∙◌, arith, append-nil}
+use Rattle.std.proofs.Common.{◌≡◌, ℕ, ◌+◌, ◌*◌, ◌/◌, ◌%◌, ◌<◌, ◌≤◌, List, [], ◌∷◌, ◌++◌, not, eqb, true, false}
+use Rattle.std.proofs.Common.{true≢false, Some, refl, sym, ap, ◌∙◌, arith, append-nil}
 use mathlib.Core.List.{append_assoc}
 use lib.Pointwise.{pointwise}
 use Rattle.std.proofs.lemmas.Bool.Decides.{nat_tests}
@@ -11,7 +12,8 @@ use Rattle.sqlite_keyed.proofs.RuleLemmas.{first_of_both, second_of_both}
 use Rattle.gate_types.specs.Forms.{is_change_number, is_entry_in_form, is_revision_number}
 use Rattle.gate_types.specs.declared.records.Entry.{Entry}
 use Rattle.gate_build_queries.specs.declared.ahead.Progress.{Progress}
-use Rattle.gate_build_queries.specs.declared.ahead.Progress.TheVariants.{Start, Outer, Opened, InChange, Between, InRevision, Closed, Next, End}
+use Rattle.gate_build_queries.specs.declared.ahead.Progress.TheVariants.{Start, Outer, Opened, InChange, Between}
+use Rattle.gate_build_queries.specs.declared.ahead.Progress.TheVariants.{InRevision, Closed, Next, End}
 use Rattle.gate_build_queries.specs.Ahead.{digit_of, grown, more_of, or_bad, step, ended, go}
 use Rattle.gate_schema.specs.AheadText.{ahead_text, entries_text, entry_text}
 use Rattle.std.specs.List.{AllByRecursion, AllPass}

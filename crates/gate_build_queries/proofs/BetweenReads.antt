@@ -1,5 +1,6 @@
 -- What a query of the items of a queue between two serials, and of what another table has of each, shows.
-use Rattle.std.proofs.Common.{◌≡◌, ◌<◌, ◌<ℤ◌, ℕ, pos, List, [], ◌∷◌, map, filter, flat_map, Bool, ◌&&◌, leb, ltb, is_le, int_cmp, sym, ap, subst, ◌∙◌, arith, Less, Equal}
+use Rattle.std.proofs.Common.{◌≡◌, ◌<◌, ◌<ℤ◌, ℕ, pos, List, [], ◌∷◌, map, filter, flat_map, Bool, ◌&&◌, leb, ltb}
+use Rattle.std.proofs.Common.{is_le, int_cmp, sym, ap, subst, ◌∙◌, arith, Less, Equal}
 use Rattle.std.specs.List.{AllByRecursion, AllZip, list_all}
 use Rattle.std.proofs.lemmas.Bool.Decides.{nat_tests}
 use Rattle.std.proofs.lemmas.Int.{ints}
@@ -11,7 +12,8 @@ use Rattle.sqlite.specs.Term.{Term, col, eval, eval_all, holds, lit, op2}
 use Rattle.sqlite.specs.Tree.{Trees}
 use Rattle.sqlite.specs.declared.types.Value.TheVariants.{Int, Null, Text as Words}
 use Rattle.sqlite_keyed.proofs.KeyedLemmas.{Less-from_lt}
-use Rattle.sqlite_keyed.proofs.ListLemmas.{ascending-filter, ascending-map, ascending_weaker, flat_map-map, flat_map_same_on, map-flat_map, map-map}
+use Rattle.sqlite_keyed.proofs.ListLemmas.{ascending-filter, ascending-map, ascending_weaker, flat_map-map}
+use Rattle.sqlite_keyed.proofs.ListLemmas.{flat_map_same_on, map-flat_map, map-map}
 use Rattle.sqlite_sql.specs.declared.ops.BinaryOp.TheVariants.{Coalesce, Compare}
 use Rattle.sqlite_sql.specs.declared.ops.CompareOp.TheVariants.{Gt, Le}
 use Rattle.sqlite_tied.proofs.RuleLemmas.{and_assoc}
@@ -29,7 +31,8 @@ use Rattle.gate_schema.proofs.ValueLemmas.{above_number, equal_texts, value_cmp-
 use Rattle.gate_schema.proofs.DeleteLemmas.{filter_same_on}
 use Rattle.gate_found_rows.specs.Whole.{IsWhole}
 use Rattle.gate_item_queries.proofs.ItemReads.{InForm}
-use Rattle.gate_found_rows.proofs.JoinLemmas.{ascending-flat, keyed_told, over_tables, pairs_of, plus_number, shows_pairs}
+use Rattle.gate_found_rows.proofs.JoinLemmas.{ascending-flat, keyed_told, over_tables, pairs_of, plus_number}
+use Rattle.gate_found_rows.proofs.JoinLemmas.{shows_pairs}
 use Rattle.gate_found_rows.proofs.ListFacts.{all_so, filter_in}
 use Rattle.gate_found_rows.proofs.KeyedReads.{truth_of}
 use Rattle.gate_item_queries.proofs.NextReads.{above_capped, capped, low}

@@ -1,5 +1,6 @@
 -- What the reads of builds find.
-use Rattle.std.proofs.Common.{◌≡◌, ◌<◌, ◌∙◌, ℕ, pos, Bool, true, false, ◌&&◌, List, [], ◌∷◌, filter, map, refl, sym, subst, eqb, arith}
+use Rattle.std.proofs.Common.{◌≡◌, ◌<◌, ◌∙◌, ℕ, pos, Bool, true, false, ◌&&◌, List, [], ◌∷◌, filter, map, refl, sym}
+use Rattle.std.proofs.Common.{subst, eqb, arith}
 use Rattle.std.specs.List.{AllPass, list_all}
 use Rattle.std.proofs.lemmas.Int.{ints}
 use Rattle.sqlite.specs.Order.{Row}
@@ -21,7 +22,9 @@ use Rattle.gate_found_rows.specs.Finds.{Finds}
 use Rattle.gate_found_rows.specs.Reads.{IsShown}
 use Rattle.gate_found_rows.specs.Whole.{IsWhole, is_build_row_in_form}
 use Rattle.gate_build_queries.proofs.BetweenReads.{between_params, between_query, finds_between}
-use Rattle.gate_build_queries.proofs.BuildTexts.{between_asks, between_live, between_sql, between_terms, build_asks, build_names, build_query, build_sql, build_terms, live_asks, live_query, live_sql, live_test}
+use Rattle.gate_build_queries.proofs.BuildTexts.{between_asks, between_live, between_sql, between_terms, build_asks}
+use Rattle.gate_build_queries.proofs.BuildTexts.{build_names, build_query, build_sql, build_terms, live_asks}
+use Rattle.gate_build_queries.proofs.BuildTexts.{live_query, live_sql, live_test}
 use Rattle.gate_found_rows.proofs.JoinLemmas.{keyed_told}
 use Rattle.gate_found_rows.proofs.KeyedReads.{finds_few, finds_rising, one_at}
 use Rattle.gate_item_queries.proofs.NextReads.{capped}

@@ -1,5 +1,6 @@
 -- What the read of a plan finds.
-use Rattle.std.proofs.Common.{◌≡◌, ◌<◌, ℕ, suc, pos, Bool, true, false, not, cond, List, [], ◌∷◌, filter, length, map, codes, ap, refl, subst, sym, ◌∙◌, arith, eqb}
+use Rattle.std.proofs.Common.{◌≡◌, ◌<◌, ℕ, suc, pos, Bool, true, false, not, cond, List, [], ◌∷◌, filter, length, map}
+use Rattle.std.proofs.Common.{codes, ap, refl, subst, sym, ◌∙◌, arith, eqb}
 use Rattle.std.specs.List.{AllByRecursion, AllPass, list_any}
 use Rattle.std.specs.Prelude.{◌||◌}
 use Rattle.std.proofs.lemmas.Bool.Decides.{nat_tests}
@@ -26,7 +27,8 @@ use Rattle.gate_found_rows.specs.Shown.{job_shown, number_shown}
 use Rattle.gate_found_rows.specs.Whole.{IsWhole, is_job_row_in_form}
 use Rattle.gate_found_rows.proofs.KeyedReads.{finds_few, one_at}
 use Rattle.gate_found_rows.proofs.ListedReads.{listed_rising, told_behind}
-use Rattle.gate_build_queries.proofs.PlanTexts.{fast_asks, fast_query, fast_sql, jobs_asks, jobs_names, jobs_query, jobs_sql, jobs_terms}
+use Rattle.gate_build_queries.proofs.PlanTexts.{fast_asks, fast_query, fast_sql, jobs_asks, jobs_names, jobs_query}
+use Rattle.gate_build_queries.proofs.PlanTexts.{jobs_sql, jobs_terms}
 use Rattle.gate_found_rows.proofs.ReadLemmas.{answers}
 use Rattle.gate_found_rows.proofs.ShownLemmas.{pass_filter}
 

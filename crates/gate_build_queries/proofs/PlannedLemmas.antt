@@ -1,5 +1,7 @@
 -- How plans are put together from their jobs' rows, in turn.
-use Rattle.std.proofs.Common.{◌≡◌, ◌<◌, ◌+◌, ℕ, Bool, true, false, if◌then◌else◌, List, [], ◌∷◌, ◌++◌, filter, flat_map, fold, map, Option, Some, None, ◌⊎◌, length, refl, sym, ap, subst, ◌∙◌, arith, eqb, inl, inr, append_assoc, append-nil}
+use Rattle.std.proofs.Common.{◌≡◌, ◌<◌, ◌+◌, ℕ, Bool, true, false, if◌then◌else◌, List, [], ◌∷◌, ◌++◌, filter}
+use Rattle.std.proofs.Common.{flat_map, fold, map, Option, Some, None, ◌⊎◌, length, refl, sym, ap, subst, ◌∙◌, arith}
+use Rattle.std.proofs.Common.{eqb, inl, inr, append_assoc, append-nil}
 use Rattle.std.specs.Prelude.{MatchOption, option_to_list}
 use Rattle.std.specs.List.{AllByRecursion, list_any}
 use Rattle.std.proofs.lemmas.Bool.Decides.{nat_tests}

@@ -1,5 +1,6 @@
 -- What the read of the plans of a queue's items finds.
-use Rattle.std.proofs.Common.{◌≡◌, ◌<◌, ℕ, pos, List, [], ◌∷◌, filter, map, drop, true, ◌&&◌, codes, eqb, refl, sym, ap, subst, ◌∙◌, arith}
+use Rattle.std.proofs.Common.{◌≡◌, ◌<◌, ℕ, pos, List, [], ◌∷◌, filter, map, drop, true, ◌&&◌, codes, eqb, refl, sym}
+use Rattle.std.proofs.Common.{ap, subst, ◌∙◌, arith}
 use Rattle.std.specs.List.{AllPass, list_all}
 use Rattle.std.proofs.lemmas.Bool.{and_from, and_parts}
 use Rattle.std.proofs.lemmas.Bool.Decides.{nat_tests}
@@ -34,7 +35,8 @@ use Rattle.gate_found_rows.proofs.JoinLemmas.{keyed_told, listed_told}
 use Rattle.gate_found_rows.proofs.ListedReads.{told_behind}
 use Rattle.gate_item_queries.proofs.NextReads.{capped}
 use Rattle.gate_build_queries.proofs.PlanReads.{places_rise}
-use Rattle.gate_build_queries.proofs.PlanTexts.{marked_asks, marked_of, marked_sql, planned_asks, planned_names, planned_of, planned_sql, planned_terms}
+use Rattle.gate_build_queries.proofs.PlanTexts.{marked_asks, marked_of, marked_sql, planned_asks, planned_names}
+use Rattle.gate_build_queries.proofs.PlanTexts.{planned_of, planned_sql, planned_terms}
 use Rattle.gate_build_queries.proofs.PlannedLemmas.{flat_alike, marked_alike, plans_are}
 use Rattle.gate_found_rows.proofs.ReadLemmas.{answers}
 

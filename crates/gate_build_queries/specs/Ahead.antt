@@ -1,9 +1,11 @@
 -- How the text of what is ahead of a build is read, byte by byte.
-use Rattle.std.specs.Prelude.{ℕ, ◌+◌, ◌*◌, ◌-◌, ◌&&◌, ◌||◌, ◌==◌, nat_lt, if◌then◌else◌, List, [], ◌∷◌, ◌++◌, Option, Some, None}
+use Rattle.std.specs.Prelude.{ℕ, ◌+◌, ◌*◌, ◌-◌, ◌&&◌, ◌||◌, ◌==◌, nat_lt, if◌then◌else◌, List, [], ◌∷◌, ◌++◌, Option}
+use Rattle.std.specs.Prelude.{Some, None}
 use Rattle.gate_types.specs.Forms.{is_change_number, is_revision_number}
 use Rattle.gate_types.specs.declared.records.Entry.{Entry}
 use Rattle.gate_build_queries.specs.declared.ahead.Progress.{Progress}
-use Rattle.gate_build_queries.specs.declared.ahead.Progress.TheVariants.{Start, Outer, Opened, InChange, Between, InRevision, Closed, Next, End, Bad}
+use Rattle.gate_build_queries.specs.declared.ahead.Progress.TheVariants.{Start, Outer, Opened, InChange, Between}
+use Rattle.gate_build_queries.specs.declared.ahead.Progress.TheVariants.{InRevision, Closed, Next, End, Bad}
 
 -- the value of a digit
 abbrev pub digit_of : ℕ → Option ℕ

@@ -1,5 +1,6 @@
 -- What the reads of changes find.
-use Rattle.std.proofs.Common.{◌≡◌, ◌<◌, ◌≤◌, ℕ, suc, pos, true, List, [], ◌∷◌, filter, find, map, codes, ap, refl, subst, sym, ◌∙◌, arith, eqb, eqb-true, length, slice_get, zero, Option, Some, None}
+use Rattle.std.proofs.Common.{◌≡◌, ◌<◌, ◌≤◌, ℕ, suc, pos, true, List, [], ◌∷◌, filter, find, map, codes, ap, refl}
+use Rattle.std.proofs.Common.{subst, sym, ◌∙◌, arith, eqb, eqb-true, length, slice_get, zero, Option, Some, None}
 use Rattle.std.specs.Option.{option_map_or}
 use Rattle.std.proofs.lemmas.List.Elements.{filter_passes, recursion_from_All}
 use Rattle.std.proofs.lemmas.List.Sums.{AllPass-from_list_all}
@@ -26,7 +27,9 @@ use Rattle.gate_found_rows.specs.Finds.{Finds}
 use Rattle.gate_found_rows.specs.Reads.{IsShown}
 use Rattle.gate_found_rows.specs.Shown.{approval_shown, change_shown, number_shown}
 use Rattle.gate_found_rows.specs.Whole.{IsWhole, is_change_row_in_form}
-use Rattle.gate_change_queries.proofs.ChangeTexts.{approval_asks, approval_query, approval_sql, change_asks, change_names, change_query, change_sql, change_terms, needs_asks, needs_query, needs_sql}
+use Rattle.gate_change_queries.proofs.ChangeTexts.{approval_asks, approval_query, approval_sql, change_asks}
+use Rattle.gate_change_queries.proofs.ChangeTexts.{change_names, change_query, change_sql, change_terms, needs_asks}
+use Rattle.gate_change_queries.proofs.ChangeTexts.{needs_query, needs_sql}
 use Rattle.gate_found_rows.proofs.KeyedReads.{finds_few, one_at}
 use Rattle.gate_found_rows.proofs.ListedReads.{listed_rising, told_behind}
 use Rattle.gate_found_rows.proofs.ReadLemmas.{answers}

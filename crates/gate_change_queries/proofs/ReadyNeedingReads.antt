@@ -1,5 +1,6 @@
 -- What the read of the ready changes that need another asks and finds.
-use Rattle.std.proofs.Common.{◌≡◌, ◌<ℤ◌, ℕ, pos, List, [], ◌∷◌, map, filter, drop, Bool, true, false, ◌&&◌, eqb, ltb, Option, Some, None, codes, refl, sym, ap, subst, ◌∙◌, arith, inl, inr}
+use Rattle.std.proofs.Common.{◌≡◌, ◌<ℤ◌, ℕ, pos, List, [], ◌∷◌, map, filter, drop, Bool, true, false, ◌&&◌, eqb, ltb}
+use Rattle.std.proofs.Common.{Option, Some, None, codes, refl, sym, ap, subst, ◌∙◌, arith, inl, inr}
 use Rattle.std.specs.List.{AllPass, list_all}
 use Rattle.std.specs.Option.{option_map_or}
 use Rattle.std.proofs.lemmas.Bool.{and_from, and_parts, false≢true}
@@ -40,7 +41,8 @@ use Rattle.gate_found_rows.proofs.JoinLemmas.{keyed_told, listed_told, over_tabl
 use Rattle.gate_found_rows.proofs.ListedReads.{told_behind}
 use Rattle.gate_found_rows.proofs.NeedLemmas.{need_of, needs_by}
 use Rattle.gate_found_rows.proofs.ReadLemmas.{answers}
-use Rattle.gate_change_queries.proofs.ReadyReads.{approval_of, list_is_ready, null_is_not_above, ready_in_form, ready_list, ready_names}
+use Rattle.gate_change_queries.proofs.ReadyReads.{approval_of, list_is_ready, null_is_not_above, ready_in_form}
+use Rattle.gate_change_queries.proofs.ReadyReads.{ready_list, ready_names}
 use Rattle.gate_found_rows.proofs.SortedLemmas.{in_order_rises, in_order_same}
 
 -- ---- what is asked

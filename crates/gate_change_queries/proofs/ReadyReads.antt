@@ -1,5 +1,6 @@
 -- What the read of the ready list asks and finds.
-use Rattle.std.proofs.Common.{◌≡◌, ◌≢◌, ℕ, pos, List, [], ◌∷◌, ◌++◌, map, filter, true, false, Option, Some, None, Result, Ok, Err, ltb, codes, refl, sym, ap, subst, ◌∙◌, arith, IsPermutation, Less}
+use Rattle.std.proofs.Common.{◌≡◌, ◌≢◌, ℕ, pos, List, [], ◌∷◌, ◌++◌, map, filter, true, false, Option, Some, None}
+use Rattle.std.proofs.Common.{Result, Ok, Err, ltb, codes, refl, sym, ap, subst, ◌∙◌, arith, IsPermutation, Less}
 use Rattle.std.specs.Prelude.{MatchResult}
 use Rattle.std.specs.List.{AllByRecursion, AllPass}
 use Rattle.std.specs.Option.{option_map_or}

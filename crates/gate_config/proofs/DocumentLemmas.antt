@@ -1,5 +1,6 @@
 -- Values beside their data.
-use Rattle.std.proofs.Common.{◌≡◌, ℕ, ◌+◌, List, [], ◌∷◌, ◌++◌, map, take, Bool, refl, ap, sym, ◌∙◌, ◌<◌, get_or, true, false, ◌||◌, ◌&&◌, not, String, Global, string_bytes, length}
+use Rattle.std.proofs.Common.{◌≡◌, ℕ, ◌+◌, List, [], ◌∷◌, ◌++◌, map, take, Bool, refl, ap, sym, ◌∙◌, ◌<◌, get_or}
+use Rattle.std.proofs.Common.{true, false, ◌||◌, ◌&&◌, not, String, Global, string_bytes, length}
 use Rattle.std.specs.List.{list_any, list_all}
 use Rattle.std.proofs.lemmas.List.{length-map, map_more}
 use Rattle.std.proofs.lemmas.List.Folds.{list_any_at}

@@ -1,5 +1,6 @@
 -- A document without a fault says sound settings.
-use Rattle.std.proofs.Common.{◌≡◌, ℕ, ◌≤◌, List, [], ◌∷◌, map, length, Bool, true, false, not, ◌&&◌, ◌||◌, nat_le, nat_lt, cond, Option, Some, None, refl, ap, sym, ◌∙◌, arith, subst}
+use Rattle.std.proofs.Common.{◌≡◌, ℕ, ◌≤◌, List, [], ◌∷◌, map, length, Bool, true, false, not, ◌&&◌, ◌||◌, nat_le}
+use Rattle.std.proofs.Common.{nat_lt, cond, Option, Some, None, refl, ap, sym, ◌∙◌, arith, subst}
 use Rattle.std.proofs.lemmas.Bool.{or_parts, and_parts, not-false, leb-true}
 use Rattle.std.proofs.lemmas.Bool.Decides.{nat_tests}
 use Rattle.std.proofs.lemmas.List.{length-map}
@@ -10,10 +11,15 @@ use Rattle.toml.specs.Data.{Data}
 use Rattle.gate_types.specs.Names.{same_name, is_name}
 use Rattle.gate_types.specs.Limits.{most_queues, most_projects, most_jobs, most_window, most_factor}
 use Rattle.gate_types.specs.Settings.{are_distinct, has_queue, is_sound_window, are_sound_jobs, are_sound}
-use Rattle.gate_config.specs.Document.{queues_of, projects_of, jobs_of, name_of, queue_named_by, queue_of, job_of, project_of, settings_of, window_of, floor_of, increase_by_of, decrease_by_of, is_voting}
+use Rattle.gate_config.specs.Document.{queues_of, projects_of, jobs_of, name_of, queue_named_by, queue_of, job_of}
+use Rattle.gate_config.specs.Document.{project_of, settings_of, window_of, floor_of, increase_by_of, decrease_by_of}
+use Rattle.gate_config.specs.Document.{is_voting}
 use Rattle.gate_config.specs.Members.{misses_member, has_unknown_member}
 use Rattle.gate_config.specs.Kinds.{has_wrong_kind}
-use Rattle.gate_config.specs.Rules.{has_bad_name, has_bad_name_in_project, has_bad_name_anywhere, has_double, has_double_name, has_named, names_no_queue, is_bad_window, is_bad_queue, is_bad_project, has_bad_window, has_no_voting_job, has_too_many_jobs, is_beyond_limits}
+use Rattle.gate_config.specs.Rules.{has_bad_name, has_bad_name_in_project, has_bad_name_anywhere, has_double}
+use Rattle.gate_config.specs.Rules.{has_double_name, has_named, names_no_queue, is_bad_window, is_bad_queue}
+use Rattle.gate_config.specs.Rules.{is_bad_project, has_bad_window, has_no_voting_job, has_too_many_jobs}
+use Rattle.gate_config.specs.Rules.{is_beyond_limits}
 use Rattle.gate_config.specs.Faults.{fault_of}
 use Rattle.gate_config.specs.declared.fault.ConfigFault.{ConfigFault}
 use Rattle.gate_config.proofs.DocumentLemmas.{list_any_map}

@@ -3,7 +3,8 @@ use Rattle.std.specs.Prelude.{if◌then◌else◌, Option, Some, None}
 use Rattle.toml.specs.Data.{Data}
 use Rattle.gate_config.specs.Members.{misses_member, has_unknown_member}
 use Rattle.gate_config.specs.Kinds.{has_wrong_kind}
-use Rattle.gate_config.specs.Rules.{has_bad_name_anywhere, has_double_name, names_no_queue, has_bad_window, has_no_voting_job, is_beyond_limits}
+use Rattle.gate_config.specs.Rules.{has_bad_name_anywhere, has_double_name, names_no_queue, has_bad_window}
+use Rattle.gate_config.specs.Rules.{has_no_voting_job, is_beyond_limits}
 use Rattle.gate_config.specs.declared.fault.ConfigFault.{ConfigFault}
 use Rattle.gate_config.specs.declared.fault.ConfigFault.TheVariants as fault
 

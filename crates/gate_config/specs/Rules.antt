@@ -5,7 +5,8 @@ use Rattle.toml.specs.Data.{Data}
 use Rattle.gate_types.specs.Names.{is_name, is_path_name, is_base, same_name}
 use Rattle.gate_types.specs.Limits.{most_queues, most_projects, most_jobs}
 use Rattle.gate_types.specs.Settings.{are_distinct, is_sound_window}
-use Rattle.gate_config.specs.Document.{queues_of, projects_of, jobs_of, name_of, queue_named_by, base_of, window_of, floor_of, increase_of, decrease_of, is_voting, queue_of}
+use Rattle.gate_config.specs.Document.{queues_of, projects_of, jobs_of, name_of, queue_named_by, base_of, window_of}
+use Rattle.gate_config.specs.Document.{floor_of, increase_of, decrease_of, is_voting, queue_of}
 
 -- a name of a queue or a job that isn't of its form
 abbrev pub has_bad_name : Data → Bool

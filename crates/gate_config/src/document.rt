@@ -2,7 +2,10 @@
 ghost use Rattle.std.specs.Prelude.{◌≡◌, map};
 ghost use Rattle.toml.specs.View.{view};
 ghost use Rattle.gate_types.specs.Names.{same_name};
-ghost use Rattle.gate_config.specs.Document.{items_at, queues_of, projects_of, jobs_of, text_at, name_of, queue_named_by, base_of, number_at, window_of, floor_of, pace_at, increase_of, increase_by_of, decrease_of, decrease_by_of, is_fast, is_voting};
+ghost use Rattle.gate_config.specs.Document.{items_at, queues_of, projects_of, jobs_of, text_at, name_of};
+ghost use Rattle.gate_config.specs.Document.{queue_named_by, base_of, number_at, window_of, floor_of, pace_at};
+ghost use Rattle.gate_config.specs.Document.{increase_of, increase_by_of, decrease_of, decrease_by_of, is_fast};
+ghost use Rattle.gate_config.specs.Document.{is_voting};
 
 use gate_types::config::Pace;
 use toml::Value;

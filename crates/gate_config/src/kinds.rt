@@ -4,7 +4,8 @@ ghost use Rattle.std.specs.Option.{option_map_or};
 ghost use Rattle.toml.specs.Data.{get};
 ghost use Rattle.std.specs.List.{list_any, list_all};
 ghost use Rattle.toml.specs.View.{view};
-ghost use Rattle.gate_config.specs.Kinds.{is_table, is_of, is_wrong, is_wrong_queue, is_wrong_job, is_wrong_project, has_wrong_kind};
+ghost use Rattle.gate_config.specs.Kinds.{is_table, is_of, is_wrong, is_wrong_queue, is_wrong_job, is_wrong_project};
+ghost use Rattle.gate_config.specs.Kinds.{has_wrong_kind};
 
 use crate::document::{jobs_of, projects_of, queues_of};
 use toml::Value;

@@ -6,7 +6,8 @@ ghost use Rattle.toml.specs.Data.{get};
 ghost use Rattle.std.specs.List.{list_any};
 ghost use Rattle.toml.specs.View.{view, table_view};
 ghost use Rattle.gate_types.specs.Names.{same_name};
-ghost use Rattle.gate_config.specs.Members.{lacks, lacks_in_project, misses_member, knows, has_other_than, has_unknown, has_unknown_in_project, has_unknown_member};
+ghost use Rattle.gate_config.specs.Members.{lacks, lacks_in_project, misses_member, knows, has_other_than};
+ghost use Rattle.gate_config.specs.Members.{has_unknown, has_unknown_in_project, has_unknown_member};
 
 use crate::document::{is_same, jobs_of, projects_of, queues_of};
 use toml::{Table, Value};

@@ -4,8 +4,11 @@ ghost use Rattle.std.specs.List.{list_any};
 ghost use Rattle.toml.specs.View.{view};
 ghost use Rattle.gate_types.specs.Names.{same_name};
 ghost use Rattle.gate_types.specs.Settings.{is_sound_rule};
-ghost use Rattle.gate_config.specs.Document.{name_of, queue_named_by, jobs_of, is_voting, increase_of, decrease_of, rule_of};
-ghost use Rattle.gate_config.specs.Rules.{has_bad_name, has_bad_name_in_project, has_bad_name_anywhere, has_double, has_double_name, has_named, names_no_queue, is_bad_window, has_bad_window, has_no_voting_job, are_some_up_to, has_too_many_jobs, is_beyond_limits};
+ghost use Rattle.gate_config.specs.Document.{name_of, queue_named_by, jobs_of, is_voting, increase_of, decrease_of};
+ghost use Rattle.gate_config.specs.Document.{rule_of};
+ghost use Rattle.gate_config.specs.Rules.{has_bad_name, has_bad_name_in_project, has_bad_name_anywhere, has_double};
+ghost use Rattle.gate_config.specs.Rules.{has_double_name, has_named, names_no_queue, is_bad_window, has_bad_window};
+ghost use Rattle.gate_config.specs.Rules.{has_no_voting_job, are_some_up_to, has_too_many_jobs, is_beyond_limits};
 
 use crate::document::{
     base_of, decrease_by_of, decrease_of, floor_of, increase_by_of, increase_of, is_same,

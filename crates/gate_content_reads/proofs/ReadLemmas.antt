@@ -1,5 +1,6 @@
 -- From what a query says of the tables to what a book's read says of a content.
-use Rattle.std.proofs.Common.{arith, ◌≡◌, ◌≢◌, ◌∙◌, true, false, ℕ, Bool, List, [], Result, Ok, Err, refl, sym, true≢false}
+use Rattle.std.proofs.Common.{arith, ◌≡◌, ◌≢◌, ◌∙◌, true, false, ℕ, Bool, List, [], Result, Ok, Err, refl, sym}
+use Rattle.std.proofs.Common.{true≢false}
 use Rattle.std.specs.Prelude.{AllPairs}
 use Rattle.std.specs.List.{AllPass}
 use Rattle.sqlite.specs.State.{HasCleanDisk, State}
@@ -15,7 +16,8 @@ use Rattle.gate_book_trait.specs.declared.fault.BookFault.TheVariants as fault
 use Rattle.gate_schema.specs.Rows.{ItemRow, Stored}
 use Rattle.gate_rows.specs.Tells as rows
 use Rattle.gate_found_rows.specs.Reads.{Opened, Reads, Shows, Tells}
-use Rattle.gate_found_rows.specs.Whole.{IsWhole, is_build_row_in_form, is_change_row_in_form, is_item_row_in_form, is_job_row_in_form}
+use Rattle.gate_found_rows.specs.Whole.{IsWhole, is_build_row_in_form, is_change_row_in_form, is_item_row_in_form}
+use Rattle.gate_found_rows.specs.Whole.{is_job_row_in_form}
 use Rattle.gate_laws.proofs.Alone.{names_differ}
 use Rattle.gate_content_reads.specs.Answers.{IsAnsweredBy}
 use Rattle.gate_content_reads.specs.Held.{HoldsFor, IsShownFor}

@@ -1,5 +1,6 @@
 -- Other settings: what the statements that write them mean, and what they make of what the tables hold.
-use Rattle.std.proofs.Common.{◌≡◌, ◌≤◌, ℕ, List, [], ◌∷◌, map, drop, filter, length, Ok, not, codes, refl, sym, ap, subst, ◌∙◌, arith}
+use Rattle.std.proofs.Common.{◌≡◌, ◌≤◌, ℕ, List, [], ◌∷◌, map, drop, filter, length, Ok, not, codes, refl, sym, ap}
+use Rattle.std.proofs.Common.{subst, ◌∙◌, arith}
 use Rattle.std.specs.Prelude.{bytes_eq}
 use Rattle.sqlite.specs.Command.TheVariants.{Delete, Update}
 use Rattle.sqlite.specs.Listing.{understood}

@@ -1,5 +1,7 @@
 -- What edits make of tables that stand for a content, one after another.
-use Rattle.std.proofs.Common.{◌≡◌, ◌≢◌, ◌<◌, ◌+◌, ℕ, suc, List, [], ◌∷◌, ◌++◌, inl, inr, map, take, length, get_or, true, false, true≢false, IsTrue, Result, Ok, Err, cond, ◌||◌, refl, sym, ap, subst, ◌∙◌, arith}
+use Rattle.std.proofs.Common.{◌≡◌, ◌≢◌, ◌<◌, ◌+◌, ℕ, suc, List, [], ◌∷◌, ◌++◌, inl, inr, map, take, length, get_or}
+use Rattle.std.proofs.Common.{true, false, true≢false, IsTrue, Result, Ok, Err, cond, ◌||◌, refl, sym, ap, subst, ◌∙◌}
+use Rattle.std.proofs.Common.{arith}
 use Rattle.std.specs.Prelude.{IfErr, OnErr, OnOk}
 use Rattle.std.specs.List.{list_any}
 use Rattle.std.proofs.lemmas.Bool.{and_parts}
@@ -35,7 +37,8 @@ use Rattle.gate_found_rows.specs.Finds.{Stays}
 use Rattle.gate_book_trait.specs.Kept.{IsApplied}
 use Rattle.gate_book_trait.specs.declared.fault.BookFault.{BookFault}
 use Rattle.gate_book_trait.specs.declared.fault.BookFault.TheVariants as fault
-use Rattle.gate_file_changes.specs.Applies.{CanLead, IsLed, LeavesOrStands, OfLawful, Settles, Steps, Turns, are_known, is_among, is_known, names_in}
+use Rattle.gate_file_changes.specs.Applies.{CanLead, IsLed, LeavesOrStands, OfLawful, Settles, Steps, Turns}
+use Rattle.gate_file_changes.specs.Applies.{are_known, is_among, is_known, names_in}
 use Rattle.gate_content_reads.specs.Held.{HoldsFor, IsShownFor, ShowsFor, StandsForOne, queue_names}
 
 -- ---- the names of the queues

@@ -17,7 +17,8 @@ use Rattle.sqlite_catalog.specs.Listing.{Lists}
 use Rattle.sqlite_trees.specs.Objects.{catalog_tree}
 use Rattle.sqlite_trees.specs.Tree.{put_row}
 use Rattle.sqlite.proofs.Callers.{runs_as, statement_of}
-use Rattle.gate_schema.specs.Rows.{IsReady, IsFixed, IsListed, IsKeyed, meta_columns, counter_columns, pair_of_words, queue_columns, word_and_number, QueueRow, Stored, Stands}
+use Rattle.gate_schema.specs.Rows.{IsReady, IsFixed, IsListed, IsKeyed, meta_columns, counter_columns, pair_of_words}
+use Rattle.gate_schema.specs.Rows.{queue_columns, word_and_number, QueueRow, Stored, Stands}
 use Rattle.gate_schema.specs.Schema.{gate_schema, meta_at, counter_at, queue_at}
 use Rattle.gate_schema.proofs.RowLemmas.{cast_int, cast_null}
 use Rattle.gate_schema.proofs.Statements.{Is}

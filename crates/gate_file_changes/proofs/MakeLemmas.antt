@@ -7,7 +7,8 @@ use Rattle.sqlite_schema.specs.declared.schema.Index.{Index}
 use Rattle.sqlite.specs.Command.TheVariants.{CreateTable, CreateIndex}
 use Rattle.sqlite.specs.Compile.{table_defined_by, index_defined_by}
 use Rattle.sqlite.specs.Change.{created, indexed, next_tree, KeepsRows}
-use Rattle.sqlite.specs.Does.{Tally, Does, MakesTable, MakesSequence, MakesIndex, Defines, AtPlace, lacks_sequence, no_rows, sequence_text}
+use Rattle.sqlite.specs.Does.{Tally, Does, MakesTable, MakesSequence, MakesIndex, Defines, AtPlace, lacks_sequence}
+use Rattle.sqlite.specs.Does.{no_rows, sequence_text}
 use Rattle.sqlite.specs.Rows.{Gives, Then}
 use Rattle.sqlite.specs.Effect.{Database}
 use Rattle.sqlite.specs.Listing.{understood}

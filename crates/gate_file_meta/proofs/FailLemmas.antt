@@ -1,5 +1,6 @@
 -- How a query of the tables fails.
-use Rattle.std.proofs.Common.{◌≡◌, ◌≤◌, ℕ, List, [], true, false, IsTrue, Ok, Err, Result, Option, sym, ap, subst, ◌∙◌, inl, inr, length, append-nil, arith, refl, true≢false}
+use Rattle.std.proofs.Common.{◌≡◌, ◌≤◌, ℕ, List, [], true, false, IsTrue, Ok, Err, Result, Option, sym, ap, subst}
+use Rattle.std.proofs.Common.{◌∙◌, inl, inr, length, append-nil, arith, refl, true≢false}
 use Rattle.std.specs.Prelude.{Any, nat_le}
 use Rattle.std.proofs.lemmas.Bool.Decides.{nat_tests}
 use Rattle.sqlite.specs.Clock.{timed}

@@ -1,5 +1,6 @@
 -- From what is read of `meta` to what is told of it.
-use Rattle.std.proofs.Common.{◌≡◌, ◌≢◌, ◌⊎◌, inl, inr, ◌<◌, ℕ, List, [], ◌∷◌, Some, None, Option, Ok, Err, Result, true, arith, codes, length, refl, slice_index_or, ◌∙◌, subst}
+use Rattle.std.proofs.Common.{◌≡◌, ◌≢◌, ◌⊎◌, inl, inr, ◌<◌, ℕ, List, [], ◌∷◌, Some, None, Option, Ok, Err, Result}
+use Rattle.std.proofs.Common.{true, arith, codes, length, refl, slice_index_or, ◌∙◌, subst}
 use Rattle.std.specs.Borrow.{Bor}
 use Rattle.std.specs.Prelude.{IfSome, OnOk, bytes_eq, option_copied}
 use Rattle.std.proofs.lemmas.Slice.Eq.{bytes_eq-Decides}

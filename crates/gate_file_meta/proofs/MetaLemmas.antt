@@ -1,5 +1,6 @@
 -- What reading `meta` shows.
-use Rattle.std.proofs.Common.{◌≡◌, ℕ, List, [], ◌∷◌, map, filter, drop, IsTrue, refl, sym, ap, subst, ◌∙◌, codes, IsPermutation, Less, false, true}
+use Rattle.std.proofs.Common.{◌≡◌, ℕ, List, [], ◌∷◌, map, filter, drop, IsTrue, refl, sym, ap, subst, ◌∙◌, codes}
+use Rattle.std.proofs.Common.{IsPermutation, Less, false, true}
 use Rattle.std.proofs.lemmas.List.Sorted.{IsPermutation-map, IsPermutation-refl, IsPermutation-sym, IsPermutation-trans}
 use Rattle.sqlite.specs.Clock.{timed}
 use Rattle.sqlite.specs.Collation.TheVariants.{Binary}

@@ -1,5 +1,6 @@
 -- One list of objects is that of one schema.
-use Rattle.std.proofs.Common.{◌≡◌, ℕ, ◌+◌, pos, List, [], ◌∷◌, true, false, Ok, Some, refl, sym, ap, subst, ◌∙◌, arith, filter, slice_get, Result, Option}
+use Rattle.std.proofs.Common.{◌≡◌, ℕ, ◌+◌, pos, List, [], ◌∷◌, true, false, Ok, Some, refl, sym, ap, subst, ◌∙◌}
+use Rattle.std.proofs.Common.{arith, filter, slice_get, Result, Option}
 use Rattle.std.specs.List.{AllZip}
 use Rattle.sqlite.specs.Order.{Row}
 use Rattle.sqlite_value.specs.Order.{column}
@@ -12,7 +13,8 @@ use Rattle.sqlite_schema.specs.declared.schema.Index.{Index}
 use Rattle.sqlite_schema.specs.declared.schema.View.{View as Stored}
 use Rattle.sqlite_schema.specs.Names.{same_name}
 use Rattle.sqlite_resolve.specs.Compile.{table_defined_by, index_defined_by}
-use Rattle.sqlite_catalog.specs.Listing.{IsTableRow, IsIndexRow, IsViewRow, IsDefined, is_table_row, is_index_row, is_view_row, automatic, AreListed, Lists}
+use Rattle.sqlite_catalog.specs.Listing.{IsTableRow, IsIndexRow, IsViewRow, IsDefined, is_table_row, is_index_row}
+use Rattle.sqlite_catalog.specs.Listing.{is_view_row, automatic, AreListed, Lists}
 use Rattle.gate_schema.specs.Schema.{schema_with}
 use Rattle.sqlite_catalog.proofs.StepLemmas.{same_itself, named_once}
 use Rattle.sqlite_catalog.proofs.AlterLemmas.{numbers_differ}

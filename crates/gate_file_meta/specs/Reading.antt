@@ -1,5 +1,6 @@
 -- What reading `meta` shows, and why it fails.
-use Rattle.std.specs.Prelude.{◌≡◌, ◌≢◌, ◌⊎◌, ⊤, ℕ, List, [], ◌∷◌, codes, Bool, true, false, Ok, Err, Option, Some, None, Result, map, IsPermutation}
+use Rattle.std.specs.Prelude.{◌≡◌, ◌≢◌, ◌⊎◌, ⊤, ℕ, List, [], ◌∷◌, codes, Bool, true, false, Ok, Err, Option, Some}
+use Rattle.std.specs.Prelude.{None, Result, map, IsPermutation}
 use Rattle.sqlite.specs.Clock.{timed}
 use Rattle.sqlite.specs.Effect.{Database, Reads as Answers}
 use Rattle.sqlite.specs.Listing.{IsSourceOf, reads_listing, understood}

@@ -10,7 +10,8 @@ ghost use Rattle.gate_rows.specs.Writes.{LeavesNothing};
 ghost use Rattle.gate_schema.specs.Rows.{pair_of_words};
 ghost use Rattle.gate_found_rows.specs.Finds.{Stays};
 ghost use Rattle.gate_file_meta.specs.Opens.{IsMeta, with_meta};
-ghost use Rattle.gate_file_meta.specs.Reading.{HasNoMeta, IsFound, IsFoundOf, IsMet, IsUnread, ShowsMeta, says_nothing, met, meta_rows, meta_sql};
+ghost use Rattle.gate_file_meta.specs.Reading.{HasNoMeta, IsFound, IsFoundOf, IsMet, IsUnread, ShowsMeta};
+ghost use Rattle.gate_file_meta.specs.Reading.{says_nothing, met, meta_rows, meta_sql};
 
 use gate_kept_settings::{TextFault, read_text};
 use gate_types::adopting::may_adopt;

@@ -1,5 +1,7 @@
 -- One of each of what a query shows, where a number tells its rows apart.
-use Rattle.std.proofs.Common.{◌≡◌, ◌≢◌, ◌<◌, ◌<ℤ◌, ℕ, pos, List, [], ◌∷◌, map, filter, flat_map, Bool, true, nat_cmp, refl, sym, ap, ap₂, subst, ◌∙◌, arith, inl, inr, Ordering, Less, Equal, Greater, IsPermutation, unwrap_or}
+use Rattle.std.proofs.Common.{◌≡◌, ◌≢◌, ◌<◌, ◌<ℤ◌, ℕ, pos, List, [], ◌∷◌, map, filter, flat_map, Bool, true, nat_cmp}
+use Rattle.std.proofs.Common.{refl, sym, ap, ap₂, subst, ◌∙◌, arith, inl, inr, Ordering, Less, Equal, Greater}
+use Rattle.std.proofs.Common.{IsPermutation, unwrap_or}
 use Rattle.std.specs.Prelude.{AllPairs}
 use Rattle.std.specs.List.{AllByRecursion, AllZip, list_all}
 use Rattle.std.specs.Ordering.{on, ordering_then}
@@ -18,7 +20,8 @@ use Rattle.sqlite.specs.declared.types.Value.TheVariants.{Int}
 use Rattle.sqlite_keyed.proofs.ListLemmas.{ascending-map, ascending_weaker, map-map}
 use Rattle.sqlite_keyed.proofs.SortLemmas.{sorted_unique}
 use Rattle.sqlite_rules.specs.Lists.{Has}
-use Rattle.sqlite_rules.proofs.ListLemmas.{all_from, all_has, contains_had, has_contained, has_either, has_filtered, has_kept, has_left, has_right}
+use Rattle.sqlite_rules.proofs.ListLemmas.{all_from, all_has, contains_had, has_contained, has_either, has_filtered}
+use Rattle.sqlite_rules.proofs.ListLemmas.{has_kept, has_left, has_right}
 use Rattle.sqlite_sql.proofs.QueryLemmas.{output_cmp_total}
 use Rattle.sqlite_sql.specs.Group.{IsDistinctOf, members}
 use Rattle.sqlite_trees.specs.Tree.{IsAscending}

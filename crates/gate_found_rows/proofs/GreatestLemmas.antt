@@ -1,5 +1,7 @@
 -- The greatest of some numbers stands first among them, where they are put in falling order.
-use Rattle.std.proofs.Common.{◌≡◌, ◌≤◌, ◌+◌, ℕ, Ordering, suc, pos, Bool, true, false, cond, List, [], ◌∷◌, fold, get_or, map, take, IsPermutation, refl, sym, ap, subst, ◌∙◌, arith, nat_lt, slice_index, is_lt, Less, ◌<ℤ◌, true≢false, Result}
+use Rattle.std.proofs.Common.{◌≡◌, ◌≤◌, ◌+◌, ℕ, Ordering, suc, pos, Bool, true, false, cond, List, [], ◌∷◌, fold}
+use Rattle.std.proofs.Common.{get_or, map, take, IsPermutation, refl, sym, ap, subst, ◌∙◌, arith, nat_lt, slice_index}
+use Rattle.std.proofs.Common.{is_lt, Less, ◌<ℤ◌, true≢false, Result}
 use Rattle.std.specs.Prelude.{IsSorted}
 use Rattle.std.specs.List.{AllByRecursion}
 use Rattle.std.proofs.lemmas.Bool.Decides.{nat_tests}

@@ -1,5 +1,6 @@
 -- What a query of two tables shows, where their rows tell records.
-use Rattle.std.proofs.Common.{◌≡◌, ℕ, List, [], ◌∷◌, ◌++◌, map, filter, flat_map, drop, Bool, true, false, cond, ◌&&◌, pos, None, refl, sym, ap, ap₂, subst, ◌∙◌, IsPermutation, Less}
+use Rattle.std.proofs.Common.{◌≡◌, ℕ, List, [], ◌∷◌, ◌++◌, map, filter, flat_map, drop, Bool, true, false, cond, ◌&&◌}
+use Rattle.std.proofs.Common.{pos, None, refl, sym, ap, ap₂, subst, ◌∙◌, IsPermutation, Less}
 use Rattle.std.specs.List.{AllByRecursion, AllZip, list_all}
 use Rattle.std.proofs.lemmas.List.{map-append}
 use Rattle.sqlite.specs.Ops.{binary}

@@ -1,12 +1,14 @@
 -- What a query of a table whose key is the rowid finds, as records.
-use Rattle.std.proofs.Common.{◌≡◌, ◌≤◌, ◌<ℤ◌, ℕ, pos, List, [], ◌∷◌, map, filter, reverse, length, Bool, true, false, Some, eqb, ltb, is_lt, refl, sym, ap, subst, ◌∙◌, arith, IsPermutation, Less}
+use Rattle.std.proofs.Common.{◌≡◌, ◌≤◌, ◌<ℤ◌, ℕ, pos, List, [], ◌∷◌, map, filter, reverse, length, Bool, true, false}
+use Rattle.std.proofs.Common.{Some, eqb, ltb, is_lt, refl, sym, ap, subst, ◌∙◌, arith, IsPermutation, Less}
 use Rattle.std.specs.List.{AllByRecursion, AllPairs}
 use Rattle.std.proofs.lemmas.Bool.Decides.{nat_tests}
 use Rattle.std.proofs.lemmas.Int.{ints}
 use Rattle.std.proofs.lemmas.List.{length-map, reverse-append}
 use Rattle.std.proofs.lemmas.List.Kept.{AllPairs-filter}
 use Rattle.std.proofs.lemmas.List.Elements.{All-from_recursion, recursion_from_All}
-use Rattle.std.proofs.lemmas.List.Sorted.{All-permutation, IsPermutation-map, IsPermutation-reverse, IsPermutation-sym, IsPermutation-trans}
+use Rattle.std.proofs.lemmas.List.Sorted.{All-permutation, IsPermutation-map, IsPermutation-reverse}
+use Rattle.std.proofs.lemmas.List.Sorted.{IsPermutation-sym, IsPermutation-trans}
 use Rattle.sqlite.specs.Collation.TheVariants.{Binary}
 use Rattle.sqlite.specs.Ops.{binary, from_truth, is_true}
 use Rattle.sqlite.specs.Order.{Row}
@@ -16,7 +18,8 @@ use Rattle.sqlite.specs.Tree.{Trees}
 use Rattle.sqlite.specs.declared.types.Value.TheVariants.{Int}
 use Rattle.sqlite_keyed.specs.Keyed.{IsKeyedBy}
 use Rattle.sqlite_keyed.proofs.KeyedLemmas.{Less-from_lt}
-use Rattle.sqlite_keyed.proofs.ListLemmas.{all_weaker, ascending-append, ascending-filter, ascending-map, ascending_weaker, filter-map, filter_same, map-map, map_same}
+use Rattle.sqlite_keyed.proofs.ListLemmas.{all_weaker, ascending-append, ascending-filter, ascending-map}
+use Rattle.sqlite_keyed.proofs.ListLemmas.{ascending_weaker, filter-map, filter_same, map-map, map_same}
 use Rattle.sqlite_keyed.proofs.SortLemmas.{sorted_unique}
 use Rattle.sqlite_sql.proofs.QueryLemmas.{output_cmp_total}
 use Rattle.sqlite_sql.specs.declared.ops.BinaryOp.TheVariants.{Compare}

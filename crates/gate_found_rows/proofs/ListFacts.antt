@@ -1,5 +1,6 @@
 -- Lists: what is found in them, and their first and last.
-use Rattle.std.proofs.Common.{◌≡◌, List, [], ◌∷◌, ◌++◌, map, filter, find, reverse, slice_get, Bool, true, false, cond, ◌&&◌, Option, Some, None, option_map, refl, sym, ap, ◌∙◌}
+use Rattle.std.proofs.Common.{◌≡◌, List, [], ◌∷◌, ◌++◌, map, filter, find, reverse, slice_get, Bool, true, false}
+use Rattle.std.proofs.Common.{cond, ◌&&◌, Option, Some, None, option_map, refl, sym, ap, ◌∙◌}
 use Rattle.std.specs.Prelude.{IfSome, fold}
 use Rattle.std.specs.List.{All, AllByRecursion}
 use Rattle.std.specs.Option.{option_or}

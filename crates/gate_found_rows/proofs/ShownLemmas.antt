@@ -1,5 +1,6 @@
 -- Records that are found: what they pass, how many they are, and the first of them.
-use Rattle.std.proofs.Common.{◌≡◌, ◌≤◌, ℕ, Bool, true, List, [], ◌∷◌, ◌++◌, filter, flat_map, get_or, length, map, ap, ◌∙◌, arith, slice_get, slice_index, option_map, find, Option, subst, Result, Ok, Err}
+use Rattle.std.proofs.Common.{◌≡◌, ◌≤◌, ℕ, Bool, true, List, [], ◌∷◌, ◌++◌, filter, flat_map, get_or, length, map, ap}
+use Rattle.std.proofs.Common.{◌∙◌, arith, slice_get, slice_index, option_map, find, Option, subst, Result, Ok, Err}
 use Rattle.std.specs.Prelude.{IfOk, OnErr}
 use Rattle.std.proofs.lemmas.List.Elements.{All-from_recursion, filter_passes, recursion_from_All}
 use Rattle.std.proofs.lemmas.List.Kept.{AllPairs-filter}

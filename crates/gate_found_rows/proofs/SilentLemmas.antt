@@ -1,12 +1,14 @@
 -- A text without RETURNING has none under other tables.
-use Rattle.std.proofs.Common.{◌≡◌, ◌∙◌, ◌==◌, ◌+◌, ℕ, Bool, true, false, cond, List, length, Option, None, Some, Ok, Err, Result, refl, ap, subst}
+use Rattle.std.proofs.Common.{◌≡◌, ◌∙◌, ◌==◌, ◌+◌, ℕ, Bool, true, false, cond, List, length, Option, None, Some, Ok}
+use Rattle.std.proofs.Common.{Err, Result, refl, ap, subst}
 use Rattle.sqlite.specs.Given.{IsPlain}
 use Rattle.sqlite.specs.Listing.{if_select, is_select, listing_schema, reads_listing, understood}
 use Rattle.sqlite.specs.Schema.{Schema}
 use Rattle.sqlite_ast.specs.declared.Shown.{Shown}
 use Rattle.sqlite_ast.specs.declared.Statement.{Statement}
 use Rattle.sqlite_ast.specs.declared.Statement.TheVariants as written
-use Rattle.sqlite_resolve.specs.Compile.{command, compiled, first, meaning, planned, returning, shows, small, source_of, target, timed, with_command}
+use Rattle.sqlite_resolve.specs.Compile.{command, compiled, first, meaning, planned, returning, shows, small}
+use Rattle.sqlite_resolve.specs.Compile.{source_of, target, timed, with_command}
 use Rattle.sqlite_resolve.specs.Given.{returned}
 use Rattle.sqlite_resolve.specs.Body.{table_at}
 use Rattle.sqlite_resolve.specs.Lowering.{Checked, and_then}

@@ -1,5 +1,6 @@
 -- What a query leaves, and what it finds.
-use Rattle.std.proofs.Common.{◌≡◌, ℕ, List, [], IsTrue, None, Ok, Option, Some, Err, Result, sym, ap, subst, ◌∙◌, inl, inr}
+use Rattle.std.proofs.Common.{◌≡◌, ℕ, List, [], IsTrue, None, Ok, Option, Some, Err, Result, sym, ap, subst, ◌∙◌, inl}
+use Rattle.std.proofs.Common.{inr}
 use Rattle.std.specs.Prelude.{IfOk, IfErr, IsSome}
 use Rattle.sqlite.specs.Clock.{timed}
 use Rattle.sqlite.specs.Command.{Command}
@@ -11,7 +12,8 @@ use Rattle.sqlite.specs.Listing.{understood}
 use Rattle.sqlite.specs.Order.{Row}
 use Rattle.sqlite.specs.Program.{overlay}
 use Rattle.sqlite.specs.Query.{Query, IsAnswer}
-use Rattle.sqlite.specs.State.{State, CommitsShowing, Shown, ShowsRows, FailsToQuery, FailsToShow, IsNotRun, IsUnchanged, Survives}
+use Rattle.sqlite.specs.State.{State, CommitsShowing, Shown, ShowsRows, FailsToQuery, FailsToShow, IsNotRun}
+use Rattle.sqlite.specs.State.{IsUnchanged, Survives}
 use Rattle.sqlite.specs.declared.error.Error.{Error}
 use Rattle.sqlite.specs.declared.types.Value.TheVariants.{Null}
 use Rattle.sqlite.proofs.Callers.{IsPlain, command_of, reads_as}

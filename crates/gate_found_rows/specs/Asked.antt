@@ -1,5 +1,7 @@
 -- What each read says of what the tables hold; of the items of a queue it is `items_of`.
-use Rattle.std.specs.Prelude.{ℕ, ◌&&◌, ◌==◌, ◌<◌, nat_lt, if◌then◌else◌, Bool, List, [], ◌∷◌, map, filter, find, fold, flat_map, Option, Some, None, option_map, option_and_then, option_to_list, AllPairs, IsPermutation, ◌≡◌}
+use Rattle.std.specs.Prelude.{ℕ, ◌&&◌, ◌==◌, ◌<◌, nat_lt, if◌then◌else◌, Bool, List, [], ◌∷◌, map, filter, find, fold}
+use Rattle.std.specs.Prelude.{flat_map, Option, Some, None, option_map, option_and_then, option_to_list, AllPairs}
+use Rattle.std.specs.Prelude.{IsPermutation, ◌≡◌}
 use Rattle.std.specs.List.{list_any}
 use Rattle.std.specs.Option.{option_map_or}
 use Rattle.gate_types.specs.Names.{same_name}

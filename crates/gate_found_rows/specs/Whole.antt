@@ -2,7 +2,8 @@
 use Rattle.std.specs.Prelude.{ℕ, Bool, ◌&&◌, ◌==◌, ◌≡◌, ◌≢◌, ◌≤◌, true, nat_le, List, filter, length, AllPairs}
 use Rattle.std.specs.List.{AllPass, list_all}
 use Rattle.std.specs.Option.{option_map_or}
-use Rattle.gate_types.specs.Forms.{are_counters_in_form, is_change_in_form, is_change_number, is_drawn_number, is_entry_in_form, is_kept_in_form, is_revision_number}
+use Rattle.gate_types.specs.Forms.{are_counters_in_form, is_change_in_form, is_change_number, is_drawn_number}
+use Rattle.gate_types.specs.Forms.{is_entry_in_form, is_kept_in_form, is_revision_number}
 use Rattle.gate_types.specs.Names.{is_name}
 use Rattle.gate_types.specs.declared.records.Build.{Build}
 use Rattle.gate_types.specs.declared.records.Kept.{Kept}

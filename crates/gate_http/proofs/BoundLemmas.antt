@@ -1,5 +1,6 @@
 -- A body that is asked for is within the limit.
-use Rattle.std.proofs.Common.{◌≡◌, ℕ, ◌≤◌, Bool, true, false, cond, ltb, List, [], ◌∷◌, Option, Some, None, option_map, map, subst, sym, refl}
+use Rattle.std.proofs.Common.{◌≡◌, ℕ, ◌≤◌, Bool, true, false, cond, ltb, List, [], ◌∷◌, Option, Some, None}
+use Rattle.std.proofs.Common.{option_map, map, subst, sym, refl}
 use Rattle.std.specs.Prelude.{⊤, codes}
 use Rattle.std.specs.Str.Parse.{digits_value}
 use Rattle.std.proofs.lemmas.Bool.{ltb-false}
@@ -16,7 +17,8 @@ use Rattle.gate_http.specs.Digits.{are_digits}
 use Rattle.gate_http.specs.Fields.{Pair, length_within, length_in, length_unless, length_of, named as named_of}
 use Rattle.gate_http.specs.Asked.{later_history}
 use Rattle.gate_http.specs.Routes.{route_of, path_of, queue_in, place_in}
-use Rattle.gate_http.specs.Way.{Decided, refused, posted, shown, recalled, posted_of, by_post, by_get, read_at, on_route, decided_of, decided, is_head}
+use Rattle.gate_http.specs.Way.{Decided, refused, posted, shown, recalled, posted_of, by_post, by_get, read_at}
+use Rattle.gate_http.specs.Way.{on_route, decided_of, decided, is_head}
 
 abbrev pub FitsBody : BodyLength → Type 0
 FitsBody body.Missing = ⊤

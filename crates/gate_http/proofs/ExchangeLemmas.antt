@@ -1,5 +1,6 @@
 -- Which way a request goes, from how it was read.
-use Rattle.std.proofs.Common.{◌≡◌, ℕ, ◌<◌, ◌≤◌, Bool, true, false, cond, List, [], ◌++◌, length, take, Option, Some, None, arith, refl, sym, ap, subst, ◌∙◌, append_assoc, append-nil, length-append}
+use Rattle.std.proofs.Common.{◌≡◌, ℕ, ◌<◌, ◌≤◌, Bool, true, false, cond, List, [], ◌++◌, length, take, Option, Some}
+use Rattle.std.proofs.Common.{None, arith, refl, sym, ap, subst, ◌∙◌, append_assoc, append-nil, length-append}
 use Rattle.std.specs.Io.KnownBytes.{Consumes, IsAtEnd}
 use Rattle.std.proofs.KnownBytes.{Consumes-trans}
 use Rattle.std.proofs.Math.Seq.{take-append_seam}
@@ -14,7 +15,8 @@ use Rattle.gate_http.specs.declared.request.Wanted.{Wanted}
 use Rattle.gate_http.specs.declared.request.Wanted.TheVariants as wanted
 use Rattle.gate_http.specs.Asked.{delivery}
 use Rattle.gate_http.specs.Head.{Front, empty, cut, too_large, whole, front_of}
-use Rattle.gate_http.specs.Way.{Decided, refused, posted, decided, Way, silence, refusal, question, way_on, way_from, body_on, taken_from, Finds, FindsIn}
+use Rattle.gate_http.specs.Way.{Decided, refused, posted, decided, Way, silence, refusal, question, way_on, way_from}
+use Rattle.gate_http.specs.Way.{body_on, taken_from, Finds, FindsIn}
 use Rattle.gate_http.specs.Exchange.{IsKnown, IsUnfinished, Waits, OfRead}
 use Rattle.gate_http.specs.Parts.{HeadComes, BodyComes, read_by}
 use Rattle.gate_http.proofs.HeadLemmas.{begins_empty}

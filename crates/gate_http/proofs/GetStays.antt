@@ -13,7 +13,8 @@ use Rattle.gate_http.specs.declared.routes.Route.TheVariants as route
 use Rattle.gate_http.specs.declared.served.Served.{Served}
 use Rattle.gate_http.specs.Asked.{later_history}
 use Rattle.gate_http.specs.Routes.{route_of, path_of, queue_in, place_in}
-use Rattle.gate_http.specs.Way.{Way, silence, refusal, question, stream, refused, recalled, way_on, on_route, by_get, decided_of}
+use Rattle.gate_http.specs.Way.{Way, silence, refusal, question, stream, refused, recalled, way_on, on_route, by_get}
+use Rattle.gate_http.specs.Way.{decided_of}
 use Rattle.gate_http.specs.Got.{get_head, is_target, path_limit, way_got}
 use Rattle.gate_http.specs.Answer.{Answers, calls_made, gate_after, is_503}
 use Rattle.gate_http.specs.Serving.{ServesAs, ServesGet}

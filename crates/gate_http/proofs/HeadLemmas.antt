@@ -1,5 +1,7 @@
 -- How an input begins, byte by byte.
-use Rattle.std.proofs.Common.{◌≡◌, ℕ, ◌+◌, ◌-◌, ◌<◌, ◌≤◌, Bool, true, false, cond, List, [], ◌∷◌, ◌++◌, length, take, get_or, Option, Some, None, arith, refl, sym, ap, subst, ◌∙◌, append_assoc, append-nil, length-append}
+use Rattle.std.proofs.Common.{◌≡◌, ℕ, ◌+◌, ◌-◌, ◌<◌, ◌≤◌, Bool, true, false, cond, List, [], ◌∷◌, ◌++◌, length, take}
+use Rattle.std.proofs.Common.{get_or, Option, Some, None, arith, refl, sym, ap, subst, ◌∙◌, append_assoc, append-nil}
+use Rattle.std.proofs.Common.{length-append}
 use Rattle.std.specs.Io.KnownBytes.{Consumes, IsAtEnd}
 use Rattle.std.proofs.Math.Seq.{take-append-add, drop-append_seam}
 use Rattle.std.proofs.lemmas.List.{take_all}
@@ -9,7 +11,8 @@ use Rattle.gate_http.specs.declared.head.Came.TheVariants as came
 use Rattle.gate_http.specs.Parts.{HeadComes}
 use Rattle.gate_http.specs.Exchange.{Waits, IsUnfinished}
 use Rattle.gate_http.specs.Way.{way, way_from, FindsIn}
-use Rattle.gate_http.specs.Head.{ends_head, head_from, front_of, front_with, front_without, empty, cut, too_large, whole}
+use Rattle.gate_http.specs.Head.{ends_head, head_from, front_of, front_with, front_without, empty, cut, too_large}
+use Rattle.gate_http.specs.Head.{whole}
 
 -- no front of it ends in an empty line: whatever follows, the head ends later
 pub record IsOpen (begun : List ℕ) : Type 0 where

@@ -1,14 +1,17 @@
 -- At most one request head, and at most 64 fields in 66 lines.
-use Rattle.std.proofs.Common.{◌≡◌, ℕ, ◌+◌, ◌≤◌, List, [], ◌∷◌, ◌++◌, length, Option, Some, None, arith, refl, sym, ap, ◌∙◌, cond, nat_eq, Bool, true, false, ltb, take, drop}
+use Rattle.std.proofs.Common.{◌≡◌, ℕ, ◌+◌, ◌≤◌, List, [], ◌∷◌, ◌++◌, length, Option, Some, None, arith, refl, sym, ap}
+use Rattle.std.proofs.Common.{◌∙◌, cond, nat_eq, Bool, true, false, ltb, take, drop}
 use Rattle.std.specs.List.{count_by, flat_map}
 use Rattle.std.proofs.lemmas.List.Sums.{sum_by-append}
-use Rattle.httparse.specs.Grammar.{LineEnd, crlf, lf, print_end, print_field, Field, print_section, print_blank, print_version, print_request, RequestHead}
+use Rattle.httparse.specs.Grammar.{LineEnd, crlf, lf, print_end, print_field, Field, print_section, print_blank}
+use Rattle.httparse.specs.Grammar.{print_version, print_request, RequestHead}
 use Rattle.httparse.proofs.GrammarLemmas.{request_unique}
 use Rattle.gate_http.specs.declared.fault.HttpFault.{HttpFault}
 use Rattle.gate_http.specs.declared.fault.HttpFault.TheVariants as fault
 use Rattle.gate_http.specs.Asked.{Asked, delivery}
 use Rattle.gate_http.specs.Head.{Front, empty, cut, too_large, whole, front_of, front_with, head_from}
-use Rattle.gate_http.specs.Way.{Finds, Decided, refused, posted, shown, recalled, decided, way_on, way_from, silence, refusal, question}
+use Rattle.gate_http.specs.Way.{Finds, Decided, refused, posted, shown, recalled, decided, way_on, way_from, silence}
+use Rattle.gate_http.specs.Way.{refusal, question}
 use Rattle.gate_http.specs.Laws.{FoundOnce, FewLinesFit, SilenceIsForNothing}
 
 found_one : (head : List ℕ) (a b : Option RequestHead) → Finds head a → Finds head b → a ≡ b

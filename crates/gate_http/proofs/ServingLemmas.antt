@@ -1,5 +1,6 @@
 -- What a gate over a book answers to what is asked, and what serving a request comes to.
-use Rattle.std.proofs.Common.{◌≡◌, ◌≢◌, true≢false, ℕ, Bool, true, false, List, [], ◌∷◌, ◌++◌, Option, Some, None, Result, Ok, Err, refl, sym, ap, ◌∙◌, subst}
+use Rattle.std.proofs.Common.{◌≡◌, ◌≢◌, true≢false, ℕ, Bool, true, false, List, [], ◌∷◌, ◌++◌, Option, Some, None}
+use Rattle.std.proofs.Common.{Result, Ok, Err, refl, sym, ap, ◌∙◌, subst}
 use Rattle.std.specs.Prelude.{⊤, if◌then◌else◌, ◌==◌}
 use Rattle.gate_types.specs.declared.records.Id.{Id}
 use Rattle.gate_types.specs.declared.deliveries.Delivery.{Delivery}
@@ -29,7 +30,8 @@ use Rattle.gate_http.specs.Asked.{Asked, delivery, is_status_page, told_status, 
 use Rattle.gate_http.specs.Response.{fault_in, told_in, stream_in, failure_in}
 use Rattle.gate_http.specs.Way.{Way, silence, refusal as refusing, question, stream, Request, way_of}
 use Rattle.gate_http.specs.Exchange.{IsRead, OfRead, Comes, Recalled, recited, missing, failed, OfLines}
-use Rattle.gate_http.specs.Answer.{answer_read, answer_to, calls_asked, gate_after, calls_made, served_as, answer, Answers, stream_of, stream_status, is_503}
+use Rattle.gate_http.specs.Answer.{answer_read, answer_to, calls_asked, gate_after, calls_made, served_as, answer}
+use Rattle.gate_http.specs.Answer.{Answers, stream_of, stream_status, is_503}
 use Rattle.gate_http.specs.Serving.{CrashLeaves, Responds, Recalls, Serves, ServesStream, ServesAs}
 
 -- an answer by its mark

@@ -1,5 +1,6 @@
 -- What the plain gate answers to a request, and the gate after it.
-use Rattle.std.specs.Prelude.{ℕ, ◌≡◌, Bool, false, ◌==◌, if◌then◌else◌, List, [], Option, Some, None, option_map, option_and_then, Result, Ok, Err}
+use Rattle.std.specs.Prelude.{ℕ, ◌≡◌, Bool, false, ◌==◌, if◌then◌else◌, List, [], Option, Some, None, option_map}
+use Rattle.std.specs.Prelude.{option_and_then, Result, Ok, Err}
 use Rattle.gate_types.specs.declared.records.Id.{Id}
 use Rattle.gate_types.specs.declared.records.Build.{Build}
 use Rattle.gate_types.specs.declared.deliveries.Delivery.{Delivery}
@@ -31,7 +32,8 @@ use Rattle.gate_http.specs.declared.served.Served.{Served}
 use Rattle.gate_http.specs.declared.served.Served.TheVariants.{Nothing, Answered}
 use Rattle.gate_http.specs.Digits.{number_up_to}
 use Rattle.gate_http.specs.Faults.{fault_status}
-use Rattle.gate_http.specs.Asked.{Asked, delivery, page, build, change, item, is_status_page, told_status, Streamed, whole_history, later_history, all_deliveries, later_deliveries}
+use Rattle.gate_http.specs.Asked.{Asked, delivery, page, build, change, item, is_status_page, told_status, Streamed}
+use Rattle.gate_http.specs.Asked.{whole_history, later_history, all_deliveries, later_deliveries}
 use Rattle.gate_http.specs.Way.{Way, silence, refusal as refusing, question, stream}
 use Rattle.gate_http.specs.Response.{fault_in, told_in, stream_in, failure_in}
 use Rattle.gate_types.specs.Counters.{last_number}

@@ -1,5 +1,6 @@
 -- Decimal numbers in a request.
-use Rattle.std.specs.Prelude.{ℕ, ◌+◌, Bool, ◌&&◌, not, List, length, nat_eq, nat_lt, nat_le, if◌then◌else◌, Option, Some, None, min, codes}
+use Rattle.std.specs.Prelude.{ℕ, ◌+◌, Bool, ◌&&◌, not, List, length, nat_eq, nat_lt, nat_le, if◌then◌else◌, Option}
+use Rattle.std.specs.Prelude.{Some, None, min, codes}
 use Rattle.std.specs.List.{list_all, starts_with}
 use Rattle.std.specs.Char.{is_ascii_digit}
 use Rattle.std.specs.Str.Parse.{digits_value}

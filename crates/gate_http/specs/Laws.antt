@@ -1,5 +1,6 @@
 -- Laws of the definitions, and examples.
-use Rattle.std.specs.Prelude.{ℕ, ◌≡◌, ◌≤◌, ◌==◌, List, [], ◌∷◌, ◌++◌, length, count_by, Option, Some, None, true, false, codes}
+use Rattle.std.specs.Prelude.{ℕ, ◌≡◌, ◌≤◌, ◌==◌, List, [], ◌∷◌, ◌++◌, length, count_by, Option, Some, None, true}
+use Rattle.std.specs.Prelude.{false, codes}
 use Rattle.httparse.specs.Grammar.{RequestHead, ReadsRequest, crlf, lf}
 use Rattle.gate_http.specs.declared.fault.HttpFault.TheVariants as fault
 use Rattle.gate_wire.specs.declared.door.Door.TheVariants as door

@@ -1,5 +1,6 @@
 -- The texts of responses.
-use Rattle.std.specs.Prelude.{ℕ, Bool, false, ◌&&◌, List, [], ◌++◌, length, ◌==◌, if◌then◌else◌, Option, None, Some, codes, decimal}
+use Rattle.std.specs.Prelude.{ℕ, Bool, false, ◌&&◌, List, [], ◌++◌, length, ◌==◌, if◌then◌else◌, Option, None, Some}
+use Rattle.std.specs.Prelude.{codes, decimal}
 use Rattle.gate_types.specs.declared.deliveries.Answer.TheVariants.{Refused}
 use Rattle.gate_types.specs.declared.deliveries.Refusal.TheVariants as refusal
 use Rattle.gate_http.specs.declared.fault.HttpFault.{HttpFault}

@@ -1,5 +1,6 @@
 -- What becomes of an input.
-use Rattle.std.specs.Prelude.{ℕ, ◌≡◌, ◌≤◌, Bool, false, List, [], ◌++◌, length, map, take, count_by, Option, Some, None, option_map, nat_lt, ◌==◌, if◌then◌else◌, codes}
+use Rattle.std.specs.Prelude.{ℕ, ◌≡◌, ◌≤◌, Bool, false, List, [], ◌++◌, length, map, take, count_by, Option, Some}
+use Rattle.std.specs.Prelude.{None, option_map, nat_lt, ◌==◌, if◌then◌else◌, codes}
 use Rattle.std.specs.Str.{bytes_eq}
 use Rattle.httparse.specs.Grammar.{RequestHead, ReadsRequest}
 use Rattle.httparse.specs.Spans.{name_and_value}
@@ -12,7 +13,8 @@ use Rattle.gate_http.specs.declared.routes.Route.{Route}
 use Rattle.gate_http.specs.declared.routes.Route.TheVariants as route
 use Rattle.gate_http.specs.declared.fields.BodyLength.{BodyLength}
 use Rattle.gate_http.specs.declared.fields.BodyLength.TheVariants as body
-use Rattle.gate_http.specs.Asked.{Asked, delivery, page, build, change, item, Streamed, whole_history, later_history, all_deliveries, later_deliveries}
+use Rattle.gate_http.specs.Asked.{Asked, delivery, page, build, change, item, Streamed, whole_history, later_history}
+use Rattle.gate_http.specs.Asked.{all_deliveries, later_deliveries}
 use Rattle.gate_http.specs.Head.{Front, empty, cut, too_large, whole, front_of, head_limit}
 use Rattle.gate_http.specs.Fields.{length_of}
 use Rattle.gate_http.specs.Routes.{route_of, path_of, parameter_of, queue_in, place_in}

@@ -3,7 +3,8 @@ ghost use Rattle.std.specs.Prelude.{◌≡◌, ◌≤◌, ◌++◌, List, ℕ, O
 ghost use Rattle.gate_types.specs.Once.{answer_text};
 ghost use Rattle.gate_types.specs.Tap.{has_failed, Took, TookFront};
 ghost use Rattle.gate_http.specs.declared.respond.Told.{Told};
-ghost use Rattle.gate_http.specs.Asked.{Asked, delivery, page, build, change, item, answer_status, told_status, told_text};
+ghost use Rattle.gate_http.specs.Asked.{Asked, delivery, page, build, change, item, answer_status, told_status};
+ghost use Rattle.gate_http.specs.Asked.{told_text};
 ghost use Rattle.gate_http.specs.Asked.{Streamed, streamed_by};
 ghost use Rattle.gate_http.specs.Exchange.{HasText, Stops};
 ghost use Rattle.gate_http.specs.Fields.{body_limit};

@@ -1,7 +1,8 @@
 //! The text of a response, and its writing.
 ghost use Rattle.std.specs.Prelude.{◌≡◌, ◌≤◌, ◌+◌, ◌++◌, [], false, true, OnOk, OnErr, length, vec_len, vec_capacity};
 ghost use Rattle.gate_types.specs.Tap.{has_failed, Took, TookFront};
-ghost use Rattle.gate_http.specs.Response.{phrase, line, status_line, head_text, allow_line, stream_head, front_in, head_in, written_in};
+ghost use Rattle.gate_http.specs.Response.{phrase, line, status_line, head_text, allow_line, stream_head, front_in};
+ghost use Rattle.gate_http.specs.Response.{head_in, written_in};
 
 use crate::fault::HttpFault;
 use gate_types::tap::{Failed, Tap};

@@ -1,6 +1,7 @@
 //! The routes.
 ghost use Rattle.std.specs.Prelude.{◌≡◌, IfOk};
-ghost use Rattle.gate_http.specs.Routes.{routes, with_route, route_of, path_of, behind_slash, parameter_of, queue_in, place_in};
+ghost use Rattle.gate_http.specs.Routes.{routes, with_route, route_of, path_of, behind_slash, parameter_of, queue_in};
+ghost use Rattle.gate_http.specs.Routes.{place_in};
 
 use crate::digits::number_up_to;
 use matchit::{InsertError, Router};

@@ -1,5 +1,6 @@
 -- What the reads of items find, as records.
-use Rattle.std.proofs.Common.{◌≡◌, ◌≢◌, ◌≤◌, ℕ, pos, List, [], ◌∷◌, map, filter, find, length, slice_get, Bool, true, option_map, eqb, refl, ap, arith}
+use Rattle.std.proofs.Common.{◌≡◌, ◌≢◌, ◌≤◌, ℕ, pos, List, [], ◌∷◌, map, filter, find, length, slice_get, Bool, true}
+use Rattle.std.proofs.Common.{option_map, eqb, refl, ap, arith}
 use Rattle.std.specs.Prelude.{AllPairs}
 use Rattle.std.specs.List.{AllPass}
 use Rattle.std.proofs.lemmas.Bool.Decides.{nat_tests}
@@ -18,7 +19,8 @@ use Rattle.gate_schema.proofs.ValueLemmas.{equal_numbers, equal_texts}
 use Rattle.gate_found_rows.specs.Finds.{Finds}
 use Rattle.gate_found_rows.specs.Reads.{IsShown}
 use Rattle.gate_found_rows.specs.Whole.{IsWhole, is_item_row_in_form}
-use Rattle.gate_item_queries.proofs.ItemTexts.{item_is, item_names, item_query, item_sql, item_terms, items_is, items_query, items_sql, queued_is, queued_query, queued_sql}
+use Rattle.gate_item_queries.proofs.ItemTexts.{item_is, item_names, item_query, item_sql, item_terms, items_is}
+use Rattle.gate_item_queries.proofs.ItemTexts.{items_query, items_sql, queued_is, queued_query, queued_sql}
 use Rattle.gate_found_rows.proofs.KeyedReads.{finds_few, finds_rising, one_at, one_passes}
 use Rattle.gate_found_rows.proofs.ReadLemmas.{answers}
 

@@ -1,5 +1,6 @@
 -- What the read of the items of a queue whose changes need another finds.
-use Rattle.std.proofs.Common.{◌≡◌, ◌<ℤ◌, ℕ, pos, List, [], ◌∷◌, map, filter, drop, Bool, true, ◌&&◌, eqb, ltb, refl, sym, ap, subst, ◌∙◌}
+use Rattle.std.proofs.Common.{◌≡◌, ◌<ℤ◌, ℕ, pos, List, [], ◌∷◌, map, filter, drop, Bool, true, ◌&&◌, eqb, ltb, refl}
+use Rattle.std.proofs.Common.{sym, ap, subst, ◌∙◌}
 use Rattle.std.specs.List.{list_all}
 use Rattle.std.proofs.lemmas.Bool.{and_from, and_parts}
 use Rattle.std.proofs.lemmas.List.Elements.{All-filter}
@@ -26,7 +27,8 @@ use Rattle.gate_found_rows.specs.Shown.{number_shown}
 use Rattle.gate_found_rows.specs.Whole.{IsWhole}
 use Rattle.gate_found_rows.proofs.DistinctLemmas.{shows_once}
 use Rattle.gate_item_queries.proofs.ItemReads.{InForm, ShowsItems}
-use Rattle.gate_item_queries.proofs.ItemTexts.{item_names, needing_is, needing_order, needing_query, needing_sql, needing_terms, needing_test}
+use Rattle.gate_item_queries.proofs.ItemTexts.{item_names, needing_is, needing_order, needing_query, needing_sql}
+use Rattle.gate_item_queries.proofs.ItemTexts.{needing_terms, needing_test}
 use Rattle.gate_found_rows.proofs.JoinLemmas.{keyed_told, listed_told, over_tables, plus_text}
 use Rattle.gate_found_rows.proofs.ListFacts.{all_so}
 use Rattle.gate_found_rows.proofs.ListedReads.{told_behind}

@@ -1,5 +1,6 @@
 -- What the reads of the next item of a queue find, of the next few, and of the last.
-use Rattle.std.proofs.Common.{◌≡◌, ◌≤◌, ◌<◌, ℕ, pos, min, List, [], ◌∷◌, map, filter, take, reverse, slice_get, Bool, true, ◌&&◌, Option, option_map, ltb, refl, sym, ap, subst, ◌∙◌, arith}
+use Rattle.std.proofs.Common.{◌≡◌, ◌≤◌, ◌<◌, ℕ, pos, min, List, [], ◌∷◌, map, filter, take, reverse, slice_get, Bool}
+use Rattle.std.proofs.Common.{true, ◌&&◌, Option, option_map, ltb, refl, sym, ap, subst, ◌∙◌, arith}
 use Rattle.std.specs.Prelude.{IfSome, Result}
 use Rattle.std.specs.List.{AllByRecursion, AllPass}
 use Rattle.std.proofs.lemmas.Bool.{and_parts}
@@ -26,7 +27,9 @@ use Rattle.gate_found_rows.specs.Finds.{Finds}
 use Rattle.gate_found_rows.specs.Reads.{IsShown}
 use Rattle.gate_found_rows.specs.Whole.{IsWhole, is_item_row_in_form}
 use Rattle.gate_item_queries.proofs.ItemReads.{InForm, ShowsItems}
-use Rattle.gate_item_queries.proofs.ItemTexts.{item_names, item_terms, last_is, last_query, last_sql, last_test, next_is, next_query, next_sql, next_test, one_row, several_is, several_query, several_sql, third}
+use Rattle.gate_item_queries.proofs.ItemTexts.{item_names, item_terms, last_is, last_query, last_sql, last_test}
+use Rattle.gate_item_queries.proofs.ItemTexts.{next_is, next_query, next_sql, next_test, one_row, several_is}
+use Rattle.gate_item_queries.proofs.ItemTexts.{several_query, several_sql, third}
 use Rattle.gate_found_rows.proofs.KeyedReads.{below_number, finds_falling, finds_rising}
 use Rattle.gate_found_rows.proofs.ListFacts.{all_so, first_so, passing}
 use Rattle.gate_found_rows.proofs.ReadLemmas.{answers}

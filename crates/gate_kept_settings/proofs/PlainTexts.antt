@@ -1,5 +1,6 @@
 -- Texts that are written as they are, and pieces of a text beside the values that they are the texts of.
-use Rattle.std.proofs.Common.{◌≡◌, ℕ, ◌<◌, ◌≤◌, Bool, true, false, ◌||◌, List, [], ◌∷◌, ◌++◌, map, refl, sym, ap, ap₂, ◌∙◌, append_assoc, arith, lt-ltb}
+use Rattle.std.proofs.Common.{◌≡◌, ℕ, ◌<◌, ◌≤◌, Bool, true, false, ◌||◌, List, [], ◌∷◌, ◌++◌, map, refl, sym, ap, ap₂}
+use Rattle.std.proofs.Common.{◌∙◌, append_assoc, arith, lt-ltb}
 use Rattle.std.specs.Prelude.{⊤, codes, flat_map}
 use Rattle.std.specs.List.{list_all}
 use Rattle.std.specs.Str.{IsUtf8}
@@ -14,7 +15,8 @@ use Rattle.serde_json.specs.View.{items_of}
 use Rattle.gate_types.specs.Names.{is_name_byte, is_path_byte, is_base_byte, is_name, is_path_name, is_base}
 use Rattle.gate_types.specs.SettingsText.{unless}
 use Rattle.gate_kept_settings.proofs.Entries.{Entry, always, unless_default, present}
-use Rattle.gate_types.specs.JsonText.{Piece, plain, escaped, number as number_piece, boolean as boolean_piece, joined, listed, member as member_piece, object as object_piece}
+use Rattle.gate_types.specs.JsonText.{Piece, plain, escaped, number as number_piece, boolean as boolean_piece, joined}
+use Rattle.gate_types.specs.JsonText.{listed, member as member_piece, object as object_piece}
 
 -- ---- names need no escape
 

@@ -1,5 +1,6 @@
 -- A lawful state is lawful under settings that it adopts: it is at rest as it was, and its orders stay shown.
-use Rattle.std.proofs.Common.{◌≡◌, ℕ, ◌≤◌, Bool, true, false, not, ◌&&◌, ◌||◌, None, [], is_some, length, refl, sym, ap, ◌∙◌, subst, inl, inr, true≢false}
+use Rattle.std.proofs.Common.{◌≡◌, ℕ, ◌≤◌, Bool, true, false, not, ◌&&◌, ◌||◌, None, [], is_some, length, refl, sym}
+use Rattle.std.proofs.Common.{ap, ◌∙◌, subst, inl, inr, true≢false}
 use Rattle.std.specs.Prelude.{◌==◌, nat_lt, nat_le, find}
 use Rattle.std.specs.List.{list_any, AllPass}
 use Rattle.std.proofs.lemmas.Bool.{and_parts, not-true, false_from_ne_true, leb-true}
@@ -23,7 +24,8 @@ use Rattle.gate_types.proofs.PlainLemmas.{same_truth}
 use Rattle.gate_types.proofs.NameLemmas.{same_name_is}
 use Rattle.gate_laws.specs.Rest.{IsAtRest}
 use Rattle.gate_laws.specs.Adoption.{AdoptedIsLawful, AdoptedContentIsLawful, AdoptedOrdersStay}
-use Rattle.gate_laws.proofs.Members.{In, every, all, any_from, any_to, all_from, not_found, contains_in, in_contains, from_filter_map}
+use Rattle.gate_laws.proofs.Members.{In, every, all, any_from, any_to, all_from, not_found, contains_in, in_contains}
+use Rattle.gate_laws.proofs.Members.{from_filter_map}
 use Rattle.gate_laws.proofs.Alone.{same_name_of}
 use Rattle.gate_laws.proofs.SettledIsAtRest.{settled_is_at_rest, rest_is_settled}
 use Rattle.gate_laws.proofs.ShownOrders.{order_shown, has_order}
@@ -33,7 +35,8 @@ use Rattle.gate_laws.proofs.RowShapes.{window_shape, windows_of}
 use Rattle.gate_laws.proofs.Shapes.{Shaped, shaped_from}
 use Rattle.gate_laws.proofs.StateShapes.{WholeQueue}
 use Rattle.gate_laws.proofs.StepIsInForm.{form_of, start_queue}
-use Rattle.gate_laws.proofs.Adopting.{Adopts, Resizes, each_queue, still_queue, flat_before, flat_after, queue_kept, queue_there, set_kept}
+use Rattle.gate_laws.proofs.Adopting.{Adopts, Resizes, each_queue, still_queue, flat_before, flat_after, queue_kept}
+use Rattle.gate_laws.proofs.Adopting.{queue_there, set_kept}
 use Rattle.gate_laws.proofs.AdoptedIsSound.{adopted_sound}
 use Rattle.gate_types.specs.Limits.{most_items, most_window}
 

@@ -1,5 +1,6 @@
 -- A sound state is sound under settings that it adopts.
-use Rattle.std.proofs.Common.{◌≡◌, ℕ, ◌+◌, ◌≤◌, Bool, true, false, not, ◌&&◌, ◌||◌, cond, Option, Some, None, List, [], map, length, refl, sym, ap, ◌∙◌, subst, arith, All, true≢false}
+use Rattle.std.proofs.Common.{◌≡◌, ℕ, ◌+◌, ◌≤◌, Bool, true, false, not, ◌&&◌, ◌||◌, cond, Option, Some, None, List}
+use Rattle.std.proofs.Common.{[], map, length, refl, sym, ap, ◌∙◌, subst, arith, All, true≢false}
 use Rattle.std.specs.Prelude.{◌==◌, slice_get, Contains, ◌↔◌, find}
 use Rattle.std.specs.List.{list_any, flat_map, AllPass}
 use Rattle.std.specs.List.Sorted.{IsStrictlyIncreasing}
@@ -17,16 +18,20 @@ use Rattle.gate_types.specs.Standing.{places, all_places}
 use Rattle.gate_types.specs.Step.{has_project}
 use Rattle.gate_types.specs.Adopt.{resized, adopted_queue, adopted}
 use Rattle.gate_types.specs.Evidence.{has_evidence}
-use Rattle.gate_types.specs.Lawful.{IsSound, serials_of, drawn_serials, waiting_changes, landed_changes, is_sound_item, is_sound_build, is_overtaken_rightly, is_of_item, TellsLandings, ArePlanned}
+use Rattle.gate_types.specs.Lawful.{IsSound, serials_of, drawn_serials, waiting_changes, landed_changes}
+use Rattle.gate_types.specs.Lawful.{is_sound_item, is_sound_build, is_overtaken_rightly, is_of_item, TellsLandings}
+use Rattle.gate_types.specs.Lawful.{ArePlanned}
 use Rattle.gate_types.proofs.NameLemmas.{same_name_is}
 use Rattle.gate_laws.specs.Adoption.{AdoptedIsSound}
-use Rattle.gate_laws.proofs.Members.{In, every, all, from_map, to_map, found, not_found, map_map, map_same, in_contains, contains_in}
+use Rattle.gate_laws.proofs.Members.{In, every, all, from_map, to_map, found, not_found, map_map, map_same}
+use Rattle.gate_laws.proofs.Members.{in_contains, contains_in}
 use Rattle.gate_laws.proofs.Counts.{times, times-append, distinct_less, all_below}
 use Rattle.gate_laws.proofs.Alone.{same_name_of, map-flat, item_changes}
 use Rattle.gate_laws.proofs.Parts.{ItemsRise, LandingsRise, HasSoundItems, ShowsAll, HasSingles}
 use Rattle.gate_laws.proofs.Facts.{BuildFacts, build_facts, sound_build}
 use Rattle.gate_laws.proofs.WindowIsSound.{with_window}
-use Rattle.gate_laws.proofs.Adopting.{Adopts, each_queue, still_queue, any_queue, flat_before, flat_after, times_adopted, queue_kept, project_kept, set_queue, set_kept}
+use Rattle.gate_laws.proofs.Adopting.{Adopts, each_queue, still_queue, any_queue, flat_before, flat_after}
+use Rattle.gate_laws.proofs.Adopting.{times_adopted, queue_kept, project_kept, set_queue, set_kept}
 
 pub none_falls : IsStrictlyIncreasing []
 none_falls k h = absurd (omega (arith, h))

@@ -1,5 +1,6 @@
 -- Under other settings each queue of before is there, under its window or another, and beside them new ones.
-use Rattle.std.proofs.Common.{◌≡◌, ℕ, ◌+◌, ◌≤◌, Bool, true, false, not, ◌&&◌, cond, Option, Some, None, List, [], ◌∷◌, map, refl, sym, ap, ◌∙◌, subst, ◌⊎◌, inl, inr, arith, true≢false}
+use Rattle.std.proofs.Common.{◌≡◌, ℕ, ◌+◌, ◌≤◌, Bool, true, false, not, ◌&&◌, cond, Option, Some, None, List, [], ◌∷◌}
+use Rattle.std.proofs.Common.{map, refl, sym, ap, ◌∙◌, subst, ◌⊎◌, inl, inr, arith, true≢false}
 use Rattle.std.specs.Prelude.{find, unwrap_or}
 use Rattle.std.specs.List.{list_any, list_all, flat_map}
 use Rattle.std.specs.Option.{option_map_or}
@@ -15,7 +16,8 @@ use Rattle.gate_types.specs.Adopt.{may_adopt, keeps_window, resized, adopted_que
 use Rattle.gate_types.specs.Lawful.{IsSound}
 use Rattle.gate_types.proofs.PlainLemmas.{same_truth}
 use Rattle.gate_types.proofs.NameLemmas.{same_name_is}
-use Rattle.gate_laws.proofs.Members.{In, every, from_map, to_map, any_from, any_to, all_from, none_from, found, not_found, from_flat, to_flat}
+use Rattle.gate_laws.proofs.Members.{In, every, from_map, to_map, any_from, any_to, all_from, none_from, found}
+use Rattle.gate_laws.proofs.Members.{not_found, from_flat, to_flat}
 use Rattle.gate_laws.proofs.Counts.{times, times-append}
 use Rattle.gate_laws.proofs.Alone.{same_name_of, names_differ}
 use Rattle.gate_laws.proofs.WindowIsSound.{with_window}

@@ -2,7 +2,9 @@
 use Rattle.std.proofs.Common.{refl}
 use Rattle.std.specs.Fmt.{digits}
 use Rattle.json.specs.Print.{escape_byte}
-use Rattle.gate_laws.specs.BuildExamples.{BuildsAreGivenFrontToBack, AFailureResetsTheItemsBehindIt, AFailureBehindAnItemStays, ALostBuildIsTriedThreeTimes, LossesOnTwoLinesArentAdded}
+use Rattle.gate_laws.specs.BuildExamples.{BuildsAreGivenFrontToBack, AFailureResetsTheItemsBehindIt}
+use Rattle.gate_laws.specs.BuildExamples.{AFailureBehindAnItemStays, ALostBuildIsTriedThreeTimes}
+use Rattle.gate_laws.specs.BuildExamples.{LossesOnTwoLinesArentAdded}
 
 pub builds_are_given_front_to_back : BuildsAreGivenFrontToBack
 unfolding digits escape_byte

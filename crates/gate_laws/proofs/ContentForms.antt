@@ -1,5 +1,6 @@
 -- A content in form stays in form, call by call.
-use Rattle.std.proofs.Common.{◌≡◌, ℕ, zero, suc, ◌<◌, ◌≤◌, true, false, not, ◌&&◌, Option, Some, None, List, [], ◌∷◌, get_or, length, refl, sym, ap, ◌∙◌, inl, inr, arith, true≢false}
+use Rattle.std.proofs.Common.{◌≡◌, ℕ, zero, suc, ◌<◌, ◌≤◌, true, false, not, ◌&&◌, Option, Some, None, List, [], ◌∷◌}
+use Rattle.std.proofs.Common.{get_or, length, refl, sym, ap, ◌∙◌, inl, inr, arith, true≢false}
 use Rattle.std.specs.Prelude.{AllPairs, ◌≢◌, is_some, max, nat_eq, nat_le}
 use Rattle.std.specs.Str.{is_utf8}
 use Rattle.std.proofs.lemmas.Bool.{and_parts, and_from, cond_both, not-true, le-leb, le-ltb, leb-true}
@@ -19,7 +20,9 @@ use Rattle.gate_types.specs.Canonical.{canonical_text}
 use Rattle.gate_types.specs.ReplyText.{reply_text}
 use Rattle.gate_types.specs.Once.{Call, Content, empty, kept_for, may_act, content_after, next_content, once}
 use Rattle.gate_types.specs.Lawful.{IsLawful}
-use Rattle.gate_types.specs.Forms.{are_settings_in_form, are_counters_in_form, is_delivery_in_form, is_id_in_form, is_call_in_form, is_text_in_form, is_kept_in_form, is_reply_in_form, IsInForm, IsContentInForm}
+use Rattle.gate_types.specs.Forms.{are_settings_in_form, are_counters_in_form, is_delivery_in_form, is_id_in_form}
+use Rattle.gate_types.specs.Forms.{is_call_in_form, is_text_in_form, is_kept_in_form, is_reply_in_form, IsInForm}
+use Rattle.gate_types.specs.Forms.{IsContentInForm}
 use Rattle.gate_laws.specs.InForm.{EmptyIsInForm, NextContentIsInForm, NextContentIsLawful, RunIsInForm}
 use Rattle.gate_laws.specs.Runs.{StartWithIsLawful}
 use Rattle.gate_laws.proofs.Members.{In, every, not_found}

@@ -6,7 +6,8 @@ use Rattle.gate_types.specs.declared.records.Build.{Build}
 use Rattle.gate_types.specs.declared.records.Slot.{Slot}
 use Rattle.gate_types.specs.declared.records.Slot.TheVariants as slot
 use Rattle.gate_types.specs.Line.{Place}
-use Rattle.gate_types.specs.Slot.{is_blocked, is_failed_slot, is_waiting_slot, is_finished, raw_slot_of, has_failure, is_cut, cut_slot}
+use Rattle.gate_types.specs.Slot.{is_blocked, is_failed_slot, is_waiting_slot, is_finished, raw_slot_of, has_failure}
+use Rattle.gate_types.specs.Slot.{is_cut, cut_slot}
 use Rattle.gate_types.specs.Standing.{is_failing, are_finished}
 
 -- ---- one slot

@@ -2,7 +2,8 @@
 use Rattle.std.proofs.Common.{refl}
 use Rattle.std.specs.Fmt.{digits}
 use Rattle.json.specs.Print.{escape_byte}
-use Rattle.gate_laws.specs.DeliveryExamples.{ARepeatGetsTheKeptReply, ASpentIdServesNothingElse, ARefusalSpendsNoId, AnUnavailableCallMayComeAgain, ARevisionSupersedes}
+use Rattle.gate_laws.specs.DeliveryExamples.{ARepeatGetsTheKeptReply, ASpentIdServesNothingElse, ARefusalSpendsNoId}
+use Rattle.gate_laws.specs.DeliveryExamples.{AnUnavailableCallMayComeAgain, ARevisionSupersedes}
 
 pub a_repeat_gets_the_kept_reply : ARepeatGetsTheKeptReply
 unfolding digits escape_byte

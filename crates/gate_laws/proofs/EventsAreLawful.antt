@@ -6,7 +6,9 @@ use Rattle.gate_types.specs.Settings.{Settings}
 use Rattle.gate_types.specs.Once.{Content, Call, once, answers, answer_of, next_content}
 use Rattle.gate_types.specs.Adopt.{may_adopt, adopted_content}
 use Rattle.gate_types.specs.Events.{Event, called, set, Governed, next_governed, through, answers_through}
-use Rattle.gate_laws.specs.Adoption.{IsSoundEvent, IsEventInForm, first, CallsAreOnce, IsGovernedLawfully, EventsAreLawful, IsGovernedInForm, EventsAreInForm, EveryChangeLandsOnceThroughEvents, EveryLandingIsShownThroughEvents}
+use Rattle.gate_laws.specs.Adoption.{IsSoundEvent, IsEventInForm, first, CallsAreOnce, IsGovernedLawfully}
+use Rattle.gate_laws.specs.Adoption.{EventsAreLawful, IsGovernedInForm, EventsAreInForm}
+use Rattle.gate_laws.specs.Adoption.{EveryChangeLandsOnceThroughEvents, EveryLandingIsShownThroughEvents}
 use Rattle.gate_laws.proofs.StartIsLawful.{start_lawful}
 use Rattle.gate_laws.proofs.RunIsLawful.{next_lawful}
 use Rattle.gate_laws.proofs.ContentForms.{next_content_is_lawful}

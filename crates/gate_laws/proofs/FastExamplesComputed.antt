@@ -2,7 +2,8 @@
 use Rattle.std.proofs.Common.{refl}
 use Rattle.std.specs.Fmt.{digits}
 use Rattle.json.specs.Print.{escape_byte}
-use Rattle.gate_laws.specs.FastExamples.{FailFastIsTold, AFastFailureGoesAtOnce, AFastFailureBehindAnItemSkips, AJobThatDoesntVoteSkipsNothing}
+use Rattle.gate_laws.specs.FastExamples.{FailFastIsTold, AFastFailureGoesAtOnce, AFastFailureBehindAnItemSkips}
+use Rattle.gate_laws.specs.FastExamples.{AJobThatDoesntVoteSkipsNothing}
 
 pub fail_fast_is_told : FailFastIsTold
 unfolding digits escape_byte

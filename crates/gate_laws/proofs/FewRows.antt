@@ -1,5 +1,6 @@
 -- Each report, landing, build, ready change has a number of its own among those drawn, so there are at most so many.
-use Rattle.std.proofs.Common.{◌≡◌, ℕ, ◌+◌, ◌≤◌, ◌<◌, true, false, Option, Some, None, List, [], ◌∷◌, map, length, ap, ◌∙◌, subst, inl, inr, arith}
+use Rattle.std.proofs.Common.{◌≡◌, ℕ, ◌+◌, ◌≤◌, ◌<◌, true, false, Option, Some, None, List, [], ◌∷◌, map, length, ap}
+use Rattle.std.proofs.Common.{◌∙◌, subst, inl, inr, arith}
 use Rattle.std.specs.Prelude.{nat_le, nat_eq, filter_map, max}
 use Rattle.std.specs.List.{flat_map, list_any, cons_option, enumerate_from}
 use Rattle.std.specs.List.Sorted.{IsStrictlyIncreasing}

@@ -1,5 +1,6 @@
 -- A landing keeps the shape of a state: its report tells the place of the landing that is put last.
-use Rattle.std.proofs.Common.{◌≡◌, ℕ, ◌+◌, true, false, not, ◌&&◌, List, [], ◌∷◌, ◌++◌, length, refl, subst, inl, inr, arith}
+use Rattle.std.proofs.Common.{◌≡◌, ℕ, ◌+◌, true, false, not, ◌&&◌, List, [], ◌∷◌, ◌++◌, length, refl, subst, inl, inr}
+use Rattle.std.proofs.Common.{arith}
 use Rattle.gate_types.specs.declared.records.Landing.{Landing}
 use Rattle.gate_types.specs.declared.records.Plan.{Plan}
 use Rattle.gate_types.specs.declared.records.Verdict.TheVariants as verdict
@@ -17,7 +18,8 @@ use Rattle.gate_laws.proofs.Members.{In, from_filter}
 use Rattle.gate_laws.proofs.Rising.{from_put}
 use Rattle.gate_laws.proofs.LeaveIsSound.{leaving}
 use Rattle.gate_laws.proofs.RecordedChange.{open_known}
-use Rattle.gate_laws.proofs.AfterLanding.{landed_change, landed_here, queue_after, after_landing, Submitted, item_in, order_open, gone_none, by_queue}
+use Rattle.gate_laws.proofs.AfterLanding.{landed_change, landed_here, queue_after, after_landing, Submitted, item_in}
+use Rattle.gate_laws.proofs.AfterLanding.{order_open, gone_none, by_queue}
 use Rattle.gate_laws.proofs.Shapes.{PlanShape, Shaped, plan_named}
 use Rattle.gate_laws.proofs.RowShapes.{builds_shaped, shape_more, left_shape, landed_shape}
 use Rattle.gate_laws.proofs.StateShapes.{WholeQueue, queues_shaped}

@@ -2,7 +2,9 @@
 use Rattle.std.proofs.Common.{refl}
 use Rattle.std.specs.Fmt.{digits}
 use Rattle.json.specs.Print.{escape_byte}
-use Rattle.gate_laws.specs.LandingExamples.{AnItemLandsBeforeAFailingOne, AJobThatDoesntVoteDecidesNothing, ALandingKeepsTheBuildsBehindIt, AShownOrderIsLeftAlone, TheWindowGrowsBeforeItShrinks, EachQueueShowsItsOrder}
+use Rattle.gate_laws.specs.LandingExamples.{AnItemLandsBeforeAFailingOne, AJobThatDoesntVoteDecidesNothing}
+use Rattle.gate_laws.specs.LandingExamples.{ALandingKeepsTheBuildsBehindIt, AShownOrderIsLeftAlone}
+use Rattle.gate_laws.specs.LandingExamples.{TheWindowGrowsBeforeItShrinks, EachQueueShowsItsOrder}
 
 pub an_item_lands_before_a_failing_one : AnItemLandsBeforeAFailingOne
 unfolding digits escape_byte

@@ -2,7 +2,8 @@
 use Rattle.std.proofs.Common.{refl}
 use Rattle.std.specs.Fmt.{digits}
 use Rattle.json.specs.Print.{escape_byte}
-use Rattle.gate_laws.specs.LimitExamples.{OrdersRunOut, ALandingThatAdmitsRunsOut, BuildsAndApprovalsRunOut, TheWindowAtItsEnds, AWindowChangesByItsRule, AWindowOf0SetsNoBound}
+use Rattle.gate_laws.specs.LimitExamples.{OrdersRunOut, ALandingThatAdmitsRunsOut, BuildsAndApprovalsRunOut}
+use Rattle.gate_laws.specs.LimitExamples.{TheWindowAtItsEnds, AWindowChangesByItsRule, AWindowOf0SetsNoBound}
 
 pub orders_run_out : OrdersRunOut
 unfolding digits escape_byte

@@ -1,5 +1,6 @@
 -- Calls that tell again what is kept are the calls that acted, and those alone come to the same content.
-use Rattle.std.proofs.Common.{◌≡◌, ℕ, ◌<◌, ◌^◌, arith, Bool, true, false, ◌&&◌, not, cond, List, [], ◌∷◌, ◌++◌, fold, refl, sym, ap, ◌∙◌, subst}
+use Rattle.std.proofs.Common.{◌≡◌, ℕ, ◌<◌, ◌^◌, arith, Bool, true, false, ◌&&◌, not, cond, List, [], ◌∷◌, ◌++◌, fold}
+use Rattle.std.proofs.Common.{refl, sym, ap, ◌∙◌, subst}
 use Rattle.std.specs.Prelude.{is_some}
 use Rattle.std.specs.Str.{is_utf8}
 use Rattle.std.proofs.lemmas.Bool.{and_parts, not-true}
@@ -13,14 +14,16 @@ use Rattle.gate_types.specs.ReplyText.{reply_text}
 use Rattle.gate_types.specs.OneText.{IsInRange}
 use Rattle.gate_types.specs.Forms.{is_change_number, is_revision_number, is_drawn_number}
 use Rattle.gate_types.specs.Step.{Stepped, accepted, refused, step}
-use Rattle.gate_types.specs.Once.{Content, Call, empty, kept_for, may_act, is_accepted, acts, content_after, next_content, once, acting}
+use Rattle.gate_types.specs.Once.{Content, Call, empty, kept_for, may_act, is_accepted, acts, content_after}
+use Rattle.gate_types.specs.Once.{next_content, once, acting}
 use Rattle.gate_types.specs.Adopt.{may_adopt, adopted_content}
 use Rattle.gate_types.specs.Events.{Governed}
 use Rattle.gate_types.proofs.OnceLaw.{content_by}
 use Rattle.gate_types.proofs.OneTextLaw.{one_text_a_delivery}
 use Rattle.gate_laws.specs.Sessions.{Session, after_session}
 use Rattle.gate_laws.proofs.Shapes.{most}
-use Rattle.gate_laws.specs.Feed.{FormsAreInRange, IsCallOfKept, AreCallsOfKept, AreInRange, ActingCallsAreKept, KeptToldAgain, LogIsTheGate, IsSessionAgain, SessionsToldAgain}
+use Rattle.gate_laws.specs.Feed.{FormsAreInRange, IsCallOfKept, AreCallsOfKept, AreInRange, ActingCallsAreKept}
+use Rattle.gate_laws.specs.Feed.{KeptToldAgain, LogIsTheGate, IsSessionAgain, SessionsToldAgain}
 use Rattle.gate_types.specs.Counters.{last_number}
 
 -- ---- numbers in range

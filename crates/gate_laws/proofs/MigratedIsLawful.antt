@@ -1,5 +1,6 @@
 -- A lawful state without plans becomes a lawful one.
-use Rattle.std.proofs.Common.{◌≡◌, ℕ, ◌+◌, ◌≤◌, Bool, true, false, not, ◌&&◌, ◌||◌, Option, Some, None, List, [], map, take, refl, sym, ap, ◌∙◌, subst, inl, inr, arith, All, is_some, true≢false}
+use Rattle.std.proofs.Common.{◌≡◌, ℕ, ◌+◌, ◌≤◌, Bool, true, false, not, ◌&&◌, ◌||◌, Option, Some, None, List, [], map}
+use Rattle.std.proofs.Common.{take, refl, sym, ap, ◌∙◌, subst, inl, inr, arith, All, is_some, true≢false}
 use Rattle.std.specs.Prelude.{◌==◌, find, unwrap_or, slice_get, IsTrue}
 use Rattle.std.specs.List.{list_any, list_all, flat_map, AllPass}
 use Rattle.std.specs.Option.{option_map_or}
@@ -19,11 +20,15 @@ use Rattle.gate_types.specs.Sweep.{judged, judged_after}
 use Rattle.gate_types.specs.Step.{has_project}
 use Rattle.gate_types.specs.Evidence.{is_one_on, passed_builds, has_evidence}
 use Rattle.gate_types.specs.Migrate.{item_plan, landing_plan, plans_of_queue, migrated}
-use Rattle.gate_types.specs.Lawful.{IsSound, IsLawful, serials_of, landed_changes, is_sound_item, ArePlanned, TellsLandings}
+use Rattle.gate_types.specs.Lawful.{IsSound, IsLawful, serials_of, landed_changes, is_sound_item, ArePlanned}
+use Rattle.gate_types.specs.Lawful.{TellsLandings}
 use Rattle.gate_types.specs.Forms.{are_settings_in_form, is_project_in_form}
 use Rattle.gate_laws.specs.Rest.{IsAtRest}
-use Rattle.gate_laws.specs.Migration.{place_before, places_before, all_before, is_shown_before, WasLawful, MigratedIsLawful, MigratedContentIsLawful, NothingWasCut}
-use Rattle.gate_laws.proofs.Members.{In, every, all, all_from, any_from, found, not_found, from_map, to_map, from_append, to_left, to_right, from_flat, to_flat, flat_same, map_same, in_contains, got}
+use Rattle.gate_laws.specs.Migration.{place_before, places_before, all_before, is_shown_before, WasLawful}
+use Rattle.gate_laws.specs.Migration.{MigratedIsLawful, MigratedContentIsLawful, NothingWasCut}
+use Rattle.gate_laws.proofs.Members.{In, every, all, all_from, any_from, found, not_found, from_map, to_map}
+use Rattle.gate_laws.proofs.Members.{from_append, to_left, to_right, from_flat, to_flat, flat_same, map_same}
+use Rattle.gate_laws.proofs.Members.{in_contains, got}
 use Rattle.gate_laws.proofs.Counts.{distinct_from}
 use Rattle.gate_laws.proofs.Rising.{increasing}
 use Rattle.gate_laws.proofs.Changes.{unknown}

@@ -2,7 +2,9 @@
 use Rattle.std.proofs.Common.{refl}
 use Rattle.std.specs.Fmt.{digits}
 use Rattle.json.specs.Print.{escape_byte}
-use Rattle.gate_laws.specs.NeedExamples.{ANeedAdmitsTheWaitingChange, ACycleWaits, ANeedInAnotherQueueLandsFirst, AnItemGoesWithItsNeed, AdmissionStartsAnew, FootersNameNeeds, AtMost32NeedsAreTaken}
+use Rattle.gate_laws.specs.NeedExamples.{ANeedAdmitsTheWaitingChange, ACycleWaits, ANeedInAnotherQueueLandsFirst}
+use Rattle.gate_laws.specs.NeedExamples.{AnItemGoesWithItsNeed, AdmissionStartsAnew, FootersNameNeeds}
+use Rattle.gate_laws.specs.NeedExamples.{AtMost32NeedsAreTaken}
 
 pub a_need_admits_the_waiting_change : ANeedAdmitsTheWaitingChange
 unfolding digits escape_byte

@@ -1,5 +1,6 @@
 -- What a commit message needs are numbers of changes.
-use Rattle.std.proofs.Common.{◌≡◌, ℕ, Bool, true, false, ◌&&◌, List, [], ◌∷◌, ◌++◌, length, fold, Option, Some, None, arith, refl, subst, cond, inl, inr}
+use Rattle.std.proofs.Common.{◌≡◌, ℕ, Bool, true, false, ◌&&◌, List, [], ◌∷◌, ◌++◌, length, fold, Option, Some, None}
+use Rattle.std.proofs.Common.{arith, refl, subst, cond, inl, inr}
 use Rattle.std.specs.Prelude.{nat_lt, nat_le, slice_index, filter_map, ◌==◌}
 use Rattle.std.specs.List.{list_all, list_any, slice_split}
 use Rattle.std.specs.Bool.{then_some}
@@ -8,7 +9,8 @@ use Rattle.std.specs.Char.{is_ascii_digit}
 use Rattle.std.specs.Str.Parse.{digits_value}
 use Rattle.std.proofs.lemmas.Bool.{and_parts, leb-true}
 use Rattle.std.proofs.lemmas.Option.{none-some}
-use Rattle.gate_types.specs.Needs.{needs, named_change, number_of, after_base, without_blanks, after_footer, without_end, with_number}
+use Rattle.gate_types.specs.Needs.{needs, named_change, number_of, after_base, without_blanks, after_footer}
+use Rattle.gate_types.specs.Needs.{without_end, with_number}
 use Rattle.gate_types.specs.Forms.{is_change_number}
 use Rattle.gate_types.proofs.DigitLemmas.{value_small, value_positive}
 use Rattle.gate_laws.proofs.Members.{In, all_to, from_append, from_filter_map}

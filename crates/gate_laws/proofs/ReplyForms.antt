@@ -1,5 +1,6 @@
 -- What an accepted delivery is answered is of its form.
-use Rattle.std.proofs.Common.{◌≡◌, ℕ, ◌+◌, ◌≤◌, Bool, true, false, not, ◌&&◌, ◌||◌, cond, Option, Some, None, List, [], ◌∷◌, fold, length, refl, sym, ap, ◌∙◌, subst, arith}
+use Rattle.std.proofs.Common.{◌≡◌, ℕ, ◌+◌, ◌≤◌, Bool, true, false, not, ◌&&◌, ◌||◌, cond, Option, Some, None, List}
+use Rattle.std.proofs.Common.{[], ◌∷◌, fold, length, refl, sym, ap, ◌∙◌, subst, arith}
 use Rattle.std.specs.Prelude.{◌==◌, nat_lt, nat_le, find}
 use Rattle.std.specs.Option.{option_map_or}
 use Rattle.std.specs.List.{flat_map}
@@ -23,9 +24,11 @@ use Rattle.gate_types.specs.Admit.{may_enter, entered, admit_one}
 use Rattle.gate_types.specs.Settle.{settle}
 use Rattle.gate_types.specs.SubmitOrder.{Order, shown_order, is_submitting}
 use Rattle.gate_types.specs.Choice.{choose}
-use Rattle.gate_types.specs.Step.{Stepped, accepted, refused, has_project, is_known_and, approval_reply, made_ready, with_landing, build_of, raw_step, step, settled_step, is_exhausted}
+use Rattle.gate_types.specs.Step.{Stepped, accepted, refused, has_project, is_known_and, approval_reply, made_ready}
+use Rattle.gate_types.specs.Step.{with_landing, build_of, raw_step, step, settled_step, is_exhausted}
 use Rattle.gate_types.specs.Lawful.{IsSound, IsLawful}
-use Rattle.gate_types.specs.Forms.{is_item_in_form, is_queue_in_form, is_drawn_number, is_reply_in_form, are_settings_in_form, are_counters_in_form, IsInForm}
+use Rattle.gate_types.specs.Forms.{is_item_in_form, is_queue_in_form, is_drawn_number, is_reply_in_form}
+use Rattle.gate_types.specs.Forms.{are_settings_in_form, are_counters_in_form, IsInForm}
 use Rattle.gate_laws.specs.InForm.{ReplyIsInForm}
 use Rattle.gate_laws.proofs.Members.{In, every, all_from, from_flat, found}
 use Rattle.gate_laws.proofs.OrderFacts.{shows}

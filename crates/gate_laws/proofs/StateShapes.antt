@@ -1,5 +1,6 @@
 -- Each part of a delivery and of settling keeps the shape of a state.
-use Rattle.std.proofs.Common.{◌≡◌, ℕ, ◌+◌, ◌<◌, Bool, true, false, not, ◌&&◌, cond, Option, Some, None, List, [], ◌∷◌, map, fold, length, refl, sym, ◌∙◌, subst, inl, inr, arith}
+use Rattle.std.proofs.Common.{◌≡◌, ℕ, ◌+◌, ◌<◌, Bool, true, false, not, ◌&&◌, cond, Option, Some, None, List, [], ◌∷◌}
+use Rattle.std.proofs.Common.{map, fold, length, refl, sym, ◌∙◌, subst, inl, inr, arith}
 use Rattle.std.specs.Prelude.{◌==◌, nat_lt, find, flat_map}
 use Rattle.std.specs.Option.{option_map_or}
 use Rattle.std.proofs.lemmas.Bool.{and_parts, ltb-true}
@@ -23,7 +24,8 @@ use Rattle.gate_types.specs.Settle.{settle}
 use Rattle.gate_types.specs.Step.{left_queue, leave, with_stage, made_ready, shrunk_queue, with_ending, end_build}
 use Rattle.gate_types.specs.declared.deliveries.Ending.{Ending}
 use Rattle.gate_types.specs.Lawful.{IsSound}
-use Rattle.gate_types.specs.Forms.{is_change_number, is_revision_number, is_change_in_form, are_settings_in_form, is_project_in_form}
+use Rattle.gate_types.specs.Forms.{is_change_number, is_revision_number, is_change_in_form, are_settings_in_form}
+use Rattle.gate_types.specs.Forms.{is_project_in_form}
 use Rattle.gate_types.proofs.NameLemmas.{same_name_is}
 use Rattle.gate_laws.proofs.Members.{In, every, all_from, from_map, from_filter, from_append, any_from, found}
 use Rattle.gate_laws.proofs.Rising.{from_put}
@@ -35,7 +37,8 @@ use Rattle.gate_laws.proofs.SweepIsSound.{sweep_is_sound}
 use Rattle.gate_laws.proofs.AdmitIsSound.{one_sound, project_in_settings}
 use Rattle.gate_laws.proofs.Plans.{serial_of}
 use Rattle.gate_laws.proofs.Shapes.{NumberedItem, TellsOf, PlanShape, ReadyShape, QueueShape, BuildShape, Shaped}
-use Rattle.gate_laws.proofs.RowShapes.{builds_shaped, shrunk_small, floor_small, window_shape, left_shape, entered_shape, swept_shape}
+use Rattle.gate_laws.proofs.RowShapes.{builds_shaped, shrunk_small, floor_small, window_shape, left_shape}
+use Rattle.gate_laws.proofs.RowShapes.{entered_shape, swept_shape}
 use Rattle.gate_types.specs.Limits.{most_items}
 
 -- the whole shape of a queue

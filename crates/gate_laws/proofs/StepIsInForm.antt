@@ -18,9 +18,12 @@ use Rattle.gate_types.specs.State.{State, start, empty_queue, is_landed}
 use Rattle.gate_types.specs.Admit.{without_ready}
 use Rattle.gate_types.specs.Settle.{settle}
 use Rattle.gate_types.specs.SubmitOrder.{is_submitting}
-use Rattle.gate_types.specs.Step.{Stepped, accepted, refused, leave, has_project, is_known_and, raw_revision, raw_step, step, settled_step, is_exhausted}
+use Rattle.gate_types.specs.Step.{Stepped, accepted, refused, leave, has_project, is_known_and, raw_revision}
+use Rattle.gate_types.specs.Step.{raw_step, step, settled_step, is_exhausted}
 use Rattle.gate_types.specs.Lawful.{IsSound, IsLawful}
-use Rattle.gate_types.specs.Forms.{is_change_number, is_revision_number, is_change_in_form, is_ready_in_form, is_plan_in_form, is_queue_in_form, is_build_in_form, are_settings_in_form, is_delivery_in_form, IsInForm}
+use Rattle.gate_types.specs.Forms.{is_change_number, is_revision_number, is_change_in_form, is_ready_in_form}
+use Rattle.gate_types.specs.Forms.{is_plan_in_form, is_queue_in_form, is_build_in_form, are_settings_in_form}
+use Rattle.gate_types.specs.Forms.{is_delivery_in_form, IsInForm}
 use Rattle.gate_laws.specs.InForm.{StartIsInForm, StepIsInForm}
 use Rattle.gate_laws.proofs.Members.{In, every, all, all_from, from_map, found}
 use Rattle.gate_laws.proofs.OrderFacts.{shows}
@@ -28,9 +31,12 @@ use Rattle.gate_laws.proofs.AfterLanding.{is_after}
 use Rattle.gate_laws.proofs.SettledIsAtRest.{settled_is_at_rest}
 use Rattle.gate_laws.proofs.StartIsLawful.{start_at, start_at_lawful}
 use Rattle.gate_laws.proofs.RunIsLawful.{raw_step_is_sound, step_is_lawful}
-use Rattle.gate_laws.proofs.EachAccepted.{OnAccepted, on_accepted, on_test, known_is, new_revision, each_approved, each_withdrawn, each_closed, each_landed, each_refused, each_take, each_result}
+use Rattle.gate_laws.proofs.EachAccepted.{OnAccepted, on_accepted, on_test, known_is, new_revision, each_approved}
+use Rattle.gate_laws.proofs.EachAccepted.{each_withdrawn, each_closed, each_landed, each_refused, each_take}
+use Rattle.gate_laws.proofs.EachAccepted.{each_result}
 use Rattle.gate_laws.proofs.Shapes.{Shaped, shaped_from, plan_to, ready_to, build_to, queue_to}
-use Rattle.gate_laws.proofs.StateShapes.{WholeQueue, settle_shaped, leave_shaped, put_shaped, stage_shaped, unready_shaped, ready_shaped, shrunk_shaped, end_shaped}
+use Rattle.gate_laws.proofs.StateShapes.{WholeQueue, settle_shaped, leave_shaped, put_shaped, stage_shaped}
+use Rattle.gate_laws.proofs.StateShapes.{unready_shaped, ready_shaped, shrunk_shaped, end_shaped}
 use Rattle.gate_laws.proofs.RowShapes.{windows_of}
 use Rattle.gate_laws.proofs.NeedForms.{needs_in_form}
 use Rattle.gate_laws.proofs.Drawn.{item_drawn, report_drawn, landing_drawn, build_drawn}

@@ -1,9 +1,11 @@
 -- The texts of deliveries and replies in form are UTF-8.
-use Rattle.std.proofs.Common.{◌≡◌, ℕ, ◌≤◌, ◌<◌, Bool, true, ◌&&◌, List, [], ◌∷◌, ◌++◌, map, codes, decimal, refl, arith, IsUtf8}
+use Rattle.std.proofs.Common.{◌≡◌, ℕ, ◌≤◌, ◌<◌, Bool, true, ◌&&◌, List, [], ◌∷◌, ◌++◌, map, codes, decimal, refl}
+use Rattle.std.proofs.Common.{arith, IsUtf8}
 use Rattle.std.specs.List.{list_all}
 use Rattle.std.specs.Str.{is_utf8}
 use Rattle.std.proofs.lemmas.Bool.{and_parts}
-use Rattle.std.proofs.lemmas.Str.{IsUtf8-append, IsUtf8-from_ascii, IsUtf8-nil, IsUtf8-from_is_utf8, is_utf8-from_IsUtf8}
+use Rattle.std.proofs.lemmas.Str.{IsUtf8-append, IsUtf8-from_ascii, IsUtf8-nil, IsUtf8-from_is_utf8}
+use Rattle.std.proofs.lemmas.Str.{is_utf8-from_IsUtf8}
 use Rattle.std.proofs.lemmas.Str.Ascii.{IsAscii-nil, IsAscii-cons, IsAscii-from_all}
 use Rattle.std.proofs.lemmas.Fmt.{IsAscii-decimal}
 use Rattle.json.specs.Print.{quoted}
@@ -21,7 +23,8 @@ use Rattle.gate_types.specs.Settings.{Settings}
 use Rattle.gate_types.specs.JsonText.{Piece, number, plain, escaped, joined, array, member, object, entry}
 use Rattle.gate_types.specs.Canonical.{ending_word, kind, on_change, on_order_number, delivery_members, canonical_text}
 use Rattle.gate_types.specs.ReplyText.{reply_member, reply_members, reply_text}
-use Rattle.gate_types.specs.Forms.{is_change_number, is_revision_number, is_drawn_number, is_entry_in_form, is_delivery_in_form, is_build_in_form, is_reply_in_form}
+use Rattle.gate_types.specs.Forms.{is_change_number, is_revision_number, is_drawn_number, is_entry_in_form}
+use Rattle.gate_types.specs.Forms.{is_delivery_in_form, is_build_in_form, is_reply_in_form}
 use Rattle.gate_types.proofs.NameLemmas.{name_low, path_low}
 use Rattle.gate_laws.proofs.Members.{all, all_from}
 use Rattle.gate_laws.proofs.Shapes.{most, build_from}

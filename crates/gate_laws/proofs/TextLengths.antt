@@ -1,5 +1,6 @@
 -- The texts of deliveries and replies in form are short.
-use Rattle.std.proofs.Common.{◌≡◌, ℕ, ◌+◌, ◌*◌, ◌/◌, ◌%◌, ◌≤◌, Bool, true, false, ◌&&◌, cond, List, [], ◌∷◌, map, length, codes, decimal, ap, ◌∙◌, arith, lit≤}
+use Rattle.std.proofs.Common.{◌≡◌, ℕ, ◌+◌, ◌*◌, ◌/◌, ◌%◌, ◌≤◌, Bool, true, false, ◌&&◌, cond, List, [], ◌∷◌, map}
+use Rattle.std.proofs.Common.{length, codes, decimal, ap, ◌∙◌, arith, lit≤}
 use Rattle.std.specs.Prelude.{nat_lt}
 use Rattle.std.specs.List.{list_all}
 use Rattle.std.specs.Char.{digit_char}
@@ -21,7 +22,8 @@ use Rattle.gate_types.specs.Settings.{Settings}
 use Rattle.gate_types.specs.JsonText.{Piece, number, plain, escaped, joined, array, member, object, entry}
 use Rattle.gate_types.specs.Canonical.{ending_word, kind, on_change, on_order_number, delivery_members, canonical_text}
 use Rattle.gate_types.specs.ReplyText.{reply_member, reply_members, reply_text}
-use Rattle.gate_types.specs.Forms.{is_change_number, is_revision_number, is_drawn_number, is_entry_in_form, is_delivery_in_form, is_build_in_form, is_reply_in_form}
+use Rattle.gate_types.specs.Forms.{is_change_number, is_revision_number, is_drawn_number, is_entry_in_form}
+use Rattle.gate_types.specs.Forms.{is_delivery_in_form, is_build_in_form, is_reply_in_form}
 use Rattle.gate_laws.specs.InForm.{AheadIsShort}
 use Rattle.gate_laws.proofs.Shapes.{build_from}
 use Rattle.gate_laws.proofs.TextForms.{change_fits, revision_fits, drawn_fits}

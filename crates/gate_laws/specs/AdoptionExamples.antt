@@ -10,7 +10,8 @@ use Rattle.gate_types.specs.Status.{status_text}
 use Rattle.gate_types.specs.OrderList.{order_list_text}
 use Rattle.gate_laws.specs.Adoption.{first}
 use Rattle.gate_laws.specs.FastExamples.{fast_settings}
-use Rattle.gate_laws.specs.Script.{base, core, lib, app, site, unit, queue, settings, core_alone, opened, approved, take, passed, failed, numbered, lines}
+use Rattle.gate_laws.specs.Script.{base, core, lib, app, site, unit, queue, settings, core_alone, opened, approved}
+use Rattle.gate_laws.specs.Script.{take, passed, failed, numbered, lines}
 
 -- the same projects, where `docs` of `lib` votes, under this window of `core`
 abbrev docs_vote : ℕ → Settings

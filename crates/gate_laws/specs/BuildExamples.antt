@@ -3,7 +3,9 @@ use Rattle.std.specs.Prelude.{◌≡◌, ℕ, List, [], ◌∷◌, codes}
 use Rattle.gate_types.specs.declared.deliveries.Delivery.{Delivery}
 use Rattle.gate_types.specs.State.{State}
 use Rattle.gate_types.specs.Status.{status_text}
-use Rattle.gate_laws.specs.Script.{settings, lib, app, opened, approved, withdrawn, take, passed, failed, lost, replies_to, after, begun, shown_build, core_history, lines, stale, removed, noted, idle, build_1, build_2, build_3, build_4}
+use Rattle.gate_laws.specs.Script.{settings, lib, app, opened, approved, withdrawn, take, passed, failed, lost}
+use Rattle.gate_laws.specs.Script.{replies_to, after, begun, shown_build, core_history, lines, stale, removed, noted}
+use Rattle.gate_laws.specs.Script.{idle, build_1, build_2, build_3, build_4}
 
 -- 101, 102 and 103 in the queue
 abbrev pub three : State

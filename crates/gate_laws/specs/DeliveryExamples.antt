@@ -4,7 +4,8 @@ use Rattle.gate_types.specs.declared.deliveries.Delivery.TheVariants as delivery
 use Rattle.gate_types.specs.State.{State, start}
 use Rattle.gate_types.specs.Once.{Call, empty, once}
 use Rattle.gate_types.specs.Status.{status_text}
-use Rattle.gate_laws.specs.Script.{settings, core_alone, lib, app, opened, approved, under, replies_to, after, texts, lines, recorded, stale, queued, unknown_change, id_reused, unavailable}
+use Rattle.gate_laws.specs.Script.{settings, core_alone, lib, app, opened, approved, under, replies_to, after, texts}
+use Rattle.gate_laws.specs.Script.{lines, recorded, stale, queued, unknown_change, id_reused, unavailable}
 
 -- 101 approved twice under one id, then 102
 abbrev repeated : List Call

@@ -5,7 +5,9 @@ use Rattle.gate_types.specs.Settings.{Settings}
 use Rattle.gate_types.specs.SettingsText.{project_text}
 use Rattle.gate_types.specs.State.{State}
 use Rattle.gate_types.specs.Status.{status_text}
-use Rattle.gate_laws.specs.Script.{base, core, lib, app, site, unit, docs, queue, opened, approved, take, passed, failed, replies_to, after, begun, core_history, lines, stale, noted, build_1, build_2, build_3, build_4}
+use Rattle.gate_laws.specs.Script.{base, core, lib, app, site, unit, docs, queue, opened, approved, take, passed}
+use Rattle.gate_laws.specs.Script.{failed, replies_to, after, begun, core_history, lines, stale, noted, build_1}
+use Rattle.gate_laws.specs.Script.{build_2, build_3, build_4}
 
 -- the settings of the other examples, but that `lib` is to fail fast
 abbrev pub fast_settings : Settings

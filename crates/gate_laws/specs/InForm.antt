@@ -10,7 +10,8 @@ use Rattle.gate_types.specs.State.{State, start}
 use Rattle.gate_types.specs.Step.{step, accepted}
 use Rattle.gate_types.specs.Once.{Call, Content, empty, next_content, once}
 use Rattle.gate_types.specs.Lawful.{IsSound, IsLawful}
-use Rattle.gate_types.specs.Forms.{are_settings_in_form, is_delivery_in_form, is_reply_in_form, is_build_in_form, is_call_in_form, IsInForm, HasFewRows, IsContentInForm, IsLawfulContent}
+use Rattle.gate_types.specs.Forms.{are_settings_in_form, is_delivery_in_form, is_reply_in_form, is_build_in_form}
+use Rattle.gate_types.specs.Forms.{is_call_in_form, IsInForm, HasFewRows, IsContentInForm, IsLawfulContent}
 
 -- the state before the first delivery is in form
 abbrev pub StartIsInForm : Type 0

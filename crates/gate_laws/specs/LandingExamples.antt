@@ -5,7 +5,9 @@ use Rattle.gate_types.specs.declared.deliveries.Delivery.TheVariants as delivery
 use Rattle.gate_types.specs.State.{State}
 use Rattle.gate_types.specs.Status.{status_text}
 use Rattle.gate_types.specs.OrderList.{order_list_text}
-use Rattle.gate_laws.specs.Script.{settings, with_window, lib, app, site, opened, approved, withdrawn, take, passed, failed, under, at, replies_to, after, begun, texts, core_history, lines, recorded, stale, removed, noted, landed_as, submitting, no_order, build_1, build_2, build_3}
+use Rattle.gate_laws.specs.Script.{settings, with_window, lib, app, site, opened, approved, withdrawn, take, passed}
+use Rattle.gate_laws.specs.Script.{failed, under, at, replies_to, after, begun, texts, core_history, lines, recorded}
+use Rattle.gate_laws.specs.Script.{stale, removed, noted, landed_as, submitting, no_order, build_1, build_2, build_3}
 use Rattle.gate_laws.specs.BuildExamples.{three, two}
 
 -- 101 has failed while its `docs` still run, and 102 behind it has passed without it

@@ -9,7 +9,9 @@ use Rattle.gate_types.specs.Settings.{default_rule}
 use Rattle.gate_types.specs.SettingsText.{queue_text}
 use Rattle.gate_types.specs.Window.{grow, shrink}
 use Rattle.gate_types.specs.Status.{status_text}
-use Rattle.gate_laws.specs.Script.{settings, with_window, lib, app, site, opened, opened_needing, approved, take, passed, failed, replies_to, after, begun, lines, waiting, already, queued, landed_as, idle, exhausted}
+use Rattle.gate_laws.specs.Script.{settings, with_window, lib, app, site, opened, opened_needing, approved, take}
+use Rattle.gate_laws.specs.Script.{passed, failed, replies_to, after, begun, lines, waiting, already, queued}
+use Rattle.gate_laws.specs.Script.{landed_as, idle, exhausted}
 
 -- 10^15
 abbrev last : ℕ

@@ -1,5 +1,6 @@
 -- A state that was lawful before there were plans, and what it becomes.
-use Rattle.std.specs.Prelude.{ℕ, Bool, true, false, ◌||◌, not, nat_le, ◌+◌, ◌≡◌, ◌↔◌, List, [], map, take, slice_get, flat_map, is_some, All, Contains, IsTrue}
+use Rattle.std.specs.Prelude.{ℕ, Bool, true, false, ◌||◌, not, nat_le, ◌+◌, ◌≡◌, ◌↔◌, List, [], map, take, slice_get}
+use Rattle.std.specs.Prelude.{flat_map, is_some, All, Contains, IsTrue}
 use Rattle.std.specs.List.{AllPass, list_all}
 use Rattle.std.specs.List.Sorted.{IsStrictlyIncreasing}
 use Rattle.std.specs.Option.{option_map_or}
@@ -17,7 +18,8 @@ use Rattle.gate_types.specs.Step.{has_project, is_exhausted}
 use Rattle.gate_types.specs.Evidence.{is_one_on, passed_builds}
 use Rattle.gate_types.specs.Once.{Content}
 use Rattle.gate_types.specs.Migrate.{migrated, migrated_content}
-use Rattle.gate_types.specs.Lawful.{IsLawful, IsDistinct, landed_changes, waiting_changes, serials_of, drawn_serials, TellsLandings, is_sound_item, is_overtaken_rightly, is_sound_build, is_single}
+use Rattle.gate_types.specs.Lawful.{IsLawful, IsDistinct, landed_changes, waiting_changes, serials_of, drawn_serials}
+use Rattle.gate_types.specs.Lawful.{TellsLandings, is_sound_item, is_overtaken_rightly, is_sound_build, is_single}
 use Rattle.gate_types.specs.Forms.{are_settings_in_form, IsContentInForm, IsLawfulContent}
 
 -- the place of an item, by its change's project

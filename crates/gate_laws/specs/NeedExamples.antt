@@ -6,7 +6,10 @@ use Rattle.gate_types.specs.declared.deliveries.Delivery.TheVariants as delivery
 use Rattle.gate_types.specs.Needs.{needs}
 use Rattle.gate_types.specs.State.{State, start}
 use Rattle.gate_types.specs.Status.{status_text}
-use Rattle.gate_laws.specs.Script.{settings, with_window, base, lib, app, site, opened, opened_with, opened_needing, depends_on, approved, take, passed, failed, replies_to, after, begun, shown_build, core_history, lines, recorded, waiting, queued, noted, landed_as, too_many_needs, build_1, build_2}
+use Rattle.gate_laws.specs.Script.{settings, with_window, base, lib, app, site, opened, opened_with, opened_needing}
+use Rattle.gate_laws.specs.Script.{depends_on, approved, take, passed, failed, replies_to, after, begun, shown_build}
+use Rattle.gate_laws.specs.Script.{core_history, lines, recorded, waiting, queued, noted, landed_as, too_many_needs}
+use Rattle.gate_laws.specs.Script.{build_1, build_2}
 
 -- 102 needs 101, and is approved first
 abbrev needing : List Delivery

@@ -1,5 +1,8 @@
 //! Other settings that are adopted, and calls with changes of settings between them.
-ghost use Rattle.gate_laws.specs.Adoption.{AdoptedIsSound, AdoptedIsLawful, AdoptedContentIsLawful, AdoptedOrdersStay, AdoptedItself, CallsAreOnce, EventsAreLawful, EventsAreInForm, EveryChangeLandsOnceThroughEvents, EveryLandingIsShownThroughEvents};
+ghost use Rattle.gate_laws.specs.Adoption.{AdoptedIsSound, AdoptedIsLawful, AdoptedContentIsLawful};
+ghost use Rattle.gate_laws.specs.Adoption.{AdoptedOrdersStay, AdoptedItself, CallsAreOnce, EventsAreLawful};
+ghost use Rattle.gate_laws.specs.Adoption.{EventsAreInForm, EveryChangeLandsOnceThroughEvents};
+ghost use Rattle.gate_laws.specs.Adoption.{EveryLandingIsShownThroughEvents};
 ghost use Rattle.gate_laws.specs.Sessions.{SameSettingsStay, SessionsAreThrough};
 
 /// A sound state is sound under sound settings that it adopts.

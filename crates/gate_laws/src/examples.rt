@@ -1,12 +1,23 @@
 //! Worked examples of the rules: each function proves one, by its contract, over the definitions that
 //! the gate is proved against. They do nothing when they run.
-ghost use Rattle.gate_laws.specs.DeliveryExamples.{ARepeatGetsTheKeptReply, ASpentIdServesNothingElse, ARefusalSpendsNoId, AnUnavailableCallMayComeAgain, ARevisionSupersedes};
-ghost use Rattle.gate_laws.specs.BuildExamples.{BuildsAreGivenFrontToBack, AFailureResetsTheItemsBehindIt, AFailureBehindAnItemStays, ALostBuildIsTriedThreeTimes, LossesOnTwoLinesArentAdded};
-ghost use Rattle.gate_laws.specs.FastExamples.{FailFastIsTold, AFastFailureGoesAtOnce, AFastFailureBehindAnItemSkips, AJobThatDoesntVoteSkipsNothing};
-ghost use Rattle.gate_laws.specs.LandingExamples.{AnItemLandsBeforeAFailingOne, AJobThatDoesntVoteDecidesNothing, ALandingKeepsTheBuildsBehindIt, AShownOrderIsLeftAlone, TheWindowGrowsBeforeItShrinks, EachQueueShowsItsOrder};
-ghost use Rattle.gate_laws.specs.NeedExamples.{ANeedAdmitsTheWaitingChange, ACycleWaits, ANeedInAnotherQueueLandsFirst, AnItemGoesWithItsNeed, AdmissionStartsAnew, FootersNameNeeds, AtMost32NeedsAreTaken};
-ghost use Rattle.gate_laws.specs.AdoptionExamples.{AnItemKeepsItsJobs, AWindowIsAdopted, ARuleIsAdopted, AnItemKeepsFailFast};
-ghost use Rattle.gate_laws.specs.LimitExamples.{OrdersRunOut, ALandingThatAdmitsRunsOut, BuildsAndApprovalsRunOut, TheWindowAtItsEnds, AWindowChangesByItsRule, AWindowOf0SetsNoBound};
+ghost use Rattle.gate_laws.specs.DeliveryExamples.{ARepeatGetsTheKeptReply, ASpentIdServesNothingElse};
+ghost use Rattle.gate_laws.specs.DeliveryExamples.{ARefusalSpendsNoId, AnUnavailableCallMayComeAgain};
+ghost use Rattle.gate_laws.specs.DeliveryExamples.{ARevisionSupersedes};
+ghost use Rattle.gate_laws.specs.BuildExamples.{BuildsAreGivenFrontToBack, AFailureResetsTheItemsBehindIt};
+ghost use Rattle.gate_laws.specs.BuildExamples.{AFailureBehindAnItemStays, ALostBuildIsTriedThreeTimes};
+ghost use Rattle.gate_laws.specs.BuildExamples.{LossesOnTwoLinesArentAdded};
+ghost use Rattle.gate_laws.specs.FastExamples.{FailFastIsTold, AFastFailureGoesAtOnce, AFastFailureBehindAnItemSkips};
+ghost use Rattle.gate_laws.specs.FastExamples.{AJobThatDoesntVoteSkipsNothing};
+ghost use Rattle.gate_laws.specs.LandingExamples.{AnItemLandsBeforeAFailingOne, AJobThatDoesntVoteDecidesNothing};
+ghost use Rattle.gate_laws.specs.LandingExamples.{ALandingKeepsTheBuildsBehindIt, AShownOrderIsLeftAlone};
+ghost use Rattle.gate_laws.specs.LandingExamples.{TheWindowGrowsBeforeItShrinks, EachQueueShowsItsOrder};
+ghost use Rattle.gate_laws.specs.NeedExamples.{ANeedAdmitsTheWaitingChange, ACycleWaits};
+ghost use Rattle.gate_laws.specs.NeedExamples.{ANeedInAnotherQueueLandsFirst, AnItemGoesWithItsNeed};
+ghost use Rattle.gate_laws.specs.NeedExamples.{AdmissionStartsAnew, FootersNameNeeds, AtMost32NeedsAreTaken};
+ghost use Rattle.gate_laws.specs.AdoptionExamples.{AnItemKeepsItsJobs, AWindowIsAdopted, ARuleIsAdopted};
+ghost use Rattle.gate_laws.specs.AdoptionExamples.{AnItemKeepsFailFast};
+ghost use Rattle.gate_laws.specs.LimitExamples.{OrdersRunOut, ALandingThatAdmitsRunsOut, BuildsAndApprovalsRunOut};
+ghost use Rattle.gate_laws.specs.LimitExamples.{TheWindowAtItsEnds, AWindowChangesByItsRule, AWindowOf0SetsNoBound};
 
 /// A repeat of a delivery gets the reply that was kept, and makes no second item.
 pub fn a_repeat_gets_the_kept_reply()

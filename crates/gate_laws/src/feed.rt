@@ -1,5 +1,6 @@
 //! The log of a gate is the gate: its content is a function of the deliveries that it accepted, in their order.
-ghost use Rattle.gate_laws.specs.Feed.{FormsAreInRange, ActingCallsAreKept, KeptToldAgain, LogIsTheGate, SessionsToldAgain};
+ghost use Rattle.gate_laws.specs.Feed.{FormsAreInRange, ActingCallsAreKept, KeptToldAgain, LogIsTheGate};
+ghost use Rattle.gate_laws.specs.Feed.{SessionsToldAgain};
 
 /// A delivery of its form has numbers of 64 bits, so these laws hold of all typed calls.
 pub fn forms_are_in_range()

@@ -2,7 +2,8 @@
 ghost use Rattle.std.specs.Prelude.{◌≡◌, true, nat_lt};
 ghost use Rattle.std.specs.List.{list_all};
 ghost use Rattle.gate_types.specs.Names.{is_name};
-ghost use Rattle.gate_types.specs.Forms.{is_delivery_in_form, is_project_in_form, are_settings_in_form, are_counters_in_form, is_id_in_form};
+ghost use Rattle.gate_types.specs.Forms.{is_delivery_in_form, is_project_in_form, are_settings_in_form};
+ghost use Rattle.gate_types.specs.Forms.{are_counters_in_form, is_id_in_form};
 
 use gate_types::config::{Config, Job, Project, Queue};
 use gate_types::deliveries::Delivery;

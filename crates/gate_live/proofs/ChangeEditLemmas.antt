@@ -1,5 +1,6 @@
 -- The changes that are held: what edits make of them.
-use Rattle.std.proofs.Common.{◌≡◌, ℕ, suc, ◌+◌, ◌≤◌, Bool, true, false, cond, Option, Some, None, List, [], ◌∷◌, length, refl, sym, ap, subst, ◌∙◌, eqb-true, arith, true≢false}
+use Rattle.std.proofs.Common.{◌≡◌, ℕ, suc, ◌+◌, ◌≤◌, Bool, true, false, cond, Option, Some, None, List, [], ◌∷◌}
+use Rattle.std.proofs.Common.{length, refl, sym, ap, subst, ◌∙◌, eqb-true, arith, true≢false}
 use Rattle.std.specs.Prelude.{◌==◌, ◌||◌, fold, is_some, OnOk, OnErr, Result, Ok, Err, option_map, option_and_then}
 use Rattle.std.specs.Option.{option_map_or}
 use Rattle.std.proofs.lemmas.Bool.{false≢true}
@@ -15,8 +16,11 @@ use Rattle.gate_memory.specs.Changes.{HasRoom, number_of}
 use Rattle.gate_memory.specs.Needs.{needs_of_all}
 use Rattle.gate_memory.specs.declared.changes.ChangeTable.{ChangeTable}
 use Rattle.gate_live.specs.Live.{LiveQueue}
-use Rattle.gate_live.specs.HeldChanges.{AnyAreHeldOf, AreRowsOf, rows_edited, has_row, with_row, with_rows, rows_put, fold_changes, needs_of_rows, without_change, without_left, change_touched, is_queued_in}
-use Rattle.gate_live.proofs.HeldChangeLemmas.{approval_of_row, put_row, put_same, put_other, put_found, without_other, without_same, approval_held}
+use Rattle.gate_live.specs.HeldChanges.{AnyAreHeldOf, AreRowsOf, rows_edited, has_row, with_row, with_rows, rows_put}
+use Rattle.gate_live.specs.HeldChanges.{fold_changes, needs_of_rows, without_change, without_left, change_touched}
+use Rattle.gate_live.specs.HeldChanges.{is_queued_in}
+use Rattle.gate_live.proofs.HeldChangeLemmas.{approval_of_row, put_row, put_same, put_other, put_found, without_other}
+use Rattle.gate_live.proofs.HeldChangeLemmas.{without_same, approval_held}
 
 -- a row put among all, where its change is ready or was held
 held_with_row : (rows all : List ChangeRow) (r : ChangeRow) → AreRowsOf rows all → AreRowsOf (with_row rows r) (put_row all r)

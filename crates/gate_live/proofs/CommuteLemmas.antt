@@ -1,5 +1,6 @@
 -- Rows that pass a test, while all rows are edited.
-use Rattle.std.proofs.Common.{◌≡◌, ℕ, suc, ◌<◌, ◌≤◌, ⊎_elim, Bool, true, false, not, cond, Option, Some, None, List, [], ◌∷◌, map, refl, sym, ap, ◌∙◌, eqb-true, arith, true≢false}
+use Rattle.std.proofs.Common.{◌≡◌, ℕ, suc, ◌<◌, ◌≤◌, ⊎_elim, Bool, true, false, not, cond, Option, Some, None, List}
+use Rattle.std.proofs.Common.{[], ◌∷◌, map, refl, sym, ap, ◌∙◌, eqb-true, arith, true≢false}
 use Rattle.std.specs.Prelude.{◌==◌, ◌||◌, filter, find, fold}
 use Rattle.std.proofs.lemmas.Bool.{eq-eqb, ne_eqb}
 use Rattle.gate_types.specs.State.{put_by}

@@ -1,5 +1,6 @@
 -- The builds that are held: what edits make of them, and what is read of them.
-use Rattle.std.proofs.Common.{◌≡◌, ℕ, Bool, true, false, not, cond, Some, None, List, [], ◌∷◌, ◌++◌, refl, sym, ap, ◌∙◌, eqb-true, arith}
+use Rattle.std.proofs.Common.{◌≡◌, ℕ, Bool, true, false, not, cond, Some, None, List, [], ◌∷◌, ◌++◌, refl, sym, ap}
+use Rattle.std.proofs.Common.{◌∙◌, eqb-true, arith}
 use Rattle.std.specs.Prelude.{◌==◌, ◌&&◌, ◌||◌, filter, find, is_some}
 use Rattle.std.specs.List.{AllByRecursion}
 use Rattle.std.proofs.lemmas.Bool.{eq-eqb, ne_eqb, false≢true}
@@ -19,7 +20,8 @@ use Rattle.gate_memory.proofs.SortedLemmas.{rises-put, rises-changed, filter_twi
 use Rattle.gate_memory.proofs.TableLemmas.{find_put}
 use Rattle.gate_live.specs.HeldBuilds.{KnownBuilds, AreBuildsOf, edited_held, is_live_known, knows, put_all, serial_of}
 use Rattle.gate_live.specs.declared.held_builds.Known.{Known}
-use Rattle.gate_live.proofs.CommuteLemmas.{filter_same, filter_put, filter_changed, filter_stopped, find_without, puts_passing}
+use Rattle.gate_live.proofs.CommuteLemmas.{filter_same, filter_put, filter_changed, filter_stopped, find_without}
+use Rattle.gate_live.proofs.CommuteLemmas.{puts_passing}
 
 -- ---- which items are known
 

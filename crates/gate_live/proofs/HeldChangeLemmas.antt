@@ -1,6 +1,8 @@
 -- The changes that are held: what is read of them.
-use Rattle.std.proofs.Common.{◌≡◌, ℕ, Bool, true, false, cond, not, Option, Some, None, List, [], ◌∷◌, refl, sym, ap, ◌∙◌, eqb-true, true≢false, ⊎_elim}
-use Rattle.std.specs.Prelude.{◌==◌, ◌&&◌, nat_lt, find, is_some, IsSome, IfSome, IfOk, Result, Ok, Err, option_map, option_and_then}
+use Rattle.std.proofs.Common.{◌≡◌, ℕ, Bool, true, false, cond, not, Option, Some, None, List, [], ◌∷◌, refl, sym, ap}
+use Rattle.std.proofs.Common.{◌∙◌, eqb-true, true≢false, ⊎_elim}
+use Rattle.std.specs.Prelude.{◌==◌, ◌&&◌, nat_lt, find, is_some, IsSome, IfSome, IfOk, Result, Ok, Err, option_map}
+use Rattle.std.specs.Prelude.{option_and_then}
 use Rattle.std.specs.List.{list_any, list_all, AllByRecursion}
 use Rattle.std.specs.Option.{option_map_or}
 use Rattle.std.proofs.lemmas.Bool.{eq-eqb}
@@ -11,7 +13,8 @@ use Rattle.gate_types.specs.declared.rows.ChangeRow.{ChangeRow}
 use Rattle.gate_types.specs.State.{put_by}
 use Rattle.gate_types.specs.Tables.{approval_of}
 use Rattle.gate_book_trait.specs.Rising.{RisesFrom, In}
-use Rattle.gate_book_trait.specs.RowReads.{AreReady, row_of, approval_in, change_in, needs_in, needing_in, ready_needing_in}
+use Rattle.gate_book_trait.specs.RowReads.{AreReady, row_of, approval_in, change_in, needs_in, needing_in}
+use Rattle.gate_book_trait.specs.RowReads.{ready_needing_in}
 use Rattle.gate_book_trait.proofs.Finding.{all_in, found_in}
 use Rattle.gate_book_trait.proofs.ReadLemmas.{approval_told}
 use Rattle.gate_memory.specs.Sorted.{without}

@@ -1,5 +1,6 @@
 -- What is live of edited tables is the same edits of what is live.
-use Rattle.std.proofs.Common.{◌≡◌, ℕ, suc, ◌+◌, max, Bool, true, false, cond, List, [], ◌∷◌, length, map, refl, ap, ◌∙◌, eqb-true, arith}
+use Rattle.std.proofs.Common.{◌≡◌, ℕ, suc, ◌+◌, max, Bool, true, false, cond, List, [], ◌∷◌, length, map, refl, ap}
+use Rattle.std.proofs.Common.{◌∙◌, eqb-true, arith}
 use Rattle.std.specs.Prelude.{◌==◌, nat_lt}
 use Rattle.gate_types.specs.declared.edits.Edit.{Edit}
 use Rattle.gate_types.specs.declared.edits.Edit.TheVariants as edit
@@ -10,8 +11,10 @@ use Rattle.gate_types.specs.declared.rows.ReportRow.{ReportRow}
 use Rattle.gate_types.specs.Names.{same_name}
 use Rattle.gate_types.specs.State.{put_by}
 use Rattle.gate_types.specs.Rows.{numbered, edited_reports}
-use Rattle.gate_types.specs.Tables.{QueueRows, Tables, edited_landings, edited_queue, edited_tables, fold_all, numbered_landings}
-use Rattle.gate_live.specs.Live.{LiveTables, last_place, landings_after, reports_after, live_queue, live_tables, edited_live_queue, edited_live, fold_live}
+use Rattle.gate_types.specs.Tables.{QueueRows, Tables, edited_landings, edited_queue, edited_tables, fold_all}
+use Rattle.gate_types.specs.Tables.{numbered_landings}
+use Rattle.gate_live.specs.Live.{LiveTables, last_place, landings_after, reports_after, live_queue, live_tables}
+use Rattle.gate_live.specs.Live.{edited_live_queue, edited_live, fold_live}
 
 -- ---- last places
 

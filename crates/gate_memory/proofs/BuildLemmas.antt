@@ -1,5 +1,6 @@
 -- The index of live builds.
-use Rattle.std.proofs.Common.{◌≡◌, ◌≢◌, ℕ, inl, inr, ⊎_elim, Bool, true, false, not, cond, List, [], ◌∷◌, refl, sym, ap, eqb-true, ◌∙◌, arith}
+use Rattle.std.proofs.Common.{◌≡◌, ◌≢◌, ℕ, inl, inr, ⊎_elim, Bool, true, false, not, cond, List, [], ◌∷◌, refl, sym}
+use Rattle.std.proofs.Common.{ap, eqb-true, ◌∙◌, arith}
 use Rattle.std.specs.Prelude.{◌==◌, ◌&&◌}
 use Rattle.std.specs.List.{AllByRecursion}
 use Rattle.std.proofs.lemmas.Bool.{eq-eqb, false≢true}

@@ -1,5 +1,7 @@
 -- The index of all builds.
-use Rattle.std.proofs.Common.{◌≡◌, ◌≢◌, ◌⊎◌, ℕ, zero, suc, ◌<◌, ◌≤◌, inl, inr, ⊎_elim, Bool, true, false, not, cond, Option, Some, None, List, [], ◌∷◌, length, map, drop, refl, sym, ap, subst, eqb-true, ◌∙◌, arith}
+use Rattle.std.proofs.Common.{◌≡◌, ◌≢◌, ◌⊎◌, ℕ, zero, suc, ◌<◌, ◌≤◌, inl, inr, ⊎_elim, Bool, true, false, not, cond}
+use Rattle.std.proofs.Common.{Option, Some, None, List, [], ◌∷◌, length, map, drop, refl, sym, ap, subst, eqb-true}
+use Rattle.std.proofs.Common.{◌∙◌, arith}
 use Rattle.std.specs.Prelude.{◌==◌, ◌-◌, filter, find, option_map}
 use Rattle.std.specs.List.{AllByRecursion, filter_map, cons_option}
 use Rattle.std.proofs.lemmas.Bool.{eq-eqb, ne_eqb, false≢true}
@@ -16,7 +18,8 @@ use Rattle.gate_memory.specs.declared.pairs.Pair.{Pair}
 use Rattle.gate_memory.specs.Sorted.{without}
 use Rattle.gate_memory.specs.Pairs.{pair_key, IsFit}
 use Rattle.gate_memory.specs.Builds.{Indexes, number_of, is_of, pair_of}
-use Rattle.gate_memory.proofs.SortedLemmas.{below_or, put_first, put_before, put_after, in_above, one_key, rises-put, rises-without, rises-filter, same_rows}
+use Rattle.gate_memory.proofs.SortedLemmas.{below_or, put_first, put_before, put_after, in_above, one_key, rises-put}
+use Rattle.gate_memory.proofs.SortedLemmas.{rises-without, rises-filter, same_rows}
 use Rattle.gate_memory.proofs.PairLemmas.{same_pair, seconds_of, second_in, seconds_rise, filter_map_seconds}
 use Rattle.gate_memory.proofs.BuildLemmas.{all_put, all_without, in_put, still_in, in_without}
 use Rattle.gate_memory.proofs.NeedLemmas.{all_from, in_filter, from_filter}

@@ -1,5 +1,6 @@
 -- A row dropped from those in order of arrival: the last one takes its place.
-use Rattle.std.proofs.Common.{◌≡◌, ◌≢◌, ℕ, suc, ◌<◌, ◌≤◌, ⊎_elim, Bool, true, false, not, cond, Option, Some, None, List, [], ◌∷◌, ◌++◌, length, set, refl, sym, ap, subst, ◌∙◌, eqb-true, arith}
+use Rattle.std.proofs.Common.{◌≡◌, ◌≢◌, ℕ, suc, ◌<◌, ◌≤◌, ⊎_elim, Bool, true, false, not, cond, Option, Some, None}
+use Rattle.std.proofs.Common.{List, [], ◌∷◌, ◌++◌, length, set, refl, sym, ap, subst, ◌∙◌, eqb-true, arith}
 use Rattle.std.specs.Prelude.{◌==◌, find, unwrap_or}
 use Rattle.std.specs.Option.{option_or, option_map}
 use Rattle.std.proofs.lemmas.Bool.{eq-eqb, ne_eqb}
@@ -10,7 +11,8 @@ use Rattle.gate_book_trait.proofs.Finding.{found_in}
 use Rattle.gate_memory.specs.Sorted.{without}
 use Rattle.gate_memory.specs.Changes.{AreApart, in_order, place_at}
 use Rattle.gate_memory.proofs.SortedLemmas.{rises-without, same_rows}
-use Rattle.gate_memory.proofs.TableLemmas.{at_head, some_at, none_at, place_bound, place_set, place_push, find_put, row_at, row_found, in_order_push}
+use Rattle.gate_memory.proofs.TableLemmas.{at_head, some_at, none_at, place_bound, place_set, place_push, find_put}
+use Rattle.gate_memory.proofs.TableLemmas.{row_at, row_found, in_order_push}
 use Rattle.gate_memory.proofs.ChangeLemmas.{in_order_rises}
 use Rattle.gate_memory.proofs.IndexLemmas.{finds_row}
 

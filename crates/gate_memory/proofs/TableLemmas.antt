@@ -1,5 +1,6 @@
 -- Rows in the order in which their keys came first, beside the list that is sorted by key.
-use Rattle.std.proofs.Common.{◌≡◌, ◌≢◌, ℕ, suc, ◌<◌, ⊎_elim, Bool, true, false, cond, Option, Some, None, List, [], ◌∷◌, ◌++◌, length, set, refl, sym, ap, ◌∙◌, arith}
+use Rattle.std.proofs.Common.{◌≡◌, ◌≢◌, ℕ, suc, ◌<◌, ⊎_elim, Bool, true, false, cond, Option, Some, None, List, []}
+use Rattle.std.proofs.Common.{◌∷◌, ◌++◌, length, set, refl, sym, ap, ◌∙◌, arith}
 use Rattle.std.specs.Prelude.{◌==◌, nat_eq, slice_get, unwrap_or, find}
 use Rattle.std.specs.Option.{option_or, option_map}
 use Rattle.std.specs.HashMap.{get}

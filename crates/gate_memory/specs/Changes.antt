@@ -1,6 +1,7 @@
 -- How a book in memory keeps changes: in the order in which they came first, beside their places by number, and an
 -- index of the ready ones.
-use Rattle.std.specs.Prelude.{ℕ, Bool, false, ◌≡◌, ◌==◌, ◌≤◌, ◌+◌, if◌then◌else◌, suc, nat_eq, List, [], ◌∷◌, Option, Some, None, find, option_map, option_and_then, vec_len, vec_capacity}
+use Rattle.std.specs.Prelude.{ℕ, Bool, false, ◌≡◌, ◌==◌, ◌≤◌, ◌+◌, if◌then◌else◌, suc, nat_eq, List, [], ◌∷◌, Option}
+use Rattle.std.specs.Prelude.{Some, None, find, option_map, option_and_then, vec_len, vec_capacity}
 use Rattle.std.specs.List.{AllByRecursion}
 use Rattle.std.specs.HashMap.{get, spare, HashMap}
 use Rattle.std.specs.declared.hash.FoldHasher.{FoldHasher}

@@ -1,5 +1,6 @@
 -- How a book in memory keeps deliveries: in the order in which they were accepted, beside their places by id.
-use Rattle.std.specs.Prelude.{ℕ, Bool, ◌≡◌, ◌≤◌, ◌+◌, if◌then◌else◌, suc, nat_eq, List, [], ◌∷◌, Option, Some, None, option_map, vec_len, vec_capacity}
+use Rattle.std.specs.Prelude.{ℕ, Bool, ◌≡◌, ◌≤◌, ◌+◌, if◌then◌else◌, suc, nat_eq, List, [], ◌∷◌, Option, Some, None}
+use Rattle.std.specs.Prelude.{option_map, vec_len, vec_capacity}
 use Rattle.std.specs.HashMap.{get, spare, HashMap}
 use Rattle.std.specs.declared.hash.FoldHasher.{FoldHasher}
 use Rattle.std.specs.declared.hash.BuildHasherDefault.{BuildHasherDefault}

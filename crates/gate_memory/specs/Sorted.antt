@@ -1,5 +1,6 @@
 -- Rows in the order of their keys.
-use Rattle.std.specs.Prelude.{ℕ, Bool, not, ◌==◌, nat_lt, if◌then◌else◌, suc, ◌≡◌, ◌<◌, List, [], ◌∷◌, length, filter, find, fold, slice_get, Option, Some, None, option_map, option_and_then}
+use Rattle.std.specs.Prelude.{ℕ, Bool, not, ◌==◌, nat_lt, if◌then◌else◌, suc, ◌≡◌, ◌<◌, List, [], ◌∷◌, length, filter}
+use Rattle.std.specs.Prelude.{find, fold, slice_get, Option, Some, None, option_map, option_and_then}
 
 -- how many keys at the front are below n
 abbrev pub place_in : {X : Type 0} → (X → ℕ) → ℕ → List X → ℕ

@@ -1,5 +1,7 @@
 //! The changes of a book in memory.
-ghost use Rattle.std.specs.Prelude.{◌≡◌, ◌≢◌, ◌==◌, ◌<◌, ◌≤◌, ◌+◌, ◌++◌, ◌⊎◌, ℕ, suc, [], true, if◌then◌else◌, Some, None, IsSome, length, map, find, slice_get, nat_eq, is_some, IfOk, OnOk, vec_len, vec_capacity};
+ghost use Rattle.std.specs.Prelude.{◌≡◌, ◌≢◌, ◌==◌, ◌<◌, ◌≤◌, ◌+◌, ◌++◌, ◌⊎◌, ℕ, suc, [], true, if◌then◌else◌, Some};
+ghost use Rattle.std.specs.Prelude.{None, IsSome, length, map, find, slice_get, nat_eq, is_some, IfOk, OnOk, vec_len};
+ghost use Rattle.std.specs.Prelude.{vec_capacity};
 ghost use Rattle.std.specs.List.{list_any, filter_map, cons_option, AllByRecursion};
 ghost use Rattle.std.specs.List.Sorted.{IsNonDecreasingBy, IsPermutation};
 ghost use Rattle.std.specs.Option.{option_copied, option_map_or};
@@ -12,7 +14,8 @@ ghost use Rattle.gate_memory.specs.TableReads.{needing_by, IsWhatRowsTellOf};
 ghost use Rattle.gate_memory.specs.Pairs.{pair_key};
 ghost use Rattle.gate_memory.specs.declared.pairs.Pair.{Pair};
 ghost use Rattle.gate_memory.specs.Needs.{AreInOrder, IsRising, IsSmall, TellsNeedsOf, TellsNoneOf, pair_of_need};
-ghost use Rattle.gate_memory.specs.Changes.{AreApart, FindsNumbers, IsKept, HasRoom, IsWhatRowsTell, ready_by, number_of, in_order, changes_of, entry_of};
+ghost use Rattle.gate_memory.specs.Changes.{AreApart, FindsNumbers, IsKept, HasRoom, IsWhatRowsTell, ready_by};
+ghost use Rattle.gate_memory.specs.Changes.{number_of, in_order, changes_of, entry_of};
 
 use crate::needs::{forget_needs, note_needs};
 use crate::pairs::{Pair, of_first};

@@ -1,5 +1,6 @@
 //! One queue of a book in memory.
-ghost use Rattle.std.specs.Prelude.{◌≡◌, ◌==◌, ℕ, suc, [], find, filter, length, take, drop, option_map, ◌<◌, ◌≤◌, ◌+◌, ◌-◌, ◌^◌, nat_lt, IfOk, OnOk, vec_len, vec_capacity};
+ghost use Rattle.std.specs.Prelude.{◌≡◌, ◌==◌, ℕ, suc, [], find, filter, length, take, drop, option_map, ◌<◌, ◌≤◌};
+ghost use Rattle.std.specs.Prelude.{◌+◌, ◌-◌, ◌^◌, nat_lt, IfOk, OnOk, vec_len, vec_capacity};
 ghost use Rattle.std.specs.List.{filter_map};
 ghost use Rattle.std.specs.Option.{option_copied};
 ghost use Rattle.gate_types.specs.Names.{same_name};

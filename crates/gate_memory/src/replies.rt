@@ -1,5 +1,6 @@
 //! The kept deliveries of a book in memory.
-ghost use Rattle.std.specs.Prelude.{◌≡◌, ◌<◌, ◌≤◌, ◌+◌, ◌++◌, ◌∷◌, [], ℕ, suc, List, Some, None, if◌then◌else◌, length, drop, slice_get, IfOk, IfSome, IfNone, OnOk};
+ghost use Rattle.std.specs.Prelude.{◌≡◌, ◌<◌, ◌≤◌, ◌+◌, ◌++◌, ◌∷◌, [], ℕ, suc, List, Some, None, if◌then◌else◌};
+ghost use Rattle.std.specs.Prelude.{length, drop, slice_get, IfOk, IfSome, IfNone, OnOk};
 ghost use Rattle.std.specs.Option.{option_or};
 ghost use Rattle.std.specs.HashMap.{get, spare};
 ghost use Rattle.gate_types.specs.Once.{kept_for};

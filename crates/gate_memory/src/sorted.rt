@@ -1,5 +1,6 @@
 //! Rows kept in the order of their keys, each key once.
-ghost use Rattle.std.specs.Prelude.{◌≡◌, ◌==◌, ◌<◌, ◌≤◌, ◌+◌, ◌&&◌, nat_lt, nat_le, find, filter, take, slice_get, slice_set, length, None, IfSome, IfNone, vec_len, vec_capacity};
+ghost use Rattle.std.specs.Prelude.{◌≡◌, ◌==◌, ◌<◌, ◌≤◌, ◌+◌, ◌&&◌, nat_lt, nat_le, find, filter, take, slice_get};
+ghost use Rattle.std.specs.Prelude.{slice_set, length, None, IfSome, IfNone, vec_len, vec_capacity};
 ghost use Rattle.std.specs.Option.{option_copied};
 ghost use Rattle.gate_types.specs.State.{put_by};
 ghost use Rattle.gate_book_trait.specs.Rising.{RisesFrom};

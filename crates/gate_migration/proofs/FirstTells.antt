@@ -1,5 +1,6 @@
 -- What a file of schema 1 that stands for a content tells of it.
-use Rattle.std.proofs.Common.{◌≡◌, ◌∙◌, ◌≤◌, true, false, not, cond, List, [], ◌∷◌, map, length, Option, Some, find, filter, ap, refl, sym, subst, IsPermutation, inl, inr}
+use Rattle.std.proofs.Common.{◌≡◌, ◌∙◌, ◌≤◌, true, false, not, cond, List, [], ◌∷◌, map, length, Option, Some, find}
+use Rattle.std.proofs.Common.{filter, ap, refl, sym, subst, IsPermutation, inl, inr}
 use Rattle.std.specs.Option.{option_map_or}
 use Rattle.std.specs.List.{list_any}
 use Rattle.std.proofs.lemmas.Bool.{and_parts, not-true}

@@ -1,5 +1,7 @@
 -- The plans that a file of schema 1 gets.
-use Rattle.std.proofs.Common.{◌≡◌, ◌∙◌, ◌++◌, ◌<◌, ◌+◌, ℕ, suc, Bool, true, false, cond, List, [], ◌∷◌, drop, get_or, length, map, Option, Some, None, option_map, find, refl, sym, ap, subst, arith, append_assoc, append-nil, take, ◌≤◌}
+use Rattle.std.proofs.Common.{◌≡◌, ◌∙◌, ◌++◌, ◌<◌, ◌+◌, ℕ, suc, Bool, true, false, cond, List, [], ◌∷◌, drop, get_or}
+use Rattle.std.proofs.Common.{length, map, Option, Some, None, option_map, find, refl, sym, ap, subst, arith}
+use Rattle.std.proofs.Common.{append_assoc, append-nil, take, ◌≤◌}
 use Rattle.std.specs.Prelude.{◌==◌, flat_map, unwrap_or}
 use Rattle.std.specs.List.{AllByRecursion}
 use Rattle.std.proofs.lemmas.List.{map-append}

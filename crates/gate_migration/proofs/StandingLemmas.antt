@@ -1,5 +1,6 @@
 -- From how a file stands to what who migrates it is answered.
-use Rattle.std.proofs.Common.{◌≡◌, inl, inr, Bool, true, false, ℕ, List, Some, Ok, Err, Result, ap, bytes_eq, codes, length, refl, slice_index_or, subst, sym, true≢false, ◌∙◌}
+use Rattle.std.proofs.Common.{◌≡◌, inl, inr, Bool, true, false, ℕ, List, Some, Ok, Err, Result, ap, bytes_eq, codes}
+use Rattle.std.proofs.Common.{length, refl, slice_index_or, subst, sym, true≢false, ◌∙◌}
 use Rattle.std.specs.Prelude.{◌≢◌, IfErr, IsTrue, MatchResult, OnOk}
 use Rattle.std.proofs.lemmas.Slice.Eq.{bytes_eq-Decides}
 use Rattle.sqlite.specs.Effect.{Database}

@@ -1,5 +1,6 @@
 -- A file of schema 1 becomes one of schema 2: what each statement makes of it.
-use Rattle.std.proofs.Common.{◌≡◌, ◌≢◌, ◌≤◌, ℕ, List, [], ◌∷◌, map, drop, filter, length, Bool, false, Ok, codes, refl, sym, ap, subst, ◌∙◌, arith, eqb}
+use Rattle.std.proofs.Common.{◌≡◌, ◌≢◌, ◌≤◌, ℕ, List, [], ◌∷◌, map, drop, filter, length, Bool, false, Ok, codes}
+use Rattle.std.proofs.Common.{refl, sym, ap, subst, ◌∙◌, arith, eqb}
 use Rattle.std.specs.Prelude.{IfErr, IsTrue, OnErr, Result, Err, bytes_eq}
 use Rattle.std.proofs.Common.{inl, inr, true≢false}
 use Rattle.sqlite.specs.Steps.{FailsToCommit}

@@ -120,8 +120,7 @@ fn carry_out<S: Alter>(
         (migrated_content config.now x) }
     ensures clean { HasCleanDisk (state S.Store conn.new) → HasCleanDisk (state S.Store conn.old) }
 {
-    // This shows the prover that the settings are sound.
-    let _settings = &config.base;
+    config.show_sound();
     let Ok(edits) = first_plans(alloc, conn, config) else {
         return Err(OpenFault::Unavailable);
     };

@@ -8,7 +8,8 @@ ghost use Rattle.gate_schema.specs.Rows.{IsReady};
 ghost use Rattle.gate_schema.specs.Schema.{gate_schema};
 ghost use Rattle.gate_found_rows.specs.Finds.{Stays};
 ghost use Rattle.gate_file_changes.specs.Making.{IsFilled, IsInside, IsSettled, KeepsInside, Turns};
-ghost use Rattle.gate_migration.specs.Upgrade.{CanPlan, CanUpgrade, HasJobTable, HasUpgraded, IsFirst, IsWidened, without_plans};
+ghost use Rattle.gate_migration.specs.Upgrade.{CanPlan, CanUpgrade, HasJobTable, HasUpgraded, IsFirst, IsWidened};
+ghost use Rattle.gate_migration.specs.Upgrade.{without_plans};
 
 use gate_file_changes::apply_all;
 use gate_found_rows::read::check_open;

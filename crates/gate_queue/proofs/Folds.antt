@@ -1,5 +1,7 @@
 -- The fold of a queue's edits over its rows, part by part.
-use Rattle.std.proofs.Common.{◌≡◌, ℕ, suc, ◌+◌, ◌<◌, ◌≤◌, Bool, cond, not, ◌||◌, Option, Some, None, is_some, List, [], ◌∷◌, ◌++◌, map, fold, length, refl, sym, ap, ◌∙◌, arith, append_assoc, append-nil, length-append}
+use Rattle.std.proofs.Common.{◌≡◌, ℕ, suc, ◌+◌, ◌<◌, ◌≤◌, Bool, cond, not, ◌||◌, Option, Some, None, is_some, List}
+use Rattle.std.proofs.Common.{[], ◌∷◌, ◌++◌, map, fold, length, refl, sym, ap, ◌∙◌, arith, append_assoc, append-nil}
+use Rattle.std.proofs.Common.{length-append}
 use Rattle.std.specs.Prelude.{filter, filter_map, option_map, ◌==◌, nat_lt}
 use Rattle.std.proofs.lemmas.List.Sums.{fold-append}
 use Rattle.std.proofs.lemmas.Bool.{eq-eqb, ne_eqb, le-ltb}
@@ -17,7 +19,8 @@ use Rattle.gate_types.specs.Standing.{places_after, with_ahead, next_ahead}
 use Rattle.gate_types.specs.Sweep.{Judged, judge, judged_after, verdict_of, next_staying, next_window, report_of}
 use Rattle.gate_types.specs.Window.{Bounds}
 use Rattle.gate_types.specs.declared.rows.ReportRow.{ReportRow}
-use Rattle.gate_types.specs.Rows.{Rows, row_of, numbered, edited, edited_items, edited_builds, edited_reports, edited_window, fold_edits}
+use Rattle.gate_types.specs.Rows.{Rows, row_of, numbered, edited, edited_items, edited_builds, edited_reports}
+use Rattle.gate_types.specs.Rows.{edited_window, fold_edits}
 use Rattle.gate_queue.specs.Edits.{stops, stop_edits, item_edits, edits_at, edits_after, next_reports, window_behind}
 use Rattle.gate_queue.proofs.Ordered.{RiseFrom, AllBelow, GoWith, Tells, row_serial}
 use Rattle.gate_laws.proofs.Stays.{stayers}

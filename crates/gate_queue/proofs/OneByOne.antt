@@ -1,5 +1,7 @@
 -- One sweep is the same as removal one by one.
-use Rattle.std.proofs.Common.{◌≡◌, ℕ, suc, ◌<◌, ◌≤◌, Bool, true, false, not, ◌&&◌, ◌||◌, cond, Option, Some, None, is_some, List, [], ◌∷◌, ◌++◌, fold, length, refl, sym, ap, ◌∙◌, subst, arith, true≢false, append_assoc, append-nil}
+use Rattle.std.proofs.Common.{◌≡◌, ℕ, suc, ◌<◌, ◌≤◌, Bool, true, false, not, ◌&&◌, ◌||◌, cond, Option, Some, None}
+use Rattle.std.proofs.Common.{is_some, List, [], ◌∷◌, ◌++◌, fold, length, refl, sym, ap, ◌∙◌, subst, arith}
+use Rattle.std.proofs.Common.{true≢false, append_assoc, append-nil}
 use Rattle.std.specs.Prelude.{filter, filter_map, find, unwrap_or, ◌==◌}
 use Rattle.std.specs.Option.{option_map_or}
 use Rattle.std.proofs.lemmas.Bool.{eq-eqb, ne_eqb}
@@ -12,7 +14,8 @@ use Rattle.gate_types.specs.Line.{Place}
 use Rattle.gate_types.specs.Slot.{is_running}
 use Rattle.gate_types.specs.Standing.{with_ahead, next_ahead, places_after}
 use Rattle.gate_types.specs.Rebase.{with_live}
-use Rattle.gate_types.specs.Sweep.{Judged, judge, judged_after, next_staying, next_window, verdict_of, goes, without_runs}
+use Rattle.gate_types.specs.Sweep.{Judged, judge, judged_after, next_staying, next_window, verdict_of, goes}
+use Rattle.gate_types.specs.Sweep.{without_runs}
 use Rattle.gate_queue.specs.Settled.{verdicts}
 use Rattle.gate_queue.specs.Laws.{Scan, report_on, swept, without, one_out, OneSweepIsOneByOne}
 use Rattle.gate_queue.proofs.Ordered.{RiseFrom, rises, ahead_rise}

@@ -1,5 +1,6 @@
 -- The edits, folded over the rows of a queue, settle it.
-use Rattle.std.proofs.Common.{◌≡◌, ℕ, suc, ◌<◌, ◌≤◌, Bool, true, false, not, cond, is_some, List, [], ◌∷◌, ◌++◌, map, fold, length, refl, sym, ap, ◌∙◌, subst, arith, append-nil}
+use Rattle.std.proofs.Common.{◌≡◌, ℕ, suc, ◌<◌, ◌≤◌, Bool, true, false, not, cond, is_some, List, [], ◌∷◌, ◌++◌, map}
+use Rattle.std.proofs.Common.{fold, length, refl, sym, ap, ◌∙◌, subst, arith, append-nil}
 use Rattle.std.specs.Prelude.{◌==◌, ◌&&◌, ◌||◌}
 use Rattle.std.proofs.lemmas.List.Sums.{fold-append}
 use Rattle.std.proofs.lemmas.Bool.{eq-eqb, ne_eqb, eqb-true}
@@ -14,11 +15,14 @@ use Rattle.gate_types.specs.State.{Item, Queue}
 use Rattle.gate_types.specs.Line.{Place}
 use Rattle.gate_types.specs.Standing.{places_after}
 use Rattle.gate_types.specs.Rebase.{stays_live}
-use Rattle.gate_types.specs.Sweep.{Judged, judge, judged_after, next_staying, next_window, verdict_of, goes, without_runs}
-use Rattle.gate_types.specs.Rows.{numbered, row_of, fold_edits, edited_items, edited_builds, edited_reports, edited_window}
+use Rattle.gate_types.specs.Sweep.{Judged, judge, judged_after, next_staying, next_window, verdict_of, goes}
+use Rattle.gate_types.specs.Sweep.{without_runs}
+use Rattle.gate_types.specs.Rows.{numbered, row_of, fold_edits, edited_items, edited_builds, edited_reports}
+use Rattle.gate_types.specs.Rows.{edited_window}
 use Rattle.gate_queue.specs.Edits.{edits_after, window_edits, edits_of_queue}
 use Rattle.gate_queue.specs.Settled.{rebased, verdicts, swept_rows, settled_rows}
-use Rattle.gate_queue.proofs.Ordered.{RiseFrom, GoWith, Tells, row_serial, build_number, places_rise, ahead_rise, ahead_with}
+use Rattle.gate_queue.proofs.Ordered.{RiseFrom, GoWith, Tells, row_serial, build_number, places_rise, ahead_rise}
+use Rattle.gate_queue.proofs.Ordered.{ahead_with}
 use Rattle.gate_queue.proofs.Folds.{fold_parts, edits_along, along, window_fold, reports_fold, items_fold, reports_of}
 use Rattle.gate_queue.proofs.Builds.{builds_fold}
 use Rattle.gate_laws.proofs.Members.{from_filter}
@@ -26,7 +30,8 @@ use Rattle.gate_laws.proofs.Keeps.{keeps}
 use Rattle.gate_laws.proofs.Stays.{stayers, places_stay}
 use Rattle.gate_laws.proofs.LiveBuildsCount.{place_serial}
 use Rattle.gate_laws.proofs.Touches.{name_itself}
-use Rattle.gate_queue.proofs.Keeps.{PassesAll, all_alike, places_kept, verdicts_kept, rebase_passes, rows_alike, rows_stay}
+use Rattle.gate_queue.proofs.Keeps.{PassesAll, all_alike, places_kept, verdicts_kept, rebase_passes, rows_alike}
+use Rattle.gate_queue.proofs.Keeps.{rows_stay}
 
 -- an item of another serial isn't told of
 goes_none : (bs : List Build) (n m : ℕ) (staying : List Item) (ps : List Place) → n < m → RiseFrom place_serial m ps → goes (judged_after bs staying ps) n ≡ false

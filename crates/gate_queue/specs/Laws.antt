@@ -1,5 +1,6 @@
 -- What a rebase and a sweep leave alone.
-use Rattle.std.specs.Prelude.{ℕ, ◌&&◌, ◌||◌, not, ◌≡◌, List, [], ◌∷◌, ◌++◌, map, fold, Option, is_some, option_map, filter_map, find}
+use Rattle.std.specs.Prelude.{ℕ, ◌&&◌, ◌||◌, not, ◌≡◌, List, [], ◌∷◌, ◌++◌, map, fold, Option, is_some, option_map}
+use Rattle.std.specs.Prelude.{filter_map, find}
 use Rattle.std.specs.Option.{option_map_or}
 use Rattle.std.specs.List.{All, AllPass, list_any}
 use Rattle.std.specs.List.Sorted.{IsStrictlyIncreasing}

@@ -1,5 +1,6 @@
 -- What a query that counts rows shows.
-use Rattle.std.proofs.Common.{◌≡◌, ◌≤◌, ℕ, min, arith, List, [], ◌∷◌, map, filter, length, pos, negsuc, false, Some, Option, sym, ap, subst, ◌∙◌, IsPermutation}
+use Rattle.std.proofs.Common.{◌≡◌, ◌≤◌, ℕ, min, arith, List, [], ◌∷◌, map, filter, length, pos, negsuc, false, Some}
+use Rattle.std.proofs.Common.{Option, sym, ap, subst, ◌∙◌, IsPermutation}
 use Rattle.std.specs.List.{AllZip, list_all}
 use Rattle.std.proofs.lemmas.List.{length-map}
 use Rattle.std.proofs.lemmas.List.Sorted.{length_permutation}

@@ -1,5 +1,6 @@
 -- What the read of the counters asks and finds.
-use Rattle.std.proofs.Common.{◌≡◌, ℕ, pos, List, [], ◌∷◌, map, filter, drop, slice_index_or, codes, refl, ap, subst, ◌∙◌, IsPermutation, Less}
+use Rattle.std.proofs.Common.{◌≡◌, ℕ, pos, List, [], ◌∷◌, map, filter, drop, slice_index_or, codes, refl, ap, subst}
+use Rattle.std.proofs.Common.{◌∙◌, IsPermutation, Less}
 use Rattle.sqlite.specs.Collation.TheVariants.{Binary}
 use Rattle.sqlite.specs.Listing.{understood}
 use Rattle.sqlite.specs.Order.{Row, value_cmp}

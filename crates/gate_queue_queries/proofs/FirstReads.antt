@@ -1,5 +1,7 @@
 -- What the reads of a file of schema 1 find.
-use Rattle.std.proofs.Common.{◌≡◌, ◌≤◌, ◌<◌, ◌<ℤ◌, ℕ, suc, pos, List, [], ◌∷◌, map, filter, find, length, get_or, option_map, slice_get, refl, sym, ap, subst, ◌∙◌, arith, IsPermutation, Less, codes, eqb, false, IsTrue}
+use Rattle.std.proofs.Common.{◌≡◌, ◌≤◌, ◌<◌, ◌<ℤ◌, ℕ, suc, pos, List, [], ◌∷◌, map, filter, find, length, get_or}
+use Rattle.std.proofs.Common.{option_map, slice_get, refl, sym, ap, subst, ◌∙◌, arith, IsPermutation, Less, codes}
+use Rattle.std.proofs.Common.{eqb, false, IsTrue}
 use Rattle.std.proofs.lemmas.Int.{ints}
 use Rattle.std.proofs.lemmas.List.Sorted.{IsPermutation-map, IsPermutation-sym, IsPermutation-trans}
 use Rattle.std.specs.List.{AllByRecursion}
@@ -31,7 +33,8 @@ use Rattle.gate_types.specs.declared.records.Landing.{Landing}
 use Rattle.gate_types.specs.declared.rows.ChangeRow.{ChangeRow}
 use Rattle.gate_types.specs.declared.rows.LandingRow.{LandingRow}
 use Rattle.gate_rows.specs.Tells.{items_of, landings_of}
-use Rattle.gate_schema.specs.Rows.{ItemRow, QueueLanding, Stored, change_key, change_row, item_key, item_row, landing_columns}
+use Rattle.gate_schema.specs.Rows.{ItemRow, QueueLanding, Stored, change_key, change_row, item_key, item_row}
+use Rattle.gate_schema.specs.Rows.{landing_columns}
 use Rattle.gate_schema.proofs.QueryLemmas.{kept_is, over_table, passes}
 use Rattle.gate_schema.proofs.Statements.{key_is, no_limit}
 use Rattle.gate_schema.proofs.ValueLemmas.{equal_numbers, equal_texts}

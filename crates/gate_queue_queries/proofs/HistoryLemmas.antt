@@ -1,5 +1,7 @@
 -- How a history text is written report by report, while its rows are given.
-use Rattle.std.proofs.Common.{◌≡◌, ◌≤◌, ◌<◌, ◌+◌, ℕ, List, [], ◌∷◌, ◌++◌, Option, Some, None, Ok, Err, Result, map, length, codes, decimal, refl, sym, ap, subst, ◌∙◌, arith, append_assoc, append-nil, length-append, IsTrue}
+use Rattle.std.proofs.Common.{◌≡◌, ◌≤◌, ◌<◌, ◌+◌, ℕ, List, [], ◌∷◌, ◌++◌, Option, Some, None, Ok, Err, Result, map}
+use Rattle.std.proofs.Common.{length, codes, decimal, refl, sym, ap, subst, ◌∙◌, arith, append_assoc, append-nil}
+use Rattle.std.proofs.Common.{length-append, IsTrue}
 use Rattle.std.proofs.lemmas.List.{take-append-le, take_all}
 use Rattle.std.proofs.KnownBytes.{Appends-trans}
 use Rattle.std.specs.Io.KnownBytes.{Appends}
@@ -26,7 +28,9 @@ use Rattle.gate_book_trait.specs.declared.fault.HistoryFault.TheVariants as faul
 use Rattle.gate_schema.specs.Rows.{Stands, Stored}
 use Rattle.gate_schema.specs.Schema.{gate_schema}
 use Rattle.gate_found_rows.specs.Finds.{Finds, OnlyReads}
-use Rattle.gate_queue_queries.specs.History.{CutsHead, GaveRows, HoldsReports, LeavesReports, OfReports, ReadsOn, WritesHead, WritesPart, WritesReports, history_sql, lines_from, report_shown, reports_text}
+use Rattle.gate_queue_queries.specs.History.{CutsHead, GaveRows, HoldsReports, LeavesReports, OfReports, ReadsOn}
+use Rattle.gate_queue_queries.specs.History.{WritesHead, WritesPart, WritesReports, history_sql, lines_from}
+use Rattle.gate_queue_queries.specs.History.{report_shown, reports_text}
 use Rattle.gate_found_rows.specs.Reads.{IsShown}
 use Rattle.gate_queue_queries.proofs.ReportReads.{history_asks, history_names, history_query, reports_found}
 use Rattle.gate_found_rows.proofs.SilentLemmas.{plain_only_reads}

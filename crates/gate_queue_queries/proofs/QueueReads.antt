@@ -1,5 +1,6 @@
 -- What the reads of queues find.
-use Rattle.std.proofs.Common.{◌≡◌, ℕ, pos, nat_le, true, ◌&&◌, List, [], ◌∷◌, filter, length, map, refl, sym, ap, subst, ◌∙◌, arith, nat_lt, codes, is_lt}
+use Rattle.std.proofs.Common.{◌≡◌, ℕ, pos, nat_le, true, ◌&&◌, List, [], ◌∷◌, filter, length, map, refl, sym, ap}
+use Rattle.std.proofs.Common.{subst, ◌∙◌, arith, nat_lt, codes, is_lt}
 use Rattle.std.proofs.lemmas.Bool.Decides.{nat_tests}
 use Rattle.std.proofs.lemmas.List.{length-map}
 use Rattle.std.proofs.lemmas.List.Elements.{All-from_recursion, recursion_from_All}
@@ -19,7 +20,8 @@ use Rattle.gate_types.specs.Names.{same_name}
 use Rattle.gate_types.specs.declared.rows.LandingRow.{LandingRow}
 use Rattle.gate_types.specs.declared.rows.ReportRow.{ReportRow}
 use Rattle.gate_rows.specs.Tells.{items_of, landings_of, reports_of}
-use Rattle.gate_schema.specs.Rows.{QueueLanding, QueueReport, QueueRow, Stored, item_row, landing_columns, queue_columns, report_columns}
+use Rattle.gate_schema.specs.Rows.{QueueLanding, QueueReport, QueueRow, Stored, item_row, landing_columns}
+use Rattle.gate_schema.specs.Rows.{queue_columns, report_columns}
 use Rattle.gate_schema.proofs.QueryLemmas.{passes}
 use Rattle.gate_schema.proofs.Statements.{key_is, no_limit}
 use Rattle.gate_schema.proofs.ValueLemmas.{equal_texts, value_cmp-pos}
@@ -30,7 +32,10 @@ use Rattle.gate_found_rows.specs.Shown.{number_shown}
 use Rattle.gate_found_rows.proofs.GreatestLemmas.{ShowGreatest}
 use Rattle.gate_found_rows.proofs.ListFacts.{filter_in}
 use Rattle.gate_found_rows.proofs.ListedReads.{listed_greatest, listed_in_turn, told_behind}
-use Rattle.gate_queue_queries.proofs.QueueTexts.{before_asks, before_query, before_sql, before_test, count_asks, count_query, count_sql, landing_asks, landing_query, landing_sql, report_asks, report_query, report_sql, window_asks, window_query, window_sql}
+use Rattle.gate_queue_queries.proofs.QueueTexts.{before_asks, before_query, before_sql, before_test, count_asks}
+use Rattle.gate_queue_queries.proofs.QueueTexts.{count_query, count_sql, landing_asks, landing_query, landing_sql}
+use Rattle.gate_queue_queries.proofs.QueueTexts.{report_asks, report_query, report_sql, window_asks, window_query}
+use Rattle.gate_queue_queries.proofs.QueueTexts.{window_sql}
 use Rattle.gate_found_rows.proofs.ReadLemmas.{answers}
 use Rattle.gate_found_rows.proofs.ShownLemmas.{pass_filter}
 use Rattle.gate_found_rows.proofs.KeyedReads.{truth_of}

@@ -1,5 +1,6 @@
 -- What the read of a queue's reports finds, in the order of their places.
-use Rattle.std.proofs.Common.{◌≡◌, ◌≤◌, ◌<◌, ◌<ℤ◌, ℕ, suc, pos, List, [], ◌∷◌, map, filter, refl, sym, ap, subst, ◌∙◌, arith, IsPermutation, Less, codes}
+use Rattle.std.proofs.Common.{◌≡◌, ◌≤◌, ◌<◌, ◌<ℤ◌, ℕ, suc, pos, List, [], ◌∷◌, map, filter, refl, sym, ap, subst, ◌∙◌}
+use Rattle.std.proofs.Common.{arith, IsPermutation, Less, codes}
 use Rattle.std.proofs.lemmas.Int.{ints}
 use Rattle.std.proofs.lemmas.List.Sorted.{IsPermutation-map, IsPermutation-sym, IsPermutation-trans}
 use Rattle.std.specs.List.{AllByRecursion}

@@ -1,5 +1,6 @@
 -- What is read of the reports of a queue one row at a time, and what is written of it.
-use Rattle.std.specs.Prelude.{◌≡◌, ◌++◌, ⊤, ℕ, pos, IsTrue, List, [], ◌∷◌, codes, flat_map, length, IsPermutation, Option, Some, None, Result, MatchResult}
+use Rattle.std.specs.Prelude.{◌≡◌, ◌++◌, ⊤, ℕ, pos, IsTrue, List, [], ◌∷◌, codes, flat_map, length, IsPermutation}
+use Rattle.std.specs.Prelude.{Option, Some, None, Result, MatchResult}
 use Rattle.std.specs.List.{enumerate_from}
 use Rattle.sqlite.specs.Given.{HasGiven}
 use Rattle.sqlite.specs.Held.{Held, state}

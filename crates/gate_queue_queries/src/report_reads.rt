@@ -8,7 +8,8 @@ ghost use Rattle.gate_types.specs.Tap.{has_failed};
 ghost use Rattle.gate_book_trait.specs.Text.{first_line, last_line};
 ghost use Rattle.gate_book_trait.specs.Writes.{Stops};
 ghost use Rattle.gate_found_rows.specs.Finds.{OnlyReads, Stays};
-ghost use Rattle.gate_queue_queries.specs.History.{GaveRows, IsSettled, ReadsOn, WritesHead, WritesPart, WritesReports, history_sql, report_shown};
+ghost use Rattle.gate_queue_queries.specs.History.{GaveRows, IsSettled, ReadsOn, WritesHead, WritesPart};
+ghost use Rattle.gate_queue_queries.specs.History.{WritesReports, history_sql, report_shown};
 ghost use Rattle.gate_found_rows.specs.Reads.{IsOnlyRead};
 
 use gate_book_trait::{BookFault, HistoryFault, history_end, history_head, report_line};

@@ -6,7 +6,8 @@ use Rattle.gate_rows.proofs.ChangeTells.{tells_change}
 use Rattle.gate_rows.proofs.HistoryTells.{tells_landing, tells_report}
 use Rattle.gate_rows.proofs.ItemTells.{tells_item}
 use Rattle.gate_rows.proofs.PlanTells.{tells_plan}
-use Rattle.gate_rows.proofs.TellsLemmas.{tells_build, tells_counter, tells_drop, tells_kept, tells_outcome, tells_stop, tells_window}
+use Rattle.gate_rows.proofs.TellsLemmas.{tells_build, tells_counter, tells_drop, tells_kept, tells_outcome}
+use Rattle.gate_rows.proofs.TellsLemmas.{tells_stop, tells_window}
 
 pub every_told : (e : Edit) → IsTold e
 every_told (edit.PutChange k a) = λ b t order fits have told. tells_change k a b t order told

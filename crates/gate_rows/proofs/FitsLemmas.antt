@@ -1,5 +1,7 @@
 -- What an INSERT that ends well says of the rows that were there.
-use Rattle.std.proofs.Common.{◌≡◌, ◌≤◌, ◌<◌, ℕ, zero, suc, pos, List, [], ◌∷◌, map, filter, length, take, ltb, Bool, true, false, not, cond, ◌&&◌, eqb, Ok, refl, sym, ap, subst, ◌∙◌, arith, append-nil, is_eq}
+use Rattle.std.proofs.Common.{◌≡◌, ◌≤◌, ◌<◌, ℕ, zero, suc, pos, List, [], ◌∷◌, map, filter, length, take, ltb, Bool}
+use Rattle.std.proofs.Common.{true, false, not, cond, ◌&&◌, eqb, Ok, refl, sym, ap, subst, ◌∙◌, arith, append-nil}
+use Rattle.std.proofs.Common.{is_eq}
 use Rattle.std.specs.List.{AllByRecursion, list_any}
 use Rattle.std.proofs.lemmas.Bool.{and_parts, not-true, or_parts}
 use Rattle.std.proofs.lemmas.Bool.Decides.{nat_tests}
@@ -19,7 +21,8 @@ use Rattle.sqlite_keyed.proofs.ListLemmas.{all_kept, filter-filter}
 use Rattle.sqlite_trees.specs.Tree.{rowid}
 use Rattle.gate_types.specs.Names.{same_name}
 use Rattle.gate_types.specs.declared.config.Job.{Job}
-use Rattle.gate_schema.specs.Rows.{AreNamed, Changes, IsReady, ItemRow, JobRow, QueueLanding, QueueReport, Stands, Stored, item_key, item_row, job_columns, landing_columns, report_columns}
+use Rattle.gate_schema.specs.Rows.{AreNamed, Changes, IsReady, ItemRow, JobRow, QueueLanding, QueueReport, Stands}
+use Rattle.gate_schema.specs.Rows.{Stored, item_key, item_row, job_columns, landing_columns, report_columns}
 use Rattle.gate_schema.specs.Edits.{add_jobs, job_rows}
 use Rattle.gate_schema.specs.Schema.{gate_schema, item_at}
 use Rattle.gate_schema.proofs.ItemTable.{add_item_is, add_item_sql, add_item_terms, is_of, item_params}

@@ -1,11 +1,14 @@
 -- A row put by its key, as SQL does it and as the gate's tables do.
-use Rattle.std.proofs.Common.{◌≡◌, ◌≤◌, ◌<◌, ◌<ℤ◌, ◌⊎◌, inl, inr, ℕ, pos, List, [], ◌∷◌, ◌++◌, filter, Option, Some, Bool, true, false, not, cond, eqb, ltb, refl, sym, ap, ◌∙◌, arith, int_cmp, Less, Greater, IsPermutation}
+use Rattle.std.proofs.Common.{◌≡◌, ◌≤◌, ◌<◌, ◌<ℤ◌, ◌⊎◌, inl, inr, ℕ, pos, List, [], ◌∷◌, ◌++◌, filter, Option, Some}
+use Rattle.std.proofs.Common.{Bool, true, false, not, cond, eqb, ltb, refl, sym, ap, ◌∙◌, arith, int_cmp, Less}
+use Rattle.std.proofs.Common.{Greater, IsPermutation}
 use Rattle.std.specs.List.{AllByRecursion}
 use Rattle.std.specs.Prelude.{find}
 use Rattle.std.specs.Ordering.{match_ordering}
 use Rattle.std.proofs.lemmas.Bool.Decides.{nat_tests}
 use Rattle.std.proofs.lemmas.Int.{ints}
-use Rattle.std.proofs.lemmas.List.Sorted.{IsPermutation-refl, IsPermutation-cons, IsPermutation-swap, IsPermutation-trans}
+use Rattle.std.proofs.lemmas.List.Sorted.{IsPermutation-refl, IsPermutation-cons, IsPermutation-swap}
+use Rattle.std.proofs.lemmas.List.Sorted.{IsPermutation-trans}
 use Rattle.sqlite_keyed.specs.Keyed.{IsKeyedBy, insert_by}
 use Rattle.gate_types.specs.State.{put_by}
 

@@ -1,5 +1,6 @@
 -- What is told of the tables, edit by edit.
-use Rattle.std.proofs.Common.{◌≡◌, ℕ, suc, List, [], ◌∷◌, ◌++◌, map, filter, Bool, true, false, not, cond, eqb, Some, None, refl, sym, ap, subst, ◌∙◌, IsPermutation}
+use Rattle.std.proofs.Common.{◌≡◌, ℕ, suc, List, [], ◌∷◌, ◌++◌, map, filter, Bool, true, false, not, cond, eqb, Some}
+use Rattle.std.proofs.Common.{None, refl, sym, ap, subst, ◌∙◌, IsPermutation}
 use Rattle.std.specs.Option.{option_map_or}
 use Rattle.std.specs.Prelude.{find}
 use Rattle.std.proofs.lemmas.Cmp.{nat_list_eq_equiv}

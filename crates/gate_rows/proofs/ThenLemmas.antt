@@ -1,5 +1,6 @@
 -- Changes one after the other.
-use Rattle.std.proofs.Common.{◌≡◌, ℕ, ◌+◌, ◌<◌, zero, suc, List, [], ◌∷◌, ◌++◌, take, length, get_or, refl, sym, ap, subst, ◌∙◌, inl, arith, append-nil}
+use Rattle.std.proofs.Common.{◌≡◌, ℕ, ◌+◌, ◌<◌, zero, suc, List, [], ◌∷◌, ◌++◌, take, length, get_or, refl, sym, ap}
+use Rattle.std.proofs.Common.{subst, ◌∙◌, inl, arith, append-nil}
 use mathlib.Core.List.{append_assoc}
 use Rattle.sqlite.specs.State.{KeepsCommit, State, Survives}
 use Rattle.gate_types.specs.declared.config.Job.{Job}

@@ -1,5 +1,6 @@
 -- What the unique keys of the tables say of what they hold.
-use Rattle.std.proofs.Common.{◌≡◌, ◌≤◌, ℕ, ℤ, pos, List, [], ◌∷◌, ◌++◌, map, drop, filter, length, Bool, true, false, cond, ◌&&◌, eqb, IsTrue, Some, refl, sym, ap, ap₂, ◌∙◌, arith, Less}
+use Rattle.std.proofs.Common.{◌≡◌, ◌≤◌, ℕ, ℤ, pos, List, [], ◌∷◌, ◌++◌, map, drop, filter, length, Bool, true, false}
+use Rattle.std.proofs.Common.{cond, ◌&&◌, eqb, IsTrue, Some, refl, sym, ap, ap₂, ◌∙◌, arith, Less}
 use Rattle.std.specs.List.{AllByRecursion}
 use Rattle.std.specs.Ordering.{is_ne}
 use Rattle.std.proofs.lemmas.Bool.{and_parts, not-true, or_parts}
@@ -21,7 +22,8 @@ use Rattle.sqlite_trees.specs.Tree.{IsAscending, rowid}
 use Rattle.sqlite_trees.specs.View.{is_int}
 use Rattle.sqlite_value.specs.Keys.{first_key, plain}
 use Rattle.gate_types.specs.Names.{same_name}
-use Rattle.gate_schema.specs.Rows.{AreNamed, IsListed, IsNumbered, JobRow, QueueLanding, QueueReport, QueueRow, Stands, Stored, job_columns, landing_columns, queue_columns, report_columns}
+use Rattle.gate_schema.specs.Rows.{AreNamed, IsListed, IsNumbered, JobRow, QueueLanding, QueueReport, QueueRow}
+use Rattle.gate_schema.specs.Rows.{Stands, Stored, job_columns, landing_columns, queue_columns, report_columns}
 use Rattle.gate_schema.specs.Schema.{gate_schema, item_job_at, landing_at, queue_at, report_at}
 use Rattle.gate_schema.proofs.DeleteLemmas.{is_its}
 use Rattle.gate_schema.proofs.RowLemmas.{behind}

@@ -1,5 +1,6 @@
 -- When what the file's tables hold is what the gate's tables hold, queue by queue.
-use Rattle.std.specs.Prelude.{ℕ, suc, pos, Bool, true, false, ⊤, ◌==◌, ◌&&◌, ◌≡◌, ◌<◌, List, [], ◌∷◌, length, map, filter, find, IsPermutation}
+use Rattle.std.specs.Prelude.{ℕ, suc, pos, Bool, true, false, ⊤, ◌==◌, ◌&&◌, ◌≡◌, ◌<◌, List, [], ◌∷◌, length, map}
+use Rattle.std.specs.Prelude.{filter, find, IsPermutation}
 use Rattle.std.specs.List.{AllByRecursion, list_any}
 use Rattle.std.specs.Option.{option_map_or}
 use Rattle.sqlite.specs.Tree.{Trees}
@@ -18,7 +19,8 @@ use Rattle.gate_types.specs.declared.rows.ChangeRow.{ChangeRow}
 use Rattle.gate_types.specs.declared.rows.LandingRow.{LandingRow}
 use Rattle.gate_types.specs.declared.rows.ReportRow.{ReportRow}
 use Rattle.gate_schema.specs.Edits.{after_edit, job_rows, need_rows}
-use Rattle.gate_schema.specs.Rows.{ItemRow, JobRow, NeedRow, QueueLanding, QueueReport, QueueRow, Stands, Stored, build_key, change_key, fast_key, item_key}
+use Rattle.gate_schema.specs.Rows.{ItemRow, JobRow, NeedRow, QueueLanding, QueueReport, QueueRow, Stands, Stored}
+use Rattle.gate_schema.specs.Rows.{build_key, change_key, fast_key, item_key}
 
 -- ---- what is told of one queue, or one change
 

@@ -1,5 +1,6 @@
 -- The builds: what each statement on them means, and what it makes of what the tables hold.
-use Rattle.std.proofs.Common.{◌≡◌, ◌≤◌, ℕ, pos, List, [], ◌∷◌, map, filter, length, false, not, Ok, codes, refl, sym, ap, subst, ◌∙◌, eqb}
+use Rattle.std.proofs.Common.{◌≡◌, ◌≤◌, ℕ, pos, List, [], ◌∷◌, map, filter, length, false, not, Ok, codes, refl, sym}
+use Rattle.std.proofs.Common.{ap, subst, ◌∙◌, eqb}
 use Rattle.std.proofs.lemmas.List.{length-map}
 use Rattle.sqlite.specs.Cast.{cast_row}
 use Rattle.sqlite.specs.Command.TheVariants.{Insert, Delete, Update}
@@ -29,7 +30,8 @@ use Rattle.gate_schema.specs.Rows.{IsReady, Changes, IsKeyed, bit, build_row, bu
 use Rattle.gate_schema.specs.Schema.{gate_schema, build_at}
 use Rattle.gate_schema.specs.AheadText.{ahead_text}
 use Rattle.gate_types.specs.BuildText.{outcome_word}
-use Rattle.gate_schema.proofs.ChangeLemmas.{changed, keyed_put, keyed_without, keyed_numbered, keyed_changed, one_keyed, updated_rows}
+use Rattle.gate_schema.proofs.ChangeLemmas.{changed, keyed_put, keyed_without, keyed_numbered, keyed_changed}
+use Rattle.gate_schema.proofs.ChangeLemmas.{one_keyed, updated_rows}
 use Rattle.gate_schema.proofs.DeleteLemmas.{deleted_ids, leaves_others}
 use Rattle.gate_schema.proofs.QueryLemmas.{over_table, passes, shows_few}
 use Rattle.gate_schema.proofs.RowLemmas.{cast_int, cast_null, int_cast, out, renewed, written_update}

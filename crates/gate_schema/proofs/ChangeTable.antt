@@ -1,5 +1,6 @@
 -- The changes, without their needs: what the statement on them means, and what it makes of what the tables hold.
-use Rattle.std.proofs.Common.{◌≡◌, ℕ, ℤ, pos, List, [], ◌∷◌, map, filter, Bool, true, false, not, ◌&&◌, ◌||◌, None, Ok, codes, refl, sym, ap, subst, ◌∙◌, arith, eqb, is_eq}
+use Rattle.std.proofs.Common.{◌≡◌, ℕ, ℤ, pos, List, [], ◌∷◌, map, filter, Bool, true, false, not, ◌&&◌, ◌||◌, None}
+use Rattle.std.proofs.Common.{Ok, codes, refl, sym, ap, subst, ◌∙◌, arith, eqb, is_eq}
 use Rattle.std.proofs.lemmas.Bool.Decides.{nat_tests}
 use Rattle.std.specs.List.{AllByRecursion}
 use Rattle.sqlite.specs.Cast.{cast_row}

@@ -1,5 +1,6 @@
 -- Taking out the rows that a query showed.
-use Rattle.std.proofs.Common.{◌≡◌, ℕ, ℤ, List, [], ◌∷◌, map, filter, Bool, true, false, not, cond, ◌||◌, ◌&&◌, IsTrue, refl, sym, ap, subst, ◌∙◌, IsPermutation, Less, is_eq, true≢false}
+use Rattle.std.proofs.Common.{◌≡◌, ℕ, ℤ, List, [], ◌∷◌, map, filter, Bool, true, false, not, cond, ◌||◌, ◌&&◌, IsTrue}
+use Rattle.std.proofs.Common.{refl, sym, ap, subst, ◌∙◌, IsPermutation, Less, is_eq, true≢false}
 use Rattle.std.specs.List.{AllByRecursion, list_any}
 use Rattle.std.proofs.lemmas.List.Sorted.{list_any-IsPermutation, IsPermutation-map}
 use Rattle.std.proofs.lemmas.Cmp.{tied_itself}

@@ -1,5 +1,6 @@
 -- The items: what each statement on them means, and what it makes of what the tables hold.
-use Rattle.std.proofs.Common.{◌≡◌, ◌≤◌, ℕ, pos, List, [], ◌∷◌, map, filter, length, Bool, true, not, ◌&&◌, Ok, codes, refl, sym, ap, subst, ◌∙◌, arith, eqb, ltb}
+use Rattle.std.proofs.Common.{◌≡◌, ◌≤◌, ℕ, pos, List, [], ◌∷◌, map, filter, length, Bool, true, not, ◌&&◌, Ok, codes}
+use Rattle.std.proofs.Common.{refl, sym, ap, subst, ◌∙◌, arith, eqb, ltb}
 use Rattle.std.proofs.lemmas.Bool.{and_parts}
 use Rattle.std.proofs.lemmas.Bool.Decides.{nat_tests}
 use Rattle.std.proofs.lemmas.List.{length-map}
@@ -25,7 +26,8 @@ use Rattle.sqlite_tied.proofs.RuleLemmas.{and_true}
 use Rattle.sqlite_tied.specs.Compute.{everything}
 use Rattle.sqlite_trees.specs.Tree.{put_row}
 use Rattle.gate_schema.specs.Edits.{add_item, drop_item, insert_if, set_item}
-use Rattle.gate_schema.specs.Rows.{ItemRow, IsReady, Changes, IsKeyed, Stands, Stored, bit, number_or_null, item_row, item_key}
+use Rattle.gate_schema.specs.Rows.{ItemRow, IsReady, Changes, IsKeyed, Stands, Stored, bit, number_or_null, item_row}
+use Rattle.gate_schema.specs.Rows.{item_key}
 use Rattle.gate_schema.specs.Schema.{gate_schema, item_at}
 use Rattle.gate_schema.proofs.ChangeLemmas.{keyed_found, keyed_put, keyed_set, keyed_without, keyed_numbered, one_keyed}
 use Rattle.gate_schema.proofs.DeleteLemmas.{deleted_ids, leaves_others}

@@ -1,5 +1,6 @@
 -- The jobs of plans: what each statement on them means, and what it makes of what the tables hold.
-use Rattle.std.proofs.Common.{◌≡◌, ℕ, pos, List, [], ◌∷◌, ◌++◌, drop, filter, not, Ok, codes, refl, sym, ap, subst, ◌∙◌, eqb}
+use Rattle.std.proofs.Common.{◌≡◌, ℕ, pos, List, [], ◌∷◌, ◌++◌, drop, filter, not, Ok, codes, refl, sym, ap, subst}
+use Rattle.std.proofs.Common.{◌∙◌, eqb}
 use Rattle.sqlite.specs.Cast.{cast_row}
 use Rattle.sqlite.specs.Command.TheVariants.{Insert, Delete}
 use Rattle.sqlite.specs.Edit.{edit_of, edited, with_rowid, next_rowid}

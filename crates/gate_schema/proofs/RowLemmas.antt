@@ -1,5 +1,6 @@
 -- One row: how its values are kept, and what becomes of it.
-use Rattle.std.proofs.Common.{◌≡◌, ◌≤◌, ℕ, ℤ, pos, suc, List, [], ◌∷◌, map, drop, filter, length, Bool, true, false, cond, IsTrue, Some, None, Option, refl, ap, sym, ◌∙◌, arith}
+use Rattle.std.proofs.Common.{◌≡◌, ◌≤◌, ℕ, ℤ, pos, suc, List, [], ◌∷◌, map, drop, filter, length, Bool, true, false}
+use Rattle.std.proofs.Common.{cond, IsTrue, Some, None, Option, refl, ap, sym, ◌∙◌, arith}
 use Rattle.sqlite.specs.Cast.{cast, cast_row}
 use Rattle.sqlite.specs.Edit.{edit_of, edited, put_all, without_all, id_in}
 use Rattle.sqlite.specs.Kind.TheVariants.{Integer}

@@ -3,7 +3,12 @@ use Rattle.std.proofs.Common.{refl, codes, [], ◌∷◌, inl, inr}
 use Rattle.sqlite.specs.Listing.{understood}
 use Rattle.sqlite_tied.specs.Compute.{everything}
 use Rattle.gate_schema.specs.Made.{MakesTableOf, MakesIndexOf, Leads}
-use Rattle.gate_schema.specs.Schema.{gate_schema, gate_texts, schema_with, index_at, meta_text, counter_text, queue_text, change_text, change_approval_text, need_text, item_text, build_text, landing_text, report_text, delivery_text, need_needed_text, item_queue_text, build_serial_text, item_job_text, item_fast_text, meta_at, counter_at, queue_at, change_at, need_at, item_at, build_at, landing_at, report_at, delivery_at, item_job_at, item_fast_at}
+use Rattle.gate_schema.specs.Schema.{gate_schema, gate_texts, schema_with, index_at, meta_text, counter_text}
+use Rattle.gate_schema.specs.Schema.{queue_text, change_text, change_approval_text, need_text, item_text, build_text}
+use Rattle.gate_schema.specs.Schema.{landing_text, report_text, delivery_text, need_needed_text, item_queue_text}
+use Rattle.gate_schema.specs.Schema.{build_serial_text, item_job_text, item_fast_text, meta_at, counter_at, queue_at}
+use Rattle.gate_schema.specs.Schema.{change_at, need_at, item_at, build_at, landing_at, report_at, delivery_at}
+use Rattle.gate_schema.specs.Schema.{item_job_at, item_fast_at}
 
 meta_makes : MakesTableOf meta_text (schema_with 0 0) (schema_with 1 1)
 unfolding understood everything Rattle.sqlite_schema.specs.Names.same_name

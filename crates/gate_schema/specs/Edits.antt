@@ -1,5 +1,6 @@
 -- What the statements, and the edits that are made of them, make of what the tables hold.
-use Rattle.std.specs.Prelude.{ℕ, suc, pos, Bool, true, false, not, ◌==◌, ◌&&◌, if◌then◌else◌, List, [], ◌∷◌, ◌++◌, map, filter, fold, Option}
+use Rattle.std.specs.Prelude.{ℕ, suc, pos, Bool, true, false, not, ◌==◌, ◌&&◌, if◌then◌else◌, List, [], ◌∷◌, ◌++◌}
+use Rattle.std.specs.Prelude.{map, filter, fold, Option}
 use Rattle.sqlite_keyed.specs.Keyed.{insert_by}
 use Rattle.gate_types.specs.Names.{same_name}
 use Rattle.gate_types.specs.Rebase.{with_live}
@@ -18,7 +19,8 @@ use Rattle.gate_types.specs.declared.records.Plan.{Plan}
 use Rattle.gate_types.specs.declared.records.Report.{Report}
 use Rattle.gate_types.specs.declared.records.Change.{Change}
 use Rattle.gate_types.specs.declared.rows.ChangeRow.{ChangeRow}
-use Rattle.gate_schema.specs.Rows.{Stored, QueueRow, ItemRow, NeedRow, JobRow, QueueLanding, QueueReport, item_key, change_key, build_key, fast_key}
+use Rattle.gate_schema.specs.Rows.{Stored, QueueRow, ItemRow, NeedRow, JobRow, QueueLanding, QueueReport, item_key}
+use Rattle.gate_schema.specs.Rows.{change_key, build_key, fast_key}
 
 -- a row added at its key, where it is to be
 abbrev pub insert_if : {X : Type 0} → Bool → (X → ℕ) → List X → X → List X

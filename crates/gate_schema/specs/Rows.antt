@@ -1,5 +1,6 @@
 -- What the tables hold, as plain records, and when tables hold it.
-use Rattle.std.specs.Prelude.{◌≡◌, ℕ, pos, Bool, if◌then◌else◌, List, [], ◌∷◌, map, drop, filter, Option, IsTrue, codes, length, ◌≤◌}
+use Rattle.std.specs.Prelude.{◌≡◌, ℕ, pos, Bool, if◌then◌else◌, List, [], ◌∷◌, map, drop, filter, Option, IsTrue}
+use Rattle.std.specs.Prelude.{codes, length, ◌≤◌}
 use Rattle.std.specs.List.{AllByRecursion}
 use Rattle.sqlite.specs.Order.{Row}
 use Rattle.sqlite.specs.State.{State}

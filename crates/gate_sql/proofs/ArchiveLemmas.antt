@@ -1,5 +1,6 @@
 -- From what is read of the tables to what is told of the past of a content.
-use Rattle.std.proofs.Common.{◌≡◌, ◌≢◌, ◌∙◌, ◌++◌, ◌||◌, true, false, Bool, ℕ, List, [], ◌∷◌, Option, Some, None, Result, Ok, Err, IsTrue, cond, find, arith, refl, sym, ap, subst}
+use Rattle.std.proofs.Common.{◌≡◌, ◌≢◌, ◌∙◌, ◌++◌, ◌||◌, true, false, Bool, ℕ, List, [], ◌∷◌, Option, Some, None}
+use Rattle.std.proofs.Common.{Result, Ok, Err, IsTrue, cond, find, arith, refl, sym, ap, subst}
 use Rattle.std.specs.Prelude.{MatchResult}
 use Rattle.std.specs.List.{AllPass}
 use Rattle.sqlite.specs.State.{HasCleanDisk, State}

@@ -1,5 +1,6 @@
 -- From what is written of the tables' reports to the history of a content.
-use Rattle.std.proofs.Common.{◌≡◌, ◌∙◌, ◌++◌, ◌||◌, true, false, Bool, ℕ, List, [], ◌∷◌, Option, Some, None, Result, Ok, Err, cond, find, map, refl, sym, true≢false, ap, subst}
+use Rattle.std.proofs.Common.{◌≡◌, ◌∙◌, ◌++◌, ◌||◌, true, false, Bool, ℕ, List, [], ◌∷◌, Option, Some, None, Result}
+use Rattle.std.proofs.Common.{Ok, Err, cond, find, map, refl, sym, true≢false, ap, subst}
 use Rattle.std.specs.Prelude.{IsPermutation}
 use Rattle.std.specs.Option.{option_map_or}
 use Rattle.sqlite.specs.State.{State}

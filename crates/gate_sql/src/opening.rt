@@ -95,8 +95,7 @@ impl<S: Alter> SqlBook<S> {
         ensures clean { HasCleanDisk (handed S.Store result) → HasCleanDisk (state S.Store conn) }
         ensures mode { IfOk result (λ book. book.conn.in_transaction ≡ false) }
     {
-        // This shows the prover that the settings are sound.
-        let _settings = &config.base;
+        config.show_sound();
         one_text_a_setting();
         settings_are_in_form(config);
         let Ok((settings, queues)) = texts_of(alloc, config) else {

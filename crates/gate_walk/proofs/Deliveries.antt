@@ -1,5 +1,6 @@
 -- A delivery on an item of a queue, kind by kind: it changes nothing, or the queue's walk settles the queue.
-use Rattle.std.proofs.Common.{◌≡◌, ℕ, ◌+◌, Bool, true, false, not, ◌&&◌, ◌||◌, cond, Option, Some, None, List, [], ◌∷◌, ◌++◌, map, length, inl, inr, refl, sym, ap, ◌∙◌, subst, true≢false}
+use Rattle.std.proofs.Common.{◌≡◌, ℕ, ◌+◌, Bool, true, false, not, ◌&&◌, ◌||◌, cond, Option, Some, None, List, []}
+use Rattle.std.proofs.Common.{◌∷◌, ◌++◌, map, length, inl, inr, refl, sym, ap, ◌∙◌, subst, true≢false}
 use Rattle.std.specs.Prelude.{◌==◌, find, option_map}
 use Rattle.std.specs.Option.{option_map_or}
 use Rattle.std.specs.List.{AllPass}
@@ -19,18 +20,22 @@ use Rattle.gate_types.specs.Rebase.{rebase}
 use Rattle.gate_types.specs.Window.{bounds_of}
 use Rattle.gate_types.specs.Sweep.{sweep}
 use Rattle.gate_types.specs.SubmitOrder.{Order, shown_order}
-use Rattle.gate_types.specs.Step.{raw_step, left_queue, leave, revised, shrunk_queue, landed_queue, end_build, raw_revision, raw_withdrawn, raw_closed, raw_landed, raw_refused, raw_result}
+use Rattle.gate_types.specs.Step.{raw_step, left_queue, leave, revised, shrunk_queue, landed_queue, end_build}
+use Rattle.gate_types.specs.Step.{raw_revision, raw_withdrawn, raw_closed, raw_landed, raw_refused, raw_result}
 use Rattle.gate_types.specs.Lawful.{IsSound}
 use Rattle.gate_laws.specs.Touch.{has_serial, queue_of_change, queue_of_serial, touched_by, settle_touched, settle_one}
-use Rattle.gate_walk.specs.Rescan.{live_builds_are_wanted, IsCalm, HasLeft, TakenOut, rows_with, Walks, start, stored, ahead_at, fails_at, without_row, rows_from, row_seen}
+use Rattle.gate_walk.specs.Rescan.{live_builds_are_wanted, IsCalm, HasLeft, TakenOut, rows_with, Walks, start, stored}
+use Rattle.gate_walk.specs.Rescan.{ahead_at, fails_at, without_row, rows_from, row_seen}
 use Rattle.gate_walk.specs.Kinds.{IsIn}
-use Rattle.gate_walk.specs.Delivery.{build_ended, item_left, item_landed, moved, is_on, touch_of, out_by, standing_rows, WalksFrom, TouchedQueueIsWalked, AWalkIsEnough}
+use Rattle.gate_walk.specs.Delivery.{build_ended, item_left, item_landed, moved, is_on, touch_of, out_by}
+use Rattle.gate_walk.specs.Delivery.{standing_rows, WalksFrom, TouchedQueueIsWalked, AWalkIsEnough}
 use Rattle.gate_queue.specs.Settled.{swept_of}
 use Rattle.gate_laws.proofs.Members.{In, every, all, to_map, to_right, found, not_found, any_to, all_to, in_contains}
 use Rattle.gate_laws.proofs.Parts.{ItemsRise}
 use Rattle.gate_laws.proofs.Alone.{serial_alone, names_differ}
 use Rattle.gate_laws.proofs.EachAccepted.{closed_state, new_revision, landed_state, refused_state}
-use Rattle.gate_walk.proofs.EachReply.{OnReply, on_reply, withdrawn_reply, closed_reply, revision_reply, landed_reply, refused_reply, result_reply}
+use Rattle.gate_walk.proofs.EachReply.{OnReply, on_reply, withdrawn_reply, closed_reply, revision_reply, landed_reply}
+use Rattle.gate_walk.proofs.EachReply.{refused_reply, result_reply}
 use Rattle.gate_walk.proofs.TouchedQueue.{has_touched}
 use Rattle.gate_laws.proofs.SettledIsAtRest.{settled_is_at_rest}
 use Rattle.gate_laws.proofs.Idle.{IsIdle, idle}

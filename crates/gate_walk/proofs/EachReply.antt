@@ -1,5 +1,6 @@
 -- What is true of each state that a delivery is accepted with, by its reply: a stale one left the state as it was.
-use Rattle.std.proofs.Common.{◌≡◌, ℕ, ◌+◌, Bool, true, false, not, ◌&&◌, ◌||◌, cond, Option, Some, None, List, length, ◌⊎◌, inl, inr, refl, subst}
+use Rattle.std.proofs.Common.{◌≡◌, ℕ, ◌+◌, Bool, true, false, not, ◌&&◌, ◌||◌, cond, Option, Some, None, List, length}
+use Rattle.std.proofs.Common.{◌⊎◌, inl, inr, refl, subst}
 use Rattle.std.specs.Prelude.{nat_lt, nat_le, if◌then◌else◌}
 use Rattle.std.specs.Option.{option_map_or}
 use Rattle.gate_types.specs.declared.records.Build.{Build}
@@ -16,7 +17,9 @@ use Rattle.gate_types.specs.State.{State, known_change, is_open, is_landed, is_q
 use Rattle.gate_types.specs.Slot.{is_running}
 use Rattle.gate_types.specs.Admit.{without_ready}
 use Rattle.gate_types.specs.SubmitOrder.{Order, shown_order, is_submitting}
-use Rattle.gate_types.specs.Step.{Stepped, accepted, refused, on_known, leave, revised, has_project, is_known_and, build_of, end_build, raw_revision, raw_withdrawn, raw_closed, raw_landed, raw_refused, raw_result}
+use Rattle.gate_types.specs.Step.{Stepped, accepted, refused, on_known, leave, revised, has_project, is_known_and}
+use Rattle.gate_types.specs.Step.{build_of, end_build, raw_revision, raw_withdrawn, raw_closed, raw_landed}
+use Rattle.gate_types.specs.Step.{raw_refused, raw_result}
 use Rattle.gate_walk.specs.Delivery.{is_stale}
 use Rattle.gate_laws.proofs.EachAccepted.{closed_state, new_revision, landed_state, refused_state}
 

@@ -1,5 +1,6 @@
 -- What becomes of the builds when one ends, or when their item leaves.
-use Rattle.std.proofs.Common.{◌≡◌, ℕ, suc, ◌+◌, ◌≤◌, Bool, true, false, not, ◌&&◌, ◌||◌, cond, List, [], ◌∷◌, map, length, ◌⊎◌, inl, inr, ⊎_elim, refl, sym, ap, ◌∙◌, subst, true≢false, arith}
+use Rattle.std.proofs.Common.{◌≡◌, ℕ, suc, ◌+◌, ◌≤◌, Bool, true, false, not, ◌&&◌, ◌||◌, cond, List, [], ◌∷◌, map}
+use Rattle.std.proofs.Common.{length, ◌⊎◌, inl, inr, ⊎_elim, refl, sym, ap, ◌∙◌, subst, true≢false, arith}
 use Rattle.std.specs.Prelude.{◌==◌, filter, count_by, nat_le}
 use Rattle.std.specs.List.{list_any}
 use Rattle.std.proofs.lemmas.Bool.{and_parts, eqb-true, eq-eqb, leb-true}
@@ -12,7 +13,8 @@ use Rattle.gate_types.specs.declared.deliveries.Ending.{Ending}
 use Rattle.gate_types.specs.Names.{same_name}
 use Rattle.gate_types.specs.State.{State}
 use Rattle.gate_types.specs.Line.{Place, same_entries, line, ran_on}
-use Rattle.gate_types.specs.Slot.{is_blocked, is_success, is_failure, is_lost, is_running, counts, outcomes_of, raw_slot_of, slot_of_outcomes, is_failed_slot}
+use Rattle.gate_types.specs.Slot.{is_blocked, is_success, is_failure, is_lost, is_running, counts, outcomes_of}
+use Rattle.gate_types.specs.Slot.{raw_slot_of, slot_of_outcomes, is_failed_slot}
 use Rattle.gate_types.specs.Standing.{is_failing}
 use Rattle.gate_types.specs.Rebase.{with_live}
 use Rattle.gate_types.specs.Sweep.{without_runs}

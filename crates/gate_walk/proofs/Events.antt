@@ -1,5 +1,6 @@
 -- A whole queue, one item of which was touched or taken out.
-use Rattle.std.proofs.Common.{◌≡◌, ℕ, Bool, true, false, not, ◌&&◌, ◌||◌, cond, Option, Some, None, is_some, List, [], ◌∷◌, ◌++◌, map, refl, sym, ap, ◌∙◌, subst, true≢false}
+use Rattle.std.proofs.Common.{◌≡◌, ℕ, Bool, true, false, not, ◌&&◌, ◌||◌, cond, Option, Some, None, is_some, List, []}
+use Rattle.std.proofs.Common.{◌∷◌, ◌++◌, map, refl, sym, ap, ◌∙◌, subst, true≢false}
 use Rattle.std.specs.Prelude.{◌==◌}
 use Rattle.std.proofs.lemmas.Bool.{eqb-true, eq-eqb}
 use Rattle.std.proofs.lemmas.List.Folds.{list_any-append}
@@ -17,8 +18,11 @@ use Rattle.gate_types.specs.Rows.{row_of}
 use Rattle.gate_queue.specs.Edits.{next_reports, window_behind}
 use Rattle.gate_walk.specs.Walk.{Seen, Carry, is_fine, is_gone, fails, verdict_by, visit_edits, carried, walk_from}
 use Rattle.gate_walk.proofs.Slots.{all_count, outcomes_live}
-use Rattle.gate_walk.proofs.Steps.{seen, Known, Sees, known_skipped, blocked_seen, met_seen, fails_seen, verdict_seen, other_in, moved}
-use Rattle.gate_walk.proofs.Resets.{Right, asked, rows_seen, last_serial, first_last, none_parts, stop_running, known_next, ahead_next, right_visit, Quiet, visits, same, NotLanded, reset, none_stop}
+use Rattle.gate_walk.proofs.Steps.{seen, Known, Sees, known_skipped, blocked_seen, met_seen, fails_seen, verdict_seen}
+use Rattle.gate_walk.proofs.Steps.{other_in, moved}
+use Rattle.gate_walk.proofs.Resets.{Right, asked, rows_seen, last_serial, first_last, none_parts, stop_running}
+use Rattle.gate_walk.proofs.Resets.{known_next, ahead_next, right_visit, Quiet, visits, same, NotLanded, reset}
+use Rattle.gate_walk.proofs.Resets.{none_stop}
 use Rattle.gate_walk.proofs.Needs.{Followed, followed_gone, needing, follow}
 use Rattle.gate_walk.proofs.Passes.{cast, followed_next, landed_place, Behind, Without, passing, pass}
 use Rattle.gate_walk.proofs.Folded.{told, asked_told}

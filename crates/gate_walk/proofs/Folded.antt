@@ -1,5 +1,7 @@
 -- The edits of the rows that a walk asked for, folded over the stored rows, settle the queue.
-use Rattle.std.proofs.Common.{◌||◌, ◌≡◌, ℕ, suc, ◌≤◌, Bool, true, false, cond, Option, Some, None, is_some, List, [], ◌∷◌, ◌++◌, map, fold, length, refl, sym, ap, ◌∙◌, true≢false, arith, append-nil, append_assoc}
+use Rattle.std.proofs.Common.{◌||◌, ◌≡◌, ℕ, suc, ◌≤◌, Bool, true, false, cond, Option, Some, None, is_some, List, []}
+use Rattle.std.proofs.Common.{◌∷◌, ◌++◌, map, fold, length, refl, sym, ap, ◌∙◌, true≢false, arith, append-nil}
+use Rattle.std.proofs.Common.{append_assoc}
 use Rattle.std.specs.Prelude.{filter, nat_eq, ◌==◌, ◌&&◌}
 use Rattle.std.specs.Bool.{beq}
 use Rattle.std.specs.Cmp.{booleans_Decides}
@@ -20,12 +22,16 @@ use Rattle.gate_types.specs.Standing.{places_after}
 use Rattle.gate_types.specs.Slot.{is_cut}
 use Rattle.gate_types.specs.Sweep.{judge, judged_after, next_staying, next_window, verdict_of, goes}
 use Rattle.gate_types.specs.Window.{Bounds}
-use Rattle.gate_types.specs.Rows.{numbered, row_of, fold_edits, edited_items, edited_builds, edited_reports, edited_window}
+use Rattle.gate_types.specs.Rows.{numbered, row_of, fold_edits, edited_items, edited_builds, edited_reports}
+use Rattle.gate_types.specs.Rows.{edited_window}
 use Rattle.gate_queue.specs.Edits.{stops, stop_edits, item_edits, edits_at, next_reports, window_behind}
 use Rattle.gate_queue.specs.Settled.{verdicts, settled_rows}
-use Rattle.gate_walk.specs.Walk.{Seen, Carry, asks_for, carried, is_same_row, row_edits, visit_edits, walk_edits, window_edits_by}
-use Rattle.gate_queue.proofs.Ordered.{RiseFrom, AllBelow, GoWith, Tells, row_serial, build_number, places_rise, ahead_rise, ahead_with}
-use Rattle.gate_queue.proofs.Folds.{fold_parts, edits_along, stops_leave, window_own, window_same, reports_fold, items_own, below_kept, below_more, kept, kept_cons}
+use Rattle.gate_walk.specs.Walk.{Seen, Carry, asks_for, carried, is_same_row, row_edits, visit_edits, walk_edits}
+use Rattle.gate_walk.specs.Walk.{window_edits_by}
+use Rattle.gate_queue.proofs.Ordered.{RiseFrom, AllBelow, GoWith, Tells, row_serial, build_number, places_rise}
+use Rattle.gate_queue.proofs.Ordered.{ahead_rise, ahead_with}
+use Rattle.gate_queue.proofs.Folds.{fold_parts, edits_along, stops_leave, window_own, window_same, reports_fold}
+use Rattle.gate_queue.proofs.Folds.{items_own, below_kept, below_more, kept, kept_cons}
 use Rattle.gate_laws.proofs.Stays.{stayers}
 use Rattle.gate_laws.proofs.Touches.{name_itself}
 use Rattle.gate_queue.proofs.Builds.{builds_fold}

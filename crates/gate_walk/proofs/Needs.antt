@@ -1,5 +1,6 @@
 -- The part of a walk where only needs are followed: no line has changed, and some changes have gone.
-use Rattle.std.proofs.Common.{◌≡◌, ℕ, Bool, true, false, not, ◌&&◌, ◌||◌, cond, Option, Some, None, is_some, List, [], ◌∷◌, ◌++◌, map, refl, sym, ap, ◌∙◌, subst, true≢false}
+use Rattle.std.proofs.Common.{◌≡◌, ℕ, Bool, true, false, not, ◌&&◌, ◌||◌, cond, Option, Some, None, is_some, List, []}
+use Rattle.std.proofs.Common.{◌∷◌, ◌++◌, map, refl, sym, ap, ◌∙◌, subst, true≢false}
 use Rattle.std.specs.Prelude.{filter, ◌==◌}
 use Rattle.std.specs.List.{list_any, list_all}
 use Rattle.std.proofs.lemmas.Bool.{and_parts, or_parts, and_left, and_right, eqb-true}
@@ -18,10 +19,13 @@ use Rattle.gate_types.specs.Sweep.{verdict_of, has_failed, judge, next_staying}
 use Rattle.gate_types.specs.Rows.{row_of}
 use Rattle.gate_queue.specs.Edits.{next_reports, window_behind}
 use Rattle.gate_queue.specs.Outcomes.{slot_among}
-use Rattle.gate_walk.specs.Walk.{is_blocked_by, Seen, Mark, Carry, is_gone, needs_gone, still_counting, fails, verdict_by, row_by, row_edits, window_edits_by, visit_edits, carried, cuts, is_over}
+use Rattle.gate_walk.specs.Walk.{is_blocked_by, Seen, Mark, Carry, is_gone, needs_gone, still_counting, fails}
+use Rattle.gate_walk.specs.Walk.{verdict_by, row_by, row_edits, window_edits_by, visit_edits, carried, cuts, is_over}
 use Rattle.gate_walk.proofs.Slots.{live_of}
-use Rattle.gate_walk.proofs.Steps.{is_done, edits_for, seen_need, seen, Known, known_visited, known_skipped, blocked_seen, met_seen, other_one, other_in}
-use Rattle.gate_walk.proofs.Resets.{Right, asked, rows_seen, none_parts, none_from, stop_running, QuietAt, Quiet, visits, same, none_stop}
+use Rattle.gate_walk.proofs.Steps.{is_done, edits_for, seen_need, seen, Known, known_visited, known_skipped}
+use Rattle.gate_walk.proofs.Steps.{blocked_seen, met_seen, other_one, other_in}
+use Rattle.gate_walk.proofs.Resets.{Right, asked, rows_seen, none_parts, none_from, stop_running, QuietAt, Quiet}
+use Rattle.gate_walk.proofs.Resets.{visits, same, none_stop}
 
 -- failing, not blocked, first and finished
 abbrev pub is_out : Carry → Seen → Bool

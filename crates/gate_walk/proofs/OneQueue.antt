@@ -1,5 +1,6 @@
 -- A walk over one queue leaves what settling it leaves: by what became of the touched item.
-use Rattle.std.proofs.Common.{◌≡◌, ℕ, suc, ◌+◌, ◌≤◌, Bool, true, false, not, cond, Option, Some, None, List, [], ◌∷◌, ◌++◌, map, length, refl, sym, ap, ◌∙◌, subst, arith, append_assoc, length-append}
+use Rattle.std.proofs.Common.{◌≡◌, ℕ, suc, ◌+◌, ◌≤◌, Bool, true, false, not, cond, Option, Some, None, List, [], ◌∷◌}
+use Rattle.std.proofs.Common.{◌++◌, map, length, refl, sym, ap, ◌∙◌, subst, arith, append_assoc, length-append}
 use Rattle.gate_types.specs.Window.{Bounds}
 use Rattle.gate_types.specs.declared.records.Build.{Build}
 use Rattle.gate_types.specs.declared.records.Item.{Item as ItemRow}
@@ -20,7 +21,8 @@ use Rattle.gate_walk.proofs.Resets.{Right, asked, rows_seen, last_serial, none_p
 use Rattle.gate_walk.proofs.Needs.{needing}
 use Rattle.gate_walk.proofs.Passes.{landed_place, Behind, passing, cast}
 use Rattle.gate_walk.proofs.Folded.{told, walk_settles}
-use Rattle.gate_walk.proofs.Events.{forced, forced_told, all_before, ahead_after, nones, quiet_split, front_right, known_front, known_start, TouchedAt, seen_as, touched, taken_out, landed_out}
+use Rattle.gate_walk.proofs.Events.{forced, forced_told, all_before, ahead_after, nones, quiet_split, front_right}
+use Rattle.gate_walk.proofs.Events.{known_front, known_start, TouchedAt, seen_as, touched, taken_out, landed_out}
 use Rattle.gate_walk.proofs.SoFar.{right_first, carried_on, asked_more, told_so_far}
 use Rattle.gate_walk.proofs.Front.{Front, front_kept}
 use Rattle.gate_walk.proofs.Moved.{Elsewhere, Others, still_quiet, visits_rows}

@@ -1,5 +1,7 @@
 -- The part of a walk behind a landing: no line changes, and items up to the next non-failing one may be first now.
-use Rattle.std.proofs.Common.{◌≡◌, ℕ, suc, Bool, true, false, not, ◌&&◌, ◌||◌, cond, Option, Some, None, is_some, List, [], ◌∷◌, ◌++◌, map, length, refl, sym, ap, ◌∙◌, subst, true≢false, arith, append_assoc}
+use Rattle.std.proofs.Common.{◌≡◌, ℕ, suc, Bool, true, false, not, ◌&&◌, ◌||◌, cond, Option, Some, None, is_some}
+use Rattle.std.proofs.Common.{List, [], ◌∷◌, ◌++◌, map, length, refl, sym, ap, ◌∙◌, subst, true≢false, arith}
+use Rattle.std.proofs.Common.{append_assoc}
 use Rattle.std.specs.Prelude.{filter, ◌==◌, ◌-◌, nat_lt, nat_le, slice_get, option_map}
 use Rattle.std.specs.List.{list_any, list_all}
 use Rattle.std.proofs.lemmas.Bool.{and_parts, or_parts, and_from, eqb-true, eq-eqb, ne_eqb, leb-true}
@@ -14,14 +16,16 @@ use Rattle.gate_types.specs.declared.records.Need.{Need}
 use Rattle.gate_types.specs.declared.records.Verdict.{Verdict}
 use Rattle.gate_types.specs.Names.{same_name}
 use Rattle.gate_types.specs.State.{Item, has_change}
-use Rattle.gate_types.specs.Line.{Place, same_entries, line, ran_on, landings_below, landed_entry, item_entry, built_entry}
+use Rattle.gate_types.specs.Line.{Place, same_entries, line, ran_on, landings_below, landed_entry, item_entry}
+use Rattle.gate_types.specs.Line.{built_entry}
 use Rattle.gate_types.specs.Slot.{is_blocked, is_cut, are_met_by, counts, outcomes_of, slot_of_outcomes, is_failed_slot}
 use Rattle.gate_types.specs.Standing.{is_failing, are_finished, with_ahead, next_ahead, places_after}
 use Rattle.gate_types.specs.Sweep.{verdict_of, judge, next_staying}
 use Rattle.gate_walk.specs.Walk.{Mark, Carry, is_gone, fails, carried}
 use Rattle.gate_walk.proofs.Slots.{is_live_of, all_count, outcomes_live}
 use Rattle.gate_walk.proofs.Steps.{seen, Known, Sees, blocked_seen, met_seen, fails_seen, verdict_seen}
-use Rattle.gate_walk.proofs.Resets.{Right, asked, rows_seen, last_serial, none_parts, none_from, stop_running, known_next, right_visit, QuietAt, Quiet, visits, same}
+use Rattle.gate_walk.proofs.Resets.{Right, asked, rows_seen, last_serial, none_parts, none_from, stop_running}
+use Rattle.gate_walk.proofs.Resets.{known_next, right_visit, QuietAt, Quiet, visits, same}
 use Rattle.gate_walk.proofs.Needs.{Followed, followed_gone, followed_kept, needing, follow}
 use Rattle.gate_laws.proofs.Stays.{goes_failing}
 

@@ -1,5 +1,7 @@
 -- The parts of a walk: where lines have changed, where only needs are followed.
-use Rattle.std.proofs.Common.{◌≡◌, ℕ, ◌+◌, Bool, true, false, not, ◌&&◌, ◌||◌, cond, Option, Some, None, is_some, List, [], ◌∷◌, ◌++◌, map, length, refl, sym, ap, ◌∙◌, subst, true≢false, arith, length-append}
+use Rattle.std.proofs.Common.{◌≡◌, ℕ, ◌+◌, Bool, true, false, not, ◌&&◌, ◌||◌, cond, Option, Some, None, is_some}
+use Rattle.std.proofs.Common.{List, [], ◌∷◌, ◌++◌, map, length, refl, sym, ap, ◌∙◌, subst, true≢false, arith}
+use Rattle.std.proofs.Common.{length-append}
 use Rattle.std.specs.Prelude.{filter, ◌==◌, ◌-◌, slice_get, option_map}
 use Rattle.std.specs.List.{list_any, list_all}
 use Rattle.std.proofs.lemmas.Bool.{and_parts, eqb-true, ne_eqb}
@@ -20,8 +22,10 @@ use Rattle.gate_types.specs.Sweep.{verdict_of, has_failed, judge, next_staying}
 use Rattle.gate_types.specs.Rows.{row_of}
 use Rattle.gate_queue.specs.Edits.{stops, next_reports, window_behind}
 use Rattle.gate_walk.specs.Walk.{Seen, Mark, Carry, fails, verdict_by, window_edits_by, visit_edits, carried, asks_for}
-use Rattle.gate_walk.proofs.Slots.{is_live_of, live_of, all_count, all_ended, EndedIfCut, Lost, counts_no_more, none_counts}
-use Rattle.gate_walk.proofs.Steps.{seen, Known, Sees, known_visited, blocked_seen, met_seen, fails_seen, verdict_seen, edits_for, edits_seen}
+use Rattle.gate_walk.proofs.Slots.{is_live_of, live_of, all_count, all_ended, EndedIfCut, Lost, counts_no_more}
+use Rattle.gate_walk.proofs.Slots.{none_counts}
+use Rattle.gate_walk.proofs.Steps.{seen, Known, Sees, known_visited, blocked_seen, met_seen, fails_seen, verdict_seen}
+use Rattle.gate_walk.proofs.Steps.{edits_for, edits_seen}
 
 -- ---- what a walk has to give, row by row
 

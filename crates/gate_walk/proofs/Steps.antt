@@ -1,5 +1,6 @@
 -- What a visit makes of a row is what a look at the whole queue makes of its item.
-use Rattle.std.proofs.Common.{◌≡◌, ℕ, Bool, true, false, not, ◌&&◌, ◌||◌, cond, Option, Some, None, is_some, List, [], ◌∷◌, ◌++◌, map, length, refl, sym, ap, ◌∙◌, true≢false}
+use Rattle.std.proofs.Common.{◌≡◌, ℕ, Bool, true, false, not, ◌&&◌, ◌||◌, cond, Option, Some, None, is_some, List, []}
+use Rattle.std.proofs.Common.{◌∷◌, ◌++◌, map, length, refl, sym, ap, ◌∙◌, true≢false}
 use Rattle.std.specs.Prelude.{filter, ◌==◌}
 use Rattle.std.specs.List.{list_any, list_all}
 use Rattle.std.proofs.lemmas.Bool.{and_parts, or_parts, eqb-true}
@@ -13,14 +14,17 @@ use Rattle.gate_types.specs.declared.edits.Edit.{Edit}
 use Rattle.gate_types.specs.declared.edits.Edit.TheVariants as edit
 use Rattle.gate_types.specs.State.{Item, has_change}
 use Rattle.gate_types.specs.Line.{Place}
-use Rattle.gate_types.specs.Slot.{is_blocked, are_met_by, outcomes_of, slot_of_outcomes, is_failed_slot, is_finished, is_running, is_cut}
+use Rattle.gate_types.specs.Slot.{is_blocked, are_met_by, outcomes_of, slot_of_outcomes, is_failed_slot, is_finished}
+use Rattle.gate_types.specs.Slot.{is_running, is_cut}
 use Rattle.gate_types.specs.Standing.{is_failing, are_finished, ahead_of}
 use Rattle.gate_types.specs.Sweep.{verdict_of}
 use Rattle.gate_types.specs.Rows.{row_of}
 use Rattle.gate_queue.specs.Edits.{stops, stop_edits}
 use Rattle.gate_queue.specs.Outcomes.{outcomes_among}
 use Rattle.gate_queue.proofs.Builds.{or_false}
-use Rattle.gate_walk.specs.Walk.{SeenNeed, Seen, Mark, Carry, mark_of, is_fine, is_gone, is_blocked_by, are_met_without, still_counting, fails, cuts, is_done_by, verdict_by, row_by, row_edits, stopped_by}
+use Rattle.gate_walk.specs.Walk.{SeenNeed, Seen, Mark, Carry, mark_of, is_fine, is_gone, is_blocked_by}
+use Rattle.gate_walk.specs.Walk.{are_met_without, still_counting, fails, cuts, is_done_by, verdict_by, row_by}
+use Rattle.gate_walk.specs.Walk.{row_edits, stopped_by}
 use Rattle.gate_laws.proofs.Cuts.{finished_is}
 use Rattle.gate_walk.proofs.Slots.{live_of}
 

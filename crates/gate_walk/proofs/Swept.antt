@@ -1,5 +1,6 @@
 -- What settling leaves of a touched queue, within the whole state.
-use Rattle.std.proofs.Common.{◌≡◌, ℕ, Bool, true, false, not, ◌&&◌, cond, is_some, List, [], ◌∷◌, map, inl, inr, refl, sym, ap, ◌∙◌, subst, true≢false, append-nil}
+use Rattle.std.proofs.Common.{◌≡◌, ℕ, Bool, true, false, not, ◌&&◌, cond, is_some, List, [], ◌∷◌, map, inl, inr, refl}
+use Rattle.std.proofs.Common.{sym, ap, ◌∙◌, subst, true≢false, append-nil}
 use Rattle.std.specs.Prelude.{filter, flat_map}
 use Rattle.std.specs.List.{list_any}
 use Rattle.std.specs.List.Sorted.{IsStrictlyIncreasing}
@@ -13,7 +14,8 @@ use Rattle.gate_types.specs.State.{Item, Queue, State}
 use Rattle.gate_types.specs.Standing.{with_ahead, next_ahead, places_after, place_of, places}
 use Rattle.gate_types.specs.Rebase.{rebase, with_live, stays_live}
 use Rattle.gate_types.specs.Window.{bounds_of}
-use Rattle.gate_types.specs.Sweep.{Judged, verdict_of, judge, judged, judged_after, next_staying, goes, without_runs, without_plans, swept_queue, sweep}
+use Rattle.gate_types.specs.Sweep.{Judged, verdict_of, judge, judged, judged_after, next_staying, goes, without_runs}
+use Rattle.gate_types.specs.Sweep.{without_plans, swept_queue, sweep}
 use Rattle.gate_types.specs.Rows.{rows_of}
 use Rattle.gate_types.proofs.NameLemmas.{same_name_is}
 use Rattle.gate_laws.specs.Touch.{queues_named, rebase_one, settle_one}

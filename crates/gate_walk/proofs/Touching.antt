@@ -1,5 +1,7 @@
 -- The walk leaves what settling leaves, in a sound state that was at rest before the delivery.
-use Rattle.std.proofs.Common.{◌≡◌, ℕ, suc, ◌<◌, ◌≤◌, Bool, true, false, not, ◌||◌, cond, Option, Some, None, is_some, List, [], ◌∷◌, ◌++◌, map, length, inl, inr, refl, sym, ap, ◌∙◌, subst, true≢false, arith, append-nil}
+use Rattle.std.proofs.Common.{◌≡◌, ℕ, suc, ◌<◌, ◌≤◌, Bool, true, false, not, ◌||◌, cond, Option, Some, None, is_some}
+use Rattle.std.proofs.Common.{List, [], ◌∷◌, ◌++◌, map, length, inl, inr, refl, sym, ap, ◌∙◌, subst, true≢false}
+use Rattle.std.proofs.Common.{arith, append-nil}
 use Rattle.std.specs.Prelude.{◌==◌, nat_le, Contains}
 use Rattle.std.specs.List.{AllPass}
 use Rattle.std.proofs.lemmas.Bool.{eq-eqb, lt-ltb, le-ltb, eqb-true}
@@ -18,7 +20,9 @@ use Rattle.gate_types.specs.Rows.{row_of}
 use Rattle.gate_types.specs.Step.{end_build}
 use Rattle.gate_types.specs.Lawful.{IsSound, is_single}
 use Rattle.gate_walk.specs.Walk.{Seen, Carry}
-use Rattle.gate_walk.specs.Rescan.{settled_to, Walks, IsCalm, standing_in, row_seen, TakenOut, start, stored, without_row, rows_from, ahead_at, fails_at, WalkAfterBuild, WalkAfterLeaving, WalkAfterLanding}
+use Rattle.gate_walk.specs.Rescan.{settled_to, Walks, IsCalm, standing_in, row_seen, TakenOut, start, stored}
+use Rattle.gate_walk.specs.Rescan.{without_row, rows_from, ahead_at, fails_at, WalkAfterBuild, WalkAfterLeaving}
+use Rattle.gate_walk.specs.Rescan.{WalkAfterLanding}
 use Rattle.gate_laws.proofs.Members.{In, every, all, to_right, to_left, to_flat}
 use Rattle.std.proofs.lemmas.List.Elements.{All-contains}
 use Rattle.gate_laws.proofs.Rising.{increasing}
@@ -30,10 +34,14 @@ use Rattle.gate_walk.proofs.Passes.{cast, landed_place, Behind}
 use Rattle.gate_walk.proofs.Events.{all_before, ahead_after, quiet_split}
 use Rattle.gate_walk.proofs.Front.{Front}
 use Rattle.gate_walk.proofs.Moved.{Elsewhere, Others, still_quiet}
-use Rattle.gate_walk.proofs.OneQueue.{rows_split, Walked, walked_settles, walked_so_far, Stands, walk_standing, Left, carry_left, walk_left, Lands, walk_landed}
-use Rattle.gate_walk.proofs.Calm.{quiet_queue, places_rise_from, items_rise_from, lower_front, higher_behind, others_behind, rise_without, never_landed, not_landed_places, began_there, began_all}
+use Rattle.gate_walk.proofs.OneQueue.{rows_split, Walked, walked_settles, walked_so_far, Stands, walk_standing, Left}
+use Rattle.gate_walk.proofs.OneQueue.{carry_left, walk_left, Lands, walk_landed}
+use Rattle.gate_walk.proofs.Calm.{quiet_queue, places_rise_from, items_rise_from, lower_front, higher_behind}
+use Rattle.gate_walk.proofs.Calm.{others_behind, rise_without, never_landed, not_landed_places, began_there}
+use Rattle.gate_walk.proofs.Calm.{began_all}
 use Rattle.gate_walk.proofs.StoredRows.{says_through, restand, none_in, low_place, parted, AreNow, rows_are_seen}
-use Rattle.gate_walk.proofs.EndedBuilds.{stops_elsewhere, stops_rise, ended_elsewhere, ended_rise, ended_count, ended_fails}
+use Rattle.gate_walk.proofs.EndedBuilds.{stops_elsewhere, stops_rise, ended_elsewhere, ended_rise, ended_count}
+use Rattle.gate_walk.proofs.EndedBuilds.{ended_fails}
 
 -- ---- the touched item in its queue
 

@@ -1,5 +1,7 @@
 -- A walk under way: before each visit the queue is settled below the row that is wanted, and at the stop all of it.
-use Rattle.std.proofs.Common.{◌≡◌, ℕ, suc, ◌+◌, ◌<◌, ◌≤◌, Bool, true, false, ◌&&◌, cond, Option, Some, None, List, [], ◌∷◌, ◌++◌, map, length, inl, inr, refl, sym, ap, ◌∙◌, subst, arith, append-nil, append_assoc, true≢false}
+use Rattle.std.proofs.Common.{◌≡◌, ℕ, suc, ◌+◌, ◌<◌, ◌≤◌, Bool, true, false, ◌&&◌, cond, Option, Some, None, List, []}
+use Rattle.std.proofs.Common.{◌∷◌, ◌++◌, map, length, inl, inr, refl, sym, ap, ◌∙◌, subst, arith, append-nil}
+use Rattle.std.proofs.Common.{append_assoc, true≢false}
 use Rattle.std.specs.Prelude.{◌==◌, nat_lt, nat_le, filter, find, option_map, Result, Ok, Err, OnOk, IfOk}
 use Rattle.std.proofs.lemmas.Bool.{and_parts, ltb-true, lt-ltb, leb-true, le-leb}
 use Rattle.gate_types.specs.Window.{bounds_by, Bounds}
@@ -7,7 +9,8 @@ use Rattle.gate_types.specs.declared.records.Item.{Item as ItemRow}
 use Rattle.gate_types.specs.declared.edits.Edit.{Edit}
 use Rattle.gate_types.specs.Standing.{places_after}
 use Rattle.gate_types.specs.Rows.{fold_edits}
-use Rattle.gate_walk.specs.Walk.{Seen, Carry, Walk, behind_visit, fails, verdict_by, visit_edits, carried, asks_for, walk_edits, walk_from}
+use Rattle.gate_walk.specs.Walk.{Seen, Carry, Walk, behind_visit, fails, verdict_by, visit_edits, carried, asks_for}
+use Rattle.gate_walk.specs.Walk.{walk_edits, walk_from}
 use Rattle.gate_walk.specs.Next.{need, stop, next_of, wanted}
 use Rattle.gate_walk.specs.Rescan.{start, stored, ahead_at, row_seen, rows_from, settled_to}
 use Rattle.gate_walk.specs.Delivery.{IsWalked, build_ended, touch_of, begins}
@@ -16,13 +19,19 @@ use Rattle.gate_walk.specs.declared.walk.Touched.{Touched}
 use Rattle.gate_walk.specs.TakenOut.{out_of}
 use Rattle.gate_walk.specs.declared.walk.Next.{Next as CodeNext}
 use Rattle.gate_walk.specs.Views.{next_of_code}
-use Rattle.gate_walk.specs.UnderWay.{Delivered, queue_after, bounds_after, stale_rows, tables, places_of, tables_settled, tables_settled_below, begun, rows_seen, walk_by, next_by, row_wanted, AreWanted, HasVisited, IsBehind, rows_walked, IsFor, Starts, GoesOn, Ends, Visits}
+use Rattle.gate_walk.specs.UnderWay.{Delivered, queue_after, bounds_after, stale_rows, tables, places_of}
+use Rattle.gate_walk.specs.UnderWay.{tables_settled, tables_settled_below, begun, rows_seen, walk_by, next_by}
+use Rattle.gate_walk.specs.UnderWay.{row_wanted, AreWanted, HasVisited, IsBehind, rows_walked, IsFor, Starts, GoesOn}
+use Rattle.gate_walk.specs.UnderWay.{Ends, Visits}
 use Rattle.gate_laws.proofs.Members.{found}
 use Rattle.gate_laws.proofs.LiveBuildsCount.{place_serial}
 use Rattle.gate_queue.proofs.Ordered.{RiseFrom, row_serial, rises}
-use Rattle.gate_walk.proofs.Parting.{none_under, all_onward, under, onward, cut, under_at, under_behind, rise_at, low_at, onward_onward, onward_many, found_first, none_found, find_in, AllFail, all_fail, parts_at}
+use Rattle.gate_walk.proofs.Parting.{none_under, all_onward, under, onward, cut, under_at, under_behind, rise_at}
+use Rattle.gate_walk.proofs.Parting.{low_at, onward_onward, onward_many, found_first, none_found, find_in, AllFail}
+use Rattle.gate_walk.proofs.Parting.{all_fail, parts_at}
 use Rattle.gate_walk.proofs.SoFar.{carried_on}
-use Rattle.gate_walk.proofs.NextRows.{walk_stops, seen_serial, test_of, wanted_is, find_past, passed, below_push, below_up}
+use Rattle.gate_walk.proofs.NextRows.{walk_stops, seen_serial, test_of, wanted_is, find_past, passed, below_push}
+use Rattle.gate_walk.proofs.NextRows.{below_up}
 use Rattle.gate_walk.proofs.Deliveries.{touched_queue_is_walked}
 
 -- ---- the walk of a delivery

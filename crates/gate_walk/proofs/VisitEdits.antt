@@ -3,7 +3,8 @@ use Rattle.std.proofs.Common.{◌≡◌, ℕ, Bool, ◌||◌, Option, is_some, L
 use Rattle.gate_types.specs.Window.{Bounds}
 use Rattle.gate_types.specs.declared.records.Item.{Item as ItemRow}
 use Rattle.gate_types.specs.declared.records.Verdict.{Verdict}
-use Rattle.gate_walk.specs.Walk.{Seen, Carry, fails, cuts, verdict_by, stops_of, row_edits, window_edits_by, visit_edits}
+use Rattle.gate_walk.specs.Walk.{Seen, Carry, fails, cuts, verdict_by, stops_of, row_edits, window_edits_by}
+use Rattle.gate_walk.specs.Walk.{visit_edits}
 
 -- the row with this mark
 abbrev row_with : Carry → Seen → Bool → ItemRow

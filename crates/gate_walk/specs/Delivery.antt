@@ -1,6 +1,7 @@
 -- What a walk does after a delivery: it leaves of the touched queue what a rebase and then a sweep of the whole state
 -- leave.
-use Rattle.std.specs.Prelude.{ℕ, Bool, true, false, ◌+◌, ◌==◌, ◌≡◌, List, [], ◌∷◌, ◌++◌, map, length, Option, Some, None, find, nat_le, Contains, ◌⊎◌}
+use Rattle.std.specs.Prelude.{ℕ, Bool, true, false, ◌+◌, ◌==◌, ◌≡◌, List, [], ◌∷◌, ◌++◌, map, length, Option, Some}
+use Rattle.std.specs.Prelude.{None, find, nat_le, Contains, ◌⊎◌}
 use Rattle.std.specs.Option.{option_map_or}
 use Rattle.gate_types.specs.declared.records.Item.{Item as ItemRow}
 use Rattle.gate_types.specs.declared.records.Verdict.TheVariants as verdict
@@ -23,7 +24,8 @@ use Rattle.gate_types.specs.declared.edits.Edit.{Edit}
 use Rattle.gate_queue.specs.Settled.{swept_of, rows_in}
 use Rattle.gate_walk.specs.Walk.{Seen, Carry, visit_edits, carried, walk_from}
 use Rattle.gate_walk.specs.Next.{next_of, visits_from}
-use Rattle.gate_walk.specs.Rescan.{TakenOut, Walks, start, stored, without_row, rows_from, rows_with, row_seen, ahead_at, fails_at}
+use Rattle.gate_walk.specs.Rescan.{TakenOut, Walks, start, stored, without_row, rows_from, rows_with, row_seen}
+use Rattle.gate_walk.specs.Rescan.{ahead_at, fails_at}
 
 -- ---- a queue after a delivery
 

@@ -1,9 +1,11 @@
 -- The row that a walk wants next, and where it stops.
-use Rattle.std.specs.Prelude.{ℕ, false, ◌&&◌, ◌||◌, ◌==◌, nat_lt, ◌≡◌, if◌then◌else◌, suc, zero, List, [], ◌∷◌, ◌++◌, length, Option, Some, None, find, map, filter, nat_le}
+use Rattle.std.specs.Prelude.{ℕ, false, ◌&&◌, ◌||◌, ◌==◌, nat_lt, ◌≡◌, if◌then◌else◌, suc, zero, List, [], ◌∷◌, ◌++◌}
+use Rattle.std.specs.Prelude.{length, Option, Some, None, find, map, filter, nat_le}
 use Rattle.std.specs.List.Sorted.{IsStrictlyIncreasing}
 use Rattle.gate_types.specs.Window.{Bounds}
 use Rattle.gate_types.specs.declared.edits.Edit.{Edit}
-use Rattle.gate_walk.specs.Walk.{Seen, Carry, needs_gone, fails, verdict_by, visit_edits, carried, walk_edits, walk_from}
+use Rattle.gate_walk.specs.Walk.{Seen, Carry, needs_gone, fails, verdict_by, visit_edits, carried, walk_edits}
+use Rattle.gate_walk.specs.Walk.{walk_from}
 use Rattle.gate_types.specs.declared.records.Item.{Item as ItemRow}
 use Rattle.gate_types.specs.Settings.{Settings}
 use Rattle.gate_types.specs.State.{State}

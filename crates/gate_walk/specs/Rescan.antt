@@ -1,5 +1,7 @@
 -- A walk leaves what settling leaves: of the queue of an item whose build was told of, or that was taken out.
-use Rattle.std.specs.Prelude.{ℕ, Bool, true, false, ◌&&◌, ◌||◌, not, ◌==◌, nat_le, ◌≡◌, if◌then◌else◌, List, [], ◌∷◌, ◌++◌, map, filter, length, Option, Some, None, option_map, option_and_then, find, is_some, All, Contains, fold, filter_map}
+use Rattle.std.specs.Prelude.{ℕ, Bool, true, false, ◌&&◌, ◌||◌, not, ◌==◌, nat_le, ◌≡◌, if◌then◌else◌, List, [], ◌∷◌}
+use Rattle.std.specs.Prelude.{◌++◌, map, filter, length, Option, Some, None, option_map, option_and_then, find}
+use Rattle.std.specs.Prelude.{is_some, All, Contains, fold, filter_map}
 use Rattle.std.specs.Option.{option_map_or}
 use Rattle.std.specs.List.{AllPass, list_all}
 use Rattle.std.specs.List.Sorted.{IsStrictlyIncreasing}

@@ -1,5 +1,6 @@
 -- A walk under way after a delivery: what it has done before a visit, and at its stop.
-use Rattle.std.specs.Prelude.{length, ℕ, ◌<◌, ◌≤◌, ◌==◌, if◌then◌else◌, false, true, ◌+◌, nat_lt, nat_le, ◌≡◌, List, [], ◌∷◌, ◌++◌, map, filter, Option, Some, None, option_map}
+use Rattle.std.specs.Prelude.{length, ℕ, ◌<◌, ◌≤◌, ◌==◌, if◌then◌else◌, false, true, ◌+◌, nat_lt, nat_le, ◌≡◌, List}
+use Rattle.std.specs.Prelude.{[], ◌∷◌, ◌++◌, map, filter, Option, Some, None, option_map}
 use Rattle.gate_types.specs.declared.records.Item.{Item as ItemRow}
 use Rattle.gate_types.specs.declared.deliveries.Delivery.{Delivery}
 use Rattle.gate_types.specs.declared.deliveries.Reply.{Reply}

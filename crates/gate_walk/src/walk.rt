@@ -1,5 +1,6 @@
 //! The walk over the rows behind a touched item.
-ghost use Rattle.std.specs.Prelude.{◌≡◌, ◌≤◌, ◌+◌, ◌++◌, List, [], ◌∷◌, vec_len, Option, OnOk, OnErr, IfOk, if◌then◌else◌, option_map};
+ghost use Rattle.std.specs.Prelude.{◌≡◌, ◌≤◌, ◌+◌, ◌++◌, List, [], ◌∷◌, vec_len, Option, OnOk, OnErr, IfOk};
+ghost use Rattle.std.specs.Prelude.{if◌then◌else◌, option_map};
 ghost use Rattle.std.specs.Option.{option_map_or};
 ghost use Rattle.gate_types.specs.Window.{bounds_by};
 ghost use Rattle.gate_walk.specs.Walk as rules;

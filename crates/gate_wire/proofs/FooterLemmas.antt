@@ -1,5 +1,7 @@
 -- What reading footers rests on.
-use Rattle.std.proofs.Common.{◌≡◌, ℕ, ◌<◌, ◌≤◌, ◌+◌, Bool, true, false, cond, nat_eq, List, [], ◌∷◌, ◌++◌, map, length, take, drop, get_or, fold, arith, refl, sym, ap, ◌∙◌, subst, length-append, take-append-drop, Option, Some, None}
+use Rattle.std.proofs.Common.{◌≡◌, ℕ, ◌<◌, ◌≤◌, ◌+◌, Bool, true, false, cond, nat_eq, List, [], ◌∷◌, ◌++◌, map}
+use Rattle.std.proofs.Common.{length, take, drop, get_or, fold, arith, refl, sym, ap, ◌∙◌, subst, length-append}
+use Rattle.std.proofs.Common.{take-append-drop, Option, Some, None}
 use Rattle.std.specs.Prelude.{codes, ◌==◌, filter_map}
 use Rattle.std.specs.List.{starts_with, list_any, cons_option, slice_split}
 use Rattle.std.specs.Str.{str_to_ascii_lowercase}

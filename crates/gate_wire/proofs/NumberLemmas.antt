@@ -1,5 +1,6 @@
 -- The number that a few digits write.
-use Rattle.std.proofs.Common.{◌≡◌, ℕ, ◌<◌, ◌≤◌, ◌-◌, ◌*◌, ◌+◌, ◌↔◌, true, List, length, take, get_or, Option, Some, None, IsSome, IfSome, arith, rules, lit≤, ap}
+use Rattle.std.proofs.Common.{◌≡◌, ℕ, ◌<◌, ◌≤◌, ◌-◌, ◌*◌, ◌+◌, ◌↔◌, true, List, length, take, get_or, Option, Some}
+use Rattle.std.proofs.Common.{None, IsSome, IfSome, arith, rules, lit≤, ap}
 use Rattle.std.specs.Prelude.{nat_lt, slice_index}
 use Rattle.std.specs.List.{list_all}
 use Rattle.std.specs.Char.{is_ascii_digit}

@@ -1,5 +1,6 @@
 -- The delivery that bytes say at a door.
-use Rattle.std.specs.Prelude.{◌≡◌, ◌≢◌, ℕ, Bool, ◌&&◌, nat_le, List, codes, if◌then◌else◌, Option, Some, None, option_and_then, Result, Ok, Err, MatchResult}
+use Rattle.std.specs.Prelude.{◌≡◌, ◌≢◌, ℕ, Bool, ◌&&◌, nat_le, List, codes, if◌then◌else◌, Option, Some, None}
+use Rattle.std.specs.Prelude.{option_and_then, Result, Ok, Err, MatchResult}
 use Rattle.std.specs.Str.{is_utf8, bytes_eq}
 use Rattle.serde_json.specs.Data.{Data}
 use Rattle.serde_json.specs.Read.{read}

@@ -1,9 +1,11 @@
 //! The changes that a commit message needs: its `Depends-On` footers.
-ghost use Rattle.std.specs.Prelude.{◌≡◌, ◌≤◌, ◌<◌, ◌==◌, ◌⊎◌, ◌||◌, nat_lt, true, length, slice_index, option_map, IfOk, IfErr, OnOk, IsErrOf};
+ghost use Rattle.std.specs.Prelude.{◌≡◌, ◌≤◌, ◌<◌, ◌==◌, ◌⊎◌, ◌||◌, nat_lt, true, length, slice_index, option_map};
+ghost use Rattle.std.specs.Prelude.{IfOk, IfErr, OnOk, IsErrOf};
 ghost use Rattle.std.specs.List.{list_all, list_any};
 ghost use Rattle.std.specs.Char.{is_ascii_digit};
 ghost use Rattle.std.specs.Str.Parse.{digits_value};
-ghost use Rattle.gate_types.specs.Needs.{without_end, without_blanks, after_footer, after_base, number_of, named_change, with_number, needs};
+ghost use Rattle.gate_types.specs.Needs.{without_end, without_blanks, after_footer, after_base, number_of};
+ghost use Rattle.gate_types.specs.Needs.{named_change, with_number, needs};
 ghost use Rattle.gate_types.specs.Limits.{most_needs};
 
 use gate_types::deliveries::Refusal;

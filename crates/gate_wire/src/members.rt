@@ -1,7 +1,9 @@
 //! The members of a delivery, each read from its JSON value.
 ghost use Rattle.std.specs.Prelude.{◌≡◌, string_bytes, Ok};
 ghost use Rattle.serde_json.specs.View.{view};
-ghost use Rattle.gate_wire.specs.Reading.{Gives, or_bad, whole_at, text_at, id_at, kind_at, change_at, revision_at, order_at, build_at, project_at, worker_at, message_at, ending_at, ending_named, text_of_form};
+ghost use Rattle.gate_wire.specs.Reading.{Gives, or_bad, whole_at, text_at, id_at, kind_at, change_at, revision_at};
+ghost use Rattle.gate_wire.specs.Reading.{order_at, build_at, project_at, worker_at, message_at, ending_at};
+ghost use Rattle.gate_wire.specs.Reading.{ending_named, text_of_form};
 ghost use Rattle.gate_types.specs.Names.{is_path_name};
 
 use crate::door::Kind;

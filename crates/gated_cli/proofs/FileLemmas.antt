@@ -20,7 +20,8 @@ use Rattle.gate_rows.specs.Tells.{StandsFor}
 use Rattle.gate_file_changes.specs.Adopts.{IsKept}
 use Rattle.gate_content_reads.specs.Held.{LeavesFor, ShowsFor}
 use Rattle.gated_cli.specs.Doing.{Announces, Delivers, Streams}
-use Rattle.gated_cli.specs.Ending.{AnnouncementIsCut, DeliveryEnds, DeliveryIsCut, DeliveryStops, IsOfFile, IsOfMaking, IsOfServing, ServingEnds}
+use Rattle.gated_cli.specs.Ending.{AnnouncementIsCut, DeliveryEnds, DeliveryIsCut, DeliveryStops, IsOfFile}
+use Rattle.gated_cli.specs.Ending.{IsOfMaking, IsOfServing, ServingEnds}
 use Rattle.gated_cli.specs.Faults.{of_replay}
 use Rattle.gated_cli.specs.OverFile.{GoesOver, IsOfServingOver, OpensTo, StaysLawful, file_fault}
 use Rattle.gated_cli.specs.declared.run.fault.Fault.{Fault}

@@ -8,7 +8,8 @@ use Rattle.clap.specs.declared.parser.matches.ArgMatches.{ArgMatches}
 use Rattle.clap.specs.declared.error.Error.{Error}
 use Rattle.clap.specs.declared.error.kind.ErrorKind.{ErrorKind}
 use Rattle.clap.specs.declared.error.kind.ErrorKind.TheVariants as kind
-use Rattle.gated_command.specs.CommandLine.{gated, asked, said_of, is_help, is_refused, may_be_refused, may_ask_help, IsExplained}
+use Rattle.gated_command.specs.CommandLine.{gated, asked, said_of, is_help, is_refused, may_be_refused, may_ask_help}
+use Rattle.gated_command.specs.CommandLine.{IsExplained}
 
 -- what the matches of words say is what the words ask for
 pub matched_asks : (a : App) (words : List Text) (m : ArgMatches) → a ≡ gated → HasMatchesOf a words m

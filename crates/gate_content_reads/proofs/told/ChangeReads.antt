@@ -1,6 +1,10 @@
 -- What is asked of changes, of the file's rows and of a content: what is known of one, and which are ready.
-use Rattle.std.proofs.Common.{◌≡◌, ◌≢◌, ℕ, ◌≤◌, true, ◌++◌, Option, Some, None, List, [], ◌∷◌, map, refl, sym, ap, ◌∙◌, subst, inl, inr, arith, true≢false, ◌≡◌, ◌≢◌, ℕ, suc, ◌≤◌, true, ◌||◌, ◌++◌, Option, Some, None, List, [], ◌∷◌, map, refl, sym, ap, ◌∙◌, subst, inl, inr, arith, true≢false}
-use Rattle.std.specs.Prelude.{◌==◌, AllPairs, IsPermutation, find, option_and_then, option_map, unwrap_or, ◌==◌, AllPairs, IsPermutation, filter, find, option_map, unwrap_or}
+use Rattle.std.proofs.Common.{◌≡◌, ◌≢◌, ℕ, ◌≤◌, true, ◌++◌, Option, Some, None, List, [], ◌∷◌, map, refl, sym, ap}
+use Rattle.std.proofs.Common.{◌∙◌, subst, inl, inr, arith, true≢false, ◌≡◌, ◌≢◌, ℕ, suc, ◌≤◌, true, ◌||◌, ◌++◌}
+use Rattle.std.proofs.Common.{Option, Some, None, List, [], ◌∷◌, map, refl, sym, ap, ◌∙◌, subst, inl, inr, arith}
+use Rattle.std.proofs.Common.{true≢false}
+use Rattle.std.specs.Prelude.{◌==◌, AllPairs, IsPermutation, find, option_and_then, option_map, unwrap_or, ◌==◌}
+use Rattle.std.specs.Prelude.{AllPairs, IsPermutation, filter, find, option_map, unwrap_or}
 -- What is asked of changes, of the file's rows and of a content: what is known of one, what it needs, and which are ready.
 use Rattle.std.specs.List.{list_any}
 use Rattle.std.specs.Option.{option_map_or}
@@ -29,7 +33,8 @@ use Rattle.gate_laws.proofs.Changes.{unknown}
 use Rattle.gate_laws.proofs.Counts.{one_of, times}
 use Rattle.gate_laws.proofs.Members.{In, all, every, found, from_flat, from_map, not_found, to_flat, to_map}
 use Rattle.gate_laws.proofs.Rising.{Rising, rising}
-use Rattle.gate_content_reads.proofs.told.Lists.{HaveSame, any_filter, pairs_rise, permuted_same, rising_alone, same_rising}
+use Rattle.gate_content_reads.proofs.told.Lists.{HaveSame, any_filter, pairs_rise, permuted_same, rising_alone}
+use Rattle.gate_content_reads.proofs.told.Lists.{same_rising}
 
 -- the number of an approval, and its change's
 abbrev approved : ℕ → ℕ → Ready

@@ -1,5 +1,6 @@
 -- The form of the items' rows: each in range, at most 1,000 a queue, no change twice.
-use Rattle.std.proofs.Common.{◌≡◌, ◌≢◌, ℕ, zero, suc, ◌-◌, ◌≤◌, Bool, true, false, ◌&&◌, cond, Option, Some, None, List, [], ◌∷◌, ◌++◌, map, length, refl, sym, ap, ◌∙◌, subst, inl, inr, arith}
+use Rattle.std.proofs.Common.{◌≡◌, ◌≢◌, ℕ, zero, suc, ◌-◌, ◌≤◌, Bool, true, false, ◌&&◌, cond, Option, Some, None}
+use Rattle.std.proofs.Common.{List, [], ◌∷◌, ◌++◌, map, length, refl, sym, ap, ◌∙◌, subst, inl, inr, arith}
 use Rattle.std.specs.Prelude.{AllPairs, filter, flat_map, option_map, slice_get}
 use Rattle.std.specs.List.{AllPass}
 use Rattle.std.specs.Option.{option_map_or}
@@ -7,7 +8,8 @@ use Rattle.std.proofs.lemmas.Bool.{and_from, and_parts, leb-true}
 use Rattle.std.proofs.lemmas.List.Kept.{AllPairs-cons}
 use Rattle.gate_types.specs.declared.records.Build.{Build}
 use Rattle.gate_types.specs.declared.records.Item.{Item as ItemOfRow}
-use Rattle.gate_types.specs.Forms.{IsLawfulContent, is_change_number, is_drawn_number, is_item_in_form, is_queue_in_form, is_revision_number}
+use Rattle.gate_types.specs.Forms.{IsLawfulContent, is_change_number, is_drawn_number, is_item_in_form}
+use Rattle.gate_types.specs.Forms.{is_queue_in_form, is_revision_number}
 use Rattle.gate_types.specs.Line.{Place}
 use Rattle.gate_types.specs.Names.{is_name, same_name}
 use Rattle.gate_types.specs.Once.{Content}

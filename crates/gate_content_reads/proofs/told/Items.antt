@@ -1,5 +1,6 @@
 -- The rows of the file's items are the items of the content's queues, each under its queue's name.
-use Rattle.std.proofs.Common.{◌≡◌, ℕ, suc, ◌≤◌, Bool, true, false, cond, Option, Some, None, List, [], ◌∷◌, map, length, refl, sym, ap, ◌∙◌, subst}
+use Rattle.std.proofs.Common.{◌≡◌, ℕ, suc, ◌≤◌, Bool, true, false, cond, Option, Some, None, List, [], ◌∷◌, map}
+use Rattle.std.proofs.Common.{length, refl, sym, ap, ◌∙◌, subst}
 use Rattle.std.specs.Prelude.{◌==◌, filter, find, flat_map, option_map}
 use Rattle.std.specs.Option.{option_map_or}
 use Rattle.std.proofs.lemmas.Bool.{eqb-true}
@@ -23,7 +24,8 @@ use Rattle.gate_book_trait.proofs.ReadLemmas as read
 use Rattle.gate_found_rows.specs.Asked.{queued}
 use Rattle.gate_laws.proofs.Alone.{same_name_of}
 use Rattle.gate_laws.proofs.Counts.{one_of, one_part, times}
-use Rattle.gate_laws.proofs.Members.{In, flat_same, found, from_filter, from_flat, from_map, map_map, to_filter, to_flat, to_map}
+use Rattle.gate_laws.proofs.Members.{In, flat_same, found, from_filter, from_flat, from_map, map_map, to_filter}
+use Rattle.gate_laws.proofs.Members.{to_flat, to_map}
 use Rattle.gate_content_reads.proofs.told.Lists.{lone_found, same_find}
 
 -- ---- the rows of one queue's items

@@ -1,11 +1,13 @@
 -- Lists with the same members: what is found in them, what is the greatest number, and when they are one list.
-use Rattle.std.proofs.Common.{◌≡◌, ℕ, suc, ◌<◌, ◌≤◌, Bool, true, false, ◌&&◌, ◌||◌, cond, Option, Some, None, List, [], ◌∷◌, map, length, refl, sym, ap, ◌∙◌, subst, ◌⊎◌, inl, inr, arith, true≢false}
+use Rattle.std.proofs.Common.{◌≡◌, ℕ, suc, ◌<◌, ◌≤◌, Bool, true, false, ◌&&◌, ◌||◌, cond, Option, Some, None, List}
+use Rattle.std.proofs.Common.{[], ◌∷◌, map, length, refl, sym, ap, ◌∙◌, subst, ◌⊎◌, inl, inr, arith, true≢false}
 use Rattle.std.specs.Prelude.{AllPairs, IsPermutation, nat_lt, filter, find, fold, option_map}
 use Rattle.std.specs.List.{list_any}
 use Rattle.std.proofs.lemmas.Bool.{ltb-true, ltb-false}
 use Rattle.std.proofs.lemmas.List.Sorted.{Contains-permutation, IsPermutation-sym}
 use Rattle.gate_found_rows.specs.Asked.{greatest}
-use Rattle.gate_laws.proofs.Members.{In, contains_in, every, found, from_filter, from_map, in_contains, not_found, to_filter, to_map}
+use Rattle.gate_laws.proofs.Members.{In, contains_in, every, found, from_filter, from_map, in_contains, not_found}
+use Rattle.gate_laws.proofs.Members.{to_filter, to_map}
 use Rattle.gate_laws.proofs.Rising.{Rising}
 
 -- ---- what is found

@@ -1,5 +1,6 @@
 -- The plan under a serial, as the file's rows tell it and as the content has it.
-use Rattle.std.proofs.Common.{◌≡◌, ◌∙◌, ℕ, suc, true, false, Option, Some, None, List, [], ◌∷◌, map, refl, sym, ap, subst, inl, inr}
+use Rattle.std.proofs.Common.{◌≡◌, ◌∙◌, ℕ, suc, true, false, Option, Some, None, List, [], ◌∷◌, map, refl, sym, ap}
+use Rattle.std.proofs.Common.{subst, inl, inr}
 use Rattle.std.specs.Prelude.{◌==◌, find}
 use Rattle.std.specs.List.{AllPass, list_any}
 use Rattle.std.specs.Option.{option_map_or}

@@ -1,5 +1,6 @@
 -- The form of the rows of queues, changes and builds.
-use Rattle.std.proofs.Common.{◌≡◌, ℕ, suc, Bool, true, false, ◌&&◌, Option, Some, None, List, [], ◌∷◌, length, map, refl, sym, subst, inl, inr}
+use Rattle.std.proofs.Common.{◌≡◌, ℕ, suc, Bool, true, false, ◌&&◌, Option, Some, None, List, [], ◌∷◌, length, map}
+use Rattle.std.proofs.Common.{refl, sym, subst, inl, inr}
 use Rattle.std.specs.Prelude.{◌==◌, find, nat_le, option_map}
 use Rattle.std.specs.List.{AllPass, list_all}
 use Rattle.std.specs.Option.{option_map_or}
@@ -8,7 +9,9 @@ use Rattle.gate_types.specs.declared.records.Build.{Build}
 use Rattle.gate_types.specs.declared.records.Change.{Change}
 use Rattle.gate_types.specs.declared.records.Ready.{Ready}
 use Rattle.gate_types.specs.declared.rows.ChangeRow.{ChangeRow}
-use Rattle.gate_types.specs.Forms.{IsLawfulContent, is_build_in_form, is_change_in_form, is_change_number, is_drawn_number, is_entry_in_form, is_queue_in_form, is_ready_in_form, is_revision_number}
+use Rattle.gate_types.specs.Forms.{IsLawfulContent, is_build_in_form, is_change_in_form, is_change_number}
+use Rattle.gate_types.specs.Forms.{is_drawn_number, is_entry_in_form, is_queue_in_form, is_ready_in_form}
+use Rattle.gate_types.specs.Forms.{is_revision_number}
 use Rattle.gate_types.specs.Once.{Content}
 use Rattle.gate_types.specs.Names.{is_name}
 use Rattle.gate_types.specs.Settings.{Settings, has_queue}

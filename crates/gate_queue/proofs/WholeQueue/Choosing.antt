@@ -1,5 +1,6 @@
 -- A choice by live builds is the first one, where each of them counts.
-use Rattle.std.proofs.Common.{◌≡◌, ℕ, zero, suc, ◌+◌, Bool, true, false, not, ◌&&◌, ◌||◌, cond, Some, None, List, [], ◌∷◌, map, fold, take, add-zero, refl, sym, ap, ◌∙◌, lt-ltb, le-ltb}
+use Rattle.std.proofs.Common.{◌≡◌, ℕ, zero, suc, ◌+◌, Bool, true, false, not, ◌&&◌, ◌||◌, cond, Some, None, List, []}
+use Rattle.std.proofs.Common.{◌∷◌, map, fold, take, add-zero, refl, sym, ap, ◌∙◌, lt-ltb, le-ltb}
 use Rattle.std.specs.Prelude.{filter, ◌==◌, nat_lt, nat_le, count_by}
 use Rattle.std.specs.List.{list_any, position, position_from, AllPass}
 use Rattle.std.proofs.lemmas.Bool.{and_parts, leb-true, leb-false}
@@ -13,7 +14,9 @@ use Rattle.gate_types.specs.declared.records.Outcome.TheVariants as outcome
 use Rattle.gate_types.specs.declared.records.Slot.TheVariants as slot
 use Rattle.gate_types.specs.Names.{same_name}
 use Rattle.gate_types.specs.Line.{Place, same_entries, line, ran_on}
-use Rattle.gate_types.specs.Slot.{is_success, is_failure, is_lost, is_running, is_blocked, counts, outcomes_of, slot_of, raw_slot_of, has_failure, is_cut, cut_slot, is_failed_slot, is_waiting_slot}
+use Rattle.gate_types.specs.Slot.{is_success, is_failure, is_lost, is_running, is_blocked, counts, outcomes_of}
+use Rattle.gate_types.specs.Slot.{slot_of, raw_slot_of, has_failure, is_cut, cut_slot, is_failed_slot}
+use Rattle.gate_types.specs.Slot.{is_waiting_slot}
 use Rattle.gate_types.specs.Window.{within_window}
 use Rattle.gate_queue.specs.declared.whole_queue.facts.ItemJobs.{ItemJobs}
 use Rattle.gate_queue.specs.WholeQueue.Chooses.{first_waiting, first_choice, TellOf, live_builds_count}

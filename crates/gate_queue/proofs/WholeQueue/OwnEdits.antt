@@ -1,5 +1,6 @@
 -- The edits that settle a queue touch no rows but its own.
-use Rattle.std.proofs.Common.{◌≡◌, ℕ, ◌+◌, Bool, true, false, ◌&&◌, ◌||◌, cond, Option, Some, None, is_some, List, [], ◌∷◌, map, refl, ap, ◌∙◌}
+use Rattle.std.proofs.Common.{◌≡◌, ℕ, ◌+◌, Bool, true, false, ◌&&◌, ◌||◌, cond, Option, Some, None, is_some, List, []}
+use Rattle.std.proofs.Common.{◌∷◌, map, refl, ap, ◌∙◌}
 use Rattle.std.specs.Prelude.{filter, ◌==◌}
 use Rattle.std.specs.List.{AllPass}
 use Rattle.std.proofs.lemmas.Bool.{eq-eqb}
@@ -21,7 +22,8 @@ use Rattle.gate_types.specs.Rows.{row_of, item_of}
 use Rattle.gate_queue.specs.declared.whole_queue.facts.ItemFacts.{ItemFacts}
 use Rattle.gate_queue.specs.WholeQueue.Facts.{places_by}
 use Rattle.gate_queue.specs.WholeQueue.Settles.{has_item, has_build, is_own}
-use Rattle.gate_queue.specs.Edits.{stops, stop_edits, item_edits, edits_at, edits_after, next_reports, window_edits, window_after, edits_of_queue}
+use Rattle.gate_queue.specs.Edits.{stops, stop_edits, item_edits, edits_at, edits_after, next_reports, window_edits}
+use Rattle.gate_queue.specs.Edits.{window_after, edits_of_queue}
 use Rattle.gate_laws.proofs.Touches.{name_itself}
 
 -- this edit is own

@@ -1,5 +1,6 @@
 -- A queue settled by itself, within the whole state.
-use Rattle.std.proofs.Common.{◌≡◌, inl, ℕ, Bool, true, false, not, ◌&&◌, ◌||◌, cond, is_some, List, [], ◌∷◌, ◌++◌, map, fold, refl, sym, ap, ◌∙◌, subst, true≢false}
+use Rattle.std.proofs.Common.{◌≡◌, inl, ℕ, Bool, true, false, not, ◌&&◌, ◌||◌, cond, is_some, List, [], ◌∷◌, ◌++◌}
+use Rattle.std.proofs.Common.{map, fold, refl, sym, ap, ◌∙◌, subst, true≢false}
 use Rattle.std.specs.Prelude.{filter, filter_map, option_map, ◌==◌}
 use Rattle.std.specs.List.{list_any, flat_map, AllPass, AllByRecursion as Each}
 use Rattle.std.proofs.lemmas.Bool.{and_parts, or_parts, or_from, and_right, eqb-true, eq-eqb, not-true}
@@ -9,7 +10,8 @@ use Rattle.std.proofs.lemmas.List.Concat.{flat_map-cons}
 use Rattle.std.proofs.lemmas.Grind.{flat_map-append}
 use Rattle.gate_queue.specs.Settled.{rebased, verdicts, swept_rows, swept_of}
 use Rattle.gate_laws.specs.Touch.{has_serial}
-use Rattle.gate_queue.specs.WholeQueue.ByItself.{picked, is_picked_rightly, is_planned_apart, EachQueueIsSettledByItself}
+use Rattle.gate_queue.specs.WholeQueue.ByItself.{picked, is_picked_rightly, is_planned_apart}
+use Rattle.gate_queue.specs.WholeQueue.ByItself.{EachQueueIsSettledByItself}
 use Rattle.gate_queue.proofs.Ordered.{Tells, rises, ahead_rise}
 use Rattle.gate_queue.proofs.Keeps.{rows_alike}
 use Rattle.gate_queue.proofs.Settled.{goes_tells, verdicts_rebased}

@@ -1,5 +1,6 @@
 -- Which build of a queue is due.
-use Rattle.std.specs.Prelude.{ℕ, Bool, ◌&&◌, ◌||◌, not, ◌==◌, ◌≡◌, ◌+◌, if◌then◌else◌, List, [], ◌∷◌, map, slice_get, find, Option, Some, None, option_map, option_and_then}
+use Rattle.std.specs.Prelude.{ℕ, Bool, ◌&&◌, ◌||◌, not, ◌==◌, ◌≡◌, ◌+◌, if◌then◌else◌, List, [], ◌∷◌, map, slice_get}
+use Rattle.std.specs.Prelude.{find, Option, Some, None, option_map, option_and_then}
 use Rattle.std.specs.List.{AllPass, list_all, position}
 use Rattle.std.specs.List.Sorted.{IsStrictlyIncreasing}
 use Rattle.gate_types.specs.declared.records.Item.{Item as ItemRow}

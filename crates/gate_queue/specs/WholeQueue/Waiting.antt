@@ -1,5 +1,6 @@
 -- For the inside alone: a choice by live builds, where each of them counts.
-use Rattle.std.specs.Prelude.{ℕ, Bool, ◌&&◌, ◌||◌, not, ◌==◌, nat_lt, nat_le, if◌then◌else◌, List, [], ◌∷◌, count_by, Option, Some, None}
+use Rattle.std.specs.Prelude.{ℕ, Bool, ◌&&◌, ◌||◌, not, ◌==◌, nat_lt, nat_le, if◌then◌else◌, List, [], ◌∷◌, count_by}
+use Rattle.std.specs.Prelude.{Option, Some, None}
 use Rattle.std.specs.List.{list_any, position}
 use Rattle.gate_types.specs.declared.config.Job.{Job}
 use Rattle.gate_types.specs.declared.records.Item.{Item as ItemRow}

@@ -1,5 +1,6 @@
 //! Whether a build ran on the line of an item, compared without building the line.
-ghost use Rattle.std.specs.Prelude.{◌≡◌, ◌≤◌, ◌+◌, true, nat_lt, [], ◌∷◌, ◌++◌, map, filter, drop, length, slice_get, IfSome};
+ghost use Rattle.std.specs.Prelude.{◌≡◌, ◌≤◌, ◌+◌, true, nat_lt, [], ◌∷◌, ◌++◌, map, filter, drop, length, slice_get};
+ghost use Rattle.std.specs.Prelude.{IfSome};
 ghost use Rattle.gate_types.specs.Line.{same_entries, line, ran_on, landed_entry, item_entry};
 ghost use Rattle.gate_queue.specs.WholeQueue.Facts.{place_of, place_before};
 ghost use Rattle.gate_queue.specs.WholeQueue.Follows.{has_entry, Follows};

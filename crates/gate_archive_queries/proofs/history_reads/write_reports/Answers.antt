@@ -9,7 +9,8 @@ use Rattle.gate_queue_queries.specs.History.{report_shown}
 use Rattle.gate_archive_queries.specs.HistoryFrom.{line_from}
 use Rattle.gate_archive_queries.specs.Streamed.{body, lines}
 use Rattle.gate_archive_queries.proofs.HistoryLemmas.{cut_before_end, leaves_head, leaves_late, written_last}
-use Rattle.gate_archive_queries.proofs.StreamLemmas.{begins_writing, cut_in_line, ends_full, ends_none, front_some, stops_behind, writes_on}
+use Rattle.gate_archive_queries.proofs.StreamLemmas.{begins_writing, cut_in_line, ends_full, ends_none, front_some}
+use Rattle.gate_archive_queries.proofs.StreamLemmas.{stops_behind, writes_on}
 use Rattle.gate_archive_queries.proofs.history_reads.write_reports.Goals as goal
 use Rattle.gate_types.specs.Limits.{most_listed}
 

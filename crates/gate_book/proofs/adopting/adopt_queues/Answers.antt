@@ -5,7 +5,8 @@ use Rattle.std.proofs.lemmas.List.{length-map}
 use Rattle.gate_types.specs.Names.{same_name}
 use Rattle.gate_memory.specs.Queues as queue
 use Rattle.gate_book_trait.specs.RowReads.{rows_named}
-use Rattle.gate_book.proofs.AdoptLemmas.{AreLeft, all_set, left_more, map_set, not_before, rows_so_far, so_far_length, so_far_none, so_far_one}
+use Rattle.gate_book.proofs.AdoptLemmas.{AreLeft, all_set, left_more, map_set, not_before, rows_so_far, so_far_length}
+use Rattle.gate_book.proofs.AdoptLemmas.{so_far_none, so_far_one}
 use Rattle.gate_book.proofs.adopting.adopt_queues.Goals as goal
 use Rattle.gate_book.proofs.adopting.adopt_queues.Goals.{in-Some, in_default}
 

@@ -1,6 +1,8 @@
-use Rattle.std.proofs.Common.{◌≡◌, ◌∙◌, ◌<◌, ◌≤◌, ◌+◌, suc, length, take, drop, ◌++◌, map, get_or, set, sym, ap, subst, arith}
+use Rattle.std.proofs.Common.{◌≡◌, ◌∙◌, ◌<◌, ◌≤◌, ◌+◌, suc, length, take, drop, ◌++◌, map, get_or, set, sym, ap}
+use Rattle.std.proofs.Common.{subst, arith}
 use Rattle.gate_memory.specs.Queues as queue
-use Rattle.gate_memory.proofs.LoopLemmas.{Done, done_at, done_length, done_next, done_weaker, done_same, done_kept, done_all, all_at, whole}
+use Rattle.gate_memory.proofs.LoopLemmas.{Done, done_at, done_length, done_next, done_weaker, done_same, done_kept}
+use Rattle.gate_memory.proofs.LoopLemmas.{done_all, all_at, whole}
 use Rattle.gate_book.proofs.MemoryLemmas.{Stays, Roomy}
 use Rattle.gate_book.proofs.tables.make_queues_room.Goals as goal
 

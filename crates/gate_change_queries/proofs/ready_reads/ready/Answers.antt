@@ -1,7 +1,8 @@
 use Rattle.std.proofs.Common.{◌∙◌}
 use Rattle.sqlite.specs.Held.{state}
 use Rattle.gate_found_rows.specs.Asked.{AreReady}
-use Rattle.gate_change_queries.proofs.ReadyReads.{answers_so, list_is_ready, ready_found, ready_in_form, ready_is, ready_list}
+use Rattle.gate_change_queries.proofs.ReadyReads.{answers_so, list_is_ready, ready_found, ready_in_form, ready_is}
+use Rattle.gate_change_queries.proofs.ReadyReads.{ready_list}
 use Rattle.gate_change_queries.proofs.ready_reads.ready.Goals as goal
 
 pub returns-in_err-rows-clause-only_reads : goal.returns-in_err-rows-clause-only_reads

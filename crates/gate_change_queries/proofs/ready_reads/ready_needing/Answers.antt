@@ -1,7 +1,8 @@
 use Rattle.std.proofs.Common.{◌∙◌}
 use Rattle.sqlite.specs.Held.{state}
 use Rattle.gate_found_rows.specs.Asked.{AreReadyNeeding}
-use Rattle.gate_change_queries.proofs.ReadyNeedingReads.{list_is_needing, needing_found, needing_in_form, needing_is, needing_list}
+use Rattle.gate_change_queries.proofs.ReadyNeedingReads.{list_is_needing, needing_found, needing_in_form, needing_is}
+use Rattle.gate_change_queries.proofs.ReadyNeedingReads.{needing_list}
 use Rattle.gate_change_queries.proofs.ReadyReads.{answers_so}
 use Rattle.gate_change_queries.proofs.ready_reads.ready_needing.Goals as goal
 

@@ -11,7 +11,8 @@ use Rattle.gate_http.specs.Exchange.{Comes, Broke}
 use Rattle.gate_http.specs.Parts.{read_by}
 use Rattle.gate_http.specs.Way.{silence, question, way_on}
 use Rattle.gate_http.proofs.BoundLemmas.{posted_within}
-use Rattle.gate_http.proofs.ExchangeLemmas.{read_as, read_nothing, read_part, read_too_much, read_refused, read_wanted, read_posted, read_cut, body_waits}
+use Rattle.gate_http.proofs.ExchangeLemmas.{read_as, read_nothing, read_part, read_too_much, read_refused}
+use Rattle.gate_http.proofs.ExchangeLemmas.{read_wanted, read_posted, read_cut, body_waits}
 use Rattle.gate_http.proofs.WriteLemmas.{told_whole, told_front, comes_read, comes_begun, refused_read, refused_begun}
 use Rattle.gate_http.proofs.engine.answer.Goals as goal
 

@@ -1,7 +1,8 @@
 use Rattle.std.proofs.Common.{◌∙◌, sym, arith, rules}
 use Rattle.std.proofs.lemmas.Bool.{eqb-true}
 use Rattle.std.proofs.KnownBytes.{Consumes-kept}
-use Rattle.gate_http.proofs.HeadLemmas.{ended, comes_nothing, comes_part, took_one, comes_whole, still_open, comes_too_much, head_waits}
+use Rattle.gate_http.proofs.HeadLemmas.{ended, comes_nothing, comes_part, took_one, comes_whole, still_open}
+use Rattle.gate_http.proofs.HeadLemmas.{comes_too_much, head_waits}
 use Rattle.gate_http.proofs.head.read_head.Goals as goal
 
 pub returns-then-is_empty-clause-ok : goal.returns-then-is_empty-clause-ok

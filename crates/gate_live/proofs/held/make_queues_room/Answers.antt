@@ -1,6 +1,8 @@
-use Rattle.std.proofs.Common.{◌≡◌, ◌∙◌, ◌<◌, ◌≤◌, ◌+◌, suc, length, take, drop, ◌++◌, map, get_or, set, sym, ap, subst, arith}
+use Rattle.std.proofs.Common.{◌≡◌, ◌∙◌, ◌<◌, ◌≤◌, ◌+◌, suc, length, take, drop, ◌++◌, map, get_or, set, sym, ap}
+use Rattle.std.proofs.Common.{subst, arith}
 use Rattle.gate_live.specs.Held.{HasRoomIn, IsKeptQueue, queue_of}
-use Rattle.gate_memory.proofs.LoopLemmas.{Done, done_at, done_length, done_next, done_weaker, done_same, done_kept, done_all, all_at, whole}
+use Rattle.gate_memory.proofs.LoopLemmas.{Done, done_at, done_length, done_next, done_weaker, done_same, done_kept}
+use Rattle.gate_memory.proofs.LoopLemmas.{done_all, all_at, whole}
 use Rattle.gate_live.proofs.HeldLemmas.{Stays, Roomy}
 use Rattle.gate_live.proofs.held.make_queues_room.Goals as goal
 

@@ -1,10 +1,13 @@
-use Rattle.std.proofs.Common.{◌≡◌, ℕ, ◌∙◌, ◌<◌, ◌≤◌, ◌++◌, ◌∷◌, [], cond, Some, None, length, set, refl, sym, ap, subst, arith}
+use Rattle.std.proofs.Common.{◌≡◌, ℕ, ◌∙◌, ◌<◌, ◌≤◌, ◌++◌, ◌∷◌, [], cond, Some, None, length, set, refl, sym, ap}
+use Rattle.std.proofs.Common.{subst, arith}
 use Rattle.std.specs.Prelude.{◌==◌, nat_eq}
 use Rattle.std.specs.HashMap.{get}
 use Rattle.gate_memory.specs.Sorted.{without}
 use Rattle.gate_memory.specs.Changes.{AreApart, FindsNumbers, in_order, number_of, place_at}
 use Rattle.gate_memory.proofs.TableLemmas.{place_bound}
-use Rattle.gate_memory.proofs.MovedLemmas.{apart_front, apart_last, apart_replaced, in_order_moved, in_order_popped, in_order_absent, found_before, found_last, still_has, places_moved, places_popped, places_absent}
+use Rattle.gate_memory.proofs.MovedLemmas.{apart_front, apart_last, apart_replaced, in_order_moved, in_order_popped}
+use Rattle.gate_memory.proofs.MovedLemmas.{in_order_absent, found_before, found_last, still_has, places_moved}
+use Rattle.gate_memory.proofs.MovedLemmas.{places_popped, places_absent}
 use Rattle.gate_memory.proofs.changes.remove_row.Goals as goal
 
 pub returns-in_default-clause-rows : goal.returns-in_default-clause-rows

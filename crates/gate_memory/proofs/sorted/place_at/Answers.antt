@@ -3,7 +3,8 @@ use Rattle.std.specs.Prelude.{slice_get, option_map, Some}
 use Rattle.std.proofs.lemmas.Option.{slice_get-get_or}
 use Rattle.gate_memory.proofs.SortedLemmas.{found_at, found_none}
 use Rattle.gate_memory.proofs.sorted.place_at.Goals as goal
-use Rattle.gate_memory.proofs.sorted.place_at.Goals.{else-place-rows-via-then-place-rows+else-key, else-place-rows-via-else-place-rows}
+use Rattle.gate_memory.proofs.sorted.place_at.Goals.{else-place-rows-via-then-place-rows+else-key}
+use Rattle.gate_memory.proofs.sorted.place_at.Goals.{else-place-rows-via-else-place-rows}
 
 pub returns-then-key-clause-there : goal.returns-then-key-clause-there
 returns-then-key-clause-there g c =

@@ -3,7 +3,8 @@ use Rattle.std.specs.Prelude.{insert}
 use Rattle.gate_memory.specs.Sorted.{place_in}
 use Rattle.gate_memory.proofs.SortedLemmas.{put_set_at, put_insert_at, rises-put}
 use Rattle.gate_memory.proofs.sorted.put.Goals as goal
-use Rattle.gate_memory.proofs.sorted.put.Goals.{else-place-len-via-then-place-len+else-key, else-place-len-via-else-place-len}
+use Rattle.gate_memory.proofs.sorted.put.Goals.{else-place-len-via-then-place-len+else-key}
+use Rattle.gate_memory.proofs.sorted.put.Goals.{else-place-len-via-else-place-len}
 
 pub returns-then-key-clause-rows : goal.returns-then-key-clause-rows
 returns-then-key-clause-rows g c =

@@ -2,7 +2,8 @@ use Rattle.std.proofs.Common.{arith, ◌≡◌, ◌<◌, length, inl, inr, sym, 
 use Rattle.gate_memory.specs.Sorted.{place_in}
 use Rattle.gate_memory.proofs.SortedLemmas.{without_remove, without_none, rises-without}
 use Rattle.gate_memory.proofs.sorted.remove.Goals as goal
-use Rattle.gate_memory.proofs.sorted.remove.Goals.{else-place-len-via-then-place-len+else-key, else-place-len-via-else-place-len}
+use Rattle.gate_memory.proofs.sorted.remove.Goals.{else-place-len-via-then-place-len+else-key}
+use Rattle.gate_memory.proofs.sorted.remove.Goals.{else-place-len-via-else-place-len}
 
 pub returns-then-key-clause-rows : goal.returns-then-key-clause-rows
 returns-then-key-clause-rows g c =

@@ -1,7 +1,7 @@
 use Rattle.std.proofs.Common.{◌≡◌, ◌∙◌, IsTrue, inl, inr, refl, subst, true}
 use Rattle.sqlite.specs.Held.{state}
 use Rattle.sqlite.specs.State.{HasCleanDisk}
-use Rattle.gate_types.specs.Settings.{Settings, are_sound}
+use Rattle.gate_types.specs.Settings.{are_sound}
 use Rattle.gate_found_rows.proofs.StayLemmas.{stays_then}
 use Rattle.gate_migration.specs.Migrates.{puts}
 use Rattle.gate_migration.specs.Upgrade.{CanUpgrade, HasUpgraded, tables_before}
@@ -16,7 +16,7 @@ returns-in-Ok-upgrade_if_open-clause-done g c clean up x can =
     let mid = state g.S.Store c.first_plans.new.conn in
     let k = c.args.config.now in
     let early : HasCleanDisk mid = c.upgrade_if_open.ensures.clean clean in
-    let sound : are_sound k ≡ true = subst (λ (v : Settings). are_sound v ≡ true) c.config.view_is c.config.invariant in
+    let sound : are_sound k ≡ true = c.show_sound.ensures in
     let stays = c.first_plans.ensures.only_reads.stays early in
     let b = can.stands.stored in
     let found = c.in-Ok.ensures.found early b x.state (λ _. first_shown old k x can) (tells_state k x b sound can.queues_are_set can.stands.tells) in
@@ -35,7 +35,7 @@ returns-clause-done g c clean up x can =
     let mid = state g.S.Store c.first_plans.new.conn in
     let k = c.args.config.now in
     let early : HasCleanDisk mid = c.upgrade_if_open.ensures.clean clean in
-    let sound : are_sound k ≡ true = subst (λ (v : Settings). are_sound v ≡ true) c.config.view_is c.config.invariant in
+    let sound : are_sound k ≡ true = c.show_sound.ensures in
     let stays = c.first_plans.ensures.only_reads.stays early in
     let b = can.stands.stored in
     let found = c.in-Ok.ensures.found early b x.state (λ _. first_shown old k x can) (tells_state k x b sound can.queues_are_set can.stands.tells) in
@@ -50,7 +50,7 @@ returns-in-Ok-upgrade_if_open-clause-crash g c clean up x can db may =
     let mid = state g.S.Store c.first_plans.new.conn in
     let k = c.args.config.now in
     let early : HasCleanDisk mid = c.upgrade_if_open.ensures.clean clean in
-    let sound : are_sound k ≡ true = subst (λ (v : Settings). are_sound v ≡ true) c.config.view_is c.config.invariant in
+    let sound : are_sound k ≡ true = c.show_sound.ensures in
     let stays = c.first_plans.ensures.only_reads.stays early in
     let b = can.stands.stored in
     let found = c.in-Ok.ensures.found early b x.state (λ _. first_shown old k x can) (tells_state k x b sound can.queues_are_set can.stands.tells) in
@@ -69,7 +69,7 @@ returns-clause-crash g c clean up x can db may =
     let mid = state g.S.Store c.first_plans.new.conn in
     let k = c.args.config.now in
     let early : HasCleanDisk mid = c.upgrade_if_open.ensures.clean clean in
-    let sound : are_sound k ≡ true = subst (λ (v : Settings). are_sound v ≡ true) c.config.view_is c.config.invariant in
+    let sound : are_sound k ≡ true = c.show_sound.ensures in
     let stays = c.first_plans.ensures.only_reads.stays early in
     let b = can.stands.stored in
     let found = c.in-Ok.ensures.found early b x.state (λ _. first_shown old k x can) (tells_state k x b sound can.queues_are_set can.stands.tells) in

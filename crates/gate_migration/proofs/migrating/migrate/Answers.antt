@@ -11,7 +11,10 @@ use Rattle.gate_migration.specs.Standing.{IsMigratedOf, IsStandingOf}
 use Rattle.gate_file_meta.specs.Reading.{IsUnread, ShowsMeta}
 use Rattle.gate_migration.proofs.FirstTells.{names_free, still_can}
 use Rattle.gate_file_meta.proofs.SchemaLemmas.{one_schema}
-use Rattle.gate_migration.proofs.StandingLemmas.{already_judged, already_told, carried_judged, carried_told, done_from, fault_judged, fault_told, fault_unread, first_fails, none_other, not_first, not_second, second_fails, settled_from, some_to_migrate, taken_judged}
+use Rattle.gate_migration.proofs.StandingLemmas.{already_judged, already_told, carried_judged, carried_told}
+use Rattle.gate_migration.proofs.StandingLemmas.{done_from, fault_judged, fault_told, fault_unread, first_fails}
+use Rattle.gate_migration.proofs.StandingLemmas.{none_other, not_first, not_second, second_fails, settled_from}
+use Rattle.gate_migration.proofs.StandingLemmas.{some_to_migrate, taken_judged}
 use Rattle.gate_migration.proofs.UpgradeLemmas.{leaves_then}
 use Rattle.gate_migration.proofs.migrating.migrate.Goals as goal
 

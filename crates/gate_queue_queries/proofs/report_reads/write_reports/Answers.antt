@@ -4,7 +4,9 @@ use Rattle.sqlite.proofs.StateLemmas.{survives_then}
 use Rattle.sqlite.proofs.Callers.{unchanged_then}
 use Rattle.sqlite.specs.Held.{state}
 use Rattle.sqlite.specs.State.{HasCleanDisk}
-use Rattle.gate_queue_queries.proofs.HistoryLemmas.{begins_writing, cut_in_end, cut_in_head, cut_in_line, ends_whole, gave_open, leaves_head, leaves_late, stops_behind, stops_short, writes_on, written_last}
+use Rattle.gate_queue_queries.proofs.HistoryLemmas.{begins_writing, cut_in_end, cut_in_head, cut_in_line, ends_whole}
+use Rattle.gate_queue_queries.proofs.HistoryLemmas.{gave_open, leaves_head, leaves_late, stops_behind, stops_short}
+use Rattle.gate_queue_queries.proofs.HistoryLemmas.{writes_on, written_last}
 use Rattle.gate_queue_queries.proofs.report_reads.write_reports.Goals as goal
 
 pub loop-count-init : goal.loop-count-init

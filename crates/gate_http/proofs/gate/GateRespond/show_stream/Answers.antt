@@ -1,5 +1,6 @@
 use Rattle.gate_http.specs.Asked.{streamed_by}
-use Rattle.gate_http.proofs.LinesLemmas.{recalls_whole, recalls_missing, recalls_unavailable, recalls_broken, recalls_write}
+use Rattle.gate_http.proofs.LinesLemmas.{recalls_whole, recalls_missing, recalls_unavailable, recalls_broken}
+use Rattle.gate_http.proofs.LinesLemmas.{recalls_write}
 use Rattle.gate_http.proofs.gate.GateRespond.show_stream.Goals as goal
 
 pub returns-clause-whole : goal.returns-clause-whole

@@ -6,7 +6,8 @@ use Rattle.gate_memory.specs.declared.pairs.Pair.{Pair}
 use Rattle.gate_memory.specs.Needs.{AreNeeds, TellsNeeds, TellsNoneOf}
 use Rattle.gate_book_trait.specs.Rising.{In}
 use Rattle.gate_book_trait.specs.RowReads.{needs_in}
-use Rattle.gate_memory.proofs.ChangeLemmas.{in_order_rises, dropped, noted, put_ready, fit_dropped, fit_noted, tells_put}
+use Rattle.gate_memory.proofs.ChangeLemmas.{in_order_rises, dropped, noted, put_ready, fit_dropped, fit_noted}
+use Rattle.gate_memory.proofs.ChangeLemmas.{tells_put}
 use Rattle.gate_memory.proofs.NeedChangeLemmas.{tells_needs_put, are_needs_put}
 use Rattle.gate_memory.proofs.changes.ChangeTable.put.Goals as goal
 

@@ -1,16 +1,16 @@
-use Rattle.std.proofs.Common.{true, ◌≡◌, ◌∙◌, inl, inr, Some, ap, codes, refl, subst, sym}
+use Rattle.std.proofs.Common.{◌≡◌, ◌∙◌, inl, inr, Some, ap, codes, refl, subst, sym}
 use Rattle.sqlite.specs.Effect.{Database}
 use Rattle.sqlite.specs.Held.{state}
 use Rattle.sqlite.specs.State.{HasCleanDisk}
 use Rattle.gate_types.specs.Adopt.{adopted_content}
-use Rattle.gate_types.specs.Settings.{Settings, are_sound}
 use Rattle.gate_types.specs.SettingsText.{settings_text}
 use Rattle.gate_rows.specs.Tells.{StandsFor}
 use Rattle.gate_schema.specs.Schema.{gate_schema}
 use Rattle.gate_found_rows.proofs.StayLemmas.{stays_then}
 use Rattle.gate_content_reads.specs.Held.{IsShownFor}
 use Rattle.gate_file_meta.specs.Reading.{HoldsMeta, ShowsMeta}
-use Rattle.gate_file_meta.proofs.JudgeLemmas.{found_of_others, found_of_same, found_others, found_same, only_refused, only_unavailable, told_so}
+use Rattle.gate_file_meta.proofs.JudgeLemmas.{found_of_others, found_of_same, found_others, found_same, only_refused}
+use Rattle.gate_file_meta.proofs.JudgeLemmas.{only_unavailable, told_so}
 use Rattle.gate_file_meta.proofs.MetaLemmas.{shown_held}
 use Rattle.gate_sql.proofs.OpenLemmas.{can_adopt, kept_is, may_open, not_found, own_kept, own_refused, some_to_adopt}
 use Rattle.gate_file_meta.proofs.SchemaLemmas.{one_schema}
@@ -22,7 +22,7 @@ returns-in-Ok-None-clause-opens g c up x it clean =
     let same = c.in-Ok-None.ensures.same clean in
     let is = same.0.0.now_is in
     record {
-      sound = subst (λ (k : Settings). are_sound k ≡ true) c.config.view_is c.config.invariant;
+      sound = c.show_sound.ensures;
       names_are = c.in-Ok.ensures.1;
       shows = λ _. record { schema_is = ap (λ (d : Database). d.schema) is ∙ has; stands = subst (λ (d : Database). StandsFor d.trees c.args.config.now x) (sym is) it };
     }
@@ -45,7 +45,7 @@ returns-in-Ok-None-clause-adopts g c up cs x keeps may clean =
     let text : c.as_str.result.now ≡ settings_text c.args.config.now = c.as_str.ensures.value ∙ c.in-Ok.ensures.0 in
     let has : c.args.conn.schema ≡ gate_schema = one_schema gate_schema c.args.conn.schema _ refl (keeps.stands.stands).listed (c.schema.ensures.live up).0.lists in
     let found = found_same _ _ _ _ c.in-Ok-None.field-0-is (c.in-Ok-None.ensures.judged text clean _ _ _ (codes "2") _ has keeps.stands.stands.meta) in
-    let sound = subst (λ (k : Settings). are_sound k ≡ true) c.config.view_is c.config.invariant in
+    let sound = c.show_sound.ensures in
     let own = own_kept c.one_text_a_setting.ensures _ cs c.args.config.now x keeps sound c.settings_are_in_form.ensures found.1 in
     let same = c.in-Ok-None.ensures.same clean in
     let is = same.0.0.now_is in
@@ -62,7 +62,7 @@ returns-in-Ok-None-clause-adopted g c up cs x keeps may clean db left =
     let text : c.as_str.result.now ≡ settings_text c.args.config.now = c.as_str.ensures.value ∙ c.in-Ok.ensures.0 in
     let has : c.args.conn.schema ≡ gate_schema = one_schema gate_schema c.args.conn.schema _ refl (keeps.stands.stands).listed (c.schema.ensures.live up).0.lists in
     let found = found_same _ _ _ _ c.in-Ok-None.field-0-is (c.in-Ok-None.ensures.judged text clean _ _ _ (codes "2") _ has keeps.stands.stands.meta) in
-    let sound = subst (λ (k : Settings). are_sound k ≡ true) c.config.view_is c.config.invariant in
+    let sound = c.show_sound.ensures in
     let own = own_kept c.one_text_a_setting.ensures _ cs c.args.config.now x keeps sound c.settings_are_in_form.ensures found.1 in
     let same = c.in-Ok-None.ensures.same clean in
     let is = same.0.0.now_is in
@@ -75,7 +75,7 @@ returns-in-Ok-None-clause-refuses g c up cs x keeps refused clean =
     let text : c.as_str.result.now ≡ settings_text c.args.config.now = c.as_str.ensures.value ∙ c.in-Ok.ensures.0 in
     let has : c.args.conn.schema ≡ gate_schema = one_schema gate_schema c.args.conn.schema _ refl (keeps.stands.stands).listed (c.schema.ensures.live up).0.lists in
     let found = found_same _ _ _ _ c.in-Ok-None.field-0-is (c.in-Ok-None.ensures.judged text clean _ _ _ (codes "2") _ has keeps.stands.stands.meta) in
-    let sound = subst (λ (k : Settings). are_sound k ≡ true) c.config.view_is c.config.invariant in
+    let sound = c.show_sound.ensures in
     let own = own_kept c.one_text_a_setting.ensures _ cs c.args.config.now x keeps sound c.settings_are_in_form.ensures found.1 in
     own_refused cs c.args.config.now own.0 refused
 
@@ -153,7 +153,7 @@ returns-in-Ok-adopt-clause-adopts g c up cs x keeps may clean =
     let on = ap (λ (d : Database). d.schema) is ∙ has in
     let shown = subst (λ s. IsShownFor new c.args.config.now (adopted_content s c.args.config.now x)) named (c.in-Ok-adopt.ensures.made clean again x on can) in
     record {
-      sound = subst (λ (k : Settings). are_sound k ≡ true) c.config.view_is c.config.invariant;
+      sound = c.show_sound.ensures;
       names_are = c.in-Ok.ensures.1;
       shows = λ _. shown;
     }

@@ -13,7 +13,8 @@ use Rattle.gate_content_reads.specs.Held.{HoldsFor, LeavesFor}
 use Rattle.gate_live.specs.Both.{HoldsBoth}
 use Rattle.gate_file_meta.specs.Opens.{IsJudged}
 use Rattle.gated_cli.specs.OverFile.{BreaksOver, GoesOver, LeavesAfter, RepliesOver}
-use Rattle.gated_cli.proofs.FileLemmas.{goes_over_live, leaves_called, no_replay_fault, of_each, of_memory, of_no_memory, of_read, of_write, opened_leaves, opens_to}
+use Rattle.gated_cli.proofs.FileLemmas.{goes_over_live, leaves_called, no_replay_fault, of_each, of_memory}
+use Rattle.gated_cli.proofs.FileLemmas.{of_no_memory, of_read, of_write, opened_leaves, opens_to}
 use Rattle.gated_cli.proofs.run.over_file.deliver.Goals as goal
 
 pub returns-in-Ok-done-clause-ok : goal.returns-in-Ok-done-clause-ok

@@ -7,7 +7,8 @@ use Rattle.gate_sql.specs.Refused.{IsRefused}
 use Rattle.gate_content_reads.specs.Held.{HoldsFor, LeavesFor}
 use Rattle.gate_file_meta.specs.Opens.{IsJudged}
 use Rattle.gated_cli.specs.OverFile.{GoesOver, ServesOver}
-use Rattle.gated_cli.proofs.FileLemmas.{goes_over_live, leaves_called, no_file_fault, opened_leaves, opens_to, serving_over_file}
+use Rattle.gated_cli.proofs.FileLemmas.{goes_over_live, leaves_called, no_file_fault, opened_leaves, opens_to}
+use Rattle.gated_cli.proofs.FileLemmas.{serving_over_file}
 use Rattle.gated_cli.proofs.TalkLemmas.{none_so_far}
 use Rattle.gated_cli.proofs.run.over_file.serve.Goals as goal
 
