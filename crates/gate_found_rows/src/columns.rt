@@ -1,6 +1,6 @@
 //! One column of a row that a query shows, as a value of the gate.
 ghost use Rattle.std.specs.Prelude.{◌≡◌, ◌<◌, pos, true, length, string_bytes, IsUtf8, IfOk, IfErr, OnErr};
-ghost use Rattle.sqlite.specs.declared.types.Value.TheVariants.{Int, Text, Blob};
+ghost use Rattle.sqlite.specs.declared.types.Value.TheVariants.{Int, Text};
 ghost use Rattle.sqlite_value.specs.Order.{column};
 ghost use Rattle.gate_types.specs.Forms.{is_change_number, is_drawn_number, is_revision_number};
 ghost use Rattle.gate_types.specs.Names.{is_name, is_path_name};
@@ -66,18 +66,6 @@ pub fn text_in(row: &Row, at: usize) -> Result<String, BookFault>
 {
     match row.get::<String>(at) {
         Ok(text) => Ok(text),
-        Err(error) => Err(column_fault(&error)),
-    }
-}
-
-/// A blob's bytes; `Damaged` where the column holds none, `NoMemory` where memory is refused.
-pub fn bytes_in(row: &Row, at: usize) -> Result<Vec<u8>, BookFault>
-    ensures ok { (t : _) → column row.now at ≡ Blob t → IfOk result (λ s. s.items ≡ t) }
-    ensures err { (t : _) → column row.now at ≡ Blob t → at < length row.now →
-        IfErr result (λ e. e ≡ BookFault.NoMemory) }
-{
-    match row.get::<Vec<u8>>(at) {
-        Ok(bytes) => Ok(bytes),
         Err(error) => Err(column_fault(&error)),
     }
 }
