@@ -5,6 +5,7 @@ ghost use Rattle.sqlite.specs.declared.types.Value.TheVariants.{Int, Text};
 ghost use Rattle.sqlite_value.specs.Order.{column};
 ghost use Rattle.gate_types.specs.Counters.{Drawn};
 ghost use Rattle.gate_types.specs.Forms.{are_counters_in_form};
+ghost use Rattle.gate_types.specs.Words.{counter_word};
 ghost use Rattle.gate_book_trait.specs.Reads.{Answers};
 ghost use Rattle.gate_schema.specs.Rows.{counter_columns};
 ghost use Rattle.gate_found_rows.specs.Reads.{IsOnlyRead, Opened, Tells};
@@ -12,6 +13,7 @@ ghost use Rattle.gate_found_rows.specs.Reads.{IsOnlyRead, Opened, Tells};
 use gate_book_trait::BookFault;
 use gate_found_rows::columns::number_in;
 use gate_found_rows::read::read_rows;
+use gate_types::edits::Counter;
 use gate_types::records::Counters;
 use sqlite::types::ValueRef;
 use sqlite::{Alter, Connection, Row};
@@ -27,12 +29,13 @@ fn is_named(row: &Row, name: &str) -> bool
     }
 }
 
-/// The number in the row of the counter of this name; `Damaged` where the row is another's.
-fn drawn_in(row: &Row, name: &str) -> Result<u64, BookFault>
+/// The number in the row of this counter; `Damaged` where the row is another's.
+fn drawn_in(row: &Row, counter: Counter) -> Result<u64, BookFault>
     ensures ok { (n : _) → column row.now 1 ≡ Int (pos n) → IfOk result (λ x. x ≡ n) }
-    ensures err { (n : _) → column row.now 0 ≡ Text name.now → column row.now 1 ≡ Int (pos n) → OnErr result ⊥ }
+    ensures err { (n : _) → column row.now 0 ≡ Text (counter_word counter) → column row.now 1 ≡ Int (pos n) →
+        OnErr result ⊥ }
 {
-    if is_named(row, name) {
+    if is_named(row, counter.word()) {
         number_in(row, 1)
     } else {
         Err(BookFault::Damaged)
@@ -61,9 +64,9 @@ fn counters_in(rows: &[Row]) -> Result<Counters, BookFault>
 {
     match rows {
         [approval, build, order] => counters_of(
-            drawn_in(approval, "approval")?,
-            drawn_in(build, "build")?,
-            drawn_in(order, "order")?,
+            drawn_in(approval, Counter::Approval)?,
+            drawn_in(build, Counter::Build)?,
+            drawn_in(order, Counter::Order)?,
         ),
         _ => Err(BookFault::Damaged),
     }
