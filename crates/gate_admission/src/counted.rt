@@ -10,8 +10,8 @@ ghost use Rattle.gate_admission.specs.Counted as counting;
 
 use gate_book_trait::{Book, BookFault};
 use gate_types::edits::{Counter, Edit};
-use std::marker::Model;
 use gate_types::numbers::LAST_NUMBER;
+use std::marker::Model;
 
 /// The last number drawn of each kind, which may be past 10^15.
 #[derive(Clone, Copy)]
@@ -87,9 +87,7 @@ pub(crate) fn is_past(drawn: LastDrawn) -> bool
     ensures { result ≡ (nat_lt last_number drawn.approval || nat_lt last_number drawn.build ||
         nat_lt last_number drawn.order) }
 {
-    drawn.approval > LAST_NUMBER
-        || drawn.build > LAST_NUMBER
-        || drawn.order > LAST_NUMBER
+    drawn.approval > LAST_NUMBER || drawn.build > LAST_NUMBER || drawn.order > LAST_NUMBER
 }
 
 fn passes(edit: &Edit) -> bool

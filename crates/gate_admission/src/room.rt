@@ -14,9 +14,9 @@ ghost use Rattle.gate_admission.specs.Candidates as candidate;
 use crate::items::item_at;
 use gate_book_trait::{Book, BookFault};
 use gate_types::edits::Edit;
+use gate_types::limits::MOST_ITEMS;
 use gate_types::names::{Name, same_name};
 use gate_types::numbers::Serial;
-use gate_types::limits::MOST_ITEMS;
 
 /// Whether an edit after others puts an item into a queue where none had its serial.
 fn grows<B: Book>(

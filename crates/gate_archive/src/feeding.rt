@@ -7,11 +7,11 @@ ghost use Rattle.gate_archive.specs.Writes.{WritesFeedText, StopsText};
 use crate::archive::Archive;
 use crate::fault::FeedFault;
 use crate::feed::feed_end;
+use gate_types::limits::MOST_LISTED;
 use gate_types::records::Id;
 use gate_types::tap::Tap;
 use std::alloc::Global;
 use std::io::Write;
-use gate_types::limits::MOST_LISTED;
 
 /// Writes the front, a line for each of at most 1,000 accepted deliveries, from the first on or behind that of an id,
 /// and a last line with how many these are.

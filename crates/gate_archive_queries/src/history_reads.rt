@@ -27,13 +27,13 @@ use gate_found_rows::read::check_open;
 use gate_found_rows::words::verdict_in;
 use gate_queue_queries::reports;
 use gate_rows::values::{number, text};
+use gate_types::limits::MOST_LISTED;
 use gate_types::names::Name;
 use gate_types::records::Report;
 use gate_types::tap::Tap;
 use sqlite::{Alter, Connection, Row, Rows};
 use std::alloc::Global;
 use std::io::Write;
-use gate_types::limits::MOST_LISTED;
 
 /// The report of a row; `Damaged` where a column isn't in form.
 fn report_in(row: &Row) -> Result<Report, BookFault>

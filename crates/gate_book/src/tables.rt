@@ -25,12 +25,11 @@ use gate_memory::{
 use gate_types::config::{Config, Queue};
 use gate_types::edits::{Counter, Edit};
 use gate_types::names::{Name, NoMemory};
-use gate_types::numbers::{BuildNo, ChangeNo, Serial};
+use gate_types::numbers::{BuildNo, ChangeNo, LAST_NUMBER, Serial};
 use gate_types::records::{Build, Change, Counters, Id, Item, Kept, Plan, Ready};
 use gate_types::rows::ChangeRow;
 use gate_types::sequence::Sequence;
 use std::alloc::{AllocError, Global};
-use gate_types::numbers::LAST_NUMBER;
 
 /// The last number drawn of each kind, as edits set them.
 #[derive(Clone, Copy)]

@@ -15,12 +15,11 @@ use gate_book_trait::HistoryFault;
 use gate_core::Gate;
 use gate_types::deliveries::{Answer, Refusal};
 use gate_types::names::Text;
-use gate_types::numbers::{BuildNo, ChangeNo, Serial};
+use gate_types::numbers::{BuildNo, ChangeNo, LAST_NUMBER, Serial};
 use gate_types::tap::Tap;
 use gate_wire::{Door, read_delivery};
 use std::alloc::Global;
 use std::io::Write;
-use gate_types::numbers::LAST_NUMBER;
 
 /// The number of a build, by what stands for it in a path.
 fn build_named(text: &[u8]) -> Option<BuildNo>

@@ -14,11 +14,10 @@ use gate_book_trait::QueuedItem;
 use gate_memory::QueueTable;
 use gate_types::edits::{Counter, Edit};
 use gate_types::names::{Name, NoMemory};
-use gate_types::numbers::{ChangeNo, Serial};
+use gate_types::numbers::{ChangeNo, LAST_NUMBER, Serial};
 use gate_types::records::{Counters, Item};
 use gate_types::sequence::Sequence;
 use std::alloc::{AllocError, Global};
-use gate_types::numbers::LAST_NUMBER;
 
 /// The last number drawn of each kind, as edits set it: it may exceed `LAST_NUMBER`.
 #[derive(Clone, Copy)]

@@ -13,10 +13,10 @@ ghost use Rattle.gate_types.specs.Limits.{most_listed};
 use crate::pairs::{Pair, of_first, paired};
 use crate::sorted;
 use crate::sorted::Keyed;
+use gate_types::limits::MOST_LISTED;
 use gate_types::numbers::Serial;
 use gate_types::rows::ReportRow;
 use std::alloc::{AllocError, Global};
-use gate_types::limits::MOST_LISTED;
 
 /// The reports of a queue by place, and an index of them: pairs of serial and place.
 #[derive(Drop)]

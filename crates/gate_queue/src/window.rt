@@ -16,8 +16,12 @@ pub fn grow(window: u32, rule: WindowRule) -> u32
         return 0;
     }
     match rule.increase {
-        Pace::Linear => window.saturating_add(rule.increase_by).min(MOST_WINDOW as u32),
-        Pace::Exponential => window.saturating_mul(rule.increase_by).min(MOST_WINDOW as u32),
+        Pace::Linear => window
+            .saturating_add(rule.increase_by)
+            .min(MOST_WINDOW as u32),
+        Pace::Exponential => window
+            .saturating_mul(rule.increase_by)
+            .min(MOST_WINDOW as u32),
     }
 }
 

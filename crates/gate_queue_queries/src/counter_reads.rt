@@ -14,10 +14,10 @@ use gate_book_trait::BookFault;
 use gate_found_rows::columns::number_in;
 use gate_found_rows::read::read_rows;
 use gate_types::edits::Counter;
+use gate_types::numbers::LAST_NUMBER;
 use gate_types::records::Counters;
 use sqlite::types::ValueRef;
 use sqlite::{Alter, Connection, Row};
-use gate_types::numbers::LAST_NUMBER;
 
 /// Whether the row is of the counter of this name.
 fn is_named(row: &Row, name: &str) -> bool

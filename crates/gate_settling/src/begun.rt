@@ -15,10 +15,10 @@ use gate_queue::{grow, shrink};
 use gate_reads::{Event, TouchedItem};
 use gate_types::config::{Config, Queue};
 use gate_types::names::{Name, same_name};
+use gate_types::numbers::LAST_NUMBER;
 use gate_types::records::Verdict;
 use gate_walk::{QueueFacts, TakenOut, Touched, Walk};
 use std::alloc::Global;
-use gate_types::numbers::LAST_NUMBER;
 
 fn queue_named<'c>(config: &'c Config, name: &Name) -> Option<&'c Queue>
     ensures { option_copied result ≡ find (λ q. same_name q.name name.now) config.now.queues }

@@ -10,12 +10,12 @@ ghost use Rattle.gate_texts.specs.Changes as told;
 use crate::values::{in_quotes, number_text, push_entry};
 use gate_book_trait::{Book, BookFault, QueuedItem};
 use gate_types::config::Config;
+use gate_types::limits::MOST_ITEMS;
 use gate_types::names::{Name, NoMemory, Text};
 use gate_types::numbers::ChangeNo;
 use gate_types::records::Change;
 use gate_types::words::truth_word;
 use std::alloc::Global;
-use gate_types::limits::MOST_ITEMS;
 
 /// Where a change stands: its approval while it is ready, and the item that it is.
 #[derive(Drop)]

@@ -14,12 +14,12 @@ use gate_archive::{Archive, BuildSummary, LeftItem};
 use gate_book_trait::{Book, BookFault, QueuedItem, plan_of};
 use gate_queue::{slot_among, slot_where};
 use gate_types::config::{Config, Job};
+use gate_types::limits::MOST_LISTED;
 use gate_types::names::{Name, NoMemory, Text};
 use gate_types::numbers::{ChangeNo, Revision, Serial};
 use gate_types::records::{Build, Verdict};
 use gate_types::words::truth_word;
 use std::alloc::Global;
-use gate_types::limits::MOST_LISTED;
 
 /// What is told of an item beside its builds. `jobs` is written already, null for one that left.
 #[derive(Drop)]

@@ -12,10 +12,10 @@ ghost use Rattle.gate_texts.specs.Running as told;
 use crate::values::push_entry;
 use gate_book_trait::{Book, BookFault};
 use gate_types::config::Config;
+use gate_types::limits::MOST_LISTED;
 use gate_types::names::{Name, NoMemory, Text};
 use gate_types::records::{Build, Outcome};
 use std::alloc::{AllocError, Global};
-use gate_types::limits::MOST_LISTED;
 
 /// The builds that were told so far: the text of the first, and how many they are.
 #[derive(Drop)]

@@ -9,9 +9,9 @@ ghost use Rattle.gate_types.specs.Needs.{named_change, with_number, needs};
 ghost use Rattle.gate_types.specs.Limits.{most_needs};
 
 use gate_types::deliveries::Refusal;
+use gate_types::limits::MOST_NEEDS;
 use gate_types::numbers::ChangeNo;
 use std::alloc::Global;
-use gate_types::limits::MOST_NEEDS;
 
 /// What a footer begins with, in whatever case.
 const FOOTER: &[u8; 11] = b"depends-on:";

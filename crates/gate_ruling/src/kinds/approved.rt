@@ -17,10 +17,9 @@ use gate_types::deliveries::{Refusal, Reply};
 use gate_types::edits::{Counter, Edit};
 use gate_types::lists::with_one;
 use gate_types::names::NoMemory;
-use gate_types::numbers::{ChangeNo, Revision};
+use gate_types::numbers::{ChangeNo, LAST_NUMBER, Revision};
 use gate_types::records::Change;
 use std::alloc::Global;
-use gate_types::numbers::LAST_NUMBER;
 
 fn is_nowhere(stand: &Stand) -> bool
     ensures { result ≡ is_nowhere stand.now }

@@ -14,10 +14,9 @@ use gate_types::deliveries::{Refusal, Reply};
 use gate_types::edits::{Counter, Edit};
 use gate_types::lists::with_one;
 use gate_types::names::{NoMemory, PathName};
-use gate_types::numbers::BuildNo;
+use gate_types::numbers::{BuildNo, LAST_NUMBER};
 use gate_types::records::Build;
 use std::alloc::Global;
-use gate_types::numbers::LAST_NUMBER;
 
 /// The number after those that were drawn; the last one again where all were.
 fn number_after(drawn: u64) -> Option<BuildNo>
