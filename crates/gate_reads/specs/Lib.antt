@@ -6,3 +6,4 @@ pub mod Parts
 pub mod Moves
 pub mod Touches
 pub mod Raw
+pub mod Windows

@@ -18,6 +18,7 @@ mod raw;
 mod shown;
 mod stands;
 mod touched;
+mod windows;
 
 pub use choosing::{next_build, push_unless_failing};
 pub use due::are_met_among;
@@ -26,3 +27,4 @@ pub use orders::{is_submitting, order_of_queue, shown_order};
 pub use raw::{Moved, Raw, Said};
 pub use stands::{Stand, stand_of};
 pub use touched::{Event, TouchedItem};
+pub use windows::{queue, window_now};

@@ -36,7 +36,7 @@ use Rattle.gate_reads.specs.declared.touched.Event.TheVariants as event
 use Rattle.gate_queue.specs.Edits.{window_edits}
 use Rattle.gate_ruling.specs.Guards.{HasOrder}
 use Rattle.gate_ruling.specs.Landing.{landing_of, landing_edits}
-use Rattle.gate_ruling.specs.Windows.{bounds_named}
+use Rattle.gate_reads.specs.Windows.{bounds_named}
 use Rattle.gate_ruling.proofs.Folded.{shown, shown_after, by_parts}
 use Rattle.gate_ruling.proofs.Stored.{Stored}
 use Rattle.gate_ruling.proofs.Withdrawn.{known_number}

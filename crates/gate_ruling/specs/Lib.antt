@@ -2,5 +2,4 @@ pub mod Faults
 pub mod Guards
 pub mod Leaving
 pub mod Landing
-pub mod Windows
 pub mod Approving

@@ -13,6 +13,5 @@ mod edits;
 mod guards;
 mod kinds;
 mod leaving;
-mod windows;
 
 pub use dispatch::raw;

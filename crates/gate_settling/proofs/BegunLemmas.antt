@@ -27,6 +27,7 @@ use Rattle.gate_walk.specs.Delivery.{touch_of, out_by}
 use Rattle.gate_walk.specs.UnderWay.{IsFor, queue_after}
 use Rattle.gate_book_trait.specs.Reads.{window_of, reports_in}
 use Rattle.gate_reads.specs.Touches.{event_of}
+use Rattle.gate_reads.specs.Windows.{window_now}
 use Rattle.gate_reads.specs.declared.touched.Event.{Event}
 use Rattle.gate_reads.specs.declared.touched.TouchedItem.{TouchedItem}
 use Rattle.gate_laws.proofs.Members.{In, from_map, to_map, from_append, found, not_found}
@@ -35,7 +36,7 @@ use Rattle.gate_laws.proofs.Alone.{same_name_of}
 use Rattle.gate_laws.proofs.Drawn.{item_drawn, report_drawn}
 use Rattle.gate_laws.proofs.FewRows.{few_numbers}
 use Rattle.gate_settling.specs.Touching.{Touching, delivered}
-use Rattle.gate_settling.specs.Rows.{is_out, has_landed, taken_out, reports_now, window_now}
+use Rattle.gate_settling.specs.Rows.{is_out, has_landed, taken_out, reports_now}
 use Rattle.gate_settling.proofs.LeftLemmas.{left}
 use Rattle.gate_settling.proofs.StandingLemmas.{queue_there, item_there, item_from_1, report_from_1, queue_is, touched_row}
 use Rattle.gate_types.specs.Counters.{last_number}

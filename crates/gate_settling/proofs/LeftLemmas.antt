@@ -27,6 +27,7 @@ use Rattle.gate_walk.specs.Kinds.{IsIn}
 use Rattle.gate_walk.specs.Delivery.{Touch, build_ended, item_left, item_landed, moved, touch_of, standing_rows}
 use Rattle.gate_reads.specs.Moves.{Columns, columns_of, row_by}
 use Rattle.gate_reads.specs.Touches.{event_of}
+use Rattle.gate_reads.specs.Windows.{window_now}
 use Rattle.gate_reads.specs.declared.touched.TouchedItem.{TouchedItem}
 use Rattle.gate_reads.specs.declared.touched.Event.{Event}
 use Rattle.gate_reads.specs.declared.touched.Event.TheVariants as event
@@ -36,7 +37,7 @@ use Rattle.gate_queue.proofs.Ordered.{RiseFrom, AllBelow, rises}
 use Rattle.gate_walk.proofs.Parting.{rise_at}
 use Rattle.gate_types.specs.Once.{Content}
 use Rattle.gate_settling.specs.Touching.{Touching}
-use Rattle.gate_settling.specs.Rows.{has_landed, reports_now, window_now, build_now}
+use Rattle.gate_settling.specs.Rows.{has_landed, reports_now, build_now}
 use Rattle.gate_settling.proofs.ColumnLemmas.{columns_found}
 use Rattle.gate_settling.proofs.SeamLemmas.{no_drop}
 use Rattle.gate_settling.proofs.ListLemmas.{or_false, each_same}

@@ -5,12 +5,10 @@ use Rattle.std.specs.Option.{option_map_or}
 use Rattle.gate_types.specs.declared.records.Change.{Change}
 use Rattle.gate_types.specs.declared.records.Item.{Item as ItemRow}
 use Rattle.gate_types.specs.declared.records.Build.{Build}
-use Rattle.gate_types.specs.declared.records.Verdict.TheVariants as verdict
 use Rattle.gate_types.specs.Names.{same_name}
 use Rattle.gate_types.specs.Settings.{Settings}
 use Rattle.gate_types.specs.State.{State, known_change, known_or_closed, change_of, is_landed, plan_of}
 use Rattle.gate_types.specs.Step.{with_ending}
-use Rattle.gate_types.specs.Window.{Bounds, grow, shrink}
 use Rattle.gate_walk.specs.declared.walk.Next.{Next}
 use Rattle.gate_walk.specs.declared.walk.Next.TheVariants as next
 use Rattle.gate_walk.specs.Walk.{SeenNeed, Seen}
@@ -43,12 +41,6 @@ taken_out k = if is_out k.event
 -- how many reports a queue then has
 abbrev pub reports_now : Event → ℕ → ℕ
 reports_now e n = if is_out e then n + 1 else n
-
--- its window: a landing grows it, a refusal shrinks it
-abbrev pub window_now : Event → Bounds → ℕ → ℕ
-window_now event.Landed bounds w = grow w bounds.rule
-window_now (event.Left verdict.Refused) bounds w = shrink w bounds.floor bounds.rule
-window_now _ bounds w = w
 
 -- ---- a row
 

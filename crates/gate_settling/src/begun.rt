@@ -1,7 +1,5 @@
 //! A walk before its first visit.
-ghost use Rattle.std.specs.Prelude.{◌≡◌, find, option_copied, option_map, IfOk, MatchOption, IfErr};
-ghost use Rattle.gate_types.specs.Names.{same_name};
-ghost use Rattle.gate_types.specs.Window.{bounds_by};
+ghost use Rattle.std.specs.Prelude.{◌≡◌, option_map, IfOk, MatchOption, IfErr};
 ghost use Rattle.gate_walk.specs.TakenOut.{out_of};
 ghost use Rattle.gate_walk.specs.UnderWay.{Starts};
 ghost use Rattle.gate_book_trait.specs.Kept.{OfHeldUnder, IsKept};
@@ -11,35 +9,11 @@ ghost use Rattle.gate_book_trait.specs.Faults.{MayAnswer};
 
 use crate::rows::{has_landed, is_out};
 use gate_book_trait::{Book, BookFault};
-use gate_queue::{grow, shrink};
-use gate_reads::{Event, TouchedItem};
-use gate_types::config::{Config, Queue};
-use gate_types::names::{Name, same_name};
+use gate_reads::{TouchedItem, queue, window_now};
+use gate_types::config::Config;
 use gate_types::numbers::LAST_NUMBER;
-use gate_types::records::Verdict;
 use gate_walk::{QueueFacts, TakenOut, Touched, Walk};
 use std::alloc::Global;
-
-fn queue_named<'c>(config: &'c Config, name: &Name) -> Option<&'c Queue>
-    ensures { option_copied result ≡ find (λ q. same_name q.name name.now) config.now.queues }
-{
-    config
-        .queues
-        .as_slice()
-        .iter()
-        .find(|queue| same_name(&queue.name, name))
-}
-
-/// The window of the touched queue once the delivery is done.
-fn window_now(event: Event, settings: &Queue, window: u32) -> u32
-    ensures { result ≡ rows.window_now event (bounds_by settings.now) window }
-{
-    match event {
-        Event::Landed => grow(window, settings.rule),
-        Event::Left(Verdict::Refused) => shrink(window, settings.floor, settings.rule),
-        _ => window,
-    }
-}
 
 fn taken_out(touched: &TouchedItem) -> Option<TakenOut>
     ensures { option_map out_of result ≡ rows.taken_out touched.now }
@@ -80,7 +54,7 @@ pub(crate) fn begun<B: Book>(
     ensures kept { IsKept B.IsTrusted B.Holds B.LeavesOneOf book.old book.new }
     ensures fault { IfErr result (MayAnswer B.MayFault) }
 {
-    let Some(settings) = queue_named(config, &touched.queue) else {
+    let Some(settings) = queue(config, touched.queue.as_str()) else {
         return Ok(None);
     };
     let Some(window) = book.window(&touched.queue)? else {
@@ -97,7 +71,7 @@ pub(crate) fn begun<B: Book>(
     };
     let facts = QueueFacts {
         settings,
-        window: window_now(touched.event, settings, window),
+        window: window_now(touched.event, Some(settings), window),
         reports,
     };
     Ok(Some(Walk::start(alloc, facts, starting_point(touched))?))

@@ -9,9 +9,8 @@ ghost use Rattle.gate_ruling.specs.Faults.{MayRule};
 use crate::edits::with_window;
 use crate::guards::ordered;
 use crate::leaving::{leaving, touched};
-use crate::windows::shrunk;
 use gate_book_trait::{Book, BookFault};
-use gate_reads::{Event, Moved, Raw, Said};
+use gate_reads::{Event, Moved, Raw, Said, queue, window_now};
 use gate_types::config::Config;
 use gate_types::deliveries::Reply;
 use gate_types::numbers::Serial;
@@ -42,10 +41,12 @@ pub(crate) fn refused<B: Book>(
         return Err(BookFault::Damaged);
     };
     let edits = leaving(alloc, book, config, &queued, Verdict::Refused)?;
-    let resized = shrunk(config, queued.queue.as_str(), window);
+    let left = Event::Left(Verdict::Refused);
+    let settings = queue(config, queued.queue.as_str());
+    let resized = window_now(left, settings, window);
     Ok(Raw::Moved(Moved {
         said: Said::Now(Reply::Removed),
         edits: with_window(edits, &queued.queue, window, resized)?,
-        touched: Some(touched(queued, Event::Left(Verdict::Refused))),
+        touched: Some(touched(queued, left)),
     }))
 }

@@ -1,16 +1,20 @@
 use Rattle.std.proofs.Common.{◌≡◌, ◌∙◌, ◌+◌, cond, sym, ap, arith}
-use Rattle.std.specs.Prelude.{option_copied}
+use Rattle.std.specs.Prelude.{find, option_copied}
 use Rattle.std.proofs.lemmas.Option.{same_Some, none-some}
+use Rattle.gate_types.specs.Names.{same_name}
 use Rattle.gate_types.specs.Window.{bounds_by}
+use Rattle.gate_reads.specs.Windows.{window_now}
 use Rattle.gate_settling.specs.Touching.{delivered}
-use Rattle.gate_settling.specs.Rows.{reports_now, window_now}
+use Rattle.gate_settling.specs.Rows.{reports_now}
 use Rattle.gate_settling.proofs.BegunLemmas.{set_there, window_is, reports_are, few_reports, is_for}
 use Rattle.gate_settling.proofs.begun.begun.Goals as goal
 use Rattle.gate_settling.proofs.begun.begun.Goals.{then-is_out, else-is_out}
 
 pub returns-in_default-clause-begun : goal.returns-in_default-clause-begun
 returns-in_default-clause-begun g c trusted x holds lawful h =
-    set_there h (sym c.queue_named.ensures ∙ ap option_copied c.in_default.is)
+    let queues = c.args.config.now.queues in
+    let asked = c.queue.ensures ∙ ap (λ n. find (λ q. same_name q.name n) queues) c.as_str.ensures.value in
+    set_there h (sym asked ∙ ap option_copied c.in_default.is)
 
 pub returns-in_default-2-clause-begun : goal.returns-in_default-2-clause-begun
 returns-in_default-2-clause-begun g c trusted x holds lawful h =
@@ -40,7 +44,9 @@ returns-clause-begun g c trusted x holds lawful h =
       | else-is_out w ↦ w.reports-is ∙ sym (ap (λ b. cond b (c.in_ok-before.before + 1) c.in_ok-before.before)
           (sym c.is_out.ensures ∙ w.if-is_out.false))
     ] in
-    let set = sym c.queue_named.ensures ∙ ap option_copied c.in-Some.is in
+    let queues = c.args.config.now.queues in
+    let asked = c.queue.ensures ∙ ap (λ n. find (λ q. same_name q.name n) queues) c.as_str.ensures.value in
+    let set = sym asked ∙ ap option_copied c.in-Some.is in
     c.in_ok-start.ensures.for_a_delivery (delivered h) (is_for h _ _ set
     (c.window_now.ensures ∙ ap (window_now k.event (bounds_by c.in-Some.settings.now)) window)
     (reports ∙ ap (reports_now k.event) many) c.starting_point.ensures.serial c.starting_point.ensures.ahead

@@ -1,19 +1,21 @@
 use Rattle.std.proofs.Common.{◌≡◌, ◌∙◌, ◌+◌, ◌++◌, ◌∷◌, [], length, Some, true, refl, sym, ap, subst, arith, rules}
+use Rattle.std.specs.Prelude.{find}
 use Rattle.std.proofs.lemmas.Option.{same_Some}
 use Rattle.gate_types.specs.declared.deliveries.Delivery.TheVariants as delivery
 use Rattle.gate_types.specs.declared.records.Plan.{Plan}
 use Rattle.gate_types.specs.declared.records.Verdict.TheVariants as verdict
 use Rattle.gate_types.specs.declared.edits.Edit.TheVariants as edit
+use Rattle.gate_types.specs.Names.{same_name}
 use Rattle.gate_types.specs.Settings.{are_sound}
 use Rattle.gate_types.specs.State.{change_queue, put_plan, known_change}
-use Rattle.gate_types.specs.Window.{grow}
 use Rattle.gate_types.specs.Rows.{item_of}
 use Rattle.gate_types.specs.Step.{leave, landed_queue, landed_plan}
 use Rattle.gate_reads.specs.Moves.{Moves}
 use Rattle.gate_reads.specs.Touches.{Touches}
+use Rattle.gate_reads.specs.Windows.{bounds_if, window_now}
+use Rattle.gate_reads.specs.declared.touched.Event.TheVariants as event
 use Rattle.gate_ruling.specs.Guards.{IsOrdered}
 use Rattle.gate_ruling.specs.Landing.{landing_edits}
-use Rattle.gate_ruling.specs.Windows.{bounds_named}
 use Rattle.gate_ruling.proofs.Few.{few_landings}
 use Rattle.gate_ruling.proofs.Folded.{moves_on}
 use Rattle.gate_ruling.proofs.Stored.{stored}
@@ -52,16 +54,16 @@ returns-clause-raw g c trusted x holds lawful =
     let plus = c.saturating_add-place.ensures in
     let place = c.saturating_add-place.result in
     let at : place ≡ length h.queue.landings + 1 = omega (arith, count, few, plus) in
-    let window = c.grown-resized.ensures
-    ∙ (λ i. grow (before i) (bounds_named s (c.as_str.ensures.value i)).rule) in
+    let set = c.queue-settings.ensures ∙ ap (λ n. find (λ q. same_name q.name n) s.queues) c.as_str.ensures.value in
+    let window = c.window_now-resized.ensures ∙ (λ i. window_now event.Landed (bounds_if (set i)) (before i)) in
     let t = leave (verdict.Landed place) k.item.change x.state in
     let u = change_queue k.queue (landed_queue s (item_of k.item)) t in
     let edits = c.in_ok-edits-2.ensures
-    ∙ ap (λ z. c.in_ok-edits.edits.items ++ landing_edits k place z c.grown-resized.result) before in
+    ∙ ap (λ z. c.in_ok-edits.edits.items ++ landing_edits k place z c.window_now-resized.result) before in
     let landing = subst (λ es. Moves x es u) (sym edits)
-    (moves_on x t u c.in_ok-edits.edits.items (landing_edits k place h.queue.window c.grown-resized.result)
+    (moves_on x t u c.in_ok-edits.edits.items (landing_edits k place h.queue.window c.window_now-resized.result)
     (c.in_ok-edits.ensures.moves trusted x at_five lawful o.row.stored)
-    (lands s x k settings sound h place c.grown-resized.result at window)) in
+    (lands s x k settings sound h place c.window_now-resized.result at window)) in
     let plan = landed_plan x.state k.item.serial in
     let planned = c.in_ok-edits-3.ensures
     ∙ ap (λ (p : Plan). c.in_ok-edits-2.edits.items ++ edit.PutPlan p ∷ [])

@@ -1,16 +1,18 @@
 use Rattle.std.proofs.Common.{◌≡◌, ◌∙◌, ◌++◌, Some, true, refl, sym, ap, subst, rules}
+use Rattle.std.specs.Prelude.{find}
 use Rattle.std.proofs.lemmas.Option.{same_Some}
 use Rattle.gate_types.specs.declared.deliveries.Delivery.TheVariants as delivery
 use Rattle.gate_types.specs.declared.records.Verdict.TheVariants as verdict
+use Rattle.gate_types.specs.Names.{same_name}
 use Rattle.gate_types.specs.Settings.{are_sound}
 use Rattle.gate_types.specs.State.{change_queue}
-use Rattle.gate_types.specs.Window.{shrink}
 use Rattle.gate_types.specs.Step.{leave, shrunk_queue}
 use Rattle.gate_queue.specs.Edits.{window_edits}
 use Rattle.gate_reads.specs.Moves.{Moves}
 use Rattle.gate_reads.specs.Touches.{Touches}
+use Rattle.gate_reads.specs.Windows.{bounds_if, window_now}
+use Rattle.gate_reads.specs.declared.touched.Event.TheVariants as event
 use Rattle.gate_ruling.specs.Guards.{IsOrdered}
-use Rattle.gate_ruling.specs.Windows.{bounds_named}
 use Rattle.gate_ruling.proofs.Folded.{moves_on}
 use Rattle.gate_ruling.proofs.Stored.{stored}
 use Rattle.gate_ruling.proofs.Ordered.{refusing, refused_touches, refused_raw, shrinks}
@@ -34,12 +36,12 @@ returns-clause-raw g c trusted x holds lawful =
     let before : c.in-Some.window ≡ h.queue.window =
     same_Some c.in-Some.window h.queue.window
     (sym c.in-Some.is ∙ c.in_ok-window.ensures.found two s x at_one lawful ∙ window_stored h) in
-    let window = c.shrunk-resized.ensures ∙ (λ i.
-    shrink (before i) (bounds_named s (c.as_str.ensures.value i)).floor (bounds_named s (c.as_str.ensures.value i)).rule) in
+    let set = c.queue-settings.ensures ∙ ap (λ n. find (λ q. same_name q.name n) s.queues) c.as_str.ensures.value in
+    let window = c.window_now-resized.ensures ∙ (λ i. window_now (event.Left verdict.Refused) (bounds_if (set i)) (before i)) in
     let t = leave verdict.Refused k.item.change x.state in
     let u = change_queue k.queue (shrunk_queue s) t in
     let edits = c.in_ok-with_window.ensures
-    ∙ ap (λ z. c.in_ok-edits.edits.items ++ window_edits k.queue z c.shrunk-resized.result) before in
+    ∙ ap (λ z. c.in_ok-edits.edits.items ++ window_edits k.queue z c.window_now-resized.result) before in
     record {
       after = u;
       accepted = refused_raw s x.state number k o;
@@ -47,9 +49,9 @@ returns-clause-raw g c trusted x holds lawful =
       touches = subst (λ y. Touches s x.state d (Some y)) (sym c.touched.ensures)
           (refused_touches s x.state number k o);
       moves = subst (λ es. Moves x es u) (sym edits)
-          (moves_on x t u c.in_ok-edits.edits.items (window_edits k.queue h.queue.window c.shrunk-resized.result)
+          (moves_on x t u c.in_ok-edits.edits.items (window_edits k.queue h.queue.window c.window_now-resized.result)
           (c.in_ok-edits.ensures.moves trusted x at_two lawful o.row.stored)
-          (shrinks s x k settings sound h c.shrunk-resized.result window));
+          (shrinks s x k settings sound h c.window_now-resized.result window));
       unplaced = tt;
     }
 
