@@ -1,14 +1,21 @@
 //! What the jobs of an item have come to, by its live builds.
 ghost use Rattle.std.specs.Prelude.{◌≡◌, find, option_copied, IfOk};
 ghost use Rattle.std.specs.List.{list_all};
-ghost use Rattle.gate_types.specs.Slot.{is_waiting_slot, is_finished};
+ghost use Rattle.gate_types.specs.Slot.{is_waiting_slot, is_finished, is_running};
 ghost use Rattle.gate_queue.specs.Outcomes.{slot_among};
 
 use gate_queue::{is_finished, slot_among};
 use gate_types::config::Job;
 use gate_types::names::NoMemory;
-use gate_types::records::{Build, Slot};
+use gate_types::records::{Build, Outcome, Slot};
 use std::alloc::Global;
+
+/// Whether a build hasn't ended.
+pub fn is_running(build: &Build) -> bool
+    ensures { result ≡ is_running build.now.outcome }
+{
+    matches!(build.outcome, Outcome::Running)
+}
 
 fn is_waiting(slot: Slot) -> bool
     ensures { result ≡ is_waiting_slot slot }

@@ -22,6 +22,7 @@ mod windows;
 
 pub use choosing::{next_build, push_unless_failing};
 pub use due::are_met_among;
+pub use jobs::is_running;
 pub use known::needs_of;
 pub use orders::{is_submitting, order_of_queue, shown_order};
 pub use raw::{Moved, Raw, Said};

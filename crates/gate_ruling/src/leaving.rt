@@ -10,11 +10,11 @@ ghost use Rattle.gate_reads.specs.Stands.{StandsSo};
 ghost use Rattle.gate_ruling.specs.Leaving.{stop_of, out_of_queue, touched_of};
 
 use gate_book_trait::{Book, BookFault, QueuedItem};
-use gate_reads::{Event, Stand, TouchedItem};
+use gate_reads::{Event, Stand, TouchedItem, is_running};
 use gate_types::config::Config;
 use gate_types::edits::Edit;
 use gate_types::names::NoMemory;
-use gate_types::records::{Build, Outcome, Report, Verdict};
+use gate_types::records::{Build, Report, Verdict};
 use std::alloc::Global;
 
 /// Edits, and the item that they touch, if they touch one.
@@ -22,13 +22,6 @@ use std::alloc::Global;
 pub(crate) struct Left {
     pub edits: Vec<Edit>,
     pub touched: Option<TouchedItem>,
-}
-
-/// Whether a build hasn't ended.
-pub(crate) fn is_running(build: &Build) -> bool
-    ensures { result ≡ is_running build.now.outcome }
-{
-    matches!(build.outcome, Outcome::Running)
 }
 
 /// The item's report, at a place of its queue, and the end of its row.

@@ -2,7 +2,6 @@
 ghost use Rattle.std.specs.Prelude.{◌≡◌, [], ◌∷◌, ◌++◌, List, Some, IfOk, IfErr, OnOk, string_bytes};
 ghost use Rattle.gate_types.specs.State.{Queue};
 ghost use Rattle.gate_types.specs.declared.records.Build.{Build};
-ghost use Rattle.gate_types.specs.Slot.{is_running};
 ghost use Rattle.gate_archive.specs.RunningBuilds.{running_builds, running_piece, running_text};
 ghost use Rattle.gate_book_trait.specs.Faults.{MayAnswer};
 ghost use Rattle.gate_book_trait.specs.Kept.{OfHeld, OfHeldUnder, IsKept};
@@ -11,10 +10,11 @@ ghost use Rattle.gate_texts.specs.Running as told;
 
 use crate::values::push_entry;
 use gate_book_trait::{Book, BookFault};
+use gate_reads::is_running;
 use gate_types::config::Config;
 use gate_types::limits::MOST_LISTED;
 use gate_types::names::{Name, NoMemory, Text};
-use gate_types::records::{Build, Outcome};
+use gate_types::records::Build;
 use std::alloc::{AllocError, Global};
 
 /// The builds that were told so far: the text of the first, and how many they are.
@@ -22,12 +22,6 @@ use std::alloc::{AllocError, Global};
 struct Running {
     list: String,
     count: u64,
-}
-
-fn is_running(build: &Build) -> bool
-    ensures { result ≡ is_running build.now.outcome }
-{
-    matches!(build.outcome, Outcome::Running)
 }
 
 /// The members stand in byte order of their names.

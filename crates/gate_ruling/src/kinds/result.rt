@@ -7,9 +7,8 @@ ghost use Rattle.gate_book_trait.specs.Kept.{OfHeldUnder, IsKept};
 ghost use Rattle.gate_reads.specs.Raw.{IsRaw};
 ghost use Rattle.gate_ruling.specs.Faults.{MayRule};
 
-use crate::leaving::is_running;
 use gate_book_trait::{Book, BookFault};
-use gate_reads::{Event, Moved, Raw, Said, TouchedItem};
+use gate_reads::{Event, Moved, Raw, Said, TouchedItem, is_running};
 use gate_types::config::Config;
 use gate_types::deliveries::{Ending, Refusal, Reply};
 use gate_types::edits::Edit;
