@@ -1,5 +1,5 @@
 //! What a visit is given of a row: as it is stored, with what the delivery makes of it.
-ghost use Rattle.std.specs.Prelude.{◌≡◌, ◌++◌, ◌∷◌, [], IfOk, map, IfErr};
+ghost use Rattle.std.specs.Prelude.{◌≡◌, IfOk, map, IfErr};
 ghost use Rattle.gate_types.specs.State.{known_change, plan_of};
 ghost use Rattle.gate_book_trait.specs.Kept.{OfHeld, IsKept};
 ghost use Rattle.gate_book_trait.specs.Reads as read;
@@ -11,7 +11,7 @@ use gate_reads::{Event, TouchedItem};
 use gate_types::lists::with_one;
 use gate_types::names::{NoMemory, same_name};
 use gate_types::numbers::{ChangeNo, Serial};
-use gate_types::records::{Build, Change, Outcome, Plan};
+use gate_types::records::{Build, Change, Plan};
 use gate_walk::SeenNeed;
 use std::alloc::Global;
 
@@ -132,20 +132,12 @@ fn build_now(event: Event, build: Build) -> Build
     }
 }
 
-fn with_build(builds: Vec<Build>, build: Build) -> Result<Vec<Build>, NoMemory>
-    ensures { IfOk result (λ all. all.items ≡ builds.items ++ build ∷ []) }
-{
-    let mut builds = builds;
-    builds.push(build)?;
-    Ok(builds)
-}
-
 fn builds_after(alloc: Global, event: Event, live: &[Build]) -> Result<Vec<Build>, NoMemory>
     ensures { IfOk result (λ builds. builds.items ≡ map (rows.build_now event) live.now) }
 {
     let mut builds = Vec::new(alloc);
     for build in live {
-        builds = with_build(builds, build_now(event, build.copy()?))?;
+        builds = with_one(builds, build_now(event, build.copy()?))?;
     }
     Ok(builds)
 }
