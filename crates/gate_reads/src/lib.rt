@@ -28,4 +28,4 @@ pub use orders::{is_submitting, order_of_queue, shown_order};
 pub use raw::{Moved, Raw, Said};
 pub use stands::{Stand, stand_of};
 pub use touched::{Event, TouchedItem};
-pub use windows::{queue, window_now};
+pub use windows::window_now;

@@ -1,23 +1,11 @@
 //! The window that a delivery leaves of the queue of the item that it touched.
-ghost use Rattle.std.specs.Prelude.{◌≡◌, find, option_copied};
-ghost use Rattle.gate_types.specs.Names.{same_name};
+ghost use Rattle.std.specs.Prelude.{◌≡◌, option_copied};
 ghost use Rattle.gate_reads.specs.Windows as rules;
 
 use crate::touched::Event;
 use gate_queue::{grow, shrink};
-use gate_types::config::{Config, Queue, WindowRule};
+use gate_types::config::{Queue, WindowRule};
 use gate_types::records::Verdict;
-
-/// The settings of the queue of a name.
-pub fn queue<'c>(config: &'c Config, name: &str) -> Option<&'c Queue>
-    ensures { option_copied result ≡ find (λ q. same_name q.name name.now) config.now.queues }
-{
-    config
-        .queues
-        .as_slice()
-        .iter()
-        .find(|queue| queue.name.as_str() == name)
-}
 
 fn window_by(event: Event, floor: u32, rule: WindowRule, window: u32) -> u32
     ensures { result ≡ rules.window_now event (record { floor = floor; rule = rule }) window }

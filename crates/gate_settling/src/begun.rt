@@ -9,7 +9,7 @@ ghost use Rattle.gate_book_trait.specs.Faults.{MayAnswer};
 
 use crate::rows::{has_landed, is_out};
 use gate_book_trait::{Book, BookFault};
-use gate_reads::{TouchedItem, queue, window_now};
+use gate_reads::{TouchedItem, window_now};
 use gate_types::config::Config;
 use gate_types::numbers::LAST_NUMBER;
 use gate_walk::{QueueFacts, TakenOut, Touched, Walk};
@@ -54,7 +54,7 @@ pub(crate) fn begun<B: Book>(
     ensures kept { IsKept B.IsTrusted B.Holds B.LeavesOneOf book.old book.new }
     ensures fault { IfErr result (MayAnswer B.MayFault) }
 {
-    let Some(settings) = queue(config, touched.queue.as_str()) else {
+    let Some(settings) = config.queue(touched.queue.as_str()) else {
         return Ok(None);
     };
     let Some(window) = book.window(&touched.queue)? else {

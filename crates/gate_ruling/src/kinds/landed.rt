@@ -14,7 +14,7 @@ use crate::edits::with_window;
 use crate::guards::ordered;
 use crate::leaving::{leaving, touched};
 use gate_book_trait::{Book, BookFault, QueuedItem, plan_of};
-use gate_reads::{Event, Moved, Raw, Said, queue, window_now};
+use gate_reads::{Event, Moved, Raw, Said, window_now};
 use gate_types::config::Config;
 use gate_types::deliveries::Reply;
 use gate_types::edits::Edit;
@@ -105,7 +105,7 @@ pub(crate) fn landed<B: Book>(
     let plan = landed_plan(alloc, book, &queued)?;
     let place = landings.saturating_add(1);
     let edits = leaving(alloc, book, config, &queued, Verdict::Landed(place))?;
-    let settings = queue(config, queued.queue.as_str());
+    let settings = config.queue(queued.queue.as_str());
     let resized = window_now(Event::Landed, settings, window);
     let edits = with_landing(edits, &queued, place, window, resized)?;
     let edits = with_one(edits, Edit::PutPlan(plan))?;
