@@ -37,8 +37,7 @@ pub(crate) fn admitted<B: Book>(
     ensures kept { IsKept B.IsTrusted B.Holds B.LeavesOneOf book.old book.new }
     ensures fault { IfErr result (MayAnswer B.MayFault) }
 {
-    // This shows the prover that the settings are sound.
-    let _settings = &config.base;
+    config.show_sound();
     rest::settled_is_at_rest();
     admitting(alloc, book, config, edits)
 }

@@ -130,8 +130,7 @@ fn act<B: Book>(
     ensures undamaged { OfHeldUnder B.IsTrusted B.Holds book.old book.new config.now (λ x.
         IfErr result (MayAnswer B.MayFault)) }
 {
-    // This shows the prover that the settings are sound.
-    let _settings = &config.base;
+    config.show_sound();
     typed::settings_are_in_form(config);
     typed::delivery_is_in_form(delivery);
     typed::id_is_in_form(&id);

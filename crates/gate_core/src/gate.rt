@@ -81,8 +81,7 @@ impl<B: Book> Gate<B> {
         ensures settings { self.new.config ≡ self.old.config }
     {
         let config = &self.config;
-        // This shows the prover that the settings are sound.
-        let _settings = &config.base;
+        config.show_sound();
         orders::a_shown_order_stays();
         orders::only_shown_orders_are_answered();
         deliver(

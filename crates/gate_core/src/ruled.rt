@@ -61,8 +61,7 @@ fn settle<B: Book>(
     ensures kept { IsKept B.IsTrusted B.Holds B.LeavesOneOf book.old book.new }
     ensures fault { IfErr result (MayAnswer B.MayFault) }
 {
-    // This shows the prover that the settings are sound.
-    let _settings = &config.base;
+    config.show_sound();
     runs::raw_step_is_sound();
     settling_laws::rebase_is_sound();
     settling_laws::sweep_is_sound();

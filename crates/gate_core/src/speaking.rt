@@ -30,8 +30,7 @@ fn place_of<B: Book>(
     ensures kept { IsKept B.IsTrusted B.Holds B.LeavesOneOf book.old book.new }
     ensures fault { IfErr result (MayAnswer B.MayFault) }
 {
-    // This shows the prover that the settings are sound.
-    let _settings = &config.base;
+    config.show_sound();
     let known = known(book, edits, change)?;
     let Some(project) = project_of(config, &known) else {
         return Ok(Reply::Waiting);

@@ -48,8 +48,7 @@ pub fn shown_order<B: Book>(
     ensures kept { IsKept B.IsTrusted B.Holds B.LeavesOneOf book.old book.new }
     ensures fault { IfErr result (MayAnswer B.MayFault) }
 {
-    // This shows the prover that the settings are sound.
-    let _settings = &config.base;
+    config.show_sound();
     let Some(item) = book.item(number)? else {
         return Ok(None);
     };

@@ -32,8 +32,7 @@ pub fn stand_of<B: Book>(
     ensures kept { IsKept B.IsTrusted B.Holds B.LeavesOneOf book.old book.new }
     ensures fault { IfErr result (MayAnswer B.MayFault) }
 {
-    // This shows the prover that the settings are sound.
-    let _settings = &config.base;
+    config.show_sound();
     if let Some(queued) = book.queued(change)? {
         return Ok(Stand::Queued(queued));
     }

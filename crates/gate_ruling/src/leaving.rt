@@ -80,8 +80,7 @@ pub(crate) fn leaving<B: Book>(
     ensures kept { IsKept B.IsTrusted B.Holds B.LeavesOneOf book.old book.new }
     ensures fault { IfErr result (MayAnswer B.MayFault) }
 {
-    // This shows the prover that the settings are sound.
-    let _settings = &config.base;
+    config.show_sound();
     let reports = book.reports(&queued.queue)?;
     let builds = book.live_builds(queued.item.serial)?;
     let edits = out_of_queue(alloc, queued, reports.saturating_add(1), verdict)?;

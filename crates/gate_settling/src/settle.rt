@@ -36,8 +36,7 @@ pub fn settling<B: Book>(
     ensures kept { IsKept B.IsTrusted B.Holds B.LeavesOneOf book.old book.new }
     ensures fault { IfErr result (MayAnswer B.MayFault) }
 {
-    // This shows the prover that the settings are sound.
-    let _settings = &config.base;
+    config.show_sound();
     match touched {
         Some(touched) => edits_of_walk(alloc, book, config, touched),
         None => Ok(Vec::new(alloc)),

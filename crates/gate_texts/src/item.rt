@@ -136,8 +136,7 @@ fn told_item<B: Archive>(
     ensures kept { IsKept B.IsTrusted B.Holds B.LeavesOneOf book.old book.new }
     ensures fault { IfErr result (MayAnswer B.MayFault) }
 {
-    // This shows the prover that the settings are sound.
-    let _settings = &config.base;
+    config.show_sound();
     if let Some(queued) = queued_at(book, serial)? {
         let jobs = item_jobs(alloc, book, &queued)?;
         return Ok(Some(of_queued(queued, jobs)));

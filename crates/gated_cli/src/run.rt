@@ -213,8 +213,7 @@ fn run_replay<F: Files + GateFiles + AllocGlobal, R: Read, W: Write>(
 fn opened(alloc: Global, config: Config) -> Result<Gate<MemBook>, NoMemory>
     ensures { IfOk result (λ gate. IsGate gate (opened config)) }
 {
-    // This shows the prover that the settings are sound.
-    let _settings = &config.base;
+    config.show_sound();
     settings_are_in_form(&config);
     start_is_lawful();
     empty_is_in_form();

@@ -31,8 +31,7 @@ pub(crate) fn refused<B: Book>(
     ensures undamaged { OfHeldUnder B.IsTrusted B.Holds book.old book.new config.now (λ x.
         IfErr result (MayAnswer B.MayFault)) }
 {
-    // This shows the prover that the settings are sound.
-    let _settings = &config.base;
+    config.show_sound();
     let queued = match ordered(alloc, book, config, order)? {
         Ok(queued) => queued,
         Err(raw) => return Ok(raw),

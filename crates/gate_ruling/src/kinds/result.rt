@@ -39,8 +39,7 @@ pub(crate) fn result<B: Book>(
     ensures undamaged { OfHeldUnder B.IsTrusted B.Holds book.old book.new config.now (λ x.
         IfErr result (MayAnswer B.MayFault)) }
 {
-    // This shows the prover that the settings are sound.
-    let _settings = &config.base;
+    config.show_sound();
     let Some(known) = book.build(build)? else {
         return Ok(Raw::Refused(Refusal::UnknownBuild));
     };

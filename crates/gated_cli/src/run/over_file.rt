@@ -118,8 +118,7 @@ pub fn migrate<S: Alter + Drop>(
 pub(crate) fn stays_lawful(config: &Config)
     ensures { StaysLawful config.now }
 {
-    // This shows the prover that the settings are sound.
-    let _settings = &config.base;
+    config.show_sound();
     settings_are_in_form(config);
     adopted_content_is_lawful();
 }

@@ -47,7 +47,7 @@ returns-clause-found g c trusted x holds lawful =
     let there = found (λ y. serial_of y == c.args.number) (stood config s) it.0 it.1 in
     let shown = sym (c.in_ok-is_shown.ensures.found second x held lawful it.0.place
     (at_stood config s it.0 c.in-Some.item there.0 (sym it.2))) ∙ c.if-not-branch.false in
-    let sound = subst (λ (k : Settings). are_sound k ≡ true) c.config.view_is c.config.invariant in
+    let sound = c.show_sound.ensures in
     answered _ c.queued.result (c.queued.ensures.found trusted _ x
     (c.in_ok-is_shown.ensures.kept.holds_on second _ x held) lawful)
     (tells_shown config s sound lawful.lawful.sound c.args.number it.0 it.1 shown c.in-Some.item.change

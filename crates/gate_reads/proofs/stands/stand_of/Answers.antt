@@ -6,8 +6,7 @@ use Rattle.gate_reads.proofs.stands.stand_of.Goals as goal
 
 pub returns-in-Some-clause-found : goal.returns-in-Some-clause-found
 returns-in-Some-clause-found g c trusted x holds lawful =
-    queued_so c.args.config.now x.state (subst
-    (λ (k : Settings). are_sound k ≡ true) c.config.view_is c.config.invariant)
+    queued_so c.args.config.now x.state c.show_sound.ensures
     lawful.lawful.sound c.args.change c.in-Some.queued
     (sym (c.in_ok-queued.ensures.found trusted _ x holds lawful) ∙ c.in-Some.is)
 

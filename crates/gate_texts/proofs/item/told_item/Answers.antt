@@ -11,7 +11,7 @@ returns-in-Some-clause-found g c trusted x holds lawful =
     let before = c.in_ok-jobs.ensures.kept.trusted_before trusted in
     let held = c.in_ok-queued.ensures.kept.holds_on before config x holds in
     let told = c.of_queued.ensures in
-    queued_told config x (subst (λ (k : Settings). are_sound k ≡ true) c.config.view_is c.config.invariant) lawful
+    queued_told config x c.show_sound.ensures lawful
     c.args.serial c.in-Some.queued c.of_queued.result
     (sym c.in-Some.is ∙ c.in_ok-queued.ensures.found before config x holds lawful)
     (ap (λ (t : ToldItem). t.queue) told) (ap (λ (t : ToldItem). t.change) told)

@@ -7,7 +7,7 @@ use Rattle.gated_cli.proofs.run.opened.Goals as goal
 pub returns : goal.returns
 returns c =
     let s = c.args.config in
-    let sound : are_sound s ≡ true = subst (λ k. are_sound k ≡ true) c.config.view_is c.config.invariant in
+    let sound : are_sound s ≡ true = c.show_sound.ensures in
     let same = sym c.new-2.ensures.config in
     let lawful : IsLawfulContent s (empty s) = record {
       lawful = c.start_is_lawful.ensures s;
