@@ -1,5 +1,7 @@
 -- Whoever may enter behind a delivery may by its edits, since before it nobody might.
-use Rattle.std.proofs.Common.{◌≡◌, ◌⊎◌, ℕ, suc, ◌+◌, ◌≤◌, Bool, true, false, not, ◌&&◌, ◌||◌, cond, Option, Some, None, is_some, List, [], ◌∷◌, map, fold, filter, length, refl, sym, ap, ◌∙◌, subst, inl, inr, ⊎_elim, arith, true≢false, length-append}
+use Rattle.std.proofs.Common.{◌≡◌, ◌⊎◌, ℕ, suc, ◌+◌, ◌≤◌, Bool, true, false, not, ◌&&◌, ◌||◌, cond, Option, Some}
+use Rattle.std.proofs.Common.{None, is_some, List, [], ◌∷◌, map, fold, filter, length, refl, sym, ap, ◌∙◌, subst, inl}
+use Rattle.std.proofs.Common.{inr, ⊎_elim, arith, true≢false, length-append}
 use Rattle.std.specs.Prelude.{◌==◌, nat_lt, nat_le, if◌then◌else◌, find, filter_map, unwrap_or}
 use Rattle.std.specs.List.{list_any}
 use Rattle.std.specs.Option.{option_map_or, option_or}
@@ -19,7 +21,8 @@ use Rattle.gate_types.specs.declared.deliveries.Delivery.TheVariants as delivery
 use Rattle.gate_types.specs.declared.deliveries.Reply.{Reply}
 use Rattle.gate_types.specs.Names.{same_name}
 use Rattle.gate_types.specs.Settings.{Settings, are_distinct}
-use Rattle.gate_types.specs.State.{Item, Queue, State, put_by, has_change, change_of, known_change, project_of, is_landed}
+use Rattle.gate_types.specs.State.{Item, Queue, State, put_by, has_change, change_of, known_change, project_of}
+use Rattle.gate_types.specs.State.{is_landed}
 use Rattle.gate_types.specs.Slot.{are_met_by}
 use Rattle.gate_types.specs.Standing.{needs_of}
 use Rattle.gate_types.specs.Window.{bounds_of}
@@ -27,7 +30,8 @@ use Rattle.gate_types.specs.Rebase.{rebase}
 use Rattle.gate_types.specs.Sweep.{Judged, judged, report_of, swept_queue}
 use Rattle.gate_types.specs.Admit.{may_enter}
 use Rattle.gate_types.specs.SubmitOrder.{Order}
-use Rattle.gate_types.specs.Step.{left_queue, landed_queue, shrunk_queue, raw_step, raw_revision, raw_approved, raw_withdrawn, raw_closed, raw_landed, raw_refused, raw_take, raw_result, accepted}
+use Rattle.gate_types.specs.Step.{left_queue, landed_queue, shrunk_queue, raw_step, raw_revision, raw_approved}
+use Rattle.gate_types.specs.Step.{raw_withdrawn, raw_closed, raw_landed, raw_refused, raw_take, raw_result, accepted}
 use Rattle.gate_types.specs.Rows.{item_rows, edited_reports}
 use Rattle.gate_types.specs.Once.{Content}
 use Rattle.gate_types.specs.Lawful.{IsSound}
@@ -37,10 +41,12 @@ use Rattle.gate_types.proofs.NameLemmas.{same_name_is}
 use Rattle.gate_laws.specs.Rest.{IsAtRest}
 use Rattle.gate_laws.proofs.Adopting.{found_named}
 use Rattle.gate_laws.proofs.Alone.{same_name_of}
-use Rattle.gate_laws.proofs.EachAccepted.{on_accepted, each_revision, each_approved, each_withdrawn, each_closed, each_landed, each_refused, each_take, each_result}
+use Rattle.gate_laws.proofs.EachAccepted.{on_accepted, each_revision, each_approved, each_withdrawn, each_closed}
+use Rattle.gate_laws.proofs.EachAccepted.{each_landed, each_refused, each_take, each_result}
 use Rattle.gate_laws.proofs.IdleSweep.{judged_items}
 use Rattle.gate_laws.proofs.Told.{report_on}
-use Rattle.gate_laws.proofs.Members.{In, every, from_map, any_from, any_to, none_from, from_filter, map_map, contains_in}
+use Rattle.gate_laws.proofs.Members.{In, every, from_map, any_from, any_to, none_from, from_filter, map_map}
+use Rattle.gate_laws.proofs.Members.{contains_in}
 use Rattle.gate_reads.specs.Moves.{swept}
 use Rattle.gate_admission.specs.Led.{IsLed}
 use Rattle.gate_admission.specs.Seen.{change_put, last_put}

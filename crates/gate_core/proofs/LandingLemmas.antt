@@ -14,8 +14,10 @@ use Rattle.gate_types.specs.SubmitOrder.{Order, orders}
 use Rattle.gate_types.specs.Step.{Stepped, step, accepted, refused}
 use Rattle.gate_types.specs.Lawful.{IsLawful}
 use Rattle.gate_types.specs.Forms.{IsLawfulContent}
-use Rattle.gate_types.specs.Once.{Content, Call, kept_for, may_act, is_accepted, content_after, next_content, acts, answer_of}
-use Rattle.gate_laws.specs.Orders.{answers_order, IsStillShown, AShownOrderStays, is_order_shown, OnlyShownOrdersAreAnswered}
+use Rattle.gate_types.specs.Once.{Content, Call, kept_for, may_act, is_accepted, content_after, next_content, acts}
+use Rattle.gate_types.specs.Once.{answer_of}
+use Rattle.gate_laws.specs.Orders.{answers_order, IsStillShown, AShownOrderStays, is_order_shown}
+use Rattle.gate_laws.specs.Orders.{OnlyShownOrdersAreAnswered}
 use Rattle.gate_core.specs.Landing.{LandsRightly}
 
 -- a call acts, and its delivery's state is the next one; or it doesn't, and nothing changes

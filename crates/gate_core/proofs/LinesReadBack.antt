@@ -1,5 +1,6 @@
 -- The object of a line reads as a value, and this value says the delivery and the id.
-use Rattle.std.proofs.Common.{◌≡◌, ℕ, ◌<◌, ◌≤◌, ◌^◌, Bool, true, ◌&&◌, cond, List, [], Some, None, Result, Ok, codes, inl, refl, sym, ap, ◌∙◌, arith, append-nil}
+use Rattle.std.proofs.Common.{◌≡◌, ℕ, ◌<◌, ◌≤◌, ◌^◌, Bool, true, ◌&&◌, cond, List, [], Some, None, Result, Ok, codes}
+use Rattle.std.proofs.Common.{inl, refl, sym, ap, ◌∙◌, arith, append-nil}
 use Rattle.std.specs.Prelude.{nat_le, option_and_then}
 use Rattle.std.proofs.lemmas.Str.{IsUtf8-from_ascii}
 use Rattle.json.specs.Json as json
@@ -26,7 +27,9 @@ use Rattle.gate_types.specs.Names.{is_path_name, is_message}
 use Rattle.gate_types.specs.OneText.{IsInRange}
 use Rattle.gate_laws.proofs.LogIsTheGate.{forms_are_in_range}
 use Rattle.gate_wire.specs.declared.door.Door.TheVariants as door
-use Rattle.gate_wire.specs.Reading.{says, read_or_bad, data_says, id_at, kind_at, delivery_at, revision_said, change_at, revision_at, order_at, build_at, project_at, worker_at, message_at, ending_at, on_change, number_up_to, text_of_form, or_bad, passing, ◌>>=◌}
+use Rattle.gate_wire.specs.Reading.{says, read_or_bad, data_says, id_at, kind_at, delivery_at, revision_said}
+use Rattle.gate_wire.specs.Reading.{change_at, revision_at, order_at, build_at, project_at, worker_at, message_at}
+use Rattle.gate_wire.specs.Reading.{ending_at, on_change, number_up_to, text_of_form, or_bad, passing, ◌>>=◌}
 use Rattle.gate_wire.proofs.ReadingLemmas.{value_found}
 use Rattle.gate_archive.specs.Feed.{with_id}
 use Rattle.gate_archive.proofs.LineLaw.{a_line_is_its_delivery_under_its_id}

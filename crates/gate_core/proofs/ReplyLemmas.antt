@@ -1,5 +1,6 @@
 -- From lines answered in turn to the replies and the calls of the lines.
-use Rattle.std.proofs.Common.{◌≡◌, ◌≢◌, true≢false, ℕ, ◌<◌, ◌≤◌, Bool, true, false, List, [], ◌∷◌, ◌++◌, map, length, take, Option, Result, Ok, Err, inl, inr, rules, refl, sym, ap, ◌∙◌, subst}
+use Rattle.std.proofs.Common.{◌≡◌, ◌≢◌, true≢false, ℕ, ◌<◌, ◌≤◌, Bool, true, false, List, [], ◌∷◌, ◌++◌, map, length}
+use Rattle.std.proofs.Common.{take, Option, Result, Ok, Err, inl, inr, rules, refl, sym, ap, ◌∙◌, subst}
 use Rattle.std.specs.Bool.{if◌then◌else◌}
 use Rattle.std.proofs.lemmas.List.{length-map}
 use Rattle.std.proofs.lemmas.List.Concat.{flat_map-append}
@@ -22,7 +23,8 @@ use Rattle.gate_core.specs.Limit.{limit, too_large}
 use Rattle.gate_wire.specs.declared.door.Door.TheVariants as door
 use Rattle.gate_wire.specs.Reading.{says}
 use Rattle.gate_core.specs.Runs.{Answers, Runs, Broke}
-use Rattle.gate_core.specs.Replies.{CallsAreAnswered, call_replies, Marked, is_too_long, call_read, call_of, calls_of_lines, gate_after_lines, text_read, reply_to, replies}
+use Rattle.gate_core.specs.Replies.{CallsAreAnswered, call_replies, Marked, is_too_long, call_read, call_of}
+use Rattle.gate_core.specs.Replies.{calls_of_lines, gate_after_lines, text_read, reply_to, replies}
 use Rattle.gate_core.specs.Left.{LeavesBy}
 use Rattle.gate_core.specs.Held.{CutOver, Goes, ReplayedOver, Tells, ToldOver}
 use Rattle.gate_core.proofs.LeftLemmas.{MayLeaveMore, leaves_call, leaves_none, leaves_then, leaves_unheard}

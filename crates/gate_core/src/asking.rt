@@ -1,5 +1,6 @@
 //! What a gate that runs is asked beside its status: reads alone.
-ghost use Rattle.std.specs.Prelude.{◌≡◌, ◌⊎◌, [], false, None, Some, option_map, IfOk, IfErr, MatchResult, string_bytes};
+ghost use Rattle.std.specs.Prelude.{◌≡◌, ◌⊎◌, [], false, None, Some, option_map, IfOk, IfErr, MatchResult};
+ghost use Rattle.std.specs.Prelude.{string_bytes};
 ghost use Rattle.gate_types.specs.State.{known_change};
 ghost use Rattle.gate_types.specs.Tap.{has_failed};
 ghost use Rattle.gate_book_trait.specs.Kept.{OfHeldUnder};

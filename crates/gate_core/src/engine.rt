@@ -1,5 +1,6 @@
 //! The engine: each line of a reader is answered by a line to a writer.
-ghost use Rattle.std.specs.Prelude.{◌≡◌, ◌≤◌, ◌+◌, ◌++◌, ◌∷◌, [], ℕ, List, OnOk, OnErr, IfOk, IsErrOf, true, false, length};
+ghost use Rattle.std.specs.Prelude.{◌≡◌, ◌≤◌, ◌+◌, ◌++◌, ◌∷◌, [], ℕ, List, OnOk, OnErr, IfOk, IsErrOf, true, false};
+ghost use Rattle.std.specs.Prelude.{length};
 ghost use Rattle.std.specs.Io.Iter.{u64_saturate};
 ghost use Rattle.gate_types.specs.Tap.{inside, has_failed, Gave, IsReadOut, Took, TookFront};
 ghost use Rattle.gate_core.specs.Limit.{limit};

@@ -11,7 +11,7 @@ ghost use Rattle.gate_reads.specs.Raw.{reply_by};
 
 use gate_admission::{item_in, known, project_of};
 use gate_book_trait::{Book, BookFault};
-use gate_reads::Said;
+use gate_reads::PendingReply;
 use gate_types::config::Config;
 use gate_types::deliveries::Reply;
 use gate_types::edits::Edit;
@@ -45,7 +45,7 @@ fn place_of<B: Book>(
 pub(crate) fn speak<B: Book>(
     book: &mut B,
     config: &Config,
-    said: Said,
+    said: PendingReply,
     edits: &[Edit],
 ) -> Result<Reply, BookFault>
     ensures said { OfHeldUnder B.IsTrusted B.Holds book.old book.new config.now (λ x. (u : State) →
@@ -55,7 +55,7 @@ pub(crate) fn speak<B: Book>(
     ensures fault { IfErr result (MayAnswer B.MayFault) }
 {
     match said {
-        Said::Now(reply) => Ok(reply),
-        Said::PlaceOf(change) => place_of(book, config, edits, change),
+        PendingReply::Now(reply) => Ok(reply),
+        PendingReply::PlaceOf(change) => place_of(book, config, edits, change),
     }
 }

@@ -1,5 +1,6 @@
 -- What the jobs of an item have come to, by its live builds alone: in a settled state each of them counts.
-use Rattle.std.proofs.Common.{◌≡◌, ◌+◌, Bool, true, false, not, ◌&&◌, ◌||◌, cond, Some, None, List, [], ◌∷◌, map, refl, sym, ap, ◌∙◌}
+use Rattle.std.proofs.Common.{◌≡◌, ◌+◌, Bool, true, false, not, ◌&&◌, ◌||◌, cond, Some, None, List, [], ◌∷◌, map}
+use Rattle.std.proofs.Common.{refl, sym, ap, ◌∙◌}
 use Rattle.std.specs.Prelude.{◌==◌, filter, find, slice_get, option_map}
 use Rattle.std.specs.List.{list_all, AllPass}
 use Rattle.std.proofs.lemmas.List.Elements.{All-tail, All-head}
@@ -10,7 +11,8 @@ use Rattle.gate_types.specs.Names.{same_name}
 use Rattle.gate_types.specs.Settings.{Settings}
 use Rattle.gate_types.specs.State.{Queue, State}
 use Rattle.gate_types.specs.Line.{Place, same_entries, line, ran_on}
-use Rattle.gate_types.specs.Slot.{is_blocked, counts, outcomes_of, slot_of_outcomes, raw_slot_of, has_failure, is_cut, cut_slot, slot_of, is_waiting_slot, is_finished}
+use Rattle.gate_types.specs.Slot.{is_blocked, counts, outcomes_of, slot_of_outcomes, raw_slot_of, has_failure, is_cut}
+use Rattle.gate_types.specs.Slot.{cut_slot, slot_of, is_waiting_slot, is_finished}
 use Rattle.gate_types.specs.Standing.{is_failing, are_finished, all_places}
 use Rattle.gate_types.specs.Choice.{build_for, builds_for}
 use Rattle.gate_types.specs.Lawful.{IsLawful}

@@ -1,5 +1,6 @@
 -- Rows that rise by serial: the first of those above a serial, and what is between.
-use Rattle.std.proofs.Common.{◌≡◌, ℕ, zero, suc, ◌<◌, ◌≤◌, ◌-◌, Bool, true, false, ◌&&◌, cond, Some, None, List, [], ◌∷◌, map, take, refl, sym, ap, ◌∙◌, subst, inl, inr, arith, lt-ltb, true≢false}
+use Rattle.std.proofs.Common.{◌≡◌, ℕ, zero, suc, ◌<◌, ◌≤◌, ◌-◌, Bool, true, false, ◌&&◌, cond, Some, None, List, []}
+use Rattle.std.proofs.Common.{◌∷◌, map, take, refl, sym, ap, ◌∙◌, subst, inl, inr, arith, lt-ltb, true≢false}
 use Rattle.std.specs.Prelude.{filter, if◌then◌else◌, length, nat_le, nat_lt, slice_get}
 use Rattle.std.specs.List.Sorted.{IsStrictlyIncreasing}
 use Rattle.std.proofs.lemmas.Bool.{le-leb, ltb-true}

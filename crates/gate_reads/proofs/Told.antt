@@ -17,7 +17,8 @@ use Rattle.gate_book_trait.specs.Reads.{queued_of, Answers}
 use Rattle.gate_reads.specs.Orders.{TellsShown}
 use Rattle.gate_reads.specs.Stands.{IsQueuedAs}
 use Rattle.gate_reads.proofs.Found.{any_found, found_itself, some_before, none_before}
-use Rattle.gate_reads.proofs.Stood.{Stood, stood, stood_there, queued_as, serial_of, change_of, change_once, queued_is, queue_is, is_queued_is}
+use Rattle.gate_reads.proofs.Stood.{Stood, stood, stood_there, queued_as, serial_of, change_of, change_once}
+use Rattle.gate_reads.proofs.Stood.{queued_is, queue_is, is_queued_is}
 use Rattle.gate_reads.proofs.ShownOrders.{shows, if_shown, order_as, shown_is}
 use Rattle.gate_reads.proofs.Passing.{row_of_order, stored_at}
 use Rattle.gate_reads.proofs.Queues.{named_itself}

@@ -1,5 +1,6 @@
 -- The items of a queue, part by part, before the first for which a build is due.
-use Rattle.std.proofs.Common.{◌≡◌, ℕ, zero, suc, ◌-◌, ◌<◌, ◌≤◌, Bool, true, false, ◌||◌, cond, Some, None, List, [], ◌∷◌, ◌++◌, map, take, drop, length, refl, sym, ap, ◌∙◌, subst, arith, inl, inr}
+use Rattle.std.proofs.Common.{◌≡◌, ℕ, zero, suc, ◌-◌, ◌<◌, ◌≤◌, Bool, true, false, ◌||◌, cond, Some, None, List, []}
+use Rattle.std.proofs.Common.{◌∷◌, ◌++◌, map, take, drop, length, refl, sym, ap, ◌∙◌, subst, arith, inl, inr}
 use Rattle.std.specs.Prelude.{◌==◌, nat_lt, nat_le, min, if◌then◌else◌, slice_get, option_map, Contains}
 use Rattle.std.specs.List.{flat_map}
 use Rattle.std.proofs.lemmas.Bool.{le-leb, leb-true, lt-ltb, ltb-true}
@@ -22,7 +23,8 @@ use Rattle.gate_reads.specs.NextBuild.{with_number}
 use Rattle.gate_reads.specs.Parts.{last_serial, ahead_behind, AreBehind}
 use Rattle.gate_reads.proofs.Walking.{IsLeft, place_behind, places_from, left_behind, rows_are, rows_left}
 use Rattle.gate_reads.proofs.RisingRows.{rows_above}
-use Rattle.gate_reads.proofs.Trying.{Tried, is_open, open_places, open_first, with_row, longer_is, first_some, first_none}
+use Rattle.gate_reads.proofs.Trying.{Tried, is_open, open_places, open_first, with_row, longer_is, first_some}
+use Rattle.gate_reads.proofs.Trying.{first_none}
 
 -- ---- how many are asked for
 

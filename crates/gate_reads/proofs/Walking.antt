@@ -1,5 +1,6 @@
 -- Going along a queue, row by row.
-use Rattle.std.proofs.Common.{◌≡◌, ℕ, suc, ◌≤◌, Bool, true, false, ◌&&◌, cond, Option, Some, None, List, [], ◌∷◌, map, refl, sym, ap, ◌∙◌, subst, inl, inr, arith, lt-ltb, le-ltb}
+use Rattle.std.proofs.Common.{◌≡◌, ℕ, suc, ◌≤◌, Bool, true, false, ◌&&◌, cond, Option, Some, None, List, [], ◌∷◌, map}
+use Rattle.std.proofs.Common.{refl, sym, ap, ◌∙◌, subst, inl, inr, arith, lt-ltb, le-ltb}
 use Rattle.std.specs.Prelude.{filter, find, length, nat_le, nat_lt, slice_get}
 use Rattle.std.specs.List.{list_all}
 use Rattle.std.specs.Option.{option_map_or}
@@ -13,7 +14,8 @@ use Rattle.gate_types.specs.Line.{Place}
 use Rattle.gate_types.specs.Standing.{with_ahead, next_ahead, places_after, place_of, places}
 use Rattle.gate_types.specs.Rows.{row_of, item_rows}
 use Rattle.gate_types.specs.Once.{Content}
-use Rattle.gate_types.specs.Forms.{IsLawfulContent, is_drawn_number, is_revision_number, is_item_in_form, is_landing_in_form, is_report_in_form, is_queue_in_form}
+use Rattle.gate_types.specs.Forms.{IsLawfulContent, is_drawn_number, is_revision_number, is_item_in_form}
+use Rattle.gate_types.specs.Forms.{is_landing_in_form, is_report_in_form, is_queue_in_form}
 use Rattle.gate_laws.proofs.Members.{In, all_from, every, found}
 use Rattle.gate_laws.proofs.Parts.{ItemsRise}
 use Rattle.gate_laws.proofs.Rising.{Rising, rising}

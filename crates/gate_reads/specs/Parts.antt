@@ -8,7 +8,8 @@ use Rattle.gate_types.specs.State.{Item, Queue, State, plan_of}
 use Rattle.gate_types.specs.Line.{Place, item_entry}
 use Rattle.gate_types.specs.Standing.{places_after, place_of, places}
 use Rattle.gate_types.specs.Rows.{row_of}
-use Rattle.gate_book_trait.specs.Reads.{queue_named, items_in, first_items_above, live_builds, plans_of_items, builds_of_items}
+use Rattle.gate_book_trait.specs.Reads.{queue_named, items_in, first_items_above, live_builds, plans_of_items}
+use Rattle.gate_book_trait.specs.Reads.{builds_of_items}
 use Rattle.gate_reads.specs.declared.due.ToldItem.{ToldItem}
 use Rattle.gate_reads.specs.declared.part.Part.{Part}
 

@@ -14,16 +14,16 @@ use Rattle.gate_reads.specs.Touches.{Touches}
 use Rattle.gate_reads.specs.declared.raw.Raw.{Raw}
 use Rattle.gate_reads.specs.declared.raw.Raw.TheVariants as raw
 use Rattle.gate_reads.specs.declared.raw.Moved.{Moved}
-use Rattle.gate_reads.specs.declared.raw.Said.{Said}
-use Rattle.gate_reads.specs.declared.raw.Said.TheVariants as said
+use Rattle.gate_reads.specs.declared.raw.PendingReply.{PendingReply}
+use Rattle.gate_reads.specs.declared.raw.PendingReply.TheVariants as said
 
 -- the reply, said at once or read from the settled state
-abbrev pub reply_by : Said → State → Reply
+abbrev pub reply_by : PendingReply → State → Reply
 reply_by (said.Now r) u = r
 reply_by (said.PlaceOf n) u = approval_reply n u
 
 -- a change whose place is told stands in no queue yet
-abbrev pub IsUnplaced : State → Said → Type 0
+abbrev pub IsUnplaced : State → PendingReply → Type 0
 IsUnplaced s (said.Now r) = Unit {0}
 IsUnplaced s (said.PlaceOf n) = is_queued s n ≡ false
 

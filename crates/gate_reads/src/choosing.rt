@@ -1,5 +1,6 @@
 //! The build that a worker is given next.
-ghost use Rattle.std.specs.Prelude.{◌≡◌, ◌==◌, ◌||◌, ◌++◌, ◌∷◌, [], nat_lt, IfOk, IfErr, OnOk, Some, if◌then◌else◌, option_map, slice_get, length};
+ghost use Rattle.std.specs.Prelude.{◌≡◌, ◌==◌, ◌||◌, ◌++◌, ◌∷◌, [], nat_lt, IfOk, IfErr, OnOk, Some, if◌then◌else◌};
+ghost use Rattle.std.specs.Prelude.{option_map, slice_get, length};
 ghost use Rattle.gate_types.specs.State.{Queue};
 ghost use Rattle.gate_types.specs.Choice.{choices, choose};
 ghost use Rattle.gate_book_trait.specs.Faults.{MayAnswer};

@@ -1,5 +1,6 @@
 //! A queue is read in parts, so that what is asked of a book grows with parts and not with items.
-ghost use Rattle.std.specs.Prelude.{◌≡◌, ◌==◌, ◌<◌, ◌≤◌, nat_lt, drop, length, min, if◌then◌else◌, find, IfOk, IfErr, IfSome, List, Some, None, option_copied, option_map, slice_get};
+ghost use Rattle.std.specs.Prelude.{◌≡◌, ◌==◌, ◌<◌, ◌≤◌, nat_lt, drop, length, min, if◌then◌else◌, find, IfOk, IfErr};
+ghost use Rattle.std.specs.Prelude.{IfSome, List, Some, None, option_copied, option_map, slice_get};
 ghost use Rattle.std.specs.List.{prefix_len, take_while, flat_map};
 ghost use Rattle.gate_types.specs.State.{Queue, plan_in};
 ghost use Rattle.gate_types.specs.Line.{Place};

@@ -6,7 +6,7 @@ use gate_types::numbers::ChangeNo;
 
 /// A reply: known at once, or told by where a change stands once all is settled.
 #[derive(Drop)]
-pub enum Said {
+pub enum PendingReply {
     Now(Reply),
     PlaceOf(ChangeNo),
 }
@@ -14,7 +14,7 @@ pub enum Said {
 /// Edits that settle nothing yet, the reply, and the item that they touch, if they touch one.
 #[derive(Drop)]
 pub struct Moved {
-    pub said: Said,
+    pub said: PendingReply,
     pub edits: Vec<Edit>,
     pub touched: Option<TouchedItem>,
 }

@@ -14,7 +14,8 @@ use Rattle.gate_types.specs.Settings.{Settings}
 use Rattle.gate_types.specs.State.{State, known_change, put_change, is_open, is_landed, is_queued}
 use Rattle.gate_types.specs.Admit.{without_ready}
 use Rattle.gate_types.specs.SubmitOrder.{is_submitting}
-use Rattle.gate_types.specs.Step.{Stepped, raw_closed, raw_revision, accepted, refused, leave, revised, has_project, is_known_and}
+use Rattle.gate_types.specs.Step.{Stepped, raw_closed, raw_revision, accepted, refused, leave, revised, has_project}
+use Rattle.gate_types.specs.Step.{is_known_and}
 use Rattle.gate_walk.specs.Delivery.{is_stale}
 use Rattle.gate_ruling.specs.Guards.{GoesOn}
 use Rattle.gate_ruling.proofs.Guarded.{open_goes}

@@ -6,7 +6,9 @@ use Rattle.gate_types.specs.declared.records.Build.{Build}
 use Rattle.gate_types.specs.declared.edits.Edit.{Edit}
 use Rattle.gate_types.specs.State.{Queue, State}
 use Rattle.gate_types.specs.Once.{Content}
-use Rattle.gate_types.specs.Tables.{Tables, QueueRows, change_row, queue_rows, edited_changes, edited_queue, edited_plans, edited_build_rows, edited_counters, edited_kept, edited_tables, fold_all}
+use Rattle.gate_types.specs.Tables.{Tables, QueueRows, change_row, queue_rows, edited_changes, edited_queue}
+use Rattle.gate_types.specs.Tables.{edited_plans, edited_build_rows, edited_counters, edited_kept, edited_tables}
+use Rattle.gate_types.specs.Tables.{fold_all}
 use Rattle.gate_laws.proofs.Members.{map_map}
 use Rattle.gate_reads.specs.Moves.{Columns, row_by, tables_by, in_state, Moves}
 

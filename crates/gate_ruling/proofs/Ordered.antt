@@ -1,5 +1,6 @@
 -- A shown order, by the row of its item: what it touches, and what its queue becomes.
-use Rattle.std.proofs.Common.{◌≡◌, ℕ, suc, ◌+◌, Bool, true, false, not, cond, Some, List, [], ◌∷◌, ◌++◌, map, filter, length, refl, sym, ap, ◌∙◌, subst, arith, true≢false}
+use Rattle.std.proofs.Common.{◌≡◌, ℕ, suc, ◌+◌, Bool, true, false, not, cond, Some, List, [], ◌∷◌, ◌++◌, map, filter}
+use Rattle.std.proofs.Common.{length, refl, sym, ap, ◌∙◌, subst, arith, true≢false}
 use Rattle.std.specs.Prelude.{◌==◌, nat_lt, option_map, unwrap_or}
 use Rattle.std.proofs.lemmas.Bool.{ne_eqb, le-ltb, eqb-true, false_from_ne_true}
 use Rattle.gate_types.specs.declared.records.Change.{Change}
@@ -21,7 +22,8 @@ use Rattle.gate_types.specs.Window.{grow, shrink, bounds_of}
 use Rattle.gate_types.specs.Admit.{without_ready}
 use Rattle.gate_types.specs.SubmitOrder.{Order, orders}
 use Rattle.gate_types.specs.Rows.{item_of}
-use Rattle.gate_types.specs.Step.{left_queue, leave, landed_queue, landed_plan, shrunk_queue, with_landing, with_stage, Stepped, raw_landed, raw_refused, accepted}
+use Rattle.gate_types.specs.Step.{left_queue, leave, landed_queue, landed_plan, shrunk_queue, with_landing}
+use Rattle.gate_types.specs.Step.{with_stage, Stepped, raw_landed, raw_refused, accepted}
 use Rattle.gate_types.specs.Once.{Content}
 use Rattle.gate_types.specs.Tables.{numbered_landings}
 use Rattle.gate_types.specs.Lawful.{IsSound}

@@ -1,5 +1,6 @@
 -- A walk is begun as it is to be: by the settings, the window and the reports of its queue, and the touched row.
-use Rattle.std.proofs.Common.{◌≡◌, ℕ, zero, suc, ◌<◌, ◌≤◌, Bool, true, false, cond, Option, Some, None, List, [], ◌∷◌, map, length, inl, inr, refl, sym, ap, ◌∙◌, subst, arith, true≢false}
+use Rattle.std.proofs.Common.{◌≡◌, ℕ, zero, suc, ◌<◌, ◌≤◌, Bool, true, false, cond, Option, Some, None, List, [], ◌∷◌}
+use Rattle.std.proofs.Common.{map, length, inl, inr, refl, sym, ap, ◌∙◌, subst, arith, true≢false}
 use Rattle.std.specs.Prelude.{find, option_map, option_and_then, flat_map}
 use Rattle.std.specs.Option.{option_map_or}
 use Rattle.std.proofs.lemmas.Bool.{and_parts, leb-true}
@@ -38,7 +39,8 @@ use Rattle.gate_laws.proofs.FewRows.{few_numbers}
 use Rattle.gate_settling.specs.Touching.{Touching, delivered}
 use Rattle.gate_settling.specs.Rows.{is_out, has_landed, taken_out, reports_now}
 use Rattle.gate_settling.proofs.LeftLemmas.{left}
-use Rattle.gate_settling.proofs.StandingLemmas.{queue_there, item_there, item_from_1, report_from_1, queue_is, touched_row}
+use Rattle.gate_settling.proofs.StandingLemmas.{queue_there, item_there, item_from_1, report_from_1, queue_is}
+use Rattle.gate_settling.proofs.StandingLemmas.{touched_row}
 use Rattle.gate_types.specs.Counters.{last_number}
 
 -- ---- the queue is there

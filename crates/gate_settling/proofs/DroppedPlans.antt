@@ -1,5 +1,6 @@
 -- The edits of a walk drop the plans of those items that go, and no other.
-use Rattle.std.proofs.Common.{◌≡◌, ℕ, Bool, true, false, not, ◌&&◌, ◌||◌, cond, Option, Some, None, is_some, List, [], ◌∷◌, ◌++◌, map, fold, ◌<◌, refl, sym, ap, ◌∙◌, inl, inr, true≢false, arith}
+use Rattle.std.proofs.Common.{◌≡◌, ℕ, Bool, true, false, not, ◌&&◌, ◌||◌, cond, Option, Some, None, is_some, List, []}
+use Rattle.std.proofs.Common.{◌∷◌, ◌++◌, map, fold, ◌<◌, refl, sym, ap, ◌∙◌, inl, inr, true≢false, arith}
 use Rattle.std.specs.Prelude.{◌==◌, nat_lt, filter}
 use Rattle.std.specs.List.{list_any, All, AllPass}
 use Rattle.std.proofs.lemmas.Bool.{eq-eqb, eqb-true, ne_eqb, or_cases, or_parts}
@@ -19,7 +20,8 @@ use Rattle.gate_types.specs.Window.{Bounds}
 use Rattle.gate_types.specs.Rows.{edited_items}
 use Rattle.gate_types.specs.Tables.{edited_plans}
 use Rattle.gate_queue.specs.Edits.{window_behind}
-use Rattle.gate_walk.specs.Walk.{Seen, Carry, Walk, is_same_row, row_by, row_edits, verdict_by, stopped_by, window_edits_by, visit_edits}
+use Rattle.gate_walk.specs.Walk.{Seen, Carry, Walk, is_same_row, row_by, row_edits, verdict_by, stopped_by}
+use Rattle.gate_walk.specs.Walk.{window_edits_by, visit_edits}
 use Rattle.gate_walk.specs.UnderWay.{Delivered, rows_seen, stale_rows, walk_by, next_by, row_wanted, AreWanted}
 use Rattle.gate_walk.proofs.UnderWay.{is_behind}
 use Rattle.gate_laws.proofs.Members.{from_map, any_to}

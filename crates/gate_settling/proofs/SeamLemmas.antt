@@ -1,5 +1,6 @@
 -- The row equation of settling: what settles one queue's rows settles, behind the raw edits, all tables.
-use Rattle.std.proofs.Common.{◌≡◌, ℕ, Bool, true, false, not, ◌||◌, cond, List, [], ◌∷◌, ◌++◌, map, fold, refl, sym, ap, ◌∙◌, true≢false, inl, inr}
+use Rattle.std.proofs.Common.{◌≡◌, ℕ, Bool, true, false, not, ◌||◌, cond, List, [], ◌∷◌, ◌++◌, map, fold, refl, sym}
+use Rattle.std.proofs.Common.{ap, ◌∙◌, true≢false, inl, inr}
 use Rattle.std.specs.Prelude.{filter, ◌==◌}
 use Rattle.std.specs.List.{AllPass, list_all}
 use Rattle.std.proofs.lemmas.Bool.{and_parts, or_parts}
@@ -15,9 +16,12 @@ use Rattle.gate_types.specs.Settings.{Settings}
 use Rattle.gate_types.specs.State.{Item, Queue, State}
 use Rattle.gate_types.specs.Window.{bounds_of}
 use Rattle.gate_types.specs.Sweep.{judged, swept_queue}
-use Rattle.gate_types.specs.Rows.{Rows, edited, edited_items, edited_builds, edited_reports, edited_window, fold_edits, item_rows}
+use Rattle.gate_types.specs.Rows.{Rows, edited, edited_items, edited_builds, edited_reports, edited_window}
+use Rattle.gate_types.specs.Rows.{fold_edits, item_rows}
 use Rattle.gate_types.specs.Once.{Content}
-use Rattle.gate_types.specs.Tables.{QueueRows, Tables, tables, queue_rows, edited_changes, edited_queue, edited_landings, edited_plans, edited_build_rows, edited_counters, edited_kept, edited_tables, fold_all, Leads}
+use Rattle.gate_types.specs.Tables.{QueueRows, Tables, tables, queue_rows, edited_changes, edited_queue}
+use Rattle.gate_types.specs.Tables.{edited_landings, edited_plans, edited_build_rows, edited_counters, edited_kept}
+use Rattle.gate_types.specs.Tables.{edited_tables, fold_all, Leads}
 use Rattle.gate_types.proofs.NameLemmas.{same_name_is}
 use Rattle.gate_laws.specs.Touch.{has_serial, rebase_one, settle_one}
 use Rattle.gate_queue.specs.Settled.{swept_of, rows_in}

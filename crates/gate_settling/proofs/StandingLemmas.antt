@@ -1,5 +1,6 @@
 -- The rows of the touched queue: those that stand once the delivery is done, and what is found among them by key.
-use Rattle.std.proofs.Common.{◌≡◌, ℕ, ◌≤◌, Bool, true, not, ◌&&◌, Option, Some, None, List, [], ◌∷◌, length, inl, refl, sym, ap, ◌∙◌, subst, true≢false}
+use Rattle.std.proofs.Common.{◌≡◌, ℕ, ◌≤◌, Bool, true, not, ◌&&◌, Option, Some, None, List, [], ◌∷◌, length, inl}
+use Rattle.std.proofs.Common.{refl, sym, ap, ◌∙◌, subst, true≢false}
 use Rattle.std.specs.Prelude.{◌==◌, filter, find}
 use Rattle.std.specs.List.{list_all}
 use Rattle.std.specs.Option.{option_map_or}
@@ -24,7 +25,8 @@ use Rattle.gate_reads.specs.Moves.{columns_of, row_by}
 use Rattle.gate_reads.specs.Touches.{event_of}
 use Rattle.gate_reads.specs.declared.touched.Event.{Event}
 use Rattle.gate_reads.specs.declared.touched.TouchedItem.{TouchedItem}
-use Rattle.gate_laws.proofs.Members.{In, every, from_map, to_right, from_filter, to_filter, filter_all, all_from, found, not_found, contains_in}
+use Rattle.gate_laws.proofs.Members.{In, every, from_map, to_right, from_filter, to_filter, filter_all, all_from}
+use Rattle.gate_laws.proofs.Members.{found, not_found, contains_in}
 use Rattle.gate_laws.proofs.Alone.{serial_alone, name_alone, same_name_of}
 use Rattle.gate_settling.specs.Touching.{Touching, delivered}
 use Rattle.gate_settling.specs.Rows.{is_out}

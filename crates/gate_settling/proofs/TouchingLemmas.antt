@@ -1,5 +1,6 @@
 -- A delivery that touches an item as it is told to is under way there; and what settling then leads to.
-use Rattle.std.proofs.Common.{◌≡◌, true, false, not, None, List, [], ◌∷◌, ◌++◌, inl, refl, sym, ap, ◌∙◌, subst, append-nil}
+use Rattle.std.proofs.Common.{◌≡◌, true, false, not, None, List, [], ◌∷◌, ◌++◌, inl, refl, sym, ap, ◌∙◌, subst}
+use Rattle.std.proofs.Common.{append-nil}
 use Rattle.std.specs.Prelude.{Contains}
 use Rattle.std.specs.Option.{option_map_or}
 use Rattle.gate_types.specs.declared.edits.Edit.{Edit}

@@ -1,5 +1,6 @@
 -- The edits of a walk that has made its visits settle one queue and touch nothing else.
-use Rattle.std.proofs.Common.{◌≡◌, ℕ, Bool, true, false, not, ◌&&◌, ◌||◌, cond, is_some, flat_map, true≢false, Option, Some, None, List, [], ◌∷◌, ◌++◌, map, fold, refl, sym, ap, ◌∙◌, subst}
+use Rattle.std.proofs.Common.{◌≡◌, ℕ, Bool, true, false, not, ◌&&◌, ◌||◌, cond, is_some, flat_map, true≢false, Option}
+use Rattle.std.proofs.Common.{Some, None, List, [], ◌∷◌, ◌++◌, map, fold, refl, sym, ap, ◌∙◌, subst}
 use Rattle.std.specs.Prelude.{◌==◌}
 use Rattle.std.specs.Option.{option_map_or}
 use Rattle.std.specs.List.{AllPass, AllByRecursion as Each}
@@ -25,7 +26,8 @@ use Rattle.gate_types.proofs.NameLemmas.{same_name_is}
 use Rattle.gate_laws.specs.Touch.{has_serial, touched_by, rebase_one, settle_one, settle_touched}
 use Rattle.gate_queue.specs.Settled.{swept_of, rows_in}
 use Rattle.gate_queue.specs.Edits.{window_behind}
-use Rattle.gate_walk.specs.Walk.{Seen, Carry, Walk, is_same_row, row_by as row_of_visit, row_edits, verdict_by, stopped_by, window_edits_by, visit_edits}
+use Rattle.gate_walk.specs.Walk.{Seen, Carry, Walk, is_same_row, row_by as row_of_visit, row_edits, verdict_by}
+use Rattle.gate_walk.specs.Walk.{stopped_by, window_edits_by, visit_edits}
 use Rattle.gate_walk.specs.Rescan.{rows_with}
 use Rattle.gate_walk.specs.UnderWay.{Delivered, queue_after, stale_rows, rows_seen, walk_by, next_by, AreWanted}
 use Rattle.gate_reads.specs.Moves.{Columns, columns_of, row_by, swept}

@@ -1,5 +1,6 @@
 //! Who needs what has gone: each change that has gone is asked about once, and the rows that are told are kept.
-ghost use Rattle.std.specs.Prelude.{◌≡◌, ◌<◌, ◌+◌, ◌∷◌, [], length, nat_lt, filter, option_copied, IfOk, OnOk, IfErr, IfSome, IfNone};
+ghost use Rattle.std.specs.Prelude.{◌≡◌, ◌<◌, ◌+◌, ◌∷◌, [], length, nat_lt, filter, option_copied, IfOk, OnOk, IfErr};
+ghost use Rattle.std.specs.Prelude.{IfSome, IfNone};
 ghost use Rattle.gate_book_trait.specs.Kept.{OfHeld, IsKept};
 ghost use Rattle.gate_book_trait.specs.Reads as read;
 ghost use Rattle.gate_book_trait.specs.Faults.{MayAnswer};

@@ -1,5 +1,6 @@
 -- The text of an item, from what is told of it by key.
-use Rattle.std.proofs.Common.{◌≡◌, ℕ, Bool, true, false, not, ◌&&◌, ◌||◌, cond, Option, Some, None, List, [], ◌∷◌, ◌++◌, map, length, refl, sym, ap, ◌∙◌, append_assoc}
+use Rattle.std.proofs.Common.{◌≡◌, ℕ, Bool, true, false, not, ◌&&◌, ◌||◌, cond, Option, Some, None, List, [], ◌∷◌}
+use Rattle.std.proofs.Common.{◌++◌, map, length, refl, sym, ap, ◌∙◌, append_assoc}
 use Rattle.std.specs.Prelude.{◌==◌, find, option_map, codes, string_bytes}
 use Rattle.std.specs.Option.{option_or}
 use Rattle.gate_types.specs.declared.config.Job.{Job}
@@ -24,16 +25,19 @@ use Rattle.gate_book_trait.proofs.Finding.{find_map}
 use Rattle.gate_book_trait.specs.Reads.{queued_of, item_at, live_builds}
 use Rattle.gate_book_trait.specs.declared.rows.QueuedItem.{QueuedItem}
 use Rattle.gate_archive.specs.OrNull.{or_null}
-use Rattle.gate_archive.specs.ItemText.{queued_at, left_at, told_queued, told_left, place_at, job_piece, jobs_piece, builds_of, last_builds, summary_piece, text_of, item_text}
+use Rattle.gate_archive.specs.ItemText.{queued_at, left_at, told_queued, told_left, place_at, job_piece, jobs_piece}
+use Rattle.gate_archive.specs.ItemText.{builds_of, last_builds, summary_piece, text_of, item_text}
 use Rattle.gate_archive.specs.declared.rows.BuildSummary.{BuildSummary}
 use Rattle.gate_archive.specs.declared.rows.LeftItem.{LeftItem}
 use Rattle.gate_reads.proofs.Found.{some_before, none_before, found_itself}
 use Rattle.gate_reads.proofs.KnownPlaces.{place_facts}
 use Rattle.gate_reads.proofs.OwnBuilds.{all_count, slots_are}
 use Rattle.gate_reads.proofs.Queues.{named_itself}
-use Rattle.gate_reads.proofs.Stood.{Stood, stood, stood_in, stood_there, queued_as, serial_of, change_of, change_once, queued_is, item_is, queued_are}
+use Rattle.gate_reads.proofs.Stood.{Stood, stood, stood_in, stood_there, queued_as, serial_of, change_of, change_once}
+use Rattle.gate_reads.proofs.Stood.{queued_is, item_is, queued_are}
 use Rattle.gate_reads.proofs.Walking.{lawful_front}
-use Rattle.gate_texts.specs.Items.{job_told, is_cut_by_key, jobs_by_key, verdict_text, item_told, item_front, item_back, IsToldOf}
+use Rattle.gate_texts.specs.Items.{job_told, is_cut_by_key, jobs_by_key, verdict_text, item_told, item_front}
+use Rattle.gate_texts.specs.Items.{item_back, IsToldOf}
 use Rattle.gate_texts.specs.Values.{written}
 use Rattle.gate_texts.specs.declared.item.ToldItem.{ToldItem}
 use Rattle.gate_texts.proofs.AheadByKey.{blocked_by_key}

@@ -1,5 +1,6 @@
 -- What is told of an item, by what a book tells.
-use Rattle.std.specs.Prelude.{ℕ, ◌≡◌, Bool, ◌&&◌, not, if◌then◌else◌, List, [], ◌∷◌, map, Option, Some, None, option_map, codes, string_bytes}
+use Rattle.std.specs.Prelude.{ℕ, ◌≡◌, Bool, ◌&&◌, not, if◌then◌else◌, List, [], ◌∷◌, map, Option, Some, None}
+use Rattle.std.specs.Prelude.{option_map, codes, string_bytes}
 use Rattle.gate_types.specs.declared.config.Job.{Job}
 use Rattle.gate_types.specs.declared.records.Build.{Build}
 use Rattle.gate_types.specs.Settings.{Settings}

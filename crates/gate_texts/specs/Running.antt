@@ -1,5 +1,6 @@
 -- The builds that run, told one after another.
-use Rattle.std.specs.Prelude.{ℕ, ◌≡◌, nat_lt, if◌then◌else◌, List, [], ◌∷◌, map, filter, length, take, flat_map, codes, string_bytes}
+use Rattle.std.specs.Prelude.{ℕ, ◌≡◌, nat_lt, if◌then◌else◌, List, [], ◌∷◌, map, filter, length, take, flat_map}
+use Rattle.std.specs.Prelude.{codes, string_bytes}
 use Rattle.gate_types.specs.declared.records.Build.{Build}
 use Rattle.gate_types.specs.State.{Queue, State}
 use Rattle.gate_types.specs.Slot.{is_running}

@@ -11,7 +11,7 @@ ghost use Rattle.gate_ruling.specs.Approving.{is_nowhere};
 use crate::changing::is_open;
 use crate::guards::latest;
 use gate_book_trait::{Book, BookFault};
-use gate_reads::{Moved, Raw, Said, Stand, stand_of};
+use gate_reads::{Moved, Raw, PendingReply, Stand, stand_of};
 use gate_types::config::Config;
 use gate_types::deliveries::{Refusal, Reply};
 use gate_types::edits::{Counter, Edit};
@@ -71,7 +71,7 @@ pub(crate) fn approved<B: Book>(
         return Ok(Raw::Refused(Refusal::Exhausted));
     }
     Ok(Raw::Moved(Moved {
-        said: Said::PlaceOf(change),
+        said: PendingReply::PlaceOf(change),
         edits: made_ready(alloc, known, drawn + 1)?,
         touched: None,
     }))

@@ -14,7 +14,7 @@ use crate::edits::with_window;
 use crate::guards::ordered;
 use crate::leaving::{leaving, touched};
 use gate_book_trait::{Book, BookFault, QueuedItem, plan_of};
-use gate_reads::{Event, Moved, Raw, Said, window_now};
+use gate_reads::{Event, Moved, Raw, PendingReply, window_now};
 use gate_types::config::Config;
 use gate_types::deliveries::Reply;
 use gate_types::edits::Edit;
@@ -116,7 +116,7 @@ pub(crate) fn landed<B: Book>(
         },
     )?;
     Ok(Raw::Moved(Moved {
-        said: Said::Now(Reply::Landed(place)),
+        said: PendingReply::Now(Reply::Landed(place)),
         edits,
         touched: Some(touched(queued, Event::Landed)),
     }))

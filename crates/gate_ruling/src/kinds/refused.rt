@@ -10,7 +10,7 @@ use crate::edits::with_window;
 use crate::guards::ordered;
 use crate::leaving::{leaving, touched};
 use gate_book_trait::{Book, BookFault};
-use gate_reads::{Event, Moved, Raw, Said, window_now};
+use gate_reads::{Event, Moved, Raw, PendingReply, window_now};
 use gate_types::config::Config;
 use gate_types::deliveries::Reply;
 use gate_types::numbers::Serial;
@@ -44,7 +44,7 @@ pub(crate) fn refused<B: Book>(
     let settings = config.queue(queued.queue.as_str());
     let resized = window_now(left, settings, window);
     Ok(Raw::Moved(Moved {
-        said: Said::Now(Reply::Removed),
+        said: PendingReply::Now(Reply::Removed),
         edits: with_window(edits, &queued.queue, window, resized)?,
         touched: Some(touched(queued, left)),
     }))

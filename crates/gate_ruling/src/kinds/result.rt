@@ -8,7 +8,7 @@ ghost use Rattle.gate_reads.specs.Raw.{IsRaw};
 ghost use Rattle.gate_ruling.specs.Faults.{MayRule};
 
 use gate_book_trait::{Book, BookFault};
-use gate_reads::{Event, Moved, Raw, Said, TouchedItem, is_running};
+use gate_reads::{Event, Moved, Raw, PendingReply, TouchedItem, is_running};
 use gate_types::config::Config;
 use gate_types::deliveries::{Ending, Refusal, Reply};
 use gate_types::edits::Edit;
@@ -54,7 +54,7 @@ pub(crate) fn result<B: Book>(
         outcome: ending.into(),
     };
     Ok(Raw::Moved(Moved {
-        said: Said::Now(Reply::Noted),
+        said: PendingReply::Now(Reply::Noted),
         edits: with_one(Vec::new(alloc), outcome)?,
         touched: Some(TouchedItem {
             queue: known.queue,

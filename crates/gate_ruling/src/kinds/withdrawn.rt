@@ -9,7 +9,7 @@ use crate::changing::put_anew;
 use crate::guards::latest;
 use crate::leaving::{leaving, touched};
 use gate_book_trait::{Book, BookFault};
-use gate_reads::{Event, Moved, Raw, Said, Stand, is_submitting, stand_of};
+use gate_reads::{Event, Moved, Raw, PendingReply, Stand, is_submitting, stand_of};
 use gate_types::config::Config;
 use gate_types::deliveries::{Refusal, Reply};
 use gate_types::numbers::{ChangeNo, Revision};
@@ -40,13 +40,13 @@ pub(crate) fn withdrawn<B: Book>(
         Stand::Queued(queued) => {
             let edits = leaving(alloc, book, config, &queued, Verdict::Withdrawn)?;
             Ok(Raw::Moved(Moved {
-                said: Said::Now(Reply::Removed),
+                said: PendingReply::Now(Reply::Removed),
                 edits,
                 touched: Some(touched(queued, Event::Left(Verdict::Withdrawn))),
             }))
         }
         Stand::Ready => Ok(Raw::Moved(Moved {
-            said: Said::Now(Reply::Recorded),
+            said: PendingReply::Now(Reply::Recorded),
             edits: put_anew(Vec::new(alloc), known)?,
             touched: None,
         })),

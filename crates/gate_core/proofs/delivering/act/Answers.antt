@@ -6,7 +6,8 @@ use Rattle.gate_types.specs.Once.{is_unavailable}
 use Rattle.gate_core.specs.Answered.{call}
 use Rattle.gate_core.specs.Ruled.{IsRuled}
 use Rattle.gate_core.specs.Recent.{IsTrueOf}
-use Rattle.gate_core.proofs.NextContents.{kept_is_lawful, accepted_is_answered, failed_is_answered, next_stays, refused_is_answered}
+use Rattle.gate_core.proofs.NextContents.{kept_is_lawful, accepted_is_answered, failed_is_answered, next_stays}
+use Rattle.gate_core.proofs.NextContents.{refused_is_answered}
 use Rattle.gate_settling.proofs.KeptLemmas.{if_ok_so}
 use Rattle.gate_core.proofs.delivering.act.Goals as goal
 

@@ -1,5 +1,6 @@
 use Rattle.std.proofs.Common.{refl, rules}
-use Rattle.gate_core.proofs.RunLemmas.{between_fed, between_broke, between_failed, last_broke, last_done, none_done, one_read}
+use Rattle.gate_core.proofs.RunLemmas.{between_fed, between_broke, between_failed, last_broke, last_done, none_done}
+use Rattle.gate_core.proofs.RunLemmas.{one_read}
 use Rattle.gate_core.proofs.engine.answer_lines.Goals as goal
 use Rattle.gate_core.proofs.engine.answer_lines.Goals.{then-not-is_empty+in_default, else-not-is_empty}
 

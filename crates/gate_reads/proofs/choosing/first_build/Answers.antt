@@ -6,7 +6,8 @@ use Rattle.gate_reads.specs.Parts.{TellsPart}
 use Rattle.gate_reads.proofs.Found.{none_before}
 use Rattle.gate_reads.proofs.Walking.{lawful_front}
 use Rattle.gate_reads.proofs.Trying.{is_open, tried_front, tried_closed}
-use Rattle.gate_reads.proofs.TryingParts.{asked_fits, asked_above, part_places, part_behind, part_missing, part_here, part_short, part_next}
+use Rattle.gate_reads.proofs.TryingParts.{asked_fits, asked_above, part_places, part_behind, part_missing, part_here}
+use Rattle.gate_reads.proofs.TryingParts.{part_short, part_next}
 use Rattle.gate_book_trait.proofs.KeptLemmas.{then}
 use Rattle.gate_reads.proofs.choosing.first_build.Goals as goal
 

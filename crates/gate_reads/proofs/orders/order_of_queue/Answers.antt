@@ -3,7 +3,8 @@ use Rattle.gate_book_trait.specs.Reads.{first_above}
 use Rattle.gate_book_trait.proofs.KeptLemmas.{then}
 use Rattle.gate_reads.specs.Orders.{order_in, TellsOrder}
 use Rattle.gate_reads.proofs.Walking.{lawful_front, rows_are}
-use Rattle.gate_reads.proofs.Passing.{Passed, passed_front, passed_next, passed_here, passed_end, at_here, some_queue, tells_here, tells_none}
+use Rattle.gate_reads.proofs.Passing.{Passed, passed_front, passed_next, passed_here, passed_end, at_here, some_queue}
+use Rattle.gate_reads.proofs.Passing.{tells_here, tells_none}
 use Rattle.gate_reads.proofs.orders.order_of_queue.Goals as goal
 
 pub loop-item-init : goal.loop-item-init

@@ -1,8 +1,7 @@
-use Rattle.std.proofs.Common.{◌≡◌, ◌∙◌, sym, ap, subst, true, None}
+use Rattle.std.proofs.Common.{◌∙◌, sym, ap, subst, None}
 use Rattle.std.specs.Prelude.{◌==◌, option_map}
 use Rattle.std.specs.Bool.{then_some}
 use Rattle.gate_types.specs.declared.records.Item.{Item as ItemRow}
-use Rattle.gate_types.specs.Settings.{Settings, are_sound}
 use Rattle.gate_types.specs.Rows.{row_of}
 use Rattle.gate_laws.proofs.Members.{found}
 use Rattle.gate_reads.specs.Orders.{TellsShown}

@@ -6,7 +6,8 @@ use Rattle.gate_types.specs.declared.records.Entry.{Entry}
 use Rattle.gate_reads.specs.NextBuild.{with_number}
 use Rattle.gate_reads.specs.Parts.{ahead_behind}
 use Rattle.gate_reads.specs.Places.{IsBehind}
-use Rattle.gate_reads.proofs.Along.{Along, along_front, along_here, along_next, along_end, first_behind, row_at, told_first}
+use Rattle.gate_reads.proofs.Along.{Along, along_front, along_here, along_next, along_end, first_behind, row_at}
+use Rattle.gate_reads.proofs.Along.{told_first}
 use Rattle.gate_book_trait.proofs.KeptLemmas.{then}
 use Rattle.gate_reads.proofs.part.build_of_part.Goals as goal
 

@@ -3,7 +3,8 @@ use Rattle.std.specs.Prelude.{nat_lt}
 use Rattle.gate_book_trait.specs.Reads.{items_in, items_between, plans_of_items, builds_of_items}
 use Rattle.gate_book_trait.proofs.KeptLemmas.{then}
 use Rattle.gate_reads.specs.Parts.{last_serial}
-use Rattle.gate_reads.proofs.RisingRows.{RiseAbove, rows_above, rise_above, rise_take, rise_strictly, between, none_above, not_then, then_is}
+use Rattle.gate_reads.proofs.RisingRows.{RiseAbove, rows_above, rise_above, rise_take, rise_strictly, between}
+use Rattle.gate_reads.proofs.RisingRows.{none_above, not_then, then_is}
 use Rattle.gate_reads.proofs.Walking.{lawful_rise}
 use Rattle.gate_reads.proofs.part.read_part.Goals as goal
 

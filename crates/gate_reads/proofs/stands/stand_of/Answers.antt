@@ -1,6 +1,5 @@
-use Rattle.std.proofs.Common.{◌≡◌, ◌∙◌, sym, ap, subst, true}
+use Rattle.std.proofs.Common.{◌∙◌, sym, ap}
 use Rattle.std.specs.Prelude.{is_some}
-use Rattle.gate_types.specs.Settings.{Settings, are_sound}
 use Rattle.gate_reads.proofs.Told.{queued_so, not_queued, ready_so}
 use Rattle.gate_reads.proofs.stands.stand_of.Goals as goal
 

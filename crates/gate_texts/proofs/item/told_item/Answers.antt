@@ -1,6 +1,5 @@
-use Rattle.std.proofs.Common.{◌≡◌, ◌∙◌, sym, ap, subst, true}
+use Rattle.std.proofs.Common.{◌∙◌, sym, ap}
 use Rattle.std.specs.Prelude.{string_bytes}
-use Rattle.gate_types.specs.Settings.{Settings, are_sound}
 use Rattle.gate_texts.specs.declared.item.ToldItem.{ToldItem}
 use Rattle.gate_texts.proofs.ItemTexts.{queued_told, left_told}
 use Rattle.gate_texts.proofs.item.told_item.Goals as goal

@@ -12,7 +12,8 @@ use Rattle.gate_reads.specs.Stands.{StandsSo}
 use Rattle.gate_reads.specs.declared.stands.Stand.TheVariants as stand
 use Rattle.gate_ruling.specs.Guards.{IsLatest}
 use Rattle.gate_ruling.proofs.GivenUp.{given_up, in_no_queue}
-use Rattle.gate_ruling.proofs.Withdrawn.{withdrawing, submitting_raw, removed_raw, recorded_raw, nowhere_raw, unready_again}
+use Rattle.gate_ruling.proofs.Withdrawn.{withdrawing, submitting_raw, removed_raw, recorded_raw, nowhere_raw}
+use Rattle.gate_ruling.proofs.Withdrawn.{unready_again}
 use Rattle.gate_ruling.proofs.kinds.withdrawn.withdrawn.Goals as goal
 
 pub returns-in_ok-edits-in-Queued-clause-raw : goal.returns-in_ok-edits-in-Queued-clause-raw
