@@ -1,4 +1,4 @@
--- The item of a change in a queue after edits: where it was stored, or where an edit put it.
+-- The item of a change in a queue after edits: where an edit put it, or where it was stored.
 use Rattle.std.proofs.Common.{◌≡◌, ℕ, Bool, true, false, cond, Option, Some, None, List, [], ◌∷◌, refl, sym, ap, ◌∙◌, subst, true≢false, ◌⊎◌, inl, inr, ⊎_elim}
 use Rattle.std.specs.Prelude.{◌==◌, option_and_then, option_map}
 use Rattle.std.specs.Option.{option_or, option_map_or}
@@ -113,7 +113,7 @@ AreTold n stored rows = (r : ItemRow) → In r rows → r.change ≡ n →
 
 pub by_change : (name : List ℕ) (n : ℕ) (stored : Option QueuedItem) (rows : List ItemRow) (edits : List Edit) →
     Rising serial_of (items_after name rows edits) → AreOnce (items_after name rows edits) → AreTold n stored rows →
-    option_or (item_left n stored (items_after name rows edits)) (item_put n (items_after name rows edits) edits) ≡
+    option_or (item_put n (items_after name rows edits) edits) (item_left n stored (items_after name rows edits)) ≡
     item_in n (items_after name rows edits)
 by_change name n stored rows edits up once told = by_found (item_in n all) refl
   where
@@ -123,13 +123,10 @@ by_change name n stored rows edits up once told = by_found (item_in n all) refl
     left : Option ItemRow
     left = item_left n stored all
 
-    gives_left : Gives n all left
-    gives_left = gives_at n all (option_map (λ k. k.item.serial) stored)
-
-    by_found : (o : Option ItemRow) → item_in n all ≡ o → option_or left (item_put n all edits) ≡ o
+    by_found : (o : Option ItemRow) → item_in n all ≡ o → option_or (item_put n all edits) left ≡ o
     by_found None e =
-        ap (λ o. option_or o (item_put n all edits)) (nothing n all left e gives_left)
-        ∙ nothing n all (item_put n all edits) e (gives_put n all edits)
+        ap (λ o. option_or o left) (nothing n all (item_put n all edits) e (gives_put n all edits))
+        ∙ nothing n all left e (gives_at n all (option_map (λ k. k.item.serial) stored))
     by_found (Some r) e =
         let at = found (λ (i : ItemRow). i.change == n) all r e in
         ⊎_elim
@@ -137,10 +134,9 @@ by_change name n stored rows edits up once told = by_found (item_in n all) refl
         let k = told r m (eqb-true r.change n at.1) in
         let here : left ≡ Some r = ap (λ o. item_if_at n all (option_map (λ (q : QueuedItem). q.item.serial) o)) k.1
         ∙ ap (λ (s : ℕ). item_if n s all) k.2 ∙ at_own n all r up at.0 at.1 in
-        ap (λ o. option_or o (item_put n all edits)) here)
-        (λ (p : PutBy name r edits). ⊎_elim
-        (λ (f : left ≡ None). ap (λ o. option_or o (item_put n all edits)) f
-        ∙ put_given name n all r edits up once at.0 at.1 p)
-        (λ (f : left ≡ Some r). ap (λ o. option_or o (item_put n all edits)) f)
-        (none_or n all r left once at.0 at.1 gives_left))
+        ⊎_elim
+        (λ (f : item_put n all edits ≡ None). ap (λ o. option_or o left) f ∙ here)
+        (λ (f : item_put n all edits ≡ Some r). ap (λ o. option_or o left) f)
+        (none_or n all r (item_put n all edits) once at.0 at.1 (gives_put n all edits)))
+        (λ (p : PutBy name r edits). ap (λ o. option_or o left) (put_given name n all r edits up once at.0 at.1 p))
         (from_after name rows edits r at.0)

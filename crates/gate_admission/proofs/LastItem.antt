@@ -1,6 +1,6 @@
 -- The last item of a queue after edits, below a serial.
 use Rattle.std.proofs.Common.{◌≡◌, ◌≢◌, ℕ, suc, ◌-◌, ◌<◌, ◌≤◌, ◌⊎◌, inl, inr, ⊎_elim, Bool, true, false, ◌&&◌, cond, Option, Some, None, List, [], ◌∷◌, filter, fold, length, refl, sym, ap, ◌∙◌, subst, arith, true≢false}
-use Rattle.std.specs.Prelude.{nat_lt, slice_get, ◌==◌, option_map, IfSome}
+use Rattle.std.specs.Prelude.{nat_lt, slice_get, ◌==◌, option_map, option_and_then, is_some, IfSome}
 use Rattle.std.specs.Option.{option_map_or}
 use Rattle.std.proofs.lemmas.Bool.{eqb-true, eq-eqb, ltb-true, ltb-false, lt-ltb, le-ltb}
 use Rattle.std.proofs.lemmas.Option.{none-some}
@@ -11,7 +11,7 @@ use Rattle.gate_types.specs.Names.{same_name}
 use Rattle.gate_book_trait.specs.Reads.{last_below}
 use Rattle.gate_laws.proofs.Members.{In, found, not_found, from_filter, to_filter, filter_none, filter_all, filter_same}
 use Rattle.gate_laws.proofs.Rising.{Rising, rising_filter}
-use Rattle.gate_admission.specs.Seen.{items_after, item_at, later, put_below, last_put_below}
+use Rattle.gate_admission.specs.Seen.{items_after, item_at, if_at, later, put_below, last_put_below}
 use Rattle.gate_admission.specs.Enters.{last_row}
 use Rattle.gate_admission.proofs.QueueItems.{serial_of, at_there, Puts, PutBy, from_after}
 
@@ -159,6 +159,16 @@ last_here end k rows r up l most e = by_found (last_below end rows) refl here
         sym (at_there rows s up own.0) ∙ ap (λ n. item_at n rows) same ∙ e)
         (last_in None below s f)
 
+pub last_found : (end k : ℕ) (rows : List ItemRow) (o : Option ItemRow) → Rising serial_of rows → k < end →
+    ((y : ItemRow) → In y rows → y.serial < end → y.serial ≤ k) → item_at k rows ≡ o → is_some o ≡ true →
+    last_below end rows ≡ o
+last_found end k rows None up l most e is = absurd (true≢false (sym is))
+last_found end k rows (Some r) up l most e is = last_here end k rows r up l most e
+
+pub none_found : (o : Option ItemRow) → is_some o ≡ false → o ≡ None
+none_found None is = refl
+none_found (Some r) is = absurd (true≢false is)
+
 -- where none has the greatest serial, the last is below it
 pub last_lower : (end k : ℕ) (rows : List ItemRow) → k < end →
     ((y : ItemRow) → In y rows → y.serial < end → y.serial ≤ k) → item_at k rows ≡ None →
@@ -176,6 +186,50 @@ last_lower end k rows l most e =
             (sym (eq-eqb y.serial k g) ∙ not_found (λ i. i.serial == k) rows e y m) in
             lt-ltb y.serial k (omega (arith, top, other))
         by_test false f = let high = ltb-false y.serial end f in le-ltb y.serial k (omega (arith, high, l))
+
+-- the stored item of the serial that is looked at next is the last one below, if it has this serial
+pub stored_at : (end k : ℕ) (rows : List ItemRow) (put : Option ℕ) → Rising serial_of rows → k < end →
+    later put (option_map (λ i. i.serial) (last_below end rows)) ≡ Some k →
+    option_and_then (if_at k) (last_below end rows) ≡ item_at k rows
+stored_at end k rows put up l e = by_last (last_below end rows) refl e (item_at k rows) refl
+  where
+    below : List ItemRow
+    below = filter (λ i. nat_lt i.serial end) rows
+
+    at_most : (r : ItemRow) → item_at k rows ≡ Some r → AtMost k (option_map (λ i. i.serial) (last_below end rows))
+    at_most r f =
+        let at = found (λ i. i.serial == k) rows r f in
+        let serial = eqb-true r.serial k at.1 in
+        subst (λ n. AtMost n (option_map (λ i. i.serial) (last_of None below))) serial
+        (last_most None below r (rising_filter serial_of (λ i. nat_lt i.serial end) rows up)
+        (to_filter (λ i. nat_lt i.serial end) rows r at.0 (lt-ltb r.serial end (omega (arith, serial, l)))))
+
+    by_serial : (s : ItemRow) → In s rows → s.serial ≤ k → AtMost k (Some s.serial) ⊎ (item_at k rows ≡ None) →
+        (b : Bool) → s.serial == k ≡ b → cond b (Some s) None ≡ item_at k rows
+    by_serial s m low high true t = sym (ap (λ n. item_at n rows) (sym (eqb-true s.serial k t)) ∙ at_there rows s up m)
+    by_serial s m low high false t = elim high [
+      | inl top ↦ absurd (true≢false (sym (eq-eqb s.serial k (omega (arith, low, top))) ∙ t))
+      | inr none ↦ sym none
+    ]
+
+    by_last : (o : Option ItemRow) → last_below end rows ≡ o →
+        later put (option_map (λ i. i.serial) o) ≡ Some k → (f : Option ItemRow) → item_at k rows ≡ f →
+        option_and_then (if_at k) o ≡ item_at k rows
+    by_last None g h None e = sym e
+    by_last None g h (Some r) e = absurd (subst (λ o. AtMost k (option_map (λ i. i.serial) o)) g (at_most r e))
+    by_last (Some s) g h f e =
+        let m = ⊎_elim
+        (λ (n : None ≡ Some s). absurd (none-some s n))
+        (λ (n : In s below). (from_filter (λ i. nat_lt i.serial end) rows s n).0)
+        (last_in None below s g) in
+        let own : s.serial ≤ s.serial = omega arith in
+        let low : s.serial ≤ k = subst (AtMost s.serial) h (later_right s.serial put (Some s.serial) own) in
+        by_serial s m low (by_there f e) (s.serial == k) refl
+      where
+        by_there : (o : Option ItemRow) → item_at k rows ≡ o →
+            AtMost k (Some s.serial) ⊎ (item_at k rows ≡ None)
+        by_there None e = inr e
+        by_there (Some r) e = inl (subst (λ o. AtMost k (option_map (λ i. i.serial) o)) g (at_most r e))
 
 -- ---- the last of all
 

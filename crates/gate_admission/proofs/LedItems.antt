@@ -25,8 +25,9 @@ use Rattle.gate_types.specs.Limits.{most_items}
 
 pub change_led : (c : Settings) (x : Content) (edits : List Edit) (v : State) (name : List ℕ) (n : ℕ) →
     IsSound c x.state → IsLed c x edits v → IsQueue v name →
-    option_or (item_left n (queued_of c x.state n) (items_after name (items_in c x.state name) edits))
-    (item_put n (items_after name (items_in c x.state name) edits) edits) ≡ item_in n (items_in c v name)
+    option_or (item_put n (items_after name (items_in c x.state name) edits) edits)
+    (item_left n (queued_of c x.state n) (items_after name (items_in c x.state name) edits)) ≡
+    item_in n (items_in c v name)
 change_led c x edits v name n sound led there =
     let at = queue_after_is c x edits v name there.queue led there.named in
     let q = there.queue in
@@ -39,9 +40,8 @@ change_led c x edits v name n sound led there =
     let told : AreTold n (queued_of c x.state n) (item_rows c x.state p) =
     λ r m e. subst (λ k. (i : _) × (queued_of c x.state k ≡ Some i) × (i.item.serial ≡ r.serial)) e
     (stored_tells c x.state name p r sound at.named m) in
-    ap (λ o. option_or (item_left n (queued_of c x.state n)
-    (items_after name (option_map_or (item_rows c x.state) o []) edits))
-    (item_put n (items_after name (option_map_or (item_rows c x.state) o []) edits) edits)) at.named
+    ap (λ o. option_or (item_put n (items_after name (option_map_or (item_rows c x.state) o []) edits) edits)
+    (item_left n (queued_of c x.state n) (items_after name (option_map_or (item_rows c x.state) o []) edits))) at.named
     ∙ by_change name n (queued_of c x.state n) (item_rows c x.state p) edits rise once told
     ∙ ap (item_in n) at.items
     ∙ sym (ap (λ o. item_in n (option_map_or (item_rows c v) o [])) there.named)

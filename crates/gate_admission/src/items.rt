@@ -174,7 +174,7 @@ fn item_left<B: Book>(
     }
 }
 
-/// The item of a change in a queue, after the edits.
+/// The item of a change in a queue, after the edits. The store is asked where they don't put it.
 pub fn item_in<B: Book>(
     book: &mut B,
     edits: &[Edit],
@@ -186,9 +186,9 @@ pub fn item_in<B: Book>(
     ensures kept { IsKept B.IsTrusted B.Holds B.LeavesOneOf book.old book.new }
     ensures fault { IfErr result (MayAnswer B.MayFault) }
 {
-    match item_left(book, edits, queue, change)? {
+    match item_put(book, edits, queue, change)? {
         Some(item) => Ok(Some(item)),
-        None => item_put(book, edits, queue, change),
+        None => item_left(book, edits, queue, change),
     }
 }
 
@@ -222,8 +222,8 @@ fn last_put_below(queue: &Name, below: u64, edits: &[Edit]) -> Option<Serial>
     last
 }
 
-fn serial_of(item: Option<Item>) -> Option<Serial>
-    ensures { result ≡ option_map (λ i. i.serial) item }
+fn serial_of(item: &Option<Item>) -> Option<Serial>
+    ensures { result ≡ option_map (λ i. i.serial) item.now }
 {
     match item {
         Some(item) => Some(item.serial),
@@ -231,23 +231,38 @@ fn serial_of(item: Option<Item>) -> Option<Serial>
     }
 }
 
-/// The greatest serial below one that is stored in a queue or put into it by the edits.
-fn serial_before<B: Book>(
+/// A serial of a queue, and its item after edits: none where they drop it.
+#[derive(Clone, Copy)]
+struct Below {
+    serial: Serial,
+    item: Option<Item>,
+}
+
+/// The greatest serial below one that is stored in a queue or put into it by the edits, with its item after them.
+fn next_below<B: Book>(
     book: &mut B,
     edits: &[Edit],
     queue: &Name,
     below: u64,
-) -> Result<Option<Serial>, BookFault>
-    ensures found { OfHeld B.IsTrusted B.Holds book.old book.new (λ c x. IfOk result (λ found. found ≡
-        seen.later (seen.last_put_below queue.now below edits.now)
+) -> Result<Option<Below>, BookFault>
+    ensures serial { OfHeld B.IsTrusted B.Holds book.old book.new (λ c x. IfOk result (λ found.
+        option_map (λ b. b.serial) found ≡ seen.later (seen.last_put_below queue.now below edits.now)
         (option_map (λ i. i.serial) (last_below below (items_in c x.state queue.now))))) }
-    ensures falls { IfOk result (λ found. IfSome found (λ serial. serial < below)) }
+    ensures item { OfHeld B.IsTrusted B.Holds book.old book.new (λ c x. IfOk result (λ found. IfSome found (λ b. b.item
+        ≡ seen.item_at b.serial (seen.items_after queue.now (items_in c x.state queue.now) edits.now)))) }
+    ensures falls { IfOk result (λ found. IfSome found (λ b. b.serial < below)) }
     ensures kept { IsKept B.IsTrusted B.Holds B.LeavesOneOf book.old book.new }
     ensures fault { IfErr result (MayAnswer B.MayFault) }
 {
-    let put = last_put_below(queue, below, edits);
     let stored = book.last_item(queue, below)?;
-    Ok(later(put, serial_of(stored)))
+    let put = last_put_below(queue, below, edits);
+    let Some(serial) = later(put, serial_of(&stored)) else {
+        return Ok(None);
+    };
+    let before = at_serial(stored, serial);
+    let fate = made_of(queue, serial, edits);
+    let item = by_fate(before, fate);
+    Ok(Some(Below { serial, item }))
 }
 
 /// The last item of a queue with a lower serial than `below`, after the edits.
@@ -263,11 +278,12 @@ fn last_below<B: Book>(
     ensures fault { IfErr result (MayAnswer B.MayFault) }
 {
     let mut end = below;
-    while let Some(serial) = serial_before(book, edits, queue, end)? {
-        if let Some(item) = item_at(book, edits, queue, serial)? {
-            return Ok(Some(item));
+    while let Some(next) = next_below(book, edits, queue, end)? {
+        let item = next.item;
+        if item.is_some() {
+            return Ok(item);
         }
-        end = serial.get();
+        end = next.serial.get();
     }
     Ok(None)
 }

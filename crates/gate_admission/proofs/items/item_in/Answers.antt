@@ -1,25 +1,27 @@
 use Rattle.std.proofs.Common.{◌∙◌, sym, ap}
 use Rattle.std.specs.Option.{option_or}
 use Rattle.std.proofs.lemmas.Result.{IfOk-weaker}
-use Rattle.gate_book_trait.specs.Reads.{items_in}
-use Rattle.gate_admission.specs.Seen.{items_after, item_put}
+use Rattle.gate_book_trait.specs.Reads.{items_in, queued_of}
+use Rattle.gate_admission.specs.Seen.{items_after, item_left}
 use Rattle.gate_admission.proofs.LedItems.{change_led}
 use Rattle.gate_admission.proofs.items.item_in.Goals as goal
 
 pub returns-in-Some-clause-found : goal.returns-in-Some-clause-found
 returns-in-Some-clause-found g c = λ trusted s x holds lawful v led there.
+    let n = c.args.change in
     let all = items_after c.args.queue.now (items_in s x.state c.args.queue.now) c.args.edits.now in
-    ap (λ o. option_or o (item_put c.args.change all c.args.edits.now))
+    ap (λ o. option_or o (item_left n (queued_of s x.state n) all))
     (sym c.in-Some.is ∙ c.in_ok-item.ensures.found trusted s x holds lawful)
-    ∙ change_led s x c.args.edits.now v c.args.queue.now c.args.change lawful.lawful.sound led there
+    ∙ change_led s x c.args.edits.now v c.args.queue.now n lawful.lawful.sound led there
 
 pub returns-in-None-clause-found : goal.returns-in-None-clause-found
 returns-in-None-clause-found g c = λ trusted s x holds lawful v led there.
+    let n = c.args.change in
     let all = items_after c.args.queue.now (items_in s x.state c.args.queue.now) c.args.edits.now in
-    let before = c.item_put.ensures.kept.trusted_before trusted in
+    let before = c.item_left.ensures.kept.trusted_before trusted in
     let at = c.in_ok-item.ensures.kept.holds_on before s x holds in
-    IfOk-weaker c.item_put.result _ _ (λ found e. e
-    ∙ ap (λ o. option_or o (item_put c.args.change all c.args.edits.now))
+    IfOk-weaker c.item_left.result _ _ (λ found e. e
+    ∙ ap (λ o. option_or o (item_left n (queued_of s x.state n) all))
     (sym c.in-None.is ∙ c.in_ok-item.ensures.found before s x holds lawful)
-    ∙ change_led s x c.args.edits.now v c.args.queue.now c.args.change lawful.lawful.sound led there)
-    (c.item_put.ensures.found trusted s x at lawful)
+    ∙ change_led s x c.args.edits.now v c.args.queue.now n lawful.lawful.sound led there)
+    (c.item_left.ensures.found trusted s x at lawful)

@@ -1,50 +1,54 @@
-use Rattle.std.proofs.Common.{◌<◌, ◌∙◌, sym, ap, subst}
-use Rattle.std.specs.Prelude.{IfSome}
+use Rattle.std.proofs.Common.{◌<◌, ◌≡◌, ◌∙◌, sym, ap, subst}
+use Rattle.std.specs.Prelude.{IfSome, option_map}
 use Rattle.gate_book_trait.specs.Reads.{items_in, last_below}
 use Rattle.gate_book_trait.proofs.KeptLemmas.{then}
-use Rattle.gate_admission.specs.Seen.{items_after}
+use Rattle.gate_admission.specs.declared.items.Below.{Below}
+use Rattle.gate_admission.specs.Seen.{items_after, item_at}
 use Rattle.gate_admission.proofs.QueueItems.{rising_after}
 use Rattle.gate_admission.proofs.Standing.{items_rise}
-use Rattle.gate_admission.proofs.LastItem.{none_below, last_here, last_lower, most_of, none_of}
+use Rattle.gate_admission.proofs.LastItem.{none_below, last_found, none_found, last_lower, most_of, none_of}
 use Rattle.gate_admission.proofs.items.last_below.Goals as goal
 
-pub returns-in-Some-2-clause-found : goal.returns-in-Some-2-clause-found
-returns-in-Some-2-clause-found g c = λ trusted s x holds lawful.
+pub returns-then-is_some-clause-found : goal.returns-then-is_some-clause-found
+returns-then-is_some-clause-found g c = λ trusted s x holds lawful.
     let name = c.args.queue.now in
     let rows = items_in s x.state name in
     let all = items_after name rows c.args.edits.now in
     let up = items_rise s x.state name lawful.lawful.sound in
-    let one = c.in_ok-item.ensures.kept.trusted_before trusted in
-    let zero = c.in_ok-serial.ensures.kept.trusted_before one in
-    let start = c.loop-serial.invariant.kept.holds_on zero s x holds in
-    let next = c.in_ok-serial.ensures.kept.holds_on one s x start in
-    let low = subst (λ o. IfSome o (λ n. n < c.loop-serial.end)) c.in-Some.is c.in_ok-serial.ensures.falls in
-    sym (last_here c.loop-serial.end c.in-Some.serial all c.in-Some-2.item
-    (rising_after name rows c.args.edits.now up) low
-    (most_of name c.loop-serial.end c.in-Some.serial rows c.args.edits.now up
-    (sym (c.in_ok-serial.ensures.found one s x start lawful) ∙ c.in-Some.is))
-    (sym (c.in_ok-item.ensures.found trusted s x next lawful) ∙ c.in-Some-2.is))
-    ∙ c.loop-serial.invariant.found zero s x holds lawful
+    let next = c.in-Some.next in
+    let zero = c.in_ok-next.ensures.kept.trusted_before trusted in
+    let start = c.loop-next.invariant.kept.holds_on zero s x holds in
+    let low = subst (λ o. IfSome o (λ b. b.serial < c.loop-next.end)) c.in-Some.is c.in_ok-next.ensures.falls in
+    let serial = sym (ap (option_map (λ (b : Below). b.serial)) (sym c.in-Some.is)
+    ∙ c.in_ok-next.ensures.serial trusted s x start lawful) in
+    let item = subst (λ o. IfSome o (λ b. b.item ≡ item_at b.serial all)) c.in-Some.is
+    (c.in_ok-next.ensures.item trusted s x start lawful) in
+    sym (last_found c.loop-next.end next.serial all next.item (rising_after name rows c.args.edits.now up) low
+    (most_of name c.loop-next.end next.serial rows c.args.edits.now up serial) (sym item)
+    (sym c.is_some.ensures ∙ c.if-is_some.true))
+    ∙ c.loop-next.invariant.found zero s x holds lawful
 
-pub loop-serial-preserved : goal.loop-serial-preserved
-loop-serial-preserved g c = record {
-  kept = then (then c.loop-serial.invariant.kept c.in_ok-serial.ensures.kept) c.in_ok-item.ensures.kept;
+pub loop-next-preserved : goal.loop-next-preserved
+loop-next-preserved g c = record {
+  kept = then c.loop-next.invariant.kept c.in_ok-next.ensures.kept;
   found = λ trusted s x holds lawful.
       let name = c.args.queue.now in
       let rows = items_in s x.state name in
       let all = items_after name rows c.args.edits.now in
       let up = items_rise s x.state name lawful.lawful.sound in
-      let one = c.in_ok-item.ensures.kept.trusted_before trusted in
-      let zero = c.in_ok-serial.ensures.kept.trusted_before one in
-      let start = c.loop-serial.invariant.kept.holds_on zero s x holds in
-      let next = c.in_ok-serial.ensures.kept.holds_on one s x start in
-      let low = subst (λ o. IfSome o (λ n. n < c.loop-serial.end)) c.in-Some.is c.in_ok-serial.ensures.falls in
+      let next = c.in-Some.next in
+      let zero = c.in_ok-next.ensures.kept.trusted_before trusted in
+      let start = c.loop-next.invariant.kept.holds_on zero s x holds in
+      let low = subst (λ o. IfSome o (λ b. b.serial < c.loop-next.end)) c.in-Some.is c.in_ok-next.ensures.falls in
+      let serial = sym (ap (option_map (λ (b : Below). b.serial)) (sym c.in-Some.is)
+      ∙ c.in_ok-next.ensures.serial trusted s x start lawful) in
+      let item = subst (λ o. IfSome o (λ b. b.item ≡ item_at b.serial all)) c.in-Some.is
+      (c.in_ok-next.ensures.item trusted s x start lawful) in
       ap (λ n. last_below n all) c.get-end.ensures.value
-      ∙ last_lower c.loop-serial.end c.in-Some.serial all low
-      (most_of name c.loop-serial.end c.in-Some.serial rows c.args.edits.now up
-      (sym (c.in_ok-serial.ensures.found one s x start lawful) ∙ c.in-Some.is))
-      (sym (c.in_ok-item.ensures.found trusted s x next lawful) ∙ c.in_default-2.is)
-      ∙ c.loop-serial.invariant.found zero s x holds lawful;
+      ∙ last_lower c.loop-next.end next.serial all low
+      (most_of name c.loop-next.end next.serial rows c.args.edits.now up serial)
+      (sym item ∙ none_found next.item (sym c.is_some.ensures ∙ c.if-is_some.false))
+      ∙ c.loop-next.invariant.found zero s x holds lawful;
 }
 
 pub returns-clause-found : goal.returns-clause-found
@@ -52,9 +56,10 @@ returns-clause-found g c = λ trusted s x holds lawful.
     let name = c.args.queue.now in
     let rows = items_in s x.state name in
     let up = items_rise s x.state name lawful.lawful.sound in
-    let zero = c.in_ok-serial.ensures.kept.trusted_before trusted in
-    let start = c.loop-serial.invariant.kept.holds_on zero s x holds in
-    sym (none_below c.loop-serial.end (items_after name rows c.args.edits.now)
-    (none_of name c.loop-serial.end rows c.args.edits.now up
-    (sym (c.in_ok-serial.ensures.found trusted s x start lawful) ∙ c.in_default.is)))
-    ∙ c.loop-serial.invariant.found zero s x holds lawful
+    let zero = c.in_ok-next.ensures.kept.trusted_before trusted in
+    let start = c.loop-next.invariant.kept.holds_on zero s x holds in
+    sym (none_below c.loop-next.end (items_after name rows c.args.edits.now)
+    (none_of name c.loop-next.end rows c.args.edits.now up
+    (sym (ap (option_map (λ (b : Below). b.serial)) (sym c.in_default.is)
+    ∙ c.in_ok-next.ensures.serial trusted s x start lawful))))
+    ∙ c.loop-next.invariant.found zero s x holds lawful
