@@ -15,6 +15,7 @@ pub mod ReadyList
 -- one admission after another
 pub mod Admitted
 pub mod ProjectQueue
+pub mod MetByRows
 pub mod EnteringRow
 pub mod EnteringEdits
 pub mod StillOut

@@ -81,10 +81,6 @@ pub record AreToLookAt (c : Settings) (v : State) (rows : List Ready) : Type 0 w
 abbrev pub change_under : ℕ → Option ℕ → Ready → Option ℕ
 change_under a before r = if r.approval == a then Some r.change else before
 
--- a ready change, if it is so
-abbrev pub if_so : Bool → Ready → Option Ready
-if_so b r = if b then Some r else None
-
 -- ---- changes by the numbers of their approvals
 
 -- a ready change is one of these

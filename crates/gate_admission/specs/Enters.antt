@@ -1,5 +1,5 @@
 -- For the inside alone: the row of a change that enters a queue, by the rows that stand there.
-use Rattle.std.specs.Prelude.{ℕ, Bool, false, not, ◌||◌, ◌==◌, ◌+◌, ◌-◌, if◌then◌else◌, List, [], ◌∷◌, length, slice_get, Option, None, Some, find, option_and_then}
+use Rattle.std.specs.Prelude.{ℕ, Bool, true, false, not, ◌||◌, ◌==◌, ◌+◌, ◌-◌, ◌≡◌, if◌then◌else◌, List, [], ◌∷◌, length, slice_get, Option, None, Some, find, is_some, option_map, option_and_then}
 use Rattle.std.specs.List.{list_all}
 use Rattle.std.specs.Option.{option_map_or}
 use Rattle.gate_types.specs.declared.records.Item.{Item as ItemRow}
@@ -9,8 +9,11 @@ use Rattle.gate_types.specs.declared.records.Change.{Change}
 use Rattle.gate_types.specs.declared.edits.Edit.{Edit}
 use Rattle.gate_types.specs.declared.edits.Edit.TheVariants as edit
 use Rattle.gate_types.specs.declared.edits.Counter.TheVariants as counter
+use Rattle.gate_types.specs.Settings.{Settings}
 use Rattle.gate_types.specs.State.{State, change_of}
 use Rattle.gate_types.specs.Standing.{needs_of}
+use Rattle.gate_book_trait.specs.Reads.{items_in}
+use Rattle.gate_admission.specs.Known.{has_place}
 
 -- the row of a change
 abbrev pub item_in : ℕ → List ItemRow → Option ItemRow
@@ -23,6 +26,26 @@ last_row rows = slice_get rows (length rows - 1)
 -- a need has landed, or the row of its change isn't failing
 abbrev pub is_met_by_rows : List ItemRow → Need → Bool
 is_met_by_rows rows n = n.landed || option_map_or (λ r. not r.failing) (item_in n.change rows) false
+
+-- whether it has landed or that row isn't failing; none where it neither has landed nor has a row
+abbrev pub met_by_rows : List ItemRow → Need → Option Bool
+met_by_rows rows n = if n.landed then Some true else option_map (λ r. not r.failing) (item_in n.change rows)
+
+-- a need has landed or has a row
+abbrev pub is_there : List ItemRow → Need → Bool
+is_there rows n = is_some (met_by_rows rows n)
+
+-- whether each of some needs has landed or its row isn't failing; none just where one neither has landed nor has a row
+abbrev pub AreMetBy : List ItemRow → List Need → Option Bool → Type 0
+AreMetBy rows needs (Some fine) =
+    (list_all (is_there rows) needs ≡ true) × (fine ≡ list_all (is_met_by_rows rows) needs)
+AreMetBy rows needs None = list_all (is_there rows) needs ≡ false
+
+-- the same, where the queue of a name has room too; none just where it has no place for a change of these needs
+abbrev pub AreMetWithRoom : Settings → State → List ℕ → List Need → Option Bool → Type 0
+AreMetWithRoom c s name needs (Some fine) =
+    (has_place s name needs ≡ true) × (fine ≡ list_all (is_met_by_rows (items_in c s name)) needs)
+AreMetWithRoom c s name needs None = has_place s name needs ≡ false
 
 -- what is ahead behind a row
 abbrev pub ahead_after : ItemRow → Option ℕ

@@ -73,9 +73,14 @@ pub fn admitting<B: Book>(
         let Some(serial) = Serial::new(order + 1) else {
             return Ok(None);
         };
-        let change = entrant.change;
-        edits = enter(alloc, book, config, edits, entrant, serial)?;
-        add_needing(alloc, book, edits.as_slice(), change, &mut waiting)?;
+        enter(book, config, &mut edits, &entrant, serial)?;
+        add_needing(
+            alloc,
+            book,
+            edits.as_slice(),
+            entrant.ready.change,
+            &mut waiting,
+        )?;
     }
     Ok(None)
 }

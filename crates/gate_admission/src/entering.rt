@@ -1,156 +1,143 @@
 //! A ready change enters its queue: whether it may, and the edits that stand for it.
-ghost use Rattle.std.specs.Prelude.{◌≡◌, ◌+◌, ◌++◌, ◌||◌, not, false, Some, find, option_and_then, IfOk, IfErr};
+ghost use Rattle.std.specs.Prelude.{◌≡◌, ◌&&◌, ◌+◌, ◌++◌, not, find, Some, option_map, option_and_then, IfOk, IfErr, OnOk};
 ghost use Rattle.std.specs.List.{list_all};
-ghost use Rattle.std.specs.Option.{option_map_or};
-ghost use Rattle.gate_types.specs.State.{Queue, State, known_change, has_change};
-ghost use Rattle.gate_types.specs.Slot.{are_met_by};
+ghost use Rattle.gate_types.specs.State.{State, known_change};
 ghost use Rattle.gate_types.specs.Standing.{needs_of};
 ghost use Rattle.gate_types.specs.Admit.{may_enter, entered};
 ghost use Rattle.gate_book_trait.specs.Faults.{MayAnswer};
 ghost use Rattle.gate_book_trait.specs.Kept.{OfHeldUnder, IsKept};
-ghost use Rattle.gate_book_trait.specs.Reads.{items_in, queue_named};
+ghost use Rattle.gate_book_trait.specs.Reads.{items_in};
 ghost use Rattle.gate_admission.specs.Led.{IsLed, OfLed, OfLedUnder};
-ghost use Rattle.gate_admission.specs.Known.{IsQueue, has_place};
-ghost use Rattle.gate_admission.specs.Enters.{is_met_by_rows, ahead_after, ahead_behind, entering_row, entering_edits};
+ghost use Rattle.gate_admission.specs.Known.{IsQueue};
+ghost use Rattle.gate_admission.specs.Enters.{is_met_by_rows, met_by_rows, AreMetBy, AreMetWithRoom, ahead_after, ahead_behind, entering_row, entering_edits};
+ghost use Rattle.gate_admission.specs.Entrants.{IsEntrant, TellsEntrant};
 
 use crate::items::{item_in, last_item};
-use crate::known_changes::{known, needs_of, project_of};
+use crate::known_changes::{known, needs_with};
 use crate::room::has_room;
 use gate_book_trait::{Book, BookFault};
 use gate_types::config::Config;
 use gate_types::edits::{Counter, Edit};
-use gate_types::lists::with_one;
 use gate_types::names::{Name, NoMemory};
 use gate_types::numbers::Serial;
 use gate_types::records::{Change, Item, Need, Plan, Ready};
 use std::alloc::Global;
 
-/// Whether a need has landed or is an item of a queue.
-fn is_met_in<B: Book>(
+/// A ready change that may enter its queue, and what was found out on the way: what is known of the change, and
+/// whether one of its needs is a failing item.
+#[derive(Drop)]
+pub(crate) struct Entrant {
+    pub ready: Ready,
+    pub change: Change,
+    pub failing: bool,
+}
+
+fn is_fine(row: Option<Item>) -> Option<bool>
+    ensures { result ≡ option_map (λ r. not r.failing) row }
+{
+    match row {
+        Some(row) => Some(!row.failing),
+        None => None,
+    }
+}
+
+/// Whether a need has landed or its item isn't failing; none where it neither has landed nor is an item of the queue.
+fn met<B: Book>(
     book: &mut B,
     edits: &[Edit],
     queue: &Name,
     need: &Need,
-) -> Result<bool, BookFault>
+) -> Result<Option<bool>, BookFault>
     ensures found { OfLed B.IsTrusted B.Holds book.old book.new edits.now (λ c v.
-        (q : Queue) → queue_named v queue.now ≡ Some q →
-        IfOk result (λ met. met ≡ (need.now.landed || has_change q.items need.now.change))) }
+        IsQueue v queue.now → IfOk result (λ met. met ≡ met_by_rows (items_in c v queue.now) need.now)) }
     ensures kept { IsKept B.IsTrusted B.Holds B.LeavesOneOf book.old book.new }
     ensures fault { IfErr result (MayAnswer B.MayFault) }
 {
     if need.landed {
-        return Ok(true);
+        return Ok(Some(true));
     }
-    Ok(item_in(book, edits, queue, need.change)?.is_some())
+    Ok(is_fine(item_in(book, edits, queue, need.change)?))
 }
 
-/// Whether each need has.
-fn are_met_in<B: Book>(
+fn both(first: bool, second: bool) -> bool
+    ensures { result ≡ (first && second) }
+{
+    first && second
+}
+
+/// The same of each need: none where that of one is none.
+fn all_met<B: Book>(
     book: &mut B,
     edits: &[Edit],
     queue: &Name,
     needs: &[Need],
-) -> Result<bool, BookFault>
+) -> Result<Option<bool>, BookFault>
     ensures found { OfLed B.IsTrusted B.Holds book.old book.new edits.now (λ c v.
-        (q : Queue) → queue_named v queue.now ≡ Some q → IfOk result (λ met. met ≡ are_met_by q.items needs.now)) }
+        IsQueue v queue.now → IfOk result (AreMetBy (items_in c v queue.now) needs.now)) }
     ensures kept { IsKept B.IsTrusted B.Holds B.LeavesOneOf book.old book.new }
     ensures fault { IfErr result (MayAnswer B.MayFault) }
 {
+    let mut all_fine = true;
     for need in needs {
-        if !is_met_in(book, edits, queue, need)? {
-            return Ok(false);
-        }
+        let Some(fine) = met(book, edits, queue, need)? else {
+            return Ok(None);
+        };
+        all_fine = both(all_fine, fine);
     }
-    Ok(true)
+    Ok(Some(all_fine))
 }
 
-/// Whether a queue has room, and each need has landed or is an item of it.
-fn has_place<B: Book>(
+/// The same, and none where the queue has no room.
+fn all_met_with_room<B: Book>(
     book: &mut B,
     edits: &[Edit],
     queue: &Name,
     needs: &[Need],
-) -> Result<bool, BookFault>
+) -> Result<Option<bool>, BookFault>
     ensures found { OfLed B.IsTrusted B.Holds book.old book.new edits.now (λ c v.
-        IsQueue v queue.now → IfOk result (λ has. has ≡ has_place v queue.now needs.now)) }
+        IsQueue v queue.now → IfOk result (AreMetWithRoom c v queue.now needs.now)) }
     ensures kept { IsKept B.IsTrusted B.Holds B.LeavesOneOf book.old book.new }
     ensures fault { IfErr result (MayAnswer B.MayFault) }
 {
-    if !are_met_in(book, edits, queue, needs)? {
-        return Ok(false);
+    let Some(fine) = all_met(book, edits, queue, needs)? else {
+        return Ok(None);
+    };
+    if !has_room(book, edits, queue)? {
+        return Ok(None);
     }
-    has_room(book, edits, queue)
+    Ok(Some(fine))
 }
 
-/// Whether a ready change may enter its queue.
-pub(crate) fn may_enter<B: Book>(
+/// A ready change with what it enters by; none where it may not enter its queue.
+pub(crate) fn if_may_enter<B: Book>(
     alloc: Global,
     book: &mut B,
     config: &Config,
     edits: &[Edit],
     ready: Ready,
-) -> Result<bool, BookFault>
+) -> Result<Option<Entrant>, BookFault>
     ensures found { OfLedUnder B.IsTrusted B.Holds book.old book.new config.now edits.now (λ v.
-        IfOk result (λ may. may ≡ may_enter config.now v ready)) }
+        IfOk result (TellsEntrant config.now v ready)) }
     ensures kept { IsKept B.IsTrusted B.Holds B.LeavesOneOf book.old book.new }
     ensures fault { IfErr result (MayAnswer B.MayFault) }
 {
     // This shows the prover that the settings are sound.
     let _settings = &config.base;
-    let known = known(book, edits, ready.change)?;
-    let Some(project) = project_of(config, &known) else {
-        return Ok(false);
+    let Some(change) = known(book, edits, ready.change)? else {
+        return Ok(None);
     };
-    let needs = needs_of(alloc, book, edits, &known)?;
-    has_place(book, edits, &project.queue, needs.as_slice())
-}
-
-fn is_fine(row: Option<Item>) -> bool
-    ensures { result ≡ option_map_or (λ r. not r.failing) row false }
-{
-    match row {
-        Some(row) => !row.failing,
-        None => false,
-    }
-}
-
-/// Whether a need has landed, or is an item of a queue that isn't failing.
-fn is_met<B: Book>(
-    book: &mut B,
-    edits: &[Edit],
-    queue: &Name,
-    need: &Need,
-) -> Result<bool, BookFault>
-    ensures found { OfLed B.IsTrusted B.Holds book.old book.new edits.now (λ c v.
-        IsQueue v queue.now → IfOk result (λ met. met ≡ is_met_by_rows (items_in c v queue.now) need.now)) }
-    ensures kept { IsKept B.IsTrusted B.Holds B.LeavesOneOf book.old book.new }
-    ensures fault { IfErr result (MayAnswer B.MayFault) }
-{
-    if need.landed {
-        return Ok(true);
-    }
-    Ok(is_fine(item_in(book, edits, queue, need.change)?))
-}
-
-/// Whether each need has.
-fn are_met<B: Book>(
-    book: &mut B,
-    edits: &[Edit],
-    queue: &Name,
-    needs: &[Need],
-) -> Result<bool, BookFault>
-    ensures found { OfLed B.IsTrusted B.Holds book.old book.new edits.now (λ c v.
-        IsQueue v queue.now →
-        IfOk result (λ met. met ≡ list_all (is_met_by_rows (items_in c v queue.now)) needs.now)) }
-    ensures kept { IsKept B.IsTrusted B.Holds B.LeavesOneOf book.old book.new }
-    ensures fault { IfErr result (MayAnswer B.MayFault) }
-{
-    for need in needs {
-        if !is_met(book, edits, queue, need)? {
-            return Ok(false);
-        }
-    }
-    Ok(true)
+    let Some(project) = config.project(change.project.as_str()) else {
+        return Ok(None);
+    };
+    let needs = needs_with(alloc, book, edits, change.needs.as_slice())?;
+    let Some(fine) = all_met_with_room(book, edits, &project.queue, needs.as_slice())? else {
+        return Ok(None);
+    };
+    Ok(Some(Entrant {
+        ready,
+        change,
+        failing: !fine,
+    }))
 }
 
 fn ahead_after(row: Option<Item>) -> Option<Serial>
@@ -184,96 +171,88 @@ fn ahead_behind<B: Book>(
     Ok(ahead_after(last_item(book, edits, queue, next)?))
 }
 
-/// The row of a change, with these needs, that enters a queue under the next serial.
+/// The row of a change that enters a queue under the next serial, where it is known whether a need is a failing item.
 fn entering_row<B: Book>(
     book: &mut B,
     edits: &[Edit],
     queue: &Name,
     change: &Change,
-    needs: &[Need],
+    failing: bool,
     serial: Serial,
 ) -> Result<Item, BookFault>
     ensures found { OfLed B.IsTrusted B.Holds book.old book.new edits.now (λ c v.
-        known_change v change.now.number ≡ Some change.now → needs.now ≡ needs_of v change.now.number →
+        known_change v change.now.number ≡ Some change.now →
+        failing ≡ not (list_all (is_met_by_rows (items_in c v queue.now)) (needs_of v change.now.number)) →
         IsQueue v queue.now → serial ≡ v.counters.order + 1 →
         IfOk result (λ row. row ≡ entering_row v (items_in c v queue.now) change.now.number)) }
     ensures kept { IsKept B.IsTrusted B.Holds B.LeavesOneOf book.old book.new }
     ensures fault { IfErr result (MayAnswer B.MayFault) }
 {
     let ahead = ahead_behind(book, edits, queue, serial)?;
-    let met = are_met(book, edits, queue, needs)?;
     Ok(Item {
         serial,
         change: change.number,
         revision: change.revision,
         ahead,
-        failing: !met,
+        failing,
     })
 }
 
-fn with_entering(
-    edits: Vec<Edit>,
+fn push_entering(
+    edits: &mut Vec<Edit>,
     queue: Name,
     change: Change,
     row: Item,
     plan: Plan,
-) -> Result<Vec<Edit>, NoMemory>
-    ensures { IfOk result (λ all. all.items ≡ edits.items ++ entering_edits queue change row plan) }
+) -> Result<(), NoMemory>
+    ensures { OnOk result (edits.new.items ≡ edits.old.items ++ entering_edits queue change row plan) }
 {
     let Item { serial, .. } = row;
-    let edits = with_one(edits, Edit::PutItem { queue, item: row })?;
-    let edits = with_one(edits, Edit::PutPlan(plan))?;
-    let edits = with_one(
-        edits,
-        Edit::PutChange {
-            change,
-            approval: None,
-        },
-    )?;
-    with_one(
-        edits,
-        Edit::SetCounter {
-            counter: Counter::Order,
-            drawn: serial.get(),
-        },
-    )
+    edits.push(Edit::PutItem { queue, item: row })?;
+    edits.push(Edit::PutPlan(plan))?;
+    edits.push(Edit::PutChange {
+        change,
+        approval: None,
+    })?;
+    edits.push(Edit::SetCounter {
+        counter: Counter::Order,
+        drawn: serial.get(),
+    })?;
+    Ok(())
 }
 
-/// The edits, and behind them those of a ready change that enters its queue under the next serial.
+/// Puts the edits of a ready change that enters its queue under the next serial behind the others.
 pub(crate) fn enter<B: Book>(
-    alloc: Global,
     book: &mut B,
     config: &Config,
-    edits: Vec<Edit>,
-    ready: Ready,
+    edits: &mut Vec<Edit>,
+    entrant: &Entrant,
     serial: Serial,
-) -> Result<Vec<Edit>, BookFault>
+) -> Result<(), BookFault>
     ensures led { OfHeldUnder B.IsTrusted B.Holds book.old book.new config.now (λ x. (v : State) →
-        IsLed config.now x edits.items v → find (may_enter config.now v) v.ready ≡ Some ready →
-        serial ≡ v.counters.order + 1 →
-        IfOk result (λ all. IsLed config.now x all.items (entered config.now v ready))) }
+        IsLed config.now x edits.old.items v → find (may_enter config.now v) v.ready ≡ Some entrant.now.ready →
+        IsEntrant config.now v entrant.now → serial ≡ v.counters.order + 1 →
+        OnOk result (IsLed config.now x edits.new.items (entered config.now v entrant.now.ready))) }
     ensures kept { IsKept B.IsTrusted B.Holds B.LeavesOneOf book.old book.new }
     ensures fault { IfErr result (MayAnswer B.MayFault) }
 {
     // This shows the prover that the settings are sound.
     let _settings = &config.base;
-    let known = known(book, edits.as_slice(), ready.change)?;
-    let Some(project) = project_of(config, &known) else {
-        return Ok(edits);
-    };
-    let needs = needs_of(alloc, book, edits.as_slice(), &known)?;
-    let Some(change) = known else {
-        return Ok(edits);
+    let change = &entrant.change;
+    let Some(project) = config.project(change.project.as_str()) else {
+        return Ok(());
     };
     let row = entering_row(
         book,
         edits.as_slice(),
         &project.queue,
-        &change,
-        needs.as_slice(),
+        change,
+        entrant.failing,
         serial,
     )?;
     let queue = project.queue.copy()?;
+    let change = change.copy()?;
     let plan = Plan::of_project(project, serial)?;
-    Ok(with_entering(edits, queue, change, row, plan)?)
+    push_entering(edits, queue, change, row, plan)?;
+    Ok(())
 }

@@ -70,7 +70,8 @@ fn need<B: Book>(book: &mut B, edits: &[Edit], number: ChangeNo) -> Result<Need,
     })
 }
 
-fn needs_with<B: Book>(
+/// The changes of these numbers as needs: each with whether it has landed.
+pub(crate) fn needs_with<B: Book>(
     alloc: Global,
     book: &mut B,
     edits: &[Edit],
@@ -87,22 +88,4 @@ fn needs_with<B: Book>(
         needs = with_one(needs, next)?;
     }
     Ok(needs)
-}
-
-/// The needs of a change; none where it isn't known.
-pub(crate) fn needs_of<B: Book>(
-    alloc: Global,
-    book: &mut B,
-    edits: &[Edit],
-    change: &Option<Change>,
-) -> Result<Vec<Need>, BookFault>
-    ensures found { OfLed B.IsTrusted B.Holds book.old book.new edits.now (λ c v.
-        IfOk result (λ needs. needs.items ≡ map (need_of v) (known_or_closed change.now).needs)) }
-    ensures kept { IsKept B.IsTrusted B.Holds B.LeavesOneOf book.old book.new }
-    ensures fault { IfErr result (MayAnswer B.MayFault) }
-{
-    match change {
-        Some(change) => needs_with(alloc, book, edits, change.needs.as_slice()),
-        None => Ok(Vec::new(alloc)),
-    }
 }

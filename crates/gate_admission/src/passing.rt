@@ -6,9 +6,10 @@ ghost use Rattle.gate_types.specs.Admit.{may_enter};
 ghost use Rattle.gate_book_trait.specs.Faults.{MayAnswer};
 ghost use Rattle.gate_book_trait.specs.Kept.{IsKept};
 ghost use Rattle.gate_admission.specs.Led.{OfLedUnder};
-ghost use Rattle.gate_admission.specs.Candidates.{if_so, IsAmong, AreCandidates, EntersFirst};
+ghost use Rattle.gate_admission.specs.Candidates.{IsAmong, AreCandidates, EntersFirst};
+ghost use Rattle.gate_admission.specs.Entrants.{IsEntrant};
 
-use crate::entering::may_enter;
+use crate::entering::{Entrant, if_may_enter};
 use gate_book_trait::{Book, BookFault};
 use gate_types::config::Config;
 use gate_types::edits::Edit;
@@ -31,22 +32,6 @@ fn next(waiting: &mut BTreeMap<u64, ChangeNo>) -> Option<Ready>
     }
 }
 
-/// A ready change, if it may enter.
-fn if_may_enter<B: Book>(
-    alloc: Global,
-    book: &mut B,
-    config: &Config,
-    edits: &[Edit],
-    ready: Ready,
-) -> Result<Option<Ready>, BookFault>
-    ensures found { OfLedUnder B.IsTrusted B.Holds book.old book.new config.now edits.now (λ v.
-        IfOk result (λ found. found ≡ if_so (may_enter config.now v ready) ready)) }
-    ensures kept { IsKept B.IsTrusted B.Holds B.LeavesOneOf book.old book.new }
-    ensures fault { IfErr result (MayAnswer B.MayFault) }
-{
-    Ok(may_enter(alloc, book, config, edits, ready)?.then_some(ready))
-}
-
 /// The first ready change that may enter its queue, where each that may is among these. It is taken out of them, as are
 /// those before it, who may not: each is asked about once.
 pub(crate) fn first_to_enter<B: Book>(
@@ -55,18 +40,17 @@ pub(crate) fn first_to_enter<B: Book>(
     config: &Config,
     edits: &[Edit],
     waiting: &mut BTreeMap<u64, ChangeNo>,
-) -> Result<Option<Ready>, BookFault>
+) -> Result<Option<Entrant>, BookFault>
     ensures found { OfLedUnder B.IsTrusted B.Holds book.old book.new config.now edits.now (λ v.
         AreCandidates config.now v waiting.old →
         IfOk result (λ found. MatchOption found (find (may_enter config.now v) v.ready ≡ None)
-        (λ r. EntersFirst config.now v r waiting.new))) }
+        (λ e. IsEntrant config.now v e × EntersFirst config.now v e.ready waiting.new))) }
     ensures kept { IsKept B.IsTrusted B.Holds B.LeavesOneOf book.old book.new }
     ensures fault { IfErr result (MayAnswer B.MayFault) }
 {
     while let Some(ready) = next(waiting) {
-        let entrant = if_may_enter(alloc, book, config, edits, ready)?;
-        if entrant.is_some() {
-            return Ok(entrant);
+        if let Some(found) = if_may_enter(alloc, book, config, edits, ready)? {
+            return Ok(Some(found));
         }
     }
     Ok(None)

@@ -103,33 +103,33 @@ returns-in_default-new-clause-admitted g c = λ trusted x holds lawful v sound l
     (false≢true (c.in_default-new.ensures.range.1 (omega arith, omega arith))))
     (λ (l : last_number ≤ c.loop-order.order). l)
     (cases_lt c.loop-order.order last_number) in
-    none_for_next s x c.loop-order.edits.items c.loop-order.order v c.in-Some.entrant c.loop-order.waiting h first.first
-    last
+    none_for_next s x c.loop-order.edits.items c.loop-order.order v c.in-Some.entrant.ready c.loop-order.waiting h
+    first.1.first last
 
 pub loop-order-preserved : goal.loop-order-preserved
 loop-order-preserved g c = record {
-  kept = then (then (then c.loop-order.invariant.kept c.in_ok-entrant.ensures.kept) c.in_ok-edits.ensures.kept)
+  kept = then (then (then c.loop-order.invariant.kept c.in_ok-entrant.ensures.kept) c.in_ok-enter.ensures.kept)
       c.in_ok-add_needing.ensures.kept;
   low = (c.in-Some-new.ensures.range.0 refl).1;
   found = λ trusted x holds lawful v led enters.
       let s = c.args.config.now in
       let three = c.in_ok-add_needing.ensures.kept.trusted_before trusted in
-      let two = c.in_ok-edits.ensures.kept.trusted_before three in
+      let two = c.in_ok-enter.ensures.kept.trusted_before three in
       let one = c.in_ok-entrant.ensures.kept.trusted_before two in
       let start = c.loop-order.invariant.kept.holds_on one s x holds in
       let next = c.in_ok-entrant.ensures.kept.holds_on two s x start in
-      let last = c.in_ok-edits.ensures.kept.holds_on three s x next in
+      let last = c.in_ok-enter.ensures.kept.holds_on three s x next in
       let h = c.loop-order.invariant.found one x holds lawful v led enters in
       let u = tries s v h.entered in
       let so_far = subst (λ es. IsLed s x es u) (sym c.as_slice-in-loop-order.ensures.value) h.under.led in
       let first = rw c.in-Some.is at (c.in_ok-entrant.ensures.found two x start lawful u so_far h.candidates) in
-      let r = c.in-Some.entrant in
-      let all = c.in_ok-edits.ensures.led three x next lawful u h.under.led first.first
+      let r = c.in-Some.entrant.ready in
+      let all = c.in_ok-enter.ensures.led three x next lawful u h.under.led first.1.first first.0
       (c.in-Some-new.ensures.value ∙ ap (λ n. n + 1) (sym h.under.order)) in
-      next_entered s x c.loop-order.edits.items c.in_ok-edits.edits.items c.loop-order.order v r c.loop-order.waiting
-      c.add_needing.new.waiting h first.first all
+      next_entered s x c.loop-order.edits.items c.enter.new.edits.items c.loop-order.order v r c.loop-order.waiting
+      c.add_needing.new.waiting h first.1.first all
       (c.in_ok-add_needing.ensures.found trusted s x last lawful (entered s u r)
-      (subst (λ es. IsLed s x es (entered s u r)) (sym c.as_slice-in-loop-order-2.ensures.value) all) first.others);
+      (subst (λ es. IsLed s x es (entered s u r)) (sym c.as_slice-in-loop-order-2.ensures.value) all) first.1.others);
 }
 
 pub returns-clause-admitted : goal.returns-clause-admitted
