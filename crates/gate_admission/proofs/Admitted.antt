@@ -1,5 +1,7 @@
 -- Who may enter, and the state after some admissions.
-use Rattle.std.proofs.Common.{◌≡◌, ℕ, zero, suc, ◌+◌, ◌≤◌, Bool, true, false, not, ◌&&◌, ◌||◌, cond, Option, Some, None, List, [], ◌∷◌, map, fold, length, refl, sym, ap, ◌∙◌, arith, inl, inr, true≢false, add-one, zero-add, lt-ltb, ◌-◌}
+use Rattle.std.proofs.Common.{◌≡◌, ℕ, zero, suc, ◌+◌, ◌≤◌, Bool, true, false, not, ◌&&◌, ◌||◌, cond, Option, Some}
+use Rattle.std.proofs.Common.{None, List, [], ◌∷◌, map, fold, length, refl, sym, ap, ◌∙◌, arith, inl, inr, true≢false}
+use Rattle.std.proofs.Common.{add-one, zero-add, lt-ltb, ◌-◌}
 use Rattle.std.specs.Prelude.{find, is_some, nat_lt, ◌==◌, unwrap_or}
 use Rattle.std.specs.List.{list_any}
 use Rattle.std.specs.Option.{option_map_or}
@@ -19,7 +21,8 @@ use Rattle.gate_types.specs.Forms.{IsLawfulContent, is_queue_in_form}
 use Rattle.gate_laws.proofs.Members.{In, every}
 use Rattle.gate_laws.proofs.Alone.{names_differ}
 use Rattle.gate_types.specs.Settings.{Settings, are_sound, are_distinct}
-use Rattle.gate_types.specs.State.{Item, Queue, State, has_change, change_of, known_change, project_of, known_or_closed, need_of}
+use Rattle.gate_types.specs.State.{Item, Queue, State, has_change, change_of, known_change, project_of}
+use Rattle.gate_types.specs.State.{known_or_closed, need_of}
 use Rattle.gate_types.specs.Slot.{are_met_by}
 use Rattle.gate_types.specs.Standing.{needs_of, with_ahead, place_of, places_after, next_ahead}
 use Rattle.gate_types.specs.Rows.{row_of, item_rows}

@@ -1,5 +1,7 @@
 -- The edits of a change that enters lead to the state in which it has entered.
-use Rattle.std.proofs.Common.{◌≡◌, ◌≢◌, ℕ, ◌+◌, ◌<◌, ◌≤◌, inl, inr, ⊎_elim, Bool, true, false, not, cond, Option, Some, None, List, [], ◌∷◌, ◌++◌, map, flat_map, refl, sym, ap, ◌∙◌, subst, true≢false, arith}
+use Rattle.std.proofs.Common.{◌≡◌, ◌≢◌, ℕ, ◌+◌, ◌<◌, ◌≤◌, inl, inr, ⊎_elim, Bool, true, false, not, cond, Option}
+use Rattle.std.proofs.Common.{Some, None, List, [], ◌∷◌, ◌++◌, map, flat_map, refl, sym, ap, ◌∙◌, subst, true≢false}
+use Rattle.std.proofs.Common.{arith}
 use Rattle.std.specs.Prelude.{find, nat_lt, ◌==◌, option_map}
 use Rattle.std.specs.Option.{option_map_or}
 use Rattle.std.proofs.lemmas.Bool.{eqb-true, eq-eqb, ne_eqb, le-ltb}
@@ -21,7 +23,8 @@ use Rattle.gate_types.specs.Once.{Content}
 use Rattle.gate_types.specs.Rows.{item_rows}
 use Rattle.gate_types.specs.Admit.{may_enter, with_item, next_item, next_plan, entered}
 use Rattle.gate_types.specs.Lawful.{IsSound}
-use Rattle.gate_types.specs.Tables.{Tables, QueueRows, tables, queue_rows, change_row, approval_of, edited_queue, edited_tables, fold_all}
+use Rattle.gate_types.specs.Tables.{Tables, QueueRows, tables, queue_rows, change_row, approval_of, edited_queue}
+use Rattle.gate_types.specs.Tables.{edited_tables, fold_all}
 use Rattle.gate_types.proofs.NameLemmas.{same_name_is}
 use Rattle.gate_book_trait.specs.Reads.{queue_named}
 use Rattle.gate_laws.proofs.Members.{In, all, found, map_map, map_same}

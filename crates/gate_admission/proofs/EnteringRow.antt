@@ -1,5 +1,6 @@
 -- The row of a change that enters its queue stands behind the others.
-use Rattle.std.proofs.Common.{◌≡◌, ℕ, suc, ◌-◌, Bool, true, false, not, ◌&&◌, ◌||◌, cond, Option, Some, None, List, [], ◌∷◌, ◌++◌, map, length, refl, sym, ap, ◌∙◌, arith}
+use Rattle.std.proofs.Common.{◌≡◌, ℕ, suc, ◌-◌, Bool, true, false, not, ◌&&◌, ◌||◌, cond, Option, Some, None, List}
+use Rattle.std.proofs.Common.{[], ◌∷◌, ◌++◌, map, length, refl, sym, ap, ◌∙◌, arith}
 use Rattle.std.specs.Prelude.{◌+◌, filter, option_map, option_and_then, slice_get, ◌==◌, ◌≢◌, All}
 use Rattle.std.specs.List.{list_any, list_all, AllPass}
 use Rattle.std.specs.Option.{option_map_or}
@@ -14,7 +15,8 @@ use Rattle.gate_types.specs.Names.{same_name}
 use Rattle.gate_types.specs.Settings.{Settings}
 use Rattle.gate_types.specs.State.{Item, Queue, State, put_by, has_change}
 use Rattle.gate_types.specs.Line.{Place, same_entries, line, ran_on}
-use Rattle.gate_types.specs.Slot.{is_blocked, are_met_by, counts, raw_slot_of, outcomes_of, slot_of_outcomes, is_failed_slot}
+use Rattle.gate_types.specs.Slot.{is_blocked, are_met_by, counts, raw_slot_of, outcomes_of, slot_of_outcomes}
+use Rattle.gate_types.specs.Slot.{is_failed_slot}
 use Rattle.gate_types.specs.Standing.{is_failing, places, places_after, place_of, with_ahead, next_ahead, needs_of}
 use Rattle.gate_types.specs.declared.records.Ready.{Ready}
 use Rattle.gate_types.specs.Admit.{next_item, next_plan, with_item, entered}

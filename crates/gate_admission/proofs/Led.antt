@@ -11,7 +11,8 @@ use Rattle.gate_types.specs.Settings.{Settings}
 use Rattle.gate_types.specs.State.{Queue, State, known_change}
 use Rattle.gate_types.specs.Once.{Content}
 use Rattle.gate_types.specs.Rows.{item_rows}
-use Rattle.gate_types.specs.Tables.{Tables, QueueRows, tables, queue_rows, change_row, edited_changes, edited_counters, edited_queue, edited_tables, fold_all}
+use Rattle.gate_types.specs.Tables.{Tables, QueueRows, tables, queue_rows, change_row, edited_changes}
+use Rattle.gate_types.specs.Tables.{edited_counters, edited_queue, edited_tables, fold_all}
 use Rattle.gate_types.proofs.NameLemmas.{same_name_is}
 use Rattle.gate_reads.specs.Moves.{in_state}
 use Rattle.gate_book_trait.specs.Reads.{queue_named, items_in}

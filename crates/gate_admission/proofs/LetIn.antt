@@ -1,5 +1,6 @@
 -- Who is looked at: those whom the edits put, and those who need a change that they put as landed.
-use Rattle.std.proofs.Common.{◌≡◌, ℕ, Bool, true, false, not, ◌&&◌, ◌||◌, cond, Option, Some, None, List, [], ◌∷◌, ◌⊎◌, filter, fold, flat_map, refl, sym, ap, ◌∙◌, subst, inl, inr, ⊎_elim, true≢false}
+use Rattle.std.proofs.Common.{◌≡◌, ℕ, Bool, true, false, not, ◌&&◌, ◌||◌, cond, Option, Some, None, List, [], ◌∷◌}
+use Rattle.std.proofs.Common.{◌⊎◌, filter, fold, flat_map, refl, sym, ap, ◌∙◌, subst, inl, inr, ⊎_elim, true≢false}
 use Rattle.std.specs.Prelude.{nat_lt, ◌==◌, unwrap_or}
 use Rattle.std.specs.List.{list_any}
 use Rattle.std.specs.Option.{option_or}
@@ -14,10 +15,12 @@ use Rattle.gate_types.specs.State.{State, known_change, change_of, is_landed}
 use Rattle.gate_types.specs.Once.{Content}
 use Rattle.gate_types.specs.Lawful.{IsSound}
 use Rattle.gate_book_trait.specs.Reads.{ready_needing}
-use Rattle.gate_laws.proofs.Members.{In, from_filter, to_filter, from_append, to_left, to_right, from_flat, to_flat, any_from, any_to, none_from, contains_in, in_contains}
+use Rattle.gate_laws.proofs.Members.{In, from_filter, to_filter, from_append, to_left, to_right, from_flat, to_flat}
+use Rattle.gate_laws.proofs.Members.{any_from, any_to, none_from, contains_in, in_contains}
 use Rattle.gate_admission.specs.Led.{IsLed}
 use Rattle.gate_admission.specs.Seen.{ready_after, ready_without, with_approval, change_put}
-use Rattle.gate_admission.specs.Candidates.{needs_it, puts, makes_room, lets_in, EntersByEdits, put_ready, left_needing, let_in_by, let_in, AreToLookAt}
+use Rattle.gate_admission.specs.Candidates.{needs_it, puts, makes_room, lets_in, EntersByEdits, put_ready}
+use Rattle.gate_admission.specs.Candidates.{left_needing, let_in_by, let_in, AreToLookAt}
 use Rattle.gate_admission.proofs.Led.{known_led}
 use Rattle.gate_admission.proofs.ReadyList.{other_than, stays_in, ready_led}
 

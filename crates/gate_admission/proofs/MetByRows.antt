@@ -1,5 +1,6 @@
 -- Needs that have landed or are items of a queue, by its rows.
-use Rattle.std.proofs.Common.{◌≡◌, ◌∙◌, ℕ, Bool, true, false, not, ◌&&◌, ◌||◌, cond, Option, Some, None, List, [], ◌∷◌, refl, sym, ap}
+use Rattle.std.proofs.Common.{◌≡◌, ◌∙◌, ℕ, Bool, true, false, not, ◌&&◌, ◌||◌, cond, Option, Some, None, List, []}
+use Rattle.std.proofs.Common.{◌∷◌, refl, sym, ap}
 use Rattle.std.specs.Prelude.{is_some, unwrap_or, option_map, nat_lt, length}
 use Rattle.std.specs.List.{list_all}
 use Rattle.std.specs.Option.{option_map_or}
@@ -13,6 +14,7 @@ use Rattle.gate_book_trait.specs.Reads.{queue_named, items_in}
 use Rattle.gate_admission.specs.Known.{IsQueue, has_room, has_place}
 use Rattle.gate_admission.specs.Enters.{item_in, is_met_by_rows, met_by_rows, is_there}
 use Rattle.gate_admission.proofs.Admitted.{item_found, place_is}
+use Rattle.gate_types.specs.Limits.{most_items}
 
 pub and_assoc : (x y z : Bool) → ((x && y) && z) ≡ (x && (y && z))
 and_assoc true y z = refl
@@ -58,10 +60,10 @@ pub none_there : (c : Settings) (v : State) (name : List ℕ) (needs : List Need
     list_all (is_there (items_in c v name)) needs ≡ false → has_place v name needs ≡ false
 none_there c v name needs there e =
     let q = there.queue in
-    ap (λ (o : Option Queue). option_map_or (λ (p : Queue). nat_lt (length p.items) 1000 && are_met_by p.items needs) o
+    ap (λ (o : Option Queue). option_map_or (λ (p : Queue). nat_lt (length p.items) most_items && are_met_by p.items needs) o
     false) there.named
-    ∙ ap (λ b. nat_lt (length q.items) 1000 && b) (sym (are_there c v name q there.named needs) ∙ e)
-    ∙ and_false (nat_lt (length q.items) 1000)
+    ∙ ap (λ b. nat_lt (length q.items) most_items && b) (sym (are_there c v name q there.named needs) ∙ e)
+    ∙ and_false (nat_lt (length q.items) most_items)
   where
     and_false : (x : Bool) → (x && false) ≡ false
     and_false true = refl

@@ -1,5 +1,6 @@
 -- The queue of a project of sound settings is there.
-use Rattle.std.proofs.Common.{◌≡◌, true, ◌&&◌, ◌||◌, Option, Some, None, List, [], ◌∷◌, map, refl, sym, ap, ◌∙◌, true≢false}
+use Rattle.std.proofs.Common.{◌≡◌, true, ◌&&◌, ◌||◌, Option, Some, None, List, [], ◌∷◌, map, refl, sym, ap, ◌∙◌}
+use Rattle.std.proofs.Common.{true≢false}
 use Rattle.std.specs.Prelude.{ℕ, find}
 use Rattle.std.specs.List.{list_any, list_all}
 use Rattle.std.proofs.lemmas.Bool.{and_parts}

@@ -1,5 +1,7 @@
 -- The ready list after edits: it holds each change whose row has an approval, in the order of the approvals.
-use Rattle.std.proofs.Common.{◌≡◌, ◌≢◌, ℕ, ◌≤◌, inl, inr, ⊎_elim, Bool, true, false, not, cond, Option, Some, None, List, [], ◌∷◌, ◌++◌, map, filter, fold, flat_map, refl, sym, ap, ◌∙◌, subst, true≢false, arith}
+use Rattle.std.proofs.Common.{◌≡◌, ◌≢◌, ℕ, ◌≤◌, inl, inr, ⊎_elim, Bool, true, false, not, cond, Option, Some, None}
+use Rattle.std.proofs.Common.{List, [], ◌∷◌, ◌++◌, map, filter, fold, flat_map, refl, sym, ap, ◌∙◌, subst, true≢false}
+use Rattle.std.proofs.Common.{arith}
 use Rattle.std.specs.Prelude.{find, nat_lt, ◌==◌, option_map, option_and_then, unwrap_or}
 use Rattle.std.proofs.lemmas.Bool.{eqb-true, eq-eqb, ne_eqb, ltb-true, ltb-false, not-true}
 use Rattle.std.proofs.lemmas.Option.{none-some}
@@ -15,7 +17,8 @@ use Rattle.gate_types.specs.Once.{Content}
 use Rattle.gate_types.specs.Lawful.{IsSound, waiting_changes}
 use Rattle.gate_types.specs.Tables.{approval_of, change_row, edited_changes}
 use Rattle.gate_types.proofs.PlainLemmas.{some_is}
-use Rattle.gate_laws.proofs.Members.{In, every, found, not_found, from_filter, to_filter, from_append, to_left, to_right}
+use Rattle.gate_laws.proofs.Members.{In, every, found, not_found, from_filter, to_filter, from_append, to_left}
+use Rattle.gate_laws.proofs.Members.{to_right}
 use Rattle.gate_laws.proofs.Rising.{Rising, rising}
 use Rattle.gate_laws.proofs.Counts.{distinct_from, times-append, one_of}
 use Rattle.gate_admission.specs.Led.{IsLed}

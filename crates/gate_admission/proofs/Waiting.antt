@@ -1,5 +1,6 @@
 -- Candidates, each under the number of its approval: some are added, and the first is taken out.
-use Rattle.std.proofs.Common.{◌≡◌, ◌≢◌, ◌≤◌, ℕ, Bool, true, false, not, cond, Option, Some, None, List, [], ◌∷◌, ◌⊎◌, fold, refl, sym, ap, ◌∙◌, inl, inr, ⊎_elim, true≢false, arith}
+use Rattle.std.proofs.Common.{◌≡◌, ◌≢◌, ◌≤◌, ℕ, Bool, true, false, not, cond, Option, Some, None, List, [], ◌∷◌, ◌⊎◌}
+use Rattle.std.proofs.Common.{fold, refl, sym, ap, ◌∙◌, inl, inr, ⊎_elim, true≢false, arith}
 use Rattle.std.specs.Prelude.{find, ◌==◌, is_some}
 use Rattle.std.specs.Ordering.{nat_cmp, is_gt}
 use Rattle.std.specs.BTreeMap.{BTreeMap, get, is_at, IsLowerBound}
@@ -14,7 +15,8 @@ use Rattle.gate_types.specs.Lawful.{IsSound}
 use Rattle.gate_types.proofs.PlainLemmas.{some_is}
 use Rattle.gate_laws.proofs.Members.{In, from_filter, to_filter, contains_in, in_contains}
 use Rattle.gate_laws.proofs.Rising.{Rising, rising}
-use Rattle.gate_admission.specs.Candidates.{needs_it, change_under, IsAmong, AreCandidates, AreOthers, AreToLookAt, EntersFirst}
+use Rattle.gate_admission.specs.Candidates.{needs_it, change_under, IsAmong, AreCandidates, AreOthers, AreToLookAt}
+use Rattle.gate_admission.specs.Candidates.{EntersFirst}
 use Rattle.gate_admission.proofs.ReadyList.{apart_ready, apart_same}
 use Rattle.gate_admission.proofs.StillOut.{stays_out}
 

@@ -1,5 +1,6 @@
 -- For the inside alone: which ready changes might enter by what edits did.
-use Rattle.std.specs.Prelude.{ℕ, Bool, false, ◌&&◌, ◌||◌, not, ◌==◌, nat_le, ◌≡◌, true, if◌then◌else◌, List, [], ◌∷◌, ◌++◌, filter, fold, flat_map, length, find, Option, None, Some, Contains}
+use Rattle.std.specs.Prelude.{ℕ, Bool, false, ◌&&◌, ◌||◌, not, ◌==◌, nat_le, ◌≡◌, true, if◌then◌else◌, List, [], ◌∷◌}
+use Rattle.std.specs.Prelude.{◌++◌, filter, fold, flat_map, length, find, Option, None, Some, Contains}
 use Rattle.std.specs.List.{list_any}
 use Rattle.std.specs.Option.{option_map_or}
 use Rattle.std.specs.Ordering.{nat_cmp}

@@ -1,5 +1,6 @@
 -- For the inside alone: the row of a change that enters a queue, by the rows that stand there.
-use Rattle.std.specs.Prelude.{ℕ, Bool, true, false, not, ◌||◌, ◌==◌, ◌+◌, ◌-◌, ◌≡◌, if◌then◌else◌, List, [], ◌∷◌, length, slice_get, Option, None, Some, find, is_some, option_map, option_and_then}
+use Rattle.std.specs.Prelude.{ℕ, Bool, true, false, not, ◌||◌, ◌==◌, ◌+◌, ◌-◌, ◌≡◌, if◌then◌else◌, List, [], ◌∷◌}
+use Rattle.std.specs.Prelude.{length, slice_get, Option, None, Some, find, is_some, option_map, option_and_then}
 use Rattle.std.specs.List.{list_all}
 use Rattle.std.specs.Option.{option_map_or}
 use Rattle.gate_types.specs.declared.records.Item.{Item as ItemRow}

@@ -1,5 +1,5 @@
 -- For the inside alone: what was found out of a ready change that may enter.
-use Rattle.std.specs.Prelude.{Bool, true, false, not, ◌≡◌, Option, None, Some, Contains}
+use Rattle.std.specs.Prelude.{true, false, not, ◌≡◌, Option, None, Some, Contains}
 use Rattle.std.specs.List.{list_all}
 use Rattle.gate_types.specs.declared.records.Ready.{Ready}
 use Rattle.gate_types.specs.Settings.{Settings}

@@ -1,5 +1,6 @@
 -- For the inside alone: rows as they are after edits, told from the stored ones.
-use Rattle.std.specs.Prelude.{ℕ, Bool, false, not, ◌&&◌, ◌==◌, nat_lt, if◌then◌else◌, List, [], ◌∷◌, ◌++◌, filter, find, fold, max, Option, Some, None, option_and_then, is_some, option_map}
+use Rattle.std.specs.Prelude.{ℕ, Bool, false, not, ◌&&◌, ◌==◌, nat_lt, if◌then◌else◌, List, [], ◌∷◌, ◌++◌, filter}
+use Rattle.std.specs.Prelude.{find, fold, max, Option, Some, None, option_and_then, is_some, option_map}
 use Rattle.std.specs.Option.{option_or}
 use Rattle.gate_types.specs.declared.records.Change.{Change}
 use Rattle.gate_types.specs.declared.records.Item.{Item as ItemRow}

@@ -54,8 +54,7 @@ pub fn admitting<B: Book>(
     ensures kept { IsKept B.IsTrusted B.Holds B.LeavesOneOf book.old book.new }
     ensures fault { IfErr result (MayAnswer B.MayFault) }
 {
-    // This shows the prover that the settings are sound.
-    let _settings = &config.base;
+    config.show_sound();
     let mut waiting = candidates(alloc, book, edits.as_slice())?;
     if is_idle(&waiting, edits.as_slice()) {
         return Ok(Some(edits));

@@ -1,5 +1,6 @@
 //! A ready change enters its queue: whether it may, and the edits that stand for it.
-ghost use Rattle.std.specs.Prelude.{◌≡◌, ◌&&◌, ◌+◌, ◌++◌, not, find, Some, option_map, option_and_then, IfOk, IfErr, OnOk};
+ghost use Rattle.std.specs.Prelude.{◌≡◌, ◌&&◌, ◌+◌, ◌++◌, not, find, Some, option_map, option_and_then, IfOk, IfErr};
+ghost use Rattle.std.specs.Prelude.{OnOk};
 ghost use Rattle.std.specs.List.{list_all};
 ghost use Rattle.gate_types.specs.State.{State, known_change};
 ghost use Rattle.gate_types.specs.Standing.{needs_of};
@@ -9,7 +10,8 @@ ghost use Rattle.gate_book_trait.specs.Kept.{OfHeldUnder, IsKept};
 ghost use Rattle.gate_book_trait.specs.Reads.{items_in};
 ghost use Rattle.gate_admission.specs.Led.{IsLed, OfLed, OfLedUnder};
 ghost use Rattle.gate_admission.specs.Known.{IsQueue};
-ghost use Rattle.gate_admission.specs.Enters.{is_met_by_rows, met_by_rows, AreMetBy, AreMetWithRoom, ahead_after, ahead_behind, entering_row, entering_edits};
+ghost use Rattle.gate_admission.specs.Enters.{is_met_by_rows, met_by_rows, AreMetBy, AreMetWithRoom, ahead_after};
+ghost use Rattle.gate_admission.specs.Enters.{ahead_behind, entering_row, entering_edits};
 ghost use Rattle.gate_admission.specs.Entrants.{IsEntrant, TellsEntrant};
 
 use crate::items::{item_in, last_item};
@@ -121,8 +123,7 @@ pub(crate) fn if_may_enter<B: Book>(
     ensures kept { IsKept B.IsTrusted B.Holds B.LeavesOneOf book.old book.new }
     ensures fault { IfErr result (MayAnswer B.MayFault) }
 {
-    // This shows the prover that the settings are sound.
-    let _settings = &config.base;
+    config.show_sound();
     let Some(change) = known(book, edits, ready.change)? else {
         return Ok(None);
     };
@@ -236,8 +237,7 @@ pub(crate) fn enter<B: Book>(
     ensures kept { IsKept B.IsTrusted B.Holds B.LeavesOneOf book.old book.new }
     ensures fault { IfErr result (MayAnswer B.MayFault) }
 {
-    // This shows the prover that the settings are sound.
-    let _settings = &config.base;
+    config.show_sound();
     let change = &entrant.change;
     let Some(project) = config.project(change.project.as_str()) else {
         return Ok(());

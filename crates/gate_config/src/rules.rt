@@ -114,6 +114,7 @@ fn any_names_none_of(projects: &[Value], queues: &[Value]) -> bool
         .any(|project| !has_named(queue_named_by(project), queues))
 }
 
+/// Whether both numbers of the rule are in their range. A negative one counts as 0, which isn't.
 fn has_sound_rule(queue: &Value) -> bool
     ensures { result ≡ is_sound_rule (rule_of (view queue.now)) }
 {

@@ -17,7 +17,7 @@ use Rattle.gate_types.specs.declared.config.Project.{Project}
 use Rattle.gate_types.specs.declared.config.Pace.{Pace}
 use Rattle.gate_types.specs.declared.config.Pace.TheVariants as pace
 use Rattle.gate_types.specs.Names.{is_name, is_path_name, is_base}
-use Rattle.gate_types.specs.Limits.{most_window}
+use Rattle.gate_types.specs.Limits.{most_window, most_factor}
 use Rattle.gate_types.specs.Settings.{Settings, are_sound, is_sound_window, is_factor, is_linear, pace_word, pace_named}
 use Rattle.gate_types.specs.Forms.{is_project_in_form, are_settings_in_form}
 use Rattle.gate_types.specs.SettingsText.{job_text, project_text, queue_text, settings_text}
@@ -101,7 +101,7 @@ fits : (n : ℕ) → nat_le n most_window ≡ true → n < 2 ^ 64
 fits n h = omega (arith, leb-true n most_window h)
 
 fits_factor : (n : ℕ) → is_factor n ≡ true → n < 2 ^ 64
-fits_factor n h = fits n (and_parts _ _ h).1
+fits_factor n h = omega (arith, leb-true n most_factor (and_parts _ _ h).1)
 
 -- the words of paces need no escape
 escape_pace : (p : Pace) → escape (pace_word p) ≡ pace_word p

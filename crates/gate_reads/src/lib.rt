@@ -25,7 +25,7 @@ pub use due::are_met_among;
 pub use jobs::is_running;
 pub use known::needs_of;
 pub use orders::{is_submitting, order_of_queue, shown_order};
-pub use raw::{Moved, Raw, PendingReply};
+pub use raw::{Moved, PendingReply, Raw};
 pub use stands::{Stand, stand_of};
 pub use touched::{Event, TouchedItem};
 pub use windows::window_now;

@@ -11,7 +11,7 @@ ghost use Rattle.gate_ruling.specs.Approving.{is_nowhere};
 use crate::changing::is_open;
 use crate::guards::latest;
 use gate_book_trait::{Book, BookFault};
-use gate_reads::{Moved, Raw, PendingReply, Stand, stand_of};
+use gate_reads::{Moved, PendingReply, Raw, Stand, stand_of};
 use gate_types::config::Config;
 use gate_types::deliveries::{Refusal, Reply};
 use gate_types::edits::{Counter, Edit};

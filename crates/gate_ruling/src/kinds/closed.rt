@@ -10,7 +10,7 @@ use crate::changing::{is_open, put_anew};
 use crate::guards::latest;
 use crate::leaving::{Left, give_up_place};
 use gate_book_trait::{Book, BookFault};
-use gate_reads::{Moved, Raw, PendingReply, is_submitting, stand_of};
+use gate_reads::{Moved, PendingReply, Raw, is_submitting, stand_of};
 use gate_types::config::Config;
 use gate_types::deliveries::{Refusal, Reply};
 use gate_types::numbers::{ChangeNo, Revision};

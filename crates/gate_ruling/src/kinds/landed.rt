@@ -14,7 +14,7 @@ use crate::edits::with_window;
 use crate::guards::ordered;
 use crate::leaving::{leaving, touched};
 use gate_book_trait::{Book, BookFault, QueuedItem, plan_of};
-use gate_reads::{Event, Moved, Raw, PendingReply, window_now};
+use gate_reads::{Event, Moved, PendingReply, Raw, window_now};
 use gate_types::config::Config;
 use gate_types::deliveries::Reply;
 use gate_types::edits::Edit;

@@ -8,7 +8,7 @@ ghost use Rattle.gate_reads.specs.Raw.{IsRaw};
 ghost use Rattle.gate_ruling.specs.Faults.{MayRule};
 
 use gate_book_trait::{Book, BookFault};
-use gate_reads::{Event, Moved, Raw, PendingReply, TouchedItem, is_running};
+use gate_reads::{Event, Moved, PendingReply, Raw, TouchedItem, is_running};
 use gate_types::config::Config;
 use gate_types::deliveries::{Ending, Refusal, Reply};
 use gate_types::edits::Edit;

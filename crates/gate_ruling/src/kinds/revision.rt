@@ -12,7 +12,7 @@ ghost use Rattle.gate_reads.specs.Raw.{IsRaw};
 use crate::changing::put_anew;
 use crate::leaving::give_up_place;
 use gate_book_trait::{Book, BookFault};
-use gate_reads::{Moved, Raw, PendingReply, is_submitting, stand_of};
+use gate_reads::{Moved, PendingReply, Raw, is_submitting, stand_of};
 use gate_types::config::Config;
 use gate_types::deliveries::{Refusal, Reply};
 use gate_types::names::{Message, PathName};

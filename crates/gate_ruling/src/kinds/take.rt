@@ -8,7 +8,7 @@ ghost use Rattle.gate_book_trait.specs.Kept.{OfHeldUnder, IsKept};
 ghost use Rattle.gate_reads.specs.Raw.{IsRaw};
 
 use gate_book_trait::{Book, BookFault};
-use gate_reads::{Moved, Raw, PendingReply, next_build};
+use gate_reads::{Moved, PendingReply, Raw, next_build};
 use gate_types::config::Config;
 use gate_types::deliveries::{Refusal, Reply};
 use gate_types::edits::{Counter, Edit};

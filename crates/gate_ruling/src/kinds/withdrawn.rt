@@ -9,7 +9,7 @@ use crate::changing::put_anew;
 use crate::guards::latest;
 use crate::leaving::{leaving, touched};
 use gate_book_trait::{Book, BookFault};
-use gate_reads::{Event, Moved, Raw, PendingReply, Stand, is_submitting, stand_of};
+use gate_reads::{Event, Moved, PendingReply, Raw, Stand, is_submitting, stand_of};
 use gate_types::config::Config;
 use gate_types::deliveries::{Refusal, Reply};
 use gate_types::numbers::{ChangeNo, Revision};

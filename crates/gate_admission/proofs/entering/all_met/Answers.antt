@@ -1,10 +1,10 @@
-use Rattle.std.proofs.Common.{◌≡◌, ◌+◌, ◌∙◌, ◌&&◌, Bool, Some, None, drop, sym, ap}
+use Rattle.std.proofs.Common.{◌+◌, ◌∙◌, ◌&&◌, Bool, drop, sym, ap}
 use Rattle.std.specs.Prelude.{is_some}
 use Rattle.std.specs.List.{list_all}
 use Rattle.gate_types.specs.declared.records.Need.{Need}
 use Rattle.gate_book_trait.specs.Reads.{items_in}
 use Rattle.gate_book_trait.proofs.KeptLemmas.{then}
-use Rattle.gate_admission.specs.Enters.{is_met_by_rows, met_by_rows, is_there}
+use Rattle.gate_admission.specs.Enters.{is_met_by_rows, is_there}
 use Rattle.gate_admission.proofs.Along.{all_step, all_end}
 use Rattle.gate_admission.proofs.MetByRows.{fine_is, and_assoc, and_end}
 use Rattle.gate_admission.proofs.entering.all_met.Goals as goal

@@ -1,5 +1,4 @@
 use Rattle.std.proofs.Common.{◌∙◌, sym, subst}
-use Rattle.std.specs.Prelude.{Some, None}
 use Rattle.gate_book_trait.specs.Reads.{items_in}
 use Rattle.gate_admission.specs.Enters.{AreMetBy}
 use Rattle.gate_admission.proofs.MetByRows.{none_there, all_there}

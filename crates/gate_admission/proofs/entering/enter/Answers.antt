@@ -12,7 +12,8 @@ use Rattle.gate_book_trait.specs.Reads.{items_in}
 use Rattle.gate_admission.specs.Led.{IsLed}
 use Rattle.gate_admission.specs.Enters.{is_met_by_rows, entering_row, entering_edits}
 use Rattle.gate_admission.proofs.ReadyList.{number_is}
-use Rattle.gate_admission.proofs.Admitted.{are_named, no_project, in_project, project_is, place_there, queue_is, plan_is}
+use Rattle.gate_admission.proofs.Admitted.{are_named, no_project, in_project, project_is, place_there, queue_is}
+use Rattle.gate_admission.proofs.Admitted.{plan_is}
 use Rattle.gate_admission.proofs.EnteringEdits.{entering_leads}
 use Rattle.gate_admission.proofs.entering.enter.Goals as goal
 

@@ -1,6 +1,6 @@
-use Rattle.std.proofs.Common.{◌≡◌, ◌<◌, ◌∙◌, None, sym, ap, subst}
+use Rattle.std.proofs.Common.{◌<◌, ◌∙◌, None, sym, ap, subst}
 use Rattle.std.specs.Prelude.{IfSome, fold, option_map, option_and_then}
-use Rattle.gate_book_trait.specs.Reads.{items_in, last_below}
+use Rattle.gate_book_trait.specs.Reads.{items_in}
 use Rattle.gate_admission.specs.Seen.{later, last_put_below, if_at, by_fate, fate_after}
 use Rattle.gate_admission.specs.declared.items.Fate.TheVariants as fate
 use Rattle.gate_admission.proofs.LastItem.{under_later, under_put, under_row, stored_at}
