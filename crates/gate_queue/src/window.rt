@@ -7,6 +7,9 @@ use gate_types::config::{Pace, WindowRule};
 use gate_types::limits::MOST_WINDOW;
 use gate_types::records::Verdict;
 
+/// The largest window.
+const MOST: u32 = MOST_WINDOW as u32;
+
 /// The window after a landing: more by the queue's rule, up to 1,000. A window of 0 sets no bound and
 /// stays 0.
 pub fn grow(window: u32, rule: WindowRule) -> u32
@@ -16,12 +19,8 @@ pub fn grow(window: u32, rule: WindowRule) -> u32
         return 0;
     }
     match rule.increase {
-        Pace::Linear => window
-            .saturating_add(rule.increase_by)
-            .min(MOST_WINDOW as u32),
-        Pace::Exponential => window
-            .saturating_mul(rule.increase_by)
-            .min(MOST_WINDOW as u32),
+        Pace::Linear => window.saturating_add(rule.increase_by).min(MOST),
+        Pace::Exponential => window.saturating_mul(rule.increase_by).min(MOST),
     }
 }
 
