@@ -1,5 +1,5 @@
 //! What a visit is given of a row: as it is stored, with what the delivery makes of it.
-ghost use Rattle.std.specs.Prelude.{◌≡◌, IfOk, map, IfErr};
+ghost use Rattle.std.specs.Prelude.{◌≡◌, ◌++◌, ◌∷◌, [], IfOk, map, IfErr};
 ghost use Rattle.gate_types.specs.State.{known_change, plan_of};
 ghost use Rattle.gate_book_trait.specs.Kept.{OfHeld, IsKept};
 ghost use Rattle.gate_book_trait.specs.Reads as read;
@@ -132,12 +132,20 @@ fn build_now(event: Event, build: Build) -> Build
     }
 }
 
+fn with_build(builds: Vec<Build>, build: Build) -> Result<Vec<Build>, NoMemory>
+    ensures { IfOk result (λ all. all.items ≡ builds.items ++ build ∷ []) }
+{
+    let mut builds = builds;
+    builds.push(build)?;
+    Ok(builds)
+}
+
 fn builds_after(alloc: Global, event: Event, live: &[Build]) -> Result<Vec<Build>, NoMemory>
     ensures { IfOk result (λ builds. builds.items ≡ map (rows.build_now event) live.now) }
 {
     let mut builds = Vec::new(alloc);
     for build in live {
-        builds = with_one(builds, build_now(event, build.copy()?))?;
+        builds = with_build(builds, build_now(event, build.copy()?))?;
     }
     Ok(builds)
 }
