@@ -14,7 +14,8 @@ use Rattle.gate_types.specs.Settings.{Settings}
 use Rattle.gate_types.specs.State.{put_by}
 use Rattle.gate_types.specs.Once.{Content}
 use Rattle.gate_types.specs.Tables.{Tables, tables, edited_changes, edited_tables, fold_all, Leads}
-use Rattle.gate_core.specs.Thinned.{puts_change, is_replaced, thinned, AreNumbersOf}
+use Rattle.gate_admission.specs.Candidates.{puts}
+use Rattle.gate_core.specs.Thinned.{is_replaced, thinned, AreNumbersOf}
 
 -- ---- puts of rows (gate_book has these two lemmas as well, and keeps them to itself)
 
@@ -36,7 +37,7 @@ abbrev number_of : ChangeRow → ℕ
 number_of r = r.change.number
 
 -- a put behind which the same change is put again
-put_again : (r : ChangeRow) (rows : List ChangeRow) (e : Edit) → puts_change (number_of r) e ≡ true →
+put_again : (r : ChangeRow) (rows : List ChangeRow) (e : Edit) → puts (number_of r) e ≡ true →
     edited_changes (put_by number_of r rows) e ≡ edited_changes rows e
 put_again r rows (edit.PutChange k a) h =
     put_over number_of r (record { change = k; approval = a }) rows (sym (eqb-true k.number (number_of r) h))
@@ -53,7 +54,7 @@ put_again r rows (edit.SetCounter k n) h = absurd (true≢false (sym h))
 put_again r rows (edit.Keep k) h = absurd (true≢false (sym h))
 
 -- and one behind which another edit is made
-put_before : (r : ChangeRow) (rows : List ChangeRow) (e : Edit) → puts_change (number_of r) e ≡ false →
+put_before : (r : ChangeRow) (rows : List ChangeRow) (e : Edit) → puts (number_of r) e ≡ false →
     edited_changes (put_by number_of r rows) e ≡ put_by number_of r (edited_changes rows e)
 put_before r rows (edit.PutChange k a) h =
     put_swap number_of r (record { change = k; approval = a }) rows
@@ -75,20 +76,20 @@ abbrev with_row : ChangeRow → Tables → Tables
 with_row r t = record t { changes = put_by number_of r t.changes }
 
 -- a put that is replaced changes nothing
-replaced_put : (r : ChangeRow) (t : Tables) (es : List Edit) → list_any (puts_change (number_of r)) es ≡ true →
+replaced_put : (r : ChangeRow) (t : Tables) (es : List Edit) → list_any (puts (number_of r)) es ≡ true →
     fold_all (with_row r t) es ≡ fold_all t es
 replaced_put r t [] h = absurd (true≢false (sym h))
-replaced_put r t (e ∷ es) h = by_test (puts_change (number_of r) e) refl (replaced_put r (edited_tables t e) es)
+replaced_put r t (e ∷ es) h = by_test (puts (number_of r) e) refl (replaced_put r (edited_tables t e) es)
   where
     leaves : List ChangeRow → Tables
     leaves rows = fold_all (record (edited_tables t e) { changes = rows }) es
 
-    by_test : (b : Bool) → puts_change (number_of r) e ≡ b → (list_any (puts_change (number_of r)) es ≡ true →
+    by_test : (b : Bool) → puts (number_of r) e ≡ b → (list_any (puts (number_of r)) es ≡ true →
         fold_all (with_row r (edited_tables t e)) es ≡ fold_all (edited_tables t e) es) →
         fold_all (edited_tables (with_row r t) e) es ≡ fold_all (edited_tables t e) es
     by_test true same rest = ap leaves (put_again r t.changes e same)
     by_test false other rest = ap leaves (put_before r t.changes e other)
-        ∙ rest (sym (ap (λ b. b || list_any (puts_change (number_of r)) es) other) ∙ h)
+        ∙ rest (sym (ap (λ b. b || list_any (puts (number_of r)) es) other) ∙ h)
 
 replaced_edit : (e : Edit) (t : Tables) (es : List Edit) → is_replaced e es ≡ true →
     fold_all t es ≡ fold_all (edited_tables t e) es

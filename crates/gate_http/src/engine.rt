@@ -3,6 +3,7 @@ ghost use Rattle.std.specs.Prelude.{◌≡◌, ◌≤◌, [], false, true, OnOk,
 ghost use Rattle.gate_types.specs.Tap.{inside, has_failed};
 ghost use Rattle.gate_http.specs.Routes.{routes};
 ghost use Rattle.gate_http.specs.Exchange.{AnswersTo, BreaksTo, StopsAt, Waits};
+ghost use Rattle.gate_http.specs.Fields.{body_limit};
 
 use crate::answering::{answer_wanted, refuse, tell};
 use crate::body::{BODY_LIMIT, read_body};
@@ -34,7 +35,7 @@ fn answer<G: Respond, R: Read, W: Write>(
     requires writer { has_failed writer.old ≡ false }
     requires router { router.now ≡ routes }
     requires head { (head.old.items ≡ []) × (8192 ≤ vec_capacity head.old) }
-    requires body { (body.old.items ≡ []) × (65536 ≤ vec_capacity body.old) }
+    requires body { (body.old.items ≡ []) × (body_limit ≤ vec_capacity body.old) }
     requires room { (room.old.items ≡ []) × (256 ≤ vec_capacity room.old) }
     ensures ok { IfOk result (λ served. AnswersTo G.responds G.recalls R.remaining W.contents
         reader.old reader.new gate.old gate.new writer.old writer.new served) }

@@ -5,6 +5,7 @@ ghost use Rattle.httparse.specs.Spans.{IsHeaderWithin, header_bytes};
 ghost use Rattle.gate_http.specs.Fields.{named, length_of, length_said};
 ghost use Rattle.gate_http.specs.Parts.{ShowsNamed};
 
+use crate::body::BODY_LIMIT;
 use crate::digits::number_of;
 use httparse::spans::{HeaderSpan, Span};
 
@@ -54,9 +55,9 @@ fn find_named(head: &[u8], headers: &[HeaderSpan], name: &[u8]) -> NamedField
 fn length_said(value: &[u8]) -> BodyLength
     ensures { result ≡ length_said value.now }
 {
-    match number_of(value, 65536) {
+    match number_of(value, BODY_LIMIT) {
         None => BodyLength::Bad,
-        Some(n) if n > 65536 => BodyLength::Long,
+        Some(n) if n > BODY_LIMIT => BodyLength::Long,
         Some(n) => BodyLength::Bytes(n),
     }
 }

@@ -10,6 +10,7 @@ use Rattle.std.proofs.lemmas.List.{map-append}
 use Rattle.std.proofs.Math.Seq.{take-suc}
 use Rattle.std.proofs.lemmas.Simd.{map-map}
 use lib.Pointwise.{bytes_decides}
+use Rattle.gate_types.proofs.PlainLemmas.{some_is}
 use Rattle.gate_types.specs.declared.records.Item.{Item}
 use Rattle.gate_types.specs.declared.config.Queue.{Queue as QueueSetting}
 use Rattle.gate_types.specs.Names.{same_name}
@@ -71,9 +72,6 @@ one_more name window landings reports k items q i same rise within at =
     ∙ ap (with_items name window landings reports) put
 
 -- ---- one queue, as it was read
-
-some_is : (a b : ℕ) → Some a ≡ Some b → a ≡ b
-some_is a b e = cc
 
 -- a book that has no such queue
 pub no_queue : (c : Settings) (x : Content) (name : List ℕ) → None ≡ read.window_of x.state name → None ≡ option_map live_queue (rows_named (tables c x).queues name)

@@ -1,6 +1,5 @@
 pub mod LiveLemmas
 pub mod ReadLemmas
-mod KeptLemmas
 mod HeldLemmas
 mod RisingLemmas
 mod FilledLemmas

@@ -1,4 +1,4 @@
-use Rattle.gate_live.proofs.KeptLemmas.{then}
+use Rattle.gate_book_trait.proofs.KeptLemmas.{then}
 use Rattle.gate_live.proofs.change_reads.hold_changes.Goals as goal
 
 pub loop-item-preserved : goal.loop-item-preserved

@@ -6,7 +6,7 @@ use Rattle.gate_types.specs.declared.rows.ChangeRow.{ChangeRow}
 use Rattle.gate_book_trait.specs.RowReads.{AreReady, change_in}
 use Rattle.gate_book_trait.proofs.ReadLemmas.{change_is, ready_are}
 use Rattle.gate_live.specs.HeldChanges.{changes_held}
-use Rattle.gate_live.proofs.KeptLemmas.{then}
+use Rattle.gate_book_trait.proofs.KeptLemmas.{then}
 use Rattle.gate_live.proofs.ReadChangeLemmas.{AreRead, all_read, none_missing, one_read}
 use Rattle.gate_live.proofs.change_reads.read_listed.Goals as goal
 

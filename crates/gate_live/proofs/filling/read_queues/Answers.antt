@@ -9,7 +9,7 @@ use Rattle.gate_book_trait.specs.RowReads.{rows_named}
 use Rattle.gate_live.specs.Live.{LiveQueue, live_queue}
 use Rattle.gate_live.specs.Held.{IsKeptQueue, queue_of}
 use Rattle.gate_live.specs.declared.held_queue.HeldQueue.{HeldQueue}
-use Rattle.gate_live.proofs.KeptLemmas.{then}
+use Rattle.gate_book_trait.proofs.KeptLemmas.{then}
 use Rattle.gate_live.proofs.FilledLemmas.{told_next}
 use Rattle.gate_live.proofs.filling.read_queues.Goals as goal
 

@@ -1,6 +1,6 @@
 use Rattle.std.proofs.Common.{sym, subst}
 use Rattle.gate_book_trait.specs.Reads as read
-use Rattle.gate_live.proofs.KeptLemmas.{then}
+use Rattle.gate_book_trait.proofs.KeptLemmas.{then}
 use Rattle.gate_live.proofs.reading.read_plans_between.Goals as goal
 
 pub returns-in-Some-clause-found : goal.returns-in-Some-clause-found

@@ -1,5 +1,5 @@
 use Rattle.gate_types.specs.Tables.{tables}
-use Rattle.gate_live.proofs.KeptLemmas.{then}
+use Rattle.gate_book_trait.proofs.KeptLemmas.{then}
 use Rattle.gate_live.proofs.LiveChangeLemmas.{any_read}
 use Rattle.gate_live.proofs.live_book.LiveBook.fill.Goals as goal
 
