@@ -85,6 +85,7 @@ pub struct Walk {
 }
 
 impl Model for Walk {
+    ghost use Rattle.gate_types.specs.Counters.{last_number};
     ghost use Rattle.std.specs.Prelude.{◌≤◌, ◌+◌, vec_len};
     ghost use Rattle.gate_walk.specs.Walk.{Walk};
 
