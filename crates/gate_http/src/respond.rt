@@ -83,7 +83,6 @@ fn answer_status(answer: &Answer) -> u16
     }
 }
 
-/// The text of an answer.
 fn answer_text(answer: &Answer) -> &str
     ensures { result.now ≡ answer_text answer.now }
 {

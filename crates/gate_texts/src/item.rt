@@ -228,7 +228,7 @@ pub fn item_text<B: Archive>(
         return Ok(None);
     };
     let kept = book.build_count(serial)?;
-    let last = book.last_builds(serial, MOST_LISTED)?;
+    let last = book.last_builds(serial, MOST_LISTED as u32)?;
     let builds = builds_text(alloc, last.as_slice())?;
     let front = item_front(alloc, &item, builds.as_str(), kept)?;
     let back = item_back(alloc, serial, &item)?;
