@@ -10,7 +10,7 @@ ghost use Rattle.gate_core.specs.Lines.{whole_lines, lines_of, ReadFor};
 ghost use Rattle.gate_core.specs.Runs.{Answers, FedTo, BrokeTo};
 ghost use Rattle.gate_core.specs.LineAnswer.{text_of};
 
-use crate::fault::IoFault;
+use crate::fault::ReplayFault;
 use crate::line::Line;
 use gate_types::tap::{Failed, Tap};
 use std::alloc::Global;
@@ -99,50 +99,49 @@ pub(crate) fn answer_lines<G: AnswerLines, R: Read, W: Write>(
     gate: &mut G,
     r: &mut Tap<R>,
     w: &mut Tap<W>,
-) -> Result<u64, IoFault>
+) -> Result<u64, ReplayFault>
     requires reader { has_failed r.old ≡ false }
     requires writer { has_failed w.old ≡ false }
     ensures ok { IfOk result (λ n. (input : List ℕ)
         × Gave R.remaining r.old r.new input × IsReadOut R.remaining r.new
         × FedTo W.contents G.replies gate.old (lines_of input) gate.new w.old w.new
         × (n ≡ u64_saturate (length (lines_of input)))) }
-    ensures read { IsErrOf result IoFault.Read → (front : List ℕ)
+    ensures read { IsErrOf result ReplayFault.Read → (front : List ℕ)
         × Gave R.remaining r.old r.new front
         × FedTo W.contents G.replies gate.old (whole_lines front) gate.new w.old w.new }
-    ensures write { IsErrOf result IoFault.Write → (lines : List (List ℕ))
+    ensures write { IsErrOf result ReplayFault.Write → (lines : List (List ℕ))
         × (broke : BrokeTo W.contents G.replies gate.old lines gate.new w.old w.new)
         × ReadFor (R.remaining (inside r.old)) (R.remaining (inside r.new)) lines (length broke.done) }
-    ensures memory { IsErrOf result IoFault.NoMemory →
+    ensures memory { IsErrOf result ReplayFault.NoMemory →
         (gate.new ≡ gate.old) × (r.new ≡ r.old) × (w.new ≡ w.old) }
-    ensures store { IsErrOf result IoFault.Store → ⊥ }
     ensures unfailed { OnOk result (has_failed w.new ≡ false) }
-    ensures reader_failed { IsErrOf result IoFault.Read →
+    ensures reader_failed { IsErrOf result ReplayFault.Read →
         (has_failed r.new ≡ true) × (has_failed w.new ≡ false) }
-    ensures writer_failed { IsErrOf result IoFault.Write →
+    ensures writer_failed { IsErrOf result ReplayFault.Write →
         (has_failed r.new ≡ false) × (has_failed w.new ≡ true) }
 {
     let mut line = match Line::new(alloc) {
         Ok(line) => line,
-        Err(_) => return Err(IoFault::NoMemory),
+        Err(_) => return Err(ReplayFault::NoMemory),
     };
     let mut count = 0;
     let mut buf = [0u8; LONGEST_READ];
     loop {
         let n = match r.read(&mut buf) {
             Ok(n) => n,
-            Err(_) => return Err(IoFault::Read),
+            Err(_) => return Err(ReplayFault::Read),
         };
         if n == 0 {
             break;
         }
         match feed(alloc, gate, &mut line, &buf[..n], w, count) {
             Ok(n) => count = n,
-            Err(_) => return Err(IoFault::Write),
+            Err(_) => return Err(ReplayFault::Write),
         }
     }
     if !line.is_empty() {
         if let Err(_) = answer(alloc, gate, &line, w) {
-            return Err(IoFault::Write);
+            return Err(ReplayFault::Write);
         }
         count = count.saturating_add(1);
     }

@@ -1,20 +1,18 @@
-//! What ends a replay, or a request, before its end.
+//! What ends a replay before its end.
 ghost use Rattle.std.specs.Prelude.{◌≡◌};
 
-/// Why a replay or a request ended early.
+/// Why a replay ended early.
 #[derive(Clone, Copy, Debug, PartialEq, Eq)]
-pub enum IoFault {
+pub enum ReplayFault {
     /// The reader answered an error.
     Read,
     /// The writer answered an error, or took 0 bytes.
     Write,
     /// Memory was refused before anything was read.
     NoMemory,
-    /// A history broke off: the store failed, or memory was refused. A replay never answers this.
-    Store,
 }
 
-impl IoFault {
+impl ReplayFault {
     ghost use Rattle.gate_core.specs.Faults.{fault_text};
 
     /// The fault's number, a space and its word, as it is printed.
@@ -22,10 +20,9 @@ impl IoFault {
         ensures { result.now ≡ fault_text self }
     {
         match self {
-            IoFault::Read => "I1 read",
-            IoFault::Write => "I2 write",
-            IoFault::NoMemory => "I3 no-memory",
-            IoFault::Store => "I7 store",
+            ReplayFault::Read => "I1 read",
+            ReplayFault::Write => "I2 write",
+            ReplayFault::NoMemory => "I3 no-memory",
         }
     }
 }

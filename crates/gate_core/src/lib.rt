@@ -23,6 +23,6 @@ mod ruled;
 mod speaking;
 mod thinned;
 
-pub use fault::IoFault;
+pub use fault::ReplayFault;
 pub use gate::Gate;
 pub use replaying::replay;

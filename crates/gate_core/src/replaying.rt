@@ -8,7 +8,7 @@ ghost use Rattle.gate_core.specs.Replies.{Marked, CallsAreAnswered};
 ghost use Rattle.gate_core.specs.Held.{Goes, CutOver, ReplayedOver};
 
 use crate::engine::answer_lines;
-use crate::fault::IoFault;
+use crate::fault::ReplayFault;
 use crate::gate::Gate;
 use gate_book_trait::Book;
 use gate_types::tap::Tap;
@@ -23,13 +23,13 @@ use std::io::{Read, Write};
 ///
 /// `Read`: the reader failed; a line that was cut by this isn't acted on. `Write`: the writer
 /// failed within an answer, whose delivery stands, and nothing more was read. `NoMemory`: nothing
-/// was read or written. `Store`: never.
+/// was read or written.
 pub fn replay<B: Book, R: Read, W: Write>(
     alloc: Global,
     gate: &mut Gate<B>,
     r: &mut Tap<R>,
     w: &mut Tap<W>,
-) -> Result<u64, IoFault>
+) -> Result<u64, ReplayFault>
     requires reader { has_failed r.old ≡ false }
     requires writer { has_failed w.old ≡ false }
     ensures ok { IfOk result (λ n. (input : List ℕ)
@@ -39,23 +39,22 @@ pub fn replay<B: Book, R: Read, W: Write>(
         (ReplayedOver B.LeavesOneOf gate.old gate.new (lines_of input) text)
         × (n ≡ u64_saturate (length (lines_of input)))) }
     // the lines before the one that the error cut
-    ensures read { IsErrOf result IoFault.Read → (front : List ℕ)
+    ensures read { IsErrOf result ReplayFault.Read → (front : List ℕ)
         × Gave R.remaining r.old r.new front
         × (text : List ℕ) × Took W.contents w.old w.new text
         × Goes B.IsTrusted B.Holds gate.old gate.new
         (ReplayedOver B.LeavesOneOf gate.old gate.new (whole_lines front) text) }
     // the lines up to the one whose answer was cut, and no read beyond the one that ended it
-    ensures write { IsErrOf result IoFault.Write → (lines : List (List ℕ))
+    ensures write { IsErrOf result ReplayFault.Write → (lines : List (List ℕ))
         × (text : List ℕ) × Took W.contents w.old w.new text
         × (done : ℕ) × ReadFor (R.remaining (inside r.old)) (R.remaining (inside r.new)) lines done
         × Goes B.IsTrusted B.Holds gate.old gate.new (CutOver B.LeavesOneOf gate.old gate.new lines text done) }
-    ensures memory { IsErrOf result IoFault.NoMemory →
+    ensures memory { IsErrOf result ReplayFault.NoMemory →
         (gate.new ≡ gate.old) × (r.new ≡ r.old) × (w.new ≡ w.old) }
-    ensures store { IsErrOf result IoFault.Store → ⊥ }
     ensures unfailed { OnOk result (has_failed w.new ≡ false) }
-    ensures reader_failed { IsErrOf result IoFault.Read →
+    ensures reader_failed { IsErrOf result ReplayFault.Read →
         (has_failed r.new ≡ true) × (has_failed w.new ≡ false) }
-    ensures writer_failed { IsErrOf result IoFault.Write →
+    ensures writer_failed { IsErrOf result ReplayFault.Write →
         (has_failed r.new ≡ false) × (has_failed w.new ≡ true) }
 {
     answer_lines(alloc, gate, r, w)

@@ -20,8 +20,8 @@ use Rattle.gate_types.specs.Tap.{inside, has_failed, WritesFront, Took, TookFron
 use Rattle.gate_types.specs.Once.{Call, Content, next_content}
 use Rattle.gate_types.proofs.TapLemmas.{writes_later}
 use Rattle.gate_wire.specs.Reading.{says}
-use Rattle.gate_core.specs.declared.fault.IoFault.{IoFault}
-use Rattle.gate_core.specs.declared.fault.IoFault.TheVariants as fault
+use Rattle.gate_http.specs.declared.request_fault.RequestFault.{RequestFault}
+use Rattle.gate_http.specs.declared.request_fault.RequestFault.TheVariants as fault
 use Rattle.gate_core.specs.declared.gate.Gate.{Gate}
 use Rattle.gate_core.specs.Gated.{Gated}
 use Rattle.gate_core.specs.Held.{Goes}
@@ -140,7 +140,7 @@ module _ {B : Type 0} (trusted : B → Type 0) (holds : B → Settings → Conte
 
   -- however it was served
   pub called_once : (Read : Request → Type 0) (Wrote Broke Begun : List ℕ → Type 0)
-      (old new : Gate B) (r : Result Served IoFault)
+      (old new : Gate B) (r : Result Served RequestFault)
       → IfOk r (λ served. (q : Request) × Read q × ServesBy trusted holds leaves old new (way_of q) served Wrote)
       → (IsErrOf r fault.Write → (q : Request) × Read q × (served : Served)
       × ServesBy trusted holds leaves old new (way_of q) served Broke)
@@ -195,7 +195,8 @@ pub sent_whole : {W A U : Type 0} (held : W → Option (List ℕ)) (Read : Reque
     (Does : Request → Served → (List ℕ → Type 0) → Type 0)
     (weaker : (r : Request) (s : Served) (P Q : List ℕ → Type 0) → ((text : List ℕ) → P text → Q text)
     → Does r s P → Does r s Q)
-    (a b : Option (List ℕ)) (new : BufWriter W A) (sink : W) (served : Result Served IoFault) (sent : Result U IoFault)
+    (a b : Option (List ℕ)) (new : BufWriter W A) (sink : W)
+    (served : Result Served RequestFault) (sent : Result U RequestFault)
     → IfOk served (λ s. (r : Request) × Read r × Does r s (Appends a b))
     → Keeps b (writer_contents held new) → OnOk sent (writer_buffer new ≡ []) → sink ≡ writer_inner new
     → OnOk (result_and served sent) ((r : Request) × Read r × (s : Served) × Does r s (Appends a (held sink)))
@@ -211,12 +212,12 @@ sent_whole held Read Does weaker a b new sink (Ok s) (Err e) h keeps empty at = 
 sent_whole held Read Does weaker a b new sink (Err e) sent h keeps empty at = tt
 
 -- the fault of what failed
-abbrev fault_in : {T : Type 0} → Result T IoFault → IoFault
+abbrev fault_in : {T : Type 0} → Result T RequestFault → RequestFault
 fault_in (Ok u) = fault.Store
 fault_in (Err e) = e
 
 -- what broke off before it was sent
-pub broke_off : {T : Type 0} (Why : Type 0) (served : Result Served IoFault) (sent : Result T IoFault)
+pub broke_off : {T : Type 0} (Why : Type 0) (served : Result Served RequestFault) (sent : Result T RequestFault)
     → (IsErrOf served fault.Store → Why) → IfErr sent (λ e. e ≡ fault.Write)
     → IsErrOf (result_and served sent) fault.Store → Why
 broke_off Why (Err e) sent why write is = why (ap Err (ap fault_in is))
@@ -238,7 +239,7 @@ writes_sooner a b xs ys (n, short, w) = (
 
 module _ {T : Type 0} (held : T → Option (List ℕ)) where
   -- faults, and then one more
-  both_told : (old mid new : Tap T) (faults : List IoFault) (f : IoFault) → has_failed mid ≡ false
+  both_told : (old mid new : Tap T) (faults : List RequestFault) (f : RequestFault) → has_failed mid ≡ false
       → AreTold held old mid faults → AreTold held mid new (f ∷ []) → AreTold held old new (faults ++ f ∷ [])
   both_told old mid new faults f unfailed first next =
       let joined = sym (flat_map-append fault_line faults (f ∷ [])) in record {
@@ -250,13 +251,13 @@ module _ {T : Type 0} (held : T → Option (List ℕ)) where
 
   -- at most so many faults were told
   abbrev pub Tells : ℕ → Tap T → Tap T → Type 0
-  Tells n old new = (faults : List IoFault) × (length faults ≤ n) × AreTold held old new faults
+  Tells n old new = (faults : List RequestFault) × (length faults ≤ n) × AreTold held old new faults
 
   -- one connection more, without a fault
   pub told_still : (n : ℕ) (old new : Tap T) → Tells n old new → Tells (n + 1) old new
   told_still n old new h = (h.0, omega (arith, h.1), h.2)
 
-  told_by : (n : ℕ) (old mid new : Tap T) (f : IoFault) (failed : Bool) → has_failed mid ≡ failed → Tells n old mid
+  told_by : (n : ℕ) (old mid new : Tap T) (f : RequestFault) (failed : Bool) → has_failed mid ≡ failed → Tells n old mid
       → (has_failed mid ≡ false → AreTold held mid new (f ∷ [])) → (has_failed mid ≡ true → new ≡ mid)
       → Tells (n + 1) old new
   told_by n old mid new f false is h told silent = (
@@ -268,7 +269,7 @@ module _ {T : Type 0} (held : T → Option (List ℕ)) where
       subst (λ t. Tells (n + 1) old t) (sym (silent is)) (told_still n old mid h)
 
   -- one connection more, with a fault
-  pub told_on : (n : ℕ) (old mid new : Tap T) (f : IoFault) → Tells n old mid
+  pub told_on : (n : ℕ) (old mid new : Tap T) (f : RequestFault) → Tells n old mid
       → (has_failed mid ≡ false → AreTold held mid new (f ∷ [])) → (has_failed mid ≡ true → new ≡ mid)
       → Tells (n + 1) old new
   told_on n old mid new f h told silent = told_by n old mid new f (has_failed mid) refl h told silent

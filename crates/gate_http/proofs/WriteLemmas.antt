@@ -1,8 +1,8 @@
 -- An answer that was written, or only begun.
 use Rattle.std.proofs.Common.{◌≡◌, List, ℕ, Bool, Option, Result, Ok, Err, IfOk, OnErr, refl}
 use Rattle.std.specs.Prelude.{IsErrOf}
-use Rattle.gate_core.specs.declared.fault.IoFault.{IoFault}
-use Rattle.gate_core.specs.declared.fault.IoFault.TheVariants as io
+use Rattle.gate_http.specs.declared.request_fault.RequestFault.{RequestFault}
+use Rattle.gate_http.specs.declared.request_fault.RequestFault.TheVariants as request
 use Rattle.gate_http.specs.declared.fault.HttpFault.{HttpFault}
 use Rattle.gate_http.specs.declared.respond.Told.{Told}
 use Rattle.gate_http.specs.declared.response.Form.{Form}
@@ -16,27 +16,28 @@ use Rattle.gate_http.specs.Exchange.{Responding, Recalling, Comes, OfRead}
 use Rattle.gate_http.proofs.ExchangeLemmas.{Reads, read_as}
 
 -- it was written
-pub written_whole : (P : Served → Type 0) (answered : Served) (T : Type 0) (r : Result Served IoFault)
+pub written_whole : (P : Served → Type 0) (answered : Served) (T : Type 0) (r : Result Served RequestFault)
     → ((served : Served) → served ≡ answered → T → P served) → IfOk r (λ served. (served ≡ answered) × T) → IfOk r P
 written_whole P answered T (Ok served) by h = by served h.0 h.1
 written_whole P answered T (Err e) by h = tt
 
 -- a beginning of it was
-pub written_front : (P : Served → Type 0) (answered : Served) (T : Type 0) (r : Result Served IoFault)
-    → ((served : Served) → served ≡ answered → T → P served) → OnErr r T → IsErrOf r io.Write
+pub written_front : (P : Served → Type 0) (answered : Served) (T : Type 0) (r : Result Served RequestFault)
+    → ((served : Served) → served ≡ answered → T → P served) → OnErr r T → IsErrOf r request.Write
     → (served : Served) × P served
 written_front P answered T (Ok served) by h e = cc
 written_front P answered T (Err f) by h e = (answered, by answered refl h)
 
 -- it was written for a request that was read
-pub read_whole : (from left : Option (List ℕ)) (w : Way) (P : Way → Served → Type 0) (r : Result Served IoFault)
+pub read_whole : (from left : Option (List ℕ)) (w : Way) (P : Way → Served → Type 0) (r : Result Served RequestFault)
     → Reads from left w → IfOk r (P w) → IfOk r (λ served. OfRead from left (λ v. P v served))
 read_whole from left w P (Ok served) reads h = read_as from left w (λ v. P v served) reads h
 read_whole from left w P (Err e) reads h = tt
 
 module _ {S : Type 0} (responds : Responding S) (recalls : Recalling S) (form : Form) where
   -- an answer of HTTP's own
-  pub refused_whole : (old : S) (f : HttpFault) (bodiless : Bool) (Takes : List ℕ → Type 0) (r : Result Served IoFault)
+  pub refused_whole : (old : S) (f : HttpFault) (bodiless : Bool) (Takes : List ℕ → Type 0)
+      (r : Result Served RequestFault)
       → IfOk r (λ served. (served ≡ Answered (fault_status f)) × Takes (fault_in form f bodiless))
       → IfOk r (Comes responds recalls form (refusal f bodiless) old Takes old)
   refused_whole old f bodiless Takes r h =
@@ -44,15 +45,16 @@ module _ {S : Type 0} (responds : Responding S) (recalls : Recalling S) (form : 
       (Takes (fault_in form f bodiless)) r (λ served e takes. (e, takes, refl)) h
 
   -- its beginning
-  pub refused_front : (old : S) (f : HttpFault) (bodiless : Bool) (Takes : List ℕ → Type 0) (r : Result Served IoFault)
-      → OnErr r (Takes (fault_in form f bodiless)) → IsErrOf r io.Write
+  pub refused_front : (old : S) (f : HttpFault) (bodiless : Bool) (Takes : List ℕ → Type 0)
+      (r : Result Served RequestFault)
+      → OnErr r (Takes (fault_in form f bodiless)) → IsErrOf r request.Write
       → (served : Served) × Comes responds recalls form (refusal f bodiless) old Takes old served
   refused_front old f bodiless Takes r h e =
       written_front (Comes responds recalls form (refusal f bodiless) old Takes old) (Answered (fault_status f))
       (Takes (fault_in form f bodiless)) r (λ served e takes. (e, takes, refl)) h e
 
   -- what is told
-  pub told_whole : (old new : S) (asked : Asked) (t : Told) (Takes : List ℕ → Type 0) (r : Result Served IoFault)
+  pub told_whole : (old new : S) (asked : Asked) (t : Told) (Takes : List ℕ → Type 0) (r : Result Served RequestFault)
       → responds old asked t new
       → IfOk r (λ served. (served ≡ Answered (told_status t)) × Takes (told_in form (is_status_page asked) t))
       → IfOk r (Comes responds recalls form (question asked) old Takes new)
@@ -61,8 +63,8 @@ module _ {S : Type 0} (responds : Responding S) (recalls : Recalling S) (form : 
       (Takes (told_in form (is_status_page asked) t)) r (λ served e takes. (t, said, e, takes)) h
 
   -- its beginning
-  pub told_front : (old new : S) (asked : Asked) (t : Told) (Takes : List ℕ → Type 0) (r : Result Served IoFault)
-      → responds old asked t new → OnErr r (Takes (told_in form (is_status_page asked) t)) → IsErrOf r io.Write
+  pub told_front : (old new : S) (asked : Asked) (t : Told) (Takes : List ℕ → Type 0) (r : Result Served RequestFault)
+      → responds old asked t new → OnErr r (Takes (told_in form (is_status_page asked) t)) → IsErrOf r request.Write
       → (served : Served) × Comes responds recalls form (question asked) old Takes new served
   told_front old new asked t Takes r said h e =
       written_front (Comes responds recalls form (question asked) old Takes new) (Answered (told_status t))
@@ -72,7 +74,7 @@ module _ {S : Type 0} (responds : Responding S) (recalls : Recalling S) (form : 
 
   -- what came of it
   pub comes_read : (from left : Option (List ℕ)) (w : Way) (old new : S) (Takes : List ℕ → Type 0)
-      (r : Result Served IoFault) → Reads from left w → IfOk r (Comes responds recalls form w old Takes new)
+      (r : Result Served RequestFault) → Reads from left w → IfOk r (Comes responds recalls form w old Takes new)
       → IfOk r (λ served. OfRead from left (λ v. Comes responds recalls form v old Takes new served))
   comes_read from left w old new Takes r reads h =
       read_whole from left w (λ v served. Comes responds recalls form v old Takes new served) r reads h
@@ -86,7 +88,7 @@ module _ {S : Type 0} (responds : Responding S) (recalls : Recalling S) (form : 
 
   -- an answer of HTTP's own
   pub refused_read : (from left : Option (List ℕ)) (old : S) (f : HttpFault) (bodiless : Bool) (Takes : List ℕ → Type 0)
-      (r : Result Served IoFault) → Reads from left (refusal f bodiless)
+      (r : Result Served RequestFault) → Reads from left (refusal f bodiless)
       → IfOk r (λ served. (served ≡ Answered (fault_status f)) × Takes (fault_in form f bodiless))
       → IfOk r (λ served. OfRead from left (λ v. Comes responds recalls form v old Takes old served))
   refused_read from left old f bodiless Takes r reads h =
@@ -94,8 +96,8 @@ module _ {S : Type 0} (responds : Responding S) (recalls : Recalling S) (form : 
 
   -- its beginning
   pub refused_begun : (from left : Option (List ℕ)) (old : S) (f : HttpFault) (bodiless : Bool) (Takes : List ℕ → Type 0)
-      (r : Result Served IoFault) → Reads from left (refusal f bodiless)
-      → OnErr r (Takes (fault_in form f bodiless)) → IsErrOf r io.Write
+      (r : Result Served RequestFault) → Reads from left (refusal f bodiless)
+      → OnErr r (Takes (fault_in form f bodiless)) → IsErrOf r request.Write
       → OfRead from left (λ v. (served : Served) × Comes responds recalls form v old Takes old served)
   refused_begun from left old f bodiless Takes r reads h e =
       comes_begun from left (refusal f bodiless) old old Takes reads (refused_front old f bodiless Takes r h e)

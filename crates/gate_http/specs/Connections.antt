@@ -5,8 +5,8 @@ use Rattle.gate_types.specs.declared.tap.Tap.{Tap}
 use Rattle.gate_types.specs.Tap.{has_failed, Took, TookFront}
 use Rattle.gate_types.specs.Once.{Call, Content}
 use Rattle.gate_types.specs.Settings.{Settings}
-use Rattle.gate_core.specs.declared.fault.IoFault.{IoFault}
-use Rattle.gate_core.specs.Faults.{fault_text}
+use Rattle.gate_http.specs.declared.request_fault.RequestFault.{RequestFault}
+use Rattle.gate_http.specs.RequestFaults.{request_fault_text}
 use Rattle.gate_core.specs.Gated.{Gated}
 use Rattle.gate_core.specs.Left.{LeavesBy}
 use Rattle.gate_core.specs.declared.gate.Gate.{Gate}
@@ -25,14 +25,15 @@ CalledOver leaves most old new g after =
     (called : IsCalled most g after) × LeavesBy leaves old new g called.calls
 
 -- the line that tells of a fault
-abbrev pub fault_line : IoFault → List ℕ
-fault_line f = codes "gated: " ++ (fault_text f ++ 10 ∷ [])
+abbrev pub fault_line : RequestFault → List ℕ
+fault_line f = codes "gated: " ++ (request_fault_text f ++ 10 ∷ [])
 
 -- a line for each of these faults
-abbrev pub fault_lines : List IoFault → List ℕ
+abbrev pub fault_lines : List RequestFault → List ℕ
 fault_lines faults = flat_map fault_line faults
 
 -- faults were told by a line each; of the lines a writer that failed took a beginning
-pub record AreTold {T : Type 0} (held : T → Option (List ℕ)) (old new : Tap T) (faults : List IoFault) : Type 0 where
+pub record AreTold {T : Type 0} (held : T → Option (List ℕ)) (old new : Tap T) (faults : List RequestFault) :
+    Type 0 where
   pub whole : has_failed new ≡ false → Took held old new (fault_lines faults)
   pub cut : has_failed new ≡ true → TookFront held old new (fault_lines faults)

@@ -3,6 +3,7 @@ pub mod Digits
 pub mod Fields
 pub mod Routes
 pub mod Faults
+pub mod RequestFaults
 pub mod Asked
 pub mod Way
 pub mod Response

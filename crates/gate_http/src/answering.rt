@@ -9,10 +9,10 @@ ghost use Rattle.gate_http.specs.Parts.{asked_by, ReadsTo, BreaksOff};
 
 use crate::fault::HttpFault;
 use crate::request::{Question, Wanted};
+use crate::request_fault::RequestFault;
 use crate::respond::{Page, Respond, Stream, StreamFault, Told, status_of, text_of};
 use crate::response::{Form, allow_of, front_of, write_answer};
 use crate::served::Served;
-use gate_core::IoFault;
 use gate_types::deliveries::{Answer, Refusal};
 use gate_types::tap::Tap;
 use std::alloc::Global;
@@ -50,14 +50,14 @@ pub(crate) fn refuse<W: Write>(
     form: Form,
     fault: HttpFault,
     bodiless: bool,
-) -> Result<Served, IoFault>
+) -> Result<Served, RequestFault>
     requires writer { has_failed writer.old ≡ false }
     requires empty { room.old.items ≡ [] }
     requires room { 256 ≤ vec_capacity room.old }
     ensures ok { IfOk result (λ served. (served ≡ Served.Answered (fault_status fault))
         × Took W.contents writer.old writer.new (fault_in form fault bodiless)) }
     ensures err { OnErr result (TookFront W.contents writer.old writer.new (fault_in form fault bodiless)) }
-    ensures write { IfErr result (λ e. e ≡ IoFault.Write) }
+    ensures write { IfErr result (λ e. e ≡ RequestFault.Write) }
     ensures unfailed { OnOk result (has_failed writer.new ≡ false) }
     ensures failed { OnErr result (has_failed writer.new ≡ true) }
 {
@@ -76,7 +76,7 @@ pub(crate) fn refuse<W: Write>(
         content,
     ) {
         Ok(()) => Ok(Served::Answered(status)),
-        Err(_) => Err(IoFault::Write),
+        Err(_) => Err(RequestFault::Write),
     }
 }
 
@@ -87,14 +87,14 @@ pub(crate) fn tell<W: Write>(
     form: Form,
     told: &Told,
     is_status_page: bool,
-) -> Result<Served, IoFault>
+) -> Result<Served, RequestFault>
     requires writer { has_failed writer.old ≡ false }
     requires empty { room.old.items ≡ [] }
     requires room { 256 ≤ vec_capacity room.old }
     ensures ok { IfOk result (λ served. (served ≡ Served.Answered (told_status told.now))
         × Took W.contents writer.old writer.new (told_in form is_status_page told.now)) }
     ensures err { OnErr result (TookFront W.contents writer.old writer.new (told_in form is_status_page told.now)) }
-    ensures write { IfErr result (λ e. e ≡ IoFault.Write) }
+    ensures write { IfErr result (λ e. e ≡ RequestFault.Write) }
     ensures unfailed { OnOk result (has_failed writer.new ≡ false) }
     ensures failed { OnErr result (has_failed writer.new ≡ true) }
 {
@@ -103,7 +103,7 @@ pub(crate) fn tell<W: Write>(
     let kind = kind_of(told, is_status_page);
     match write_answer(writer, room, form, status, kind, text.len(), "", text) {
         Ok(()) => Ok(Served::Answered(status)),
-        Err(_) => Err(IoFault::Write),
+        Err(_) => Err(RequestFault::Write),
     }
 }
 
@@ -137,20 +137,20 @@ fn tell_lines<G: Respond, W: Write>(
     room: &mut Vec<u8>,
     form: Form,
     wanted: Stream<'_>,
-) -> Result<Served, IoFault>
+) -> Result<Served, RequestFault>
     requires writer { has_failed writer.old ≡ false }
     requires empty { room.old.items ≡ [] }
     requires room { 256 ≤ vec_capacity room.old }
     ensures ok { IfOk result (λ served. Recalled G.recalls form gate.old (streamed_by wanted.entry)
         (Took W.contents writer.old writer.new) gate.new served) }
-    ensures write { IsErrOf result IoFault.Write → (served : Served) × Recalled G.recalls form gate.old
+    ensures write { IsErrOf result RequestFault.Write → (served : Served) × Recalled G.recalls form gate.old
         (streamed_by wanted.entry) (TookFront W.contents writer.old writer.new) gate.new served }
-    ensures store { IsErrOf result IoFault.Store → G.recalls gate.old (streamed_by wanted.entry)
+    ensures store { IsErrOf result RequestFault.Store → G.recalls gate.old (streamed_by wanted.entry)
         (OfLines form (TookFront W.contents writer.old writer.new)) gate.new }
-    ensures others { IfErr result (λ e. (e ≡ IoFault.Write) ⊎ (e ≡ IoFault.Store)) }
+    ensures others { IfErr result (λ e. (e ≡ RequestFault.Write) ⊎ (e ≡ RequestFault.Store)) }
     ensures unfailed { OnOk result (has_failed writer.new ≡ false) }
-    ensures store_unfailed { IsErrOf result IoFault.Store → has_failed writer.new ≡ false }
-    ensures failed { IsErrOf result IoFault.Write → has_failed writer.new ≡ true }
+    ensures store_unfailed { IsErrOf result RequestFault.Store → has_failed writer.new ≡ false }
+    ensures failed { IsErrOf result RequestFault.Write → has_failed writer.new ≡ true }
 {
     match gate.show_stream(alloc, wanted, front_of(form).as_bytes(), writer) {
         Ok(()) => Ok(Served::Answered(200)),
@@ -159,8 +159,8 @@ fn tell_lines<G: Respond, W: Write>(
             let said = Told::Answer(Answer::Refused(Refusal::Unavailable));
             tell(writer, room, form, &said, false)
         }
-        Err(StreamFault::Broken) => Err(IoFault::Store),
-        Err(StreamFault::Write) => Err(IoFault::Write),
+        Err(StreamFault::Broken) => Err(RequestFault::Store),
+        Err(StreamFault::Write) => Err(RequestFault::Write),
     }
 }
 
@@ -172,20 +172,21 @@ pub(crate) fn answer_wanted<G: Respond, W: Write>(
     room: &mut Vec<u8>,
     form: Form,
     wanted: Wanted<'_>,
-) -> Result<Served, IoFault>
+) -> Result<Served, RequestFault>
     requires writer { has_failed writer.old ≡ false }
     requires empty { room.old.items ≡ [] }
     requires room { 256 ≤ vec_capacity room.old }
     ensures ok { IfOk result (ReadsTo G.responds G.recalls form wanted.entry gate.old
         (Took W.contents writer.old writer.new) gate.new) }
-    ensures write { IsErrOf result IoFault.Write → (served : Served) × ReadsTo G.responds G.recalls form wanted.entry
+    ensures write { IsErrOf result RequestFault.Write → (served : Served)
+        × ReadsTo G.responds G.recalls form wanted.entry
         gate.old (TookFront W.contents writer.old writer.new) gate.new served }
-    ensures store { IsErrOf result IoFault.Store → BreaksOff G.recalls form wanted.entry gate.old
+    ensures store { IsErrOf result RequestFault.Store → BreaksOff G.recalls form wanted.entry gate.old
         (TookFront W.contents writer.old writer.new) gate.new }
-    ensures others { IfErr result (λ e. (e ≡ IoFault.Write) ⊎ (e ≡ IoFault.Store)) }
+    ensures others { IfErr result (λ e. (e ≡ RequestFault.Write) ⊎ (e ≡ RequestFault.Store)) }
     ensures unfailed { OnOk result (has_failed writer.new ≡ false) }
-    ensures store_unfailed { IsErrOf result IoFault.Store → has_failed writer.new ≡ false }
-    ensures failed { IsErrOf result IoFault.Write → has_failed writer.new ≡ true }
+    ensures store_unfailed { IsErrOf result RequestFault.Store → has_failed writer.new ≡ false }
+    ensures failed { IsErrOf result RequestFault.Write → has_failed writer.new ≡ true }
 {
     match wanted {
         Wanted::Ask(question) => {

@@ -3,18 +3,19 @@ ghost use Rattle.std.specs.Prelude.{◌≡◌, ◌≤◌, ◌⊎◌, List, [], �
 ghost use Rattle.std.specs.Io.Buffered.{writer_buffer, writer_contents};
 ghost use Rattle.std.specs.Io.KnownBytes.{Appends, Keeps};
 ghost use Rattle.gate_types.specs.Tap.{inside, has_failed, Took, TookFront};
-ghost use Rattle.gate_core.specs.declared.fault.IoFault.{IoFault};
 ghost use Rattle.gate_core.specs.Held.{Goes};
+ghost use Rattle.gate_http.specs.declared.request_fault.RequestFault.{RequestFault};
 ghost use Rattle.gate_http.specs.Asked.{Streamed};
 ghost use Rattle.gate_http.specs.Way.{Request, way_of, stream};
 ghost use Rattle.gate_http.specs.Exchange.{IsRead};
 ghost use Rattle.gate_http.specs.Serving.{ServesBy};
 ghost use Rattle.gate_http.specs.Connections.{CalledOver, fault_line, AreTold};
 
+use crate::request_fault::RequestFault;
 use crate::served::Served;
 use crate::serving::serve_one;
 use gate_archive::Archive;
-use gate_core::{Gate, IoFault};
+use gate_core::Gate;
 use gate_types::tap::{Failed, Tap};
 use std::alloc::Global;
 use std::io::{BufReader, BufWriter, Read, Write};
@@ -25,7 +26,7 @@ use std::net::{OpenListener, OpenStream, Shutdown};
 pub struct NotListening;
 
 /// Writes the line that tells of a fault, or a beginning of it where the writer fails.
-fn write_fault<E: Write>(fault: IoFault, errors: &mut Tap<E>) -> Result<(), Failed>
+fn write_fault<E: Write>(fault: RequestFault, errors: &mut Tap<E>) -> Result<(), Failed>
     requires { has_failed errors.old ≡ false }
     ensures ok { OnOk result (Took E.contents errors.old errors.new (fault_line fault)) }
     ensures unfailed { OnOk result (has_failed errors.new ≡ false) }
@@ -38,7 +39,7 @@ fn write_fault<E: Write>(fault: IoFault, errors: &mut Tap<E>) -> Result<(), Fail
 }
 
 /// Tells of a fault, unless an earlier one could not be told.
-fn tell<E: Write>(fault: IoFault, errors: &mut Tap<E>)
+fn tell<E: Write>(fault: RequestFault, errors: &mut Tap<E>)
     ensures told { has_failed errors.old ≡ false → AreTold E.contents errors.old errors.new (fault ∷ []) }
     ensures silent { has_failed errors.old ≡ true → errors.new ≡ errors.old }
 {
@@ -48,14 +49,14 @@ fn tell<E: Write>(fault: IoFault, errors: &mut Tap<E>)
 }
 
 /// Sends what the buffer holds.
-fn send<W: Write + Drop>(writer: &mut BufWriter<W>) -> Result<(), IoFault>
+fn send<W: Write + Drop>(writer: &mut BufWriter<W>) -> Result<(), RequestFault>
     ensures bytes { Keeps (writer_contents W.contents writer.old) (writer_contents W.contents writer.new) }
     ensures ok { OnOk result (writer_buffer writer.new ≡ []) }
-    ensures err { IfErr result (λ e. e ≡ IoFault.Write) }
+    ensures err { IfErr result (λ e. e ≡ RequestFault.Write) }
 {
     match writer.flush() {
         Ok(()) => Ok(()),
-        Err(_) => Err(IoFault::Write),
+        Err(_) => Err(RequestFault::Write),
     }
 }
 
@@ -69,7 +70,7 @@ fn serve_whole<B: Archive, R: Read, W: Write + Drop>(
     gate: &mut Gate<B>,
     reader: &mut Tap<R>,
     writer: BufWriter<W>,
-) -> (Result<(), IoFault>, W)
+) -> (Result<(), RequestFault>, W)
     requires { has_failed reader.old ≡ false }
     ensures gate { Goes B.IsTrusted B.Holds gate.old gate.new (CalledOver B.LeavesOneOf 1 gate.old gate.new) }
     // nothing of the response is left in the buffer
@@ -78,7 +79,7 @@ fn serve_whole<B: Archive, R: Read, W: Write + Drop>(
         × (served : Served) × ServesBy B.IsTrusted B.Holds B.LeavesOneOf gate.old gate.new (way_of r) served
         (Appends (writer_contents W.contents writer) (W.contents result.1))) }
     // a history or the deliveries broke off
-    ensures store { IsErrOf result.0 IoFault.Store → (r : Request)
+    ensures store { IsErrOf result.0 RequestFault.Store → (r : Request)
         × IsRead (R.remaining (inside reader.old)) (R.remaining (inside reader.new)) r
         × (wanted : Streamed) × (way_of r ≡ stream wanted) }
 {
@@ -97,18 +98,18 @@ fn serve_whole<B: Archive, R: Read, W: Write + Drop>(
 fn buffered<S: Read + Write + OpenStream + Drop>(
     alloc: Global,
     stream: S,
-) -> Result<(BufReader<S>, BufWriter<S>), IoFault>
+) -> Result<(BufReader<S>, BufWriter<S>), RequestFault>
     // never `Write`, which means that a delivery may stand
-    ensures fault { IfErr result (λ f. (f ≡ IoFault.Read) ⊎ (f ≡ IoFault.NoMemory)) }
+    ensures fault { IfErr result (λ f. (f ≡ RequestFault.Read) ⊎ (f ≡ RequestFault.NoMemory)) }
 {
     let Ok(other) = stream.try_clone() else {
-        return Err(IoFault::Read);
+        return Err(RequestFault::Read);
     };
     let Ok(reader) = BufReader::new(alloc, other) else {
-        return Err(IoFault::NoMemory);
+        return Err(RequestFault::NoMemory);
     };
     let Ok(writer) = BufWriter::new(alloc, stream) else {
-        return Err(IoFault::NoMemory);
+        return Err(RequestFault::NoMemory);
     };
     Ok((reader, writer))
 }
@@ -123,7 +124,7 @@ fn serve_stream<S: Read + Write + OpenStream + Drop, B: Archive>(
     alloc: Global,
     gate: &mut Gate<B>,
     stream: S,
-) -> Result<(), IoFault>
+) -> Result<(), RequestFault>
     ensures gate { Goes B.IsTrusted B.Holds gate.old gate.new (CalledOver B.LeavesOneOf 1 gate.old gate.new) }
 {
     let (reader, writer) = buffered(alloc, stream)?;
@@ -153,7 +154,7 @@ where
     // each connection is at most one call
     ensures gate { Goes B.IsTrusted B.Holds gate.old gate.new
         (CalledOver B.LeavesOneOf count gate.old gate.new) }
-    ensures told { (faults : List IoFault) × (length faults ≤ count)
+    ensures told { (faults : List RequestFault) × (length faults ≤ count)
         × AreTold E.contents errors.old errors.new faults }
 {
     for _ in 0..count {

@@ -10,11 +10,11 @@ use crate::body::{BODY_LIMIT, read_body};
 use crate::fault::HttpFault;
 use crate::head::{Came, HEAD_LIMIT, read_head};
 use crate::request::{Decision, decide};
+use crate::request_fault::RequestFault;
 use crate::respond::{Respond, Told};
 use crate::response::{Form, HEAD_ROOM};
 use crate::routes::{Route, router};
 use crate::served::Served;
-use gate_core::IoFault;
 use gate_types::tap::Tap;
 use matchit::Router;
 use std::alloc::Global;
@@ -30,7 +30,7 @@ fn answer<G: Respond, R: Read, W: Write>(
     head: &mut Vec<u8>,
     body: &mut Vec<u8>,
     room: &mut Vec<u8>,
-) -> Result<Served, IoFault>
+) -> Result<Served, RequestFault>
     requires reader { has_failed reader.old ≡ false }
     requires writer { has_failed writer.old ≡ false }
     requires router { router.now ≡ routes }
@@ -39,18 +39,18 @@ fn answer<G: Respond, R: Read, W: Write>(
     requires room { (room.old.items ≡ []) × (256 ≤ vec_capacity room.old) }
     ensures ok { IfOk result (λ served. AnswersTo G.responds G.recalls R.remaining W.contents
         reader.old reader.new gate.old gate.new writer.old writer.new served) }
-    ensures write { IsErrOf result IoFault.Write → BreaksTo G.responds G.recalls R.remaining W.contents
+    ensures write { IsErrOf result RequestFault.Write → BreaksTo G.responds G.recalls R.remaining W.contents
         reader.old reader.new gate.old gate.new writer.old writer.new }
-    ensures read { IsErrOf result IoFault.Read →
+    ensures read { IsErrOf result RequestFault.Read →
         Waits (R.remaining (inside reader.old)) (R.remaining (inside reader.new))
         × (gate.new ≡ gate.old) × (writer.new ≡ writer.old) }
-    ensures store { IsErrOf result IoFault.Store → StopsAt G.recalls R.remaining W.contents
+    ensures store { IsErrOf result RequestFault.Store → StopsAt G.recalls R.remaining W.contents
         reader.old reader.new gate.old gate.new writer.old writer.new }
-    ensures others { IfErr result (λ e. (e ≡ IoFault.Read) ⊎ (e ≡ IoFault.Write) ⊎ (e ≡ IoFault.Store)) }
+    ensures others { IfErr result (λ e. (e ≡ RequestFault.Read) ⊎ (e ≡ RequestFault.Write) ⊎ (e ≡ RequestFault.Store)) }
     ensures unfailed { OnOk result (has_failed writer.new ≡ false) }
-    ensures store_unfailed { IsErrOf result IoFault.Store → has_failed writer.new ≡ false }
-    ensures reader_failed { IsErrOf result IoFault.Read → has_failed reader.new ≡ true }
-    ensures writer_failed { IsErrOf result IoFault.Write → has_failed writer.new ≡ true }
+    ensures store_unfailed { IsErrOf result RequestFault.Store → has_failed writer.new ≡ false }
+    ensures reader_failed { IsErrOf result RequestFault.Read → has_failed reader.new ≡ true }
+    ensures writer_failed { IsErrOf result RequestFault.Write → has_failed writer.new ≡ true }
 {
     let form = Form::Response;
     match read_head(reader, head) {
@@ -58,7 +58,7 @@ fn answer<G: Respond, R: Read, W: Write>(
         Ok(Came::Part) => return refuse(writer, room, form, HttpFault::Cut, false),
         Ok(Came::TooMuch) => return refuse(writer, room, form, HttpFault::HeadTooLarge, false),
         Ok(Came::Whole) => {}
-        Err(_) => return Err(IoFault::Read),
+        Err(_) => return Err(RequestFault::Read),
     }
     match decide(router, head.as_slice()) {
         Decision::Refuse(fault, bodiless) => refuse(writer, room, form, fault, bodiless),
@@ -68,7 +68,7 @@ fn answer<G: Respond, R: Read, W: Write>(
                 tell(writer, room, form, &Told::Answer(said), false)
             }
             Ok(false) => refuse(writer, room, form, HttpFault::Cut, false),
-            Err(_) => Err(IoFault::Read),
+            Err(_) => Err(RequestFault::Read),
         },
         Decision::Read(wanted) => answer_wanted(alloc, gate, writer, room, form, wanted),
     }
@@ -87,24 +87,24 @@ pub fn answer_request<G: Respond, R: Read, W: Write>(
     gate: &mut G,
     reader: &mut Tap<R>,
     writer: &mut Tap<W>,
-) -> Result<Served, IoFault>
+) -> Result<Served, RequestFault>
     requires reader { has_failed reader.old ≡ false }
     requires writer { has_failed writer.old ≡ false }
     ensures ok { IfOk result (λ served. AnswersTo G.responds G.recalls R.remaining W.contents
         reader.old reader.new gate.old gate.new writer.old writer.new served) }
-    ensures write { IsErrOf result IoFault.Write → BreaksTo G.responds G.recalls R.remaining W.contents
+    ensures write { IsErrOf result RequestFault.Write → BreaksTo G.responds G.recalls R.remaining W.contents
         reader.old reader.new gate.old gate.new writer.old writer.new }
-    ensures read { IsErrOf result IoFault.Read →
+    ensures read { IsErrOf result RequestFault.Read →
         Waits (R.remaining (inside reader.old)) (R.remaining (inside reader.new))
         × (gate.new ≡ gate.old) × (writer.new ≡ writer.old) }
-    ensures memory { IsErrOf result IoFault.NoMemory →
+    ensures memory { IsErrOf result RequestFault.NoMemory →
         (gate.new ≡ gate.old) × (reader.new ≡ reader.old) × (writer.new ≡ writer.old) }
-    ensures store { IsErrOf result IoFault.Store → StopsAt G.recalls R.remaining W.contents
+    ensures store { IsErrOf result RequestFault.Store → StopsAt G.recalls R.remaining W.contents
         reader.old reader.new gate.old gate.new writer.old writer.new }
     ensures unfailed { OnOk result (has_failed writer.new ≡ false) }
-    ensures store_unfailed { IsErrOf result IoFault.Store → has_failed writer.new ≡ false }
-    ensures reader_failed { IsErrOf result IoFault.Read → has_failed reader.new ≡ true }
-    ensures writer_failed { IsErrOf result IoFault.Write → has_failed writer.new ≡ true }
+    ensures store_unfailed { IsErrOf result RequestFault.Store → has_failed writer.new ≡ false }
+    ensures reader_failed { IsErrOf result RequestFault.Read → has_failed reader.new ≡ true }
+    ensures writer_failed { IsErrOf result RequestFault.Write → has_failed writer.new ≡ true }
 {
     match (
         router(alloc),
@@ -115,6 +115,6 @@ pub fn answer_request<G: Respond, R: Read, W: Write>(
         (Ok(router), Ok(mut head), Ok(mut body), Ok(mut room)) => answer(
             alloc, gate, reader, writer, &router, &mut head, &mut body, &mut room,
         ),
-        _ => Err(IoFault::NoMemory),
+        _ => Err(RequestFault::NoMemory),
     }
 }

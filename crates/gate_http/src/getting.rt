@@ -11,12 +11,13 @@ ghost use Rattle.gate_http.specs.Serving.{ServesGet};
 use crate::answering::{answer_wanted, refuse};
 use crate::fault::HttpFault;
 use crate::request::{Wanted, read};
+use crate::request_fault::RequestFault;
 use crate::respond::Respond;
 use crate::response::{Form, HEAD_ROOM};
 use crate::routes::{Route, cut_query, find_route, router};
 use crate::served::Served;
 use gate_archive::Archive;
-use gate_core::{Gate, IoFault};
+use gate_core::Gate;
 use gate_types::tap::Tap;
 use httparse::is_uri_token;
 use matchit::Router;
@@ -73,26 +74,27 @@ pub fn get<G: Respond, W: Write>(
     gate: &mut G,
     path: &str,
     writer: &mut Tap<W>,
-) -> Result<Served, IoFault>
+) -> Result<Served, RequestFault>
     requires { has_failed writer.old ≡ false }
     ensures ok { IfOk result (Gets G.responds G.recalls path.now gate.old
         (Took W.contents writer.old writer.new) gate.new) }
-    ensures write { IsErrOf result IoFault.Write → (served : Served) × Gets G.responds G.recalls path.now gate.old
+    ensures write { IsErrOf result RequestFault.Write → (served : Served) × Gets G.responds G.recalls path.now gate.old
         (TookFront W.contents writer.old writer.new) gate.new served }
-    ensures memory { IsErrOf result IoFault.NoMemory → (gate.new ≡ gate.old) × (writer.new ≡ writer.old) }
-    ensures store { IsErrOf result IoFault.Store →
+    ensures memory { IsErrOf result RequestFault.NoMemory → (gate.new ≡ gate.old) × (writer.new ≡ writer.old) }
+    ensures store { IsErrOf result RequestFault.Store →
         GetsPart G.recalls path.now gate.old (TookFront W.contents writer.old writer.new) gate.new }
-    ensures others { IfErr result (λ e. (e ≡ IoFault.Write) ⊎ (e ≡ IoFault.NoMemory) ⊎ (e ≡ IoFault.Store)) }
+    ensures others { IfErr result (λ e.
+        (e ≡ RequestFault.Write) ⊎ (e ≡ RequestFault.NoMemory) ⊎ (e ≡ RequestFault.Store)) }
     ensures unfailed { OnOk result (has_failed writer.new ≡ false) }
-    ensures store_unfailed { IsErrOf result IoFault.Store → has_failed writer.new ≡ false }
-    ensures failed { IsErrOf result IoFault.Write → has_failed writer.new ≡ true }
+    ensures store_unfailed { IsErrOf result RequestFault.Store → has_failed writer.new ≡ false }
+    ensures failed { IsErrOf result RequestFault.Write → has_failed writer.new ≡ true }
 {
     match (router(alloc), Vec::with_capacity(alloc, HEAD_ROOM)) {
         (Ok(router), Ok(mut room)) => match find(&router, path) {
             Ok(wanted) => answer_wanted(alloc, gate, writer, &mut room, Form::Content, wanted),
             Err(fault) => refuse(writer, &mut room, Form::Content, fault, false),
         },
-        _ => Err(IoFault::NoMemory),
+        _ => Err(RequestFault::NoMemory),
     }
 }
 
@@ -106,20 +108,21 @@ pub fn get_one<B: Archive, W: Write>(
     gate: &mut Gate<B>,
     path: &str,
     writer: &mut Tap<W>,
-) -> Result<Served, IoFault>
+) -> Result<Served, RequestFault>
     requires { has_failed writer.old ≡ false }
     ensures ok { IfOk result (λ served. ServesGet B.IsTrusted B.Holds gate.old gate.new path.now served
         (Took W.contents writer.old writer.new)) }
     // a beginning of the content was written
-    ensures write { IsErrOf result IoFault.Write → (served : Served) × ServesGet B.IsTrusted B.Holds gate.old gate.new
-        path.now served (TookFront W.contents writer.old writer.new) }
-    ensures store { IsErrOf result IoFault.Store → ServesGet B.IsTrusted B.Holds gate.old gate.new path.now
+    ensures write { IsErrOf result RequestFault.Write → (served : Served)
+        × ServesGet B.IsTrusted B.Holds gate.old gate.new path.now served (TookFront W.contents writer.old writer.new) }
+    ensures store { IsErrOf result RequestFault.Store → ServesGet B.IsTrusted B.Holds gate.old gate.new path.now
         (Served.Answered 200) (TookFront W.contents writer.old writer.new) }
-    ensures memory { IsErrOf result IoFault.NoMemory → (gate.new ≡ gate.old) × (writer.new ≡ writer.old) }
-    ensures others { IfErr result (λ e. (e ≡ IoFault.Write) ⊎ (e ≡ IoFault.NoMemory) ⊎ (e ≡ IoFault.Store)) }
+    ensures memory { IsErrOf result RequestFault.NoMemory → (gate.new ≡ gate.old) × (writer.new ≡ writer.old) }
+    ensures others { IfErr result (λ e.
+        (e ≡ RequestFault.Write) ⊎ (e ≡ RequestFault.NoMemory) ⊎ (e ≡ RequestFault.Store)) }
     ensures unfailed { OnOk result (has_failed writer.new ≡ false) }
-    ensures store_unfailed { IsErrOf result IoFault.Store → has_failed writer.new ≡ false }
-    ensures failed { IsErrOf result IoFault.Write → has_failed writer.new ≡ true }
+    ensures store_unfailed { IsErrOf result RequestFault.Store → has_failed writer.new ≡ false }
+    ensures failed { IsErrOf result RequestFault.Write → has_failed writer.new ≡ true }
 {
     get(alloc, gate, path, writer)
 }

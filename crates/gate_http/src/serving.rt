@@ -7,9 +7,10 @@ ghost use Rattle.gate_http.specs.Exchange.{IsRead, Waits};
 ghost use Rattle.gate_http.specs.Serving.{ServesBy};
 
 use crate::engine::answer_request;
+use crate::request_fault::RequestFault;
 use crate::served::Served;
 use gate_archive::Archive;
-use gate_core::{Gate, IoFault};
+use gate_core::Gate;
 use gate_types::tap::Tap;
 use std::alloc::Global;
 use std::io::{Read, Write};
@@ -29,7 +30,7 @@ pub fn serve_one<B: Archive, R: Read, W: Write>(
     gate: &mut Gate<B>,
     reader: &mut Tap<R>,
     writer: &mut Tap<W>,
-) -> Result<Served, IoFault>
+) -> Result<Served, RequestFault>
     requires reader { has_failed reader.old ≡ false }
     requires writer { has_failed writer.old ≡ false }
     ensures ok { IfOk result (λ served. (r : Request)
@@ -37,26 +38,26 @@ pub fn serve_one<B: Archive, R: Read, W: Write>(
         × ServesBy B.IsTrusted B.Holds B.LeavesOneOf gate.old gate.new (way_of r) served
         (Took W.contents writer.old writer.new)) }
     // a beginning of the answer was written, and all else is as without the fault
-    ensures write { IsErrOf result IoFault.Write → (r : Request)
+    ensures write { IsErrOf result RequestFault.Write → (r : Request)
         × IsRead (R.remaining (inside reader.old)) (R.remaining (inside reader.new)) r
         × (served : Served) × ServesBy B.IsTrusted B.Holds B.LeavesOneOf gate.old gate.new (way_of r) served
         (TookFront W.contents writer.old writer.new) }
     // what was read was no whole request yet
-    ensures read { IsErrOf result IoFault.Read →
+    ensures read { IsErrOf result RequestFault.Read →
         Waits (R.remaining (inside reader.old)) (R.remaining (inside reader.new))
         × (gate.new ≡ gate.old) × (writer.new ≡ writer.old) }
-    ensures memory { IsErrOf result IoFault.NoMemory →
+    ensures memory { IsErrOf result RequestFault.NoMemory →
         (gate.new ≡ gate.old) × (reader.new ≡ reader.old) × (writer.new ≡ writer.old) }
     // it was lines, of which a beginning was written, and the content stays
-    ensures store { IsErrOf result IoFault.Store → (r : Request)
+    ensures store { IsErrOf result RequestFault.Store → (r : Request)
         × IsRead (R.remaining (inside reader.old)) (R.remaining (inside reader.new)) r
         × (wanted : Streamed) × (way_of r ≡ stream wanted)
         × ServesBy B.IsTrusted B.Holds B.LeavesOneOf gate.old gate.new (stream wanted) (Served.Answered 200)
         (TookFront W.contents writer.old writer.new) }
     ensures unfailed { OnOk result (has_failed writer.new ≡ false) }
-    ensures store_unfailed { IsErrOf result IoFault.Store → has_failed writer.new ≡ false }
-    ensures reader_failed { IsErrOf result IoFault.Read → has_failed reader.new ≡ true }
-    ensures writer_failed { IsErrOf result IoFault.Write → has_failed writer.new ≡ true }
+    ensures store_unfailed { IsErrOf result RequestFault.Store → has_failed writer.new ≡ false }
+    ensures reader_failed { IsErrOf result RequestFault.Read → has_failed reader.new ≡ true }
+    ensures writer_failed { IsErrOf result RequestFault.Write → has_failed writer.new ≡ true }
 {
     answer_request(alloc, gate, reader, writer)
 }

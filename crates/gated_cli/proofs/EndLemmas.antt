@@ -2,8 +2,8 @@
 use Rattle.std.proofs.Common.{◌≡◌, ℕ, Bool, true, subst, sym, inl, inr, ◌∙◌, arith}
 use Rattle.std.specs.Prelude.{Result, Ok, Err, OnOk, IfErr, IsErrOf, Option, List}
 use Rattle.gate_core.specs.Lines.{ReadFor}
-use Rattle.gate_core.specs.declared.fault.IoFault.{IoFault}
-use Rattle.gate_core.specs.declared.fault.IoFault.TheVariants as io
+use Rattle.gate_core.specs.declared.fault.ReplayFault.{ReplayFault}
+use Rattle.gate_core.specs.declared.fault.ReplayFault.TheVariants as replay
 use Rattle.gated_cli.specs.Doing.{Streams}
 use Rattle.gated_cli.specs.Ending.{InputFails, ReplyIsCut, StatusIsCut, StatusIsRefused, ReplayEnds}
 use Rattle.gated_cli.specs.Faults.{of_replay}
@@ -11,13 +11,12 @@ use Rattle.gated_cli.specs.declared.run.fault.Fault.{Fault}
 use Rattle.gated_cli.specs.declared.run.fault.Fault.TheVariants as fault
 
 -- what a replay's faults are to the command
-pub replay_ends : {T : Type 0} (r : Result T IoFault) (x : IoFault) (asked : Bool) (b a : Streams) → r ≡ Err x
-    → (IsErrOf r io.Read → InputFails b a) → (IsErrOf r io.Write → (a.output_failed ≡ true) × ReplyIsCut b a)
-    → (IsErrOf r io.NoMemory → a ≡ b) → (IsErrOf r io.Store → ⊥) → ReplayEnds asked (of_replay x) b a
-replay_ends r io.Read asked b a e read write memory store = read e
-replay_ends r io.Write asked b a e read write memory store = ((write e).0, inl (write e).1)
-replay_ends r io.NoMemory asked b a e read write memory store = (tt, memory e)
-replay_ends r io.Store asked b a e read write memory store = absurd (store e)
+pub replay_ends : {T : Type 0} (r : Result T ReplayFault) (x : ReplayFault) (asked : Bool) (b a : Streams) → r ≡ Err x
+    → (IsErrOf r replay.Read → InputFails b a) → (IsErrOf r replay.Write → (a.output_failed ≡ true) × ReplyIsCut b a)
+    → (IsErrOf r replay.NoMemory → a ≡ b) → ReplayEnds asked (of_replay x) b a
+replay_ends r replay.Read asked b a e read write memory = read e
+replay_ends r replay.Write asked b a e read write memory = ((write e).0, inl (write e).1)
+replay_ends r replay.NoMemory asked b a e read write memory = (tt, memory e)
 
 -- the same of a fault that was made from one
 pub made_from : (f g : Fault) (asked : Bool) (b a : Streams) → f ≡ g → ReplayEnds asked g b a → ReplayEnds asked f b a

@@ -12,8 +12,8 @@ use Rattle.gate_core.specs.Left.{LeavesBy, left_after}
 use Rattle.gate_core.specs.declared.gate.Gate.{Gate}
 use Rattle.gate_core.specs.Held.{IsOver, Goes}
 use Rattle.gate_core.specs.Holding.{GateHolds}
-use Rattle.gate_core.specs.declared.fault.IoFault.{IoFault}
-use Rattle.gate_core.specs.declared.fault.IoFault.TheVariants as io
+use Rattle.gate_core.specs.declared.fault.ReplayFault.{ReplayFault}
+use Rattle.gate_core.specs.declared.fault.ReplayFault.TheVariants as replay
 use Rattle.gate_live.specs.Both.{HoldsBoth}
 use Rattle.gate_live.specs.declared.live_book.LiveBook.{LiveBook}
 use Rattle.gate_rows.specs.Tells.{StandsFor}
@@ -30,47 +30,41 @@ use Rattle.gated_cli.specs.declared.run.fault.Fault.TheVariants as fault
 -- ---- faults
 
 -- a fault of a replay that is told as one of reading is that
-pub of_read : {T U : Type 0} (f : IoFault) (g : Fault) → g ≡ of_replay f → IsErrOf {T = T} (Err g) fault.Read → IsErrOf {T = U} (Err f) io.Read
-of_read io.Read g is e = refl
-of_read io.Write g is e = cc
-of_read io.NoMemory g is e = cc
-of_read io.Store g is e = cc
+pub of_read : {T U : Type 0} (f : ReplayFault) (g : Fault) → g ≡ of_replay f → IsErrOf {T = T} (Err g) fault.Read → IsErrOf {T = U} (Err f) replay.Read
+of_read replay.Read g is e = refl
+of_read replay.Write g is e = cc
+of_read replay.NoMemory g is e = cc
 
 -- and of writing
-pub of_write : {T U : Type 0} (f : IoFault) (g : Fault) → g ≡ of_replay f → IsErrOf {T = T} (Err g) fault.Write → IsErrOf {T = U} (Err f) io.Write
-of_write io.Read g is e = cc
-of_write io.Write g is e = refl
-of_write io.NoMemory g is e = cc
-of_write io.Store g is e = cc
+pub of_write : {T U : Type 0} (f : ReplayFault) (g : Fault) → g ≡ of_replay f → IsErrOf {T = T} (Err g) fault.Write → IsErrOf {T = U} (Err f) replay.Write
+of_write replay.Read g is e = cc
+of_write replay.Write g is e = refl
+of_write replay.NoMemory g is e = cc
 
 -- and of want of memory
-pub of_no_memory : {T U : Type 0} (f : IoFault) (g : Fault) → g ≡ of_replay f → IsErrOf {T = T} (Err g) fault.NoMemory → IsErrOf {T = U} (Err f) io.NoMemory
-of_no_memory io.Read g is e = cc
-of_no_memory io.Write g is e = cc
-of_no_memory io.NoMemory g is e = refl
-of_no_memory io.Store g is e = cc
+pub of_no_memory : {T U : Type 0} (f : ReplayFault) (g : Fault) → g ≡ of_replay f → IsErrOf {T = T} (Err g) fault.NoMemory → IsErrOf {T = U} (Err f) replay.NoMemory
+of_no_memory replay.Read g is e = cc
+of_no_memory replay.Write g is e = cc
+of_no_memory replay.NoMemory g is e = refl
 
 -- another one is want of memory
-pub of_memory : {U : Type 0} (f : IoFault) (g : Fault) → g ≡ of_replay f → (IsErrOf {T = U} (Err f) io.Store → ⊥) → g ≢ fault.Read → g ≢ fault.Write → IsErrOf {T = U} (Err f) io.NoMemory × IsOfFile g
-of_memory io.Read g is none unread unwritten = absurd (unread is)
-of_memory io.Write g is none unread unwritten = absurd (unwritten is)
-of_memory io.NoMemory g is none unread unwritten = (refl, subst IsOfFile (sym is) tt)
-of_memory io.Store g is none unread unwritten = absurd (none refl)
+pub of_memory : {U : Type 0} (f : ReplayFault) (g : Fault) → g ≡ of_replay f → g ≢ fault.Read → g ≢ fault.Write → IsErrOf {T = U} (Err f) replay.NoMemory × IsOfFile g
+of_memory replay.Read g is unread unwritten = absurd (unread is)
+of_memory replay.Write g is unread unwritten = absurd (unwritten is)
+of_memory replay.NoMemory g is unread unwritten = (refl, subst IsOfFile (sym is) tt)
 
 -- none of them is one of the file
-pub no_replay_fault : (f : IoFault) (g : Fault) → g ≡ of_replay f → file_fault {T = Unit {0}} (Err g) ≡ None
-no_replay_fault io.Read g is = subst (λ h. file_fault {T = Unit {0}} (Err h) ≡ None) (sym is) refl
-no_replay_fault io.Write g is = subst (λ h. file_fault {T = Unit {0}} (Err h) ≡ None) (sym is) refl
-no_replay_fault io.NoMemory g is = subst (λ h. file_fault {T = Unit {0}} (Err h) ≡ None) (sym is) refl
-no_replay_fault io.Store g is = subst (λ h. file_fault {T = Unit {0}} (Err h) ≡ None) (sym is) refl
+pub no_replay_fault : (f : ReplayFault) (g : Fault) → g ≡ of_replay f → file_fault {T = Unit {0}} (Err g) ≡ None
+no_replay_fault replay.Read g is = subst (λ h. file_fault {T = Unit {0}} (Err h) ≡ None) (sym is) refl
+no_replay_fault replay.Write g is = subst (λ h. file_fault {T = Unit {0}} (Err h) ≡ None) (sym is) refl
+no_replay_fault replay.NoMemory g is = subst (λ h. file_fault {T = Unit {0}} (Err h) ≡ None) (sym is) refl
 
 -- what follows from each of them
-pub of_each : {U : Type 0} (X : Type 0) (f : IoFault) → (IsErrOf {T = U} (Err f) io.Read → X) → (IsErrOf {T = U} (Err f) io.Write → X) →
-    (IsErrOf {T = U} (Err f) io.NoMemory → X) → (IsErrOf {T = U} (Err f) io.Store → ⊥) → X
-of_each X io.Read read write memory none = read refl
-of_each X io.Write read write memory none = write refl
-of_each X io.NoMemory read write memory none = memory refl
-of_each X io.Store read write memory none = absurd (none refl)
+pub of_each : {U : Type 0} (X : Type 0) (f : ReplayFault) → (IsErrOf {T = U} (Err f) replay.Read → X) → (IsErrOf {T = U} (Err f) replay.Write → X) →
+    (IsErrOf {T = U} (Err f) replay.NoMemory → X) → X
+of_each X replay.Read read write memory = read refl
+of_each X replay.Write read write memory = write refl
+of_each X replay.NoMemory read write memory = memory refl
 
 -- ---- the gate over the file
 

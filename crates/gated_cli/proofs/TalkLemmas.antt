@@ -6,7 +6,7 @@ use Rattle.std.proofs.KnownBytes.{Appends-nil, Appends-trans}
 use Rattle.gate_types.proofs.TapLemmas.{writes_later}
 use Rattle.gate_types.specs.Tap.{has_failed, inside}
 use Rattle.gate_types.specs.declared.tap.Tap.{Tap}
-use Rattle.gate_core.specs.declared.fault.IoFault.{IoFault}
+use Rattle.gate_http.specs.declared.request_fault.RequestFault.{RequestFault}
 use Rattle.gate_http.specs.Connections.{AreTold, fault_lines}
 use Rattle.std.proofs.lemmas.Bool.{true≢false}
 use Rattle.gated_cli.specs.Ending.{Tells}
@@ -34,7 +34,7 @@ module _ {E : Type 0} (held : E → Option (List ℕ)) where
   behind : (most : ℕ) (old mid new : Tap E) (f : Fault) (failed : Bool) → has_failed mid ≡ failed
       → TellsUpTo held most old mid → (has_failed mid ≡ false → Tells held mid new (line_of f))
       → (has_failed mid ≡ true → new ≡ mid)
-      → (faults : List IoFault) × (length faults ≤ most) × Tells held old new (fault_lines faults ++ line_of f)
+      → (faults : List RequestFault) × (length faults ≤ most) × Tells held old new (fault_lines faults ++ line_of f)
   behind most old mid new f false is h told silent = (
     h.0,
     h.1,

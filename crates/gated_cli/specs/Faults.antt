@@ -7,8 +7,10 @@ use Rattle.gate_archive.specs.declared.fault.FeedFault.{FeedFault}
 use Rattle.gate_archive.specs.declared.fault.FeedFault.TheVariants as feed
 use Rattle.gate_book_trait.specs.declared.fault.HistoryFault.{HistoryFault}
 use Rattle.gate_book_trait.specs.declared.fault.HistoryFault.TheVariants as history
-use Rattle.gate_core.specs.declared.fault.IoFault.{IoFault}
-use Rattle.gate_core.specs.declared.fault.IoFault.TheVariants as io
+use Rattle.gate_core.specs.declared.fault.ReplayFault.{ReplayFault}
+use Rattle.gate_core.specs.declared.fault.ReplayFault.TheVariants as replay
+use Rattle.gate_http.specs.declared.request_fault.RequestFault.{RequestFault}
+use Rattle.gate_http.specs.declared.request_fault.RequestFault.TheVariants as request
 use Rattle.gate_types.specs.declared.open_fault.OpenFault.{OpenFault}
 use Rattle.gate_types.specs.declared.open_fault.OpenFault.TheVariants as file
 use Rattle.gated_cli.specs.declared.run.fault.Fault.{Fault}
@@ -59,11 +61,17 @@ abbrev pub line_of : Fault → List ℕ
 line_of f = codes "gated: " ++ text_of f ++ 10 ∷ []
 
 -- a fault of a replay
-abbrev pub of_replay : IoFault → Fault
-of_replay io.Read = fault.Read
-of_replay io.Write = fault.Write
-of_replay io.NoMemory = fault.NoMemory
-of_replay io.Store = fault.Store
+abbrev pub of_replay : ReplayFault → Fault
+of_replay replay.Read = fault.Read
+of_replay replay.Write = fault.Write
+of_replay replay.NoMemory = fault.NoMemory
+
+-- a fault of a request
+abbrev pub of_request : RequestFault → Fault
+of_request request.Read = fault.Read
+of_request request.Write = fault.Write
+of_request request.NoMemory = fault.NoMemory
+of_request request.Store = fault.Store
 
 -- a fault of a history
 abbrev pub of_history : HistoryFault → Fault

@@ -1,7 +1,7 @@
 -- What is told on the errors, beside what a command reads and writes.
 use Rattle.std.specs.Prelude.{◌≡◌, ◌≤◌, ℕ, List, ◌++◌, length, Option}
 use Rattle.gate_types.specs.declared.tap.Tap.{Tap}
-use Rattle.gate_core.specs.declared.fault.IoFault.{IoFault}
+use Rattle.gate_http.specs.declared.request_fault.RequestFault.{RequestFault}
 use Rattle.gate_http.specs.Connections.{AreTold, fault_lines}
 use Rattle.gated_cli.specs.Ending.{Tells}
 use Rattle.gated_cli.specs.Faults.{line_of}
@@ -12,7 +12,7 @@ use Rattle.gated_cli.specs.declared.run.fault.Fault.{Fault}
 
 -- at most so many faults of connections are told, by a line each; a writer that failed took a beginning
 abbrev pub TellsUpTo : {E : Type 0} → (E → Option (List ℕ)) → ℕ → Tap E → Tap E → Type 0
-TellsUpTo held most old new = (faults : List IoFault) × (length faults ≤ most) × AreTold held old new faults
+TellsUpTo held most old new = (faults : List RequestFault) × (length faults ≤ most) × AreTold held old new faults
 
 -- what a command has told that is done: nothing, but of a server the faults of connections
 abbrev pub ToldBy : {E : Type 0} → (E → Option (List ℕ)) → Cmd → Tap E → Tap E → Type 0
@@ -37,6 +37,6 @@ TellsBy held fault (Status settings file) old new = Tells held old new (line_of 
 TellsBy held fault (History settings file queue) old new = Tells held old new (line_of fault)
 TellsBy held fault (Deliveries settings file after_id) old new = Tells held old new (line_of fault)
 TellsBy held fault (Get settings file path) old new = Tells held old new (line_of fault)
-TellsBy held fault (Serve settings file port count) old new = (faults : List IoFault) × (length faults ≤ count)
+TellsBy held fault (Serve settings file port count) old new = (faults : List RequestFault) × (length faults ≤ count)
     × Tells held old new (fault_lines faults ++ line_of fault)
 TellsBy held fault (Migrate settings file) old new = Tells held old new (line_of fault)

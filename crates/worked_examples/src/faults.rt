@@ -3,7 +3,7 @@ use crate::claims::{holds_at, is_at};
 use crate::scenes::gate_in_memory;
 use crate::streams::{Failing, Narrow};
 use gate_book::Book;
-use gate_core::{Gate, IoFault, replay};
+use gate_core::{Gate, ReplayFault, replay};
 use gate_types::tap::Tap;
 use std::process::Abort;
 
@@ -44,7 +44,7 @@ fn replayed<B: Book>(
     lines: &str,
     (reads, step): (usize, usize),
     room: usize,
-) -> (Result<u64, IoFault>, String) {
+) -> (Result<u64, ReplayFault>, String) {
     let mut r = Tap::new(Failing {
         bytes: lines.as_bytes(),
         step,
@@ -81,7 +81,7 @@ fn continues<B: Book>(rt: &(impl Abort + AllocGlobal), gate: &mut Gate<B>, spent
 fn stands_after<B: Book>(rt: &(impl Abort + AllocGlobal), gate: &mut Gate<B>, room: usize) {
     let (count, taken) = replayed(rt, gate, LINES, (MANY, MANY), room);
     let wanted = if room < ANSWERS.len() {
-        Err(IoFault::Write)
+        Err(ReplayFault::Write)
     } else {
         Ok(4)
     };
@@ -106,7 +106,7 @@ fn is_new_after<B: Book>(rt: &(impl Abort + AllocGlobal), gate: &mut Gate<B>, re
     let spent = lines_within(LINES, reads);
     let answered = lines_within(written.as_str(), MANY);
     let is_whole = written.is_empty() || written.ends_with('\n');
-    holds_at(rt, count == Err(IoFault::Read), reads, "reads:");
+    holds_at(rt, count == Err(ReplayFault::Read), reads, "reads:");
     holds_at(rt, ANSWERS.starts_with(written.as_str()), reads, "reads:");
     holds_at(rt, answered == spent && is_whole, reads, "reads:");
     continues(rt, gate, spent);

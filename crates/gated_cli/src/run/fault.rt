@@ -5,8 +5,8 @@ ghost use Rattle.gated_cli.specs.Faults.{text_of, file_text, settings_text};
 use gate_archive::FeedFault;
 use gate_book_trait::HistoryFault;
 use gate_config::ConfigFault;
-use gate_core::IoFault;
-use gate_http::NotListening;
+use gate_core::ReplayFault;
+use gate_http::{NotListening, RequestFault};
 use gate_types::open_fault::OpenFault;
 use gate_types::tap::Failed;
 use std::alloc::AllocError;
@@ -101,17 +101,31 @@ impl From<ConfigFault> for Fault {
     }
 }
 
-impl From<IoFault> for Fault {
+impl From<ReplayFault> for Fault {
     ghost use Rattle.gated_cli.specs.Faults.{of_replay};
 
     ghost from_gives = { λ fault f. f ≡ of_replay fault };
 
-    fn from(fault: IoFault) -> Fault {
+    fn from(fault: ReplayFault) -> Fault {
         match fault {
-            IoFault::Read => Fault::Read,
-            IoFault::Write => Fault::Write,
-            IoFault::NoMemory => Fault::NoMemory,
-            IoFault::Store => Fault::Store,
+            ReplayFault::Read => Fault::Read,
+            ReplayFault::Write => Fault::Write,
+            ReplayFault::NoMemory => Fault::NoMemory,
+        }
+    }
+}
+
+impl From<RequestFault> for Fault {
+    ghost use Rattle.gated_cli.specs.Faults.{of_request};
+
+    ghost from_gives = { λ fault f. f ≡ of_request fault };
+
+    fn from(fault: RequestFault) -> Fault {
+        match fault {
+            RequestFault::Read => Fault::Read,
+            RequestFault::Write => Fault::Write,
+            RequestFault::NoMemory => Fault::NoMemory,
+            RequestFault::Store => Fault::Store,
         }
     }
 }

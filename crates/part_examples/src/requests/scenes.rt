@@ -2,8 +2,7 @@
 use crate::claims::holds;
 use crate::requests::streams::{Pace, Stream};
 use crate::requests::texts::{halves, request, response};
-use gate_core::IoFault;
-use gate_http::{Respond, Served, answer_request};
+use gate_http::{RequestFault, Respond, Served, answer_request};
 use gate_types::tap::Tap;
 use gate_wire::Door;
 use std::alloc::Global;
@@ -20,7 +19,7 @@ fn exchanged(
     server: &mut impl Respond,
     pace: Pace,
     request: &[u8],
-) -> (Result<Served, IoFault>, Vec<u8>, usize) {
+) -> (Result<Served, RequestFault>, Vec<u8>, usize) {
     let mut reader = Tap::new(Stream::new(alloc, request, pace));
     let mut writer = Tap::new(Stream::new(alloc, b"", pace));
     let served = answer_request(alloc, server, &mut reader, &mut writer);
@@ -34,7 +33,7 @@ fn left(
     server: &mut impl Respond,
     pace: Pace,
     request: &[u8],
-    done: Result<Served, IoFault>,
+    done: Result<Served, RequestFault>,
     written: &[u8],
     case: &str,
 ) -> usize {
@@ -44,10 +43,10 @@ fn left(
 }
 
 /// What a word says that is done.
-fn done(rt: &impl Abort, word: &str, case: &str) -> Result<Served, IoFault> {
+fn done(rt: &impl Abort, word: &str, case: &str) -> Result<Served, RequestFault> {
     match word {
         "nothing" => Ok(Served::Nothing),
-        "store" => Err(IoFault::Store),
+        "store" => Err(RequestFault::Store),
         _ => Ok(Served::Answered(word.parse::<u16>().expect(rt, case))),
     }
 }
@@ -93,7 +92,7 @@ fn each_unread(
 ) {
     holds(rt, !request.is_empty(), case);
     for n in 0..request.len() {
-        let fault = Err(IoFault::Read);
+        let fault = Err(RequestFault::Read);
         let _left = left(rt, server, Pace::reading(n), request, fault, b"", case);
     }
 }
@@ -112,7 +111,7 @@ pub fn stops(
         server,
         pace,
         request,
-        Err(IoFault::Write),
+        Err(RequestFault::Write),
         written,
         case,
     );

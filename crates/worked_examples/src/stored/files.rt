@@ -3,7 +3,7 @@
 use crate::claims::is;
 use crate::settings::config;
 use gate_book::Book;
-use gate_core::{Gate, IoFault, replay};
+use gate_core::{Gate, ReplayFault, replay};
 use gate_live::LiveBook;
 use gate_sql::SqlBook;
 use gate_types::open_fault::OpenFault;
@@ -107,7 +107,7 @@ pub fn conn_of<S: Alter + Drop>(gate: FileGate<S>) -> Connection<S> {
 }
 
 /// What a gate writes for lines.
-fn said<B: Book>(alloc: Global, gate: &mut Gate<B>, lines: &str) -> Result<Vec<u8>, IoFault> {
+fn said<B: Book>(alloc: Global, gate: &mut Gate<B>, lines: &str) -> Result<Vec<u8>, ReplayFault> {
     let mut r = Tap::new(lines.as_bytes());
     let mut w = Tap::new(Vec::new(alloc));
     let _count = replay(alloc, gate, &mut r, &mut w)?;
@@ -119,7 +119,7 @@ pub fn said_over<S: Alter + Drop>(
     alloc: Global,
     mut gate: FileGate<S>,
     lines: &str,
-) -> (Result<Vec<u8>, IoFault>, Connection<S>) {
+) -> (Result<Vec<u8>, ReplayFault>, Connection<S>) {
     let written = said(alloc, &mut gate, lines);
     (written, conn_of(gate))
 }

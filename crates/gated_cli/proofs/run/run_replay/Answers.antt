@@ -66,8 +66,8 @@ returns-in_err-replay-clause-err g c =
         written = h.2;
       },
     ))
-    (λ e. ap₂ (streams g.R.Read.remaining g.W.Write.contents) (c.replay.ensures.memory e).1 (c.replay.ensures.memory e).2)
-    c.replay.ensures.store))
+    (λ e. ap₂ (streams g.R.Read.remaining g.W.Write.contents) (c.replay.ensures.memory e).1
+    (c.replay.ensures.memory e).2)))
 
 pub returns-in_err-write_status-clause-err : goal.returns-in_err-write_status-clause-err
 returns-in_err-write_status-clause-err g c =

@@ -54,7 +54,7 @@ returns-in-Err-done-clause-judged g c tables indexes views version kept schema m
     let after = subst (λ conn. HasCleanDisk (state g.S.Store conn)) last clean in
     let before = of_each (HasCleanDisk (state g.S.Store c.new-gate.result.book.book.conn)) c.in-Err-done.fault
     (λ e. (said.read e).4.trusted_before after) (λ e. (said.write e).5.trusted_before after)
-    (λ e. subst (λ gate. HasCleanDisk (state g.S.Store gate.book.book.conn)) (said.memory e).0 after) said.store in
+    (λ e. subst (λ gate. HasCleanDisk (state g.S.Store gate.book.book.conn)) (said.memory e).0 after) in
     let opened = c.filled-live.ensures.trusted
     (subst (λ cached. HasCleanDisk (state g.S.Store cached.book.conn)) c.new-gate.ensures.book before) in
     subst (λ f. IsJudged f version kept c.args.config) (sym (no_replay_fault c.in-Err-done.fault c.from.result c.from.ensures))
@@ -137,7 +137,7 @@ returns-in-Err-done-clause-memory g c e =
 
 pub returns-in-Err-done-clause-fault : goal.returns-in-Err-done-clause-fault
 returns-in-Err-done-clause-fault g c unread unwritten =
-    let is = of_memory c.in-Err-done.fault c.from.result c.from.ensures c.in-Err-done.ensures.store unread unwritten in
+    let is = of_memory c.in-Err-done.fault c.from.result c.from.ensures unread unwritten in
     let same = c.in-Err-done.ensures.memory is.0 in
     (is.1, same.1, same.2)
 
