@@ -25,7 +25,7 @@ use std::io::Write;
 fn build_named(text: &[u8]) -> Option<BuildNo>
     ensures { result ≡ build_number text.now }
 {
-    match number_up_to(text, LAST_NUMBER) {
+    match number_up_to(text, LAST_NUMBER as usize) {
         Some(number) => BuildNo::new(number as u64),
         None => None,
     }
@@ -45,7 +45,7 @@ fn change_named(text: &[u8]) -> Option<ChangeNo>
 fn serial_named(text: &[u8]) -> Option<Serial>
     ensures { result ≡ item_serial text.now }
 {
-    match number_up_to(text, LAST_NUMBER) {
+    match number_up_to(text, LAST_NUMBER as usize) {
         Some(number) => Serial::new(number as u64),
         None => None,
     }
