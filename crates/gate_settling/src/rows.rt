@@ -121,7 +121,7 @@ fn build_now(event: Event, build: Build) -> Build
         } => {
             if build.number == number {
                 Build {
-                    outcome: Outcome::from(ending),
+                    outcome: ending.into(),
                     ..build
                 }
             } else {
