@@ -5,10 +5,10 @@ use Rattle.gate_admission.proofs.Spans.{room_by_most}
 use Rattle.gate_admission.proofs.room.has_room.Goals as goal
 use Rattle.gate_types.specs.Limits.{most_items}
 
-pub returns-then-from-edits-lt-MOST_ITEMS-clause-found : goal.returns-then-from-edits-lt-MOST_ITEMS-clause-found
-returns-then-from-edits-lt-MOST_ITEMS-clause-found g c = λ trusted s x holds lawful v led there.
+pub returns-then-from-edits-clause-found : goal.returns-then-from-edits-clause-found
+returns-then-from-edits-clause-found g c = λ trusted s x holds lawful v led there.
     sym (room_by_most s x c.args.edits.now v c.args.queue.now c.in_ok-most.most lawful led there
-    (c.in_ok-most.ensures.found trusted s x holds lawful) (omega (arith, c.if-from-edits-lt-MOST_ITEMS.true, c.from.ensures)))
+    (c.in_ok-most.ensures.found trusted s x holds lawful) (omega (arith, c.if-from-edits.true, c.from.ensures)))
 
 pub returns-clause-found : goal.returns-clause-found
 returns-clause-found g c = λ trusted s x holds lawful v led there.
