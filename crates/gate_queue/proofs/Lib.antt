@@ -1,4 +1,5 @@
 pub mod Ordered
+pub mod Cut
 pub mod Folds
 pub mod Keeps
 pub mod Builds

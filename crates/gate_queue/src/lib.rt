@@ -1,6 +1,6 @@
 //! The rules of one queue of a speculative merge gate: what a job has come to (`slot_among`), how many items may be
-//! tested at once (`grow`, `shrink`), why an item goes (`verdict_of`), and the edits of an item (`push_item`) and of the
-//! window (`push_window`). Nothing is stored here, and nothing is kept between two calls.
+//! tested at once (`grow`, `shrink`), whether an item is cut (`is_cut`), why it goes (`verdict_of`), and the edits of an
+//! item (`push_item`) and of the window (`push_window`). Nothing is stored here, and nothing is kept between two calls.
 //!
 //! The program goes through a queue row by row, as `gate_walk` and `gate_reads` do, and applies these rules to each row.
 //! `whole_queue` applies them to a queue whose items and builds are all in memory. The program doesn't call it.
@@ -21,5 +21,5 @@ mod window;
 
 pub use edits::{push_item, push_window, reports_behind};
 pub use outcomes::{is_failed, is_finished, slot_among, slot_where};
-pub use verdict::{Marks, verdict_of};
+pub use verdict::{Marks, is_cut, verdict_of};
 pub use window::{grow, shrink, window_behind};

@@ -1,5 +1,5 @@
-//! What the jobs of an item say of it, and why it goes.
-ghost use Rattle.std.specs.Prelude.{◌≡◌, Option, not, if◌then◌else◌};
+//! What the jobs of an item say of it, whether it is cut, and why it goes.
+ghost use Rattle.std.specs.Prelude.{◌≡◌, ◌&&◌, Option, not, if◌then◌else◌};
 
 use gate_types::records::Verdict;
 
@@ -10,6 +10,13 @@ pub struct Marks {
     pub failed: bool,
     /// The builds of each job have decided it.
     pub decided: bool,
+}
+
+/// Whether an item is cut, so that none of its jobs runs on: it is to fail fast, isn't blocked, and has failed.
+pub fn is_cut(fast: bool, blocked: bool, failed: bool) -> bool
+    ensures { result ≡ fast && not blocked && failed }
+{
+    fast && !blocked && failed
 }
 
 /// Why an item goes, if it goes: a need that isn't met decides before a failure.

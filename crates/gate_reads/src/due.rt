@@ -1,5 +1,5 @@
 //! The build that is due of one item.
-ghost use Rattle.std.specs.Prelude.{◌≡◌, ◌&&◌, ◌==◌, IfOk, IfErr, option_map, slice_get};
+ghost use Rattle.std.specs.Prelude.{◌≡◌, ◌==◌, IfOk, IfErr, option_map, slice_get};
 ghost use Rattle.std.specs.List.{list_any};
 ghost use Rattle.gate_types.specs.State.{Queue};
 ghost use Rattle.gate_types.specs.Line.{Place};
@@ -15,6 +15,7 @@ ghost use Rattle.gate_reads.specs.Places.{IsBehind, are_met_among, build_on};
 use crate::jobs::first_waiting;
 use crate::known::needs_of;
 use gate_book_trait::{Book, BookFault};
+use gate_queue::is_cut;
 use gate_types::config::{Config, Job};
 use gate_types::names::Name;
 use gate_types::numbers::{BuildNo, ChangeNo};
@@ -79,13 +80,6 @@ fn build_on<B: Book>(
     })
 }
 
-/// Whether an item that isn't blocked is cut: it fails, and is to fail fast.
-fn is_cut(told: &ToldItem) -> bool
-    ensures { result ≡ told.now.fast && told.now.row.failing }
-{
-    told.fast && told.row.failing
-}
-
 /// Whether an item with these changes ahead is blocked. Only a failing one can be: the needs of others aren't read.
 fn is_blocked<B: Book>(
     alloc: Global,
@@ -125,7 +119,7 @@ pub(crate) fn build_of_item<B: Book>(
     ensures kept { IsKept B.IsTrusted B.Holds B.LeavesOneOf book.old book.new }
     ensures fault { IfErr result (MayAnswer B.MayFault) }
 {
-    if is_cut(told) {
+    if is_cut(told.fast, false, told.row.failing) {
         return Ok(None);
     }
     let Some(job) = first_waiting(alloc, told.builds, told.jobs)? else {

@@ -8,11 +8,10 @@ ghost use Rattle.gate_texts.specs.Items as told;
 
 use crate::ahead::is_blocked;
 use crate::lines::slot_word;
-use crate::status_text::is_cut;
 use crate::values::{in_quotes, push_entry};
 use gate_archive::{Archive, BuildSummary, LeftItem};
 use gate_book_trait::{Book, BookFault, QueuedItem, plan_of};
-use gate_queue::{slot_among, slot_where};
+use gate_queue::{is_cut, slot_among, slot_where};
 use gate_types::config::{Config, Job};
 use gate_types::limits::MOST_LISTED;
 use gate_types::names::{Name, NoMemory, Text};

@@ -1,5 +1,5 @@
 //! The status text.
-ghost use Rattle.std.specs.Prelude.{◌≡◌, ◌&&◌, not, ℕ, List, Some, IfOk, IfErr, string_bytes, flat_map};
+ghost use Rattle.std.specs.Prelude.{◌≡◌, ℕ, List, Some, IfOk, IfErr, string_bytes, flat_map};
 ghost use Rattle.gate_types.specs.State.{Queue, known_or_closed};
 ghost use Rattle.gate_types.specs.Line.{Place};
 ghost use Rattle.gate_types.specs.Standing.{places};
@@ -11,19 +11,13 @@ ghost use Rattle.gate_reads.specs.Places.{IsBehind};
 
 use crate::lines::{item_line, queue_line, waiting_line};
 use gate_book_trait::{Book, BookFault, plan_of};
+use gate_queue::is_cut;
 use gate_reads::{are_met_among, needs_of, push_unless_failing};
 use gate_types::config::Config;
 use gate_types::names::{Name, Text};
 use gate_types::records::{Change, Entry, Item, Ready};
 use gate_types::sequence::Sequence;
 use std::alloc::Global;
-
-/// Whether an item is cut: it fails by its jobs, and is to fail fast.
-pub(crate) fn is_cut(fast: bool, blocked: bool, failing: bool) -> bool
-    ensures { result ≡ fast && not blocked && failing }
-{
-    fast && !blocked && failing
-}
 
 /// The line of an item with these changes ahead.
 fn item_text<B: Book>(

@@ -1,11 +1,11 @@
 //! What a walk sees of a row, and what it makes of it.
-ghost use Rattle.std.specs.Prelude.{◌≡◌, ◌&&◌, ◌||◌, not, IfOk};
+ghost use Rattle.std.specs.Prelude.{◌≡◌, ◌||◌, IfOk};
 ghost use Rattle.std.specs.List.{list_all};
 ghost use Rattle.gate_types.specs.Slot as rules;
 ghost use Rattle.gate_queue.specs.Outcomes.{slot_among};
 ghost use Rattle.gate_walk.specs.Walk as walk;
 
-use gate_queue::{Marks, is_failed, is_finished, slot_among, verdict_of};
+use gate_queue::{Marks, is_cut, is_failed, is_finished, slot_among, verdict_of};
 use gate_types::config::Job;
 use gate_types::names::NoMemory;
 use gate_types::numbers::ChangeNo;
@@ -133,12 +133,6 @@ fn marks_among(alloc: Global, builds: &[Build], jobs: &[Job]) -> Result<Marks, N
     Ok(Marks { failed, decided })
 }
 
-fn is_cut(fast: bool, blocked: bool, jobs: Marks) -> bool
-    ensures { result ≡ fast && not blocked && jobs.failed }
-{
-    fast && !blocked && jobs.failed
-}
-
 fn is_done(cut: bool, jobs: Marks) -> bool
     ensures { result ≡ cut || jobs.decided }
 {
@@ -165,7 +159,7 @@ pub(crate) fn judge(
     let blocked = is_blocked_by(marks, needs);
     let jobs = marks_among(alloc, counting, jobs)?;
     let failing = blocked || jobs.failed;
-    let cut = is_cut(fast, blocked, jobs);
+    let cut = is_cut(fast, blocked, jobs.failed);
     let failed = failing && !blocked && first && is_done(cut, jobs);
     Ok(Judged {
         failing,

@@ -5,7 +5,7 @@ ghost use Rattle.gate_types.specs.Standing.{is_failing};
 ghost use Rattle.gate_types.specs.Sweep as sweep;
 ghost use Rattle.gate_queue.specs.WholeQueue.Facts.{place_of};
 
-use crate::verdict::{Marks, verdict_of};
+use crate::verdict::{Marks, is_cut, verdict_of};
 use crate::whole_queue::context::{BareItem, ItemContext, are_met_by};
 use crate::whole_queue::slots::marks_of;
 use gate_types::names::NoMemory;
@@ -19,13 +19,6 @@ pub(crate) struct Ruling {
     pub failing: bool,
     pub cut: bool,
     pub verdict: Option<Verdict>,
-}
-
-/// Whether no more is wanted of an item that isn't blocked.
-fn is_cut(fast: bool, marks: Marks) -> bool
-    ensures { result ≡ fast && marks.failed }
-{
-    fast && marks.failed
 }
 
 /// Whether an item that isn't blocked has failed, where it is first or not.
@@ -57,7 +50,7 @@ pub(crate) fn judge(
         });
     }
     let marks = marks_of(alloc, context, builds)?;
-    let cut = is_cut(context.fast, marks);
+    let cut = is_cut(context.fast, false, marks.failed);
     let failed = has_failed(context.ahead.is_empty(), cut, marks);
     Ok(Ruling {
         blocked: false,
