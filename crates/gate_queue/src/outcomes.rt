@@ -5,6 +5,7 @@ ghost use Rattle.gate_types.specs.Slot as rules;
 ghost use Rattle.gate_queue.specs.Outcomes.{outcomes_among, slot_among};
 
 use gate_types::config::Job;
+use gate_types::limits::MOST_TRIES;
 use gate_types::names::{NoMemory, same_name};
 use gate_types::records::{Build, Outcome, Slot};
 use std::alloc::Global;
@@ -42,7 +43,7 @@ pub fn slot_of_outcomes(outcomes: &[Outcome]) -> Slot
 {
     if has_success(outcomes) {
         Slot::Success
-    } else if has_failure(outcomes) || count_lost(outcomes) >= 3 {
+    } else if has_failure(outcomes) || count_lost(outcomes) >= MOST_TRIES {
         Slot::Failure
     } else if has_running(outcomes) {
         Slot::Running

@@ -30,3 +30,7 @@ most_needs = 32
 -- the most reports, deliveries or builds that one answer lists
 abbrev pub most_listed : ℕ
 most_listed = 1000
+
+-- the tries of a job: it has failed when so many of its builds are lost
+abbrev pub most_tries : ℕ
+most_tries = 3

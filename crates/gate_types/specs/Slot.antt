@@ -9,6 +9,7 @@ use Rattle.gate_types.specs.declared.records.Build.{Build}
 use Rattle.gate_types.specs.declared.records.Need.{Need}
 use Rattle.gate_types.specs.declared.records.Outcome.TheVariants as outcome
 use Rattle.gate_types.specs.declared.records.Slot.TheVariants as slot
+use Rattle.gate_types.specs.Limits.{most_tries}
 use Rattle.gate_types.specs.Needs.{needs}
 use Rattle.gate_types.specs.Names.{same_name}
 use Rattle.gate_types.specs.State.{Item, has_change}
@@ -54,7 +55,7 @@ outcomes_of builds p job = map (λ b. b.outcome) (filter (λ b. same_name b.job 
 abbrev pub slot_of_outcomes : List Outcome → Slot
 slot_of_outcomes os =
     if list_any is_success os then slot.Success else (
-    if list_any is_failure os || nat_le 3 (count_by is_lost os) then slot.Failure else (
+    if list_any is_failure os || nat_le most_tries (count_by is_lost os) then slot.Failure else (
     if list_any is_running os then slot.Running else slot.Waiting))
 
 -- one build failed, or three were lost

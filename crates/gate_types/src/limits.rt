@@ -23,3 +23,6 @@ pub const MOST_NEEDS: usize = 32;
 
 /// The most reports, deliveries or builds that one answer lists.
 pub const MOST_LISTED: u64 = 1000;
+
+/// The tries of a job: it has failed when so many of its builds are lost.
+pub const MOST_TRIES: usize = 3;

@@ -5,6 +5,7 @@ use Rattle.std.specs.List.{list_any, position}
 use Rattle.gate_types.specs.declared.config.Job.{Job}
 use Rattle.gate_types.specs.declared.records.Item.{Item as ItemRow}
 use Rattle.gate_types.specs.declared.records.Build.{Build}
+use Rattle.gate_types.specs.Limits.{most_tries}
 use Rattle.gate_types.specs.Names.{same_name}
 use Rattle.gate_types.specs.Slot.{is_success, is_failure, is_lost}
 use Rattle.gate_queue.specs.declared.whole_queue.facts.ItemJobs.{ItemJobs}
@@ -13,18 +14,18 @@ use Rattle.gate_queue.specs.declared.whole_queue.facts.ItemJobs.{ItemJobs}
 abbrev pub is_of : ℕ → Job → Build → Bool
 is_of serial job b = b.live && b.serial == serial && same_name b.job job.name
 
--- all of them are lost, fewer than three
+-- all of them are lost, and another try is left
 abbrev pub waits : ℕ → List Build → Job → Bool
 waits serial builds job =
     not (list_any (λ b. is_of serial job b && not (is_lost b.outcome)) builds) &&
-    nat_lt (count_by (λ b. is_of serial job b && is_lost b.outcome) builds) 3
+    nat_lt (count_by (λ b. is_of serial job b && is_lost b.outcome) builds) most_tries
 
--- none has passed, and one has failed or three are lost
+-- none has passed, and one has failed or all tries are lost
 abbrev pub fails : ℕ → List Build → Job → Bool
 fails serial builds job =
     not (list_any (λ b. is_of serial job b && is_success b.outcome) builds) &&
     (list_any (λ b. is_of serial job b && is_failure b.outcome) builds ||
-    nat_le 3 (count_by (λ b. is_of serial job b && is_lost b.outcome) builds))
+    nat_le most_tries (count_by (λ b. is_of serial job b && is_lost b.outcome) builds))
 
 -- an item gets no more builds: it is blocked, or a voting job fails and it is to fail fast
 abbrev pub is_over : List Build → ItemRow → ItemJobs → Bool

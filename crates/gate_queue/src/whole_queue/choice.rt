@@ -8,6 +8,7 @@ ghost use Rattle.gate_queue.specs.WholeQueue.Waiting as waiting;
 
 use crate::whole_queue::facts::{ItemJobs, Jobs};
 use gate_types::config::Job;
+use gate_types::limits::MOST_TRIES;
 use gate_types::names::same_name;
 use gate_types::numbers::Serial;
 use gate_types::records::{Build, Item, Outcome};
@@ -42,14 +43,14 @@ fn count_lost(serial: Serial, builds: &[Build], job: &Job) -> usize
         .count()
 }
 
-/// Whether the job has no live build but up to two lost ones.
+/// Whether the job has no live build but lost ones, and another try is left.
 fn waits(serial: Serial, builds: &[Build], job: &Job) -> bool
     ensures { result ≡ waiting.waits serial builds.now job.now }
 {
     if has_told(serial, builds, job) {
         return false;
     }
-    count_lost(serial, builds, job) < 3
+    count_lost(serial, builds, job) < MOST_TRIES
 }
 
 fn is_success(outcome: Outcome) -> bool
@@ -78,14 +79,14 @@ fn has_failed(serial: Serial, builds: &[Build], job: &Job) -> bool
     builds.iter().any(|build| is_of(serial, job, build) && is_failure(build.outcome))
 }
 
-/// Whether the job has failed: none of its live builds has passed, and one has failed or three are lost.
+/// Whether the job has failed: none of its live builds has passed, and one has failed or all its tries are lost.
 fn fails(serial: Serial, builds: &[Build], job: &Job) -> bool
     ensures { result ≡ waiting.fails serial builds.now job.now }
 {
     if has_passed(serial, builds, job) {
         return false;
     }
-    has_failed(serial, builds, job) || count_lost(serial, builds, job) >= 3
+    has_failed(serial, builds, job) || count_lost(serial, builds, job) >= MOST_TRIES
 }
 
 fn some_vote_fails(serial: Serial, builds: &[Build], jobs: &[Job]) -> bool
