@@ -19,7 +19,8 @@ use Rattle.gate_core.specs.Answered.{Answered, call}
 use Rattle.gate_core.specs.declared.gate.Gate.{Gate}
 use Rattle.gate_core.specs.Gated.{Gated}
 use Rattle.gate_core.specs.Holding.{GateHolds, OfGate}
-use Rattle.gate_core.specs.Limit.{limit, too_large}
+use Rattle.gate_core.specs.Limit.{too_large}
+use Rattle.gate_types.specs.Limits.{most_bytes}
 use Rattle.gate_wire.specs.declared.door.Door.TheVariants as door
 use Rattle.gate_wire.specs.Reading.{says}
 use Rattle.gate_core.specs.Runs.{Answers, Runs, Broke}
@@ -54,7 +55,7 @@ told_by leaves old new g after line text u long r hl hr said stands left =
     )
 
 -- a line within the limit isn't too long
-fits : (line : List ℕ) → length line ≤ limit → is_too_long line ≡ false
+fits : (line : List ℕ) → length line ≤ most_bytes → is_too_long line ≡ false
 fits line h = search rules
 
 -- the text of a call's answer, marked or not
@@ -66,7 +67,7 @@ answered c x id d false = refl
 
 -- a line that says a delivery, by its answer
 told_call : {B : Type 0} (leaves : B → Settings → List Content → Type 0) (old new : Gate B) (g : Gated)
-    (line text : List ℕ) (id : Id) (d : Delivery) (a : Answer) → length line ≤ limit → says door.Any line ≡ Ok (id, d) →
+    (line text : List ℕ) (id : Id) (d : Delivery) (a : Answer) → length line ≤ most_bytes → says door.Any line ≡ Ok (id, d) →
     text ≡ answer_text a →
     (let k : Call = record { id = id; delivery = d; unavailable = is_unavailable a } in
     a ≡ answer_of g.settings g.content k → LeavesBy leaves old new g (k ∷ []) →
@@ -84,7 +85,7 @@ stays_marked g (Err e) = refl
 
 -- a line that is refused before any delivery is heard, by whether that is for want of memory
 told_by_refusal : {B : Type 0} (leaves : B → Settings → List Content → Type 0) → MayLeaveMore leaves →
-    (gate : Gate B) (g : Gated) (line : List ℕ) (r : Refusal) (u : Bool) → length line ≤ limit →
+    (gate : Gate B) (g : Gated) (line : List ℕ) (r : Refusal) (u : Bool) → length line ≤ most_bytes →
     is_unavailable (answer.Refused r) ≡ u → (r ≢ refusal.Unavailable → says door.Any line ≡ Err r) →
     ToldOver leaves gate gate line (refusal_text r) g g
 told_by_refusal leaves more gate g line refusal.Unavailable true short e said =
@@ -99,13 +100,13 @@ told_by_refusal leaves more gate g line r true short e said = absurd (true≢fal
 
 -- a line that is refused before any delivery is heard
 pub told_refusal : {B : Type 0} (leaves : B → Settings → List Content → Type 0) → MayLeaveMore leaves →
-    (gate : Gate B) (g : Gated) (line : List ℕ) (r : Refusal) → length line ≤ limit →
+    (gate : Gate B) (g : Gated) (line : List ℕ) (r : Refusal) → length line ≤ most_bytes →
     (r ≢ refusal.Unavailable → says door.Any line ≡ Err r) → ToldOver leaves gate gate line (refusal_text r) g g
 told_refusal leaves more gate g line r short said =
     told_by_refusal leaves more gate g line r (is_unavailable (answer.Refused r)) short refl said
 
 -- a line over the limit is
-long : (line : List ℕ) → limit < length line → is_too_long line ≡ true
+long : (line : List ℕ) → most_bytes < length line → is_too_long line ≡ true
 long line h = search rules
 
 -- lines in two parts, one after the other
@@ -138,7 +139,7 @@ goes_on trusted holds old mid new P Q R first next both = record {
 pub goes_told : {B : Type 0} (trusted : B → Type 0) (holds : B → Settings → Content → Type 0)
     (leaves : B → Settings → List Content → Type 0) (old new : Gate B) (line : List ℕ) (id : Id) (d : Delivery)
     (a : Answer) (text : List ℕ) → new.config ≡ old.config → (trusted new.book → trusted old.book) →
-    length line ≤ limit → says door.Any line ≡ Ok (id, d) → text ≡ answer_text a →
+    length line ≤ most_bytes → says door.Any line ≡ Ok (id, d) → text ≡ answer_text a →
     OfGate trusted holds old new (λ x. Answered old.config x (call id d (is_unavailable a)) a (GateHolds holds new)
     (leaves old.book old.config) (leaves new.book old.config)) →
     Tells trusted holds leaves old line text new

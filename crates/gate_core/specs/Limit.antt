@@ -1,11 +1,7 @@
--- The longest line and the longest read.
+-- The longest read, and the answer to a line over the limit.
 use Rattle.std.specs.Prelude.{ℕ, List, codes}
 
--- the longest line that is acted on, without its LF
-abbrev pub limit : ℕ
-limit = 65536
-
--- what a longer one is answered
+-- what a line of over `most_bytes` is answered
 abbrev pub too_large : List ℕ
 too_large = codes "{\"error\":\"too-large\"}"
 

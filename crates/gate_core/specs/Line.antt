@@ -1,14 +1,14 @@
 -- What a held line stands for.
 use Rattle.std.specs.Prelude.{◌≡◌, ◌⊎◌, ℕ, ◌<◌, ◌≤◌, List, [], length, true, false, Option, MatchOption}
 use denote.Ref.{Bor}
-use Rattle.gate_core.specs.Limit.{limit}
+use Rattle.gate_types.specs.Limits.{most_bytes}
 use Rattle.gate_core.specs.declared.line.Line.{Line}
 
 -- it has these bytes, or knows that they are too many
 pub record Holds (line : Line) (begun : List ℕ) : Type 0 where
   pub state : ((line.long ≡ false) × (line.bytes.items ≡ begun))
-      ⊎ ((line.long ≡ true) × (line.bytes.items ≡ [] → ⊥) × (limit < length begun))
+      ⊎ ((line.long ≡ true) × (line.bytes.items ≡ [] → ⊥) × (most_bytes < length begun))
 
 -- it is given, or known to be too long
 abbrev pub Shows : Option (Bor (List ℕ)) → List ℕ → Type 0
-Shows shown begun = MatchOption shown (limit < length begun) (λ s. (s.now ≡ begun) × (length begun ≤ limit))
+Shows shown begun = MatchOption shown (most_bytes < length begun) (λ s. (s.now ≡ begun) × (length begun ≤ most_bytes))

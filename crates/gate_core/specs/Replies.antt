@@ -9,7 +9,8 @@ use Rattle.gate_types.specs.declared.deliveries.Refusal.TheVariants as refusal
 use Rattle.gate_types.specs.Once.{Call, once, answer_of, answer_text, answers}
 use Rattle.gate_types.specs.Refusals.{refusal_text}
 use Rattle.gate_core.specs.Gated.{Gated}
-use Rattle.gate_core.specs.Limit.{limit, too_large}
+use Rattle.gate_core.specs.Limit.{too_large}
+use Rattle.gate_types.specs.Limits.{most_bytes}
 use Rattle.gate_wire.specs.declared.door.Door.TheVariants as door
 use Rattle.gate_wire.specs.Reading.{says}
 
@@ -20,7 +21,7 @@ pub record Marked : Type 0 where
 
 -- a line over the limit is skipped
 abbrev pub is_too_long : List ℕ → Bool
-is_too_long line = nat_lt limit (length line)
+is_too_long line = nat_lt most_bytes (length line)
 
 -- the call that was read, if any
 abbrev pub call_read : Bool → Result (Id × Delivery) Refusal → List Call

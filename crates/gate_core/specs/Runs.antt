@@ -3,7 +3,8 @@ use Rattle.std.specs.Prelude.{◌≡◌, ◌⊎◌, ℕ, ◌<◌, ◌≤◌, Lis
 use Rattle.std.specs.Io.KnownBytes.{Appends}
 use Rattle.gate_types.specs.declared.tap.Tap.{Tap}
 use Rattle.gate_types.specs.Tap.{inside}
-use Rattle.gate_core.specs.Limit.{limit, too_large}
+use Rattle.gate_core.specs.Limit.{too_large}
+use Rattle.gate_types.specs.Limits.{most_bytes}
 
 -- which text a line may get in a state, and which state is left then
 abbrev pub Replying : Type 0 → Type 1
@@ -12,8 +13,8 @@ Replying S = S → List ℕ → List ℕ → S → Type 0
 -- a line within the limit is answered by its replies; a longer one is too large, and changes nothing
 abbrev pub Answers : {S : Type 0} → Replying S → S → List ℕ → List ℕ → S → Type 0
 Answers replies s line text after =
-    ((length line ≤ limit) × replies s line text after)
-    ⊎ ((limit < length line) × (text ≡ too_large) × (after ≡ s))
+    ((length line ≤ most_bytes) × replies s line text after)
+    ⊎ ((most_bytes < length line) × (text ≡ too_large) × (after ≡ s))
 
 -- the lines are answered in order, each by a text and an LF
 abbrev pub Runs : {S : Type 0} → Replying S → S → List (List ℕ) → List ℕ → S → Type 0

@@ -3,7 +3,7 @@ ghost use Rattle.std.specs.Prelude.{◌≡◌, ◌≤◌, ◌+◌, ◌++◌, ◌
 ghost use Rattle.std.specs.Prelude.{length};
 ghost use Rattle.std.specs.Io.Iter.{u64_saturate};
 ghost use Rattle.gate_types.specs.Tap.{inside, has_failed, Gave, IsReadOut, Took, TookFront};
-ghost use Rattle.gate_core.specs.Limit.{limit};
+ghost use Rattle.gate_types.specs.Limits.{most_bytes};
 ghost use Rattle.gate_core.specs.Line.{Holds};
 ghost use Rattle.gate_core.specs.Gathered.{whole_from, rest_from};
 ghost use Rattle.gate_core.specs.Lines.{whole_lines, lines_of, ReadFor};
@@ -32,7 +32,7 @@ pub trait AnswerLines {
     ghost replies: { Self → List ℕ → List ℕ → Self → Type 0 };
 
     fn respond(&mut self, alloc: Global, line: &[u8]) -> LineAnswer
-        requires { length line.now ≤ limit }
+        requires { length line.now ≤ most_bytes }
         ensures { replies self.old line.now (text_of result) self.new };
 }
 

@@ -1,20 +1,18 @@
 //! The line that is being read.
 ghost use Rattle.std.specs.Prelude.{◌≡◌, ◌≤◌, ◌++◌, ◌∷◌, [], ℕ, List, IfOk, IfSome, length, IsTrue, ◌↔◌, vec_len};
 ghost use Rattle.std.specs.Prelude.{vec_capacity};
-ghost use Rattle.gate_core.specs.Limit.{limit};
+ghost use Rattle.gate_types.specs.Limits.{most_bytes};
 
+use gate_types::limits::MOST_BYTES;
 use std::alloc::{AllocError, Global};
-
-/// The longest line that is acted on.
-pub const LIMIT: usize = 65536;
 
 /// What has come of a line, or that it is too long.
 #[derive(Drop)]
 pub struct Line {
     bytes: Vec<u8>,
     long: bool,
-    ghost room: { limit ≤ vec_capacity bytes },
-    ghost within: { vec_len bytes ≤ limit },
+    ghost room: { most_bytes ≤ vec_capacity bytes },
+    ghost within: { vec_len bytes ≤ most_bytes },
 }
 
 impl Line {
@@ -24,7 +22,7 @@ impl Line {
         ensures { IfOk result (λ line. Holds line []) }
     {
         Ok(Line {
-            bytes: Vec::with_capacity(alloc, LIMIT)?,
+            bytes: Vec::with_capacity(alloc, MOST_BYTES)?,
             long: false,
         })
     }
@@ -32,7 +30,7 @@ impl Line {
     pub(crate) fn push(&mut self, byte: u8)
         ensures { (begun : List ℕ) → Holds self.old begun → Holds self.new (begun ++ byte ∷ []) }
     {
-        if self.bytes.len() < LIMIT {
+        if self.bytes.len() < MOST_BYTES {
             self.bytes.push_reserved(byte);
         } else {
             self.long = true;
@@ -48,7 +46,7 @@ impl Line {
 
     /// The line, or nothing where it is too long.
     pub(crate) fn get(&self) -> Option<&[u8]>
-        ensures within { IfSome result (λ s. length s.now ≤ limit) }
+        ensures within { IfSome result (λ s. length s.now ≤ most_bytes) }
         ensures shows { (begun : List ℕ) → Holds self.now begun → Shows result begun }
     {
         if self.long {

@@ -14,7 +14,8 @@ use Rattle.gate_http.specs.declared.routes.Route.TheVariants as route
 use Rattle.gate_wire.specs.declared.door.Door.{Door}
 use Rattle.gate_wire.specs.declared.door.Door.TheVariants as door
 use Rattle.gate_http.specs.Digits.{are_digits}
-use Rattle.gate_http.specs.Fields.{Pair, length_within, length_in, length_unless, length_of, named as named_of, body_limit}
+use Rattle.gate_http.specs.Fields.{Pair, length_within, length_in, length_unless, length_of, named as named_of}
+use Rattle.gate_types.specs.Limits.{most_bytes}
 use Rattle.gate_http.specs.Asked.{later_history}
 use Rattle.gate_http.specs.Routes.{route_of, path_of, queue_in, place_in}
 use Rattle.gate_http.specs.Way.{Decided, refused, posted, shown, recalled, posted_of, by_post, by_get, read_at}
@@ -24,11 +25,11 @@ abbrev pub FitsBody : BodyLength → Type 0
 FitsBody body.Missing = ⊤
 FitsBody body.Bad = ⊤
 FitsBody body.Long = ⊤
-FitsBody (body.Bytes n) = n ≤ body_limit
+FitsBody (body.Bytes n) = n ≤ most_bytes
 
 abbrev pub IsBounded : Decided → Type 0
 IsBounded (refused f b) = ⊤
-IsBounded (posted d n) = n ≤ body_limit
+IsBounded (posted d n) = n ≤ most_bytes
 IsBounded (shown asked) = ⊤
 IsBounded (recalled wanted) = ⊤
 
@@ -36,12 +37,12 @@ abbrev pub IsBoundedIf : Option Decided → Type 0
 IsBoundedIf None = ⊤
 IsBoundedIf (Some d) = IsBounded d
 
-fits_either : (t : Bool) (n : ℕ) → ltb body_limit n ≡ t → FitsBody (cond t body.Long (body.Bytes n))
+fits_either : (t : Bool) (n : ℕ) → ltb most_bytes n ≡ t → FitsBody (cond t body.Long (body.Bytes n))
 fits_either true n e = tt
-fits_either false n e = ltb-false body_limit n e
+fits_either false n e = ltb-false most_bytes n e
 
 fits_within : (n : ℕ) → FitsBody (length_within n)
-fits_within n = fits_either (ltb body_limit n) n refl
+fits_within n = fits_either (ltb most_bytes n) n refl
 
 fits_cond : (t : Bool) (a b : BodyLength) → FitsBody a → FitsBody b → FitsBody (cond t a b)
 fits_cond true a b h k = h
@@ -95,5 +96,5 @@ bounded_of (Some h) = bounded_route h (path_of h.target) (route_of (path_of h.ta
 pub bounded : (head : List ℕ) (found : Option RequestHead) → IsBounded (decided head found)
 bounded head found = bounded_cond _ (refused fault.HeadTooLarge false) (decided_of found) tt (bounded_of found)
 
-pub posted_within : (head : List ℕ) (found : Option RequestHead) (d : Door) (n : ℕ) → posted d n ≡ decided head found → n ≤ body_limit
+pub posted_within : (head : List ℕ) (found : Option RequestHead) (d : Door) (n : ℕ) → posted d n ≡ decided head found → n ≤ most_bytes
 posted_within head found d n e = subst IsBounded (sym e) (bounded head found)

@@ -2,6 +2,7 @@
 use Rattle.std.specs.Prelude.{ℕ, Bool, List, [], ◌∷◌, filter, nat_lt, if◌then◌else◌, codes}
 use Rattle.std.specs.Str.{str_eq_ignore_ascii_case}
 use Rattle.std.specs.Str.Parse.{digits_value}
+use Rattle.gate_types.specs.Limits.{most_bytes}
 use Rattle.gate_http.specs.declared.fields.BodyLength.{BodyLength}
 use Rattle.gate_http.specs.declared.fields.BodyLength.TheVariants as body
 use Rattle.gate_http.specs.Digits.{are_digits}
@@ -17,13 +18,9 @@ is_named name field = str_eq_ignore_ascii_case field.0 name
 abbrev pub named : List ℕ → List Pair → List Pair
 named name fields = filter (is_named name) fields
 
--- the longest body
-abbrev pub body_limit : ℕ
-body_limit = 65536
-
 -- a length, by the longest
 abbrev pub length_within : ℕ → BodyLength
-length_within n = if nat_lt body_limit n then body.Long else body.Bytes n
+length_within n = if nat_lt most_bytes n then body.Long else body.Bytes n
 
 -- the length that a value says
 abbrev pub length_said : List ℕ → BodyLength

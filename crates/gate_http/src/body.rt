@@ -7,9 +7,6 @@ ghost use Rattle.gate_http.specs.Parts.{BodyComes};
 use gate_types::tap::{Failed, Tap};
 use std::io::Read;
 
-/// The longest body.
-pub(crate) const BODY_LIMIT: usize = 65536;
-
 /// Reads n bytes, or as many as there are, and tells whether there were n.
 pub(crate) fn read_body<R: Read>(
     reader: &mut Tap<R>,

@@ -3,10 +3,10 @@ ghost use Rattle.std.specs.Prelude.{◌≡◌, ◌≤◌, [], false, true, OnOk,
 ghost use Rattle.gate_types.specs.Tap.{inside, has_failed};
 ghost use Rattle.gate_http.specs.Routes.{routes};
 ghost use Rattle.gate_http.specs.Exchange.{AnswersTo, BreaksTo, StopsAt, Waits};
-ghost use Rattle.gate_http.specs.Fields.{body_limit};
+ghost use Rattle.gate_types.specs.Limits.{most_bytes};
 
 use crate::answering::{answer_wanted, refuse, tell};
-use crate::body::{BODY_LIMIT, read_body};
+use crate::body::read_body;
 use crate::fault::HttpFault;
 use crate::head::{Came, HEAD_LIMIT, read_head};
 use crate::request::{Decision, decide};
@@ -15,6 +15,7 @@ use crate::respond::{Respond, Told};
 use crate::response::{Form, HEAD_ROOM};
 use crate::routes::{Route, router};
 use crate::served::Served;
+use gate_types::limits::MOST_BYTES;
 use gate_types::tap::Tap;
 use matchit::Router;
 use std::alloc::Global;
@@ -35,7 +36,7 @@ fn answer<G: Respond, R: Read, W: Write>(
     requires writer { has_failed writer.old ≡ false }
     requires router { router.now ≡ routes }
     requires head { (head.old.items ≡ []) × (8192 ≤ vec_capacity head.old) }
-    requires body { (body.old.items ≡ []) × (body_limit ≤ vec_capacity body.old) }
+    requires body { (body.old.items ≡ []) × (most_bytes ≤ vec_capacity body.old) }
     requires room { (room.old.items ≡ []) × (256 ≤ vec_capacity room.old) }
     ensures ok { IfOk result (λ served. AnswersTo G.responds G.recalls R.remaining W.contents
         reader.old reader.new gate.old gate.new writer.old writer.new served) }
@@ -109,7 +110,7 @@ pub fn answer_request<G: Respond, R: Read, W: Write>(
     match (
         router(alloc),
         Vec::with_capacity(alloc, HEAD_LIMIT),
-        Vec::with_capacity(alloc, BODY_LIMIT),
+        Vec::with_capacity(alloc, MOST_BYTES),
         Vec::with_capacity(alloc, HEAD_ROOM),
     ) {
         (Ok(router), Ok(mut head), Ok(mut body), Ok(mut room)) => answer(

@@ -5,8 +5,8 @@ ghost use Rattle.httparse.specs.Spans.{IsHeaderWithin, header_bytes};
 ghost use Rattle.gate_http.specs.Fields.{named, length_of, length_said};
 ghost use Rattle.gate_http.specs.Parts.{ShowsNamed};
 
-use crate::body::BODY_LIMIT;
 use crate::digits::number_of;
+use gate_types::limits::MOST_BYTES;
 use httparse::spans::{HeaderSpan, Span};
 
 /// The length of a body.
@@ -55,9 +55,9 @@ fn find_named(head: &[u8], headers: &[HeaderSpan], name: &[u8]) -> NamedField
 fn length_said(value: &[u8]) -> BodyLength
     ensures { result ≡ length_said value.now }
 {
-    match number_of(value, BODY_LIMIT) {
+    match number_of(value, MOST_BYTES) {
         None => BodyLength::Bad,
-        Some(n) if n > BODY_LIMIT => BodyLength::Long,
+        Some(n) if n > MOST_BYTES => BodyLength::Long,
         Some(n) => BodyLength::Bytes(n),
     }
 }

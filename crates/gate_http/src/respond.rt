@@ -7,7 +7,7 @@ ghost use Rattle.gate_http.specs.Asked.{Asked, delivery, page, build, change, it
 ghost use Rattle.gate_http.specs.Asked.{told_text};
 ghost use Rattle.gate_http.specs.Asked.{Streamed, streamed_by};
 ghost use Rattle.gate_http.specs.Exchange.{HasText, Stops};
-ghost use Rattle.gate_http.specs.Fields.{body_limit};
+ghost use Rattle.gate_types.specs.Limits.{most_bytes};
 
 use crate::fault::HttpFault;
 use gate_types::deliveries::Answer;
@@ -122,7 +122,7 @@ pub trait Respond {
 
     /// The answer to a delivery's bytes, by the door that they came in by.
     fn hear(&mut self, alloc: Global, door: Door, body: &[u8]) -> Answer
-        requires { length body.now ≤ body_limit }
+        requires { length body.now ≤ most_bytes }
         ensures { responds self.old (delivery door body.now) (Told.Answer result) self.new };
 
     /// A page.

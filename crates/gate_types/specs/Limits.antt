@@ -34,3 +34,7 @@ most_listed = 1000
 -- the tries of a job: it has failed when so many of its builds are lost
 abbrev pub most_tries : ℕ
 most_tries = 3
+
+-- the most bytes of a delivery: of a line without its LF, or of a body
+abbrev pub most_bytes : ℕ
+most_bytes = 65536

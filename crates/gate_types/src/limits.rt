@@ -26,3 +26,6 @@ pub const MOST_LISTED: u64 = 1000;
 
 /// The tries of a job: it has failed when so many of its builds are lost.
 pub const MOST_TRIES: usize = 3;
+
+/// The most bytes of a delivery: of a line without its LF, or of a body.
+pub const MOST_BYTES: usize = 65536;

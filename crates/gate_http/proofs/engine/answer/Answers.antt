@@ -15,7 +15,7 @@ use Rattle.gate_http.proofs.ExchangeLemmas.{read_as, read_nothing, read_part, re
 use Rattle.gate_http.proofs.ExchangeLemmas.{read_wanted, read_posted, read_cut, body_waits}
 use Rattle.gate_http.proofs.WriteLemmas.{told_whole, told_front, comes_read, comes_begun, refused_read, refused_begun}
 use Rattle.gate_http.proofs.engine.answer.Goals as goal
-use Rattle.gate_http.specs.Fields.{body_limit}
+use Rattle.gate_types.specs.Limits.{most_bytes}
 
 pub returns-in-Ok-Nothing-clause-ok : goal.returns-in-Ok-Nothing-clause-ok
 returns-in-Ok-Nothing-clause-ok g c =
@@ -50,7 +50,7 @@ returns-in-Ok-TooMuch-clause-write g c =
 pub read_body-requires-clause-room : goal.read_body-requires-clause-room
 read_body-requires-clause-room g c =
     let d = c.in-Post.ensures in
-    let fits : c.in-Post.n ≤ body_limit = posted_within c.as_slice.result.now d.0 c.in-Post.door c.in-Post.n d.2 in
+    let fits : c.in-Post.n ≤ most_bytes = posted_within c.as_slice.result.now d.0 c.in-Post.door c.in-Post.n d.2 in
     omega (arith, fits, c.requires.body.1)
 
 pub returns-in-Refuse-clause-ok : goal.returns-in-Refuse-clause-ok
