@@ -15,6 +15,7 @@ use Rattle.sqlite_sql.specs.Group.{Aggregate, Grouping, IsSummary, value_over}
 use Rattle.sqlite_sql.specs.Aggregate.{count}
 use Rattle.sqlite_sql.specs.declared.aggregate.AggregateOp.TheVariants.{CountRows}
 use Rattle.sqlite.proofs.Callers.{one_permutation}
+use Rattle.gate_types.specs.Limits.{most_items}
 use Rattle.gate_found_rows.specs.Shown.{number_shown}
 use Rattle.gate_schema.proofs.QueryLemmas.{passes, matches-over_table}
 
@@ -79,5 +80,5 @@ counts tree test db params rows a =
     a.shown ∙ ap (λ os. page q params (map (λ (p : Output). p.1) os)) ordered ∙ ap (λ n. counted n ∷ []) many
 
 -- which is their number, where they are few
-pub counted_is : (n : ℕ) → n ≤ 1000 → counted n ≡ number_shown n
+pub counted_is : (n : ℕ) → n ≤ most_items → counted n ≡ number_shown n
 counted_is n few = let least : min n 9223372036854775807 ≡ n = omega arith in ap number_shown least

@@ -10,6 +10,7 @@ use Rattle.gate_types.specs.declared.records.Build.{Build}
 use Rattle.gate_types.specs.declared.records.Item.{Item as ItemOfRow}
 use Rattle.gate_types.specs.Forms.{IsLawfulContent, is_change_number, is_drawn_number, is_item_in_form}
 use Rattle.gate_types.specs.Forms.{is_queue_in_form, is_revision_number}
+use Rattle.gate_types.specs.Limits.{most_items}
 use Rattle.gate_types.specs.Line.{Place}
 use Rattle.gate_types.specs.Names.{is_name, same_name}
 use Rattle.gate_types.specs.Once.{Content}
@@ -76,7 +77,7 @@ ahead_drawn c s q forms p m = by_last (slice_get p.ahead (length p.ahead - 1)) r
 -- what is asked here of a queue
 record QueueForm (q : Queue) : Type 0 where
   pub name : is_name q.name ≡ true
-  pub few : length q.items ≤ 1000
+  pub few : length q.items ≤ most_items
   pub items : (i : Item) → In i q.items → is_item_in_form i ≡ true
 
 -- a queue in form has it
@@ -87,7 +88,7 @@ queue_form q h =
     let few = and_parts _ _ items.0 in
     record {
       name = (and_parts _ _ few.0).0;
-      few = leb-true (length q.items) 1000 few.1;
+      few = leb-true (length q.items) most_items few.1;
       items = all_from is_item_in_form q.items items.1;
     }
 
@@ -163,16 +164,16 @@ module _ (c : Settings) (x : Content) (b : Stored) (lawful : IsLawfulContent c x
       row_form c x.state at.0 (form_of at.0 at.1) r.queue at.2 r.item at.3)
 
   -- a queue has at most 1,000
-  pub items_are_few : (name : List ℕ) → length (items_of name b.items) ≤ 1000
-  items_are_few name = subst (λ l. length l ≤ 1000) (sym (items_are c x b told name))
+  pub items_are_few : (name : List ℕ) → length (items_of name b.items) ≤ most_items
+  items_are_few name = subst (λ l. length l ≤ most_items) (sym (items_are c x b told name))
       (by_queue (queue_named x.state name) refl)
     where
       by_queue : (o : Option Queue) → queue_named x.state name ≡ o →
-          length (option_map_or (item_rows c x.state) o []) ≤ 1000
+          length (option_map_or (item_rows c x.state) o []) ≤ most_items
       by_queue None e = omega arith
       by_queue (Some q) e =
           let at = found (λ (q : Queue). same_name q.name name) x.state.queues q e in
-          subst (λ n. n ≤ 1000) (sym (count_items c x.state q)) (form_of q at.0).few
+          subst (λ n. n ≤ most_items) (sym (count_items c x.state q)) (form_of q at.0).few
 
   -- over all queues a change stands once
   once : (n : ℕ) → times n (flat_map item_changes x.state.queues) ≤ 1
