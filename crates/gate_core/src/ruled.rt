@@ -67,7 +67,7 @@ fn settle<B: Book>(
     settling_laws::sweep_is_sound();
     settling_laws::admit_is_sound();
     let Moved {
-        said,
+        reply: pending,
         edits,
         touched,
     } = moved;
@@ -75,7 +75,7 @@ fn settle<B: Book>(
     match admitted(alloc, book, config, settled)? {
         Some(all) => {
             let made = thinned(alloc, all)?;
-            let reply = speak(book, config, said, &made)?;
+            let reply = speak(book, config, pending, &made)?;
             Ok(Ruled::Accepted(reply, made))
         }
         None => Ok(Ruled::Refused(Refusal::Exhausted)),

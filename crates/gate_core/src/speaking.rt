@@ -45,16 +45,16 @@ fn place_of<B: Book>(
 pub(crate) fn speak<B: Book>(
     book: &mut B,
     config: &Config,
-    said: PendingReply,
+    pending: PendingReply,
     edits: &[Edit],
 ) -> Result<Reply, BookFault>
     ensures said { OfHeldUnder B.IsTrusted B.Holds book.old book.new config.now (λ x. (u : State) →
         IsSound config.now u → Leads config.now x edits.now (in_state x u) →
-        IfOk result (λ reply. reply ≡ reply_by said u)) }
+        IfOk result (λ reply. reply ≡ reply_by pending u)) }
     ensures kept { IsKept B.IsTrusted B.Holds B.LeavesOneOf book.old book.new }
     ensures fault { IfErr result (MayAnswer B.MayFault) }
 {
-    match said {
+    match pending {
         PendingReply::Now(reply) => Ok(reply),
         PendingReply::PlaceOf(change) => place_of(book, config, edits, change),
     }

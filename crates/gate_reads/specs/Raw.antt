@@ -15,27 +15,27 @@ use Rattle.gate_reads.specs.declared.raw.Raw.{Raw}
 use Rattle.gate_reads.specs.declared.raw.Raw.TheVariants as raw
 use Rattle.gate_reads.specs.declared.raw.Moved.{Moved}
 use Rattle.gate_reads.specs.declared.raw.PendingReply.{PendingReply}
-use Rattle.gate_reads.specs.declared.raw.PendingReply.TheVariants as said
+use Rattle.gate_reads.specs.declared.raw.PendingReply.TheVariants as pending
 
 -- the reply, said at once or read from the settled state
 abbrev pub reply_by : PendingReply → State → Reply
-reply_by (said.Now r) u = r
-reply_by (said.PlaceOf n) u = approval_reply n u
+reply_by (pending.Now r) u = r
+reply_by (pending.PlaceOf n) u = approval_reply n u
 
 -- a change whose place is told stands in no queue yet
 abbrev pub IsUnplaced : State → PendingReply → Type 0
-IsUnplaced s (said.Now r) = Unit {0}
-IsUnplaced s (said.PlaceOf n) = is_queued s n ≡ false
+IsUnplaced s (pending.Now r) = Unit {0}
+IsUnplaced s (pending.PlaceOf n) = is_queued s n ≡ false
 
 -- the delivery is accepted and changes something: the edits move the content to the state before settling, and the
 -- reply and the touched item are the delivery's
 pub record IsMoved (c : Settings) (x : Content) (d : Delivery) (m : Moved) : Type 0 where
   pub after : State
-  pub accepted : raw_step c x.state d ≡ accepted (reply_by m.said (settle c after)) after
-  pub acts : is_stale (reply_by m.said (settle c after)) ≡ false
+  pub accepted : raw_step c x.state d ≡ accepted (reply_by m.reply (settle c after)) after
+  pub acts : is_stale (reply_by m.reply (settle c after)) ≡ false
   pub touches : Touches c x.state d m.touched
   pub moves : Moves x m.edits.items after
-  pub unplaced : IsUnplaced x.state m.said
+  pub unplaced : IsUnplaced x.state m.reply
 
 -- a delivery is refused; or it is accepted and changes nothing; or edits move the content
 abbrev pub IsRaw : Settings → Content → Delivery → Raw → Type 0

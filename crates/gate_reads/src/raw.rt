@@ -14,7 +14,7 @@ pub enum PendingReply {
 /// Edits that settle nothing yet, the reply, and the item that they touch, if they touch one.
 #[derive(Drop)]
 pub struct Moved {
-    pub said: PendingReply,
+    pub reply: PendingReply,
     pub edits: Vec<Edit>,
     pub touched: Option<TouchedItem>,
 }

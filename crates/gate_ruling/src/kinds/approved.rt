@@ -71,7 +71,7 @@ pub(crate) fn approved<B: Book>(
         return Ok(Raw::Refused(Refusal::Exhausted));
     }
     Ok(Raw::Moved(Moved {
-        said: PendingReply::PlaceOf(change),
+        reply: PendingReply::PlaceOf(change),
         edits: made_ready(alloc, known, drawn + 1)?,
         touched: None,
     }))

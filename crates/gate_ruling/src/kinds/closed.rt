@@ -62,7 +62,7 @@ pub(crate) fn closed<B: Book>(
         },
     )?;
     Ok(Raw::Moved(Moved {
-        said: PendingReply::Now(reply),
+        reply: PendingReply::Now(reply),
         edits,
         touched: left.touched,
     }))

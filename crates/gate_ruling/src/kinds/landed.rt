@@ -116,7 +116,7 @@ pub(crate) fn landed<B: Book>(
         },
     )?;
     Ok(Raw::Moved(Moved {
-        said: PendingReply::Now(Reply::Landed(place)),
+        reply: PendingReply::Now(Reply::Landed(place)),
         edits,
         touched: Some(touched(queued, Event::Landed)),
     }))

@@ -44,7 +44,7 @@ pub(crate) fn refused<B: Book>(
     let settings = config.queue(queued.queue.as_str());
     let resized = window_now(left, settings, window);
     Ok(Raw::Moved(Moved {
-        said: PendingReply::Now(Reply::Removed),
+        reply: PendingReply::Now(Reply::Removed),
         edits: with_window(edits, &queued.queue, window, resized)?,
         touched: Some(touched(queued, left)),
     }))

@@ -54,7 +54,7 @@ pub(crate) fn result<B: Book>(
         outcome: ending.into(),
     };
     Ok(Raw::Moved(Moved {
-        said: PendingReply::Now(Reply::Noted),
+        reply: PendingReply::Now(Reply::Noted),
         edits: with_one(Vec::new(alloc), outcome)?,
         touched: Some(TouchedItem {
             queue: known.queue,

@@ -99,7 +99,7 @@ pub(crate) fn revision<B: Book>(
         },
     )?;
     Ok(Raw::Moved(Moved {
-        said: PendingReply::Now(Reply::Recorded),
+        reply: PendingReply::Now(Reply::Recorded),
         edits,
         touched: left.touched,
     }))

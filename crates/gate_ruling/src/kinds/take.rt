@@ -62,7 +62,7 @@ pub(crate) fn take<B: Book>(
     }
     let edits = started(alloc, &build)?;
     Ok(Raw::Moved(Moved {
-        said: PendingReply::Now(Reply::Build(build)),
+        reply: PendingReply::Now(Reply::Build(build)),
         edits,
         touched: None,
     }))

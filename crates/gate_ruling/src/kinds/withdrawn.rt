@@ -40,13 +40,13 @@ pub(crate) fn withdrawn<B: Book>(
         Stand::Queued(queued) => {
             let edits = leaving(alloc, book, config, &queued, Verdict::Withdrawn)?;
             Ok(Raw::Moved(Moved {
-                said: PendingReply::Now(Reply::Removed),
+                reply: PendingReply::Now(Reply::Removed),
                 edits,
                 touched: Some(touched(queued, Event::Left(Verdict::Withdrawn))),
             }))
         }
         Stand::Ready => Ok(Raw::Moved(Moved {
-            said: PendingReply::Now(Reply::Recorded),
+            reply: PendingReply::Now(Reply::Recorded),
             edits: put_anew(Vec::new(alloc), known)?,
             touched: None,
         })),

@@ -5,5 +5,5 @@ use Rattle.gate_core.proofs.speaking.speak.Goals as goal
 
 pub returns-in-PlaceOf-clause-said : goal.returns-in-PlaceOf-clause-said
 returns-in-PlaceOf-clause-said g c trusted x holds lawful u sound leads =
-    IfOk-weaker c.place_of.result _ _ (λ r e. e ∙ sym (ap (λ said. reply_by said u) c.in-PlaceOf.is))
+    IfOk-weaker c.place_of.result _ _ (λ r e. e ∙ sym (ap (λ pending. reply_by pending u) c.in-PlaceOf.is))
     (c.place_of.ensures.told trusted x holds lawful u sound leads)
