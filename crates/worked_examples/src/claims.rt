@@ -1,15 +1,15 @@
-//! What a test claims, and where. Each claim is a call, since what a test holds beside a message that is written is to be
-//! proved unharmed by each of its words.
+//! What a test claims, and of what. Each claim is a call, since what a test holds beside a message that is written is
+//! to be proved unharmed by each of its words.
 use std::process::Abort;
 
 /// The claim holds.
-pub fn holds(rt: &impl Abort, claim: bool, place: &str) {
-    assert!(rt; claim, "{place}");
+pub fn holds(rt: &impl Abort, claim: bool, what: &str) {
+    assert!(rt; claim, "{what}");
 }
 
 /// The text is the one that is wanted.
-pub fn is(rt: &impl Abort, found: &str, wanted: &str, place: &str) {
-    assert_eq!(rt; found, wanted, "{place}");
+pub fn is(rt: &impl Abort, found: &str, wanted: &str, what: &str) {
+    assert_eq!(rt; found, wanted, "{what}");
 }
 
 /// The claim holds at a number of something, as `after 7 bytes`.
