@@ -28,11 +28,11 @@ digit_at d small = grind (arith, nat_tests)
 grown_is : (n d : ℕ) → 1 ≤ n → n ≤ 99999999 → grown n d ≡ Some (n * 10 + d)
 grown_is n d some small = grind (arith, nat_tests)
 
--- a byte that ends no entry leads to the next part
+-- a byte that ends no entry leads on to the next progress
 step_on : (p q : Progress) (es : List Entry) (c : ℕ) (rest : List ℕ) → step p c ≡ q → ended q ≡ [] → go p es (c ∷ rest) ≡ go q es rest
 step_on p q es c rest is none = ap (λ r. go r (es ++ ended r) rest) is ∙ ap (λ l. go q (es ++ l) rest) none ∙ ap (λ l. go q l rest) (append-nil es)
 
--- a number is read digit by digit, from a part where none of it was read
+-- a number is read digit by digit, from where none of it was read
 digits_read : (from : Progress) (at : ℕ → Progress) (es : List Entry)
     → ((d : ℕ) → d < 10 → step from (48 + d) ≡ at d) → ((n : ℕ) → ended (at n) ≡ [])
     → ((n d : ℕ) → d < 10 → 1 ≤ n → n ≤ 99999999 → step (at n) (48 + d) ≡ at (n * 10 + d))
@@ -115,9 +115,9 @@ ahead_is_read (e ∷ es) form =
     ∙ entry_read e [] _ form.0 ∙ more_read e es (e ∷ []) form.1
 
 -- the same, of what the reader holds at the end
-pub parts_told : (part : Progress) (entries : List Entry) (text : List ℕ) (es : List Entry) → (part, entries) ≡ go Start [] text → text ≡ ahead_text es → AllPass is_entry_in_form es → (part ≡ End) × (entries ≡ es)
-parts_told part entries text es read is form =
-    let both : (part, entries) ≡ (End, es) = read ∙ ap (go Start []) is ∙ ahead_is_read es (recursion_from_All (λ e. is_entry_in_form e ≡ true) es form) in
+pub progress_told : (progress : Progress) (entries : List Entry) (text : List ℕ) (es : List Entry) → (progress, entries) ≡ go Start [] text → text ≡ ahead_text es → AllPass is_entry_in_form es → (progress ≡ End) × (entries ≡ es)
+progress_told progress entries text es read is form =
+    let both : (progress, entries) ≡ (End, es) = read ∙ ap (go Start []) is ∙ ahead_is_read es (recursion_from_All (λ e. is_entry_in_form e ≡ true) es form) in
     (ap (λ p. p.0) both, ap (λ p. p.1) both)
 
 -- a text is the same as itself

@@ -15,7 +15,7 @@ digit_of c = if nat_lt 47 c && nat_lt c 58 then Some (c - 48) else None
 abbrev pub grown : ℕ → ℕ → Option ℕ
 grown n d = if n == 0 || nat_lt 99999999 n then None else Some (n * 10 + d)
 
--- the part of a number, if there is one
+-- the progress of a number, if there is one
 abbrev pub or_bad : Option ℕ → (ℕ → Progress) → Progress
 or_bad None f = Bad
 or_bad (Some n) f = f n
@@ -37,7 +37,7 @@ step_in_revision n r c =
     if c == 93 then (if is_revision_number r then Closed (record { change = n; revision = r }) else Bad)
     else or_bad (more_of r (digit_of c)) (λ m. InRevision n m)
 
--- the part behind a byte
+-- the progress behind a byte
 abbrev pub step : Progress → ℕ → Progress
 step Start c = if c == 91 then Outer else Bad
 step Outer c = if c == 91 then Opened else (if c == 93 then End else Bad)
@@ -55,7 +55,7 @@ abbrev pub ended : Progress → List Entry
 ended (Closed e) = e ∷ []
 ended _ = []
 
--- the part behind a text, and the entries that end in it
+-- the progress behind a text, and the entries that end in it
 abbrev pub go : Progress → List Entry → List ℕ → Progress × List Entry
 go p es [] = (p, es)
 go p es (c ∷ cs) = go (step p c) (es ++ ended (step p c)) cs

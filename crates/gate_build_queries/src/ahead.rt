@@ -99,11 +99,11 @@ fn next_in_revision(change: ChangeNo, number: u64, byte: u8) -> Progress
     }
 }
 
-/// The part behind a byte.
-fn next_part(part: Progress, byte: u8) -> Progress
-    ensures { result ≡ step part byte }
+/// The progress behind a byte.
+fn next_progress(progress: Progress, byte: u8) -> Progress
+    ensures { result ≡ step progress byte }
 {
-    match part {
+    match progress {
         Progress::Start if byte == b'[' => Progress::Outer,
         Progress::Outer | Progress::Next if byte == b'[' => Progress::Opened,
         Progress::Outer | Progress::Closed(_) if byte == b']' => Progress::End,
@@ -123,35 +123,35 @@ fn next_part(part: Progress, byte: u8) -> Progress
 }
 
 /// The entry that has just ended.
-fn ended_entry(part: &Progress) -> Option<Entry>
-    ensures { option_to_list result ≡ ended part.now }
+fn ended_entry(progress: &Progress) -> Option<Entry>
+    ensures { option_to_list result ≡ ended progress.now }
 {
-    match part {
+    match progress {
         Progress::Closed(entry) => Some(*entry),
         _ => None,
     }
 }
 
-/// The entries that end within the text, and the part behind all of it.
-fn read_parts(alloc: Global, text: &[u8]) -> Result<(Progress, Vec<Entry>), AllocError>
+/// The entries that end within the text, and the progress behind all of it.
+fn read_entries(alloc: Global, text: &[u8]) -> Result<(Progress, Vec<Entry>), AllocError>
     ensures { IfOk result (λ read. (read.0, read.1.items) ≡ go Progress.Start [] text.now) }
 {
-    let mut part = Progress::Start;
+    let mut progress = Progress::Start;
     let mut entries = Vec::new(alloc);
     for byte in text {
-        let next = next_part(part, *byte);
+        let next = next_progress(progress, *byte);
         if let Some(entry) = ended_entry(&next) {
             entries.push(entry)?;
         }
-        part = next;
+        progress = next;
     }
-    Ok((part, entries))
+    Ok((progress, entries))
 }
 
-fn is_end(part: Progress) -> bool
-    ensures { part ≡ Progress.End → IsTrue result }
+fn is_end(progress: Progress) -> bool
+    ensures { progress ≡ Progress.End → IsTrue result }
 {
-    part == Progress::End
+    progress == Progress::End
 }
 
 /// The entries of a text. `NoMemory` where memory is refused, `Damaged` where the text is of no entries: it
@@ -163,8 +163,8 @@ fn read_ahead(alloc: Global, text: &[u8]) -> Result<Vec<Entry>, BookFault>
     ensures damaged { (entries : _) → text.now ≡ ahead_text entries → AllPass is_entry_in_form entries →
         IfErr result (λ fault. fault ≡ BookFault.NoMemory) }
 {
-    let (part, entries) = read_parts(alloc, text)?;
-    if !is_end(part) {
+    let (progress, entries) = read_entries(alloc, text)?;
+    if !is_end(progress) {
         return Err(BookFault::Damaged);
     }
     let again = write_ahead(alloc, entries.as_slice())?;
