@@ -12,11 +12,11 @@ use Rattle.gate_schema.specs.Schema.{gate_schema}
 
 -- ---- the rows before the first delivery
 
--- a queue's row, at its place
+-- a queue's row, at its index
 abbrev pub queue_row : ℕ → Queue → QueueRow
-queue_row place q = record { name = q.name; place = place; window = q.window }
+queue_row index q = record { name = q.name; place = index; window = q.window }
 
--- the queues' rows, by their places from n on
+-- the queues' rows, by their indexes from n on
 abbrev pub first_queue_rows : ℕ → List Queue → List QueueRow
 first_queue_rows n [] = []
 first_queue_rows n (q ∷ qs) = queue_row n q ∷ first_queue_rows (suc n) qs

@@ -44,24 +44,24 @@ fn fill_counter<S: Alter>(tx: &mut Transaction<'_, S>) -> Result<(), Error>
     Ok(())
 }
 
-/// A place as a parameter.
-fn at_place<'a>(place: usize) -> ValueRef<'a>
-    requires { place < 2 ^ 63 }
-    ensures { owned result ≡ Int (pos place) }
+/// An index as a parameter.
+fn at_index<'a>(index: usize) -> ValueRef<'a>
+    requires { index < 2 ^ 63 }
+    ensures { owned result ≡ Int (pos index) }
 {
-    ValueRef::Int(place as i64)
+    ValueRef::Int(index as i64)
 }
 
-/// The row of a queue, at its place in the settings.
+/// The row of a queue, at its index in the settings.
 fn add_queue<S: Alter>(
     tx: &mut Transaction<'_, S>,
     queue: &Queue,
-    place: usize,
+    index: usize,
 ) -> Result<(), Error>
-    requires { place < 2 ^ 63 }
+    requires { index < 2 ^ 63 }
     ensures same_reference { tx.new.conn.ghost_name ≡ tx.old.conn.ghost_name }
     ensures made { (b : _) → Turns (state S.Store tx.old.conn.now) (state S.Store tx.new.conn.now) result
-        (IsFilled b) (IsFilled (with_queue (queue_row place queue.now) b)) }
+        (IsFilled b) (IsFilled (with_queue (queue_row index queue.now) b)) }
     ensures inside { Turns (state S.Store tx.old.conn.now) (state S.Store tx.new.conn.now) result IsInside IsInside }
     ensures kept { KeepsInside (state S.Store tx.old.conn.now) (state S.Store tx.new.conn.now) }
     ensures crash { LeavesNothing (state S.Store tx.old.conn.now) (state S.Store tx.new.conn.now) }
@@ -70,14 +70,14 @@ fn add_queue<S: Alter>(
         "INSERT INTO queue (name, place, win) VALUES (?1, ?2, ?3)",
         &[
             queue.name.as_str().to_sql(),
-            at_place(place),
+            at_index(index),
             queue.window.to_sql(),
         ],
     )?;
     Ok(())
 }
 
-/// The rows of the queues, by their places from 0, where there are none.
+/// The rows of the queues, by their indexes from 0, where there are none.
 pub fn add_queues<S: Alter>(tx: &mut Transaction<'_, S>, queues: &[Queue]) -> Result<(), Error>
     ensures same_reference { tx.new.conn.ghost_name ≡ tx.old.conn.ghost_name }
     ensures made { (b : _) → Turns (state S.Store tx.old.conn.now) (state S.Store tx.new.conn.now) result
@@ -86,8 +86,8 @@ pub fn add_queues<S: Alter>(tx: &mut Transaction<'_, S>, queues: &[Queue]) -> Re
     ensures kept { KeepsInside (state S.Store tx.old.conn.now) (state S.Store tx.new.conn.now) }
     ensures crash { LeavesNothing (state S.Store tx.old.conn.now) (state S.Store tx.new.conn.now) }
 {
-    for (place, queue) in queues.iter().enumerate() {
-        add_queue(tx, queue, place)?;
+    for (index, queue) in queues.iter().enumerate() {
+        add_queue(tx, queue, index)?;
     }
     Ok(())
 }

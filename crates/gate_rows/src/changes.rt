@@ -50,28 +50,28 @@ fn drop_needs<S: Alter>(tx: &mut Transaction<'_, S>, n: ChangeNo) -> Result<(), 
     run(tx, "DELETE FROM need WHERE change = ?1", &[change(n)])
 }
 
-/// Adds a need at its place.
+/// Adds a need at its index.
 fn add_need<S: Alter>(
     tx: &mut Transaction<'_, S>,
     n: ChangeNo,
-    place: usize,
+    index: usize,
     needed: ChangeNo,
 ) -> Result<(), Error>
-    requires { place < 2 ^ 63 }
+    requires { index < 2 ^ 63 }
     ensures same_reference { tx.new.conn.ghost_name ≡ tx.old.conn.ghost_name }
     ensures changes { Makes (state S.Store tx.old.conn.now) (state S.Store tx.new.conn.now) result
-        (edits.add_needs ((record { change = n; place = place; needed = needed }) ∷ [])) }
+        (edits.add_needs ((record { change = n; place = index; needed = needed }) ∷ [])) }
     ensures kept { Keeps (state S.Store tx.old.conn.now) (state S.Store tx.new.conn.now) }
     ensures crash { LeavesNothing (state S.Store tx.old.conn.now) (state S.Store tx.new.conn.now) }
 {
     run(
         tx,
         "INSERT INTO need (change, place, needed) VALUES (?1, ?2, ?3)",
-        &[change(n), number(place as u64), change(needed)],
+        &[change(n), number(index as u64), change(needed)],
     )
 }
 
-/// Adds the needs of a change, by their places.
+/// Adds the needs of a change, by their indexes.
 fn add_needs<S: Alter>(
     tx: &mut Transaction<'_, S>,
     n: ChangeNo,
@@ -83,8 +83,8 @@ fn add_needs<S: Alter>(
     ensures kept { Keeps (state S.Store tx.old.conn.now) (state S.Store tx.new.conn.now) }
     ensures crash { LeavesNothing (state S.Store tx.old.conn.now) (state S.Store tx.new.conn.now) }
 {
-    for (place, needed) in needs.iter().enumerate() {
-        add_need(tx, n, place, *needed)?;
+    for (index, needed) in needs.iter().enumerate() {
+        add_need(tx, n, index, *needed)?;
     }
     Ok(())
 }

@@ -60,18 +60,18 @@ pub(crate) fn drop_planned<S: Alter>(tx: &mut Transaction<'_, S>, n: Serial) -> 
     drop_plan(tx, n)
 }
 
-/// Adds a job at its place. An Err where one is there.
+/// Adds a job at its index. An Err where one is there.
 fn add_job<S: Alter>(
     tx: &mut Transaction<'_, S>,
     n: Serial,
-    place: usize,
+    index: usize,
     job: &Job,
 ) -> Result<(), Error>
-    requires { place < 2 ^ 63 }
+    requires { index < 2 ^ 63 }
     ensures same_reference { tx.new.conn.ghost_name ≡ tx.old.conn.ghost_name }
     ensures changes { Makes (state S.Store tx.old.conn.now) (state S.Store tx.new.conn.now) result
-        (edits.add_jobs ((record { serial = n; place = place; job = job.now }) ∷ [])) }
-    ensures free { Found (state S.Store tx.old.conn.now) (state S.Store tx.new.conn.now) result (IsFree n place) }
+        (edits.add_jobs ((record { serial = n; place = index; job = job.now }) ∷ [])) }
+    ensures free { Found (state S.Store tx.old.conn.now) (state S.Store tx.new.conn.now) result (IsFree n index) }
     ensures kept { Keeps (state S.Store tx.old.conn.now) (state S.Store tx.new.conn.now) }
     ensures crash { LeavesNothing (state S.Store tx.old.conn.now) (state S.Store tx.new.conn.now) }
 {
@@ -80,14 +80,14 @@ fn add_job<S: Alter>(
         "INSERT INTO item_job (serial, place, name, voting) VALUES (?1, ?2, ?3, ?4)",
         &[
             serial(n),
-            number(place as u64),
+            number(index as u64),
             text(job.name.as_str()),
             flag(job.voting),
         ],
     )
 }
 
-/// Adds the jobs of a plan, by their places. An Err where one of these is taken.
+/// Adds the jobs of a plan, by their indexes. An Err where one of these is taken.
 fn add_jobs<S: Alter>(tx: &mut Transaction<'_, S>, n: Serial, jobs: &[Job]) -> Result<(), Error>
     ensures same_reference { tx.new.conn.ghost_name ≡ tx.old.conn.ghost_name }
     ensures changes { Makes (state S.Store tx.old.conn.now) (state S.Store tx.new.conn.now) result
@@ -97,8 +97,8 @@ fn add_jobs<S: Alter>(tx: &mut Transaction<'_, S>, n: Serial, jobs: &[Job]) -> R
     ensures kept { Keeps (state S.Store tx.old.conn.now) (state S.Store tx.new.conn.now) }
     ensures crash { LeavesNothing (state S.Store tx.old.conn.now) (state S.Store tx.new.conn.now) }
 {
-    for (place, job) in jobs.iter().enumerate() {
-        add_job(tx, n, place, job)?;
+    for (index, job) in jobs.iter().enumerate() {
+        add_job(tx, n, index, job)?;
     }
     Ok(())
 }

@@ -6,25 +6,25 @@ use Rattle.gate_rows.proofs.ThenLemmas.{kept_then, survives_itself}
 use Rattle.gate_rows.proofs.ThenLemmas.{needs_more, no_needs}
 use Rattle.gate_rows.proofs.changes.add_needs.Goals as goal
 
-pub loop-place-init : goal.loop-place-init
-loop-place-init g c = record {
+pub loop-index-init : goal.loop-index-init
+loop-index-init g c = record {
   same_reference = refl;
   changes = λ clean ready. no_needs (state g.S.Store c.args.tx.now.conn.now) ready;
   kept = λ clean ready. record { was_open = λ up. up; committed = λ up. refl };
   crash = survives_itself (state g.S.Store c.args.tx.now.conn.now);
 }
 
-pub loop-place-preserved : goal.loop-place-preserved
-loop-place-preserved g c =
+pub loop-index-preserved : goal.loop-index-preserved
+loop-index-preserved g c =
     let first = state g.S.Store c.args.tx.now.conn.now in
-    let old = state g.S.Store c.loop-place.tx.conn.now in
+    let old = state g.S.Store c.loop-index.tx.conn.now in
     let new = state g.S.Store c.add_need.new.tx.conn.now in
-    let was = c.loop-place.invariant in
+    let was = c.loop-index.invariant in
     record {
       same_reference = c.add_need.ensures.same_reference ∙ was.same_reference;
       changes = λ clean ready.
           let before = was.changes (omega (arith, c.add_need.ensures.crash.clean)) ready in
-          needs_more first old new c.args.n c.loop-place.place c.args.needs.now c.index-needs-place.result (omega arith) c.index-needs-place.is before (c.in_ok-add_need.ensures.changes clean before.ready);
+          needs_more first old new c.args.n c.loop-index.index c.args.needs.now c.index-needs-index.result (omega arith) c.index-needs-index.is before (c.in_ok-add_need.ensures.changes clean before.ready);
       kept = λ clean ready.
           let early : HasCleanDisk old = omega (arith, c.add_need.ensures.crash.clean) in
           kept_then first old new (was.kept early ready) (c.add_need.ensures.kept clean (was.changes early ready).ready);
