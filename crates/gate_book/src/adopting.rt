@@ -36,18 +36,18 @@ fn take_named(queues: &mut Vec<QueueTable>, name: &str) -> Option<QueueTable>
 }
 
 /// A queue under its new setting.
-fn resized(kept: &Config, setting: &Queue, table: QueueTable) -> QueueTable
+fn resized(held: &Config, setting: &Queue, table: QueueTable) -> QueueTable
     requires { queue.IsKept table }
-    ensures rows { queue.rows_of result ≡ resized_rows kept.now setting.now (queue.rows_of table) }
+    ensures rows { queue.rows_of result ≡ resized_rows held.now setting.now (queue.rows_of table) }
     ensures kept { queue.IsKept result }
 {
-    let window = adopted_window(kept, setting, Some(table.window()));
+    let window = adopted_window(held, setting, Some(table.window()));
     table.resized(window)
 }
 
 /// Puts the queues that are there in the places of the new ones of their names, each under its new setting.
 pub(crate) fn adopt_queues(
-    kept: &Config,
+    held: &Config,
     settings: &[Queue],
     queues: &mut Vec<QueueTable>,
     new_queues: &mut Vec<QueueTable>,
@@ -57,12 +57,12 @@ pub(crate) fn adopt_queues(
     requires new_rows { map queue.rows_of new_queues.old.items ≡ map empty_rows settings.now }
     requires new_kept { AllByRecursion queue.IsKept new_queues.old.items }
     ensures rows { map queue.rows_of new_queues.new.items
-        ≡ map (adopted_rows kept.now (map queue.rows_of queues.old.items)) settings.now }
+        ≡ map (adopted_rows held.now (map queue.rows_of queues.old.items)) settings.now }
     ensures kept { AllByRecursion queue.IsKept new_queues.new.items }
 {
     for (place, setting) in settings.iter().enumerate() {
         if let Some(table) = take_named(queues, setting.name.as_str()) {
-            put_at(new_queues, place, resized(kept, setting, table));
+            put_at(new_queues, place, resized(held, setting, table));
         }
     }
 }

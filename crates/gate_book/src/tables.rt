@@ -162,22 +162,22 @@ impl MemTables {
         })
     }
 
-    /// Other settings taken in place of the kept ones: their queues in their order, each that is there under its new
+    /// Other settings taken in place of the held ones: their queues in their order, each that is there under its new
     /// window. The tables stay where memory is refused.
     pub(crate) fn adopt(
         &mut self,
         alloc: Global,
-        kept: &Config,
+        held: &Config,
         config: &Config,
     ) -> Result<(), NoMemory>
         requires { IsKept self.old }
-        ensures ok { OnOk result (tables_of self.new ≡ adopted_tables kept.now config.now (tables_of self.old)) }
+        ensures ok { OnOk result (tables_of self.new ≡ adopted_tables held.now config.now (tables_of self.old)) }
         ensures err { OnErr result (self.new ≡ self.old) }
         ensures kept { IsKept self.new }
     {
         let mut queues = empty_queues(alloc, config.queues.as_slice())?;
         adopt_queues(
-            kept,
+            held,
             config.queues.as_slice(),
             &mut self.queues,
             &mut queues,

@@ -31,10 +31,10 @@ use sqlite::{Alter, Connection, Error, Transaction};
 use std::alloc::Global;
 
 /// The setting of a queue, with the window that it gets.
-fn with_window(kept: &Config, queue: &Queue, present: Option<u32>) -> Result<Queue, NoMemory>
-    ensures { IfOk result (λ q. q ≡ record queue.now { window = adopted_window kept.now queue.now present }) }
+fn with_window(held: &Config, queue: &Queue, present: Option<u32>) -> Result<Queue, NoMemory>
+    ensures { IfOk result (λ q. q ≡ record queue.now { window = adopted_window held.now queue.now present }) }
 {
-    let window = adopted_window(kept, queue, present);
+    let window = adopted_window(held, queue, present);
     let name = queue.name.copy()?;
     Ok(Queue {
         name,
@@ -47,31 +47,31 @@ fn with_window(kept: &Config, queue: &Queue, present: Option<u32>) -> Result<Que
 /// The setting of a queue, with the window that it gets beside the rows that the file keeps.
 fn resized_queue<S: Alter>(
     conn: &mut Connection<S>,
-    kept: &Config,
+    held: &Config,
     queue: &Queue,
 ) -> Result<Queue, BookFault>
     ensures found { Tells (state S.Store conn.old) (state S.Store conn.new) result (λ b.
-        resized kept.now b.queues queue.now) }
+        resized held.now b.queues queue.now) }
     ensures only_reads { IsOnlyRead (state S.Store conn.old) (state S.Store conn.new) }
 {
     let present = window(conn, &queue.name)?;
-    Ok(with_window(kept, queue, present)?)
+    Ok(with_window(held, queue, present)?)
 }
 
 /// The settings of the queues, each with the window that it gets beside the rows that the file keeps.
 fn resized_queues<S: Alter>(
     alloc: Global,
     conn: &mut Connection<S>,
-    kept: &Config,
+    held: &Config,
     queues: &[Queue],
 ) -> Result<Sequence<Queue>, BookFault>
     ensures found { Tells (state S.Store conn.old) (state S.Store conn.new) result (λ b.
-        map (resized kept.now b.queues) queues.now) }
+        map (resized held.now b.queues) queues.now) }
     ensures only_reads { IsOnlyRead (state S.Store conn.old) (state S.Store conn.new) }
 {
     let mut found = Vec::with_capacity(alloc, queues.len())?;
     for queue in queues {
-        let next = resized_queue(conn, kept, queue)?;
+        let next = resized_queue(conn, held, queue)?;
         found.push_reserved(next);
     }
     Ok(Sequence::from_vec(found))
@@ -172,19 +172,19 @@ fn write_rows<S: Alter>(
     commit_rewritten(conn, settings, queues)
 }
 
-/// The other settings in place of those that the file keeps, all or none. `Unavailable` where a transaction is under
+/// The other settings in place of those that the file holds, all or none. `Unavailable` where a transaction is under
 /// way, or memory, the disk or its size failed; what the file holds is then as it was.
 pub fn adopt<S: Alter>(
     alloc: Global,
     conn: &mut Connection<S>,
-    kept: &Config,
+    held: &Config,
     config: &Config,
     settings: &str,
 ) -> Result<(), OpenFault>
     ensures made { HasCleanDisk (state S.Store conn.new) → settings.now ≡ settings_text config.now → (x : Content) →
         (state S.Store conn.old).now.schema ≡ gate_schema →
-        CanAdopt (state S.Store conn.old).now.trees kept.now config.now x →
-        OnOk result (IsShownFor (state S.Store conn.new) config.now (adopted_content kept.now config.now x)) }
+        CanAdopt (state S.Store conn.old).now.trees held.now config.now x →
+        OnOk result (IsShownFor (state S.Store conn.new) config.now (adopted_content held.now config.now x)) }
     ensures settled { HasCleanDisk (state S.Store conn.new) → OnOk result (IsSettled (state S.Store conn.new)) }
     ensures none { HasCleanDisk (state S.Store conn.new) →
         OnErr result (Stays (state S.Store conn.old) (state S.Store conn.new)) }
@@ -193,11 +193,11 @@ pub fn adopt<S: Alter>(
     ensures mode { OnOk result (conn.new.in_transaction ≡ false) }
     ensures crash { HasCleanDisk (state S.Store conn.new) → settings.now ≡ settings_text config.now → (x : Content) →
         (state S.Store conn.old).now.schema ≡ gate_schema →
-        CanAdopt (state S.Store conn.old).now.trees kept.now config.now x → (db : Trees) →
+        CanAdopt (state S.Store conn.old).now.trees held.now config.now x → (db : Trees) →
         (state S.Store conn.new).may_leave db →
-        (state S.Store conn.old).may_leave db ⊎ StandsFor db config.now (adopted_content kept.now config.now x) }
+        (state S.Store conn.old).may_leave db ⊎ StandsFor db config.now (adopted_content held.now config.now x) }
 {
-    let Ok(queues) = resized_queues(alloc, conn, kept, config.queues.as_slice()) else {
+    let Ok(queues) = resized_queues(alloc, conn, held, config.queues.as_slice()) else {
         return Err(OpenFault::Unavailable);
     };
     if !conn.is_autocommit() {

@@ -1,4 +1,4 @@
-//! Other settings in place of those that a gate keeps.
+//! Other settings in place of those that a gate holds.
 ghost use Rattle.std.specs.Prelude.{◌≡◌, ◌&&◌, ◌==◌};
 ghost use Rattle.std.specs.List.{list_any, list_all};
 ghost use Rattle.gate_types.specs.Names.{same_name};
@@ -38,27 +38,27 @@ fn has_project(projects: &[Project], project: &Project) -> bool
 }
 
 /// Whether all of some queues are among these.
-fn have_queues(queues: &[Queue], kept: &[Queue]) -> bool
-    ensures { result ≡ list_all (λ q. has_queue queues.now q.name) kept.now }
+fn have_queues(queues: &[Queue], held: &[Queue]) -> bool
+    ensures { result ≡ list_all (λ q. has_queue queues.now q.name) held.now }
 {
-    kept.iter().all(|queue| has_queue(queues, &queue.name))
+    held.iter().all(|queue| has_queue(queues, &queue.name))
 }
 
 /// Whether all of some projects are among these, each in the same queue.
-fn have_projects(projects: &[Project], kept: &[Project]) -> bool
+fn have_projects(projects: &[Project], held: &[Project]) -> bool
     ensures { result ≡ list_all (λ p. list_any (λ r. same_name r.name p.name && same_name r.queue p.queue) projects.now)
-        kept.now }
+        held.now }
 {
-    kept.iter().all(|project| has_project(projects, project))
+    held.iter().all(|project| has_project(projects, project))
 }
 
-/// Whether a gate with the kept settings may take these in their place: every kept queue is in them,
-/// and every kept project with the same queue.
-pub fn may_adopt(kept: &Config, config: &Config) -> bool
-    ensures { result ≡ may_adopt kept.now config.now }
+/// Whether a gate with the held settings may take these in their place: every held queue is in them,
+/// and every held project with the same queue.
+pub fn may_adopt(held: &Config, config: &Config) -> bool
+    ensures { result ≡ may_adopt held.now config.now }
 {
-    have_queues(config.queues.as_slice(), kept.queues.as_slice())
-        && have_projects(config.projects.as_slice(), kept.projects.as_slice())
+    have_queues(config.queues.as_slice(), held.queues.as_slice())
+        && have_projects(config.projects.as_slice(), held.projects.as_slice())
 }
 
 /// Whether a queue has the name, the window and the floor of the other.
@@ -79,22 +79,22 @@ fn has_alike(queues: &[Queue], other: &Queue) -> bool
     queues.iter().any(|queue| is_alike(queue, other))
 }
 
-/// Whether the kept settings give a queue the same window and the same floor.
-fn keeps_window(kept: &Config, queue: &Queue) -> bool
-    ensures { result ≡ keeps_window kept.now queue.now }
+/// Whether the held settings give a queue the same window and the same floor.
+fn keeps_window(held: &Config, queue: &Queue) -> bool
+    ensures { result ≡ keeps_window held.now queue.now }
 {
-    has_alike(kept.queues.as_slice(), queue)
+    has_alike(held.queues.as_slice(), queue)
 }
 
-/// The window that a queue gets under its new setting: its present one, if it has one and the kept settings give it
+/// The window that a queue gets under its new setting: its present one, if it has one and the held settings give it
 /// the same window and the same floor.
-pub fn adopted_window(kept: &Config, queue: &Queue, present: Option<u32>) -> u32
-    ensures { result ≡ adopted_window kept.now queue.now present }
+pub fn adopted_window(held: &Config, queue: &Queue, present: Option<u32>) -> u32
+    ensures { result ≡ adopted_window held.now queue.now present }
 {
     match present {
         None => queue.window,
         Some(window) => {
-            if keeps_window(kept, queue) {
+            if keeps_window(held, queue) {
                 window
             } else {
                 queue.window

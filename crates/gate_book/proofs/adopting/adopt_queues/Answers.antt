@@ -15,7 +15,7 @@ put_at-requires c =
     let told = map queue.rows_of c.args.queues.now.items in
     let news = c.loop-place.new_queues.items in
     let rs = c.args.settings.now in
-    let made = ap length c.loop-place.invariant.rows ∙ so_far_length c.args.kept.now told c.loop-place.place rs in
+    let made = ap length c.loop-place.invariant.rows ∙ so_far_length c.args.held.now told c.loop-place.place rs in
     let many : length news ≡ length rs = sym (length-map news queue.rows_of) ∙ made in
     omega (arith, many, c.loop-place.new_queues.ok.0, c.loop-place-test.true)
 
@@ -40,11 +40,11 @@ loop-place-preserved c =
         | in-Some w ↦ rw w.new_queues-is (
             ap (map queue.rows_of) w.put_at.ensures.rows ∙ map_set queue.rows_of c.loop-place.new_queues.items k w.resized.result
             ∙ ap (λ l. set l k (queue.rows_of w.resized.result)) was.rows
-            ∙ so_far_one c.args.kept.now told k rs r (queue.rows_of w.in-Some.table) (queue.rows_of w.resized.result) within is (sym found ∙ ap (option_map queue.rows_of) w.in-Some.is) w.resized.ensures.rows
-            ∙ ap (λ n. rows_so_far c.args.kept.now told n rs) step)
+            ∙ so_far_one c.args.held.now told k rs r (queue.rows_of w.in-Some.table) (queue.rows_of w.resized.result) within is (sym found ∙ ap (option_map queue.rows_of) w.in-Some.is) w.resized.ensures.rows
+            ∙ ap (λ n. rows_so_far c.args.held.now told n rs) step)
         | in_default w ↦ rw w.new_queues-is (
-            was.rows ∙ so_far_none c.args.kept.now told k rs r within is (sym found ∙ ap (option_map queue.rows_of) w.in_default.is)
-            ∙ ap (λ n. rows_so_far c.args.kept.now told n rs) step)
+            was.rows ∙ so_far_none c.args.held.now told k rs r within is (sym found ∙ ap (option_map queue.rows_of) w.in_default.is)
+            ∙ ap (λ n. rows_so_far c.args.held.now told n rs) step)
       ];
       left = subst (λ n. AreLeft told nexts n rs) step (left_more told lefts nexts k rs r within is others was.left);
       kept = c.take_named.ensures.kept;

@@ -8,7 +8,7 @@ abbrev pub invariant-loop-place : goal.invariant-loop-place
 invariant-loop-place l =
     let told = map queue.rows_of l.fn.queues.items in
     record {
-      rows : map queue.rows_of l.new_queues.items ≡ rows_so_far l.kept told l.place l.settings;
+      rows : map queue.rows_of l.new_queues.items ≡ rows_so_far l.held told l.place l.settings;
       left : AreLeft told (map queue.rows_of l.queues.items) l.place l.settings;
       kept : AllByRecursion queue.IsKept l.queues.items;
       new_kept : AllByRecursion queue.IsKept l.new_queues.items;

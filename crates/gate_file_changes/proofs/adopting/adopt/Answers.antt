@@ -19,13 +19,13 @@ returns-in-Ok-write_rows-clause-made g c clean text x has can =
     let early : HasCleanDisk mid = c.write_rows.ensures.clean clean in
     let shows : Shows old b = λ up. record { schema_is = has; stands = can.stands.stands } in
     let whole = rows_are_whole can.lawful can.stands.tells in
-    let queues : c.in-Ok.queues ≡ map (resized c.args.kept.now b.queues) c.args.config.now.queues =
-    c.in-Ok.ensures.found early b shows whole ∙ ap (λ qs. map (resized c.args.kept.now b.queues) qs) (c.as_slice.ensures ∙ ap (λ (s : Settings). s.queues) c.config.view_is) in
+    let queues : c.in-Ok.queues ≡ map (resized c.args.held.now b.queues) c.args.config.now.queues =
+    c.in-Ok.ensures.found early b shows whole ∙ ap (λ qs. map (resized c.args.held.now b.queues) qs) (c.as_slice.ensures ∙ ap (λ (s : Settings). s.queues) c.config.view_is) in
     let still : Shows mid b = shown_still old mid b (c.resized_queues.ensures.only_reads.stays early) shows in
     let shown = c.in-Ok-write_rows.ensures.all clean b still in
     record {
       schema_is = shown.schema_is;
-      stands = stands_adopted old.now.trees new.now.trees c.args.kept.now c.args.config.now x c.args.settings.now can text
+      stands = stands_adopted old.now.trees new.now.trees c.args.held.now c.args.config.now x c.args.settings.now can text
           (subst (λ qs. Stands new.now.trees (rewritten c.args.settings.now qs b)) (c.as_slice-2.ensures ∙ queues) shown.stands);
     }
 
@@ -37,12 +37,12 @@ returns-in-Ok-write_rows-clause-crash g c clean text x has can db left =
     let early : HasCleanDisk mid = c.write_rows.ensures.clean clean in
     let shows : Shows old b = λ up. record { schema_is = has; stands = can.stands.stands } in
     let whole = rows_are_whole can.lawful can.stands.tells in
-    let queues : c.in-Ok.queues ≡ map (resized c.args.kept.now b.queues) c.args.config.now.queues =
-    c.in-Ok.ensures.found early b shows whole ∙ ap (λ qs. map (resized c.args.kept.now b.queues) qs) (c.as_slice.ensures ∙ ap (λ (s : Settings). s.queues) c.config.view_is) in
+    let queues : c.in-Ok.queues ≡ map (resized c.args.held.now b.queues) c.args.config.now.queues =
+    c.in-Ok.ensures.found early b shows whole ∙ ap (λ qs. map (resized c.args.held.now b.queues) qs) (c.as_slice.ensures ∙ ap (λ (s : Settings). s.queues) c.config.view_is) in
     let still : Shows mid b = shown_still old mid b (c.resized_queues.ensures.only_reads.stays early) shows in
     elim (c.write_rows.ensures.crash clean b still db left) [
       | inl before ↦ elim ((c.resized_queues.ensures.only_reads.crash early).crash early db before) [ inl first ↦ inl first | inr none ↦ absurd none ]
-      | inr stands ↦ inr (stands_adopted old.now.trees db c.args.kept.now c.args.config.now x c.args.settings.now can text
+      | inr stands ↦ inr (stands_adopted old.now.trees db c.args.held.now c.args.config.now x c.args.settings.now can text
           (subst (λ qs. Stands db (rewritten c.args.settings.now qs b)) (c.as_slice-2.ensures ∙ queues) stands))
     ]
 
@@ -54,11 +54,11 @@ returns-clause-crash g c clean text x has can db left =
     let early : HasCleanDisk mid = c.write_rows.ensures.clean clean in
     let shows : Shows old b = λ up. record { schema_is = has; stands = can.stands.stands } in
     let whole = rows_are_whole can.lawful can.stands.tells in
-    let queues : c.in-Ok.queues ≡ map (resized c.args.kept.now b.queues) c.args.config.now.queues =
-    c.in-Ok.ensures.found early b shows whole ∙ ap (λ qs. map (resized c.args.kept.now b.queues) qs) (c.as_slice.ensures ∙ ap (λ (s : Settings). s.queues) c.config.view_is) in
+    let queues : c.in-Ok.queues ≡ map (resized c.args.held.now b.queues) c.args.config.now.queues =
+    c.in-Ok.ensures.found early b shows whole ∙ ap (λ qs. map (resized c.args.held.now b.queues) qs) (c.as_slice.ensures ∙ ap (λ (s : Settings). s.queues) c.config.view_is) in
     let still : Shows mid b = shown_still old mid b (c.resized_queues.ensures.only_reads.stays early) shows in
     elim (c.write_rows.ensures.crash clean b still db left) [
       | inl before ↦ elim ((c.resized_queues.ensures.only_reads.crash early).crash early db before) [ inl first ↦ inl first | inr none ↦ absurd none ]
-      | inr stands ↦ inr (stands_adopted old.now.trees db c.args.kept.now c.args.config.now x c.args.settings.now can text
+      | inr stands ↦ inr (stands_adopted old.now.trees db c.args.held.now c.args.config.now x c.args.settings.now can text
           (subst (λ qs. Stands db (rewritten c.args.settings.now qs b)) (c.as_slice-2.ensures ∙ queues) stands))
     ]

@@ -16,6 +16,6 @@ invariant-loop-queue g l =
       len : vec_len l.found ≡ l.queue-index;
       room : length l.queues ≤ vec_capacity l.found;
       found : HasCleanDisk new → (b : Stored) → Shows old b → IsWhole b →
-          l.found.items ≡ map (resized l.kept b.queues) (take l.queue-index l.queues);
+          l.found.items ≡ map (resized l.held b.queues) (take l.queue-index l.queues);
       only_reads : IsOnlyRead old new;
     }
