@@ -12,7 +12,7 @@ use gate_types::adopting::adopted_window;
 use gate_types::config::{Config, Queue};
 
 /// Where the queue of a name stands, if there is one.
-fn place_of(queues: &[QueueTable], name: &str) -> Option<usize>
+fn index_of(queues: &[QueueTable], name: &str) -> Option<usize>
     requires { AllByRecursion queue.IsKept queues.now }
     ensures { result ≡ position (λ q. same_name q.name name.now) queues.now }
 {
@@ -29,9 +29,9 @@ fn take_named(queues: &mut Vec<QueueTable>, name: &str) -> Option<QueueTable>
     ensures kept { AllByRecursion queue.IsKept queues.new.items }
     ensures one { IfSome result queue.IsKept }
 {
-    match place_of(queues, name) {
+    match index_of(queues, name) {
         None => None,
-        Some(place) => Some(queues.remove(place)),
+        Some(index) => Some(queues.remove(index)),
     }
 }
 
@@ -60,9 +60,9 @@ pub(crate) fn adopt_queues(
         ≡ map (adopted_rows held.now (map queue.rows_of queues.old.items)) settings.now }
     ensures kept { AllByRecursion queue.IsKept new_queues.new.items }
 {
-    for (place, setting) in settings.iter().enumerate() {
+    for (index, setting) in settings.iter().enumerate() {
         if let Some(table) = take_named(queues, setting.name.as_str()) {
-            put_at(new_queues, place, resized(held, setting, table));
+            put_at(new_queues, index, resized(held, setting, table));
         }
     }
 }

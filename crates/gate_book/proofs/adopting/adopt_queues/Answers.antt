@@ -13,23 +13,23 @@ use Rattle.gate_book.proofs.adopting.adopt_queues.Goals.{in-Some, in_default}
 pub put_at-requires : goal.put_at-requires
 put_at-requires c =
     let told = map queue.rows_of c.args.queues.now.items in
-    let news = c.loop-place.new_queues.items in
+    let news = c.loop-index.new_queues.items in
     let rs = c.args.settings.now in
-    let made = ap length c.loop-place.invariant.rows ∙ so_far_length c.args.held.now told c.loop-place.place rs in
+    let made = ap length c.loop-index.invariant.rows ∙ so_far_length c.args.held.now told c.loop-index.index rs in
     let many : length news ≡ length rs = sym (length-map news queue.rows_of) ∙ made in
-    omega (arith, many, c.loop-place.new_queues.ok.0, c.loop-place-test.true)
+    omega (arith, many, c.loop-index.new_queues.ok.0, c.loop-index-test.true)
 
-pub loop-place-preserved : goal.loop-place-preserved
-loop-place-preserved c =
+pub loop-index-preserved : goal.loop-index-preserved
+loop-index-preserved c =
     let told = map queue.rows_of c.args.queues.now.items in
     let rs = c.args.settings.now in
-    let k = c.loop-place.place in
-    let r = c.index-settings-place.result in
-    let is = c.index-settings-place.is in
-    let was = c.loop-place.invariant in
-    let within : k < length rs = omega (arith, c.loop-place-test.true) in
+    let k = c.loop-index.index in
+    let r = c.index-settings-index.result in
+    let is = c.index-settings-index.is in
+    let was = c.loop-index.invariant in
+    let within : k < length rs = omega (arith, c.loop-index-test.true) in
     let step : suc k ≡ k + 1 = omega arith in
-    let lefts = map queue.rows_of c.loop-place.queues.items in
+    let lefts = map queue.rows_of c.loop-index.queues.items in
     let nexts = map queue.rows_of c.take_named.new.queues.items in
     let found : option_map queue.rows_of c.take_named.result ≡ rows_named told r.name =
     c.take_named.ensures.found ∙ ap (rows_named lefts) c.as_str.ensures.value ∙ was.left r.name (not_before k rs r c.requires.differ within is) in
@@ -38,7 +38,7 @@ loop-place-preserved c =
     record {
       rows = elim c.match-take_named.branch [
         | in-Some w ↦ rw w.new_queues-is (
-            ap (map queue.rows_of) w.put_at.ensures.rows ∙ map_set queue.rows_of c.loop-place.new_queues.items k w.resized.result
+            ap (map queue.rows_of) w.put_at.ensures.rows ∙ map_set queue.rows_of c.loop-index.new_queues.items k w.resized.result
             ∙ ap (λ l. set l k (queue.rows_of w.resized.result)) was.rows
             ∙ so_far_one c.args.held.now told k rs r (queue.rows_of w.in-Some.table) (queue.rows_of w.resized.result) within is (sym found ∙ ap (option_map queue.rows_of) w.in-Some.is) w.resized.ensures.rows
             ∙ ap (λ n. rows_so_far c.args.held.now told n rs) step)
@@ -49,7 +49,7 @@ loop-place-preserved c =
       left = subst (λ n. AreLeft told nexts n rs) step (left_more told lefts nexts k rs r within is others was.left);
       kept = c.take_named.ensures.kept;
       new_kept = elim c.match-take_named.branch [
-        | in-Some w ↦ rw w.new_queues-is (subst (λ l. AllByRecursion queue.IsKept l) (sym w.put_at.ensures.rows) (all_set queue.IsKept c.loop-place.new_queues.items k w.resized.result was.new_kept w.resized.ensures.kept))
+        | in-Some w ↦ rw w.new_queues-is (subst (λ l. AllByRecursion queue.IsKept l) (sym w.put_at.ensures.rows) (all_set queue.IsKept c.loop-index.new_queues.items k w.resized.result was.new_kept w.resized.ensures.kept))
         | in_default w ↦ rw w.new_queues-is was.new_kept
       ];
     }
