@@ -67,9 +67,9 @@ fn lines_within(text: &str, length: usize) -> usize {
 
 /// So many of the lines' ids are spent, and the lines get their answers, new or kept.
 fn continues<B: Book>(rt: &(impl Abort + AllocGlobal), gate: &mut Gate<B>, spent: usize) {
-    for (place, other) in OTHERS.lines().enumerate() {
+    for (index, other) in OTHERS.lines().enumerate() {
         let (_count, written) = replayed(rt, gate, other, (MANY, MANY), MANY);
-        let answer = if place < spent { REUSED } else { UNKNOWN };
+        let answer = if index < spent { REUSED } else { UNKNOWN };
         is_at(rt, written.as_str(), answer, spent, "ids spent:");
     }
     let (count, written) = replayed(rt, gate, LINES, (MANY, MANY), MANY);

@@ -104,8 +104,8 @@ impl Life {
     }
 
     fn some_row<'a>(&mut self, board: &'a Board) -> Option<&'a Row> {
-        let place = self.roll(board.rows.len() as u64);
-        board.rows.get(place as usize)
+        let index = self.roll(board.rows.len() as u64);
+        board.rows.get(index as usize)
     }
 
     /// An item whose change needs some of those that stand, where there is room for it.
