@@ -1,5 +1,5 @@
 -- A put of a change that a later one replaces changes nothing.
-use Rattle.std.proofs.Common.{◌≡◌, ◌≢◌, ℕ, Bool, true, false, not, cond, List, [], ◌∷◌, ◌++◌, reverse, refl, sym, ap}
+use Rattle.std.proofs.Common.{◌≡◌, ℕ, Bool, true, false, not, cond, List, [], ◌∷◌, ◌++◌, reverse, refl, sym, ap}
 use Rattle.std.proofs.Common.{◌∙◌, arith, true≢false}
 use Rattle.std.specs.Prelude.{◌==◌, ◌||◌}
 use Rattle.std.specs.List.{list_any}
@@ -14,22 +14,9 @@ use Rattle.gate_types.specs.Settings.{Settings}
 use Rattle.gate_types.specs.State.{put_by}
 use Rattle.gate_types.specs.Once.{Content}
 use Rattle.gate_types.specs.Tables.{Tables, tables, edited_changes, edited_tables, fold_all, Leads}
+use Rattle.gate_types.proofs.PutLemmas.{put_over, put_swap}
 use Rattle.gate_admission.specs.Candidates.{puts}
 use Rattle.gate_core.specs.Thinned.{is_replaced, thinned, AreNumbersOf}
-
--- ---- puts of rows (gate_book has these two lemmas as well, and keeps them to itself)
-
--- of two puts at one key the later stands
-put_over : {X : Type 0} (key : X → ℕ) (x c : X) (ys : List X) → key x ≡ key c →
-    put_by key c (put_by key x ys) ≡ put_by key c ys
-put_over key x c [] e = grind (arith, e)
-put_over key x c (y ∷ ys) e = grind (arith, e, put_over key x c ys e)
-
--- puts at two keys, in either order
-put_swap : {X : Type 0} (key : X → ℕ) (x c : X) (ys : List X) → key x ≢ key c →
-    put_by key c (put_by key x ys) ≡ put_by key x (put_by key c ys)
-put_swap key x c [] e = grind (arith, e)
-put_swap key x c (y ∷ ys) e = grind (arith, e, put_swap key x c ys e)
 
 -- ---- puts of changes
 

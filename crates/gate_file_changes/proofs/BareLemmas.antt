@@ -1,5 +1,5 @@
 -- The tables made one after the other, each empty.
-use Rattle.std.proofs.Common.{◌≡◌, ℕ, ◌+◌, ◌<◌, ◌≤◌, zero, suc, List, [], ◌∷◌, ◌++◌, map, drop, length, get_or, Ok}
+use Rattle.std.proofs.Common.{◌≡◌, ℕ, ◌+◌, ◌<◌, ◌≤◌, zero, suc, List, [], ◌∷◌, map, drop, length, get_or, Ok}
 use Rattle.std.proofs.Common.{Err, Result, inl, inr, ap, subst, ◌∙◌, arith}
 use Rattle.std.specs.List.{AllByRecursion}
 use Rattle.sqlite.specs.Table.{Table}
@@ -17,16 +17,12 @@ use Rattle.sqlite.proofs.Callers.{IsPlain, command_of, statement_of}
 use Rattle.gate_schema.specs.Made.{IsPlainly, MakesOf, MakesTableOf, MakesIndexOf, Leads}
 use Rattle.gate_file_changes.specs.Making.{IsBare}
 use Rattle.gate_file_changes.proofs.MakeLemmas.{makes_table, makes_index}
+use Rattle.gate_types.proofs.PlainLemmas.{all_push}
 
 -- what a plain text is, part by part
 pub plain_parts : (r : Result Compiled CompileError) (command : Command) (sql : List ℕ) → IsPlainly r command sql → (command_of r ≡ command) × IsPlain r × (statement_of sql r ≡ sql)
 plain_parts (Ok c) command sql h = (h.0, (h.1, h.2), h.3)
 plain_parts (Err e) command sql h = absurd h
-
--- what is true of all stays so with one more
-all_push : {X : Type 0} (P : X → Type 0) (xs : List X) (x : X) → AllByRecursion P xs → P x → AllByRecursion P (xs ++ x ∷ [])
-all_push P [] x all last = (last, tt)
-all_push P (y ∷ xs) x all last = (all.0, all_push P xs x all.1 last)
 
 -- tables whose rows stay have none, where they had none
 still_empty : (old new : Trees) (tables : List Table) → KeepsRows tables old new → AllByRecursion (λ t. old t.tree ≡ []) tables → AllByRecursion (λ t. new t.tree ≡ []) tables

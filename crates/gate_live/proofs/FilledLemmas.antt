@@ -1,5 +1,5 @@
 -- What was read queue by queue is all that is live.
-use Rattle.std.proofs.Common.{◌≡◌, ℕ, zero, suc, ◌+◌, ◌<◌, ◌≤◌, Bool, true, false, not, cond, Option, Some, None}
+use Rattle.std.proofs.Common.{◌≡◌, ℕ, zero, suc, ◌+◌, ◌<◌, ◌≤◌, true, false, not, cond, Option, Some, None}
 use Rattle.std.proofs.Common.{List, [], ◌∷◌, ◌++◌, length, map, take, get_or, refl, sym, ap, subst, ◌∙◌, arith}
 use Rattle.std.specs.Prelude.{◌&&◌, nat_le, option_map, IfSome}
 use Rattle.std.specs.List.{list_any, list_all}
@@ -10,7 +10,7 @@ use Rattle.std.proofs.lemmas.List.{map-append}
 use Rattle.std.proofs.Math.Seq.{take-suc}
 use Rattle.std.proofs.lemmas.Simd.{map-map}
 use lib.Pointwise.{bytes_decides}
-use Rattle.gate_types.proofs.PlainLemmas.{some_is}
+use Rattle.gate_types.proofs.PlainLemmas.{some_is, fifth_of_eight}
 use Rattle.gate_types.specs.declared.records.Item.{Item}
 use Rattle.gate_types.specs.declared.config.Queue.{Queue as QueueSetting}
 use Rattle.gate_types.specs.Names.{same_name}
@@ -27,7 +27,7 @@ use Rattle.gate_memory.proofs.SortedLemmas.{put_after, rises-at}
 use Rattle.gate_book_trait.specs.Rising.{RisesFrom}
 use Rattle.gate_book_trait.specs.Reads as read
 use Rattle.gate_book_trait.specs.RowReads.{rows_named}
-use Rattle.gate_book_trait.proofs.ReadLemmas.{rows_of_queue, named_is, found_passes, and_first, and_second}
+use Rattle.gate_book_trait.proofs.ReadLemmas.{rows_of_queue, named_is, found_passes}
 use Rattle.gate_live.specs.Live.{LiveQueue, live_queue, edited_live_queue}
 use Rattle.gate_live.specs.Held.{queue_of}
 use Rattle.gate_live.specs.declared.held_queue.HeldQueue.{HeldQueue}
@@ -174,14 +174,11 @@ told_next f qs q rs n r l at before here =
 
 -- ---- the settings
 
-fifth : (a b c d e f g h : Bool) → a && b && c && d && e && f && g && h ≡ true → e ≡ true
-fifth a b c d e f g h all =
-    and_second (a && b && c && d) e (and_first (a && b && c && d && e) f (and_first (a && b && c && d && e && f) g (and_first (a && b && c && d && e && f && g) h all)))
-
 pub names_differ : (c : Settings) (rs : List QueueSetting) → are_sound c ≡ true → rs ≡ c.queues → are_distinct (map (λ (r : QueueSetting). r.name) rs) ≡ true
 names_differ c rs sound e =
     ap (λ (zs : List QueueSetting). are_distinct (map (λ (r : QueueSetting). r.name) zs)) e
-    ∙ fifth (nat_le 1 (length c.queues)) (nat_le (length c.queues) 32) (nat_le 1 (length c.projects)) (nat_le (length c.projects) 256)
+    ∙ fifth_of_eight (nat_le 1 (length c.queues)) (nat_le (length c.queues) 32) (nat_le 1 (length c.projects))
+    (nat_le (length c.projects) 256)
     (are_distinct (map (λ (r : QueueSetting). r.name) c.queues)) (are_distinct (map (λ p. p.name) c.projects)) (list_all is_sound_window c.queues)
     (list_all (λ p. has_queue c.queues p.queue && are_sound_jobs p.jobs) c.projects) sound
 

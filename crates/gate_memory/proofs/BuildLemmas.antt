@@ -7,6 +7,7 @@ use Rattle.std.proofs.lemmas.Bool.{eq-eqb, false≢true}
 use Rattle.gate_types.specs.declared.records.Build.{Build}
 use Rattle.gate_types.specs.State.{put_by}
 use Rattle.gate_types.specs.Rows.{change_build}
+use Rattle.gate_types.proofs.PlainLemmas.{below_or}
 use Rattle.gate_memory.specs.declared.pairs.Pair.{Pair}
 use Rattle.gate_book_trait.specs.Rising.{In}
 use Rattle.gate_memory.specs.Sorted.{without}
@@ -14,7 +15,7 @@ use Rattle.gate_memory.specs.Pairs.{pair_key, IsFit}
 use Rattle.gate_memory.specs.Builds.{TellsLive, number_of, is_live_of, pair_of}
 use Rattle.gate_memory.proofs.PairLemmas.{same_pair, seconds_of, second_in}
 use Rattle.gate_memory.proofs.CollectLemmas.{AreTold}
-use Rattle.gate_memory.proofs.SortedLemmas.{below_or, put_first, put_before, put_after}
+use Rattle.gate_memory.proofs.SortedLemmas.{put_first, put_before, put_after}
 use Rattle.gate_book_trait.proofs.Finding.{in_weaker, all_in}
 
 -- ---- rows that are there

@@ -6,12 +6,13 @@ use Rattle.std.specs.Option.{option_map_or}
 use Rattle.std.proofs.lemmas.Option.{none-some}
 use Rattle.gate_types.specs.declared.rows.ChangeRow.{ChangeRow}
 use Rattle.gate_types.specs.State.{put_by}
+use Rattle.gate_types.proofs.PlainLemmas.{below_or}
 use Rattle.gate_memory.specs.declared.pairs.Pair.{Pair}
 use Rattle.gate_book_trait.specs.Rising.{RisesFrom, In}
 use Rattle.gate_memory.specs.Sorted.{without}
 use Rattle.gate_memory.specs.Pairs.{pair_key, IsFit}
 use Rattle.gate_memory.specs.Changes.{TellsReady, number_of, in_order, entry_of}
-use Rattle.gate_memory.proofs.SortedLemmas.{below_or, put_first, put_before, put_after, rises-put}
+use Rattle.gate_memory.proofs.SortedLemmas.{put_first, put_before, put_after, rises-put}
 use Rattle.gate_memory.proofs.PairLemmas.{same_pair}
 use Rattle.gate_book_trait.proofs.Finding.{all_in}
 use Rattle.gate_memory.proofs.BuildLemmas.{all_put, all_without, in_put, still_in, in_without}

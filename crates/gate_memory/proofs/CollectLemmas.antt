@@ -6,7 +6,8 @@ use Rattle.std.specs.List.{AllByRecursion, filter_map, cons_option}
 use Rattle.std.proofs.lemmas.Bool.{eq-eqb, ne_eqb}
 use Rattle.gate_book_trait.specs.Rising.{RisesFrom, In}
 use Rattle.gate_memory.specs.Sorted.{kept_if, passing}
-use Rattle.gate_memory.proofs.SortedLemmas.{below_or, found_above, in_above}
+use Rattle.gate_memory.proofs.SortedLemmas.{found_above, in_above}
+use Rattle.gate_types.proofs.PlainLemmas.{below_or}
 
 -- each row that passes has its key among these
 abbrev pub AreTold : {X : Type 0} → (X → ℕ) → (X → Bool) → List X → List ℕ → Type 0

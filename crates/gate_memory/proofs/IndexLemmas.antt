@@ -10,6 +10,7 @@ use Rattle.std.proofs.lemmas.Option.{none-some}
 use Rattle.gate_types.specs.declared.records.Build.{Build}
 use Rattle.gate_types.specs.State.{put_by}
 use Rattle.gate_types.specs.Rows.{change_build}
+use Rattle.gate_types.proofs.PlainLemmas.{below_or}
 use Rattle.gate_archive.specs.declared.rows.BuildSummary.{BuildSummary}
 use Rattle.gate_archive.specs.ItemText.{last_of, summary_of}
 use Rattle.gate_book_trait.specs.Rising.{RisesFrom, In}
@@ -18,7 +19,7 @@ use Rattle.gate_memory.specs.declared.pairs.Pair.{Pair}
 use Rattle.gate_memory.specs.Sorted.{without}
 use Rattle.gate_memory.specs.Pairs.{pair_key, IsFit}
 use Rattle.gate_memory.specs.Builds.{Indexes, number_of, is_of, pair_of}
-use Rattle.gate_memory.proofs.SortedLemmas.{below_or, put_first, put_before, put_after, in_above, one_key, rises-put}
+use Rattle.gate_memory.proofs.SortedLemmas.{put_first, put_before, put_after, in_above, one_key, rises-put}
 use Rattle.gate_memory.proofs.SortedLemmas.{rises-without, rises-filter, same_rows}
 use Rattle.gate_memory.proofs.PairLemmas.{same_pair, seconds_of, second_in, seconds_rise, filter_map_seconds}
 use Rattle.gate_memory.proofs.BuildLemmas.{all_put, all_without, in_put, still_in, in_without}

@@ -77,11 +77,6 @@ all_at P [] k d all l = absurd (omega arith)
 all_at P (x ∷ xs) zero d all l = all.0
 all_at P (x ∷ xs) (suc k) d all l = all_at P xs k d all.1 (omega arith)
 
--- one more at the end
-pub all_push : {X : Type 0} (P : X → Type 0) (xs : List X) (x : X) → AllByRecursion P xs → P x → AllByRecursion P (xs ++ x ∷ [])
-all_push P [] x all p = (p, tt)
-all_push P (y ∷ ys) x all p = (all.0, all_push P ys x all.1 p)
-
 -- what a loop leaves of a list is the list that it changed
 pub whole : {X : Type 0} (xs ys : List X) (n : ℕ) → length xs ≡ length ys → n ≡ length ys → take n (xs ++ drop (length xs) ys) ≡ xs
 whole [] [] n e f = ap (λ m. take m []) f

@@ -8,7 +8,7 @@ use Rattle.std.proofs.lemmas.Bool.Decides.{eqb_tells}
 use Rattle.gate_memory.specs.declared.pairs.Pair.{Pair}
 use Rattle.gate_book_trait.specs.Rising.{RisesFrom, In}
 use Rattle.gate_memory.specs.Pairs.{pair_key, IsFit}
-use Rattle.gate_memory.proofs.SortedLemmas.{below_or}
+use Rattle.gate_types.proofs.PlainLemmas.{below_or}
 
 -- no two pairs have one key
 pub same_pair : (p q : Pair) → IsFit p → IsFit q → pair_key p ≡ pair_key q → p ≡ q

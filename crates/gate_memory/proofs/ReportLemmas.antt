@@ -6,13 +6,13 @@ use Rattle.std.proofs.lemmas.List.{take_all, length-drop}
 use Rattle.std.specs.List.{AllByRecursion}
 use Rattle.gate_types.specs.declared.rows.ReportRow.{ReportRow}
 use Rattle.gate_types.specs.State.{put_by}
+use Rattle.gate_types.proofs.PlainLemmas.{below_or}
 use Rattle.gate_book_trait.specs.Rising.{In}
 use Rattle.gate_book_trait.proofs.Finding.{in_weaker, all_in, rest_none}
 use Rattle.gate_memory.specs.declared.pairs.Pair.{Pair}
 use Rattle.gate_memory.specs.Pairs.{pair_key, IsFit}
 use Rattle.gate_memory.specs.Reports.{TellsReports, report_place, is_of_serial, entry_of}
 use Rattle.gate_memory.proofs.PairLemmas.{same_pair, seconds_of, second_in}
-use Rattle.gate_memory.proofs.SortedLemmas.{below_or}
 use Rattle.gate_memory.proofs.CollectLemmas.{AreTold}
 use Rattle.gate_memory.proofs.BuildLemmas.{all_put, in_put, still_in}
 

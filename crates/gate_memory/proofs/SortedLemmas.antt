@@ -5,14 +5,12 @@ use Rattle.std.specs.Prelude.{◌==◌, ◌+◌, ◌-◌, ◌&&◌, nat_lt, nat_
 use Rattle.std.specs.Prelude.{slice_get, map, Option, option_map, unwrap_or}
 use Rattle.std.specs.List.{AllWithin, AllByRecursion}
 use Rattle.std.proofs.lemmas.Bool.{eq-eqb, ne_eqb, le-ltb, lt-ltb, le-leb, lt-leb}
-use Rattle.std.proofs.lemmas.Bool.Decides.{leb_tells, eqb_tells}
+use Rattle.std.proofs.lemmas.Bool.Decides.{eqb_tells}
 use Rattle.gate_types.specs.State.{put_by}
+use Rattle.gate_types.proofs.PlainLemmas.{below_or}
 use Rattle.std.proofs.lemmas.Option.{none-some, slice_get-get_or}
 use Rattle.gate_book_trait.specs.Rising.{RisesFrom, In}
 use Rattle.gate_memory.specs.Sorted.{IsAt, place_in, without}
-
-pub below_or : (a b : ℕ) → (a < b) ⊎ (b ≤ a)
-below_or a b = ⊎_elim (λ t. inl (omega (arith, t.1))) (λ t. inr (omega (arith, t.1))) (leb_tells (suc a) b)
 
 -- what stands at a place needs no default
 pub get_or_any : {X : Type 0} (xs : List X) (i : ℕ) (d e : X) → i < length xs → get_or xs i d ≡ get_or xs i e
@@ -236,15 +234,6 @@ rises-filter key test m (x ∷ xs) r = by_test (test x) (rises-filter key test (
     by_test : (t : Bool) → RisesFrom key (suc (key x)) (filter test xs) → RisesFrom key m (cond t (x ∷ filter test xs) (filter test xs))
     by_test true rest = (r.0, rest)
     by_test false rest = let above : m ≤ key x = r.0 in rises-more key m (suc (key x)) (filter test xs) (omega arith) rest
-
--- two tests, one after the other
-pub filter_twice : {X : Type 0} (p q : X → Bool) (xs : List X) → filter q (filter p xs) ≡ filter (λ x. p x && q x) xs
-filter_twice p q [] = refl
-filter_twice p q (x ∷ xs) = by_test (p x) (filter_twice p q xs)
-  where
-    by_test : (t : Bool) → filter q (filter p xs) ≡ filter (λ y. p y && q y) xs → filter q (cond t (x ∷ filter p xs) (filter p xs)) ≡ cond (t && q x) (x ∷ filter (λ y. p y && q y) xs) (filter (λ y. p y && q y) xs)
-    by_test true rest = ap (λ ys. cond (q x) (x ∷ ys) ys) rest
-    by_test false rest = rest
 
 -- the last of some rows, or what was found before them
 abbrev last_of : {X : Type 0} → Option X → List X → Option X

@@ -4,7 +4,8 @@ use Rattle.std.proofs.Common.{length, take, drop, get_or, set, refl, sym, ap, su
 use Rattle.std.specs.Prelude.{filter}
 use Rattle.std.specs.List.{swap}
 use Rattle.gate_book_trait.proofs.Finding.{rest_at}
-use Rattle.gate_memory.proofs.SortedLemmas.{below_or, get_or_any}
+use Rattle.gate_memory.proofs.SortedLemmas.{get_or_any}
+use Rattle.gate_types.proofs.PlainLemmas.{below_or}
 
 -- rows set at two places: what stands up to the first, and behind the second
 front : {X : Type 0} (i j : ℕ) (a b : X) (xs : List X) → i < j → i < length xs → take (suc i) (set (set xs i a) j b) ≡ take i xs ++ a ∷ []

@@ -1,5 +1,5 @@
 -- Rows in the order in which their keys came first, beside the list that is sorted by key.
-use Rattle.std.proofs.Common.{◌≡◌, ◌≢◌, ℕ, suc, ◌<◌, ⊎_elim, Bool, true, false, cond, Option, Some, None, List, []}
+use Rattle.std.proofs.Common.{◌≡◌, ℕ, suc, ◌<◌, ⊎_elim, Bool, true, false, cond, Option, Some, None, List, []}
 use Rattle.std.proofs.Common.{◌∷◌, ◌++◌, length, set, refl, sym, ap, ◌∙◌, arith}
 use Rattle.std.specs.Prelude.{◌==◌, nat_eq, slice_get, unwrap_or, find}
 use Rattle.std.specs.Option.{option_or, option_map}
@@ -9,47 +9,10 @@ use Rattle.std.proofs.lemmas.Bool.Decides.{eqb_tells}
 use Rattle.std.proofs.lemmas.Option.{none-some}
 use Rattle.gate_types.specs.State.{put_by}
 use Rattle.gate_types.specs.declared.rows.ChangeRow.{ChangeRow}
+use Rattle.gate_types.proofs.PlainLemmas.{below_or}
+use Rattle.gate_types.proofs.PutLemmas.{put_over, put_swap}
 use Rattle.gate_memory.specs.Changes.{Numbers, FindsNumbers, number_of, in_order, place_at}
-use Rattle.gate_memory.proofs.SortedLemmas.{below_or, put_first, put_before, put_after}
-
--- of two puts at one key the later stands
-put_over : {X : Type 0} (key : X → ℕ) (x c : X) (ys : List X) → key x ≡ key c → put_by key c (put_by key x ys) ≡ put_by key c ys
-put_over key x c [] e = put_first key c x [] (sym e)
-put_over key x c (y ∷ ys) e = ⊎_elim
-    (λ l. ap (put_by key c) (put_before key x y ys l) ∙ put_first key c x (y ∷ ys) (sym e) ∙ sym (put_before key c y ys (omega (arith, e))))
-    (λ l. ⊎_elim
-    (λ m. ap (put_by key c) (put_after key x y ys m) ∙ put_after key c y (put_by key x ys) (omega (arith, e)) ∙ ap (λ zs. y ∷ zs) (put_over key x c ys e) ∙ sym (put_after key c y ys (omega (arith, e))))
-    (λ m. ap (put_by key c) (put_first key x y ys (omega arith)) ∙ put_first key c x ys (sym e) ∙ sym (put_first key c y ys (omega (arith, e))))
-    (below_or (key y) (key x)))
-    (below_or (key x) (key y))
-
--- puts at two keys, in either order
-put_commute : {X : Type 0} (key : X → ℕ) (x c : X) (ys : List X) → key x < key c → put_by key x (put_by key c ys) ≡ put_by key c (put_by key x ys)
-put_commute key x c [] l = put_before key x c [] l ∙ sym (put_after key c x [] l)
-put_commute key x c (y ∷ ys) l = ⊎_elim
-    (λ cy. ap (put_by key x) (put_before key c y ys cy) ∙ put_before key x c (y ∷ ys) l
-    ∙ sym (ap (put_by key c) (put_before key x y ys (omega arith)) ∙ put_after key c x (y ∷ ys) l ∙ ap (λ zs. x ∷ zs) (put_before key c y ys cy)))
-    (λ yc. ⊎_elim
-    (λ yx. ⊎_elim
-    (λ m. ap (put_by key x) (put_after key c y ys m) ∙ put_after key x y (put_by key c ys) yx ∙ ap (λ zs. y ∷ zs) (put_commute key x c ys l)
-    ∙ sym (ap (put_by key c) (put_after key x y ys yx) ∙ put_after key c y (put_by key x ys) m))
-    (λ m. absurd (omega arith))
-    (below_or (key y) (key c)))
-    (λ xy. ⊎_elim
-    (λ m. ⊎_elim
-    (λ n. ap (put_by key x) (put_after key c y ys n) ∙ put_before key x y (put_by key c ys) m
-    ∙ sym (ap (put_by key c) (put_before key x y ys m) ∙ put_after key c x (y ∷ ys) l ∙ ap (λ zs. x ∷ zs) (put_after key c y ys n)))
-    (λ n. let e : key c ≡ key y = omega arith in ap (put_by key x) (put_first key c y ys e) ∙ put_before key x c ys l
-    ∙ sym (ap (put_by key c) (put_before key x y ys m) ∙ put_after key c x (y ∷ ys) l ∙ ap (λ zs. x ∷ zs) (put_first key c y ys e)))
-    (below_or (key y) (key c)))
-    (λ m. let e : key x ≡ key y = omega arith in let n : key y < key c = omega arith in ap (put_by key x) (put_after key c y ys n) ∙ put_first key x y (put_by key c ys) e
-    ∙ sym (ap (put_by key c) (put_first key x y ys e) ∙ put_after key c x ys l))
-    (below_or (key x) (key y)))
-    (below_or (key y) (key x)))
-    (below_or (key c) (key y))
-
-put_swap : {X : Type 0} (key : X → ℕ) (x c : X) (ys : List X) → key x ≢ key c → put_by key x (put_by key c ys) ≡ put_by key c (put_by key x ys)
-put_swap key x c ys ne = ⊎_elim (λ l. put_commute key x c ys l) (λ l. let m : key c < key x = omega (arith, ne) in sym (put_commute key c x ys m)) (below_or (key x) (key c))
+use Rattle.gate_memory.proofs.SortedLemmas.{put_first, put_before, put_after}
 
 pub some_at : (o : Option ℕ) (i : ℕ) → option_map (λ j. suc j) o ≡ Some i → (j : ℕ) × (o ≡ Some j) × (i ≡ suc j)
 some_at None i e = absurd (none-some i e)
@@ -69,7 +32,7 @@ in_order_set key x (y ∷ ys) i e = ⊎_elim
     (λ t. let z : 0 ≡ i = ap (λ o. unwrap_or o 0) (sym (ap (λ b. at_head b (place_at key (key x) ys)) t.0) ∙ e) in
     sym (ap (λ k. in_order key (set (y ∷ ys) k x)) z) ∙ sym (put_over key y x (in_order key ys) t.1))
     (λ t. let s = some_at (place_at key (key x) ys) i (sym (ap (λ b. at_head b (place_at key (key x) ys)) t.0) ∙ e) in
-    ap (λ k. in_order key (set (y ∷ ys) k x)) s.2 ∙ ap (put_by key y) (in_order_set key x ys s.0 s.1) ∙ put_swap key y x (in_order key ys) t.1)
+    ap (λ k. in_order key (set (y ∷ ys) k x)) s.2 ∙ ap (put_by key y) (in_order_set key x ys s.0 s.1) ∙ sym (put_swap key y x (in_order key ys) t.1))
     (eqb_tells (key y) (key x))
 
 -- a row of a new key is put at the end
@@ -78,7 +41,7 @@ in_order_push key x [] e = refl
 in_order_push key x (y ∷ ys) e = ⊎_elim
     (λ t. absurd (none-some 0 (sym e ∙ ap (λ b. at_head b (place_at key (key x) ys)) t.0)))
     (λ t. let n = none_at (place_at key (key x) ys) (sym (ap (λ b. at_head b (place_at key (key x) ys)) t.0) ∙ e) in
-    ap (put_by key y) (in_order_push key x ys n) ∙ put_swap key y x (in_order key ys) t.1)
+    ap (put_by key y) (in_order_push key x ys n) ∙ sym (put_swap key y x (in_order key ys) t.1))
     (eqb_tells (key y) (key x))
 
 pub place_bound : {X : Type 0} (key : X → ℕ) (n : ℕ) (rows : List X) (i : ℕ) → place_at key n rows ≡ Some i → i < length rows

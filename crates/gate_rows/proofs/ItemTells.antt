@@ -14,10 +14,11 @@ use Rattle.gate_types.specs.State.{put_by}
 use Rattle.gate_types.specs.Tables.{QueueRows, Tables, edited_queue, edited_tables}
 use Rattle.gate_types.specs.declared.edits.Edit.TheVariants as edit
 use Rattle.gate_types.specs.declared.records.Item.{Item}
+use Rattle.gate_types.proofs.PlainLemmas.{below_or}
 use Rattle.gate_schema.specs.Edits.{after_edit, item_in}
 use Rattle.gate_schema.specs.Rows.{ItemRow, QueueRow, Stored, item_key}
 use Rattle.gate_rows.specs.Tells.{Fits, IsInOrder, IsQueue, Tells, items_of, landings_of, placed, reports_of}
-use Rattle.gate_rows.proofs.PutLemmas.{below_or, put_after, put_before, put_first, put_is}
+use Rattle.gate_rows.proofs.PutLemmas.{put_after, put_before, put_first, put_is}
 use Rattle.gate_rows.proofs.TellsLemmas.{of_queue_changed, of_queue_same, placed_same}
 
 -- ---- names

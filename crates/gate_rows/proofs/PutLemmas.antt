@@ -11,19 +11,13 @@ use Rattle.std.proofs.lemmas.List.Sorted.{IsPermutation-refl, IsPermutation-cons
 use Rattle.std.proofs.lemmas.List.Sorted.{IsPermutation-trans}
 use Rattle.sqlite_keyed.specs.Keyed.{IsKeyedBy, insert_by}
 use Rattle.gate_types.specs.State.{put_by}
+use Rattle.gate_types.proofs.PlainLemmas.{below_or}
 
 cmp_above : (a b : ℕ) → a < b → int_cmp (pos b) (pos a) ≡ Greater
 cmp_above a b less = grind (arith, nat_tests, ints)
 
 cmp_below : (a b : ℕ) → b < a → int_cmp (pos b) (pos a) ≡ Less
 cmp_below a b less = grind (arith, nat_tests, ints)
-
-pub below_or : (a b : ℕ) → (a < b) ⊎ (b ≤ a)
-below_or a b = go (ltb a b) refl
-  where
-    go : (less : Bool) → ltb a b ≡ less → (a < b) ⊎ (b ≤ a)
-    go true l = let h : a < b = grind (arith, nat_tests) in inl h
-    go false l = let h : b ≤ a = grind (arith, nat_tests) in inr h
 
 module _ {X : Type 0} (key : X → ℕ) where
   -- rows above a key are kept where a row of that key, or of a lower one, is taken out

@@ -65,14 +65,3 @@ filter_kept {X = X} p f h (x ∷ xs) =
         (cond b (x ∷ filter p xs) (filter p xs))
     by_test true = refl
     by_test false = refl
-
--- what two filters keep
-pub filter_twice : {X : Type 0} (p q : X → Bool) (xs : List X) → filter q (filter p xs) ≡ filter (λ x. p x && q x) xs
-filter_twice p q [] = refl
-filter_twice {X = X} p q (x ∷ xs) = by_test (p x) (filter_twice p q xs)
-  where
-    by_test : (b : Bool) → filter q (filter p xs) ≡ filter (λ y. p y && q y) xs →
-        filter q (cond b (x ∷ filter p xs) (filter p xs))
-        ≡ cond (b && q x) (x ∷ filter (λ y. p y && q y) xs) (filter (λ y. p y && q y) xs)
-    by_test true rest = ap (λ l. cond (q x) (x ∷ l) l) rest
-    by_test false rest = rest

@@ -7,4 +7,5 @@ pub mod OneTextLaw
 pub mod PlainLemmas
 pub mod DigitLemmas
 pub mod NameLemmas
+pub mod PutLemmas
 mod DistinctLemmas

@@ -1,6 +1,9 @@
 -- Truth values, numbers, options and lists.
-use Rattle.std.proofs.Common.{◌≡◌, Bool, true, false, ◌&&◌, refl, sym, ℕ, Option, Some, ap, None}
-use Rattle.std.specs.Prelude.{unwrap_or}
+use Rattle.std.proofs.Common.{◌≡◌, Bool, true, false, ◌&&◌, cond, refl, sym, ℕ, suc, ◌<◌, ◌≤◌, ◌⊎◌, inl, inr, ⊎_elim}
+use Rattle.std.proofs.Common.{Option, Some, None, List, [], ◌∷◌, ◌++◌, ap, true≢false, arith}
+use Rattle.std.specs.Prelude.{unwrap_or, filter}
+use Rattle.std.specs.List.{AllByRecursion}
+use Rattle.std.proofs.lemmas.Bool.Decides.{leb_tells}
 
 pub and_false : (b : Bool) → b && false ≡ false
 and_false true = refl
@@ -11,6 +14,18 @@ same_truth true b f g = sym (f refl)
 same_truth false true f g = g refl
 same_truth false false f g = refl
 
+-- the fifth of eight
+pub fifth_of_eight : (a b c d e f g h : Bool) → a && b && c && d && e && f && g && h ≡ true → e ≡ true
+fifth_of_eight a b c d true f g h k = refl
+fifth_of_eight true true true true false f g h k = absurd (true≢false (sym k))
+fifth_of_eight true true true false false f g h k = absurd (true≢false (sym k))
+fifth_of_eight true true false d false f g h k = absurd (true≢false (sym k))
+fifth_of_eight true false c d false f g h k = absurd (true≢false (sym k))
+fifth_of_eight false b c d false f g h k = absurd (true≢false (sym k))
+
+pub below_or : (a b : ℕ) → (a < b) ⊎ (b ≤ a)
+below_or a b = ⊎_elim (λ t. inl (omega (arith, t.1))) (λ t. inr (omega (arith, t.1))) (leb_tells (suc a) b)
+
 pub some_is : (a b : ℕ) → Some a ≡ Some b → a ≡ b
 some_is a b e = ap (λ (o : Option ℕ). unwrap_or o a) e
 
@@ -18,3 +33,20 @@ some_is a b e = ap (λ (o : Option ℕ). unwrap_or o a) e
 pub none_unless : {A : Type 0} (o : Option A) → ((u : A) → o ≡ Some u → ⊥) → o ≡ None
 none_unless None h = refl
 none_unless (Some u) h = absurd (h u refl)
+
+-- what two filters keep
+pub filter_twice : {X : Type 0} (p q : X → Bool) (xs : List X) → filter q (filter p xs) ≡ filter (λ x. p x && q x) xs
+filter_twice p q [] = refl
+filter_twice {X = X} p q (x ∷ xs) = by_test (p x) (filter_twice p q xs)
+  where
+    by_test : (b : Bool) → filter q (filter p xs) ≡ filter (λ y. p y && q y) xs →
+        filter q (cond b (x ∷ filter p xs) (filter p xs))
+        ≡ cond (b && q x) (x ∷ filter (λ y. p y && q y) xs) (filter (λ y. p y && q y) xs)
+    by_test true rest = ap (λ l. cond (q x) (x ∷ l) l) rest
+    by_test false rest = rest
+
+-- what is true of all stays so with one more
+pub all_push : {X : Type 0} (P : X → Type 0) (xs : List X) (x : X) → AllByRecursion P xs → P x →
+    AllByRecursion P (xs ++ x ∷ [])
+all_push P [] x all last = (last, tt)
+all_push P (y ∷ xs) x all last = (all.0, all_push P xs x all.1 last)

@@ -4,7 +4,7 @@ use Rattle.std.specs.List.{AllByRecursion}
 use Rattle.std.proofs.lemmas.List.{take_all}
 use Rattle.gate_types.specs.declared.config.Queue.{Queue as QueueSetting}
 use Rattle.gate_types.specs.Tables.{tables}
-use Rattle.gate_memory.proofs.LoopLemmas.{all_push}
+use Rattle.gate_types.proofs.PlainLemmas.{all_push}
 use Rattle.gate_book_trait.specs.RowReads.{rows_named}
 use Rattle.gate_live.specs.Live.{LiveQueue, live_queue}
 use Rattle.gate_live.specs.Held.{IsKeptQueue, queue_of}

@@ -1,7 +1,7 @@
 use Rattle.std.proofs.Common.{◌≡◌, Bool, ap, ◌∙◌}
 use Rattle.std.specs.Prelude.{filter, nat_lt, nat_le}
 use Rattle.gate_types.specs.declared.records.Item.{Item}
-use Rattle.gate_memory.proofs.SortedLemmas.{filter_twice}
+use Rattle.gate_types.proofs.PlainLemmas.{filter_twice}
 use Rattle.gate_memory.proofs.queues.QueueTable.items_between.Goals as goal
 
 pub returns : goal.returns
