@@ -21,6 +21,7 @@ use Rattle.gate_laws.proofs.Members.{In, every, found, not_found, from_filter, t
 use Rattle.gate_laws.proofs.Members.{to_right}
 use Rattle.gate_laws.proofs.Rising.{Rising, rising}
 use Rattle.gate_laws.proofs.Counts.{distinct_from, times-append, one_of}
+use Rattle.gate_laws.proofs.RecordedChange.{known_number}
 use Rattle.gate_admission.specs.Led.{IsLed}
 use Rattle.gate_admission.specs.Seen.{ready_after, ready_without, with_approval}
 use Rattle.gate_admission.proofs.Rows.{find_put}
@@ -295,9 +296,6 @@ row_tells s n =
     by_found None = refl
     by_found (Some k) = refl
 
-pub number_is : (s : State) (n : ℕ) (k : Change) → known_change s n ≡ Some k → k.number ≡ n
-number_is s n k e = eqb-true k.number n (found (λ (j : Change). j.number == n) s.changes k e).1
-
 listed : (rs : List Ready) (r : Ready) → Apart rs → In r rs → approval_of rs r.change ≡ Some r.approval
 listed rs r apart m = by_found (find (λ (t : Ready). t.change == r.change) rs) refl
   where
@@ -332,14 +330,14 @@ ready_of_sound c s sound =
           let known = open_known s r.change (every (λ (t : Ready). is_open (change_of s t.change) ≡ true) s.ready
           sound.ready_are_open r m) in
           row_tells s r.change ∙ ap (option_and_then (λ (k : Change). approval_of s.ready k.number)) known.1
-          ∙ ap (approval_of s.ready) (number_is s r.change known.0 known.1) ∙ listed s.ready r apart m;
+          ∙ ap (approval_of s.ready) (known_number s r.change known.0 known.1) ∙ listed s.ready r apart m;
       there = λ r e. by_known r (known_change s r.change) refl (sym (row_tells s r.change) ∙ e);
     }
   where
     by_known : (r : Ready) (o : Option Change) → known_change s r.change ≡ o →
         option_and_then (λ (k : Change). approval_of s.ready k.number) o ≡ Some r.approval → In r s.ready
     by_known r None f e = absurd (none-some r.approval e)
-    by_known r (Some k) f e = unlisted s.ready r (ap (approval_of s.ready) (sym (number_is s r.change k f)) ∙ e)
+    by_known r (Some k) f e = unlisted s.ready r (ap (approval_of s.ready) (sym (known_number s r.change k f)) ∙ e)
 
 -- ---- it is the one list
 

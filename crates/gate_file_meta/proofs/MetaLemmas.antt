@@ -29,7 +29,7 @@ use Rattle.sqlite_value.specs.Order.{column}
 use Rattle.sqlite_value.specs.declared.keys.Key.{Key}
 use Rattle.gate_found_rows.specs.Finds.{Finds, IsPlainQuery, IsSilent, OnlyReads}
 use Rattle.gate_found_rows.proofs.SilentLemmas.{plain_only_reads}
-use Rattle.gate_schema.proofs.QueryLemmas.{over_table, passes, kept_is}
+use Rattle.gate_schema.proofs.QueryLemmas.{over_table, passes, kept_is, of_columns, shown_columns}
 use Rattle.gate_schema.proofs.Statements.{no_limit}
 use Rattle.gate_file_meta.specs.Opens.{IsMeta, with_meta}
 use Rattle.gate_file_meta.specs.Reading.{HasNoMeta, HoldsMeta, ShowsMeta, Yields, says_nothing, meta_rows, meta_sql}
@@ -81,17 +81,7 @@ meta_unavailable old new tables indexes views e has h =
 
 -- ---- what it shows of the three rows
 
--- the columns of a row behind its rowid
-shown_columns : (r : Row) → (column r 1 ≡ column (drop 1 r) 0) × (column r 2 ≡ column (drop 1 r) 1)
-shown_columns [] = (refl, refl)
-shown_columns (v ∷ []) = (refl, refl)
-shown_columns (v ∷ w ∷ r) = (refl, refl)
-
--- what the query makes of the columns of a row
-abbrev of_columns : Row → Output
-of_columns c = (column c 0 ∷ [], column c 0 ∷ column c 1 ∷ [])
-
--- it makes this of a row
+-- what the query makes of a row
 output_of : (r : Row) → output meta_query ([] ∷ r ∷ []) ≡ of_columns (drop 1 r)
 output_of r = rw ((shown_columns r).0, (shown_columns r).1)
 

@@ -7,6 +7,7 @@ use Rattle.std.specs.Option.{option_or}
 use Rattle.std.proofs.lemmas.List.{reverse-append}
 use Rattle.std.proofs.lemmas.List.Elements.{recursion_from_All}
 use Rattle.sqlite_keyed.proofs.ListLemmas.{all_weaker, filter-map, slice_get-filter}
+use Rattle.gate_types.proofs.PlainLemmas.{filter_twice}
 
 -- ---- tests
 
@@ -23,21 +24,9 @@ passing p (x ∷ xs) = go (p x) refl (passing p xs)
     go true e more = (e, more)
     go false e more = more
 
--- two filters in turn
-both_pass : {X : Type 0} (g q : X → Bool) (xs : List X) → filter q (filter g xs) ≡ filter (λ x. g x && q x) xs
-both_pass g q [] = refl
-both_pass g q (x ∷ xs) = go (g x) (both_pass g q xs)
-  where
-    go : (a : Bool) → filter q (filter g xs) ≡ filter (λ x. g x && q x) xs →
-        filter q (cond a (x ∷ filter g xs) (filter g xs)) ≡ cond (a && q x) (x ∷ filter (λ x. g x && q x) xs) (filter (λ x. g x && q x) xs)
-    go true more =
-        elim (q x) as (λ b. cond b (x ∷ filter q (filter g xs)) (filter q (filter g xs)) ≡ cond (true && b) (x ∷ filter (λ x. g x && q x) xs) (filter (λ x. g x && q x) xs))
-        [ true ↦ ap (λ l. x ∷ l) more | false ↦ more ]
-    go false more = more
-
--- the same with a map between
+-- two filters in turn, with a map between
 pub filter_in : {X Y : Type 0} (g : X → Bool) (h : Y → Bool) (f : X → Y) (xs : List X) → filter h (map f (filter g xs)) ≡ map f (filter (λ x. g x && h (f x)) xs)
-filter_in g h f xs = filter-map h f (filter g xs) ∙ ap (map f) (both_pass g (λ x. h (f x)) xs)
+filter_in g h f xs = filter-map h f (filter g xs) ∙ ap (map f) (filter_twice g (λ x. h (f x)) xs)
 
 -- ---- the first and the last
 

@@ -1,10 +1,10 @@
 -- What the texts of the reads of items ask.
-use Rattle.std.proofs.Common.{ℕ, pos, true, List, [], ◌∷◌, codes, refl}
+use Rattle.std.proofs.Common.{ℕ, true, List, [], ◌∷◌, codes, refl}
 use Rattle.sqlite.specs.Collation.TheVariants.{Binary}
 use Rattle.sqlite.specs.Listing.{understood}
 use Rattle.sqlite.specs.Query.{Query}
 use Rattle.sqlite.specs.Term.{Term, lit, col, op2}
-use Rattle.sqlite.specs.declared.types.Value.TheVariants.{Int, Null}
+use Rattle.sqlite.specs.declared.types.Value.TheVariants.{Null}
 use Rattle.sqlite_sql.specs.declared.ops.BinaryOp.TheVariants.{Coalesce, Compare}
 use Rattle.sqlite_sql.specs.declared.ops.CompareOp.TheVariants.{Eq, Gt, Lt}
 use Rattle.sqlite_tied.specs.Compute.{everything}
@@ -12,7 +12,7 @@ use Rattle.sqlite_value.specs.Keys.{ascending}
 use Rattle.sqlite_value.specs.declared.keys.Collation.{Collation}
 use Rattle.sqlite_value.specs.declared.keys.Key.{Key}
 use Rattle.gate_schema.proofs.QueryLemmas.{over_table}
-use Rattle.gate_schema.proofs.Statements.{Asks, key_is, no_limit}
+use Rattle.gate_schema.proofs.Statements.{Asks, key_is, no_limit, one_row}
 use Rattle.gate_found_rows.proofs.JoinLemmas.{over_tables}
 use Rattle.gate_found_rows.proofs.KeyedReads.{falling, rising}
 
@@ -23,10 +23,6 @@ item_terms = col 1 0 ∷ col 1 2 ∷ col 1 3 ∷ col 1 4 ∷ col 1 5 ∷ col 1 6
 abbrev pub item_names : List (List ℕ)
 item_names =
     codes "serial" ∷ codes "queue" ∷ codes "change" ∷ codes "revision" ∷ codes "ahead" ∷ codes "failing" ∷ []
-
--- one row
-abbrev pub one_row : Term
-one_row = lit (Int (pos 1))
 
 -- ---- the items of a queue
 

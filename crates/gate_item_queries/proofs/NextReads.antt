@@ -23,12 +23,13 @@ use Rattle.gate_schema.specs.Rows.{ItemRow, Stored, item_key, item_row}
 use Rattle.gate_schema.specs.Shown.{item_shown}
 use Rattle.gate_schema.proofs.ValueLemmas.{above_number, equal_texts}
 use Rattle.gate_schema.proofs.DeleteLemmas.{filter_same_on}
+use Rattle.gate_schema.proofs.Statements.{one_row}
 use Rattle.gate_found_rows.specs.Finds.{Finds}
 use Rattle.gate_found_rows.specs.Reads.{IsShown}
 use Rattle.gate_found_rows.specs.Whole.{IsWhole, is_item_row_in_form}
 use Rattle.gate_item_queries.proofs.ItemReads.{InForm, ShowsItems}
 use Rattle.gate_item_queries.proofs.ItemTexts.{item_names, item_terms, last_is, last_query, last_sql, last_test}
-use Rattle.gate_item_queries.proofs.ItemTexts.{next_is, next_query, next_sql, next_test, one_row, several_is}
+use Rattle.gate_item_queries.proofs.ItemTexts.{next_is, next_query, next_sql, next_test, several_is}
 use Rattle.gate_item_queries.proofs.ItemTexts.{several_query, several_sql, third}
 use Rattle.gate_found_rows.proofs.KeyedReads.{below_number, finds_falling, finds_rising}
 use Rattle.gate_found_rows.proofs.ListFacts.{all_so, first_so, passing}

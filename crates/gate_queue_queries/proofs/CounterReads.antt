@@ -16,10 +16,9 @@ use Rattle.sqlite_tied.specs.Compute.{everything}
 use Rattle.sqlite_trees.specs.Tree.{IsAscending}
 use Rattle.sqlite_value.proofs.OrderLemmas.{value_cmp-Text}
 use Rattle.sqlite_value.specs.Keys.{ascending}
-use Rattle.sqlite_value.specs.Order.{column}
 use Rattle.gate_types.specs.Counters.{Drawn}
 use Rattle.gate_schema.specs.Rows.{Stored, counter_columns}
-use Rattle.gate_schema.proofs.QueryLemmas.{kept_is, over_table, passes}
+use Rattle.gate_schema.proofs.QueryLemmas.{kept_is, over_table, passes, of_columns, shown_columns}
 use Rattle.gate_schema.proofs.Statements.{Asks, no_limit}
 use Rattle.gate_found_rows.specs.Finds.{Finds}
 use Rattle.gate_found_rows.specs.Reads.{IsShown}
@@ -43,21 +42,11 @@ counters_is = ((refl, (refl, refl)), refl)
 
 -- ---- the rows, by their columns
 
--- the columns behind the rowid are those of the rest
-shown_columns : (r : Row) → (column r 1 ≡ column (drop 1 r) 0) × (column r 2 ≡ column (drop 1 r) 1)
-shown_columns [] = (refl, refl)
-shown_columns (v ∷ []) = (refl, refl)
-shown_columns (v ∷ w ∷ r) = (refl, refl)
-
--- what the query makes of the columns of a row: what it sorts by, and what it shows
-abbrev of_columns : Row → Output
-of_columns c = (column c 0 ∷ [], column c 0 ∷ column c 1 ∷ [])
-
--- so it is with each row
+-- what the query makes of each row
 output_of : (r : Row) → output counters_query ([] ∷ r ∷ []) ≡ of_columns (drop 1 r)
 output_of r = rw ((shown_columns r).0, (shown_columns r).1)
 
--- and with all
+-- and of all
 outputs_of : (rows : List Row) → map (λ (r : Row). output counters_query ([] ∷ r ∷ [])) (filter (passes [] []) rows) ≡ map of_columns (map (drop 1) rows)
 outputs_of [] = refl
 outputs_of (r ∷ rows) = rw (output_of r, outputs_of rows)

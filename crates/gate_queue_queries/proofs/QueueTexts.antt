@@ -1,21 +1,16 @@
 -- What the texts of the reads of queues ask.
-use Rattle.std.proofs.Common.{ℕ, pos, List, [], ◌∷◌, codes, refl}
+use Rattle.std.proofs.Common.{ℕ, List, [], ◌∷◌, codes, refl}
 use Rattle.sqlite.specs.Collation.TheVariants.{Binary}
 use Rattle.sqlite.specs.Listing.{understood}
 use Rattle.sqlite.specs.Query.{Query}
-use Rattle.sqlite.specs.Term.{Term, col, lit, op2}
-use Rattle.sqlite.specs.declared.types.Value.TheVariants.{Int}
+use Rattle.sqlite.specs.Term.{Term, col, op2}
 use Rattle.sqlite_sql.specs.declared.ops.BinaryOp.TheVariants.{Compare}
 use Rattle.sqlite_sql.specs.declared.ops.CompareOp.TheVariants.{Lt}
 use Rattle.sqlite_tied.specs.Compute.{everything}
 use Rattle.gate_schema.proofs.QueryLemmas.{over_table}
-use Rattle.gate_schema.proofs.Statements.{Asks, key_is, no_limit}
+use Rattle.gate_schema.proofs.Statements.{Asks, key_is, no_limit, one_row}
 use Rattle.gate_queue_queries.proofs.CountReads.{counting}
 use Rattle.gate_found_rows.proofs.KeyedReads.{descending, rising}
-
--- one row
-abbrev one_row : Term
-one_row = lit (Int (pos 1))
 
 -- ---- the window of a queue
 

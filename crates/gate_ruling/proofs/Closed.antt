@@ -19,8 +19,8 @@ use Rattle.gate_types.specs.Step.{is_known_and}
 use Rattle.gate_walk.specs.Delivery.{is_stale}
 use Rattle.gate_ruling.specs.Guards.{GoesOn}
 use Rattle.gate_ruling.proofs.Guarded.{open_goes}
-use Rattle.gate_ruling.proofs.Withdrawn.{known_number}
 use Rattle.gate_laws.proofs.EachAccepted.{closed_state}
+use Rattle.gate_laws.proofs.RecordedChange.{known_number}
 
 -- the lines on an open change at its latest revision
 abbrev pub closing : Settings → State → ℕ → Change → Stepped

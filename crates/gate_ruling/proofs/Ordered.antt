@@ -32,6 +32,7 @@ use Rattle.gate_book_trait.specs.declared.rows.QueuedItem.{QueuedItem}
 use Rattle.gate_laws.proofs.Members.{In, map_same, map_map, from_map, found, filter_all}
 use Rattle.gate_laws.proofs.Alone.{name_alone, same_name_of, queued_unready}
 use Rattle.gate_laws.proofs.OrderFacts.{shows}
+use Rattle.gate_laws.proofs.RecordedChange.{known_number}
 use Rattle.gate_reads.specs.Moves.{Columns, in_state, Moves}
 use Rattle.gate_reads.specs.Touches.{Touches}
 use Rattle.gate_reads.specs.declared.touched.Event.TheVariants as event
@@ -41,7 +42,6 @@ use Rattle.gate_ruling.specs.Landing.{landing_of, landing_edits}
 use Rattle.gate_reads.specs.Windows.{bounds_named}
 use Rattle.gate_ruling.proofs.Folded.{shown, shown_after, by_parts}
 use Rattle.gate_ruling.proofs.Stored.{Stored}
-use Rattle.gate_ruling.proofs.Withdrawn.{known_number}
 
 -- ---- the order of a row
 

@@ -2,7 +2,6 @@
 use Rattle.std.proofs.Common.{◌≡◌, ◌∙◌, ℕ, true, false, not, Some, map, filter, refl}
 use Rattle.std.specs.Prelude.{◌==◌, if◌then◌else◌}
 use Rattle.std.specs.List.Sorted.{IsStrictlyIncreasing}
-use Rattle.std.proofs.lemmas.Bool.{eqb-true}
 use Rattle.gate_types.specs.declared.records.Change.{Change}
 use Rattle.gate_types.specs.declared.records.Verdict.TheVariants as verdict
 use Rattle.gate_types.specs.declared.deliveries.Reply.TheVariants as reply
@@ -12,7 +11,7 @@ use Rattle.gate_types.specs.State.{State, known_change, put_change, is_queued, i
 use Rattle.gate_types.specs.Admit.{without_ready}
 use Rattle.gate_types.specs.SubmitOrder.{is_submitting}
 use Rattle.gate_types.specs.Step.{Stepped, raw_withdrawn, accepted, refused, leave}
-use Rattle.gate_laws.proofs.Members.{found}
+use Rattle.gate_laws.proofs.RecordedChange.{known_number}
 use Rattle.gate_ruling.specs.Guards.{GoesOn}
 use Rattle.gate_ruling.proofs.Put.{put_known}
 
@@ -41,10 +40,6 @@ pub nowhere_raw : (c : Settings) (s : State) (n r : ℕ) (k : Change) → GoesOn
     is_submitting c s n ≡ false → is_queued s n ≡ false → is_ready s n ≡ false →
     raw_withdrawn c s n r ≡ accepted reply.Stale s
 nowhere_raw c s n r k goes free queued ready = goes (withdrawing c s n) ∙ rw (free, queued, ready) refl
-
--- the number of the change that is known
-pub known_number : (s : State) (n : ℕ) (k : Change) → known_change s n ≡ Some k → k.number ≡ n
-known_number s n k known = eqb-true k.number n (found (λ (j : Change). j.number == n) s.changes k known).1
 
 -- a known change put anew is as it was, but for the ready list
 pub unready_again : (s : State) (n : ℕ) (k : Change) → IsStrictlyIncreasing (map (λ j. j.number) s.changes) →

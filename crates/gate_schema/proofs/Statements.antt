@@ -1,5 +1,5 @@
 -- When a text is a statement, and the pieces that the gate's statements share.
-use Rattle.std.proofs.Common.{◌≡◌, ℕ, List, [], negsuc, false}
+use Rattle.std.proofs.Common.{◌≡◌, ℕ, List, [], negsuc, false, pos}
 use Rattle.sqlite.specs.Collation.TheVariants.{Binary}
 use Rattle.sqlite.specs.Command.{Command}
 use Rattle.sqlite.specs.Command.TheVariants.{Select}
@@ -32,3 +32,7 @@ second_is at = op2 (Compare Eq Binary) (col 1 at) (col 0 1)
 -- all rows
 abbrev pub no_limit : Term
 no_limit = lit (Int (negsuc 0))
+
+-- one row
+abbrev pub one_row : Term
+one_row = lit (Int (pos 1))

@@ -11,11 +11,11 @@ use Rattle.gate_types.specs.Admit.{entered}
 use Rattle.gate_book_trait.specs.Reads.{items_in}
 use Rattle.gate_admission.specs.Led.{IsLed}
 use Rattle.gate_admission.specs.Enters.{is_met_by_rows, entering_row, entering_edits}
-use Rattle.gate_admission.proofs.ReadyList.{number_is}
 use Rattle.gate_admission.proofs.Admitted.{are_named, no_project, in_project, project_is, place_there, queue_is}
 use Rattle.gate_admission.proofs.Admitted.{plan_is}
 use Rattle.gate_admission.proofs.EnteringEdits.{entering_leads}
 use Rattle.gate_admission.proofs.entering.enter.Goals as goal
+use Rattle.gate_laws.proofs.RecordedChange.{known_number}
 
 pub returns-in_default-clause-led : goal.returns-in_default-clause-led
 returns-in_default-clause-led g c = λ trusted x holds lawful v led first is serial.
@@ -38,7 +38,7 @@ returns-clause-led g c = λ trusted x holds lawful v led first is serial.
     let sound : are_sound s ≡ true = search rules in
     let so_far = subst (λ es. IsLed s x es v) (sym c.as_slice.ensures.value) led in
     let named = are_named s x v sound lawful led.sound in
-    let number : k.number ≡ n = number_is v n k is.known in
+    let number : k.number ≡ n = known_number v n k is.known in
     let project = ap (λ (m : List ℕ). find (λ p. same_name p.name m) s.projects)
     (sym (project_is v n (Some k) (sym is.known)) ∙ sym c.as_str.ensures.value) ∙ sym c.in-Some.ensures in
     let place = sym (in_project s v e.ready p named project) ∙ is.may in
