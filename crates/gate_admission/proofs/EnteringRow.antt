@@ -24,13 +24,10 @@ use Rattle.gate_types.specs.Rows.{row_of, item_rows}
 use Rattle.gate_types.specs.Lawful.{IsDistinct}
 use Rattle.gate_laws.proofs.Members.{In}
 use Rattle.gate_laws.proofs.Plans.{plan_kept, replanned}
+use Rattle.gate_laws.proofs.Places.{ahead_end}
 use Rattle.gate_admission.specs.Enters.{item_in, is_met_by_rows, ahead_after, ahead_behind, entering_row}
 
 -- ---- what is ahead behind some places
-
-abbrev ahead_end : List Build → List Item → List Place → List Item
-ahead_end bs ahead [] = ahead
-ahead_end bs ahead (p ∷ ps) = ahead_end bs (next_ahead bs (with_ahead ahead p)) ps
 
 places_push : (bs : List Build) (ahead : List Item) (ps : List Place) (p : Place) →
     places_after bs ahead (ps ++ p ∷ []) ≡ places_after bs ahead ps ++ with_ahead (ahead_end bs ahead ps) p ∷ []

@@ -13,6 +13,7 @@ use Rattle.gate_types.specs.Rows.{item_rows}
 use Rattle.gate_types.specs.Lawful.{IsSound}
 use Rattle.gate_book_trait.specs.Reads.{items_in, queued_of, item_count, last_below}
 use Rattle.gate_laws.proofs.Rising.{Rising}
+use Rattle.gate_laws.proofs.ItemRows.{rows_length}
 use Rattle.gate_admission.specs.Led.{IsLed}
 use Rattle.gate_admission.specs.Known.{IsQueue, has_room}
 use Rattle.gate_admission.specs.Seen.{items_after, item_put, item_left}
@@ -20,7 +21,7 @@ use Rattle.gate_admission.specs.Enters.{item_in, last_row}
 use Rattle.gate_admission.proofs.QueueItems.{serial_of}
 use Rattle.gate_admission.proofs.LastItem.{last_is}
 use Rattle.gate_admission.proofs.ByChange.{AreOnce, AreTold, by_change}
-use Rattle.gate_admission.proofs.Standing.{rows_rise, rows_length, row_once, row_drawn, queue_in, stored_tells}
+use Rattle.gate_admission.proofs.Standing.{rows_rise, row_once, row_drawn, queue_in, stored_tells}
 use Rattle.gate_admission.proofs.Led.{queue_after_is, items_led}
 use Rattle.gate_types.specs.Limits.{most_items}
 

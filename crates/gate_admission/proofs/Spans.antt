@@ -16,6 +16,7 @@ use Rattle.gate_types.specs.Forms.{IsLawfulContent, is_queue_in_form, is_item_in
 use Rattle.gate_book_trait.specs.Reads.{queue_named, items_in, item_count, first_above, last_below}
 use Rattle.gate_laws.proofs.Members.{In, every, all_from, not_found, filter_all}
 use Rattle.gate_laws.proofs.Rising.{Rising}
+use Rattle.gate_laws.proofs.ItemRows.{rows_length}
 use Rattle.gate_admission.specs.Led.{IsLed}
 use Rattle.gate_admission.specs.Known.{IsQueue, has_room}
 use Rattle.gate_admission.specs.Seen.{items_after, grows}
@@ -24,7 +25,7 @@ use Rattle.gate_admission.proofs.Led.{items_led}
 use Rattle.gate_admission.proofs.LastItem.{AtMost, last_of, last_most}
 use Rattle.gate_admission.proofs.QueueItems.{serial_of, rising_after}
 use Rattle.gate_admission.proofs.Sizes.{size_step, one_if_most}
-use Rattle.gate_admission.proofs.Standing.{queue_in, items_rise, row_is_of, row_drawn, rows_length}
+use Rattle.gate_admission.proofs.Standing.{queue_in, items_rise, row_is_of, row_drawn}
 use Rattle.gate_types.specs.Counters.{last_number}
 use Rattle.gate_types.specs.Limits.{most_items}
 

@@ -1,8 +1,7 @@
 -- The rows of a sound state's queue: in order, and each of an item.
 use Rattle.std.proofs.Common.{◌≡◌, ℕ, ◌≤◌, Bool, Option, Some, None, List, [], ◌∷◌, map, refl, sym, ap, ◌∙◌, subst}
-use Rattle.std.proofs.Common.{arith, inl, inr, flat_map, true≢false, length}
+use Rattle.std.proofs.Common.{arith, inl, inr, flat_map, true≢false}
 use Rattle.std.specs.Prelude.{find, ◌==◌, nat_le, true}
-use Rattle.std.proofs.lemmas.List.{length-map}
 use Rattle.std.specs.List.Sorted.{IsStrictlyIncreasing}
 use Rattle.std.specs.Option.{option_map_or}
 use Rattle.std.proofs.lemmas.Bool.{leb-true, eqb-true, eq-eqb}
@@ -145,10 +144,3 @@ row_drawn c s q r sound there m =
     (every (λ n. nat_le n s.counters.order ≡ true) (drawn_serials s) sound.serials_are_drawn i.item.serial all) in
     let e = i.serial in
     omega (arith, low, e)
-
--- as many rows as items
-pub rows_length : (c : Settings) (s : State) (q : Queue) → length (item_rows c s q) ≡ length q.items
-rows_length c s q =
-    sym (length-map (item_rows c s q) serial_of)
-    ∙ ap length (serials_behind s.builds [] (map (place_of c s q) q.items) ∙ place_serials c s q q.items)
-    ∙ length-map q.items (λ (i : Item). i.serial)

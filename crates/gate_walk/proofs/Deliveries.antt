@@ -46,8 +46,8 @@ use Rattle.gate_laws.proofs.OrderTouches.{order_queue, order_item}
 use Rattle.gate_laws.proofs.OnlyOneQueueIsTouched.{only_one_queue_is_touched}
 use Rattle.gate_laws.proofs.OtherQueuesStay.{other_queues_stay}
 use Rattle.gate_laws.proofs.RunIsLawful.{raw_step_is_sound}
+use Rattle.gate_laws.proofs.Places.{ahead_end}
 use Rattle.gate_walk.proofs.Passes.{cast}
-use Rattle.gate_walk.proofs.Events.{ahead_after}
 use Rattle.gate_walk.proofs.OneQueue.{rows_split}
 use Rattle.gate_walk.proofs.Calm.{higher_behind}
 use Rattle.gate_walk.proofs.StoredRows.{parted}
@@ -166,10 +166,10 @@ refused_done c s n q is i js h rest on =
     }) e)
 
 -- behind failing items alone, nothing is ahead
-none_ahead : (c : Settings) (s : State) (q : Queue) (is : List Item) → ((j : Item) → In j is → is_failing s.builds (place_of c s q j) ≡ true) → ahead_after s.builds [] (map (place_of c s q) is) ≡ []
+none_ahead : (c : Settings) (s : State) (q : Queue) (is : List Item) → ((j : Item) → In j is → is_failing s.builds (place_of c s q j) ≡ true) → ahead_end s.builds [] (map (place_of c s q) is) ≡ []
 none_ahead c s q [] h = refl
 none_ahead c s q (j ∷ js) h =
-    ap (λ t. ahead_after s.builds (cond t [] (j ∷ [])) (map (place_of c s q) js)) (h j (inl refl)) ∙ none_ahead c s q js (λ x m. h x (inr m))
+    ap (λ t. ahead_end s.builds (cond t [] (j ∷ [])) (map (place_of c s q) js)) (h j (inl refl)) ∙ none_ahead c s q js (λ x m. h x (inr m))
 
 -- the item of a shown order is the first that isn't failing, by its row
 first_row : (c : Settings) (s : State) (n : ℕ) (q : Queue) (is : List Item) (i : Item) (js : List Item) → IsIn c s q is i js → IsCalm c s → shown_order c s n ≡ Some (record { queue = q; item = i }) →
@@ -182,7 +182,7 @@ first_row c s n q is i js h rest e =
     let p = place_of c s q i in
     let behind = map (place_of c s q) x.after in
     let none = none_ahead c s q x.before x.fail in
-    let was = next_ahead bs (with_ahead (ahead_after bs [] front) p) in
+    let was = next_ahead bs (with_ahead (ahead_end bs [] front) p) in
     let rows = a.rows ∙ rows_split bs [] front (p ∷ behind) in
     let pt = parted bs front p behind was a.rise (higher_behind 0 front p behind a.rise) in (
       ap (ahead_at i.serial) rows ∙ pt.ahead ∙ ap (λ l. ahead_of (with_ahead l p)) none,

@@ -27,6 +27,7 @@ use Rattle.gate_walk.proofs.Needs.{Followed, followed_gone, needing, follow}
 use Rattle.gate_walk.proofs.Passes.{cast, followed_next, landed_place, Behind, Without, passing, pass}
 use Rattle.gate_walk.proofs.Folded.{told, asked_told}
 use Rattle.gate_laws.proofs.Stays.{goes_failing}
+use Rattle.gate_laws.proofs.Places.{ahead_end}
 
 -- the first row whatever is carried, then those that are asked for
 abbrev pub forced : List ℕ → Bounds → Carry → List Seen → List (Option (List Edit))
@@ -44,17 +45,12 @@ abbrev pub all_before : List Item → List Place → List Item
 all_before before [] = before
 all_before before (p ∷ ps) = all_before (before ++ p.item ∷ []) ps
 
--- the non-failing ones among them
-abbrev pub ahead_after : List Build → List Item → List Place → List Item
-ahead_after bs ahead [] = ahead
-ahead_after bs ahead (p ∷ ps) = ahead_after bs (next_ahead bs (with_ahead ahead p)) ps
-
 -- none of them is asked for
 abbrev pub nones : List Place → List (Option (List Edit))
 nones [] = []
 nones (p ∷ ps) = None ∷ nones ps
 
-pub quiet_split : (stand : ℕ → Option Bool) (bs : List Build) (before ahead : List Item) (ps qs : List Place) → Quiet stand bs before ahead (ps ++ qs) → Quiet stand bs before ahead ps × Quiet stand bs (all_before before ps) (ahead_after bs ahead ps) qs
+pub quiet_split : (stand : ℕ → Option Bool) (bs : List Build) (before ahead : List Item) (ps qs : List Place) → Quiet stand bs before ahead (ps ++ qs) → Quiet stand bs before ahead ps × Quiet stand bs (all_before before ps) (ahead_end bs ahead ps) qs
 quiet_split stand bs before ahead [] qs q = (tt, q)
 quiet_split stand bs before ahead (p ∷ ps) qs q =
     let rest = quiet_split stand bs (before ++ p.item ∷ []) (next_ahead bs (with_ahead ahead p)) ps qs q.1 in
@@ -62,7 +58,7 @@ quiet_split stand bs before ahead (p ∷ ps) qs q =
 
 -- they stay as they are
 pub front_right : (name : List ℕ) (bounds : Bounds) (stand : ℕ → Option Bool) (bs : List Build) (n w : ℕ) (before ahead : List Item) (front ps : List Place) (is : List ItemRow) (es : List (Option (List Edit))) → Quiet stand bs before ahead front →
-    Right name bounds bs n w (all_before before front) (places_after bs (ahead_after bs ahead front) ps) is es →
+    Right name bounds bs n w (all_before before front) (places_after bs (ahead_end bs ahead front) ps) is es →
     Right name bounds bs n w before (places_after bs ahead (front ++ ps)) (map (row_of bs) (places_after bs ahead front) ++ is) (nones front ++ es)
 front_right name bounds stand bs n w before ahead [] ps is es q r = r
 front_right name bounds stand bs n w before ahead (p ∷ front) ps is es q r =
@@ -76,7 +72,7 @@ front_right name bounds stand bs n w before ahead (p ∷ front) ps is es q r =
 
 -- what is known of them is right
 pub known_front : (stand : ℕ → Option Bool) (bs : List Build) (before ahead : List Item) (front : List Place) → Known stand [] [] before ahead before → Quiet stand bs before ahead front →
-    Known stand [] [] (all_before before front) (ahead_after bs ahead front) (all_before before front)
+    Known stand [] [] (all_before before front) (ahead_end bs ahead front) (all_before before front)
 known_front stand bs before ahead [] k q = k
 known_front stand bs before ahead (p ∷ front) k q =
     known_front stand bs (before ++ p.item ∷ []) (next_ahead bs (with_ahead ahead p)) front

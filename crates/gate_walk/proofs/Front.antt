@@ -19,10 +19,11 @@ use Rattle.gate_types.specs.Standing.{is_failing, are_finished, with_ahead, next
 use Rattle.gate_types.specs.Sweep.{verdict_of}
 use Rattle.gate_types.specs.Rows.{row_of}
 use Rattle.gate_laws.proofs.Cuts.{finished_is}
+use Rattle.gate_laws.proofs.Places.{ahead_end}
 use Rattle.gate_walk.proofs.Slots.{is_live_of, all_count}
 use Rattle.gate_walk.proofs.Resets.{none_parts, QuietAt, Quiet}
 use Rattle.gate_walk.proofs.Passes.{landing_as, need_landed, landed_place, same_run}
-use Rattle.gate_walk.proofs.Events.{all_before, ahead_after}
+use Rattle.gate_walk.proofs.Events.{all_before}
 
 -- an item before the one that lands; its builds began on landings that were there
 pub record FrontAt (t : Item) (bs : List Build) (p : Place) : Type 0 where
@@ -124,7 +125,7 @@ pub record FrontKept (stand : ℕ → Option Bool) (bs : List Build) (t : Item) 
   pub quiet : Quiet stand bs before ahead (map (landed_place t) ps)
   pub rows : map (row_of bs) (places_after bs ahead (map (landed_place t) ps)) ≡ map (row_of bs) (places_after bs ahead ps)
   pub before_same : all_before before (map (landed_place t) ps) ≡ all_before before ps
-  pub ahead_same : ahead_after bs ahead (map (landed_place t) ps) ≡ ahead_after bs ahead ps
+  pub ahead_same : ahead_end bs ahead (map (landed_place t) ps) ≡ ahead_end bs ahead ps
 
 pub front_kept : (stand : ℕ → Option Bool) (bs : List Build) (t : Item) (before ahead : List Item) (ps : List Place) → Front t bs ps → has_change (all_before before ps) t.change ≡ false → Quiet stand bs before ahead ps → FrontKept stand bs t before ahead ps
 front_kept stand bs t before ahead [] f h q = record { quiet = tt; rows = refl; before_same = refl; ahead_same = refl }
@@ -148,5 +149,5 @@ front_kept stand bs t before ahead (p ∷ ps) f h q =
       quiet = (own, subst (λ a. Quiet stand bs (before ++ p.item ∷ []) a (map (landed_place t) ps)) (sym ahead_is) rest.quiet);
       rows = (λ i. record (row_of bs old) { failing = mark i } ∷ map (row_of bs) (places_after bs (ahead_is i) (map (landed_place t) ps))) ∙ ap (λ l. row_of bs old ∷ l) rest.rows;
       before_same = rest.before_same;
-      ahead_same = ap (λ a. ahead_after bs a (map (landed_place t) ps)) ahead_is ∙ rest.ahead_same;
+      ahead_same = ap (λ a. ahead_end bs a (map (landed_place t) ps)) ahead_is ∙ rest.ahead_same;
     }

@@ -16,9 +16,9 @@ use Rattle.gate_types.specs.Standing.{is_failing, are_finished, with_ahead, next
 use Rattle.gate_types.specs.Sweep.{verdict_of}
 use Rattle.gate_types.specs.Rows.{row_of}
 use Rattle.gate_laws.proofs.Cuts.{finished_is}
+use Rattle.gate_laws.proofs.Places.{ahead_end}
 use Rattle.gate_walk.proofs.Slots.{is_live_of, all_count, all_ended}
 use Rattle.gate_walk.proofs.Resets.{QuietAt, Quiet, visits, same, rows_seen}
-use Rattle.gate_walk.proofs.Events.{ahead_after}
 
 -- a build that isn't the item's is what it was; none changes its item
 abbrev pub Elsewhere : ℕ → List Build → List Build → Type 0
@@ -134,7 +134,7 @@ Others t (p ∷ ps) = IsOther t p × Others t ps
 pub record StillQuiet (stand : ℕ → Option Bool) (bs cs : List Build) (before ahead : List Item) (ps : List Place) : Type 0 where
   pub quiet : Quiet stand cs before ahead ps
   pub rows : map (row_of cs) (places_after cs ahead ps) ≡ map (row_of bs) (places_after bs ahead ps)
-  pub ahead_same : ahead_after cs ahead ps ≡ ahead_after bs ahead ps
+  pub ahead_same : ahead_end cs ahead ps ≡ ahead_end bs ahead ps
 
 pub still_quiet : (stand : ℕ → Option Bool) (t : ℕ) (bs cs : List Build) (before ahead : List Item) (ps : List Place) → Elsewhere t bs cs → Others t ps → Quiet stand bs before ahead ps → StillQuiet stand bs cs before ahead ps
 still_quiet stand t bs cs before ahead [] h o q = record { quiet = tt; rows = refl; ahead_same = refl }
@@ -154,7 +154,7 @@ still_quiet stand t bs cs before ahead (p ∷ ps) h o q =
     record {
       quiet = (own, subst (λ a. Quiet stand cs (before ++ p.item ∷ []) a ps) (sym next) rest.quiet);
       rows = (λ i. record (row_of bs at) { failing = mark i } ∷ map (row_of cs) (places_after cs (next i) ps)) ∙ ap (λ l. row_of bs at ∷ l) rest.rows;
-      ahead_same = ap (λ a. ahead_after cs a ps) next ∙ rest.ahead_same;
+      ahead_same = ap (λ a. ahead_end cs a ps) next ∙ rest.ahead_same;
     }
 
 -- the rows that visits see are the stored ones

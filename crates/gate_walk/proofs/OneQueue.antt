@@ -21,12 +21,13 @@ use Rattle.gate_walk.proofs.Resets.{Right, asked, rows_seen, last_serial, none_p
 use Rattle.gate_walk.proofs.Needs.{needing}
 use Rattle.gate_walk.proofs.Passes.{landed_place, Behind, passing, cast}
 use Rattle.gate_walk.proofs.Folded.{told, walk_settles}
-use Rattle.gate_walk.proofs.Events.{forced, forced_told, all_before, ahead_after, nones, quiet_split, front_right}
+use Rattle.gate_walk.proofs.Events.{forced, forced_told, all_before, nones, quiet_split, front_right}
 use Rattle.gate_walk.proofs.Events.{known_front, known_start, TouchedAt, seen_as, touched, taken_out, landed_out}
 use Rattle.gate_walk.proofs.SoFar.{right_first, carried_on, asked_more, told_so_far}
 use Rattle.gate_walk.proofs.Front.{Front, front_kept}
 use Rattle.gate_walk.proofs.Moved.{Elsewhere, Others, still_quiet, visits_rows}
 use Rattle.gate_laws.proofs.LiveBuildsCount.{place_serial}
+use Rattle.gate_laws.proofs.Places.{ahead_end}
 
 -- ---- rows, places, edits
 
@@ -34,7 +35,7 @@ nones_told : (front : List Place) (es : List (Option (List Edit))) → told (non
 nones_told [] es = refl
 nones_told (p ∷ ps) es = nones_told ps es
 
-pub rows_split : (bs : List Build) (ahead : List Item) (front ps : List Place) → map (row_of bs) (places_after bs ahead (front ++ ps)) ≡ map (row_of bs) (places_after bs ahead front) ++ map (row_of bs) (places_after bs (ahead_after bs ahead front) ps)
+pub rows_split : (bs : List Build) (ahead : List Item) (front ps : List Place) → map (row_of bs) (places_after bs ahead (front ++ ps)) ≡ map (row_of bs) (places_after bs ahead front) ++ map (row_of bs) (places_after bs (ahead_end bs ahead front) ps)
 rows_split bs ahead [] ps = refl
 rows_split bs ahead (p ∷ front) ps = ap (λ l. row_of bs (with_ahead ahead p) ∷ l) (rows_split bs (next_ahead bs (with_ahead ahead p)) front ps)
 
@@ -89,7 +90,7 @@ walked_settles name bounds w cs is ls ps rs items k vs h =
 
 -- ---- and between two visits
 
-places_split : (bs : List Build) (ahead : List Item) (xs ys : List Place) → places_after bs ahead (xs ++ ys) ≡ places_after bs ahead xs ++ places_after bs (ahead_after bs ahead xs) ys
+places_split : (bs : List Build) (ahead : List Item) (xs ys : List Place) → places_after bs ahead (xs ++ ys) ≡ places_after bs ahead xs ++ places_after bs (ahead_end bs ahead xs) ys
 places_split bs ahead [] ys = refl
 places_split bs ahead (x ∷ xs) ys = ap (λ l. with_ahead ahead x ∷ l) (places_split bs (next_ahead bs (with_ahead ahead x)) xs ys)
 
@@ -153,8 +154,8 @@ walked_so_far name bounds w cs is ls ps rs items k vs us ws xs ys h ev ep en =
     let told_all : nones h.front ++ forced name bounds k vs ≡ es ++ more.0 =
     ap (λ l. nones h.front ++ forced name bounds k l) ev ∙ ap (λ l. nones h.front ++ l) more.1 ∙ sym (append_assoc (nones h.front) (forced name bounds k us) more.0) in
     let rows : is ≡ first ++ rows_seen ws = h.parts ∙ ap (λ l. h.front_rows ++ rows_seen l) ev ∙ ap (λ l. h.front_rows ++ l) (rows_append us ws) ∙ sym (append_assoc h.front_rows (rows_seen us) (rows_seen ws)) in
-    let places : places_after cs [] ps ≡ places_after cs [] xs ++ places_after cs (ahead_after cs [] xs) ys = ap (places_after cs []) ep ∙ places_split cs [] xs ys in
-    let whole : Right name bounds cs (length rs) w [] (places_after cs [] xs ++ places_after cs (ahead_after cs [] xs) ys) (first ++ rows_seen ws) (es ++ more.0) =
+    let places : places_after cs [] ps ≡ places_after cs [] xs ++ places_after cs (ahead_end cs [] xs) ys = ap (places_after cs []) ep ∙ places_split cs [] xs ys in
+    let whole : Right name bounds cs (length rs) w [] (places_after cs [] xs ++ places_after cs (ahead_end cs [] xs) ys) (first ++ rows_seen ws) (es ++ more.0) =
     cast (λ i. Right name bounds cs (length rs) w [] (places i) (rows i) (told_all i)) h.right in
     let many_rows : length (first ++ rows_seen ws) ≡ length ps = ap length (sym rows) ∙ go_many is ps h.go in
     let a1 : length (first ++ rows_seen ws) ≡ length first + length (rows_seen ws) = length-append first (rows_seen ws) in
@@ -168,7 +169,7 @@ walked_so_far name bounds w cs is ls ps rs items k vs us ws xs ys h ev ep en =
     let b5 : length (forced name bounds k us) ≡ length us = forced_many name bounds k us in
     let b6 : length (rows_seen us) ≡ length us = rows_many us in
     let b7 : length h.front ≡ length h.front_rows = h.front_many in
-    let right = right_first name bounds cs (length rs) w [] (places_after cs [] xs) (places_after cs (ahead_after cs [] xs) ys) first (rows_seen ws) es more.0 (omega arith) (omega arith) whole in
+    let right = right_first name bounds cs (length rs) w [] (places_after cs [] xs) (places_after cs (ahead_end cs [] xs) ys) first (rows_seen ws) es more.0 (omega arith) (omega arith) whole in
     let go_all : GoWith (first ++ rows_seen ws) (xs ++ ys) = cast (λ i. GoWith (rows i) (ep i)) h.go in
     let rise_all = subst (RiseFrom row_serial 0) rows (rise_back 0 is ps h.go h.rise) in
     ap (λ l. fold_edits (stale name w l cs rs) (walk_from name bounds k us)) rows
@@ -183,8 +184,8 @@ pub record Stands (stand : ℕ → Option Bool) (bs cs : List Build) (front : Li
   pub quiet : Quiet stand bs [] [] (front ++ p ∷ behind)
   pub elsewhere : Elsewhere p.item.serial bs cs
   pub others : Others p.item.serial front × Others p.item.serial behind
-  pub counting : all_count cs (with_ahead (ahead_after bs [] front) p) ≡ true
-  pub fails_still : is_failing bs (with_ahead (ahead_after bs [] front) p) ≡ true → is_failing cs (with_ahead (ahead_after bs [] front) p) ≡ true
+  pub counting : all_count cs (with_ahead (ahead_end bs [] front) p) ≡ true
+  pub fails_still : is_failing bs (with_ahead (ahead_end bs [] front) p) ≡ true → is_failing cs (with_ahead (ahead_end bs [] front) p) ≡ true
   pub not_landed : NotLanded p.item.change behind
   pub builds_rise : RiseFrom build_number 0 cs
   pub places_rise : RiseFrom place_serial 0 (front ++ p ∷ behind)
@@ -192,13 +193,13 @@ pub record Stands (stand : ℕ → Option Bool) (bs cs : List Build) (front : Li
 -- the items from the touched one on, as visits see them
 abbrev pub seen_standing : (ℕ → Option Bool) → List Build → List Build → List Place → Place → List Place → List Seen
 seen_standing stand bs cs front p behind =
-    (let at = with_ahead (ahead_after bs [] front) p in seen_as stand cs at (is_failing bs at) ∷ visits stand cs same (next_ahead bs at) behind)
+    (let at = with_ahead (ahead_end bs [] front) p in seen_as stand cs at (is_failing bs at) ∷ visits stand cs same (next_ahead bs at) behind)
 
 pub walk_standing : (name : List ℕ) (bounds : Bounds) (w : ℕ) (stand : ℕ → Option Bool) (bs cs : List Build) (front : List Place) (p : Place) (behind : List Place) (rs : List Report) → Stands stand bs cs front p behind →
     Walked name bounds w cs (map (row_of bs) (places_after bs [] (front ++ p ∷ behind))) (front ++ p ∷ behind) rs
-    (needing (last_serial (ahead_after bs [] front)) [] [] (length rs) w) (seen_standing stand bs cs front p behind)
+    (needing (last_serial (ahead_end bs [] front)) [] [] (length rs) w) (seen_standing stand bs cs front p behind)
 walk_standing name bounds w stand bs cs front p behind rs h =
-    let a = ahead_after bs [] front in
+    let a = ahead_end bs [] front in
     let at = with_ahead a p in
     let parts = quiet_split stand bs [] [] front (p ∷ behind) h.quiet in
     let sf = still_quiet stand p.item.serial bs cs [] [] front h.elsewhere h.others.0 parts.0 in
@@ -235,7 +236,7 @@ walk_standing name bounds w stand bs cs front p behind rs h =
 
 pub record Left (stand : ℕ → Option Bool) (bs cs : List Build) (front : List Place) (p : Place) (behind : List Place) : Type 0 where
   pub quiet : Quiet stand bs [] [] front
-  pub quiet_behind : Quiet stand bs (all_before [] front ++ p.item ∷ []) (next_ahead bs (with_ahead (ahead_after bs [] front) p)) behind
+  pub quiet_behind : Quiet stand bs (all_before [] front ++ p.item ∷ []) (next_ahead bs (with_ahead (ahead_end bs [] front) p)) behind
   pub none_stands : stand p.item.change ≡ None
   pub fresh : has_change (all_before [] front) p.item.change ≡ false
   pub elsewhere : Elsewhere p.item.serial bs cs
@@ -247,20 +248,20 @@ pub record Left (stand : ℕ → Option Bool) (bs cs : List Build) (front : List
 -- the rows that are left, as they were
 abbrev pub rows_left : List Build → List Place → Place → List Place → List ItemRow
 rows_left bs front p behind =
-    (let a = ahead_after bs [] front in map (row_of bs) (places_after bs [] front) ++ map (row_of bs) (places_after bs (next_ahead bs (with_ahead a p)) behind))
+    (let a = ahead_end bs [] front in map (row_of bs) (places_after bs [] front) ++ map (row_of bs) (places_after bs (next_ahead bs (with_ahead a p)) behind))
 
 -- what the walk begins with
 abbrev pub carry_left : List Build → List Place → Place → ℕ → ℕ → Carry
-carry_left bs front p n w = (let a = ahead_after bs [] front in
+carry_left bs front p n w = (let a = ahead_end bs [] front in
     record { resets = not (is_failing bs (with_ahead a p)); passes = false; ahead = last_serial a; gone = p.item.change ∷ []; marks = []; reports = n; window = w })
 
 abbrev pub seen_left : (ℕ → Option Bool) → List Build → List Build → List Place → Place → List Place → List Seen
-seen_left stand bs cs front p behind = (let a = ahead_after bs [] front in visits stand cs same (next_ahead bs (with_ahead a p)) behind)
+seen_left stand bs cs front p behind = (let a = ahead_end bs [] front in visits stand cs same (next_ahead bs (with_ahead a p)) behind)
 
 pub walk_left : (name : List ℕ) (bounds : Bounds) (w : ℕ) (stand : ℕ → Option Bool) (bs cs : List Build) (front : List Place) (p : Place) (behind : List Place) (rs : List Report) → Left stand bs cs front p behind →
     Walked name bounds w cs (rows_left bs front p behind) (front ++ behind) rs (carry_left bs front p (length rs) w) (seen_left stand bs cs front p behind)
 walk_left name bounds w stand bs cs front p behind rs h =
-    let a = ahead_after bs [] front in
+    let a = ahead_end bs [] front in
     let at = with_ahead a p in
     let sf = still_quiet stand p.item.serial bs cs [] [] front h.elsewhere h.others.0 h.quiet in
     let before = all_before [] front in
@@ -290,7 +291,7 @@ walk_left name bounds w stand bs cs front p behind rs h =
 
 pub record Lands (stand : ℕ → Option Bool) (bs cs : List Build) (front : List Place) (p : Place) (behind : List Place) : Type 0 where
   pub quiet : Quiet stand bs [] [] front
-  pub first : ahead_after bs [] front ≡ []
+  pub first : ahead_end bs [] front ≡ []
   pub passes : is_failing bs (with_ahead [] p) ≡ false
   pub quiet_behind : Quiet stand bs (all_before [] front ++ p.item ∷ []) (p.item ∷ []) behind
   pub fresh : has_change (all_before [] front) p.item.change ≡ false
@@ -312,7 +313,7 @@ walk_landed name bounds w stand bs cs front p behind rs h =
     let before = all_before [] front in
     let sb = still_quiet stand p.item.serial bs cs (before ++ p.item ∷ []) (p.item ∷ []) behind h.elsewhere h.others.1 h.quiet_behind in
     let fk = front_kept stand cs p.item [] [] front h.in_front h.fresh sf.quiet in
-    let none : ahead_after cs [] (map now front) ≡ [] = fk.ahead_same ∙ sf.ahead_same ∙ h.first in
+    let none : ahead_end cs [] (map now front) ≡ [] = fk.ahead_same ∙ sf.ahead_same ∙ h.first in
     let known = subst (λ (a : List Item). Known stand [] [] before a before) h.first (known_front stand bs [] [] front (known_start stand) h.quiet) in
     let vs = seen_landed stand cs p behind in
     let k = passing [] [] (length rs) w in

@@ -17,9 +17,10 @@ use Rattle.gate_walk.specs.Rescan.{standing_in, row_seen, without_row, rows_from
 use Rattle.gate_queue.proofs.Ordered.{RiseFrom}
 use Rattle.gate_walk.proofs.Steps.{seen_need}
 use Rattle.gate_walk.proofs.Resets.{Quiet, visits}
-use Rattle.gate_walk.proofs.Events.{all_before, ahead_after}
+use Rattle.gate_walk.proofs.Events.{all_before}
 use Rattle.gate_walk.proofs.Calm.{Says, says_next}
 use Rattle.gate_laws.proofs.LiveBuildsCount.{place_serial}
+use Rattle.gate_laws.proofs.Places.{ahead_end}
 
 -- ---- where items stand, by the rows that are left
 
@@ -131,11 +132,11 @@ pub record Parted (n : ℕ) (front : List ItemRow) (r : ItemRow) (behind : List 
   pub fails : fails_at n (front ++ r ∷ behind) ≡ r.failing
 
 pub parted : (bs : List Build) (front : List Place) (p : Place) (behind : List Place) (was : List Item) → RiseFrom place_serial 0 (front ++ p ∷ behind) → RiseFrom place_serial (suc p.item.serial) behind →
-    (let a = ahead_after bs [] front in Parted p.item.serial (map (row_of bs) (places_after bs [] front)) (row_of bs (with_ahead a p)) (map (row_of bs) (places_after bs was behind)))
+    (let a = ahead_end bs [] front in Parted p.item.serial (map (row_of bs) (places_after bs [] front)) (row_of bs (with_ahead a p)) (map (row_of bs) (places_after bs was behind)))
 parted bs front p behind was r rb =
     let n = p.item.serial in
     let xs = map (row_of bs) (places_after bs [] front) in
-    let own = row_of bs (with_ahead (ahead_after bs [] front) p) in
+    let own = row_of bs (with_ahead (ahead_end bs [] front) p) in
     let ys = map (row_of bs) (places_after bs was behind) in
     let under = rows_all_under bs [] 0 front p behind r in
     let high : AllFrom (suc n) ys = rows_all_from bs was (suc n) (suc n) behind (omega arith) rb in

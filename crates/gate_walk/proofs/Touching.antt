@@ -27,11 +27,12 @@ use Rattle.gate_laws.proofs.Members.{In, every, all, to_right, to_left, to_flat}
 use Rattle.std.proofs.lemmas.List.Elements.{All-contains}
 use Rattle.gate_laws.proofs.Rising.{increasing}
 use Rattle.gate_laws.proofs.LiveBuildsCount.{place_serial}
+use Rattle.gate_laws.proofs.Places.{ahead_end}
 use Rattle.gate_queue.proofs.Ordered.{RiseFrom, GoWith, row_serial, build_number, rises}
 use Rattle.gate_walk.proofs.Parting.{rising_from}
 use Rattle.gate_walk.proofs.Resets.{rows_seen, Quiet, visits, same, last_serial, first_last}
 use Rattle.gate_walk.proofs.Passes.{cast, landed_place, Behind}
-use Rattle.gate_walk.proofs.Events.{all_before, ahead_after, quiet_split}
+use Rattle.gate_walk.proofs.Events.{all_before, quiet_split}
 use Rattle.gate_walk.proofs.Front.{Front}
 use Rattle.gate_walk.proofs.Moved.{Elsewhere, Others, still_quiet}
 use Rattle.gate_walk.proofs.OneQueue.{rows_split, Walked, walked_settles, walked_so_far, Stands, walk_standing, Left}
@@ -148,7 +149,7 @@ walk_after_leaving c s t qs rs q o is js i bounds sound rest eq ei left =
     let front = map place is in
     let p = place i in
     let behind = map place js in
-    let a = ahead_after bs [] front in
+    let a = ahead_end bs [] front in
     let at = with_ahead a p in
     let was = next_ahead bs at in
     let before = all_before [] front in
@@ -195,7 +196,7 @@ now_same : (c : Settings) (s : State) (q : Queue) (e : Ending) (n : ℕ) (is : L
 now_same c s q e n [] = tt
 now_same c s q e n (i ∷ is) = (refl, refl, refl, refl, now_same c s q e n is)
 
-place_there : (bs : List Build) (ahead : List Item) (front : List Place) (p : Place) (behind : List Place) → In (with_ahead (ahead_after bs ahead front) p) (places_after bs ahead (front ++ p ∷ behind))
+place_there : (bs : List Build) (ahead : List Item) (front : List Place) (p : Place) (behind : List Place) → In (with_ahead (ahead_end bs ahead front) p) (places_after bs ahead (front ++ p ∷ behind))
 place_there bs ahead [] p behind = inl refl
 place_there bs ahead (f ∷ front) p behind = inr (place_there bs (next_ahead bs (with_ahead ahead f)) front p behind)
 
@@ -213,7 +214,7 @@ walk_after_build c s qs rs q is js i b e bounds sound rest eq ei cb run own_buil
     let front = map place is in
     let p = place i in
     let behind = map place js in
-    let a = ahead_after bs [] front in
+    let a = ahead_end bs [] front in
     let at = with_ahead a p in
     let was = next_ahead bs at in
     let before = all_before [] front in
@@ -292,7 +293,7 @@ walk_after_landing c s t qs rs q o is js i bounds sound rest eq ei left first pa
     let front = map place is in
     let p = place i in
     let behind = map place js in
-    let a = ahead_after bs [] front in
+    let a = ahead_end bs [] front in
     let at = with_ahead a p in
     let was = next_ahead bs at in
     let before = all_before [] front in

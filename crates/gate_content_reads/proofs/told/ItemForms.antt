@@ -26,7 +26,8 @@ use Rattle.gate_found_rows.specs.Whole.{is_item_row_in_form}
 use Rattle.gate_laws.proofs.Alone.{changes_once, item_changes, same_name_of}
 use Rattle.gate_laws.proofs.Counts.{hits, in_times, one_part, times, times_in}
 use Rattle.gate_laws.proofs.Members.{In, all, all_from, every, found, from_append, from_map, got, to_filter, to_map}
-use Rattle.gate_content_reads.proofs.told.Items.{count_items, items_are, keys_are, queue_of_row, row_alone, row_item}
+use Rattle.gate_laws.proofs.ItemRows.{rows_length}
+use Rattle.gate_content_reads.proofs.told.Items.{items_are, keys_are, queue_of_row, row_alone, row_item}
 
 -- ---- what is ahead of an item
 
@@ -173,7 +174,7 @@ module _ (c : Settings) (x : Content) (b : Stored) (lawful : IsLawfulContent c x
       by_queue None e = omega arith
       by_queue (Some q) e =
           let at = found (λ (q : Queue). same_name q.name name) x.state.queues q e in
-          subst (λ n. n ≤ most_items) (sym (count_items c x.state q)) (form_of q at.0).few
+          subst (λ n. n ≤ most_items) (sym (rows_length c x.state q)) (form_of q at.0).few
 
   -- over all queues a change stands once
   once : (n : ℕ) → times n (flat_map item_changes x.state.queues) ≤ 1

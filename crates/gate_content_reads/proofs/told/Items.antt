@@ -4,15 +4,11 @@ use Rattle.std.proofs.Common.{length, refl, sym, ap, ◌∙◌, subst}
 use Rattle.std.specs.Prelude.{◌==◌, filter, find, flat_map, option_map}
 use Rattle.std.specs.Option.{option_map_or}
 use Rattle.std.proofs.lemmas.Bool.{eqb-true}
-use Rattle.std.proofs.lemmas.List.{length-map, map-id}
-use Rattle.gate_types.specs.declared.records.Build.{Build}
 use Rattle.gate_types.specs.declared.records.Item.{Item as ItemOfRow}
-use Rattle.gate_types.specs.Line.{Place}
 use Rattle.gate_types.specs.Names.{same_name}
 use Rattle.gate_types.specs.Once.{Content}
-use Rattle.gate_types.specs.Rows.{item_of, item_rows, row_of}
+use Rattle.gate_types.specs.Rows.{item_of, item_rows}
 use Rattle.gate_types.specs.Settings.{Settings}
-use Rattle.gate_types.specs.Standing.{next_ahead, place_of, places, places_after, with_ahead}
 use Rattle.gate_types.specs.State.{Item, Queue, State}
 use Rattle.gate_types.specs.Tables.{tables}
 use Rattle.gate_types.proofs.NameLemmas.{same_name_is}
@@ -26,31 +22,14 @@ use Rattle.gate_laws.proofs.Alone.{same_name_of}
 use Rattle.gate_laws.proofs.Counts.{one_of, one_part, times}
 use Rattle.gate_laws.proofs.Members.{In, flat_same, found, from_filter, from_flat, from_map, map_map, to_filter}
 use Rattle.gate_laws.proofs.Members.{to_flat, to_map}
+use Rattle.gate_laws.proofs.ItemRows.{items_of_rows}
 use Rattle.gate_content_reads.proofs.told.Lists.{lone_found, same_find}
 
 -- ---- the rows of one queue's items
 
--- places keep their items
-items_placed : (bs : List Build) (ahead : List Item) (ps : List Place) →
-    map (λ (p : Place). p.item) (places_after bs ahead ps) ≡ map (λ (p : Place). p.item) ps
-items_placed bs ahead [] = refl
-items_placed bs ahead (p ∷ ps) = ap (λ l. p.item ∷ l) (items_placed bs (next_ahead bs (with_ahead ahead p)) ps)
-
--- they are of the queue's items
-pub items_of_rows : (c : Settings) (s : State) (q : Queue) → map item_of (item_rows c s q) ≡ q.items
-items_of_rows c s q =
-    map_map item_of (row_of s.builds) (places c s q)
-    ∙ items_placed s.builds [] (map (place_of c s q) q.items)
-    ∙ map_map (λ (p : Place). p.item) (place_of c s q) q.items
-    ∙ map-id q.items
-
 -- a row is of an item of the queue
 pub row_item : (c : Settings) (s : State) (q : Queue) (i : ItemOfRow) → In i (item_rows c s q) → In (item_of i) q.items
 row_item c s q i m = subst (In (item_of i)) (items_of_rows c s q) (to_map item_of (item_rows c s q) i m)
-
--- as many as the queue has
-pub count_items : (c : Settings) (s : State) (q : Queue) → length (item_rows c s q) ≡ length q.items
-count_items c s q = sym (length-map (item_rows c s q) item_of) ∙ ap length (items_of_rows c s q)
 
 -- ---- the items of all queues
 
