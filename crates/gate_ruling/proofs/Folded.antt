@@ -1,15 +1,15 @@
 -- A fold of edits acts on each table by itself, and moves follow one another.
-use Rattle.std.proofs.Common.{◌≡◌, ℕ, List, [], ◌∷◌, ◌++◌, map, fold, refl, sym, ap, ◌∙◌}
-use Rattle.std.proofs.lemmas.List.{map-id}
+use Rattle.std.proofs.Common.{◌≡◌, ℕ, List, [], ◌∷◌, ◌++◌, map, fold, refl, ap, ◌∙◌}
 use Rattle.std.proofs.lemmas.List.Sums.{fold-append}
 use Rattle.gate_types.specs.declared.records.Build.{Build}
 use Rattle.gate_types.specs.declared.edits.Edit.{Edit}
 use Rattle.gate_types.specs.State.{Queue, State}
 use Rattle.gate_types.specs.Once.{Content}
-use Rattle.gate_types.specs.Tables.{Tables, QueueRows, change_row, queue_rows, edited_changes, edited_queue}
+use Rattle.gate_types.specs.Tables.{QueueRows, change_row, queue_rows, edited_changes, edited_queue}
 use Rattle.gate_types.specs.Tables.{edited_plans, edited_build_rows, edited_counters, edited_kept, edited_tables}
 use Rattle.gate_types.specs.Tables.{fold_all}
 use Rattle.gate_laws.proofs.Members.{map_map}
+use Rattle.gate_laws.proofs.TableParts.{all_parts}
 use Rattle.gate_reads.specs.Moves.{Columns, row_by, tables_by, in_state, Moves}
 
 -- edits that move to t, then edits that move on from there
@@ -17,26 +17,6 @@ pub moves_on : (x : Content) (t u : State) (first more : List Edit) → Moves x 
     Moves x (first ++ more) u
 moves_on x t u first more f g = λ columns.
     fold-append edited_tables (tables_by columns x) first more ∙ ap (λ z. fold_all z more) (f columns) ∙ g columns
-
-pub all_parts : (t : Tables) (es : List Edit) → fold_all t es ≡ record {
-  changes = fold edited_changes t.changes es;
-  queues = map (λ q. fold (λ r e. edited_queue e r) q es) t.queues;
-  plans = fold edited_plans t.plans es;
-  builds = fold edited_build_rows t.builds es;
-  counters = fold edited_counters t.counters es;
-  kept = fold edited_kept t.kept es;
-}
-all_parts t [] = λ i. record t { queues = sym (map-id t.queues) i }
-all_parts t (e ∷ es) =
-    all_parts (edited_tables t e) es
-    ∙ (λ i. record {
-      changes = fold edited_changes t.changes (e ∷ es);
-      queues = map_map (λ (q : QueueRows). fold (λ r d. edited_queue d r) q es) (edited_queue e) t.queues i;
-      plans = fold edited_plans t.plans (e ∷ es);
-      builds = fold edited_build_rows t.builds (e ∷ es);
-      counters = fold edited_counters t.counters (e ∷ es);
-      kept = fold edited_kept t.kept (e ∷ es);
-    })
 
 -- a queue in tables, by the columns of its items
 abbrev pub shown : (ℕ → Columns) → Queue → QueueRows

@@ -4,7 +4,6 @@ use Rattle.std.proofs.Common.{ap, ◌∙◌, true≢false, inl, inr}
 use Rattle.std.specs.Prelude.{filter, ◌==◌}
 use Rattle.std.specs.List.{AllPass, list_all}
 use Rattle.std.proofs.lemmas.Bool.{and_parts, or_parts}
-use Rattle.std.proofs.lemmas.List.{map-id}
 use Rattle.std.proofs.lemmas.List.Elements.{All-head, All-tail, All-weaker}
 use Rattle.std.proofs.lemmas.List.Sums.{fold-append}
 use Rattle.gate_types.specs.declared.records.Item.{Item as ItemRow}
@@ -19,7 +18,7 @@ use Rattle.gate_types.specs.Sweep.{judged, swept_queue}
 use Rattle.gate_types.specs.Rows.{Rows, edited, edited_items, edited_builds, edited_reports, edited_window}
 use Rattle.gate_types.specs.Rows.{fold_edits, item_rows}
 use Rattle.gate_types.specs.Once.{Content}
-use Rattle.gate_types.specs.Tables.{QueueRows, Tables, tables, queue_rows, edited_changes, edited_queue}
+use Rattle.gate_types.specs.Tables.{QueueRows, tables, queue_rows, edited_changes, edited_queue}
 use Rattle.gate_types.specs.Tables.{edited_landings, edited_plans, edited_build_rows, edited_counters, edited_kept}
 use Rattle.gate_types.specs.Tables.{edited_tables, fold_all, Leads}
 use Rattle.gate_types.proofs.NameLemmas.{same_name_is}
@@ -29,30 +28,11 @@ use Rattle.gate_walk.specs.Rescan.{rows_with}
 use Rattle.gate_reads.specs.Moves.{Columns, row_by, tables_by, columns_of, swept, in_state, Moves}
 use Rattle.gate_laws.proofs.Members.{In, map_map}
 use Rattle.gate_laws.proofs.Elements.{rest_of}
+use Rattle.gate_laws.proofs.TableParts.{all_parts}
 use Rattle.gate_settling.proofs.ListLemmas.{first_or}
 use Rattle.gate_settling.proofs.ColumnLemmas.{HasColumns}
 
--- ---- the fold of edits acts on each table by itself
-
-all_parts : (t : Tables) (es : List Edit) → fold_all t es ≡ record {
-  changes = fold edited_changes t.changes es;
-  queues = map (λ q. fold (λ r e. edited_queue e r) q es) t.queues;
-  plans = fold edited_plans t.plans es;
-  builds = fold edited_build_rows t.builds es;
-  counters = fold edited_counters t.counters es;
-  kept = fold edited_kept t.kept es;
-}
-all_parts t [] = λ i. record t { queues = sym (map-id t.queues) i }
-all_parts t (e ∷ es) =
-    all_parts (edited_tables t e) es
-    ∙ (λ i. record {
-      changes = fold edited_changes t.changes (e ∷ es);
-      queues = map_map (λ (q : QueueRows). fold (λ r d. edited_queue d r) q es) (edited_queue e) t.queues i;
-      plans = fold edited_plans t.plans (e ∷ es);
-      builds = fold edited_build_rows t.builds (e ∷ es);
-      counters = fold edited_counters t.counters (e ∷ es);
-      kept = fold edited_kept t.kept (e ∷ es);
-    })
+-- ---- the fold of edits acts on each part of a queue by itself
 
 queue_parts : (q : QueueRows) (es : List Edit) → fold (λ r e. edited_queue e r) q es ≡ record {
   name = q.name;
