@@ -1,11 +1,8 @@
 -- A line is UTF-8.
 use Rattle.std.proofs.Common.{◌≡◌, ℕ, ◌<◌, ◌^◌, Bool, true, false, ◌&&◌, List, [], ◌∷◌, codes, decimal, IsUtf8, refl}
-use Rattle.std.proofs.Common.{arith}
 use Rattle.std.specs.Prelude.{⊤}
-use Rattle.std.specs.List.{list_all}
 use Rattle.std.specs.Str.{is_utf8}
-use Rattle.std.proofs.lemmas.Bool.{and_parts, and_from, lt-ltb}
-use Rattle.std.proofs.lemmas.Bool.Decides.{nat_tests}
+use Rattle.std.proofs.lemmas.Bool.{and_parts}
 use Rattle.std.proofs.lemmas.Fmt.{IsAscii-decimal}
 use Rattle.std.proofs.lemmas.Str.{IsUtf8-append, IsUtf8-nil, IsUtf8-from_ascii, IsUtf8-from_is_utf8}
 use Rattle.json.specs.Token.{Token}
@@ -19,8 +16,9 @@ use Rattle.gate_types.specs.declared.deliveries.Ending.{Ending}
 use Rattle.gate_types.specs.declared.deliveries.Ending.TheVariants as ending
 use Rattle.gate_types.specs.Canonical.{ending_word}
 use Rattle.gate_types.specs.Forms.{is_delivery_in_form, is_change_number, is_revision_number, is_drawn_number}
-use Rattle.gate_types.specs.Names.{is_path_name, is_path_byte, is_message}
+use Rattle.gate_types.specs.Names.{is_path_name, is_message}
 use Rattle.gate_types.specs.OneText.{IsInRange}
+use Rattle.gate_types.proofs.NameLemmas.{path_utf8}
 use Rattle.gate_core.proofs.LineTrees.{change_members, order_members, tree}
 
 -- ---- what is in form
@@ -53,16 +51,6 @@ in_form (delivery.Take worker) h = h
 in_form (delivery.Result n e) h = h
 
 -- ---- it is UTF-8
-
--- a name is ASCII
-path_ascii : (xs : List ℕ) → list_all is_path_byte xs ≡ true → are_ascii xs ≡ true
-path_ascii [] h = refl
-path_ascii (x ∷ xs) h =
-    let (here, rest) = and_parts (is_path_byte x) (list_all is_path_byte xs) h in
-    and_from _ _ (lt-ltb x 128 (grind (arith, nat_tests))) (path_ascii xs rest)
-
-name_utf8 : (name : List ℕ) → is_path_name name ≡ true → IsUtf8 name
-name_utf8 name h = IsUtf8-are_ascii name (path_ascii name (and_parts _ (list_all is_path_byte name) h).1)
 
 -- the text of each token is
 abbrev AllUtf8 : List Token → Type 0
@@ -153,7 +141,7 @@ texts_utf8 digits (delivery.Revision n name r message) u (hn, hr) (_, named, _, 
                   IsUtf8-quoted message told,
                   (
                     key_utf8 (codes "project") refl,
-                    (IsUtf8-quoted name (name_utf8 name named), (key_utf8 (codes "revision") refl, (number_utf8 r hr, end_utf8))),
+                    (IsUtf8-quoted name (path_utf8 name named), (key_utf8 (codes "revision") refl, (number_utf8 r hr, end_utf8))),
                   ),
                 ),
               ),
@@ -177,7 +165,7 @@ texts_utf8 digits (delivery.Take worker) u range h = (
       IsUtf8-quoted digits u,
       (
         key_utf8 (codes "kind") refl,
-        (word_utf8 (codes "take") refl, (key_utf8 (codes "worker") refl, (IsUtf8-quoted worker (name_utf8 worker h), end_utf8))),
+        (word_utf8 (codes "take") refl, (key_utf8 (codes "worker") refl, (IsUtf8-quoted worker (path_utf8 worker h), end_utf8))),
       ),
     ),
   ),

@@ -5,7 +5,6 @@ pub mod JoinLemmas
 pub mod KeyedReads
 pub mod ListFacts
 pub mod ListedReads
-pub mod NameLemmas
 pub mod NeedLemmas
 pub mod ReadLemmas
 pub mod ShownLemmas

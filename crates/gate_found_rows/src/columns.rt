@@ -130,7 +130,7 @@ pub fn build_in(row: &Row, at: usize) -> Result<BuildNo, BookFault>
 }
 
 /// A name; `Damaged` where the column holds none, `NoMemory` where memory is refused.
-#[tactic(auto, using(crate::proofs::NameLemmas::name_utf8))]
+#[tactic(auto, using(gate_types::proofs::NameLemmas::name_utf8))]
 pub fn name_in(row: &Row, at: usize) -> Result<Name, BookFault>
     ensures ok { (t : _) → column row.now at ≡ Text t → IfOk result (λ x. x ≡ t) }
     ensures err { (t : _) → column row.now at ≡ Text t → at < length row.now → is_name t ≡ true →
@@ -143,7 +143,7 @@ pub fn name_in(row: &Row, at: usize) -> Result<Name, BookFault>
 }
 
 /// A project's name; `Damaged` where the column holds none, `NoMemory` where memory is refused.
-#[tactic(auto, using(crate::proofs::NameLemmas::path_utf8))]
+#[tactic(auto, using(gate_types::proofs::NameLemmas::path_utf8))]
 pub fn path_name_in(row: &Row, at: usize) -> Result<PathName, BookFault>
     ensures ok { (t : _) → column row.now at ≡ Text t → IfOk result (λ x. x ≡ t) }
     ensures err { (t : _) → column row.now at ≡ Text t → at < length row.now → is_path_name t ≡ true →

@@ -1,12 +1,12 @@
 -- The texts of deliveries and replies in form are UTF-8.
-use Rattle.std.proofs.Common.{◌≡◌, ℕ, ◌≤◌, ◌<◌, Bool, true, ◌&&◌, List, [], ◌∷◌, ◌++◌, map, codes, decimal, refl}
+use Rattle.std.proofs.Common.{◌≡◌, ℕ, ◌≤◌, ◌<◌, true, ◌&&◌, List, [], ◌∷◌, ◌++◌, map, codes, decimal, refl}
 use Rattle.std.proofs.Common.{arith, IsUtf8}
 use Rattle.std.specs.List.{list_all}
 use Rattle.std.specs.Str.{is_utf8}
 use Rattle.std.proofs.lemmas.Bool.{and_parts}
 use Rattle.std.proofs.lemmas.Str.{IsUtf8-append, IsUtf8-from_ascii, IsUtf8-nil, IsUtf8-from_is_utf8}
 use Rattle.std.proofs.lemmas.Str.{is_utf8-from_IsUtf8}
-use Rattle.std.proofs.lemmas.Str.Ascii.{IsAscii-nil, IsAscii-cons, IsAscii-from_all}
+use Rattle.std.proofs.lemmas.Str.Ascii.{IsAscii-nil, IsAscii-cons}
 use Rattle.std.proofs.lemmas.Fmt.{IsAscii-decimal}
 use Rattle.json.specs.Print.{quoted}
 use Rattle.json.proofs.Printed.Utf8.{IsUtf8-quoted, IsUtf8-are_ascii}
@@ -18,33 +18,20 @@ use Rattle.gate_types.specs.declared.deliveries.Ending.{Ending}
 use Rattle.gate_types.specs.declared.deliveries.Ending.TheVariants as ending
 use Rattle.gate_types.specs.declared.deliveries.Reply.{Reply}
 use Rattle.gate_types.specs.declared.deliveries.Reply.TheVariants as reply
-use Rattle.gate_types.specs.Names.{is_name_byte, is_path_byte, is_name, is_path_name}
 use Rattle.gate_types.specs.Settings.{Settings}
 use Rattle.gate_types.specs.JsonText.{Piece, number, plain, escaped, joined, array, member, object, entry}
 use Rattle.gate_types.specs.Canonical.{ending_word, kind, on_change, on_order_number, delivery_members, canonical_text}
 use Rattle.gate_types.specs.ReplyText.{reply_member, reply_members, reply_text}
 use Rattle.gate_types.specs.Forms.{is_change_number, is_revision_number, is_drawn_number, is_entry_in_form}
 use Rattle.gate_types.specs.Forms.{is_delivery_in_form, is_build_in_form, is_reply_in_form}
-use Rattle.gate_types.proofs.NameLemmas.{name_low, path_low}
-use Rattle.gate_laws.proofs.Members.{all, all_from}
 use Rattle.gate_laws.proofs.Shapes.{most, build_from}
 use Rattle.gate_types.specs.Counters.{last_number}
+use Rattle.gate_types.proofs.NameLemmas.{name_utf8, path_utf8}
 
--- ---- bytes and names
+-- ---- bytes
 
 one : (b : ℕ) → b < 128 → (rest : List ℕ) → IsUtf8 rest → IsUtf8 (b ∷ rest)
 one b h rest u = IsUtf8-append (b ∷ []) rest (IsUtf8-from_ascii (b ∷ []) (IsAscii-cons b [] h IsAscii-nil)) u
-
-low_utf8 : (test : ℕ → Bool) → ((b : ℕ) → test b ≡ true → b < 128) → (text : List ℕ) →
-    list_all test text ≡ true → IsUtf8 text
-low_utf8 test low text h =
-    IsUtf8-from_ascii text (IsAscii-from_all text (all (λ b. b < 128) text (λ b m. low b (all_from test text h b m))))
-
-name_utf8 : (text : List ℕ) → is_name text ≡ true → IsUtf8 text
-name_utf8 text h = let last = and_parts _ _ h in low_utf8 is_name_byte name_low text last.1
-
-path_utf8 : (text : List ℕ) → is_path_name text ≡ true → IsUtf8 text
-path_utf8 text h = let last = and_parts _ _ h in low_utf8 is_path_byte path_low text last.1
 
 -- ---- pieces
 
