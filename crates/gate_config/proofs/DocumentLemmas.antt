@@ -10,14 +10,10 @@ use Rattle.toml.specs.View.{view, items_of, members_view}
 use Rattle.toml.specs.declared.value.Value.{Value}
 use Rattle.gate_config.specs.Document.{list_of, name_of}
 use Rattle.gate_types.specs.Names.{same_name}
+use Rattle.gate_types.proofs.PlainLemmas.{list_any_map}
 use Rattle.gate_config.specs.Rules.{has_double}
 use Rattle.gate_config.specs.Members.{knows, has_other_than}
 use Rattle.gate_config.specs.declared.members.Section.{Section}
-
--- a test of some item of a list, seen by a function
-pub list_any_map : {X Y : Type 0} (p : Y → Bool) (f : X → Y) (xs : List X) → list_any p (map f xs) ≡ list_any (λ x. p (f x)) xs
-list_any_map p f [] = refl
-list_any_map p f (x ∷ xs) = ap (λ b. p (f x) || b) (list_any_map p f xs)
 
 pub map_view : {Y : Type 0} (f : Data → Y) (vs : List Value) → map f (map view vs) ≡ map (λ v. f (view v)) vs
 map_view f [] = refl

@@ -11,6 +11,7 @@ use Rattle.toml.specs.Data.{Data}
 use Rattle.gate_types.specs.Names.{same_name, is_name}
 use Rattle.gate_types.specs.Limits.{most_queues, most_projects, most_jobs, most_window, most_factor}
 use Rattle.gate_types.specs.Settings.{are_distinct, has_queue, is_sound_window, are_sound_jobs, are_sound}
+use Rattle.gate_types.proofs.PlainLemmas.{list_any_map}
 use Rattle.gate_config.specs.Document.{queues_of, projects_of, jobs_of, name_of, queue_named_by, queue_of, job_of}
 use Rattle.gate_config.specs.Document.{project_of, settings_of, window_of, floor_of, increase_by_of, decrease_by_of}
 use Rattle.gate_config.specs.Document.{is_voting}
@@ -22,7 +23,6 @@ use Rattle.gate_config.specs.Rules.{is_bad_project, has_bad_window, has_no_votin
 use Rattle.gate_config.specs.Rules.{is_beyond_limits}
 use Rattle.gate_config.specs.Faults.{fault_of}
 use Rattle.gate_config.specs.declared.fault.ConfigFault.{ConfigFault}
-use Rattle.gate_config.proofs.DocumentLemmas.{list_any_map}
 
 none_if : (b : Bool) (f : ConfigFault) (r : Option ConfigFault) → cond b (Some f) r ≡ None → (b ≡ false) × (r ≡ None)
 none_if true f r h = absurd cc

@@ -89,7 +89,7 @@ fn any_is_wrong_job(jobs: &[Value]) -> bool
     jobs.iter().any(|job| is_wrong_job(job))
 }
 
-#[tactic(auto, using(crate::proofs::DocumentLemmas::list_any_map))]
+#[tactic(auto, using(gate_types::proofs::PlainLemmas::list_any_map))]
 fn is_wrong_project(project: &Value) -> bool
     ensures { result ≡ is_wrong_project (view project.now) }
 {
@@ -117,7 +117,7 @@ fn has_wrong_base(document: &Value) -> bool
 }
 
 /// Whether a known member is of another kind, anywhere.
-#[tactic(auto, using(crate::proofs::DocumentLemmas::list_any_map))]
+#[tactic(auto, using(gate_types::proofs::PlainLemmas::list_any_map))]
 pub(crate) fn has_wrong_kind(document: &Value) -> bool
     ensures { result ≡ has_wrong_kind (view document.now) }
 {

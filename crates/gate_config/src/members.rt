@@ -24,7 +24,7 @@ fn any_lacks_name(values: &[Value]) -> bool
     values.iter().any(|value| lacks(value, "name"))
 }
 
-#[tactic(auto, using(crate::proofs::DocumentLemmas::list_any_map))]
+#[tactic(auto, using(gate_types::proofs::PlainLemmas::list_any_map))]
 fn lacks_in_project(project: &Value) -> bool
     ensures { result ≡ lacks_in_project (view project.now) }
 {
@@ -47,7 +47,7 @@ fn lacks_base(document: &Value) -> bool
 }
 
 /// Whether a member that has to be there isn't.
-#[tactic(auto, using(crate::proofs::DocumentLemmas::list_any_map))]
+#[tactic(auto, using(gate_types::proofs::PlainLemmas::list_any_map))]
 pub(crate) fn misses_member(document: &Value) -> bool
     ensures { result ≡ misses_member (view document.now) }
 {
@@ -130,7 +130,7 @@ fn any_has_unknown(section: Section, values: &[Value]) -> bool
     values.iter().any(|value| has_unknown(section, value))
 }
 
-#[tactic(auto, using(crate::proofs::DocumentLemmas::list_any_map))]
+#[tactic(auto, using(gate_types::proofs::PlainLemmas::list_any_map))]
 fn has_unknown_in_project(project: &Value) -> bool
     ensures { result ≡ has_unknown_in_project (view project.now) }
 {
@@ -155,7 +155,7 @@ fn has_unknown_in_forge(document: &Value) -> bool
 }
 
 /// Whether a member that has no meaning stands anywhere.
-#[tactic(auto, using(crate::proofs::DocumentLemmas::list_any_map))]
+#[tactic(auto, using(gate_types::proofs::PlainLemmas::list_any_map))]
 pub(crate) fn has_unknown_member(document: &Value) -> bool
     ensures { result ≡ has_unknown_member (view document.now) }
 {

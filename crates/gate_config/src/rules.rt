@@ -25,7 +25,7 @@ fn any_has_bad_name(values: &[Value]) -> bool
     values.iter().any(|value| !has_name_form(name_of(value)))
 }
 
-#[tactic(auto, using(crate::proofs::DocumentLemmas::list_any_map))]
+#[tactic(auto, using(gate_types::proofs::PlainLemmas::list_any_map))]
 fn has_bad_name_in_project(project: &Value) -> bool
     ensures { result ≡ has_bad_name_in_project (view project.now) }
 {
@@ -41,7 +41,7 @@ fn any_has_bad_name_in_project(projects: &[Value]) -> bool
 }
 
 /// Whether a name or the base isn't of its form. The queue that a project names isn't judged here.
-#[tactic(auto, using(crate::proofs::DocumentLemmas::list_any_map))]
+#[tactic(auto, using(gate_types::proofs::PlainLemmas::list_any_map))]
 pub(crate) fn has_bad_name_anywhere(document: &Value) -> bool
     ensures { result ≡ has_bad_name_anywhere (view document.now) }
 {
@@ -76,7 +76,7 @@ fn any_has_double_job(projects: &[Value]) -> bool
 }
 
 /// Whether two queues, two projects, or two jobs of one project have one name.
-#[tactic(auto, using(crate::proofs::DocumentLemmas::list_any_map))]
+#[tactic(auto, using(gate_types::proofs::PlainLemmas::list_any_map))]
 pub(crate) fn has_double_name(document: &Value) -> bool
     ensures { result ≡ has_double_name (view document.now) }
 {
@@ -91,7 +91,7 @@ fn any_is_named(name: &str, values: &[Value]) -> bool
     values.iter().any(|value| is_same(name_of(value), name))
 }
 
-#[tactic(auto, using(crate::proofs::DocumentLemmas::list_any_map))]
+#[tactic(auto, using(gate_types::proofs::PlainLemmas::list_any_map))]
 fn has_named(name: &str, values: &[Value]) -> bool
     ensures { result ≡ has_named name.now (map view values.now) }
 {
@@ -99,7 +99,7 @@ fn has_named(name: &str, values: &[Value]) -> bool
 }
 
 /// Whether a project names no queue of the document.
-#[tactic(auto, using(crate::proofs::DocumentLemmas::list_any_map))]
+#[tactic(auto, using(gate_types::proofs::PlainLemmas::list_any_map))]
 pub(crate) fn names_no_queue(document: &Value) -> bool
     ensures { result ≡ names_no_queue (view document.now) }
 {
@@ -148,7 +148,7 @@ fn any_is_bad_window(queues: &[Value]) -> bool
 }
 
 /// Whether a queue has a window, a floor or a rule that can't be.
-#[tactic(auto, using(crate::proofs::DocumentLemmas::list_any_map))]
+#[tactic(auto, using(gate_types::proofs::PlainLemmas::list_any_map))]
 pub(crate) fn has_bad_window(document: &Value) -> bool
     ensures { result ≡ has_bad_window (view document.now) }
 {
@@ -161,7 +161,7 @@ fn any_is_voting(jobs: &[Value]) -> bool
     jobs.iter().any(|job| is_voting(job))
 }
 
-#[tactic(auto, using(crate::proofs::DocumentLemmas::list_any_map))]
+#[tactic(auto, using(gate_types::proofs::PlainLemmas::list_any_map))]
 fn has_vote(project: &Value) -> bool
     ensures { result ≡ list_any is_voting (jobs_of (view project.now)) }
 {
@@ -175,7 +175,7 @@ fn any_has_no_vote(projects: &[Value]) -> bool
 }
 
 /// Whether there is a project of which no job votes.
-#[tactic(auto, using(crate::proofs::DocumentLemmas::list_any_map))]
+#[tactic(auto, using(gate_types::proofs::PlainLemmas::list_any_map))]
 pub(crate) fn has_no_voting_job(document: &Value) -> bool
     ensures { result ≡ has_no_voting_job (view document.now) }
 {
@@ -204,7 +204,7 @@ fn any_has_too_many_jobs(projects: &[Value]) -> bool
 }
 
 /// Whether there are too few or too many queues or projects, or too many jobs in a project.
-#[tactic(auto, using(crate::proofs::DocumentLemmas::list_any_map))]
+#[tactic(auto, using(gate_types::proofs::PlainLemmas::list_any_map))]
 pub(crate) fn is_beyond_limits(document: &Value) -> bool
     ensures { result ≡ is_beyond_limits (view document.now) }
 {

@@ -1,13 +1,9 @@
 -- Names that stand twice, or don't.
-use Rattle.std.proofs.Common.{◌≡◌, ℕ, Bool, true, false, ◌||◌, List, [], ◌∷◌, map, refl, ap}
+use Rattle.std.proofs.Common.{◌≡◌, ℕ, true, false, List, ◌∷◌, map, refl}
 use Rattle.std.specs.List.{list_any}
 use Rattle.gate_types.specs.Names.{same_name}
 use Rattle.gate_types.specs.Settings.{are_distinct}
-
--- a test of some item of a list, seen by a function
-list_any_map : {X Y : Type 0} (p : Y → Bool) (f : X → Y) (xs : List X) → list_any p (map f xs) ≡ list_any (λ x. p (f x)) xs
-list_any_map p f [] = refl
-list_any_map p f (x ∷ xs) = ap (λ b. p (f x) || b) (list_any_map p f xs)
+use Rattle.gate_types.proofs.PlainLemmas.{list_any_map}
 
 -- the first name stands again behind it
 pub double_here : {X : Type 0} (f : X → List ℕ) (name : List ℕ) (x : X) (xs : List X) → name ≡ f x → list_any (λ y. same_name name (f y)) xs ≡ true → are_distinct (map f (x ∷ xs)) ≡ false

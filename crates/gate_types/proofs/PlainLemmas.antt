@@ -1,8 +1,8 @@
 -- Truth values, numbers, options and lists.
 use Rattle.std.proofs.Common.{◌≡◌, Bool, true, false, ◌&&◌, cond, refl, sym, ℕ, suc, ◌<◌, ◌≤◌, ◌⊎◌, inl, inr, ⊎_elim}
-use Rattle.std.proofs.Common.{Option, Some, None, List, [], ◌∷◌, ◌++◌, ap, true≢false, arith}
+use Rattle.std.proofs.Common.{Option, Some, None, List, [], ◌∷◌, ◌++◌, ap, true≢false, arith, ◌||◌, map}
 use Rattle.std.specs.Prelude.{unwrap_or, filter}
-use Rattle.std.specs.List.{AllByRecursion}
+use Rattle.std.specs.List.{AllByRecursion, list_any}
 use Rattle.std.proofs.lemmas.Bool.Decides.{leb_tells}
 
 pub and_false : (b : Bool) → b && false ≡ false
@@ -33,6 +33,12 @@ some_is a b e = ap (λ (o : Option ℕ). unwrap_or o a) e
 pub none_unless : {A : Type 0} (o : Option A) → ((u : A) → o ≡ Some u → ⊥) → o ≡ None
 none_unless None h = refl
 none_unless (Some u) h = absurd (h u refl)
+
+-- a test of some item of a list, seen by a function
+pub list_any_map : {X Y : Type 0} (p : Y → Bool) (f : X → Y) (xs : List X) →
+    list_any p (map f xs) ≡ list_any (λ x. p (f x)) xs
+list_any_map p f [] = refl
+list_any_map p f (x ∷ xs) = ap (λ b. p (f x) || b) (list_any_map p f xs)
 
 -- what two filters keep
 pub filter_twice : {X : Type 0} (p q : X → Bool) (xs : List X) → filter q (filter p xs) ≡ filter (λ x. p x && q x) xs
