@@ -236,8 +236,8 @@ class Names:
         for source in self.code:
             todo += self.led_to(source.file, source.text)
             for tactic in re.findall(r"#!?\[tactic\((.*?)\)\]", source.text, re.S):
-                todo += [f"Rattle.{source.file.parts[1]}{path.replace('::', '.')}"
-                         for path in re.findall(r"\bcrate((?:::\w+)+)", tactic)]
+                todo += [f"Rattle.{source.file.parts[1] if crate == 'crate' else crate}{path.replace('::', '.')}"
+                         for crate, path in re.findall(r"\b(\w+)((?:::\w+)+)", tactic)]
         seen: set[str] = set()
         while todo:
             if (full := todo.pop()) in self.defined and full not in seen:

@@ -47,6 +47,9 @@ module _ (m : ℕ) where
 
 pub by_tactic : (n : ℕ) → is_own (suc n) n ≡ is_own (suc n) n
 by_tactic n = refl
+
+pub by_tactic_above : (n : ℕ) → is_own n (suc n) ≡ is_own n (suc n)
+by_tactic_above n = refl
 """,
     "low/proofs/lib/told/Answers.antt": """use Rattle.low.proofs.Facts.{is_itself}
 use Rattle.low.proofs.lib.told.Goals as goal
@@ -125,6 +128,7 @@ is_tall (Long n) = is_other 2 1
 """,
     "high/src/main.rt": """ghost use Rattle.high.specs.Words as word;
 
+#[tactic(auto, using(low::proofs::Facts::by_tactic_above))]
 fn main()
     ensures { word.is_own 1 1 × word.is_other 1 1 × word.is_long x × word.is_wide x × word.is_deep x
         × word.is_tall x }
