@@ -1,13 +1,11 @@
 -- What is written of a queue's reports from a place on.
-use Rattle.std.specs.Prelude.{◌≢◌, ◌≤◌, ◌++◌, ◌-◌, ◌+◌, ⊤, ℕ, IsTrue, List, codes, drop, flat_map, length, take}
-use Rattle.std.specs.Prelude.{IsPermutation, Option, Result, MatchResult}
+use Rattle.std.specs.Prelude.{◌≢◌, ◌≤◌, ◌++◌, ◌-◌, ◌+◌, ℕ, IsTrue, List, codes, drop, flat_map, length, take}
+use Rattle.std.specs.Prelude.{IsPermutation, Result, MatchResult}
 use Rattle.std.specs.List.{enumerate_from}
 use Rattle.sqlite.specs.State.{HasCleanDisk, State}
 use Rattle.gate_types.specs.History.{report_row}
 use Rattle.gate_types.specs.Rows.{numbered}
-use Rattle.gate_types.specs.Tap.{Took, TookFront}
 use Rattle.gate_types.specs.declared.records.Report.{Report}
-use Rattle.gate_types.specs.declared.tap.Tap.{Tap}
 use Rattle.gate_book_trait.specs.Text.{first_line, last_line}
 use Rattle.gate_book_trait.specs.declared.fault.HistoryFault.{HistoryFault}
 use Rattle.gate_book_trait.specs.declared.fault.HistoryFault.TheVariants as fault
@@ -33,17 +31,6 @@ text_from name from rs =
 -- the line of a report that follows so many others, where the first stands at a place
 abbrev pub line_from : ℕ → ℕ → Report → List ℕ
 line_from first n r = report_row (first + n, r)
-
--- why a text was not written whole: the first row was not had, or a beginning was written
-abbrev pub LeavesAll : {W : Type 0} → (W → Option (List ℕ)) → Tap W → Tap W → List ℕ → HistoryFault → Type 0
-LeavesAll held old new text fault.NoQueue = ⊥
-LeavesAll held old new text fault.Unavailable = ⊤
-LeavesAll held old new text _ = TookFront held old new text
-
--- a text is written, or why not
-abbrev pub WritesAll : {W : Type 0} → (W → Option (List ℕ)) → Tap W → Tap W → List ℕ → Result (Unit {0}) HistoryFault →
-    Type 0
-WritesAll held old new text result = MatchResult result (λ _. Took held old new text) (LeavesAll held old new text)
 
 -- a call that wrote, or was to write, found the connection open
 abbrev pub OpenedHistory : State → State → Result (Unit {0}) HistoryFault → Type 0

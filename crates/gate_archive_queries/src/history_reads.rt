@@ -14,8 +14,8 @@ ghost use Rattle.gate_book_trait.specs.Writes.{Stops};
 ghost use Rattle.gate_found_rows.specs.Finds.{OnlyReads, Stays};
 ghost use Rattle.gate_found_rows.specs.Reads.{IsOnlyRead, Shows};
 ghost use Rattle.gate_found_rows.specs.Whole.{IsWhole};
-ghost use Rattle.gate_queue_queries.specs.History.{IsSettled, WritesHead, WritesPart, report_shown};
-ghost use Rattle.gate_archive_queries.specs.HistoryFrom.{HoldsReports, OpenedHistory, WritesAll, history_sql};
+ghost use Rattle.gate_queue_queries.specs.History.{IsSettled, WritesPart, report_shown, WritesWhole};
+ghost use Rattle.gate_archive_queries.specs.HistoryFrom.{HoldsReports, OpenedHistory, history_sql};
 ghost use Rattle.gate_archive_queries.specs.HistoryFrom.{line_from, text_from};
 ghost use Rattle.gate_archive_queries.specs.Streamed.{ReadsOn, Streams, body};
 ghost use Rattle.gate_types.specs.Limits.{most_listed};
@@ -87,7 +87,7 @@ fn write_head<W: Write>(
     w: &mut Tap<W>,
 ) -> Result<(), HistoryFault>
     requires { has_failed w.old ≡ false }
-    ensures taken { WritesHead W.contents w.old w.new (front.now ++ first_line queue.now) result }
+    ensures taken { WritesWhole W.contents w.old w.new (front.now ++ first_line queue.now) result }
     ensures stops { Stops w.old w.new result }
 {
     let head = match history_head(alloc, queue) {
@@ -142,7 +142,7 @@ fn write_reports<S: Alter, W: Write>(
     ensures found { HasCleanDisk (state S.Store rows.new.conn.now) → (sql : List ℕ) → (params : Columns) →
         HasGiven S.Store sql params rows.old.conn.now [] → (rs : List Told) →
         Streams sql params (state S.Store rows.old.conn.now) report_shown rs →
-        WritesAll W.contents w.old w.new
+        WritesWhole W.contents w.old w.new
         (body (front.now ++ first_line queue.now) (line_from first) most_listed rs ++ last_line count) result }
     ensures stops { Stops w.old w.new result }
     ensures stays { HasCleanDisk (state S.Store rows.new.conn.now) → IsSettled (state S.Store rows.old.conn.now) →
@@ -183,7 +183,7 @@ fn write_queried<S: Alter, W: Write>(
     ensures found { HasCleanDisk (state S.Store conn.new) → (rs : List Told) →
         (IsTrue (state S.Store conn.old).is_open →
         Streams history_sql (Words queue.now ∷ Int (pos first) ∷ []) (state S.Store conn.old) report_shown rs) →
-        WritesAll W.contents w.old w.new
+        WritesWhole W.contents w.old w.new
         (body (front.now ++ first_line queue.now) (line_from first) most_listed rs ++ last_line count) result }
     ensures opened { OpenedHistory (state S.Store conn.old) (state S.Store conn.new) result }
     ensures stops { Stops w.old w.new result }
@@ -231,7 +231,7 @@ pub fn history_from<S: Alter, W: Write>(
     requires { has_failed w.old ≡ false }
     ensures found { HasCleanDisk (state S.Store conn.new) → (b : Stored) → Shows (state S.Store conn.old) b →
         IsWhole b → (rs : List Told) → HoldsReports b queue.now rs →
-        WritesAll W.contents w.old w.new (front.now ++ text_from queue.now from rs) result }
+        WritesWhole W.contents w.old w.new (front.now ++ text_from queue.now from rs) result }
     ensures opened { OpenedHistory (state S.Store conn.old) (state S.Store conn.new) result }
     ensures stops { Stops w.old w.new result }
     ensures only_reads { IsOnlyRead (state S.Store conn.old) (state S.Store conn.new) }

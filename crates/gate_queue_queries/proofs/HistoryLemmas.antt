@@ -28,8 +28,8 @@ use Rattle.gate_book_trait.specs.declared.fault.HistoryFault.TheVariants as faul
 use Rattle.gate_schema.specs.Rows.{Stands, Stored}
 use Rattle.gate_schema.specs.Schema.{gate_schema}
 use Rattle.gate_found_rows.specs.Finds.{Finds, OnlyReads}
-use Rattle.gate_queue_queries.specs.History.{CutsHead, GaveRows, HoldsReports, LeavesReports, OfReports, ReadsOn}
-use Rattle.gate_queue_queries.specs.History.{WritesHead, WritesPart, WritesReports, history_sql, lines_from}
+use Rattle.gate_queue_queries.specs.History.{GaveRows, HoldsReports, LeavesReports, OfReports, ReadsOn, CutsText}
+use Rattle.gate_queue_queries.specs.History.{WritesPart, WritesReports, history_sql, lines_from, WritesWhole}
 use Rattle.gate_queue_queries.specs.History.{report_shown, reports_text}
 use Rattle.gate_found_rows.specs.Reads.{IsShown}
 use Rattle.gate_queue_queries.proofs.ReportReads.{history_asks, history_names, history_query, reports_found}
@@ -252,7 +252,7 @@ leaves_late s name front held old new fault.Broken h cut = cut
 leaves_late s name front held old new fault.Write h cut = cut
 
 -- a fault in the head leaves nothing or a beginning
-pub leaves_head : {W : Type 0} (s : State) (name front : List ℕ) (held : W → Option (List ℕ)) (old new : Tap W) (f : HistoryFault) → CutsHead held old new (front ++ first_line name) f
+pub leaves_head : {W : Type 0} (s : State) (name front : List ℕ) (held : W → Option (List ℕ)) (old new : Tap W) (f : HistoryFault) → CutsText held old new (front ++ first_line name) f
     → (TookFront held old new (front ++ first_line name) → OfReports s name front (TookFront held old new)) → LeavesReports s name front held old new f
 leaves_head s name front held old new fault.NoQueue h cut = absurd h
 leaves_head s name front held old new fault.Unavailable h cut = tt
@@ -266,7 +266,7 @@ written_last s name front held old mid new text (Ok x) it whole cut = whole it.t
 written_last s name front held old mid new text (Err f) it whole cut = leaves_late s name front held old new f it.stops (cut it.taken)
 
 -- a late fault cuts the head
-cuts_late : {W : Type 0} (held : W → Option (List ℕ)) (old new : Tap W) (text : List ℕ) (f : HistoryFault) → BreaksOff new f → TookFront held old new text → CutsHead held old new text f
+cuts_late : {W : Type 0} (held : W → Option (List ℕ)) (old new : Tap W) (text : List ℕ) (f : HistoryFault) → BreaksOff new f → TookFront held old new text → CutsText held old new text f
 cuts_late held old new text fault.NoQueue h cut = absurd h
 cuts_late held old new text fault.Unavailable h cut = absurd h
 cuts_late held old new text fault.Broken h cut = cut
@@ -274,7 +274,7 @@ cuts_late held old new text fault.Write h cut = cut
 
 -- the front is written, and the first line behind it
 pub written_head : {W : Type 0} (held : W → Option (List ℕ)) (old mid new : Tap W) (front line : List ℕ) (result : Result (Unit {0}) HistoryFault) → Took held old mid front → WritesPart held mid new line result
-    → WritesHead held old new (front ++ line) result
+    → WritesWhole held old new (front ++ line) result
 written_head held old mid new front line (Ok x) took it = Appends-trans _ _ _ _ _ took it.taken
 written_head held old mid new front line (Err f) took it = cuts_late held old new (front ++ line) f it.stops (writes_later _ _ _ front line took it.taken)
 

@@ -87,13 +87,13 @@ pub record WritesPart {W : Type 0} (held : W → Option (List ℕ)) (old new : T
   pub taken : IsWritten held old new text result
   pub stops : LeavesTap new result
 
--- why a first text was not written whole
-abbrev pub CutsHead : {W : Type 0} → (W → Option (List ℕ)) → Tap W → Tap W → List ℕ → HistoryFault → Type 0
-CutsHead held old new text fault.NoQueue = ⊥
-CutsHead held old new text fault.Unavailable = ⊤
-CutsHead held old new text _ = TookFront held old new text
+-- why a text was not written whole: the first row was not had, or a beginning was written
+abbrev pub CutsText : {W : Type 0} → (W → Option (List ℕ)) → Tap W → Tap W → List ℕ → HistoryFault → Type 0
+CutsText held old new text fault.NoQueue = ⊥
+CutsText held old new text fault.Unavailable = ⊤
+CutsText held old new text _ = TookFront held old new text
 
--- a first text is written, or why not
-abbrev pub WritesHead : {W : Type 0} → (W → Option (List ℕ)) → Tap W → Tap W → List ℕ →
+-- a text is written, or why not
+abbrev pub WritesWhole : {W : Type 0} → (W → Option (List ℕ)) → Tap W → Tap W → List ℕ →
     Result (Unit {0}) HistoryFault → Type 0
-WritesHead held old new text result = MatchResult result (λ _. Took held old new text) (CutsHead held old new text)
+WritesWhole held old new text result = MatchResult result (λ _. Took held old new text) (CutsText held old new text)

@@ -8,7 +8,7 @@ ghost use Rattle.gate_types.specs.Tap.{has_failed};
 ghost use Rattle.gate_book_trait.specs.Text.{first_line, last_line};
 ghost use Rattle.gate_book_trait.specs.Writes.{Stops};
 ghost use Rattle.gate_found_rows.specs.Finds.{OnlyReads, Stays};
-ghost use Rattle.gate_queue_queries.specs.History.{GaveRows, IsSettled, ReadsOn, WritesHead, WritesPart};
+ghost use Rattle.gate_queue_queries.specs.History.{GaveRows, IsSettled, ReadsOn, WritesPart, WritesWhole};
 ghost use Rattle.gate_queue_queries.specs.History.{WritesReports, history_sql, report_shown};
 ghost use Rattle.gate_found_rows.specs.Reads.{IsOnlyRead};
 
@@ -79,7 +79,7 @@ fn write_head<W: Write>(
     w: &mut Tap<W>,
 ) -> Result<(), HistoryFault>
     requires { has_failed w.old ≡ false }
-    ensures taken { WritesHead W.contents w.old w.new (front.now ++ first_line queue.now) result }
+    ensures taken { WritesWhole W.contents w.old w.new (front.now ++ first_line queue.now) result }
     ensures stops { Stops w.old w.new result }
 {
     let head = match history_head(alloc, queue) {

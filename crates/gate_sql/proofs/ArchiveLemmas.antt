@@ -32,9 +32,10 @@ use Rattle.gate_file_changes.specs.Applies.{is_among}
 use Rattle.gate_content_reads.specs.Held.{HoldsFor}
 use Rattle.gate_content_reads.proofs.ReadLemmas.{told_of, no_rows, shown, shut}
 use Rattle.gate_content_reads.proofs.told.Names.{queues_are_named}
+use Rattle.gate_queue_queries.specs.History.{WritesWhole}
 use Rattle.gate_archive_queries.specs.Answers.{IsArchiveOf}
 use Rattle.gate_archive_queries.specs.Asked.{TellsReports, is_left_in_form}
-use Rattle.gate_archive_queries.specs.HistoryFrom.{HoldsReports, WritesAll, text_from}
+use Rattle.gate_archive_queries.specs.HistoryFrom.{HoldsReports, text_from}
 use Rattle.gate_archive_queries.proofs.ToldReads.{past_is_told}
 use Rattle.gate_sql.proofs.HistoryLemmas.{names_told, some_known}
 
@@ -107,7 +108,7 @@ module _ {c : Settings} {x : Content} {s : State} {names : List (List ℕ)} (hol
 
   -- so it is whatever is answered
   pub history_so : (result : Result (Unit {0}) HistoryFault)
-      → ((b : Stored) → Shows s b → IsWhole b → (rs : List Report) → HoldsReports b n rs → WritesAll held old new (front ++ text_from n from rs) result)
+      → ((b : Stored) → Shows s b → IsWhole b → (rs : List Report) → HoldsReports b n rs → WritesWhole held old new (front ++ text_from n from rs) result)
       → MatchResult result (λ _. IsTrue s.is_open) (λ f. f ≢ history.Unavailable → IsTrue s.is_open) → WritesHistoryFrom x.state name from front held old new result
   history_so (Ok u) written opened = of_queue (Took held old new) opened written
   history_so (Err history.NoQueue) written opened = absurd (of_queue (λ _. ⊥) (opened (λ e. cc)) written).taken
