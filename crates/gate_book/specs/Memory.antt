@@ -1,8 +1,8 @@
 -- How a book in memory keeps all tables.
-use Rattle.std.specs.Prelude.{◌≡◌, ⊤, ℕ, Bool, false, [], map, min}
+use Rattle.std.specs.Prelude.{◌≡◌, ⊤, ℕ, Bool, false, [], map}
 use Rattle.std.specs.List.{AllByRecursion}
 use Rattle.gate_types.specs.Settings.{Settings}
-use Rattle.gate_types.specs.Counters.{Drawn, last_number}
+use Rattle.gate_types.specs.Counters.{Drawn}
 use Rattle.gate_types.specs.State.{start}
 use Rattle.gate_types.specs.AdoptedTables.{adopted_tables}
 use Rattle.gate_types.specs.Once.{Content}
@@ -20,14 +20,6 @@ use Rattle.gate_book.specs.declared.tables.MemTables.{MemTables}
 -- the last numbers drawn
 abbrev pub drawn_of : LastNumbers → Drawn
 drawn_of d = record { approval = d.approval; build = d.build; order = d.order }
-
--- the counters, none above the last number
-abbrev pub within : Drawn → Drawn
-within d = record {
-  approval = min d.approval last_number;
-  build = min d.build last_number;
-  order = min d.order last_number;
-}
 
 -- the content before the first delivery, with these numbers drawn
 abbrev pub start_with : Settings → Drawn → Content

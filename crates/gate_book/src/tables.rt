@@ -14,8 +14,9 @@ ghost use Rattle.gate_book_trait.specs.Reads as read;
 ghost use Rattle.gate_book_trait.specs.RowReads.{approval_in, change_in, rows_named, items_named, needing_in};
 ghost use Rattle.gate_book_trait.specs.RowReads.{plans_of_rows, all_queued, landings_below, LandingsRise};
 ghost use Rattle.gate_memory.specs.TableReads.{IsWhatRowsTellOf, builds_of_rows};
-ghost use Rattle.gate_book.specs.Memory.{within, tables_of, IsKept, HasRoom, HasRoomBeside, drawn_of, start_with};
+ghost use Rattle.gate_book.specs.Memory.{tables_of, IsKept, HasRoom, HasRoomBeside, drawn_of, start_with};
 ghost use Rattle.gate_types.specs.AdoptedTables.{adopted_tables, empty_rows};
+ghost use Rattle.gate_types.specs.Counters.{within};
 
 use crate::adopting::adopt_queues;
 use gate_book_trait::QueuedItem;

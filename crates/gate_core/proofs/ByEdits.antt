@@ -27,7 +27,7 @@ use Rattle.gate_types.specs.Slot.{are_met_by}
 use Rattle.gate_types.specs.Standing.{needs_of}
 use Rattle.gate_types.specs.Window.{bounds_of}
 use Rattle.gate_types.specs.Rebase.{rebase}
-use Rattle.gate_types.specs.Sweep.{Judged, judged, report_of, swept_queue}
+use Rattle.gate_types.specs.Sweep.{Judged, judged, report_of, swept_queue, report_on}
 use Rattle.gate_types.specs.Admit.{may_enter}
 use Rattle.gate_types.specs.SubmitOrder.{Order}
 use Rattle.gate_types.specs.Step.{left_queue, landed_queue, shrunk_queue, raw_step, raw_revision, raw_approved}
@@ -44,7 +44,6 @@ use Rattle.gate_laws.proofs.Alone.{same_name_of}
 use Rattle.gate_laws.proofs.EachAccepted.{on_accepted, each_revision, each_approved, each_withdrawn, each_closed}
 use Rattle.gate_laws.proofs.EachAccepted.{each_landed, each_refused, each_take, each_result}
 use Rattle.gate_laws.proofs.IdleSweep.{judged_items}
-use Rattle.gate_laws.proofs.Told.{report_on}
 use Rattle.gate_laws.proofs.Members.{In, every, from_map, any_from, any_to, none_from, from_filter, map_map}
 use Rattle.gate_laws.proofs.Members.{contains_in}
 use Rattle.gate_reads.specs.Moves.{swept}

@@ -1,7 +1,7 @@
 -- What the reports of a queue tell of its landings.
-use Rattle.std.proofs.Common.{◌≡◌, ℕ, ◌+◌, Bool, true, false, not, cond, Option, Some, None, List, [], ◌∷◌, ◌++◌, map}
+use Rattle.std.proofs.Common.{◌≡◌, ℕ, ◌+◌, Bool, true, false, not, cond, Some, None, List, [], ◌∷◌, ◌++◌, map}
 use Rattle.std.proofs.Common.{length, refl, ap, ◌∙◌, inl, inr, arith, append-nil}
-use Rattle.std.specs.Prelude.{filter_map, option_map}
+use Rattle.std.specs.Prelude.{filter_map}
 use Rattle.std.specs.List.{cons_option, enumerate_from}
 use Rattle.std.proofs.lemmas.List.Elements.{filter_map-append}
 use Rattle.std.proofs.lemmas.Option.{none-some, same_Some}
@@ -13,7 +13,7 @@ use Rattle.gate_types.specs.declared.records.Verdict.TheVariants as verdict
 use Rattle.gate_types.specs.State.{Item}
 use Rattle.gate_types.specs.Line.{Place}
 use Rattle.gate_types.specs.Slot.{are_met_by}
-use Rattle.gate_types.specs.Sweep.{Judged, has_failed, judge, next_staying, judged_after, report_of}
+use Rattle.gate_types.specs.Sweep.{Judged, has_failed, judge, next_staying, judged_after, report_of, report_on}
 use Rattle.gate_types.specs.Lawful.{landing_of}
 use Rattle.gate_laws.proofs.Members.{In}
 
@@ -36,10 +36,6 @@ pub unlanded_left : (v : Verdict) → TellsNoLanding v → (is : List Item) →
 unlanded_left v h [] = refl
 unlanded_left v h (i ∷ is) = ap (λ o. cons_option o (filter_map landing_of (map (report_of v) is))) (h i)
     ∙ unlanded_left v h is
-
--- the report on an item that a sweep takes
-abbrev pub report_on : Judged → Option Report
-report_on j = option_map (λ v. report_of v j.item) j.verdict
 
 -- the reports of a sweep
 pub unlanded_swept : (bs : List Build) (staying : List Item) (ps : List Place) →

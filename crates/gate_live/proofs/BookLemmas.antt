@@ -3,7 +3,7 @@ use Rattle.std.proofs.Common.{◌≡◌, ◌≤◌, min, true, List, Option, Som
 use Rattle.std.specs.Prelude.{◌&&◌, nat_le, option_map, IfSome, OnOk, OnErr, Result, Ok, Err}
 use Rattle.std.proofs.lemmas.Bool.{and_parts}
 use borrow.Author.Tests.{leb-true}
-use Rattle.gate_types.specs.Counters.{Drawn, last_number}
+use Rattle.gate_types.specs.Counters.{Drawn, last_number, within}
 use Rattle.gate_types.specs.Forms.{are_counters_in_form}
 use Rattle.gate_types.specs.Once.{Content}
 use Rattle.gate_types.specs.Settings.{Settings}
@@ -12,7 +12,7 @@ use Rattle.gate_types.specs.declared.edits.Edit.{Edit}
 use Rattle.gate_book_trait.specs.Kept.{IsApplied}
 use Rattle.gate_book_trait.specs.declared.fault.BookFault.{BookFault}
 use Rattle.gate_live.specs.Live.{live_tables}
-use Rattle.gate_live.specs.Held.{live_of, within}
+use Rattle.gate_live.specs.Held.{live_of}
 use Rattle.gate_live.specs.Parts.{Agrees, Parts}
 use Rattle.gate_live.specs.Both.{HoldsBoth}
 use Rattle.gate_live.specs.declared.held.Held.{Held}

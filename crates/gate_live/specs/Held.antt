@@ -1,8 +1,8 @@
 -- How the live rows of queues, and the counters, are held in memory.
-use Rattle.std.specs.Prelude.{ℕ, ◌≡◌, map, min, Option, IfSome}
+use Rattle.std.specs.Prelude.{ℕ, ◌≡◌, map, Option, IfSome}
 use Rattle.std.specs.List.{AllByRecursion}
 use Rattle.gate_types.specs.Settings.{Settings}
-use Rattle.gate_types.specs.Counters.{Drawn, last_number}
+use Rattle.gate_types.specs.Counters.{Drawn}
 use Rattle.gate_types.specs.Once.{Content}
 use Rattle.gate_types.specs.Tables.{tables}
 use Rattle.gate_memory.specs.Queues as queue
@@ -22,14 +22,6 @@ drawn_of d = record { approval = d.approval; build = d.build; order = d.order }
 -- the live rows of all held queues, and the counters
 abbrev pub live_of : Held → LiveTables
 live_of h = record { queues = map queue_of h.queues.items; counters = drawn_of h.drawn }
-
--- the counters, each capped at the largest number that is drawn
-abbrev pub within : Drawn → Drawn
-within d = record {
-  approval = min d.approval last_number;
-  build = min d.build last_number;
-  order = min d.order last_number;
-}
 
 -- a held queue has room for n more rows
 abbrev pub HasRoomIn : ℕ → HeldQueue → Type 0

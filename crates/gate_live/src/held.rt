@@ -4,10 +4,11 @@ ghost use Rattle.std.specs.List.{AllByRecursion};
 ghost use Rattle.std.specs.Option.{option_copied, option_map_or};
 ghost use Rattle.gate_types.specs.Names.{same_name};
 ghost use Rattle.gate_types.specs.Tables.{set_counter, edited_counters};
+ghost use Rattle.gate_types.specs.Counters.{within};
 ghost use Rattle.gate_book_trait.specs.Reads as read;
 ghost use Rattle.gate_memory.specs.Queues as queue_table;
 ghost use Rattle.gate_live.specs.Live.{edited_live, edited_live_queue, fold_live, live_named, live_items, live_queued};
-ghost use Rattle.gate_live.specs.Held.{HasRoom, HasRoomIn, AreKept, IsKeptQueue, drawn_of, live_of, queue_of, within};
+ghost use Rattle.gate_live.specs.Held.{HasRoom, HasRoomIn, AreKept, IsKeptQueue, drawn_of, live_of, queue_of};
 
 use crate::held_queue::HeldQueue;
 use gate_book_trait::QueuedItem;

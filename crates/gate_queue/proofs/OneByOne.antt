@@ -14,10 +14,10 @@ use Rattle.gate_types.specs.Line.{Place}
 use Rattle.gate_types.specs.Slot.{is_running}
 use Rattle.gate_types.specs.Standing.{with_ahead, next_ahead, places_after}
 use Rattle.gate_types.specs.Rebase.{with_live}
-use Rattle.gate_types.specs.Sweep.{Judged, judge, judged_after, next_staying, next_window, verdict_of, goes}
+use Rattle.gate_types.specs.Sweep.{Judged, judge, judged_after, next_staying, next_window, verdict_of, goes, report_on}
 use Rattle.gate_types.specs.Sweep.{without_runs}
 use Rattle.gate_queue.specs.Settled.{verdicts}
-use Rattle.gate_queue.specs.Laws.{Scan, report_on, swept, without, one_out, OneSweepIsOneByOne}
+use Rattle.gate_queue.specs.Laws.{Scan, swept, without, one_out, OneSweepIsOneByOne}
 use Rattle.gate_queue.proofs.Ordered.{RiseFrom, rises, ahead_rise}
 use Rattle.gate_queue.proofs.Builds.{or_false}
 use Rattle.gate_laws.proofs.Alike.{verdict_alike}

@@ -1,5 +1,5 @@
 -- What a rebase and a sweep leave alone.
-use Rattle.std.specs.Prelude.{ℕ, ◌&&◌, ◌||◌, not, ◌≡◌, List, [], ◌∷◌, ◌++◌, map, fold, Option, is_some, option_map}
+use Rattle.std.specs.Prelude.{ℕ, ◌&&◌, ◌||◌, not, ◌≡◌, List, [], ◌∷◌, ◌++◌, map, fold, is_some}
 use Rattle.std.specs.Prelude.{filter_map, find}
 use Rattle.std.specs.Option.{option_map_or}
 use Rattle.std.specs.List.{All, AllPass, list_any}
@@ -14,7 +14,7 @@ use Rattle.gate_types.specs.Slot.{is_blocked, is_failed_slot, is_cut, slot_of}
 use Rattle.gate_types.specs.Standing.{is_failing, places, all_places}
 use Rattle.gate_types.specs.Rebase.{rebase}
 use Rattle.gate_types.specs.Window.{Bounds}
-use Rattle.gate_types.specs.Sweep.{Judged, judged, goes, next_window, report_of}
+use Rattle.gate_types.specs.Sweep.{Judged, judged, goes, next_window, report_on}
 use Rattle.gate_queue.specs.Settled.{verdicts, swept_builds, staying_places}
 
 -- a rebase changes what is ahead of no item, no slot, no failing mark, and cuts no other item
@@ -42,10 +42,6 @@ pub record Scan : Type 0 where
   pub places : List Place
   pub builds : List Build
   pub reports : List Report
-
--- the report on an item, if it goes
-abbrev pub report_on : Judged → Option Report
-report_on j = option_map (λ v. report_of v j.item) j.verdict
 
 -- all items that go are taken out by one look at the queue
 abbrev pub swept : Bounds → Scan → Scan

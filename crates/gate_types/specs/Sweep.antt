@@ -52,6 +52,10 @@ judged c s q = judged_after s.builds [] (places c s q)
 abbrev pub report_of : Verdict → Item → Report
 report_of v i = record { serial = i.serial; change = i.change; revision = i.revision; verdict = v }
 
+-- the report on an item, if it goes
+abbrev pub report_on : Judged → Option Report
+report_on j = option_map (λ v. report_of v j.item) j.verdict
+
 -- each `failed` shrinks the window
 abbrev pub next_window : Bounds → ℕ → Judged → ℕ
 next_window bounds w j = elim j.verdict [ Some verdict.Failed ↦ shrink w bounds.floor bounds.rule | _ ↦ w ]

@@ -1,6 +1,6 @@
 use Rattle.std.proofs.Common.{◌∙◌, ap}
+use Rattle.gate_types.specs.Counters.{within}
 use Rattle.gate_live.specs.Live.{LiveTables}
-use Rattle.gate_live.specs.Held.{within}
 use Rattle.gate_live.specs.Parts.{Parts}
 use Rattle.gate_live.proofs.BookLemmas.{held_is, within_form}
 use Rattle.gate_live.proofs.live.Live.counters.Goals as goal
