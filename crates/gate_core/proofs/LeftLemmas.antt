@@ -7,9 +7,9 @@ use Rattle.gate_types.specs.declared.deliveries.Delivery.{Delivery}
 use Rattle.gate_types.specs.declared.deliveries.Refusal.{Refusal}
 use Rattle.gate_types.specs.Settings.{Settings}
 use Rattle.gate_types.specs.Once.{Content, Call, acts, next_content, once}
+use Rattle.gate_types.specs.Gated.{Gated}
 use Rattle.gate_core.specs.Answered.{spared}
 use Rattle.gate_core.specs.declared.gate.Gate.{Gate}
-use Rattle.gate_core.specs.Gated.{Gated}
 use Rattle.gate_core.specs.Left.{LeavesBy, left_after, left_by}
 use Rattle.gate_core.specs.Replies.{Marked, call_of, call_read, calls_of_lines, gate_after_lines}
 

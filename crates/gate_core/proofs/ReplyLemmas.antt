@@ -15,9 +15,9 @@ use Rattle.gate_types.specs.Settings.{Settings}
 use Rattle.gate_types.specs.Once.{Content, Call, once, next_content, answer_of, answer_text, answers, is_unavailable}
 use Rattle.gate_types.specs.Refusals.{refusal_text}
 use Rattle.gate_types.specs.Forms.{IsLawfulContent}
+use Rattle.gate_types.specs.Gated.{Gated}
 use Rattle.gate_core.specs.Answered.{Answered, call}
 use Rattle.gate_core.specs.declared.gate.Gate.{Gate}
-use Rattle.gate_core.specs.Gated.{Gated}
 use Rattle.gate_core.specs.Holding.{GateHolds, OfGate}
 use Rattle.gate_core.specs.Limit.{too_large}
 use Rattle.gate_types.specs.Limits.{most_bytes}

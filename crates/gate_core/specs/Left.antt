@@ -2,9 +2,9 @@
 use Rattle.std.specs.Prelude.{if◌then◌else◌, List, [], ◌∷◌, ◌++◌}
 use Rattle.gate_types.specs.Settings.{Settings}
 use Rattle.gate_types.specs.Once.{Content, Call, acts, next_content}
+use Rattle.gate_types.specs.Gated.{Gated}
 use Rattle.gate_core.specs.Answered.{spared}
 use Rattle.gate_core.specs.declared.gate.Gate.{Gate}
-use Rattle.gate_core.specs.Gated.{Gated}
 
 -- a crash leaves one of these contents after a call, if it left one of `ys` before: only the next content if the call
 -- acts, one content more after `unavailable`, and the same otherwise

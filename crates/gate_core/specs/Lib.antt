@@ -1,7 +1,6 @@
 pub mod Answered
 pub mod Ruled
 pub mod Thinned
-pub mod Gated
 pub mod Recent
 pub mod Holding
 pub mod Left

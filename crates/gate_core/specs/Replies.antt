@@ -8,9 +8,9 @@ use Rattle.gate_types.specs.declared.deliveries.Refusal.{Refusal}
 use Rattle.gate_types.specs.declared.deliveries.Refusal.TheVariants as refusal
 use Rattle.gate_types.specs.Once.{Call, once, answer_of, answer_text, answers}
 use Rattle.gate_types.specs.Refusals.{refusal_text}
-use Rattle.gate_core.specs.Gated.{Gated}
-use Rattle.gate_core.specs.Limit.{too_large}
+use Rattle.gate_types.specs.Gated.{Gated}
 use Rattle.gate_types.specs.Limits.{most_bytes}
+use Rattle.gate_core.specs.Limit.{too_large}
 use Rattle.gate_wire.specs.declared.door.Door.TheVariants as door
 use Rattle.gate_wire.specs.Reading.{says}
 

@@ -2,8 +2,8 @@
 ghost use Rattle.std.specs.Prelude.{◌≡◌, ℕ, List, OnOk, IfOk, IsErrOf, true, false, length};
 ghost use Rattle.std.specs.Io.Iter.{u64_saturate};
 ghost use Rattle.gate_types.specs.Tap.{inside, has_failed, Gave, IsReadOut, Took};
+ghost use Rattle.gate_types.specs.Gated.{Gated};
 ghost use Rattle.gate_core.specs.Lines.{whole_lines, lines_of, ReadFor};
-ghost use Rattle.gate_core.specs.Gated.{Gated};
 ghost use Rattle.gate_core.specs.Replies.{Marked, CallsAreAnswered};
 ghost use Rattle.gate_core.specs.Held.{Goes, CutOver, ReplayedOver};
 

@@ -18,12 +18,12 @@ use Rattle.gate_types.specs.declared.tap.Tap.{Tap}
 use Rattle.gate_types.specs.Settings.{Settings}
 use Rattle.gate_types.specs.Tap.{inside, has_failed, WritesFront, Took, TookFront}
 use Rattle.gate_types.specs.Once.{Call, Content, next_content}
+use Rattle.gate_types.specs.Gated.{Gated}
 use Rattle.gate_types.proofs.TapLemmas.{writes_later}
 use Rattle.gate_wire.specs.Reading.{says}
 use Rattle.gate_http.specs.declared.request_fault.RequestFault.{RequestFault}
 use Rattle.gate_http.specs.declared.request_fault.RequestFault.TheVariants as fault
 use Rattle.gate_core.specs.declared.gate.Gate.{Gate}
-use Rattle.gate_core.specs.Gated.{Gated}
 use Rattle.gate_core.specs.Held.{Goes}
 use Rattle.gate_core.specs.Left.{LeavesBy}
 use Rattle.gate_core.specs.Replies.{call_read}

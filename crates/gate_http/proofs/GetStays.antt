@@ -3,8 +3,8 @@ use Rattle.std.proofs.Common.{◌≡◌, ℕ, Bool, true, false, List, [], Optio
 use Rattle.std.specs.Prelude.{if◌then◌else◌, length, nat_lt, option_map}
 use Rattle.gate_types.specs.Settings.{Settings}
 use Rattle.gate_types.specs.Once.{Content}
+use Rattle.gate_types.specs.Gated.{Gated}
 use Rattle.gate_core.specs.declared.gate.Gate.{Gate}
-use Rattle.gate_core.specs.Gated.{Gated}
 use Rattle.gate_core.specs.Held.{Goes}
 use Rattle.gate_http.specs.declared.fault.HttpFault.TheVariants as fault
 use Rattle.gate_http.specs.declared.response.Form.TheVariants as form

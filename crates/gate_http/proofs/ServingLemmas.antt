@@ -11,12 +11,12 @@ use Rattle.gate_types.specs.declared.deliveries.Refusal.TheVariants as refusal
 use Rattle.gate_types.specs.Settings.{Settings}
 use Rattle.gate_types.specs.Once.{Content, next_content, answer_of, is_unavailable}
 use Rattle.gate_types.specs.Forms.{IsLawfulContent}
+use Rattle.gate_types.specs.Gated.{Gated}
 use Rattle.gate_wire.specs.declared.door.Door.{Door}
 use Rattle.gate_wire.specs.Reading.{says}
 use Rattle.gate_book_trait.specs.Kept.{OfHeldUnder}
 use Rattle.gate_core.specs.Answered.{Answered, call, spared}
 use Rattle.gate_core.specs.declared.gate.Gate.{Gate}
-use Rattle.gate_core.specs.Gated.{Gated}
 use Rattle.gate_core.specs.Replies.{call_read}
 use Rattle.gate_core.specs.Held.{IsOver, Goes}
 use Rattle.gate_core.specs.Holding.{GateHolds, OfGate, IsKeptGate}

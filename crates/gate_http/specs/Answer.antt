@@ -22,7 +22,6 @@ use Rattle.gate_archive.specs.ItemText.{item_text}
 use Rattle.gate_archive.specs.RunningBuilds.{running_text}
 use Rattle.gate_archive.specs.HistoryFrom.{history_from}
 use Rattle.gate_archive.specs.Feed.{fed, feed_text, id_named}
-use Rattle.gate_core.specs.Gated.{Gated}
 use Rattle.gate_core.specs.Replies.{call_read}
 use Rattle.gate_http.specs.declared.respond.Page.TheVariants as pages
 use Rattle.gate_http.specs.declared.respond.Told.{Told}
@@ -38,6 +37,7 @@ use Rattle.gate_http.specs.Way.{Way, silence, refusal as refusing, question, str
 use Rattle.gate_http.specs.Response.{fault_in, told_in, stream_in, failure_in}
 use Rattle.gate_types.specs.Counters.{last_number}
 use Rattle.gate_types.specs.Limits.{most_listed}
+use Rattle.gate_types.specs.Gated.{Gated}
 
 -- ---- what is told at once
 

@@ -5,9 +5,9 @@ use Rattle.gate_types.specs.declared.tap.Tap.{Tap}
 use Rattle.gate_types.specs.Tap.{has_failed, Took, TookFront}
 use Rattle.gate_types.specs.Once.{Call, Content}
 use Rattle.gate_types.specs.Settings.{Settings}
+use Rattle.gate_types.specs.Gated.{Gated}
 use Rattle.gate_http.specs.declared.request_fault.RequestFault.{RequestFault}
 use Rattle.gate_http.specs.RequestFaults.{request_fault_text}
-use Rattle.gate_core.specs.Gated.{Gated}
 use Rattle.gate_core.specs.Left.{LeavesBy}
 use Rattle.gate_core.specs.declared.gate.Gate.{Gate}
 use Rattle.gate_http.specs.Answer.{gate_after}

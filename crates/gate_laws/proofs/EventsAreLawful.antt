@@ -5,8 +5,9 @@ use Rattle.std.proofs.lemmas.Bool.{cond_both}
 use Rattle.gate_types.specs.Settings.{Settings}
 use Rattle.gate_types.specs.Once.{Content, Call, once, answers, answer_of, next_content}
 use Rattle.gate_types.specs.Adopt.{may_adopt, adopted_content}
-use Rattle.gate_types.specs.Events.{Event, called, set, Governed, next_governed, through, answers_through}
-use Rattle.gate_laws.specs.Adoption.{IsSoundEvent, IsEventInForm, first, CallsAreOnce, IsGovernedLawfully}
+use Rattle.gate_types.specs.Events.{Event, called, set, through, answers_through, next_gated}
+use Rattle.gate_types.specs.Gated.{Gated, opened}
+use Rattle.gate_laws.specs.Adoption.{IsSoundEvent, IsEventInForm, CallsAreOnce, IsGovernedLawfully}
 use Rattle.gate_laws.specs.Adoption.{EventsAreLawful, IsGovernedInForm, EventsAreInForm}
 use Rattle.gate_laws.specs.Adoption.{EveryChangeLandsOnceThroughEvents, EveryLandingIsShownThroughEvents}
 use Rattle.gate_laws.proofs.StartIsLawful.{start_lawful}
@@ -31,8 +32,8 @@ calls_are_once = record { content = λ c x ks. calls_through c ks x; answers = �
 
 -- ---- from the empty gate
 
-event_lawful : (g : Governed) (e : Event) → IsSoundEvent e → IsGovernedLawfully g →
-    IsGovernedLawfully (next_governed g e)
+event_lawful : (g : Gated) (e : Event) → IsSoundEvent e → IsGovernedLawfully g →
+    IsGovernedLawfully (next_gated g e)
 event_lawful g (called k) w h =
     record { settings = h.settings; state = next_lawful g.settings h.settings g.content k h.state }
 event_lawful g (set d) w h =
@@ -40,13 +41,13 @@ event_lawful g (set d) w h =
     IsGovernedLawfully
     (λ e. record { settings = w; state = adopted_lawful g.settings d g.content.state h.settings w e h.state }) (λ e. h)
 
-through_lawful : (es : List Event) (g : Governed) → Each IsSoundEvent es → IsGovernedLawfully g →
+through_lawful : (es : List Event) (g : Gated) → Each IsSoundEvent es → IsGovernedLawfully g →
     IsGovernedLawfully (through g es)
 through_lawful [] g w h = h
-through_lawful (e ∷ es) g w h = through_lawful es (next_governed g e) w.1 (event_lawful g e w.0 h)
+through_lawful (e ∷ es) g w h = through_lawful es (next_gated g e) w.1 (event_lawful g e w.0 h)
 
 pub events_are_lawful : EventsAreLawful
-events_are_lawful c es w v = through_lawful es (first c) v (record { settings = w; state = start_lawful c })
+events_are_lawful c es w v = through_lawful es (opened c) v (record { settings = w; state = start_lawful c })
 
 pub every_change_lands_once_through_events : EveryChangeLandsOnceThroughEvents
 every_change_lands_once_through_events c es w v = (events_are_lawful c es w v).state.sound.landed_differ
@@ -56,7 +57,7 @@ every_landing_is_shown_through_events c es w v = (events_are_lawful c es w v).st
 
 -- ---- from any content
 
-event_in_form : (g : Governed) (e : Event) → IsEventInForm e → IsGovernedInForm g → IsGovernedInForm (next_governed g e)
+event_in_form : (g : Gated) (e : Event) → IsEventInForm e → IsGovernedInForm g → IsGovernedInForm (next_gated g e)
 event_in_form g (called k) v h = record {
   settings = h.settings;
   in_form = h.in_form;
@@ -71,10 +72,10 @@ event_in_form g (set d) v h =
       content = adopted_content_is_lawful g.settings d g.content h.settings v.0 v.1 e h.content;
     }) (λ e. h)
 
-through_in_form : (es : List Event) (g : Governed) → Each IsEventInForm es → IsGovernedInForm g →
+through_in_form : (es : List Event) (g : Gated) → Each IsEventInForm es → IsGovernedInForm g →
     IsGovernedInForm (through g es)
 through_in_form [] g v h = h
-through_in_form (e ∷ es) g v h = through_in_form es (next_governed g e) v.1 (event_in_form g e v.0 h)
+through_in_form (e ∷ es) g v h = through_in_form es (next_gated g e) v.1 (event_in_form g e v.0 h)
 
 pub events_are_in_form : EventsAreInForm
 events_are_in_form g es h v = through_in_form es g v h

@@ -17,7 +17,6 @@ use Rattle.gate_types.specs.Step.{Stepped, accepted, refused, step}
 use Rattle.gate_types.specs.Once.{Content, Call, empty, kept_for, may_act, is_accepted, acts, content_after}
 use Rattle.gate_types.specs.Once.{next_content, once, acting}
 use Rattle.gate_types.specs.Adopt.{may_adopt, adopted_content}
-use Rattle.gate_types.specs.Events.{Governed}
 use Rattle.gate_types.proofs.OnceLaw.{content_by}
 use Rattle.gate_types.proofs.OneTextLaw.{one_text_a_delivery}
 use Rattle.gate_laws.specs.Sessions.{Session, after_session}
@@ -25,6 +24,7 @@ use Rattle.gate_laws.proofs.Shapes.{most}
 use Rattle.gate_laws.specs.Feed.{FormsAreInRange, IsCallOfKept, AreCallsOfKept, AreInRange, ActingCallsAreKept}
 use Rattle.gate_laws.specs.Feed.{KeptToldAgain, LogIsTheGate, IsSessionAgain, SessionsToldAgain}
 use Rattle.gate_types.specs.Counters.{last_number}
+use Rattle.gate_types.specs.Gated.{Gated}
 
 -- ---- numbers in range
 
@@ -138,7 +138,7 @@ log_is_the_gate c ks rs hk hr told = kept_told_again c (empty c) ks rs (once c (
 
 -- ---- with changes of settings between
 
-session_again : (g : Governed) (s t : Session) → AreInRange s.calls → AreInRange t.calls → IsSessionAgain g s t →
+session_again : (g : Gated) (s t : Session) → AreInRange s.calls → AreInRange t.calls → IsSessionAgain g s t →
     after_session g t ≡ after_session g s
 session_again g s t hs ht h =
     ap (λ c. after_session g (record { settings = c; calls = t.calls })) h.settings

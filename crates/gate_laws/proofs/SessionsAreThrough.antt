@@ -2,15 +2,16 @@
 use Rattle.std.proofs.Common.{◌≡◌, Bool, true, false, cond, List, [], ◌∷◌, ◌++◌, map, refl, sym, ap, ◌∙◌}
 use Rattle.gate_types.specs.Once.{once}
 use Rattle.gate_types.specs.Adopt.{may_adopt, adopted_content}
-use Rattle.gate_types.specs.Events.{Event, called, set, Governed, next_governed, through}
+use Rattle.gate_types.specs.Events.{Event, called, set, through, next_gated}
+use Rattle.gate_types.specs.Gated.{Gated}
 use Rattle.gate_laws.specs.Sessions.{Session, after_session, events_of, SessionsAreThrough}
 use Rattle.gate_laws.proofs.EventsAreLawful.{calls_are_once}
 
-through_both : (es fs : List Event) (g : Governed) → through g (es ++ fs) ≡ through (through g es) fs
+through_both : (es fs : List Event) (g : Gated) → through g (es ++ fs) ≡ through (through g es) fs
 through_both [] fs g = refl
-through_both (e ∷ es) fs g = through_both es fs (next_governed g e)
+through_both (e ∷ es) fs g = through_both es fs (next_gated g e)
 
-one_session : (g : Governed) (s : Session) →
+one_session : (g : Gated) (s : Session) →
     after_session g s ≡ through g (set s.settings ∷ cond (may_adopt g.settings s.settings) (map called s.calls) [])
 one_session g s = by_may (may_adopt g.settings s.settings)
   where

@@ -4,12 +4,13 @@ use Rattle.std.specs.List.{AllByRecursion as Each}
 use Rattle.gate_types.specs.Settings.{Settings, are_sound}
 use Rattle.gate_types.specs.State.{State}
 use Rattle.gate_types.specs.SubmitOrder.{Order, orders}
-use Rattle.gate_types.specs.Once.{Call, Content, empty, once, answers}
+use Rattle.gate_types.specs.Once.{Call, Content, once, answers}
 use Rattle.gate_types.specs.Adopt.{may_adopt, adopted, adopted_content}
-use Rattle.gate_types.specs.Events.{Event, called, set, Governed, through, answers_through}
+use Rattle.gate_types.specs.Events.{Event, called, set, through, answers_through}
 use Rattle.gate_types.specs.Evidence.{IsShown}
 use Rattle.gate_types.specs.Lawful.{IsSound, IsLawful, IsDistinct, landed_changes}
 use Rattle.gate_types.specs.Forms.{are_settings_in_form, is_call_in_form, IsLawfulContent}
+use Rattle.gate_types.specs.Gated.{Gated, opened}
 use Rattle.gate_laws.specs.Orders.{IsStillShown}
 
 -- a sound state is sound under settings that it adopts
@@ -50,10 +51,6 @@ abbrev pub IsEventInForm : Event → Type 0
 IsEventInForm (called k) = is_call_in_form k ≡ true
 IsEventInForm (set d) = (are_sound d ≡ true) × (are_settings_in_form d ≡ true)
 
--- the gate before its first event
-abbrev pub first : Settings → Governed
-first c = record { settings = c; content = empty c }
-
 -- calls alone come to what they come to under settings that stay
 pub record CallsAreOnce : Type 0 where
   pub content : (c : Settings) (x : Content) (ks : List Call) →
@@ -62,32 +59,32 @@ pub record CallsAreOnce : Type 0 where
       answers_through (record { settings = c; content = x }) (map called ks) ≡ answers c x ks
 
 -- the settings in force are sound, and the state is lawful under them, whatever came
-pub record IsGovernedLawfully (g : Governed) : Type 0 where
+pub record IsGovernedLawfully (g : Gated) : Type 0 where
   pub settings : are_sound g.settings ≡ true
   pub state : IsLawful g.settings g.content.state
 
 abbrev pub EventsAreLawful : Type 0
 EventsAreLawful = (c : Settings) (es : List Event) → are_sound c ≡ true → Each IsSoundEvent es →
-    IsGovernedLawfully (through (first c) es)
+    IsGovernedLawfully (through (opened c) es)
 
 -- from any lawful content, all stays lawful and of its form
-pub record IsGovernedInForm (g : Governed) : Type 0 where
+pub record IsGovernedInForm (g : Gated) : Type 0 where
   pub settings : are_sound g.settings ≡ true
   pub in_form : are_settings_in_form g.settings ≡ true
   pub content : IsLawfulContent g.settings g.content
 
 abbrev pub EventsAreInForm : Type 0
-EventsAreInForm = (g : Governed) (es : List Event) → IsGovernedInForm g → Each IsEventInForm es →
+EventsAreInForm = (g : Gated) (es : List Event) → IsGovernedInForm g → Each IsEventInForm es →
     IsGovernedInForm (through g es)
 
 -- no change stands twice among all landings
 abbrev pub EveryChangeLandsOnceThroughEvents : Type 0
 EveryChangeLandsOnceThroughEvents = (c : Settings) (es : List Event) → are_sound c ≡ true → Each IsSoundEvent es →
-    IsDistinct (landed_changes (through (first c) es).content.state)
+    IsDistinct (landed_changes (through (opened c) es).content.state)
 
 -- and each voting job that a landing kept has just one live successful build, which ran on the landings before it,
 -- then itself
 abbrev pub EveryLandingIsShownThroughEvents : Type 0
 EveryLandingIsShownThroughEvents = (c : Settings) (es : List Event) → are_sound c ≡ true → Each IsSoundEvent es →
-    (let g = through (first c) es in
+    (let g = through (opened c) es in
     All (λ q. (k : ℕ) → IsShown g.settings g.content.state q k) g.content.state.queues)

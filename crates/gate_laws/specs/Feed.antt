@@ -8,7 +8,7 @@ use Rattle.gate_types.specs.Canonical.{canonical_text}
 use Rattle.gate_types.specs.OneText.{IsInRange}
 use Rattle.gate_types.specs.Forms.{is_delivery_in_form}
 use Rattle.gate_types.specs.Once.{Call, Content, empty, once, acting}
-use Rattle.gate_types.specs.Events.{Governed}
+use Rattle.gate_types.specs.Gated.{Gated}
 use Rattle.gate_laws.specs.Sessions.{Session, after_session}
 
 -- a call tells a kept delivery again: its id, a delivery with its text, and no mark
@@ -48,14 +48,14 @@ LogIsTheGate = (c : Settings) (ks rs : List Call) → AreInRange ks → AreInRan
 -- ---- with changes of settings between
 
 -- a session t tells the session s again: it has its settings, and its calls tell what s adds to what is kept
-pub record IsSessionAgain (g : Governed) (s t : Session) : Type 0 where
+pub record IsSessionAgain (g : Gated) (s t : Session) : Type 0 where
   pub settings : t.settings ≡ s.settings
   pub added : List Kept
   pub kept : (after_session g s).content.kept ≡ g.content.kept ++ added
   pub calls : AreCallsOfKept added t.calls
 
 -- sessions tell others again, one for one and in their order
-abbrev pub AreSessionsAgain : Governed → List Session → List Session → Type 0
+abbrev pub AreSessionsAgain : Gated → List Session → List Session → Type 0
 AreSessionsAgain g [] [] = Unit {0}
 AreSessionsAgain g [] (t ∷ ts) = ⊥
 AreSessionsAgain g (s ∷ ss) [] = ⊥
@@ -63,6 +63,6 @@ AreSessionsAgain g (s ∷ ss) (t ∷ ts) = IsSessionAgain g s t × AreSessionsAg
 
 -- told again, sessions come to what they came to, whichever settings were taken or refused between
 abbrev pub SessionsToldAgain : Type 0
-SessionsToldAgain = (g : Governed) (ss ts : List Session) →
+SessionsToldAgain = (g : Gated) (ss ts : List Session) →
     Each (λ s. AreInRange s.calls) ss → Each (λ t. AreInRange t.calls) ts → AreSessionsAgain g ss ts →
     fold after_session g ts ≡ fold after_session g ss

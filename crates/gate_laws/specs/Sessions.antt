@@ -4,7 +4,8 @@ use Rattle.gate_types.specs.Settings.{Settings, are_sound}
 use Rattle.gate_types.specs.Once.{Call, Content, once}
 use Rattle.gate_types.specs.Adopt.{may_adopt, adopted_content}
 use Rattle.gate_types.specs.Lawful.{IsSound}
-use Rattle.gate_types.specs.Events.{Event, called, set, Governed, through}
+use Rattle.gate_types.specs.Events.{Event, called, set, through}
+use Rattle.gate_types.specs.Gated.{Gated}
 
 -- the settings that a gate is opened with, and the calls that it then gets
 pub record Session : Type 0 where
@@ -12,7 +13,7 @@ pub record Session : Type 0 where
   pub calls : List Call
 
 -- after a session: the settings are taken, and the calls come under them; where they may not be taken there is none
-abbrev pub after_session : Governed → Session → Governed
+abbrev pub after_session : Gated → Session → Gated
 after_session g s =
     if may_adopt g.settings s.settings then record {
       settings = s.settings;
@@ -20,7 +21,7 @@ after_session g s =
     } else g
 
 -- the events of sessions, one after another
-abbrev pub events_of : Governed → List Session → List Event
+abbrev pub events_of : Gated → List Session → List Event
 events_of g [] = []
 events_of g (s ∷ ss) =
     (set s.settings ∷ (if may_adopt g.settings s.settings then map called s.calls else [])) ++
@@ -28,7 +29,7 @@ events_of g (s ∷ ss) =
 
 -- sessions come to what their events come to
 abbrev pub SessionsAreThrough : Type 0
-SessionsAreThrough = (g : Governed) (ss : List Session) → fold after_session g ss ≡ through g (events_of g ss)
+SessionsAreThrough = (g : Gated) (ss : List Session) → fold after_session g ss ≡ through g (events_of g ss)
 
 -- settings may be taken in place of themselves, and then all stays
 pub record SameSettingsStay : Type 0 where

@@ -23,6 +23,7 @@ pub mod Refusals
 pub mod Once
 pub mod Acting
 pub mod Adopt
+pub mod Gated
 pub mod Events
 pub mod Migrate
 pub mod Evidence

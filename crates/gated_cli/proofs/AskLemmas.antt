@@ -3,6 +3,7 @@ use Rattle.std.proofs.Common.{refl, ◌≡◌, sym, subst, ap, List, [], Option,
 use Rattle.std.specs.Prelude.{Err, None, Some, option_map}
 use Rattle.gate_types.specs.Settings.{Settings}
 use Rattle.gate_types.specs.Once.{Content}
+use Rattle.gate_types.specs.Gated.{Gated}
 use Rattle.gate_types.specs.declared.records.Id.{Id}
 use Rattle.gate_types.specs.declared.records.Kept.{Kept}
 use Rattle.gate_types.specs.declared.tap.Tap.{Tap}
@@ -12,7 +13,6 @@ use Rattle.gate_archive.specs.Writes.{LeavesFeed, OfFeed, TookSome}
 use Rattle.gate_archive.specs.declared.fault.FeedFault.{FeedFault}
 use Rattle.gate_archive.specs.declared.fault.FeedFault.TheVariants as feed
 use Rattle.gate_core.specs.declared.gate.Gate.{Gate}
-use Rattle.gate_core.specs.Gated.{Gated}
 use Rattle.gate_core.specs.Held.{Goes}
 use Rattle.gate_core.specs.Holding.{IsKeptGate}
 use Rattle.gate_core.proofs.HoldingLemmas.{over_kept}

@@ -7,7 +7,7 @@ use Rattle.gate_types.specs.Adopt.{may_adopt, adopted_content}
 use Rattle.gate_types.specs.Forms.{IsLawfulContent}
 use Rattle.gate_types.specs.Once.{Call, Content}
 use Rattle.gate_types.specs.Settings.{Settings}
-use Rattle.gate_core.specs.Gated.{Gated}
+use Rattle.gate_types.specs.Gated.{Gated}
 use Rattle.gate_core.specs.Left.{LeavesBy, left_after}
 use Rattle.gate_core.specs.declared.gate.Gate.{Gate}
 use Rattle.gate_core.specs.Held.{IsOver, Goes}

@@ -8,6 +8,7 @@ use Rattle.gate_types.specs.Migrate.{migrated_content}
 use Rattle.gate_types.specs.Once.{Content, empty}
 use Rattle.gate_types.specs.Settings.{Settings}
 use Rattle.gate_types.specs.State.{Queue}
+use Rattle.gate_types.specs.Gated.{Gated}
 use Rattle.gate_schema.specs.Schema.{schema_with}
 use Rattle.gate_rows.specs.Tells.{StandsFor}
 use Rattle.gate_content_reads.specs.Held.{IsShownFor, ShowsFor, queue_names}
@@ -15,7 +16,6 @@ use Rattle.gate_migration.specs.Migrates.{IsLeft}
 use Rattle.gate_migration.specs.Upgrade.{StandsForFirst}
 use Rattle.gate_migration.specs.declared.migrating.Migrated.{Migrated}
 use Rattle.gate_migration.specs.declared.migrating.Migrated.TheVariants as migrated
-use Rattle.gate_core.specs.Gated.{Gated}
 use Rattle.gated_cli.specs.OfFile.{MakesGate, PrintsOf, Upgrades}
 use Rattle.gated_cli.specs.OverFile.{GoesOver, file_fault}
 use Rattle.gated_cli.specs.declared.run.fault.Fault.{Fault}

@@ -2,8 +2,8 @@
 use Rattle.std.proofs.Common.{refl, ◌≡◌, ◌⊎◌, inl, inr, sym, subst, ap, Bool, true, false, List, Option, ℕ}
 use Rattle.std.specs.Prelude.{Err, IfErr, None, Ok, OnErr, OnOk, Result}
 use Rattle.gate_types.specs.Tap.{has_failed, Took, TookFront}
+use Rattle.gate_types.specs.Gated.{Gated}
 use Rattle.gate_types.specs.declared.tap.Tap.{Tap}
-use Rattle.gate_core.specs.Gated.{Gated}
 use Rattle.gated_cli.specs.Doing.{Looks, Prints, Streams, beside, status_of}
 use Rattle.gated_cli.specs.Ending.{AskingEnds, HistoryEnds, LinesEnd, StatusEnds}
 use Rattle.gated_cli.specs.OverFile.{file_fault}

@@ -6,6 +6,7 @@ use Rattle.std.specs.Io.KnownBytes.{Appends, Consumes, IsAtEnd}
 use Rattle.gate_types.specs.Settings.{Settings}
 use Rattle.gate_types.specs.Status.{status_text}
 use Rattle.gate_types.specs.Tap.{inside, has_failed}
+use Rattle.gate_types.specs.Gated.{Gated, opened}
 use Rattle.gate_types.specs.declared.tap.Tap.{Tap}
 use Rattle.gate_config.specs.Reading.{said_by}
 use Rattle.gated_command.specs.declared.words.Cmd.{Cmd}
@@ -13,7 +14,6 @@ use Rattle.gated_command.specs.declared.words.Cmd.TheVariants.{Check, Init, Repl
 use Rattle.gated_command.specs.declared.words.Cmd.TheVariants.{Deliveries, Get, Serve, Migrate}
 use Rattle.gate_migration.specs.declared.migrating.Migrated.{Migrated}
 use Rattle.gate_migration.specs.declared.migrating.Migrated.TheVariants as migrated
-use Rattle.gate_core.specs.Gated.{Gated, opened}
 use Rattle.gate_core.specs.Lines.{lines_of}
 use Rattle.gate_core.specs.Replies.{Replayed}
 

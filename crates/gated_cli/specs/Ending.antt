@@ -4,9 +4,9 @@ use Rattle.std.specs.Prelude.{Option, Err}
 use Rattle.std.specs.Io.KnownBytes.{Appends, Consumes}
 use Rattle.gate_types.specs.Settings.{Settings}
 use Rattle.gate_types.specs.Tap.{has_failed, Took, TookFront, WritesFront}
+use Rattle.gate_types.specs.Gated.{Gated, opened}
 use Rattle.gate_types.specs.declared.tap.Tap.{Tap}
 use Rattle.gate_config.specs.Reading.{said_by, Gives}
-use Rattle.gate_core.specs.Gated.{Gated, opened}
 use Rattle.gate_core.specs.Lines.{whole_lines, ReadFor}
 use Rattle.gate_core.specs.Replies.{Replayed, Cut}
 use Rattle.gated_cli.specs.Doing.{Streams, Answers, Delivers, HasSettings, settings_limit, status_of, check_text}

@@ -2,9 +2,9 @@
 use Rattle.std.specs.Prelude.{◌≡◌}
 use Rattle.gate_types.specs.Settings.{Settings}
 use Rattle.gate_types.specs.Once.{Content}
+use Rattle.gate_types.specs.Gated.{Gated}
 use Rattle.gate_book.specs.Memory.{Held, held}
 use Rattle.gate_core.specs.declared.gate.Gate.{Gate}
-use Rattle.gate_core.specs.Gated.{Gated}
 use Rattle.gate_core.specs.Held.{IsOver}
 
 -- a book in memory holds a content

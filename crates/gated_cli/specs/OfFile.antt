@@ -6,6 +6,7 @@ use Rattle.gate_types.specs.Migrate.{migrated_content}
 use Rattle.gate_types.specs.Once.{Content, empty}
 use Rattle.gate_types.specs.Settings.{Settings}
 use Rattle.gate_types.specs.State.{Queue}
+use Rattle.gate_types.specs.Gated.{Gated}
 use Rattle.gate_schema.specs.Schema.{schema_with}
 use Rattle.gate_rows.specs.Tells.{StandsFor}
 use Rattle.gate_book_trait.specs.Writes.{OfQueue}
@@ -14,7 +15,6 @@ use Rattle.gate_migration.specs.Migrates.{IsLeft}
 use Rattle.gate_migration.specs.Upgrade.{StandsForFirst}
 use Rattle.gate_migration.specs.declared.migrating.Migrated.{Migrated}
 use Rattle.gate_migration.specs.declared.migrating.Migrated.TheVariants as migrated
-use Rattle.gate_core.specs.Gated.{Gated}
 use Rattle.gate_core.specs.Lines.{lines_of}
 use Rattle.gate_http.specs.declared.served.Served.TheVariants.{Answered}
 use Rattle.gated_command.specs.declared.words.Cmd.{Cmd}

@@ -2,13 +2,13 @@
 use Rattle.std.specs.Prelude.{◌≡◌, ◌≢◌, ⊤, true, false, ℕ, List, [], Option, Some, None, option_map, Result, Ok, Err}
 use Rattle.std.specs.Prelude.{MatchResult}
 use Rattle.gate_types.specs.Tap.{has_failed, Took, TookFront}
+use Rattle.gate_types.specs.Gated.{Gated}
 use Rattle.gate_types.specs.declared.tap.Tap.{Tap}
 use Rattle.gate_types.specs.declared.records.Id.{Id}
 use Rattle.gate_archive.specs.Feed.{fed, feed_lines, id_named}
 use Rattle.gate_archive.specs.Writes.{TookSome}
 use Rattle.gate_book_trait.specs.Reads.{queue_named}
 use Rattle.gate_book_trait.specs.Writes.{OfQueue}
-use Rattle.gate_core.specs.Gated.{Gated}
 use Rattle.gate_http.specs.declared.response.Form.TheVariants as form
 use Rattle.gate_http.specs.declared.served.Served.{Served}
 use Rattle.gate_http.specs.declared.served.Served.TheVariants.{Answered}

@@ -4,6 +4,7 @@ ghost use Rattle.std.specs.Prelude.{false, true, option_map};
 ghost use Rattle.std.specs.Io.KnownBytes.{Appends};
 ghost use Rattle.gate_types.specs.Settings.{Settings};
 ghost use Rattle.gate_types.specs.Tap.{has_failed, inside};
+ghost use Rattle.gate_types.specs.Gated.{opened};
 ghost use Rattle.gate_migration.specs.declared.migrating.Migrated.{Migrated};
 ghost use Rattle.gated_cli.specs.Doing.{Does, Announces, Checks, Delivers, Looks, Migrates, Prints, Replays};
 ghost use Rattle.gated_cli.specs.Doing.{HasSettings, beside, streams, settings_limit, migrated_text};
@@ -17,7 +18,6 @@ ghost use Rattle.gated_cli.specs.OfFile.{StatusOf};
 ghost use Rattle.gated_cli.specs.OfFile.{Upgrades};
 ghost use Rattle.gated_cli.specs.OverFile.{GoesOver, ServesOver};
 ghost use Rattle.gated_cli.specs.Telling.{ToldBy, TellsBy, TellsUpTo};
-ghost use Rattle.gate_core.specs.Gated.{opened};
 
 pub mod asking;
 mod check;

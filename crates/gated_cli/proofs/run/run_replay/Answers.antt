@@ -1,7 +1,7 @@
 use Rattle.std.proofs.Common.{ap₂, inl, inr}
 use Rattle.std.proofs.KnownBytes.{Appends-trans}
 use Rattle.std.proofs.lemmas.Result.{err_from_is_err_and}
-use Rattle.gate_core.specs.Gated.{opened}
+use Rattle.gate_types.specs.Gated.{opened}
 use Rattle.gated_cli.specs.Doing.{status_of, streams}
 use Rattle.gated_cli.proofs.TellLemmas.{with_status, without_status}
 use Rattle.gated_cli.proofs.EndLemmas.{replay_ends, made_from, refused_status, cut_status, read_for}

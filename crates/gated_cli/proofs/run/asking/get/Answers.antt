@@ -2,7 +2,7 @@ use Rattle.std.proofs.Common.{◌≡◌, ◌∙◌, [], ◌∷◌, ap, subst, sy
 use Rattle.std.specs.Prelude.{IfSome}
 use Rattle.sqlite.specs.Held.{state}
 use Rattle.sqlite.specs.State.{HasCleanDisk}
-use Rattle.gate_core.specs.Gated.{Gated}
+use Rattle.gate_types.specs.Gated.{Gated}
 use Rattle.gate_sql.specs.Refused.{IsRefused}
 use Rattle.gate_content_reads.specs.Held.{HoldsFor, LeavesFor}
 use Rattle.gate_file_meta.specs.Opens.{IsJudged}

@@ -2,8 +2,8 @@ use Rattle.std.proofs.Common.{◌≡◌, ◌∙◌, [], ◌∷◌, ◌++◌, ap,
 use Rattle.std.specs.Prelude.{IfSome}
 use Rattle.sqlite.specs.Held.{state}
 use Rattle.sqlite.specs.State.{HasCleanDisk, State}
+use Rattle.gate_types.specs.Gated.{Gated}
 use Rattle.gate_core.proofs.ReplyLemmas.{goes_nowhere}
-use Rattle.gate_core.specs.Gated.{Gated}
 use Rattle.gate_core.specs.Lines.{lines_of, whole_lines}
 use Rattle.gate_core.specs.Held.{CutOver, ReplayedOver}
 use Rattle.gate_core.specs.Left.{LeavesBy}

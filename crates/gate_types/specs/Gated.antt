@@ -2,7 +2,7 @@
 use Rattle.gate_types.specs.Settings.{Settings}
 use Rattle.gate_types.specs.Once.{Content, empty}
 
--- a gate's settings, its state, and the replies that it keeps
+-- the settings in force, the state, and the replies that are kept
 pub record Gated : Type 0 where
   pub settings : Settings
   pub content : Content
