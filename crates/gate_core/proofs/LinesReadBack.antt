@@ -29,14 +29,15 @@ use Rattle.gate_laws.proofs.LogIsTheGate.{forms_are_in_range}
 use Rattle.gate_wire.specs.declared.door.Door.TheVariants as door
 use Rattle.gate_wire.specs.Reading.{says, read_or_bad, data_says, id_at, kind_at, delivery_at, revision_said}
 use Rattle.gate_wire.specs.Reading.{change_at, revision_at, order_at, build_at, project_at, worker_at, message_at}
-use Rattle.gate_wire.specs.Reading.{ending_at, on_change, number_up_to, text_of_form, or_bad, passing, ◌>>=◌}
-use Rattle.gate_wire.proofs.ReadingLemmas.{value_found}
+use Rattle.gate_wire.specs.Reading.{ending_at, on_change, number_up_to, text_of_form, or_bad, ◌>>=◌}
 use Rattle.gate_archive.specs.Feed.{with_id}
 use Rattle.gate_archive.proofs.LineLaw.{a_line_is_its_delivery_under_its_id}
 use Rattle.gate_core.specs.ReadBack.{EachLineReadsBack}
 use Rattle.gate_core.proofs.LineTrees.{hex, change_members, order_members, tree, printed, digits_read}
 use Rattle.gate_core.proofs.LineUtf8.{InForm, in_form, tree_utf8}
 use Rattle.gate_types.specs.Counters.{last_number}
+use Rattle.gate_types.specs.Reading.{passing}
+use Rattle.gate_types.proofs.ReadingLemmas.{value_found}
 
 -- ---- the value that is read
 

@@ -4,7 +4,7 @@ use Rattle.std.specs.Prelude.{Some, None, min, codes}
 use Rattle.std.specs.List.{list_all, starts_with}
 use Rattle.std.specs.Char.{is_ascii_digit}
 use Rattle.std.specs.Str.Parse.{digits_value}
-use Rattle.gate_wire.specs.Reading.{passing}
+use Rattle.gate_types.specs.Reading.{passing}
 
 -- decimal digits and nothing else
 abbrev pub are_digits : List ℕ → Bool

@@ -10,9 +10,10 @@ use Rattle.gate_types.specs.declared.config.Project.{Project}
 use Rattle.gate_types.specs.Names.{is_name, is_path_name, is_base}
 use Rattle.gate_types.specs.Settings.{Settings, are_sound}
 use Rattle.gate_types.specs.Forms.{is_project_in_form, are_settings_in_form}
-use Rattle.gate_kept_settings.specs.Reading.{◌>>=◌, passing, each, list_at, truth_at, text_at, name_at, path_name_at}
+use Rattle.gate_types.specs.Reading.{passing, value_of}
+use Rattle.gate_kept_settings.specs.Reading.{◌>>=◌, each, list_at, truth_at, text_at, name_at, path_name_at}
 use Rattle.gate_kept_settings.specs.Reading.{base_at, number_at, rule_at, flag_at, job_at, queue_at, project_at}
-use Rattle.gate_kept_settings.specs.Reading.{settings_at, value_of, said_by}
+use Rattle.gate_kept_settings.specs.Reading.{settings_at, said_by}
 
 -- where something is said, all on the way to it was said
 said : {A B : Type 0} (o : Option A) (f : A → Option B) (b : B) → o >>= f ≡ Some b → (a : A) × (o ≡ Some a) × (f a ≡ Some b)

@@ -21,13 +21,14 @@ use Rattle.gate_types.specs.Limits.{most_window, most_factor}
 use Rattle.gate_types.specs.Settings.{Settings, are_sound, is_sound_window, is_factor, is_linear, pace_word, pace_named}
 use Rattle.gate_types.specs.Forms.{is_project_in_form, are_settings_in_form}
 use Rattle.gate_types.specs.SettingsText.{job_text, project_text, queue_text, settings_text}
-use Rattle.gate_kept_settings.specs.Reading.{list_of, each, ◌>>=◌, passing, name_at, path_name_at, base_at, number_at}
+use Rattle.gate_types.specs.Reading.{passing, value_of}
+use Rattle.gate_types.proofs.ReadingLemmas.{value_found}
+use Rattle.gate_kept_settings.specs.Reading.{list_of, each, ◌>>=◌, name_at, path_name_at, base_at, number_at}
 use Rattle.gate_kept_settings.specs.Reading.{said_or, pace_at, factor_at, flag_at, rule_at, job_at, queue_at}
-use Rattle.gate_kept_settings.specs.Reading.{project_at, settings_at, value_of, said_by}
+use Rattle.gate_kept_settings.specs.Reading.{project_at, settings_at, said_by}
 use Rattle.gate_kept_settings.specs.Told.{Tells, OneTextASetting}
 use Rattle.gate_kept_settings.proofs.ReadBack.{IsFit, AreFit, read_back, text_is_utf8}
 use Rattle.gate_kept_settings.proofs.Entries.{Entry, always, unless_default, present, fit_present, or_else, get_present}
-use Rattle.gate_kept_settings.proofs.ReadingLemmas.{value_found}
 use Rattle.gate_kept_settings.proofs.PlainTexts.{escape_name, escape_path_name, utf8_name, utf8_path_name, utf8_base}
 use Rattle.gate_kept_settings.proofs.PlainTexts.{prints_plain, prints_escaped, prints_number, prints_boolean, none}
 use Rattle.gate_kept_settings.proofs.PlainTexts.{and_member, and_unless, prints_object, prints_list}

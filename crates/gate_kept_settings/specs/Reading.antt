@@ -1,9 +1,7 @@
 -- The settings that a text says at its members, whatever stands beside them.
-use Rattle.std.specs.Prelude.{◌≡◌, ℕ, Bool, false, nat_le, List, [], ◌∷◌, codes, if◌then◌else◌, Option, Some, None}
+use Rattle.std.specs.Prelude.{◌≡◌, ℕ, Bool, false, nat_le, List, [], ◌∷◌, codes, Option, Some, None}
 use Rattle.std.specs.Prelude.{option_map, Result, Ok, Err, ⊤}
-use Rattle.std.specs.Str.{is_utf8}
 use Rattle.serde_json.specs.Data.{Data, Items, no_items, item}
-use Rattle.serde_json.specs.Read.{read}
 use Rattle.serde_json.specs.Find.{get, as_number, as_u64, as_str, as_bool, as_array}
 use Rattle.gate_types.specs.declared.config.Job.{Job}
 use Rattle.gate_types.specs.declared.config.Queue.{Queue}
@@ -14,6 +12,7 @@ use Rattle.gate_types.specs.declared.config.Pace.TheVariants as pace
 use Rattle.gate_types.specs.Names.{is_name, is_path_name, is_base}
 use Rattle.gate_types.specs.Limits.{most_window}
 use Rattle.gate_types.specs.Settings.{Settings, is_factor, pace_named, are_sound}
+use Rattle.gate_types.specs.Reading.{passing, value_of}
 use Rattle.gate_kept_settings.specs.declared.fault.TextFault.{TextFault}
 use Rattle.gate_kept_settings.specs.declared.fault.TextFault.TheVariants as fault
 
@@ -28,10 +27,6 @@ abbrev pub Gives : {X Y : Type 0} → (X → Y) → Result X TextFault → Optio
 Gives view (Ok x) said = said ≡ Some (view x)
 Gives view (Err fault.NotSettings) said = said ≡ None
 Gives view (Err fault.NoMemory) said = ⊤
-
--- a value that passes a test
-abbrev pub passing : {A : Type 0} → (A → Bool) → A → Option A
-passing test x = if test x then Some x else None
 
 -- the values of an array
 abbrev pub list_of : Items → List Data
@@ -125,10 +120,6 @@ settings_at d =
     base_at (codes "base") d >>= λ base. list_at (codes "queues") d >>= each queue_at >>= λ queues.
     list_at (codes "projects") d >>= each project_at >>= λ projects.
     passing are_sound (record { base = base; queues = queues; projects = projects })
-
--- the value of bytes
-unfoldable pub value_of : List ℕ → Option Data
-value_of bytes = if is_utf8 bytes then read bytes else None
 
 -- the settings that bytes say
 abbrev pub said_by : List ℕ → Option Settings

@@ -9,8 +9,9 @@
 
 ghost use Rattle.std.specs.Prelude.{◌≡◌, MatchResult, IfOk};
 ghost use Rattle.gate_types.specs.Settings.{Settings};
+ghost use Rattle.gate_types.specs.Reading.{value_of};
 ghost use Rattle.serde_json.specs.View.{view};
-ghost use Rattle.gate_kept_settings.specs.Reading.{Gives, value_of, said_by};
+ghost use Rattle.gate_kept_settings.specs.Reading.{Gives, said_by};
 ghost use Rattle.gate_kept_settings.specs.Told.{Tells};
 
 mod fault;

@@ -5,6 +5,7 @@ pub mod AdoptedLemmas
 pub mod OnceLaw
 pub mod OneTextLaw
 pub mod PlainLemmas
+pub mod ReadingLemmas
 pub mod DigitLemmas
 pub mod NameLemmas
 pub mod PutLemmas

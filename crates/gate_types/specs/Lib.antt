@@ -16,6 +16,7 @@ pub mod SubmitOrder
 pub mod Choice
 pub mod Step
 pub mod JsonText
+pub mod Reading
 pub mod Canonical
 pub mod OneText
 pub mod ReplyText

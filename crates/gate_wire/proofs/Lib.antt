@@ -1,4 +1,3 @@
-pub mod ReadingLemmas
 pub mod NumberLemmas
 pub mod FooterLemmas
 pub mod ReplyLemmas

@@ -1,9 +1,8 @@
 -- The delivery that bytes say at a door.
 use Rattle.std.specs.Prelude.{◌≡◌, ◌≢◌, ℕ, Bool, ◌&&◌, nat_le, List, codes, if◌then◌else◌, Option, Some, None}
 use Rattle.std.specs.Prelude.{option_and_then, Result, Ok, Err, MatchResult}
-use Rattle.std.specs.Str.{is_utf8, bytes_eq}
+use Rattle.std.specs.Str.{bytes_eq}
 use Rattle.serde_json.specs.Data.{Data}
-use Rattle.serde_json.specs.Read.{read}
 use Rattle.serde_json.specs.Find.{get, as_number, as_u64, as_str}
 use Rattle.uuid.specs.Text.{parsed}
 use Rattle.gate_types.specs.declared.records.Id.{Id}
@@ -20,6 +19,7 @@ use Rattle.gate_wire.specs.declared.door.Kind.{Kind}
 use Rattle.gate_wire.specs.declared.door.Kind.TheVariants as kind
 use Rattle.gate_wire.specs.Kinds.{kind_named, opens_to}
 use Rattle.gate_types.specs.Counters.{last_number}
+use Rattle.gate_types.specs.Reading.{passing, value_of}
 
 -- a value or the first refusal, and then the next one's
 infixl 10 ◌>>=◌
@@ -35,10 +35,6 @@ Gives view result said = MatchResult result (λ x. said ≡ Ok (view x)) (λ e. 
 abbrev pub or_bad : {A : Type 0} → Option A → Result A Refusal
 or_bad (Some x) = Ok x
 or_bad None = Err refusal.BadDelivery
-
--- a value that passes a test
-abbrev pub passing : {A : Type 0} → (A → Bool) → A → Option A
-passing test x = if test x then Some x else None
 
 -- the number of a member, if it is written as a whole number
 abbrev pub whole_at : List ℕ → Data → Option ℕ
@@ -133,10 +129,6 @@ through door k = if opens_to door k then Ok k else Err refusal.WrongDoor
 unfoldable pub data_says : Door → Data → Result (Id × Delivery) Refusal
 data_says door d =
     id_at d >>= λ id. kind_at d >>= λ said. through door said >>= λ k. delivery_at k d >>= λ delivery. Ok (id, delivery)
-
--- the value of bytes
-unfoldable pub value_of : List ℕ → Option Data
-value_of bytes = if is_utf8 bytes then read bytes else None
 
 -- what a value says, or that the bytes are no JSON
 abbrev pub read_or_bad : Door → Option Data → Result (Id × Delivery) Refusal

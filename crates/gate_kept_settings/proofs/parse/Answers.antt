@@ -1,5 +1,5 @@
 use Rattle.std.proofs.Common.{rules}
-use Rattle.gate_kept_settings.proofs.ReadingLemmas.{value_found, value_none}
+use Rattle.gate_types.proofs.ReadingLemmas.{value_found, value_none}
 use Rattle.gate_kept_settings.proofs.parse.Goals as goal
 
 pub returns-in-Ok : goal.returns-in-Ok

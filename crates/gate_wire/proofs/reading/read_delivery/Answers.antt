@@ -1,6 +1,6 @@
 use Rattle.std.proofs.Common.{ap, rules}
+use Rattle.gate_types.proofs.ReadingLemmas.{value_found, value_none}
 use Rattle.gate_wire.specs.Reading.{read_or_bad}
-use Rattle.gate_wire.proofs.ReadingLemmas.{value_found, value_none}
 use Rattle.gate_wire.proofs.reading.read_delivery.Goals as goal
 
 pub returns-in-Ok : goal.returns-in-Ok
