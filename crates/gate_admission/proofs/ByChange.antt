@@ -8,12 +8,13 @@ use Rattle.std.proofs.lemmas.Option.{none-some}
 use Rattle.gate_types.specs.declared.records.Item.{Item as ItemRow}
 use Rattle.gate_types.specs.declared.edits.Edit.{Edit}
 use Rattle.gate_types.specs.declared.edits.Edit.TheVariants as edit
+use Rattle.gate_types.specs.Keys.{serial_of_item}
 use Rattle.gate_book_trait.specs.declared.rows.QueuedItem.{QueuedItem}
 use Rattle.gate_laws.proofs.Members.{In, found, not_found}
 use Rattle.gate_laws.proofs.Rising.{Rising}
 use Rattle.gate_admission.specs.Seen.{items_after, item_at, if_of, item_if, item_if_at, serial_put, item_put, item_left}
 use Rattle.gate_admission.specs.Enters.{item_in}
-use Rattle.gate_admission.proofs.QueueItems.{serial_of, at_there, Puts, PutBy, from_after}
+use Rattle.gate_admission.proofs.QueueItems.{at_there, Puts, PutBy, from_after}
 
 -- what it gives is a row of this change
 abbrev pub Gives : ℕ → List ItemRow → Option ItemRow → Type 0
@@ -71,14 +72,14 @@ none_or n rows r (Some x) once m t g =
     inr (ap Some (once x r at.0 m (eqb-true x.change n at.1 ∙ sym (eqb-true r.change n t))))
 
 -- by its own serial it is given
-at_own : (n : ℕ) (rows : List ItemRow) (r : ItemRow) → Rising serial_of rows → In r rows → r.change == n ≡ true →
+at_own : (n : ℕ) (rows : List ItemRow) (r : ItemRow) → Rising serial_of_item rows → In r rows → r.change == n ≡ true →
     item_if n r.serial rows ≡ Some r
 at_own n rows r up m t =
     ap (option_and_then (if_of n)) (at_there rows r up m) ∙ ap (λ b. cond b (Some r) None) t
 
 -- an edit that puts it gives it
-put_own : (name : List ℕ) (n : ℕ) (rows : List ItemRow) (r : ItemRow) (e : Edit) → Rising serial_of rows → In r rows →
-    r.change == n ≡ true → Puts name r e → item_if_at n rows (serial_put n e) ≡ Some r
+put_own : (name : List ℕ) (n : ℕ) (rows : List ItemRow) (r : ItemRow) (e : Edit) → Rising serial_of_item rows →
+    In r rows → r.change == n ≡ true → Puts name r e → item_if_at n rows (serial_put n e) ≡ Some r
 put_own name n rows r (edit.PutItem q i) up m t puts =
     ap (λ (b : Bool). item_if_at n rows (cond b (Some i.serial) None))
     (ap (λ (x : ItemRow). x.change == n) puts.1 ∙ t)
@@ -95,7 +96,8 @@ put_own name n rows r (edit.SetWindow q w) up m t puts = absurd puts
 put_own name n rows r (edit.SetCounter k d) up m t puts = absurd puts
 put_own name n rows r (edit.Keep k) up m t puts = absurd puts
 
-put_given : (name : List ℕ) (n : ℕ) (rows : List ItemRow) (r : ItemRow) (edits : List Edit) → Rising serial_of rows →
+put_given : (name : List ℕ) (n : ℕ) (rows : List ItemRow) (r : ItemRow) (edits : List Edit) →
+    Rising serial_of_item rows →
     AreOnce rows → In r rows → r.change == n ≡ true → PutBy name r edits → item_put n rows edits ≡ Some r
 put_given name n rows r [] up once m t puts = absurd puts
 put_given name n rows r (e ∷ es) up once m t puts = ⊎_elim
@@ -113,7 +115,8 @@ AreTold n stored rows = (r : ItemRow) → In r rows → r.change ≡ n →
     (k : QueuedItem) × (stored ≡ Some k) × (k.item.serial ≡ r.serial)
 
 pub by_change : (name : List ℕ) (n : ℕ) (stored : Option QueuedItem) (rows : List ItemRow) (edits : List Edit) →
-    Rising serial_of (items_after name rows edits) → AreOnce (items_after name rows edits) → AreTold n stored rows →
+    Rising serial_of_item (items_after name rows edits) → AreOnce (items_after name rows edits) →
+    AreTold n stored rows →
     option_or (item_put n (items_after name rows edits) edits) (item_left n stored (items_after name rows edits)) ≡
     item_in n (items_after name rows edits)
 by_change name n stored rows edits up once told = by_found (item_in n all) refl

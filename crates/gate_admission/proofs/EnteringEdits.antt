@@ -25,6 +25,7 @@ use Rattle.gate_types.specs.Admit.{may_enter, with_item, next_item, next_plan, e
 use Rattle.gate_types.specs.Lawful.{IsSound}
 use Rattle.gate_types.specs.Tables.{Tables, QueueRows, tables, queue_rows, change_row, approval_of, edited_queue}
 use Rattle.gate_types.specs.Tables.{edited_tables, fold_all}
+use Rattle.gate_types.specs.Keys.{number_of_change, serial_of_item}
 use Rattle.gate_types.proofs.NameLemmas.{same_name_is}
 use Rattle.gate_book_trait.specs.Reads.{queue_named}
 use Rattle.gate_laws.proofs.Members.{In, all, found, map_map, map_same}
@@ -37,7 +38,6 @@ use Rattle.gate_admission.specs.Led.{IsLed}
 use Rattle.gate_admission.specs.Seen.{ready_without}
 use Rattle.gate_admission.specs.Enters.{entering_row, entering_edits}
 use Rattle.gate_admission.proofs.Rows.{find_dropped}
-use Rattle.gate_admission.proofs.QueueItems.{serial_of}
 use Rattle.gate_admission.proofs.Standing.{row_drawn, queue_in}
 use Rattle.gate_admission.proofs.EnteringRow.{CanBeEntered, enters_behind, others_stay}
 
@@ -64,16 +64,13 @@ other_rows : (n : ℕ) (rs : List Ready) (ks : List Change) → ((k : Change) �
     map (change_row rs) ks ≡ map (change_row (ready_without n rs)) ks
 other_rows n rs ks h = map_same (change_row rs) (change_row (ready_without n rs)) ks (λ k m. other_row n rs k (h k m))
 
-abbrev number_of : ChangeRow → ℕ
-number_of r = r.change.number
-
 same_change : (a b : Change) → Some a ≡ Some b → a ≡ b
 same_change a b g = ap (λ (o : Option Change). option_map_or (λ x. x) o a) g
 
 -- the row of a change that is no longer ready
 changes_enter : (n : ℕ) (rs : List Ready) (k : Change) (ks : List Change) → Rising (λ (j : Change). j.number) ks →
     find (λ (j : Change). j.number == n) ks ≡ Some k →
-    put_by number_of (record { change = k; approval = None }) (map (change_row rs) ks) ≡
+    put_by number_of_change (record { change = k; approval = None }) (map (change_row rs) ks) ≡
     map (change_row (ready_without n rs)) ks
 changes_enter n rs k [] up e = absurd (none-some k e)
 changes_enter n rs k (j ∷ js) up e = by_test (j.number == n) refl e (changes_enter n rs k js up.1)
@@ -83,8 +80,9 @@ changes_enter n rs k (j ∷ js) up e = by_test (j.number == n) refl e (changes_e
 
     by_test : (b : Bool) → j.number == n ≡ b → cond b (Some j) (find (λ (i : Change). i.number == n) js) ≡ Some k →
         (find (λ (i : Change). i.number == n) js ≡ Some k →
-        put_by number_of row (map (change_row rs) js) ≡ map (change_row (ready_without n rs)) js) →
-        put_by number_of row (change_row rs j ∷ map (change_row rs) js) ≡ map (change_row (ready_without n rs)) (j ∷ js)
+        put_by number_of_change row (map (change_row rs) js) ≡ map (change_row (ready_without n rs)) js) →
+        put_by number_of_change row (change_row rs j ∷ map (change_row rs) js) ≡
+        map (change_row (ready_without n rs)) (j ∷ js)
     by_test true t f later =
         let same : j ≡ k = same_change j k f in
         let number : j.number ≡ n = eqb-true j.number n t in
@@ -97,7 +95,7 @@ changes_enter n rs k (j ∷ js) up e = by_test (j.number == n) refl e (changes_e
         let rest = other_rows n rs js (λ x m g. let higher = up.0 x m in omega (arith, higher, g, number)) in
         ap (λ b. cond b (row ∷ map (change_row rs) js)
         (cond (nat_lt k.number j.number) (row ∷ change_row rs j ∷ map (change_row rs) js)
-        (change_row rs j ∷ put_by number_of row (map (change_row rs) js))))
+        (change_row rs j ∷ put_by number_of_change row (map (change_row rs) js))))
         (eq-eqb k.number j.number (ap (λ (x : Change). x.number) (sym same)))
         ∙ (λ i. gone i ∷ rest i)
     by_test false t f later =
@@ -106,7 +104,7 @@ changes_enter n rs k (j ∷ js) up e = by_test (j.number == n) refl e (changes_e
         let other : j.number ≢ n = λ g. true≢false (sym (eq-eqb j.number n g) ∙ t) in
         (λ i. cond (ne_eqb k.number j.number (λ g. omega (arith, higher, g)) i) (row ∷ map (change_row rs) js)
         (cond (le-ltb k.number j.number (omega (arith, higher)) i) (row ∷ change_row rs j ∷ map (change_row rs) js)
-        (change_row rs j ∷ put_by number_of row (map (change_row rs) js))))
+        (change_row rs j ∷ put_by number_of_change row (map (change_row rs) js))))
         ∙ (λ i. other_row n rs j other i ∷ later f i)
 
 -- ---- queues
@@ -173,7 +171,7 @@ queue_enters c v r name q p row sound led there named row_is own name_is = by_na
         let last : put_by (λ (j : ItemRow). j.serial) row (item_rows c v p) ≡
         item_rows c (entered c v r) (with_item (next_item v r.change) p) =
         put_last row (item_rows c v p) (λ x m. let low = row_drawn c v p x led own m in
-        let high = ap serial_of mine in omega (arith, low, high))
+        let high = ap serial_of_item mine in omega (arith, low, high))
         ∙ ap (λ (x : ItemRow). item_rows c v p ++ x ∷ []) mine
         ∙ sym (enters_behind c v p r (can_be_entered c v p led own)) in
         ap (λ rows. queue_rows rows p) (ap (λ b. cond b (put_by (λ (j : ItemRow). j.serial) row (item_rows c v p))
@@ -223,7 +221,7 @@ entering_leads c x edits v r k name q row plan sound led first known name_is nam
 }
   where
     serial : row.serial ≡ v.counters.order + 1
-    serial = ap serial_of row_is
+    serial = ap serial_of_item row_is
 
     there : In q v.queues
     there = queue_in v name q named

@@ -10,12 +10,13 @@ use Rattle.gate_types.specs.declared.records.Item.{Item as ItemRow}
 use Rattle.gate_types.specs.declared.edits.Edit.{Edit}
 use Rattle.gate_types.specs.declared.edits.Edit.TheVariants as edit
 use Rattle.gate_types.specs.Names.{same_name}
+use Rattle.gate_types.specs.Keys.{serial_of_item}
 use Rattle.gate_book_trait.specs.Reads.{last_below}
 use Rattle.gate_laws.proofs.Members.{In, found, not_found, from_filter, to_filter, filter_none, filter_all, filter_same}
 use Rattle.gate_laws.proofs.Rising.{Rising, rising_filter}
 use Rattle.gate_admission.specs.Seen.{items_after, item_at, if_at, later, put_below, last_put_below}
 use Rattle.gate_admission.specs.Enters.{last_row}
-use Rattle.gate_admission.proofs.QueueItems.{serial_of, at_there, Puts, PutBy, from_after}
+use Rattle.gate_admission.proofs.QueueItems.{at_there, Puts, PutBy, from_after}
 
 -- a serial is at most one that is there
 abbrev pub AtMost : ℕ → Option ℕ → Type 0
@@ -82,14 +83,15 @@ most_from : (n : ℕ) (o : Option ItemRow) (rows : List ItemRow) → AtMost n (o
 most_from n o [] h all = h
 most_from n o (y ∷ ys) h all = most_from n (Some y) ys (all y (inl refl)) (λ z m. all z (inr m))
 
-pub last_most : (o : Option ItemRow) (rows : List ItemRow) (r : ItemRow) → Rising serial_of rows → In r rows →
+pub last_most : (o : Option ItemRow) (rows : List ItemRow) (r : ItemRow) → Rising serial_of_item rows → In r rows →
     AtMost r.serial (option_map (λ i. i.serial) (last_of o rows))
 last_most o [] r up m = absurd m
 last_most o (y ∷ ys) r up m = elim m [
   | inl e ↦
-      most_from r.serial (Some y) ys (let same : r.serial ≤ y.serial = let f = ap serial_of e in omega (arith, f) in
+      most_from r.serial (Some y) ys
+      (let same : r.serial ≤ y.serial = let f = ap serial_of_item e in omega (arith, f) in
       same)
-      (λ z n. let low = up.0 z n in let f = ap serial_of e in omega (arith, low, f))
+      (λ z n. let low = up.0 z n in let f = ap serial_of_item e in omega (arith, low, f))
   | inr n ↦ last_most (Some y) ys r up.1 n
 ]
 
@@ -104,14 +106,14 @@ last_in o (y ∷ ys) r e = ⊎_elim
 -- ---- the greatest serial below another
 
 pub greatest : (name : List ℕ) (end : ℕ) (rows : List ItemRow) (edits : List Edit) (r : ItemRow) →
-    Rising serial_of rows →
+    Rising serial_of_item rows →
     In r (items_after name rows edits) → r.serial < end →
     AtMost r.serial (later (last_put_below name end edits) (option_map (λ i. i.serial) (last_below end rows)))
 greatest name end rows edits r up m l = ⊎_elim
     (λ (n : In r rows).
     later_right r.serial (last_put_below name end edits) (option_map (λ i. i.serial) (last_below end rows))
     (last_most None (filter (λ i. nat_lt i.serial end) rows) r
-    (rising_filter serial_of (λ i. nat_lt i.serial end) rows up)
+    (rising_filter serial_of_item (λ i. nat_lt i.serial end) rows up)
     (to_filter (λ i. nat_lt i.serial end) rows r n (lt-ltb r.serial end l))))
     (λ (p : PutBy name r edits).
     later_left r.serial (last_put_below name end edits) (option_map (λ i. i.serial) (last_below end rows))
@@ -129,7 +131,7 @@ none_below end rows h =
     by_test false r m e = refl
 
 -- the item of the greatest serial is the last
-pub last_here : (end k : ℕ) (rows : List ItemRow) (r : ItemRow) → Rising serial_of rows → k < end →
+pub last_here : (end k : ℕ) (rows : List ItemRow) (r : ItemRow) → Rising serial_of_item rows → k < end →
     ((y : ItemRow) → In y rows → y.serial < end → y.serial ≤ k) → item_at k rows ≡ Some r → last_below end rows ≡ Some r
 last_here end k rows r up l most e = by_found (last_below end rows) refl here
   where
@@ -146,7 +148,7 @@ last_here end k rows r up l most e = by_found (last_below end rows) refl here
     low = omega (arith, serial, l)
 
     here : AtMost r.serial (option_map (λ i. i.serial) (last_of None below))
-    here = last_most None below r (rising_filter serial_of (λ i. nat_lt i.serial end) rows up)
+    here = last_most None below r (rising_filter serial_of_item (λ i. nat_lt i.serial end) rows up)
         (to_filter (λ i. nat_lt i.serial end) rows r at.0 (lt-ltb r.serial end low))
 
     by_found : (o : Option ItemRow) → last_of None below ≡ o → AtMost r.serial (option_map (λ i. i.serial) o) →
@@ -161,7 +163,7 @@ last_here end k rows r up l most e = by_found (last_below end rows) refl here
         sym (at_there rows s up own.0) ∙ ap (λ n. item_at n rows) same ∙ e)
         (last_in None below s f)
 
-pub last_found : (end k : ℕ) (rows : List ItemRow) (o : Option ItemRow) → Rising serial_of rows → k < end →
+pub last_found : (end k : ℕ) (rows : List ItemRow) (o : Option ItemRow) → Rising serial_of_item rows → k < end →
     ((y : ItemRow) → In y rows → y.serial < end → y.serial ≤ k) → item_at k rows ≡ o → is_some o ≡ true →
     last_below end rows ≡ o
 last_found end k rows None up l most e is = absurd (true≢false (sym is))
@@ -190,7 +192,7 @@ last_lower end k rows l most e =
         by_test false f = let high = ltb-false y.serial end f in le-ltb y.serial k (omega (arith, high, l))
 
 -- the stored item of the serial that is looked at next is the last one below, if it has this serial
-pub stored_at : (end k : ℕ) (rows : List ItemRow) (put : Option ℕ) → Rising serial_of rows → k < end →
+pub stored_at : (end k : ℕ) (rows : List ItemRow) (put : Option ℕ) → Rising serial_of_item rows → k < end →
     later put (option_map (λ i. i.serial) (last_below end rows)) ≡ Some k →
     option_and_then (if_at k) (last_below end rows) ≡ item_at k rows
 stored_at end k rows put up l e = by_last (last_below end rows) refl e (item_at k rows) refl
@@ -203,7 +205,7 @@ stored_at end k rows put up l e = by_last (last_below end rows) refl e (item_at 
         let at = found (λ i. i.serial == k) rows r f in
         let serial = eqb-true r.serial k at.1 in
         subst (λ n. AtMost n (option_map (λ i. i.serial) (last_of None below))) serial
-        (last_most None below r (rising_filter serial_of (λ i. nat_lt i.serial end) rows up)
+        (last_most None below r (rising_filter serial_of_item (λ i. nat_lt i.serial end) rows up)
         (to_filter (λ i. nat_lt i.serial end) rows r at.0 (lt-ltb r.serial end (omega (arith, serial, l)))))
 
     by_serial : (s : ItemRow) → In s rows → s.serial ≤ k → AtMost k (Some s.serial) ⊎ (item_at k rows ≡ None) →
@@ -255,12 +257,12 @@ last_is end rows h =
 abbrev pub next_down : List ℕ → ℕ → List ItemRow → List Edit → Option ℕ
 next_down name end rows edits = later (last_put_below name end edits) (option_map (λ i. i.serial) (last_below end rows))
 
-pub most_of : (name : List ℕ) (end k : ℕ) (rows : List ItemRow) (edits : List Edit) → Rising serial_of rows →
+pub most_of : (name : List ℕ) (end k : ℕ) (rows : List ItemRow) (edits : List Edit) → Rising serial_of_item rows →
     next_down name end rows edits ≡ Some k → (y : ItemRow) → In y (items_after name rows edits) → y.serial < end →
     y.serial ≤ k
 most_of name end k rows edits up e y m l = subst (AtMost y.serial) e (greatest name end rows edits y up m l)
 
-pub none_of : (name : List ℕ) (end : ℕ) (rows : List ItemRow) (edits : List Edit) → Rising serial_of rows →
+pub none_of : (name : List ℕ) (end : ℕ) (rows : List ItemRow) (edits : List Edit) → Rising serial_of_item rows →
     next_down name end rows edits ≡ None → (y : ItemRow) → In y (items_after name rows edits) → y.serial < end → ⊥
 none_of name end rows edits up e y m l = subst (AtMost y.serial) e (greatest name end rows edits y up m l)
 

@@ -18,12 +18,12 @@ use Rattle.gate_admission.specs.Led.{IsLed}
 use Rattle.gate_admission.specs.Known.{IsQueue, has_room}
 use Rattle.gate_admission.specs.Seen.{items_after, item_put, item_left}
 use Rattle.gate_admission.specs.Enters.{item_in, last_row}
-use Rattle.gate_admission.proofs.QueueItems.{serial_of}
 use Rattle.gate_admission.proofs.LastItem.{last_is}
 use Rattle.gate_admission.proofs.ByChange.{AreOnce, AreTold, by_change}
 use Rattle.gate_admission.proofs.Standing.{rows_rise, row_once, row_drawn, queue_in, stored_tells}
 use Rattle.gate_admission.proofs.Led.{queue_after_is, items_led}
 use Rattle.gate_types.specs.Limits.{most_items}
+use Rattle.gate_types.specs.Keys.{serial_of_item}
 
 pub change_led : (c : Settings) (x : Content) (edits : List Edit) (v : State) (name : List ℕ) (n : ℕ) →
     IsSound c x.state → IsLed c x edits v → IsQueue v name →
@@ -35,8 +35,8 @@ change_led c x edits v name n sound led there =
     let q = there.queue in
     let p = at.before in
     let own = queue_in v name q there.named in
-    let rise : Rising serial_of (items_after name (item_rows c x.state p) edits) =
-    subst (λ (rows : List ItemRow). Rising serial_of rows) (sym at.items) (rows_rise c v q led.sound own) in
+    let rise : Rising serial_of_item (items_after name (item_rows c x.state p) edits) =
+    subst (λ (rows : List ItemRow). Rising serial_of_item rows) (sym at.items) (rows_rise c v q led.sound own) in
     let once : AreOnce (items_after name (item_rows c x.state p) edits) =
     subst (λ (rows : List ItemRow). AreOnce rows) (sym at.items) (row_once c v q led.sound own) in
     let told : AreTold n (queued_of c x.state n) (item_rows c x.state p) =

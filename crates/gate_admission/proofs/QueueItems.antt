@@ -9,29 +9,26 @@ use Rattle.gate_types.specs.declared.edits.Edit.TheVariants as edit
 use Rattle.gate_types.specs.Names.{same_name}
 use Rattle.gate_types.specs.State.{put_by}
 use Rattle.gate_types.specs.Rows.{edited_items}
+use Rattle.gate_types.specs.Keys.{serial_of_item}
 use Rattle.gate_book_trait.specs.Reads.{first_above}
 use Rattle.gate_laws.proofs.Members.{In, from_filter}
 use Rattle.gate_laws.proofs.Rising.{Rising, from_put, rising_put, rising_filter}
 use Rattle.gate_admission.specs.Seen.{items_after, item_at, if_at}
 
--- the serial of a row
-abbrev pub serial_of : ItemRow → ℕ
-serial_of i = i.serial
-
 -- ---- in order
 
-pub rising_after : (name : List ℕ) (rows : List ItemRow) (edits : List Edit) → Rising serial_of rows →
-    Rising serial_of (items_after name rows edits)
+pub rising_after : (name : List ℕ) (rows : List ItemRow) (edits : List Edit) → Rising serial_of_item rows →
+    Rising serial_of_item (items_after name rows edits)
 rising_after name rows [] r = r
 rising_after name rows (e ∷ es) r = rising_after name (edited_items name rows e) es (step e)
   where
-    step : (e : Edit) → Rising serial_of (edited_items name rows e)
+    step : (e : Edit) → Rising serial_of_item (edited_items name rows e)
     step (edit.PutItem q i) = by_name (same_name q name)
       where
-        by_name : (b : Bool) → Rising serial_of (cond b (put_by serial_of i rows) rows)
-        by_name true = rising_put serial_of i rows r
+        by_name : (b : Bool) → Rising serial_of_item (cond b (put_by serial_of_item i rows) rows)
+        by_name true = rising_put serial_of_item i rows r
         by_name false = r
-    step (edit.DropItem k) = rising_filter serial_of (λ j. not (j.serial == k)) rows r
+    step (edit.DropItem k) = rising_filter serial_of_item (λ j. not (j.serial == k)) rows r
     step (edit.PutChange k a) = r
     step (edit.PutPlan k) = r
     step (edit.PutLanding q p l) = r
@@ -53,7 +50,7 @@ none_from k (x ∷ xs) h =
     ap (λ t. cond t (Some x) (item_at k xs)) (ne_eqb x.serial k (λ e. omega (arith, above, e)))
     ∙ none_from k xs (λ y m. h y (inr m))
 
-pub at_by_above : (k : ℕ) (rows : List ItemRow) → 1 ≤ k → Rising serial_of rows →
+pub at_by_above : (k : ℕ) (rows : List ItemRow) → 1 ≤ k → Rising serial_of_item rows →
     item_at k rows ≡ option_and_then (if_at k) (first_above (k - 1) rows)
 at_by_above k [] one r = refl
 at_by_above k (x ∷ xs) one r = ⊎_elim
@@ -89,9 +86,10 @@ from_step : (name : List ℕ) (rows : List ItemRow) (e : Edit) (r : ItemRow) →
     In r rows ⊎ Puts name r e
 from_step name rows (edit.PutItem q i) r m = by_name (same_name q name) refl m
   where
-    by_name : (b : Bool) → same_name q name ≡ b → In r (cond b (put_by serial_of i rows) rows) →
+    by_name : (b : Bool) → same_name q name ≡ b → In r (cond b (put_by serial_of_item i rows) rows) →
         In r rows ⊎ ((same_name q name ≡ true) × (i ≡ r))
-    by_name true e n = ⊎_elim (λ (f : i ≡ r). inr (e, f)) (λ (f : In r rows). inl f) (from_put serial_of i rows r n)
+    by_name true e n =
+        ⊎_elim (λ (f : i ≡ r). inr (e, f)) (λ (f : In r rows). inl f) (from_put serial_of_item i rows r n)
     by_name false e n = inl n
 from_step name rows (edit.DropItem k) r m = inl (from_filter (λ j. not (j.serial == k)) rows r m).0
 from_step name rows (edit.PutChange k a) r m = inl m
@@ -117,10 +115,11 @@ from_after name rows (e ∷ es) r m = ⊎_elim
 -- ---- by serial
 
 -- what stands at a serial is found
-pub at_there : (rows : List ItemRow) (r : ItemRow) → Rising serial_of rows → In r rows → item_at r.serial rows ≡ Some r
+pub at_there : (rows : List ItemRow) (r : ItemRow) → Rising serial_of_item rows → In r rows →
+    item_at r.serial rows ≡ Some r
 at_there [] r up m = absurd m
 at_there (x ∷ xs) r up m = elim m [
-  | inl e ↦ ap (λ t. cond t (Some x) (item_at r.serial xs)) (eq-eqb x.serial r.serial (ap serial_of e)) ∙ ap Some e
+  | inl e ↦ ap (λ t. cond t (Some x) (item_at r.serial xs)) (eq-eqb x.serial r.serial (ap serial_of_item e)) ∙ ap Some e
   | inr n ↦
       (let low = up.0 r n in
       ap (λ t. cond t (Some x) (item_at r.serial xs)) (ne_eqb x.serial r.serial (λ e. omega (arith, low, e)))

@@ -9,23 +9,24 @@ use Rattle.gate_types.specs.declared.edits.Edit.TheVariants as edit
 use Rattle.gate_types.specs.Names.{same_name}
 use Rattle.gate_types.specs.State.{put_by}
 use Rattle.gate_types.specs.Rows.{edited_items}
+use Rattle.gate_types.specs.Keys.{serial_of_item}
 use Rattle.gate_laws.proofs.Rising.{Rising}
 use Rattle.gate_admission.specs.Seen.{items_after, item_at, grows, shrinks, one_if}
-use Rattle.gate_admission.proofs.QueueItems.{serial_of, none_from}
+use Rattle.gate_admission.proofs.QueueItems.{none_from}
 
 -- a row that is put adds one, unless its serial was there
-length_put : (i : ItemRow) (rows : List ItemRow) → Rising serial_of rows →
-    length (put_by serial_of i rows) ≡ length rows + one_if (not (is_some (item_at i.serial rows)))
+length_put : (i : ItemRow) (rows : List ItemRow) → Rising serial_of_item rows →
+    length (put_by serial_of_item i rows) ≡ length rows + one_if (not (is_some (item_at i.serial rows)))
 length_put i [] r = refl
 length_put i (y ∷ ys) r = by_equal (i.serial == y.serial) refl (nat_lt i.serial y.serial) refl (length_put i ys r.1)
   where
-    next : (b : Bool) → length (put_by serial_of i ys) ≡ length ys + one_if b →
-        suc (length (put_by serial_of i ys)) ≡ suc (length ys) + one_if b
+    next : (b : Bool) → length (put_by serial_of_item i ys) ≡ length ys + one_if b →
+        suc (length (put_by serial_of_item i ys)) ≡ suc (length ys) + one_if b
     next b h = omega (arith, h)
 
     by_equal : (b : Bool) → i.serial == y.serial ≡ b → (l : Bool) → nat_lt i.serial y.serial ≡ l →
-        length (put_by serial_of i ys) ≡ length ys + one_if (not (is_some (item_at i.serial ys))) →
-        length (cond b (i ∷ ys) (cond l (i ∷ y ∷ ys) (y ∷ put_by serial_of i ys))) ≡
+        length (put_by serial_of_item i ys) ≡ length ys + one_if (not (is_some (item_at i.serial ys))) →
+        length (cond b (i ∷ ys) (cond l (i ∷ y ∷ ys) (y ∷ put_by serial_of_item i ys))) ≡
         suc (length ys) + one_if (not (is_some (item_at i.serial (y ∷ ys))))
     by_equal true e l f h =
         let there : one_if (not (is_some (item_at i.serial (y ∷ ys)))) ≡ 0 =
@@ -47,7 +48,7 @@ length_put i (y ∷ ys) r = by_equal (i.serial == y.serial) refl (nat_lt i.seria
         next (not (is_some (item_at i.serial ys))) h ∙ ap (λ o. suc (length ys) + one_if (not (is_some o))) (sym same)
 
 -- a row that is dropped takes one
-length_drop : (k : ℕ) (rows : List ItemRow) → Rising serial_of rows →
+length_drop : (k : ℕ) (rows : List ItemRow) → Rising serial_of_item rows →
     length (filter (λ j. not (j.serial == k)) rows) + one_if (is_some (item_at k rows)) ≡ length rows
 length_drop k [] r = refl
 length_drop k (y ∷ ys) r = by_test (y.serial == k) refl (length_drop k ys r.1)
@@ -64,11 +65,11 @@ length_drop k (y ∷ ys) r = by_test (y.serial == k) refl (length_drop k ys r.1)
     by_test false e h = omega (arith, h)
 
 -- how an edit changes the number
-pub size_step : (name : List ℕ) (rows : List ItemRow) (e : Edit) → Rising serial_of rows →
+pub size_step : (name : List ℕ) (rows : List ItemRow) (e : Edit) → Rising serial_of_item rows →
     length (edited_items name rows e) + one_if (shrinks rows e) ≡ length rows + one_if (grows name rows e)
 size_step name rows (edit.PutItem q i) r = by_name (same_name q name)
   where
-    by_name : (b : Bool) → length (cond b (put_by serial_of i rows) rows) + 0 ≡
+    by_name : (b : Bool) → length (cond b (put_by serial_of_item i rows) rows) + 0 ≡
         length rows + one_if (b && not (is_some (item_at i.serial rows)))
     by_name true = omega (arith, length_put i rows r)
     by_name false = refl

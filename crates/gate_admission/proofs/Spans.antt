@@ -23,11 +23,12 @@ use Rattle.gate_admission.specs.Seen.{items_after, grows}
 use Rattle.gate_admission.specs.Candidates.{is_full}
 use Rattle.gate_admission.proofs.Led.{items_led}
 use Rattle.gate_admission.proofs.LastItem.{AtMost, last_of, last_most}
-use Rattle.gate_admission.proofs.QueueItems.{serial_of, rising_after}
+use Rattle.gate_admission.proofs.QueueItems.{rising_after}
 use Rattle.gate_admission.proofs.Sizes.{size_step, one_if_most}
 use Rattle.gate_admission.proofs.Standing.{queue_in, items_rise, row_is_of, row_drawn}
 use Rattle.gate_types.specs.Counters.{last_number}
 use Rattle.gate_types.specs.Limits.{most_items}
+use Rattle.gate_types.specs.Keys.{serial_of_item}
 
 -- ---- the rows of a queue
 
@@ -44,7 +45,7 @@ row_positive c x q r lawful there m =
     omega (arith, low, e)
 
 -- rising rows between two serials
-count_between : (rows : List ItemRow) (low top : ℕ) → Rising serial_of rows →
+count_between : (rows : List ItemRow) (low top : ℕ) → Rising serial_of_item rows →
     ((r : ItemRow) → In r rows → low ≤ r.serial) → ((r : ItemRow) → In r rows → r.serial ≤ top) →
     length rows ≤ top + 1 - low
 count_between [] low top up lows tops = omega arith
@@ -55,7 +56,7 @@ count_between (r ∷ rs) low top up lows tops =
     let b = tops r (inl refl) in
     omega (arith, rest, a, b)
 
-first_is : (rows : List ItemRow) (f : ItemRow) → ((r : ItemRow) → In r rows → 1 ≤ r.serial) → Rising serial_of rows →
+first_is : (rows : List ItemRow) (f : ItemRow) → ((r : ItemRow) → In r rows → 1 ≤ r.serial) → Rising serial_of_item rows →
     first_above 0 rows ≡ Some f → (r : ItemRow) → In r rows → f.serial ≤ r.serial
 first_is [] f low up e r m = absurd m
 first_is (y ∷ ys) f low up e r m =
@@ -102,7 +103,7 @@ module _ (c : Settings) (x : Content) (name : List ℕ) (lawful : IsLawfulConten
       let top = order_small x.state lawful.lawful.not_exhausted in
       omega (arith, low, top))
 
-  up : Rising serial_of rows
+  up : Rising serial_of_item rows
   up = items_rise c x.state name lawful.lawful.sound
 
   pub no_first : first_above 0 rows ≡ None → item_count c x.state name ≤ 0
@@ -131,7 +132,7 @@ module _ (c : Settings) (x : Content) (name : List ℕ) (lawful : IsLawfulConten
       omega (arith, few, h)
     where
       top : (r : ItemRow) → In r rows → r.serial ≤ l.serial
-      top r m = subst (λ (o : Option ItemRow). AtMost r.serial (option_map serial_of o))
+      top r m = subst (λ (o : Option ItemRow). AtMost r.serial (option_map serial_of_item o))
           (sym (ap (last_of None) (filter_all (λ (i : ItemRow). nat_lt i.serial 18446744073709551615) rows
           (λ t k. lt-ltb t.serial 18446744073709551615 (small t k)))) ∙ last)
           (last_most None rows r up m)
@@ -147,7 +148,7 @@ full_is c s name = by_found (queue_named s name)
 
 -- ---- after edits
 
-few_added : (name : List ℕ) (items : List ItemRow) (edits : List Edit) → Rising serial_of items →
+few_added : (name : List ℕ) (items : List ItemRow) (edits : List Edit) → Rising serial_of_item items →
     length (items_after name items edits) ≤ length items + length edits
 few_added name items [] rise = omega arith
 few_added name items (e ∷ es) rise =

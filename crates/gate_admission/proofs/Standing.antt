@@ -14,17 +14,18 @@ use Rattle.gate_types.specs.Line.{Place}
 use Rattle.gate_types.specs.Standing.{place_of, places_after, with_ahead, next_ahead}
 use Rattle.gate_types.specs.Rows.{row_of, item_rows}
 use Rattle.gate_types.specs.Lawful.{IsSound, serials_of, drawn_serials}
+use Rattle.gate_types.specs.Keys.{serial_of_item}
 use Rattle.gate_book_trait.specs.declared.rows.QueuedItem.{QueuedItem}
 use Rattle.gate_book_trait.specs.Reads.{queue_named, items_in, queued_items, queued_of}
 use Rattle.gate_laws.proofs.Members.{In, every, found, not_found, from_map, to_map, from_flat, to_flat, to_left}
 use Rattle.gate_laws.proofs.Rising.{Rising, rising}
 use Rattle.gate_laws.proofs.Alone.{change_alone}
-use Rattle.gate_admission.proofs.QueueItems.{serial_of, at_there}
+use Rattle.gate_admission.proofs.QueueItems.{at_there}
 
 -- ---- serials
 
 serials_behind : (builds : List Build) (ahead : List Item) (ps : List Place) →
-    map serial_of (map (row_of builds) (places_after builds ahead ps)) ≡ map (λ p. p.item.serial) ps
+    map serial_of_item (map (row_of builds) (places_after builds ahead ps)) ≡ map (λ p. p.item.serial) ps
 serials_behind builds ahead [] = refl
 serials_behind builds ahead (p ∷ ps) =
     ap (λ ns. p.item.serial ∷ ns) (serials_behind builds (next_ahead builds (with_ahead ahead p)) ps)
@@ -38,17 +39,17 @@ pub queue_in : (s : State) (name : List ℕ) (q : Queue) → queue_named s name 
 queue_in s name q e = (found (λ (r : Queue). same_name r.name name) s.queues q e).0
 
 pub rows_rise : (c : Settings) (s : State) (q : Queue) → IsSound c s → In q s.queues →
-    Rising serial_of (item_rows c s q)
+    Rising serial_of_item (item_rows c s q)
 rows_rise c s q sound there =
-    rising serial_of (item_rows c s q)
+    rising serial_of_item (item_rows c s q)
     (subst IsStrictlyIncreasing (sym (serials_behind s.builds [] (map (place_of c s q) q.items)
     ∙ place_serials c s q q.items))
     (every (λ (r : Queue). IsStrictlyIncreasing (map (λ i. i.serial) r.items)) s.queues sound.items_rise q there))
 
-pub items_rise : (c : Settings) (s : State) (name : List ℕ) → IsSound c s → Rising serial_of (items_in c s name)
+pub items_rise : (c : Settings) (s : State) (name : List ℕ) → IsSound c s → Rising serial_of_item (items_in c s name)
 items_rise c s name sound = by_found (queue_named s name) refl
   where
-    by_found : (o : Option Queue) → queue_named s name ≡ o → Rising serial_of (option_map_or (item_rows c s) o [])
+    by_found : (o : Option Queue) → queue_named s name ≡ o → Rising serial_of_item (option_map_or (item_rows c s) o [])
     by_found None e = tt
     by_found (Some q) e = rows_rise c s q sound (queue_in s name q e)
 

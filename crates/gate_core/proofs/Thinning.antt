@@ -14,20 +14,19 @@ use Rattle.gate_types.specs.Settings.{Settings}
 use Rattle.gate_types.specs.State.{put_by}
 use Rattle.gate_types.specs.Once.{Content}
 use Rattle.gate_types.specs.Tables.{Tables, tables, edited_changes, edited_tables, fold_all, Leads}
+use Rattle.gate_types.specs.Keys.{number_of_change}
 use Rattle.gate_types.proofs.PutLemmas.{put_over, put_swap}
 use Rattle.gate_admission.specs.Candidates.{puts}
 use Rattle.gate_core.specs.Thinned.{is_replaced, thinned, AreNumbersOf}
 
 -- ---- puts of changes
 
-abbrev number_of : ChangeRow → ℕ
-number_of r = r.change.number
-
 -- a put behind which the same change is put again
-put_again : (r : ChangeRow) (rows : List ChangeRow) (e : Edit) → puts (number_of r) e ≡ true →
-    edited_changes (put_by number_of r rows) e ≡ edited_changes rows e
+put_again : (r : ChangeRow) (rows : List ChangeRow) (e : Edit) → puts (number_of_change r) e ≡ true →
+    edited_changes (put_by number_of_change r rows) e ≡ edited_changes rows e
 put_again r rows (edit.PutChange k a) h =
-    put_over number_of r (record { change = k; approval = a }) rows (sym (eqb-true k.number (number_of r) h))
+    put_over number_of_change r (record { change = k; approval = a }) rows
+    (sym (eqb-true k.number (number_of_change r) h))
 put_again r rows (edit.PutItem q i) h = absurd (true≢false (sym h))
 put_again r rows (edit.DropItem n) h = absurd (true≢false (sym h))
 put_again r rows (edit.PutPlan p) h = absurd (true≢false (sym h))
@@ -41,10 +40,10 @@ put_again r rows (edit.SetCounter k n) h = absurd (true≢false (sym h))
 put_again r rows (edit.Keep k) h = absurd (true≢false (sym h))
 
 -- and one behind which another edit is made
-put_before : (r : ChangeRow) (rows : List ChangeRow) (e : Edit) → puts (number_of r) e ≡ false →
-    edited_changes (put_by number_of r rows) e ≡ put_by number_of r (edited_changes rows e)
+put_before : (r : ChangeRow) (rows : List ChangeRow) (e : Edit) → puts (number_of_change r) e ≡ false →
+    edited_changes (put_by number_of_change r rows) e ≡ put_by number_of_change r (edited_changes rows e)
 put_before r rows (edit.PutChange k a) h =
-    put_swap number_of r (record { change = k; approval = a }) rows
+    put_swap number_of_change r (record { change = k; approval = a }) rows
     (λ same. true≢false (sym (ap (λ n. k.number == n) same ∙ grind arith) ∙ h))
 put_before r rows (edit.PutItem q i) h = refl
 put_before r rows (edit.DropItem n) h = refl
@@ -60,23 +59,23 @@ put_before r rows (edit.Keep k) h = refl
 
 -- the tables with the row of a change put
 abbrev with_row : ChangeRow → Tables → Tables
-with_row r t = record t { changes = put_by number_of r t.changes }
+with_row r t = record t { changes = put_by number_of_change r t.changes }
 
 -- a put that is replaced changes nothing
-replaced_put : (r : ChangeRow) (t : Tables) (es : List Edit) → list_any (puts (number_of r)) es ≡ true →
+replaced_put : (r : ChangeRow) (t : Tables) (es : List Edit) → list_any (puts (number_of_change r)) es ≡ true →
     fold_all (with_row r t) es ≡ fold_all t es
 replaced_put r t [] h = absurd (true≢false (sym h))
-replaced_put r t (e ∷ es) h = by_test (puts (number_of r) e) refl (replaced_put r (edited_tables t e) es)
+replaced_put r t (e ∷ es) h = by_test (puts (number_of_change r) e) refl (replaced_put r (edited_tables t e) es)
   where
     leaves : List ChangeRow → Tables
     leaves rows = fold_all (record (edited_tables t e) { changes = rows }) es
 
-    by_test : (b : Bool) → puts (number_of r) e ≡ b → (list_any (puts (number_of r)) es ≡ true →
+    by_test : (b : Bool) → puts (number_of_change r) e ≡ b → (list_any (puts (number_of_change r)) es ≡ true →
         fold_all (with_row r (edited_tables t e)) es ≡ fold_all (edited_tables t e) es) →
         fold_all (edited_tables (with_row r t) e) es ≡ fold_all (edited_tables t e) es
     by_test true same rest = ap leaves (put_again r t.changes e same)
     by_test false other rest = ap leaves (put_before r t.changes e other)
-        ∙ rest (sym (ap (λ b. b || list_any (puts (number_of r)) es) other) ∙ h)
+        ∙ rest (sym (ap (λ b. b || list_any (puts (number_of_change r)) es) other) ∙ h)
 
 replaced_edit : (e : Edit) (t : Tables) (es : List Edit) → is_replaced e es ≡ true →
     fold_all t es ≡ fold_all (edited_tables t e) es

@@ -26,9 +26,10 @@ use Rattle.gate_laws.proofs.Rising.{Rising, rising}
 use Rattle.gate_laws.proofs.Alone.{item_serials, report_serials}
 use Rattle.gate_laws.proofs.Told.{length-told}
 use Rattle.gate_laws.proofs.Drawn.{report_drawn}
-use Rattle.gate_laws.proofs.Plans.{serial_of, plan_drawn}
+use Rattle.gate_laws.proofs.Plans.{plan_drawn}
 use Rattle.gate_laws.proofs.Shapes.{Shaped, shaped_from, least, most}
 use Rattle.gate_types.specs.Counters.{last_number}
+use Rattle.gate_types.specs.Keys.{serial_of_plan}
 
 -- ---- numbers
 
@@ -142,7 +143,7 @@ rows_are_few c s h f =
     record {
       reports = all (λ q. length q.reports ≤ s.counters.order) s.queues (few_reports c s h k);
       landings = all (λ q. length q.landings ≤ s.counters.order) s.queues (few_landings c s h k);
-      plans = few_rising serial_of s.plans s.counters.order h.planned.rise
+      plans = few_rising serial_of_plan s.plans s.counters.order h.planned.rise
           (λ p m. ((k.plans p m).0, plan_drawn c s h p m));
       ready = few_rising (λ (r : Ready). r.approval) s.ready s.counters.approval h.ready_rises
           (λ r m. (

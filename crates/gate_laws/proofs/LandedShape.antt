@@ -12,8 +12,8 @@ use Rattle.gate_types.specs.Rebase.{with_live}
 use Rattle.gate_types.specs.SubmitOrder.{Order}
 use Rattle.gate_types.specs.Step.{left_queue, landed_plan}
 use Rattle.gate_types.specs.Sweep.{without_plans}
-use Rattle.gate_laws.proofs.Plans.{serial_of}
 use Rattle.gate_types.specs.Forms.{is_change_in_form}
+use Rattle.gate_types.specs.Keys.{serial_of_plan}
 use Rattle.gate_laws.proofs.Members.{In, from_filter}
 use Rattle.gate_laws.proofs.Rising.{from_put}
 use Rattle.gate_laws.proofs.LeaveIsSound.{leaving}
@@ -66,7 +66,7 @@ after_shaped c s o k h =
       ready = h.ready;
       queues = queues_shaped (queue_after c n o) s.queues (λ q m. by_queue c s o n k WholeQueue (here_shape c s o k h)
           (there_shape c s o n k h) q m);
-      plans = λ p m. elim (from_put serial_of (landed_plan s o.item.serial)
+      plans = λ p m. elim (from_put serial_of_plan (landed_plan s o.item.serial)
           (without_plans (leaving o.item.change s) s.plans) p m) [
             | inl e ↦ subst PlanShape e
                 (((h.queues o.queue k.shows.queue_in).items o.item (item_in c s o k)).0, plan_named c s h o.item.serial)

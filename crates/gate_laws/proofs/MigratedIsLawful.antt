@@ -23,6 +23,7 @@ use Rattle.gate_types.specs.Migrate.{item_plan, landing_plan, plans_of_queue, mi
 use Rattle.gate_types.specs.Lawful.{IsSound, IsLawful, serials_of, landed_changes, is_sound_item, ArePlanned}
 use Rattle.gate_types.specs.Lawful.{TellsLandings}
 use Rattle.gate_types.specs.Forms.{are_settings_in_form, is_project_in_form}
+use Rattle.gate_types.specs.Keys.{serial_of_plan}
 use Rattle.gate_laws.specs.Rest.{IsAtRest}
 use Rattle.gate_laws.specs.Migration.{place_before, places_before, all_before, is_shown_before, WasLawful}
 use Rattle.gate_laws.specs.Migration.{MigratedIsLawful, MigratedContentIsLawful, NothingWasCut}
@@ -32,7 +33,6 @@ use Rattle.gate_laws.proofs.Members.{in_contains, got}
 use Rattle.gate_laws.proofs.Counts.{distinct_from}
 use Rattle.gate_laws.proofs.Rising.{increasing}
 use Rattle.gate_laws.proofs.Changes.{unknown}
-use Rattle.gate_laws.proofs.Plans.{serial_of}
 use Rattle.gate_laws.proofs.Parts.{HasSoundItems, IsOvertakenRightly, HasSingles, ShowsAll}
 use Rattle.gate_laws.proofs.SettledIsAtRest.{rest_is_settled}
 use Rattle.gate_laws.proofs.Shapes.{Shaped, shaped_from}
@@ -157,7 +157,7 @@ sound_plan c s w h p m =
 plans_migrated : (c : Settings) (s : State) → are_sound c ≡ true → WasLawful c s →
     ArePlanned (migrated c s).plans s.queues
 plans_migrated c s w h = record {
-  rise = increasing serial_of (migrated c s).plans (rising_all [] (plans_before c s) tt);
+  rise = increasing serial_of_plan (migrated c s).plans (rising_all [] (plans_before c s) tt);
   kept = λ n. any_all [] (plans_before c s) n ∙ off (list_any (λ p. p.serial == n) (plans_before c s))
       ∙ planned_all c s n s.queues;
   sound = all (λ p. are_sound_jobs p.jobs ≡ true) (migrated c s).plans (λ p m.

@@ -16,28 +16,29 @@ use Rattle.gate_types.specs.Settings.{Settings}
 use Rattle.gate_types.specs.State.{Queue, State, put_by, plan_in}
 use Rattle.gate_types.specs.Migrate.{item_plan, landing_plan, plans_of_queue, put_all}
 use Rattle.gate_types.specs.Lawful.{serials_of, landing_of, TellsLandings, is_of_an_item, is_of_a_landing}
+use Rattle.gate_types.specs.Keys.{serial_of_plan}
 use Rattle.gate_laws.proofs.Members.{In, any_map, map_map}
 use Rattle.gate_laws.proofs.Counts.{times, hits, times-append, times_flat_le}
 use Rattle.gate_laws.proofs.Alone.{item_serials, report_serials, map-flat}
 use Rattle.gate_laws.proofs.Rising.{Rising, rising_put, from_put}
-use Rattle.gate_laws.proofs.Plans.{serial_of, is_under, plan_put, plan_kept, any_put}
+use Rattle.gate_laws.proofs.Plans.{is_under, plan_put, plan_kept, any_put}
 
-pub rising_all : (rows ps : List Plan) → Rising serial_of rows → Rising serial_of (put_all rows ps)
+pub rising_all : (rows ps : List Plan) → Rising serial_of_plan rows → Rising serial_of_plan (put_all rows ps)
 rising_all rows [] r = r
-rising_all rows (p ∷ ps) r = rising_all (put_by serial_of p rows) ps (rising_put serial_of p rows r)
+rising_all rows (p ∷ ps) r = rising_all (put_by serial_of_plan p rows) ps (rising_put serial_of_plan p rows r)
 
 pub from_all : (rows ps : List Plan) (x : Plan) → In x (put_all rows ps) → In x ps ⊎ In x rows
 from_all rows [] x m = inr m
-from_all rows (p ∷ ps) x m = elim (from_all (put_by serial_of p rows) ps x m) [
+from_all rows (p ∷ ps) x m = elim (from_all (put_by serial_of_plan p rows) ps x m) [
   | inl a ↦ inl (inr a)
-  | inr b ↦ (elim (from_put serial_of p rows x b) [ inl e ↦ inl (inl e) | inr k ↦ inr k ])
+  | inr b ↦ (elim (from_put serial_of_plan p rows x b) [ inl e ↦ inl (inl e) | inr k ↦ inr k ])
 ]
 
 pub any_all : (rows ps : List Plan) (n : ℕ) →
     list_any (is_under n) (put_all rows ps) ≡ (list_any (is_under n) ps || list_any (is_under n) rows)
 any_all rows [] n = refl
 any_all rows (p ∷ ps) n =
-    any_all (put_by serial_of p rows) ps n ∙ ap (λ b. list_any (is_under n) ps || b) (any_put p rows n)
+    any_all (put_by serial_of_plan p rows) ps n ∙ ap (λ b. list_any (is_under n) ps || b) (any_put p rows n)
     ∙ turn (list_any (is_under n) ps) (p.serial == n) (list_any (is_under n) rows)
   where
     turn : (a b d : Bool) → a || (b || d) ≡ ((b || a) || d)
@@ -46,22 +47,22 @@ any_all rows (p ∷ ps) n =
     turn false true d = refl
     turn false false d = refl
 
-none_put : (rows ps : List Plan) (n : ℕ) → times n (map serial_of ps) ≡ 0 → plan_in (put_all rows ps) n ≡ plan_in rows n
+none_put : (rows ps : List Plan) (n : ℕ) → times n (map serial_of_plan ps) ≡ 0 → plan_in (put_all rows ps) n ≡ plan_in rows n
 none_put rows [] n h = refl
 none_put rows (p ∷ ps) n h =
-    none_put (put_by serial_of p rows) ps n (omega (arith, h))
+    none_put (put_by serial_of_plan p rows) ps n (omega (arith, h))
     ∙ plan_kept p rows n (ne_eqb p.serial n (λ e. let one = hits p.serial n e in omega (arith, h, one)))
 
 -- each is found under its serial
-pub plan_all : (ps rows : List Plan) (p : Plan) → In p ps → times p.serial (map serial_of ps) ≤ 1 →
+pub plan_all : (ps rows : List Plan) (p : Plan) → In p ps → times p.serial (map serial_of_plan ps) ≤ 1 →
     plan_in (put_all rows ps) p.serial ≡ p
 plan_all [] rows p m h = absurd m
 plan_all (x ∷ xs) rows p m h = elim m [
   | inl e ↦ (
-      let one = hits x.serial p.serial (ap serial_of e) in
-      none_put (put_by serial_of x rows) xs p.serial (omega (arith, h, one))
-      ∙ subst (λ y. plan_in (put_by serial_of x rows) y.serial ≡ y) e (plan_put x rows))
-  | inr k ↦ plan_all xs (put_by serial_of x rows) p k (omega (arith, h))
+      let one = hits x.serial p.serial (ap serial_of_plan e) in
+      none_put (put_by serial_of_plan x rows) xs p.serial (omega (arith, h, one))
+      ∙ subst (λ y. plan_in (put_by serial_of_plan x rows) y.serial ≡ y) e (plan_put x rows))
+  | inr k ↦ plan_all xs (put_by serial_of_plan x rows) p k (omega (arith, h))
 ]
 
 -- ---- the serials of landings are those of reports
@@ -98,14 +99,14 @@ landings_less n q h =
 
 -- so the plans of a state have serials of their own
 pub plans_apart : (c : Settings) (s : State) (n : ℕ) (qs : List Queue) → ((q : Queue) → In q qs → TellsLandings q) →
-    times n (map serial_of (flat_map (plans_of_queue c s) qs)) ≤ times n (flat_map serials_of qs)
+    times n (map serial_of_plan (flat_map (plans_of_queue c s) qs)) ≤ times n (flat_map serials_of qs)
 plans_apart c s n qs told =
-    let flat = ap (times n) (map-flat serial_of (plans_of_queue c s) qs) in
-    let less = times_flat_le n (λ q. map serial_of (plans_of_queue c s q)) serials_of qs (λ q m.
-    let plans = ap (times n) (map-append serial_of (map (item_plan c s) q.items) (map (landing_plan c s) q.landings))
-    ∙ times-append n (map serial_of (map (item_plan c s) q.items)) (map serial_of (map (landing_plan c s) q.landings)) in
-    let items = ap (times n) (map_map serial_of (item_plan c s) q.items) in
-    let landings = ap (times n) (map_map serial_of (landing_plan c s) q.landings) in
+    let flat = ap (times n) (map-flat serial_of_plan (plans_of_queue c s) qs) in
+    let less = times_flat_le n (λ q. map serial_of_plan (plans_of_queue c s q)) serials_of qs (λ q m.
+    let plans = ap (times n) (map-append serial_of_plan (map (item_plan c s) q.items) (map (landing_plan c s) q.landings))
+    ∙ times-append n (map serial_of_plan (map (item_plan c s) q.items)) (map serial_of_plan (map (landing_plan c s) q.landings)) in
+    let items = ap (times n) (map_map serial_of_plan (item_plan c s) q.items) in
+    let landings = ap (times n) (map_map serial_of_plan (landing_plan c s) q.landings) in
     let told_of = landings_less n q (told q m) in
     let both = times-append n (item_serials q) (report_serials q) in
     omega (arith, plans, items, landings, told_of, both)) in

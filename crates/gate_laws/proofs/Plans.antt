@@ -12,16 +12,13 @@ use Rattle.gate_types.specs.Standing.{needs_of, place_of, places, places_after}
 use Rattle.gate_types.specs.Sweep.{without_plans}
 use Rattle.gate_types.specs.Step.{is_of_change}
 use Rattle.gate_types.specs.Lawful.{IsSound, is_of_an_item, is_of_a_landing}
+use Rattle.gate_types.specs.Keys.{serial_of_plan}
 use Rattle.gate_laws.proofs.Members.{In, none_to, map_same, filter_all, any_from, any_to, found, not_found}
 use Rattle.gate_laws.proofs.Alone.{serial_alone}
 use Rattle.gate_laws.proofs.Serials.{landing_unqueued}
 use Rattle.gate_laws.proofs.Drawn.{item_drawn, landing_drawn}
 
--- a plan's serial
-abbrev pub serial_of : Plan → ℕ
-serial_of p = p.serial
-
--- it is that of a plan
+-- a serial is that of a plan
 abbrev pub is_under : ℕ → Plan → Bool
 is_under n p = p.serial == n
 
@@ -91,7 +88,7 @@ any_stays leaves (p ∷ ps) n = by_test (leaves p.serial) refl (p.serial == n) r
 -- ---- a plan that comes
 
 pub find_put : (p : Plan) (ps : List Plan) (n : ℕ) →
-    find (is_under n) (put_by serial_of p ps) ≡ cond (p.serial == n) (Some p) (find (is_under n) ps)
+    find (is_under n) (put_by serial_of_plan p ps) ≡ cond (p.serial == n) (Some p) (find (is_under n) ps)
 find_put p [] n = refl
 find_put p (x ∷ xs) n = by_equal (p.serial == x.serial) refl (nat_lt p.serial x.serial) (find_put p xs n)
   where
@@ -109,8 +106,8 @@ find_put p (x ∷ xs) n = by_equal (p.serial == x.serial) refl (nat_lt p.serial 
     swap false t d = refl
 
     by_equal : (b : Bool) → p.serial == x.serial ≡ b → (l : Bool) →
-        find (is_under n) (put_by serial_of p xs) ≡ cond (p.serial == n) (Some p) rest →
-        find (is_under n) (cond b (p ∷ xs) (cond l (p ∷ x ∷ xs) (x ∷ put_by serial_of p xs)))
+        find (is_under n) (put_by serial_of_plan p xs) ≡ cond (p.serial == n) (Some p) rest →
+        find (is_under n) (cond b (p ∷ xs) (cond l (p ∷ x ∷ xs) (x ∷ put_by serial_of_plan p xs)))
         ≡ cond (p.serial == n) (Some p) (cond (x.serial == n) (Some x) rest)
     by_equal true e l h =
         twice (p.serial == n)
@@ -122,18 +119,18 @@ find_put p (x ∷ xs) n = by_equal (p.serial == x.serial) refl (nat_lt p.serial 
         (λ a b. true≢false (sym (eq-eqb p.serial x.serial (eqb-true p.serial n a ∙ sym (eqb-true x.serial n b))) ∙ e))
 
 -- it is found
-pub plan_put : (p : Plan) (ps : List Plan) → plan_in (put_by serial_of p ps) p.serial ≡ p
+pub plan_put : (p : Plan) (ps : List Plan) → plan_in (put_by serial_of_plan p ps) p.serial ≡ p
 plan_put p ps = ap (λ o. unwrap_or o (no_plan p.serial)) (find_put p ps p.serial
     ∙ ap (λ t. cond t (Some p) (find (is_under p.serial) ps)) (eq-eqb p.serial p.serial refl))
 
 -- any other stays
 pub plan_kept : (p : Plan) (ps : List Plan) (n : ℕ) → p.serial == n ≡ false →
-    plan_in (put_by serial_of p ps) n ≡ plan_in ps n
+    plan_in (put_by serial_of_plan p ps) n ≡ plan_in ps n
 plan_kept p ps n e = ap (λ o. unwrap_or o (no_plan n)) (find_put p ps n
     ∙ ap (λ t. cond t (Some p) (find (is_under n) ps)) e)
 
 pub any_put : (p : Plan) (ps : List Plan) (n : ℕ) →
-    list_any (is_under n) (put_by serial_of p ps) ≡ (p.serial == n || list_any (is_under n) ps)
+    list_any (is_under n) (put_by serial_of_plan p ps) ≡ (p.serial == n || list_any (is_under n) ps)
 any_put p [] n = refl
 any_put p (x ∷ xs) n = by_equal (p.serial == x.serial) refl (nat_lt p.serial x.serial) (any_put p xs n)
   where
@@ -147,8 +144,8 @@ any_put p (x ∷ xs) n = by_equal (p.serial == x.serial) refl (nat_lt p.serial x
     swap false t r = refl
 
     by_equal : (b : Bool) → p.serial == x.serial ≡ b → (l : Bool) →
-        list_any (is_under n) (put_by serial_of p xs) ≡ (p.serial == n || list_any (is_under n) xs) →
-        list_any (is_under n) (cond b (p ∷ xs) (cond l (p ∷ x ∷ xs) (x ∷ put_by serial_of p xs)))
+        list_any (is_under n) (put_by serial_of_plan p xs) ≡ (p.serial == n || list_any (is_under n) xs) →
+        list_any (is_under n) (cond b (p ∷ xs) (cond l (p ∷ x ∷ xs) (x ∷ put_by serial_of_plan p xs)))
         ≡ (p.serial == n || (x.serial == n || list_any (is_under n) xs))
     by_equal true e l h =
         twice (p.serial == n) (list_any (is_under n) xs)
@@ -195,7 +192,7 @@ replanned c s plans q is h =
 pub planned_places : (c : Settings) (s : State) (p : Plan) (q : Queue) →
     ((i : Item) → In i q.items → p.serial == i.serial ≡ false) → places c (put_plan p s) q ≡ places c s q
 planned_places c s p q h = ap (places_after s.builds [])
-    (replanned c s (put_by serial_of p s.plans) q q.items (λ i m. plan_kept p s.plans i.serial (h i m)))
+    (replanned c s (put_by serial_of_plan p s.plans) q q.items (λ i m. plan_kept p s.plans i.serial (h i m)))
 
 -- ---- the item of a change leaves
 

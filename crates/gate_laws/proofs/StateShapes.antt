@@ -35,11 +35,11 @@ use Rattle.gate_laws.proofs.RecordedChange.{open_known}
 use Rattle.gate_laws.proofs.RebaseIsSound.{rebase_is_sound}
 use Rattle.gate_laws.proofs.SweepIsSound.{sweep_is_sound}
 use Rattle.gate_laws.proofs.AdmitIsSound.{one_sound, project_in_settings}
-use Rattle.gate_laws.proofs.Plans.{serial_of}
 use Rattle.gate_laws.proofs.Shapes.{NumberedItem, TellsOf, PlanShape, ReadyShape, QueueShape, BuildShape, Shaped}
 use Rattle.gate_laws.proofs.RowShapes.{builds_shaped, shrunk_small, floor_small, window_shape, left_shape}
 use Rattle.gate_laws.proofs.RowShapes.{entered_shape, swept_shape}
 use Rattle.gate_types.specs.Limits.{most_items}
+use Rattle.gate_types.specs.Keys.{serial_of_plan}
 
 -- the whole shape of a queue
 abbrev pub WholeQueue : Queue → Type 0
@@ -105,7 +105,7 @@ entered_shaped c s r w f k h mr e = record {
   ready = λ x m. h.ready x (from_filter (λ (x : Ready). not (x.change == r.change)) s.ready x m).0;
   queues = queues_shaped (λ q. cond (same_name q.name name) (with_item i q) q) s.queues
       (λ q m. by_name q m (same_name q.name name) refl);
-  plans = λ p m. elim (from_put serial_of (next_plan c s r.change) s.plans p m) [
+  plans = λ p m. elim (from_put serial_of_plan (next_plan c s r.change) s.plans p m) [
     | inl x ↦ subst PlanShape x (omega arith, named)
     | inr x ↦ h.plans p x
   ];

@@ -9,10 +9,11 @@ use Rattle.gate_types.specs.declared.edits.Edit.TheVariants as edit
 use Rattle.gate_types.specs.declared.records.Change.{Change}
 use Rattle.gate_types.specs.declared.rows.ChangeRow.{ChangeRow}
 use Rattle.gate_types.specs.Tables.{edited_changes}
+use Rattle.gate_types.specs.Keys.{number_of_change}
 use Rattle.gate_book_trait.specs.RowReads.{row_of, approval_in, change_in}
 use Rattle.gate_book_trait.proofs.Finding.{found_has}
 use Rattle.gate_memory.specs.Sorted.{without}
-use Rattle.gate_memory.specs.Changes.{HasRoom, number_of}
+use Rattle.gate_memory.specs.Changes.{HasRoom}
 use Rattle.gate_memory.specs.Needs.{needs_of_all}
 use Rattle.gate_memory.specs.declared.changes.ChangeTable.{ChangeTable}
 use Rattle.gate_live.specs.Live.{LiveQueue}
@@ -74,15 +75,15 @@ held_after edits rows all held = subst (AreRowsOf (with_rows rows (rows_put edit
 pub held_without : (rows all : List ChangeRow) (n : ℕ) → AreRowsOf rows all → AreRowsOf (without_change rows n) all
 held_without rows all n held = by_approval (is_some (approval_in rows n)) refl
   where
-    own : (m : ℕ) (t : Bool) → n == m ≡ t → has_row (without number_of n rows) m ≡ true → row_of (without number_of n rows) m ≡ row_of all m
+    own : (m : ℕ) (t : Bool) → n == m ≡ t → has_row (without number_of_change n rows) m ≡ true → row_of (without number_of_change n rows) m ≡ row_of all m
     own m true e here = absurd (false≢true (sym (ap is_some (without_same n m rows e)) ∙ here))
     own m false e here = without_other n m rows e ∙ held.own m (sym (ap is_some (without_other n m rows e)) ∙ here)
 
-    ready : is_some (approval_in rows n) ≡ false → (m : ℕ) (t : Bool) → n == m ≡ t → is_some (approval_in all m) ≡ true → row_of (without number_of n rows) m ≡ row_of all m
+    ready : is_some (approval_in rows n) ≡ false → (m : ℕ) (t : Bool) → n == m ≡ t → is_some (approval_in all m) ≡ true → row_of (without number_of_change n rows) m ≡ row_of all m
     ready none m true e here = absurd (false≢true (sym none ∙ ap is_some (approval_held rows all n held) ∙ ap (λ k. is_some (approval_in all k)) (eqb-true n m e) ∙ here))
     ready none m false e here = without_other n m rows e ∙ held.ready m here
 
-    by_approval : (t : Bool) → is_some (approval_in rows n) ≡ t → AreRowsOf (cond t rows (without number_of n rows)) all
+    by_approval : (t : Bool) → is_some (approval_in rows n) ≡ t → AreRowsOf (cond t rows (without number_of_change n rows)) all
     by_approval true e = held
     by_approval false e = record { own = λ m here. own m (n == m) refl here; ready = λ m here. ready e m (n == m) refl here }
 
@@ -120,7 +121,7 @@ number_is all n k known = by_row (row_of all n) refl known
     by_row None e known = absurd (true≢false (ap is_some known))
     by_row (Some r) e known =
         let change : k ≡ r.change = cc in
-        ap (λ (j : Change). j.number) change ∙ found_has number_of n r all (sym e)
+        ap (λ (j : Change). j.number) change ∙ found_has number_of_change n r all (sym e)
 
 -- a change that wasn't held, and is among all
 pub held_more : (rows all : List ChangeRow) (n : ℕ) (k : Change) → AreRowsOf rows all → has_row rows n ≡ false → change_in all n ≡ Some k → k.number ≡ n →

@@ -21,8 +21,8 @@ use Rattle.gate_types.specs.Once.{Content}
 use Rattle.gate_types.specs.Forms.{IsLawfulContent}
 use Rattle.gate_types.specs.Lawful.{IsSound}
 use Rattle.gate_types.specs.Tables.{QueueRows, tables}
+use Rattle.gate_types.specs.Keys.{serial_of_item}
 use Rattle.gate_types.specs.declared.edits.Edit.TheVariants as edit
-use Rattle.gate_memory.specs.Queues.{serial_of}
 use Rattle.gate_memory.proofs.SortedLemmas.{put_after, rises-at}
 use Rattle.gate_book_trait.specs.Rising.{RisesFrom}
 use Rattle.gate_book_trait.specs.Reads as read
@@ -37,15 +37,15 @@ use Rattle.gate_live.proofs.RisingLemmas.{items_rise}
 -- ---- the items of a queue, put one by one
 
 -- an item behind those before it
-pub put_next : (m k : ℕ) (items : List Item) (i : Item) → RisesFrom serial_of m items → k < length items → i ≡ get_or items k i →
-    put_by serial_of i (take k items) ≡ take (suc k) items
+pub put_next : (m k : ℕ) (items : List Item) (i : Item) → RisesFrom serial_of_item m items → k < length items → i ≡ get_or items k i →
+    put_by serial_of_item i (take k items) ≡ take (suc k) items
 put_next m k [] i rise l at = absurd (omega (arith, l))
 put_next m zero (x ∷ xs) i rise l at = ap (λ (y : Item). y ∷ []) at
 put_next m (suc k) (x ∷ xs) i rise l at =
     let within : k < length xs = omega (arith, l) in
-    let above : suc x.serial ≤ serial_of i = subst (λ (y : Item). suc x.serial ≤ serial_of y) (sym at) (rises-at serial_of (suc x.serial) xs k i rise.1 within) in
+    let above : suc x.serial ≤ serial_of_item i = subst (λ (y : Item). suc x.serial ≤ serial_of_item y) (sym at) (rises-at serial_of_item (suc x.serial) xs k i rise.1 within) in
     let less : x.serial < i.serial = omega (arith, above) in
-    put_after serial_of i x (take k xs) less ∙ ap (λ ys. x ∷ ys) (put_next (suc x.serial) k xs i rise.1 within at)
+    put_after serial_of_item i x (take k xs) less ∙ ap (λ ys. x ∷ ys) (put_next (suc x.serial) k xs i rise.1 within at)
 
 -- ---- names
 
@@ -61,14 +61,14 @@ with_items name window landings reports items = record {
 }
 
 -- one item more put
-pub one_more : (name : List ℕ) (window landings reports k : ℕ) (items : List Item) (q : List ℕ) (i : Item) → q ≡ name → RisesFrom serial_of 0 items →
+pub one_more : (name : List ℕ) (window landings reports k : ℕ) (items : List Item) (q : List ℕ) (i : Item) → q ≡ name → RisesFrom serial_of_item 0 items →
     k < length items → i ≡ get_or items k i → edited_live_queue (edit.PutItem q i) (with_items name window landings reports (take k items))
     ≡ with_items name window landings reports (take (k + 1) items)
 one_more name window landings reports k items q i same rise within at =
     let named : same_name q name ≡ true = ap (λ n. same_name n name) same ∙ itself name in
     let step : suc k ≡ k + 1 = omega arith in
-    let put : put_by serial_of i (take k items) ≡ take (k + 1) items = put_next 0 k items i rise within at ∙ ap (λ n. take n items) step in
-    ap (λ b. with_items name window landings reports (cond b (put_by serial_of i (take k items)) (take k items))) named
+    let put : put_by serial_of_item i (take k items) ≡ take (k + 1) items = put_next 0 k items i rise within at ∙ ap (λ n. take n items) step in
+    ap (λ b. with_items name window landings reports (cond b (put_by serial_of_item i (take k items)) (take k items))) named
     ∙ ap (with_items name window landings reports) put
 
 -- ---- one queue, as it was read
@@ -85,14 +85,14 @@ no_queue c x name none = by_found (read.queue_named x.state name) none ∙ ap (o
 pub queue_read : (c : Settings) (x : Content) (name : List ℕ) (window landings reports : ℕ) (items : List Item) → IsLawfulContent c x →
     Some window ≡ read.window_of x.state name → items ≡ read.items_in c x.state name → landings ≡ read.landing_count x.state name →
     reports ≡ read.reports_in x.state name →
-    RisesFrom serial_of 0 items × (Some (with_items name window landings reports items) ≡ option_map live_queue (rows_named (tables c x).queues name))
+    RisesFrom serial_of_item 0 items × (Some (with_items name window landings reports items) ≡ option_map live_queue (rows_named (tables c x).queues name))
 queue_read c x name window landings reports items lawful w is ls rs =
     by_found (read.queue_named x.state name) refl w is ls rs
   where
     by_found : (o : Option Queue) → read.queue_named x.state name ≡ o → Some window ≡ option_map (λ (q : Queue). q.window) o →
         items ≡ option_map_or (item_rows c x.state) o [] → landings ≡ length (option_map_or (λ (q : Queue). q.landings) o []) →
         reports ≡ option_map_or (λ (q : Queue). length q.reports) o 0 →
-        RisesFrom serial_of 0 items × (Some (with_items name window landings reports items) ≡ option_map live_queue (rows_named (tables c x).queues name))
+        RisesFrom serial_of_item 0 items × (Some (with_items name window landings reports items) ≡ option_map live_queue (rows_named (tables c x).queues name))
     by_found None e w is ls rs = absurd (none-some window (sym w))
     by_found (Some q) e w is ls rs =
         let passes : same_name q.name name ≡ true = subst (λ o. IfSome o (λ (r : Queue). same_name r.name name ≡ true)) e (found_passes (λ (r : Queue). same_name r.name name) x.state.queues) in
@@ -100,7 +100,7 @@ queue_read c x name window landings reports items lawful w is ls rs =
         let told : with_items name window landings reports items ≡ live_queue (rows_of_queue c x.state q) =
         λ i. with_items (name_is i) (some_is window q.window w i) ((ls ∙ sym (count_of_landings q.landings)) i) ((rs ∙ sym (count_of_reports q.reports)) i) (is i)
         in (
-          subst (λ (zs : List Item). RisesFrom serial_of 0 zs) (sym is) (items_rise c x name q lawful e),
+          subst (λ (zs : List Item). RisesFrom serial_of_item 0 zs) (sym is) (items_rise c x name q lawful e),
           ap (λ (l : LiveQueue). Some l) told ∙ ap (option_map live_queue) (sym (named_is c x name ∙ ap (option_map (rows_of_queue c x.state)) e)),
         )
 

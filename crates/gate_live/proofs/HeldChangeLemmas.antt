@@ -12,13 +12,14 @@ use Rattle.gate_types.specs.declared.records.Ready.{Ready}
 use Rattle.gate_types.specs.declared.rows.ChangeRow.{ChangeRow}
 use Rattle.gate_types.specs.State.{put_by}
 use Rattle.gate_types.specs.Tables.{approval_of}
+use Rattle.gate_types.specs.Keys.{number_of_change}
 use Rattle.gate_book_trait.specs.Rising.{RisesFrom, In}
 use Rattle.gate_book_trait.specs.RowReads.{AreReady, row_of, approval_in, change_in, needs_in, needing_in}
 use Rattle.gate_book_trait.specs.RowReads.{ready_needing_in}
 use Rattle.gate_book_trait.proofs.Finding.{all_in, found_in}
 use Rattle.gate_book_trait.proofs.ReadLemmas.{approval_told}
 use Rattle.gate_memory.specs.Sorted.{without}
-use Rattle.gate_memory.specs.Changes.{IsWhatRowsTell, number_of}
+use Rattle.gate_memory.specs.Changes.{IsWhatRowsTell}
 use Rattle.gate_memory.specs.TableReads.{IsWhatRowsTellOf}
 use Rattle.gate_memory.proofs.TableLemmas.{find_put}
 use Rattle.gate_memory.proofs.NeedLemmas.{all_from}
@@ -30,14 +31,14 @@ approval_of_row r = r.approval
 
 -- a row among all
 abbrev pub put_row : List ChangeRow → ChangeRow → List ChangeRow
-put_row rows r = put_by number_of r rows
+put_row rows r = put_by number_of_change r rows
 
 -- ---- what is found after a put, or after a row went
 
 -- the same of two lists, if it was the same for each other number
 pub put_same : (r : ChangeRow) (rows all : List ChangeRow) (n : ℕ) → (r.change.number == n ≡ false → row_of rows n ≡ row_of all n) →
     row_of (put_row rows r) n ≡ row_of (put_row all r) n
-put_same r rows all n same = find_put number_of n r rows ∙ by_number (r.change.number == n) refl ∙ sym (find_put number_of n r all)
+put_same r rows all n same = find_put number_of_change n r rows ∙ by_number (r.change.number == n) refl ∙ sym (find_put number_of_change n r all)
   where
     by_number : (t : Bool) → r.change.number == n ≡ t → cond t (Some r) (row_of rows n) ≡ cond t (Some r) (row_of all n)
     by_number true e = refl
@@ -45,35 +46,35 @@ put_same r rows all n same = find_put number_of n r rows ∙ by_number (r.change
 
 -- another row is as it was
 pub put_other : (r : ChangeRow) (rows : List ChangeRow) (n : ℕ) → r.change.number == n ≡ false → row_of (put_row rows r) n ≡ row_of rows n
-put_other r rows n e = find_put number_of n r rows ∙ ap (λ t. cond t (Some r) (row_of rows n)) e
+put_other r rows n e = find_put number_of_change n r rows ∙ ap (λ t. cond t (Some r) (row_of rows n)) e
 
 pub put_found : (r : ChangeRow) (rows : List ChangeRow) (n : ℕ) → r.change.number == n ≡ true → row_of (put_row rows r) n ≡ Some r
-put_found r rows n e = find_put number_of n r rows ∙ ap (λ t. cond t (Some r) (row_of rows n)) e
+put_found r rows n e = find_put number_of_change n r rows ∙ ap (λ t. cond t (Some r) (row_of rows n)) e
 
 -- a row of another number stays
-pub without_other : (m n : ℕ) (rows : List ChangeRow) → m == n ≡ false → row_of (without number_of m rows) n ≡ row_of rows n
+pub without_other : (m n : ℕ) (rows : List ChangeRow) → m == n ≡ false → row_of (without number_of_change m rows) n ≡ row_of rows n
 without_other m n [] e = refl
 without_other m n (r ∷ rs) e = by_number (r.change.number == m) refl (r.change.number == n) refl (without_other m n rs e)
   where
-    by_number : (s : Bool) → r.change.number == m ≡ s → (t : Bool) → r.change.number == n ≡ t → row_of (without number_of m rs) n ≡ row_of rs n →
-        find (λ (k : ChangeRow). k.change.number == n) (cond (not s) (r ∷ without number_of m rs) (without number_of m rs)) ≡ cond t (Some r) (row_of rs n)
+    by_number : (s : Bool) → r.change.number == m ≡ s → (t : Bool) → r.change.number == n ≡ t → row_of (without number_of_change m rs) n ≡ row_of rs n →
+        find (λ (k : ChangeRow). k.change.number == n) (cond (not s) (r ∷ without number_of_change m rs) (without number_of_change m rs)) ≡ cond t (Some r) (row_of rs n)
     by_number true a true b rest =
         let p : r.change.number ≡ m = eqb-true r.change.number m a in
         let q : r.change.number ≡ n = eqb-true r.change.number n b in
         absurd (true≢false (sym (eq-eqb m n (sym p ∙ q)) ∙ e))
     by_number true a false b rest = rest
-    by_number false a t b rest = ap (λ v. cond v (Some r) (row_of (without number_of m rs) n)) b ∙ ap (λ o. cond t (Some r) o) rest
+    by_number false a t b rest = ap (λ v. cond v (Some r) (row_of (without number_of_change m rs) n)) b ∙ ap (λ o. cond t (Some r) o) rest
 
 -- one of this number is gone
-pub without_same : (m n : ℕ) (rows : List ChangeRow) → m == n ≡ true → row_of (without number_of m rows) n ≡ None
+pub without_same : (m n : ℕ) (rows : List ChangeRow) → m == n ≡ true → row_of (without number_of_change m rows) n ≡ None
 without_same m n [] e = refl
 without_same m n (r ∷ rs) e = by_number (r.change.number == m) refl (without_same m n rs e)
   where
-    by_number : (s : Bool) → r.change.number == m ≡ s → row_of (without number_of m rs) n ≡ None →
-        find (λ (k : ChangeRow). k.change.number == n) (cond (not s) (r ∷ without number_of m rs) (without number_of m rs)) ≡ None
+    by_number : (s : Bool) → r.change.number == m ≡ s → row_of (without number_of_change m rs) n ≡ None →
+        find (λ (k : ChangeRow). k.change.number == n) (cond (not s) (r ∷ without number_of_change m rs) (without number_of_change m rs)) ≡ None
     by_number true a rest = rest
-    by_number false a rest = ap (λ k. cond (r.change.number == k) (Some r) (row_of (without number_of m rs) n)) (sym (eqb-true m n e))
-        ∙ ap (λ v. cond v (Some r) (row_of (without number_of m rs) n)) a ∙ rest
+    by_number false a rest = ap (λ k. cond (r.change.number == k) (Some r) (row_of (without number_of_change m rs) n)) (sym (eqb-true m n e))
+        ∙ ap (λ v. cond v (Some r) (row_of (without number_of_change m rs) n)) a ∙ rest
 
 -- ---- what is read of them
 
@@ -101,12 +102,12 @@ change_held rows all n k held found = found ∙ ap (option_map change_of_row) (h
     some_row (Some r) e = refl
 
 -- the ready list: the rows that are held tell each list that all tell
-pub ready_held : (rows all : List ChangeRow) (rs : List Ready) → RisesFrom number_of 0 rows → AreRowsOf rows all → AreReady all rs → AreReady rows rs
+pub ready_held : (rows all : List ChangeRow) (rs : List Ready) → RisesFrom number_of_change 0 rows → AreRowsOf rows all → AreReady all rs → AreReady rows rs
 ready_held rows all rs rise held ready = record {
   rise = ready.rise;
   differ = ready.differ;
   fit = ready.fit;
-  told = all_from (λ (r : ChangeRow). r.approval ≡ approval_of rs r.change.number) rows (λ r there. told r (finds_row number_of r 0 rows rise there));
+  told = all_from (λ (r : ChangeRow). r.approval ≡ approval_of rs r.change.number) rows (λ r there. told r (finds_row number_of_change r 0 rows rise there));
   known = all_from (λ (r : Ready). IsSome (row_of rows r.change)) rs (λ r there. known r there);
 }
   where
@@ -188,12 +189,12 @@ change_read rows n (Err e) told = tt
 change_read rows n (Ok None) told = tt
 change_read rows n (Ok (Some k)) told = λ all held. change_held rows all n k held told
 
-pub ready_read : {E : Type 0} (rows : List ChangeRow) (r : Result (List Ready) E) → RisesFrom number_of 0 rows → IfOk r (IsWhatRowsTell rows) →
+pub ready_read : {E : Type 0} (rows : List ChangeRow) (r : Result (List Ready) E) → RisesFrom number_of_change 0 rows → IfOk r (IsWhatRowsTell rows) →
     IfOk r (λ found. (all : List ChangeRow) → AreRowsOf rows all → IsWhatRowsTell all found)
 ready_read rows (Err e) rise told = tt
 ready_read rows (Ok found) rise told = λ all held ready are. told ready (ready_held rows all ready rise held are)
 
-pub ready_needing_read : {E : Type 0} (rows : List ChangeRow) (n : ℕ) (r : Result (List Ready) E) → RisesFrom number_of 0 rows → IfOk r (IsWhatRowsTellOf rows n) →
+pub ready_needing_read : {E : Type 0} (rows : List ChangeRow) (n : ℕ) (r : Result (List Ready) E) → RisesFrom number_of_change 0 rows → IfOk r (IsWhatRowsTellOf rows n) →
     IfOk r (λ found. (all : List ChangeRow) → AreRowsOf rows all → IsWhatRowsTellOf all n found)
 ready_needing_read rows n (Err e) rise told = tt
 ready_needing_read rows n (Ok found) rise told = λ all held ready are.

@@ -9,9 +9,9 @@ use Rattle.gate_types.specs.Settings.{Settings}
 use Rattle.gate_types.specs.Once.{Content}
 use Rattle.gate_types.specs.Forms.{IsLawfulContent}
 use Rattle.gate_types.specs.Tables.{Leads, Tables, edited_build_rows, edited_plans, edited_tables, fold_all, tables}
+use Rattle.gate_types.specs.Keys.{serial_of_plan}
 use Rattle.gate_book_trait.specs.Rising.{RisesFrom}
 use Rattle.gate_memory.specs.Builds.{number_of}
-use Rattle.gate_memory.specs.Plans.{serial_of}
 use Rattle.gate_live.specs.Live.{LiveTables, live_tables, fold_live}
 use Rattle.gate_live.specs.Held.{IsLiveOf}
 use Rattle.gate_live.specs.HeldBuilds.{AreBuildsOf, KnownBuilds, edited_held, fold_held}
@@ -59,7 +59,7 @@ builds_after (edit.StopBuild n ∷ es) h all rise held =
 builds_after (_ ∷ es) h all rise held = builds_after es h all rise held
 
 -- and so of the plans
-plans_after : (is_item : ℕ → Bool) (edits : List Edit) (rows all : List Plan) → RisesFrom serial_of 0 rows → ArePlansOf rows all →
+plans_after : (is_item : ℕ → Bool) (edits : List Edit) (rows all : List Plan) → RisesFrom serial_of_plan 0 rows → ArePlansOf rows all →
     ArePlansOf (fold_held_plans is_item rows (filter is_of_items edits)) (fold edited_plans all edits)
 plans_after is_item [] rows all rise held = held
 plans_after is_item (edit.DropItem s ∷ es) rows all rise held =
@@ -69,7 +69,7 @@ plans_after is_item (edit.PutPlan p ∷ es) rows all rise held =
 plans_after is_item (_ ∷ es) rows all rise held = plans_after is_item es rows all rise held
 
 -- what agreed with a content agrees with what the edits make of it
-pub agrees_after : (c : Settings) (x y : Content) (edits : List Edit) (is_item : ℕ → Bool) (old new : Parts) → IsLawfulContent c x → RisesFrom serial_of 0 old.plans →
+pub agrees_after : (c : Settings) (x y : Content) (edits : List Edit) (is_item : ℕ → Bool) (old new : Parts) → IsLawfulContent c x → RisesFrom serial_of_plan 0 old.plans →
     new.tables ≡ option_map (λ l. fold_live l edits) old.tables → new.builds ≡ fold_held old.builds (filter is_of_items edits) →
     new.plans ≡ fold_held_plans is_item old.plans (filter is_of_items edits) → AreChangesOf new.changes c y →
     Agrees old c x → Leads c x edits y → Agrees new c y

@@ -10,7 +10,7 @@ use Rattle.gate_types.specs.Standing.{places_after, next_ahead, with_ahead, plac
 use Rattle.gate_types.specs.Rows.{row_of, item_rows}
 use Rattle.gate_types.specs.Once.{Content}
 use Rattle.gate_types.specs.Forms.{IsLawfulContent}
-use Rattle.gate_memory.specs.Queues.{serial_of}
+use Rattle.gate_types.specs.Keys.{serial_of_item}
 use Rattle.gate_memory.specs.Builds.{number_of}
 use Rattle.gate_book_trait.specs.Reads as read
 use Rattle.gate_book_trait.specs.Rising.{RisesFrom}
@@ -28,13 +28,13 @@ places_rise c s q m [] up = tt
 places_rise c s q m (i ∷ items) up = (up.0, places_rise c s q (suc i.serial) items up.1)
 
 rows_rise : (builds : List Build) (ahead : List Item) (m : ℕ) (ps : List Place) → RisesFrom (λ (p : Place). p.item.serial) m ps →
-    RisesFrom serial_of m (map (row_of builds) (places_after builds ahead ps))
+    RisesFrom serial_of_item m (map (row_of builds) (places_after builds ahead ps))
 rows_rise builds ahead m [] up = tt
 rows_rise builds ahead m (p ∷ ps) up = (up.0, rows_rise builds (next_ahead builds (with_ahead ahead p)) (suc p.item.serial) ps up.1)
 
 -- the items of a queue that the content has
 pub items_rise : (c : Settings) (x : Content) (name : List ℕ) (q : Queue) → IsLawfulContent c x → read.queue_named x.state name ≡ Some q →
-    RisesFrom serial_of 0 (item_rows c x.state q)
+    RisesFrom serial_of_item 0 (item_rows c x.state q)
 items_rise c x name q lawful named =
     let s = x.state in
     let all = all_rows (λ (r : Queue). IsStrictlyIncreasing (map item_serial r.items)) s.queues lawful.lawful.sound.items_rise in

@@ -33,10 +33,10 @@ use Rattle.gate_types.specs.State.{put_by}
 use Rattle.gate_types.specs.Settings.{Settings}
 use Rattle.gate_types.specs.Once.{Content}
 use Rattle.gate_types.specs.Tables.{edited_changes, tables}
+use Rattle.gate_types.specs.Keys.{number_of_change}
 use Rattle.gate_book_trait.specs.RowReads.{row_of, approval_in}
 use Rattle.gate_memory.specs.Sorted.{without}
 use Rattle.gate_memory.specs.Changes as change_table
-use Rattle.gate_memory.specs.Changes.{number_of}
 use Rattle.gate_live.specs.Live.{LiveQueue, live_queued}
 use Rattle.gate_live.specs.Held.{live_of}
 use Rattle.gate_live.specs.declared.held.Held.{Held}
@@ -71,7 +71,7 @@ items_above above items = filter (λ i. nat_lt above i.serial) items
 
 -- the held rows after a row is put: it is held if its change is ready or was held before
 abbrev pub with_row : List ChangeRow → ChangeRow → List ChangeRow
-with_row rows r = if is_some r.approval || has_row rows r.change.number then put_by number_of r rows else rows
+with_row rows r = if is_some r.approval || has_row rows r.change.number then put_by number_of_change r rows else rows
 
 -- the held rows after other rows are put one after another
 abbrev pub with_rows : List ChangeRow → List ChangeRow → List ChangeRow
@@ -103,7 +103,7 @@ unready k = record { change = k; approval = None }
 
 -- the held rows without the row of a change, unless the change is ready
 abbrev pub without_change : List ChangeRow → ℕ → List ChangeRow
-without_change rows n = if is_some (approval_in rows n) then rows else without number_of n rows
+without_change rows n = if is_some (approval_in rows n) then rows else without number_of_change n rows
 
 -- the change that may have no item after an edit: the one that the edit puts or reports, if any
 abbrev pub change_touched : Edit → Option ℕ

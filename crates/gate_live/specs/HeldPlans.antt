@@ -5,9 +5,9 @@ use Rattle.gate_types.specs.declared.records.Plan.{Plan}
 use Rattle.gate_types.specs.declared.edits.Edit.{Edit}
 use Rattle.gate_types.specs.declared.edits.Edit.TheVariants as edit
 use Rattle.gate_types.specs.State.{put_by}
+use Rattle.gate_types.specs.Keys.{serial_of_plan}
 use Rattle.gate_memory.specs.Sorted.{without}
 use Rattle.gate_memory.specs.Plans as plan_table
-use Rattle.gate_memory.specs.Plans.{serial_of}
 use Rattle.gate_live.specs.declared.held_plans.HeldPlans.{HeldPlans}
 
 -- each held plan is the one with its serial among all plans
@@ -18,12 +18,13 @@ ArePlansOf held plans = AllByRecursion (λ p. find (λ q. q.serial == p.serial) 
 
 -- the held plans after a plan is put: it is held only if its item is
 abbrev pub put_held : (ℕ → Bool) → List Plan → Plan → List Plan
-put_held is_item rows p = if is_item p.serial then put_by serial_of p rows else without serial_of p.serial rows
+put_held is_item rows p =
+    if is_item p.serial then put_by serial_of_plan p rows else without serial_of_plan p.serial rows
 
 -- the held plans after an edit
 abbrev pub edited_held_plans : (ℕ → Bool) → List Plan → Edit → List Plan
 edited_held_plans is_item rows (edit.PutPlan p) = put_held is_item rows p
-edited_held_plans is_item rows (edit.DropItem s) = without serial_of s rows
+edited_held_plans is_item rows (edit.DropItem s) = without serial_of_plan s rows
 edited_held_plans is_item rows _ = rows
 
 -- the held plans after a list of edits

@@ -2,7 +2,7 @@
 ghost use Rattle.std.specs.Prelude.{◌≡◌, [], map, option_map, Some, IfErr, IfOk, IfSome};
 ghost use Rattle.std.specs.List.{AllByRecursion};
 ghost use Rattle.gate_types.specs.Tables.{tables};
-ghost use Rattle.gate_memory.specs.Queues.{serial_of};
+ghost use Rattle.gate_types.specs.Keys.{serial_of_item};
 ghost use Rattle.gate_book_trait.specs.Faults.{MayAnswer};
 ghost use Rattle.gate_book_trait.specs.Kept.{OfHeld, OfHeldUnder, IsKept};
 ghost use Rattle.gate_book_trait.specs.Rising.{RisesFrom};
@@ -32,7 +32,7 @@ fn queue_with(
     landings: u64,
     reports: u64,
 ) -> Result<HeldQueue, NoMemory>
-    ensures rows { IfOk result (λ queue. RisesFrom serial_of 0 items.now → queue_of queue ≡ record {
+    ensures rows { IfOk result (λ queue. RisesFrom serial_of_item 0 items.now → queue_of queue ≡ record {
       rows = record { name = name.now; window = window; items = items.now; landings = []; reports = [] };
       landings = landings;
       reports = reports;

@@ -3,9 +3,10 @@ ghost use Rattle.std.specs.Prelude.{◌≡◌, ◌++◌, ◌||◌, ℕ, List, su
 ghost use Rattle.std.specs.Prelude.{OnOk};
 ghost use Rattle.std.specs.List.{cons_option};
 ghost use Rattle.gate_types.specs.State.{put_by};
+ghost use Rattle.gate_types.specs.Keys.{number_of_change};
 ghost use Rattle.gate_types.specs.declared.rows.ChangeRow.{ChangeRow};
 ghost use Rattle.gate_book_trait.specs.RowReads.{approval_in, change_in, needing_in};
-ghost use Rattle.gate_memory.specs.Changes.{number_of, IsWhatRowsTell};
+ghost use Rattle.gate_memory.specs.Changes.{IsWhatRowsTell};
 ghost use Rattle.gate_memory.specs.Queues as queue_table;
 ghost use Rattle.gate_memory.specs.TableReads.{IsWhatRowsTellOf};
 ghost use Rattle.gate_live.specs.HeldChanges.{AreRowsOf, AreKeptChanges, HasRoomFor, change_touched, changes_held};
@@ -153,7 +154,7 @@ impl HeldChanges {
     /// Holds a row from then on. Fails if memory is refused; then the held rows stay unchanged.
     pub(crate) fn hold(&mut self, row: ChangeRow) -> Result<(), NoMemory>
         requires { AreKeptChanges self.old }
-        ensures rows { OnOk result (changes_held self.new ≡ put_by number_of row (changes_held self.old)) }
+        ensures rows { OnOk result (changes_held self.new ≡ put_by number_of_change row (changes_held self.old)) }
         ensures same { OnErr result (changes_held self.new ≡ changes_held self.old) }
         ensures kept { AreKeptChanges self.new }
     {
@@ -166,7 +167,7 @@ impl HeldChanges {
     fn hold_copy(&mut self, change: &Change) -> Result<(), NoMemory>
         requires { AreKeptChanges self.old }
         ensures rows { OnOk result
-            (changes_held self.new ≡ put_by number_of (unready change.now) (changes_held self.old)) }
+            (changes_held self.new ≡ put_by number_of_change (unready change.now) (changes_held self.old)) }
         ensures same { OnErr result (changes_held self.new ≡ changes_held self.old) }
         ensures kept { AreKeptChanges self.new }
     {

@@ -3,9 +3,9 @@ ghost use Rattle.std.specs.Prelude.{◌≡◌, ◌==◌, ℕ, suc, List, [], if�
 ghost use Rattle.std.specs.Prelude.{OnOk};
 ghost use Rattle.std.specs.List.{AllByRecursion};
 ghost use Rattle.gate_types.specs.State.{put_by};
+ghost use Rattle.gate_types.specs.Keys.{serial_of_plan};
 ghost use Rattle.gate_book_trait.specs.RowReads.{plans_of_rows};
 ghost use Rattle.gate_memory.specs.Sorted.{without};
-ghost use Rattle.gate_memory.specs.Plans.{serial_of};
 ghost use Rattle.gate_live.specs.HeldPlans.{ArePlansKept, ArePlansOf, HavePlanRoom, plans_held};
 
 use gate_memory::{PlanTable, plans_of};
@@ -48,8 +48,8 @@ impl HeldPlans {
     pub(crate) fn put(&mut self, plan: Plan, is_item: bool)
         requires kept { ArePlansKept self.old }
         requires room { HavePlanRoom 1 self.old }
-        ensures rows { plans_held self.new ≡ (if is_item then put_by serial_of plan (plans_held self.old)
-            else without serial_of plan.serial (plans_held self.old)) }
+        ensures rows { plans_held self.new ≡ (if is_item then put_by serial_of_plan plan (plans_held self.old)
+            else without serial_of_plan plan.serial (plans_held self.old)) }
         ensures kept { ArePlansKept self.new }
         ensures room { (n : ℕ) → HavePlanRoom (suc n) self.old → HavePlanRoom n self.new }
     {
@@ -63,7 +63,7 @@ impl HeldPlans {
     /// Drops the plan with this serial, if it is held.
     pub(crate) fn forget(&mut self, serial: Serial)
         requires { ArePlansKept self.old }
-        ensures rows { plans_held self.new ≡ without serial_of serial (plans_held self.old) }
+        ensures rows { plans_held self.new ≡ without serial_of_plan serial (plans_held self.old) }
         ensures kept { ArePlansKept self.new }
         ensures room { (n : ℕ) → HavePlanRoom n self.old → HavePlanRoom n self.new }
     {

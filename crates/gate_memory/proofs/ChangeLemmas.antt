@@ -6,12 +6,13 @@ use Rattle.std.specs.Option.{option_map_or}
 use Rattle.std.proofs.lemmas.Option.{none-some}
 use Rattle.gate_types.specs.declared.rows.ChangeRow.{ChangeRow}
 use Rattle.gate_types.specs.State.{put_by}
+use Rattle.gate_types.specs.Keys.{number_of_change}
 use Rattle.gate_types.proofs.PlainLemmas.{below_or}
 use Rattle.gate_memory.specs.declared.pairs.Pair.{Pair}
 use Rattle.gate_book_trait.specs.Rising.{RisesFrom, In}
 use Rattle.gate_memory.specs.Sorted.{without}
 use Rattle.gate_memory.specs.Pairs.{pair_key, IsFit}
-use Rattle.gate_memory.specs.Changes.{TellsReady, number_of, in_order, entry_of}
+use Rattle.gate_memory.specs.Changes.{TellsReady, in_order, entry_of}
 use Rattle.gate_memory.proofs.SortedLemmas.{put_first, put_before, put_after, rises-put}
 use Rattle.gate_memory.proofs.PairLemmas.{same_pair}
 use Rattle.gate_book_trait.proofs.Finding.{all_in}
@@ -53,33 +54,33 @@ in_noted (Some a) n ready p small fit there =
 abbrev pub put_ready : Option ℕ → Option ℕ → ℕ → List Pair → List Pair
 put_ready old new n ready = noted new n (dropped old n ready)
 
-still_told : (old new : Option ℕ) (n : ℕ) (ready : List Pair) (r : ChangeRow) → n < 18446744073709551616 → AllByRecursion IsFit ready → number_of r ≢ n → ((a : ℕ) → r.approval ≡ Some a → In (entry_of (number_of r) a) ready) → (a : ℕ) → r.approval ≡ Some a → In (entry_of (number_of r) a) (put_ready old new n ready)
+still_told : (old new : Option ℕ) (n : ℕ) (ready : List Pair) (r : ChangeRow) → n < 18446744073709551616 → AllByRecursion IsFit ready → number_of_change r ≢ n → ((a : ℕ) → r.approval ≡ Some a → In (entry_of (number_of_change r) a) ready) → (a : ℕ) → r.approval ≡ Some a → In (entry_of (number_of_change r) a) (put_ready old new n ready)
 still_told old new n ready r small fit ne told a e =
-    in_noted new n (dropped old n ready) (entry_of (number_of r) a) small (fit_dropped old n ready fit) (in_dropped old n ready (entry_of (number_of r) a) small fit ne (told a e))
+    in_noted new n (dropped old n ready) (entry_of (number_of_change r) a) small (fit_dropped old n ready fit) (in_dropped old n ready (entry_of (number_of_change r) a) small fit ne (told a e))
 
-others_told : (old new : Option ℕ) (n m : ℕ) (ready : List Pair) (rows : List ChangeRow) → n < 18446744073709551616 → AllByRecursion IsFit ready → n < m → RisesFrom number_of m rows → TellsReady ready rows → TellsReady (put_ready old new n ready) rows
+others_told : (old new : Option ℕ) (n m : ℕ) (ready : List Pair) (rows : List ChangeRow) → n < 18446744073709551616 → AllByRecursion IsFit ready → n < m → RisesFrom number_of_change m rows → TellsReady ready rows → TellsReady (put_ready old new n ready) rows
 others_told old new n m ready [] small fit l rise told = tt
 others_told old new n m ready (r ∷ rs) small fit l rise told =
-    let low : m ≤ number_of r = rise.0 in
-    (still_told old new n ready r small fit (λ e. omega (arith, e)) told.0, others_told old new n (suc (number_of r)) ready rs small fit (omega arith) rise.1 told.1)
+    let low : m ≤ number_of_change r = rise.0 in
+    (still_told old new n ready r small fit (λ e. omega (arith, e)) told.0, others_told old new n (suc (number_of_change r)) ready rs small fit (omega arith) rise.1 told.1)
 
 itself_told : (new : Option ℕ) (n : ℕ) (ready : List Pair) (a : ℕ) → new ≡ Some a → In (entry_of n a) (noted new n ready)
 itself_told None n ready a e = absurd (none-some a e)
 itself_told (Some b) n ready a e = let same : b ≡ a = ap (λ o. unwrap_or o 0) e in subst (λ (x : ℕ). In (entry_of n x) (put_by pair_key (entry_of n b) ready)) same (in_put pair_key (entry_of n b) ready)
 
 -- the index tells of the ready changes after one is put
-pub tells_put : (old : Option ℕ) (row : ChangeRow) (m : ℕ) (ready : List Pair) (rows : List ChangeRow) → number_of row < 18446744073709551616 → AllByRecursion IsFit ready → RisesFrom number_of m rows → TellsReady ready rows → TellsReady (put_ready old row.approval (number_of row) ready) (put_by number_of row rows)
-tells_put old row m ready [] small fit rise told = (itself_told row.approval (number_of row) (dropped old (number_of row) ready), tt)
+pub tells_put : (old : Option ℕ) (row : ChangeRow) (m : ℕ) (ready : List Pair) (rows : List ChangeRow) → number_of_change row < 18446744073709551616 → AllByRecursion IsFit ready → RisesFrom number_of_change m rows → TellsReady ready rows → TellsReady (put_ready old row.approval (number_of_change row) ready) (put_by number_of_change row rows)
+tells_put old row m ready [] small fit rise told = (itself_told row.approval (number_of_change row) (dropped old (number_of_change row) ready), tt)
 tells_put old row m ready (r ∷ rs) small fit rise told = ⊎_elim
-    (λ l. let others : TellsReady (put_ready old row.approval (number_of row) ready) (r ∷ rs) = others_told old row.approval (number_of row) (number_of r) ready (r ∷ rs) small fit l (omega arith, rise.1) told in
-    rw (put_before number_of row r rs l) (itself_told row.approval (number_of row) (dropped old (number_of row) ready), others))
+    (λ l. let others : TellsReady (put_ready old row.approval (number_of_change row) ready) (r ∷ rs) = others_told old row.approval (number_of_change row) (number_of_change r) ready (r ∷ rs) small fit l (omega arith, rise.1) told in
+    rw (put_before number_of_change row r rs l) (itself_told row.approval (number_of_change row) (dropped old (number_of_change row) ready), others))
     (λ l. ⊎_elim
-    (λ u. let ne : number_of r ≢ number_of row = λ e. omega (arith, e) in
-    let first : (a : ℕ) → r.approval ≡ Some a → In (entry_of (number_of r) a) (put_ready old row.approval (number_of row) ready) = still_told old row.approval (number_of row) ready r small fit ne told.0 in
-    let rest : TellsReady (put_ready old row.approval (number_of row) ready) (put_by number_of row rs) = tells_put old row (suc (number_of r)) ready rs small fit rise.1 told.1 in
-    rw (put_after number_of row r rs u) (first, rest))
-    (λ u. let e : number_of row ≡ number_of r = omega arith in
-    let above : number_of row < suc (number_of r) = omega (arith, e) in
-    rw (put_first number_of row r rs e) (itself_told row.approval (number_of row) (dropped old (number_of row) ready), others_told old row.approval (number_of row) (suc (number_of r)) ready rs small fit above rise.1 told.1))
-    (below_or (number_of r) (number_of row)))
-    (below_or (number_of row) (number_of r))
+    (λ u. let ne : number_of_change r ≢ number_of_change row = λ e. omega (arith, e) in
+    let first : (a : ℕ) → r.approval ≡ Some a → In (entry_of (number_of_change r) a) (put_ready old row.approval (number_of_change row) ready) = still_told old row.approval (number_of_change row) ready r small fit ne told.0 in
+    let rest : TellsReady (put_ready old row.approval (number_of_change row) ready) (put_by number_of_change row rs) = tells_put old row (suc (number_of_change r)) ready rs small fit rise.1 told.1 in
+    rw (put_after number_of_change row r rs u) (first, rest))
+    (λ u. let e : number_of_change row ≡ number_of_change r = omega arith in
+    let above : number_of_change row < suc (number_of_change r) = omega (arith, e) in
+    rw (put_first number_of_change row r rs e) (itself_told row.approval (number_of_change row) (dropped old (number_of_change row) ready), others_told old row.approval (number_of_change row) (suc (number_of_change r)) ready rs small fit above rise.1 told.1))
+    (below_or (number_of_change r) (number_of_change row)))
+    (below_or (number_of_change row) (number_of_change r))

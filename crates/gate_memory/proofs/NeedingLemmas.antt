@@ -15,9 +15,9 @@ use Rattle.gate_types.specs.declared.records.Change.{Change}
 use Rattle.gate_types.specs.declared.records.Ready.{Ready}
 use Rattle.gate_types.specs.declared.rows.ChangeRow.{ChangeRow}
 use Rattle.gate_types.specs.Tables.{approval_of}
+use Rattle.gate_types.specs.Keys.{number_of_change}
 use Rattle.gate_memory.specs.declared.pairs.Pair.{Pair}
 use Rattle.gate_book_trait.specs.RowReads.{AreReady, row_of, needs_in, is_ready_needing, ready_needing_in}
-use Rattle.gate_memory.specs.Changes.{number_of}
 use Rattle.gate_memory.specs.Needs.{pair_of_need}
 use Rattle.gate_book_trait.specs.Rising.{RisesFrom, In}
 use Rattle.gate_memory.specs.TableReads.{if_needing, needing_by}
@@ -63,7 +63,7 @@ pair_is rows rs n p r ready told = by_row (row_of rows p.second) refl told
     by_row (Some k) e f = by_needs (list_any (λ m. m == n) k.change.needs) refl k.approval refl f
       where
         number : k.change.number ≡ p.second
-        number = found_has number_of p.second k rows (sym e)
+        number = found_has number_of_change p.second k rows (sym e)
 
         by_needs : (t : Bool) → list_any (λ m. m == n) k.change.needs ≡ t → (a : Option ℕ) → k.approval ≡ a → cond t (option_map (λ b. record { approval = b; change = k.change.number }) a) None ≡ Some r → In r (ready_needing_in rows n rs) × (r.change ≡ p.second)
         by_needs false h a g f = absurd (none-some r f)
@@ -101,7 +101,7 @@ pair_tells rows rs n r ready there = by_row (row_of rows r.change) refl (all_in 
     by_row : (o : Option ChangeRow) → row_of rows r.change ≡ o → IsSome o → needing_by rows n (pair_of_need n r.change) ≡ Some r
     by_row None e some = absurd (false≢true some)
     by_row (Some k) e some =
-        let number : k.change.number ≡ r.change = found_has number_of r.change k rows (sym e) in
+        let number : k.change.number ≡ r.change = found_has number_of_change r.change k rows (sym e) in
         let approval : k.approval ≡ Some r.approval = all_in (λ (j : ChangeRow). j.approval ≡ approval_of rs j.change.number) rows k ready.told (found_in (λ (j : ChangeRow). j.change.number == r.change) rows k e) ∙ ap (approval_of rs) number ∙ approval_known rs r ready.differ kept.0 in
         let needs : list_any (λ m. m == n) k.change.needs ≡ true = sym (ap (λ (o : Option ChangeRow). list_any (λ m. m == n) (option_map_or (λ (c : Change). c.needs) (option_map (λ (j : ChangeRow). j.change) o) [])) e) ∙ kept.1 in
         ap (option_and_then (if_needing n)) e

@@ -7,30 +7,31 @@ use Rattle.std.proofs.lemmas.Bool.{eq-eqb, false≢true}
 use Rattle.std.proofs.lemmas.Option.{none-some}
 use Rattle.gate_types.specs.declared.records.Item.{Item}
 use Rattle.gate_types.specs.State.{put_by}
+use Rattle.gate_types.specs.Keys.{serial_of_item}
 use Rattle.gate_memory.specs.declared.pairs.Pair.{Pair}
 use Rattle.gate_book_trait.specs.Rising.{In}
 use Rattle.gate_memory.specs.Sorted.{first_of, without}
 use Rattle.gate_memory.specs.Pairs.{pair_key, IsFit}
-use Rattle.gate_memory.specs.Queues.{TellsItems, serial_of, is_of_change, entry_of}
+use Rattle.gate_memory.specs.Queues.{TellsItems, is_of_change, entry_of}
 use Rattle.gate_memory.proofs.PairLemmas.{same_pair, seconds_of, second_in}
 use Rattle.gate_memory.proofs.CollectLemmas.{AreTold}
 use Rattle.gate_book_trait.proofs.Finding.{in_weaker, all_in}
 use Rattle.gate_memory.proofs.BuildLemmas.{all_put, in_put, still_in, in_without}
 
 -- an item put, and its entry
-pub tells_item_put : (entries : List Pair) (i : Item) (items : List Item) → AllByRecursion IsFit entries → IsFit (entry_of i) → TellsItems entries items → TellsItems (put_by pair_key (entry_of i) entries) (put_by serial_of i items)
+pub tells_item_put : (entries : List Pair) (i : Item) (items : List Item) → AllByRecursion IsFit entries → IsFit (entry_of i) → TellsItems entries items → TellsItems (put_by pair_key (entry_of i) entries) (put_by serial_of_item i items)
 tells_item_put entries i items fit small told =
-    all_put (λ x. In (entry_of x) (put_by pair_key (entry_of i) entries)) serial_of i items (in_put pair_key (entry_of i) entries)
+    all_put (λ x. In (entry_of x) (put_by pair_key (entry_of i) entries)) serial_of_item i items (in_put pair_key (entry_of i) entries)
     (in_weaker (λ x. In (entry_of x) entries) (λ x. In (entry_of x) (put_by pair_key (entry_of i) entries))
     (λ x h. still_in pair_key (entry_of i) (entry_of x) entries (λ e. same_pair (entry_of x) (entry_of i) (all_in IsFit entries (entry_of x) fit h) small e) h)
     items told)
 
 -- an item dropped, and its entry
-pub tells_item_dropped : (entries : List Pair) (p : Pair) (n : ℕ) (items : List Item) → AllByRecursion IsFit entries → IsFit p → p.second ≡ n → TellsItems entries items → TellsItems (without pair_key (pair_key p) entries) (without serial_of n items)
+pub tells_item_dropped : (entries : List Pair) (p : Pair) (n : ℕ) (items : List Item) → AllByRecursion IsFit entries → IsFit p → p.second ≡ n → TellsItems entries items → TellsItems (without pair_key (pair_key p) entries) (without serial_of_item n items)
 tells_item_dropped entries p n [] fit small second told = tt
 tells_item_dropped entries p n (i ∷ is) fit small second told = by_serial (i.serial == n) refl (tells_item_dropped entries p n is fit small second told.1)
   where
-    by_serial : (t : Bool) → i.serial == n ≡ t → TellsItems (without pair_key (pair_key p) entries) (without serial_of n is) → TellsItems (without pair_key (pair_key p) entries) (cond (not t) (i ∷ without serial_of n is) (without serial_of n is))
+    by_serial : (t : Bool) → i.serial == n ≡ t → TellsItems (without pair_key (pair_key p) entries) (without serial_of_item n is) → TellsItems (without pair_key (pair_key p) entries) (cond (not t) (i ∷ without serial_of_item n is) (without serial_of_item n is))
     by_serial true e rest = rest
     by_serial false e rest = (
       in_without pair_key (pair_key p) (entry_of i) entries
@@ -39,16 +40,16 @@ tells_item_dropped entries p n (i ∷ is) fit small second told = by_serial (i.s
     )
 
 -- nothing is dropped where nothing is found
-pub without_missing : (n : ℕ) (items : List Item) → find (λ i. i.serial == n) items ≡ None → items ≡ without serial_of n items
+pub without_missing : (n : ℕ) (items : List Item) → find (λ i. i.serial == n) items ≡ None → items ≡ without serial_of_item n items
 without_missing n [] e = refl
 without_missing n (i ∷ is) e = by_serial (i.serial == n) e (without_missing n is)
   where
-    by_serial : (t : Bool) → cond t (Some i) (find (λ j. j.serial == n) is) ≡ None → (find (λ j. j.serial == n) is ≡ None → is ≡ without serial_of n is) → i ∷ is ≡ cond (not t) (i ∷ without serial_of n is) (without serial_of n is)
+    by_serial : (t : Bool) → cond t (Some i) (find (λ j. j.serial == n) is) ≡ None → (find (λ j. j.serial == n) is ≡ None → is ≡ without serial_of_item n is) → i ∷ is ≡ cond (not t) (i ∷ without serial_of_item n is) (without serial_of_item n is)
     by_serial true e rest = absurd (none-some i (sym e))
     by_serial false e rest = ap (λ js. i ∷ js) (rest e)
 
 -- each item of a change has its serial in the index
-pub items_are_told : (n : ℕ) (entries : List Pair) (items : List Item) → TellsItems entries items → AreTold serial_of (is_of_change n) items (seconds_of n entries)
+pub items_are_told : (n : ℕ) (entries : List Pair) (items : List Item) → TellsItems entries items → AreTold serial_of_item (is_of_change n) items (seconds_of n entries)
 items_are_told n entries [] told = tt
 items_are_told n entries (i ∷ is) told = ((λ e. second_in n (entry_of i) entries (eqb-true i.change n e) told.0), items_are_told n entries is told.1)
 

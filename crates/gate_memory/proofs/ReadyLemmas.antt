@@ -8,12 +8,13 @@ use Rattle.std.proofs.lemmas.Bool.Decides.{eqb_tells}
 use Rattle.gate_types.specs.declared.records.Ready.{Ready}
 use Rattle.gate_types.specs.declared.rows.ChangeRow.{ChangeRow}
 use Rattle.gate_types.specs.Tables.{approval_of}
+use Rattle.gate_types.specs.Keys.{number_of_change}
 use Rattle.gate_memory.specs.declared.pairs.Pair.{Pair}
 use Rattle.gate_book_trait.specs.Rising.{RisesFrom, In}
 use Rattle.gate_memory.specs.Sorted.{kept_if, passing}
 use Rattle.gate_memory.specs.Pairs.{pair_key, IsFit}
 use Rattle.gate_book_trait.specs.RowReads.{AreReady, Differ}
-use Rattle.gate_memory.specs.Changes.{TellsReady, same_number, ready_by, entry_of, number_of}
+use Rattle.gate_memory.specs.Changes.{TellsReady, same_number, ready_by, entry_of}
 use Rattle.gate_memory.proofs.PairLemmas.{same_pair}
 use Rattle.gate_book_trait.proofs.Finding.{all_in, found_has, found_in}
 use Rattle.gate_memory.proofs.CollectLemmas.{collected}
@@ -110,7 +111,7 @@ row_tells a n k (Some r) e approval change = ap (λ p. cond (same_number p a) (S
 pair_tells : (rows : List ChangeRow) (rs : List Ready) (p : Pair) → AreReady rows rs → IsFit p → (o : Option ChangeRow) → find (λ (k : ChangeRow). k.change.number == p.second) rows ≡ o → option_and_then (told_by p.first) o ≡ option_and_then (if_approved p.first) (find (λ (r : Ready). r.change == p.second) rs)
 pair_tells rows rs p ready fit None e = sym (ap (option_and_then (if_approved p.first)) (no_row p.second rows rs ready.known e))
 pair_tells rows rs p ready fit (Some k) e =
-    let number : number_of k ≡ p.second = found_has number_of p.second k rows (sym e) in
+    let number : number_of_change k ≡ p.second = found_has number_of_change p.second k rows (sym e) in
     let approval : k.approval ≡ approval_of rs k.change.number = all_in (λ (j : ChangeRow). j.approval ≡ approval_of rs j.change.number) rows k ready.told (found_in (λ (j : ChangeRow). j.change.number == p.second) rows k e) in
     let change : (r : Ready) → find (λ (s : Ready). s.change == p.second) rs ≡ Some r → r.change ≡ p.second = λ (r : Ready) (f : find (λ (s : Ready). s.change == p.second) rs ≡ Some r). found_has (λ (s : Ready). s.change) p.second r rs (sym f) in
     row_tells p.first p.second k (find (λ (r : Ready). r.change == p.second) rs) number (approval ∙ ap (approval_of rs) number) change
@@ -134,7 +135,7 @@ keys_told rows rs ps ready told r there = by_row (find (λ (k : ChangeRow). k.ch
     by_row : (o : Option ChangeRow) → find (λ (k : ChangeRow). k.change.number == r.change) rows ≡ o → IsSome o → In (ready_key r) (map pair_key ps)
     by_row None e some = absurd (false≢true some)
     by_row (Some k) e some =
-        let number : number_of k ≡ r.change = found_has number_of r.change k rows (sym e) in
+        let number : number_of_change k ≡ r.change = found_has number_of_change r.change k rows (sym e) in
         let there' : In k rows = found_in (λ (j : ChangeRow). j.change.number == r.change) rows k e in
         let approval : k.approval ≡ Some r.approval = all_in (λ (j : ChangeRow). j.approval ≡ approval_of rs j.change.number) rows k ready.told there' ∙ ap (approval_of rs) number ∙ approval_known rs r ready.differ there in
         let entry : In (entry_of k.change.number r.approval) ps = all_in (λ (j : ChangeRow). (a : ℕ) → j.approval ≡ Some a → In (entry_of j.change.number a) ps) rows k told there' r.approval approval in

@@ -8,10 +8,11 @@ use Rattle.std.proofs.lemmas.Bool.{eqb-true}
 use Rattle.std.proofs.lemmas.Bool.Decides.{eqb_tells}
 use Rattle.std.proofs.lemmas.Option.{none-some}
 use Rattle.gate_types.specs.State.{put_by}
+use Rattle.gate_types.specs.Keys.{number_of_change}
 use Rattle.gate_types.specs.declared.rows.ChangeRow.{ChangeRow}
 use Rattle.gate_types.proofs.PlainLemmas.{below_or}
 use Rattle.gate_types.proofs.PutLemmas.{put_over, put_swap}
-use Rattle.gate_memory.specs.Changes.{Numbers, FindsNumbers, number_of, in_order, place_at}
+use Rattle.gate_memory.specs.Changes.{Numbers, FindsNumbers, in_order, place_at}
 use Rattle.gate_memory.proofs.SortedLemmas.{put_first, put_before, put_after}
 
 pub some_at : (o : Option ℕ) (i : ℕ) → option_map (λ j. suc j) o ≡ Some i → (j : ℕ) × (o ≡ Some j) × (i ≡ suc j)
@@ -126,7 +127,7 @@ noted f id q n none = ⊎_elim
 
 pub numbers_push : (m n : Numbers) (rows : List ChangeRow) (x : ChangeRow) (place : ℕ) → place ≡ length rows → get nat_eq m x.change.number ≡ None → ((q : ℕ) → get nat_eq n q ≡ cond (x.change.number == q) (Some place) (get nat_eq m q)) → FindsNumbers m rows → FindsNumbers n (rows ++ x ∷ [])
 numbers_push m n rows x place here none e f q =
-    e q ∙ noted (get nat_eq m) x.change.number q place none ∙ (λ j. option_or (f q j) (cond (x.change.number == q) (Some (here j)) None)) ∙ sym (place_push number_of q rows x)
+    e q ∙ noted (get nat_eq m) x.change.number q place none ∙ (λ j. option_or (f q j) (cond (x.change.number == q) (Some (here j)) None)) ∙ sym (place_push number_of_change q rows x)
 
 pub numbers_set : (m : Numbers) (rows : List ChangeRow) (x : ChangeRow) (i : ℕ) → get nat_eq m x.change.number ≡ Some i → FindsNumbers m rows → FindsNumbers m (set rows i x)
-numbers_set m rows x i e f q = f q ∙ sym (place_set number_of x q rows i (sym (f x.change.number) ∙ e))
+numbers_set m rows x i e f q = f q ∙ sym (place_set number_of_change x q rows i (sym (f x.change.number) ∙ e))

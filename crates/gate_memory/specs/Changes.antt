@@ -9,6 +9,7 @@ use Rattle.std.specs.declared.hash.BuildHasherDefault.{BuildHasherDefault}
 use Rattle.gate_types.specs.declared.rows.ChangeRow.{ChangeRow}
 use Rattle.gate_types.specs.declared.records.Ready.{Ready}
 use Rattle.gate_types.specs.State.{put_by}
+use Rattle.gate_types.specs.Keys.{number_of_change}
 use Rattle.gate_book_trait.specs.Rising.{RisesFrom, In}
 use Rattle.gate_memory.specs.Pairs.{pair_key, IsFit}
 use Rattle.gate_memory.specs.Needs.{AreInOrder, AreNeeds, TellsNeeds}
@@ -19,10 +20,6 @@ use Rattle.gate_book_trait.specs.RowReads.{AreReady}
 -- the places of numbers
 abbrev pub Numbers : Type 0
 Numbers = HashMap ℕ ℕ (BuildHasherDefault FoldHasher)
-
--- the number of a change
-abbrev pub number_of : ChangeRow → ℕ
-number_of r = r.change.number
 
 -- the rows by number
 abbrev pub in_order : {X : Type 0} → (X → ℕ) → List X → List X
@@ -41,7 +38,7 @@ AreApart key (x ∷ xs) = (place_at key (key x) xs ≡ None) × AreApart key xs
 
 -- each number has the place of its row
 abbrev pub FindsNumbers : Numbers → List ChangeRow → Type 0
-FindsNumbers places rows = (n : ℕ) → get nat_eq places n ≡ place_at number_of n rows
+FindsNumbers places rows = (n : ℕ) → get nat_eq places n ≡ place_at number_of_change n rows
 
 -- what the index keeps of a ready change: the number of its approval, and its own
 abbrev pub entry_of : ℕ → ℕ → Pair
@@ -58,14 +55,14 @@ same_number (Some m) n = m == n
 
 -- numbers differ and find their rows, and the indexes, which rise, tell of each ready change and of exactly the needs
 pub record IsKept (t : ChangeTable) : Type 0 where
-  pub apart : AreApart number_of t.rows.items
+  pub apart : AreApart number_of_change t.rows.items
   pub finds : FindsNumbers t.places t.rows.items
   pub ready_rise : RisesFrom pair_key 0 t.ready.items
   pub ready_fit : AllByRecursion IsFit t.ready.items
-  pub ready_told : TellsReady t.ready.items (in_order number_of t.rows.items)
+  pub ready_told : TellsReady t.ready.items (in_order number_of_change t.rows.items)
   pub needs_order : AreInOrder t.needs.items
-  pub needs_told : TellsNeeds t.needs.items (in_order number_of t.rows.items)
-  pub needs_stand : AreNeeds t.needs.items (in_order number_of t.rows.items)
+  pub needs_told : TellsNeeds t.needs.items (in_order number_of_change t.rows.items)
+  pub needs_stand : AreNeeds t.needs.items (in_order number_of_change t.rows.items)
 
 -- room for n more, which have m needs
 pub record HasRoom (n m : ℕ) (t : ChangeTable) : Type 0 where
@@ -76,7 +73,7 @@ pub record HasRoom (n m : ℕ) (t : ChangeTable) : Type 0 where
 
 -- the rows of the changes, by number
 abbrev pub changes_of : ChangeTable → List ChangeRow
-changes_of t = in_order number_of t.rows.items
+changes_of t = in_order number_of_change t.rows.items
 
 -- a change as a ready one, if it has this approval
 abbrev pub if_ready : ℕ → ChangeRow → Option Ready

@@ -1,16 +1,12 @@
 -- How a book in memory keeps plans: by serial.
 use Rattle.std.specs.Prelude.{ℕ, ◌≤◌, ◌+◌, vec_len, vec_capacity}
-use Rattle.gate_types.specs.declared.records.Plan.{Plan}
+use Rattle.gate_types.specs.Keys.{serial_of_plan}
 use Rattle.gate_book_trait.specs.Rising.{RisesFrom}
 use Rattle.gate_memory.specs.declared.plans.PlanTable.{PlanTable}
 
--- the serial of a plan
-abbrev pub serial_of : Plan → ℕ
-serial_of p = p.serial
-
 -- the plans rise by serial
 abbrev pub IsKept : PlanTable → Type 0
-IsKept t = RisesFrom serial_of 0 t.rows.items
+IsKept t = RisesFrom serial_of_plan 0 t.rows.items
 
 -- room for n more
 abbrev pub HasRoom : ℕ → PlanTable → Type 0

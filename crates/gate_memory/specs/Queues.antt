@@ -2,21 +2,13 @@
 use Rattle.std.specs.Prelude.{ℕ, Bool, ◌==◌, ◌≤◌, ◌+◌, List, vec_len, vec_capacity}
 use Rattle.std.specs.List.{AllByRecursion}
 use Rattle.gate_types.specs.declared.records.Item.{Item}
-use Rattle.gate_types.specs.declared.rows.LandingRow.{LandingRow}
 use Rattle.gate_types.specs.Tables.{QueueRows}
+use Rattle.gate_types.specs.Keys.{serial_of_item, place_of_landing}
 use Rattle.gate_book_trait.specs.Rising.{RisesFrom, In}
 use Rattle.gate_memory.specs.Pairs.{pair_key, IsFit}
 use Rattle.gate_memory.specs.declared.pairs.Pair.{Pair}
 use Rattle.gate_memory.specs.Reports as report
 use Rattle.gate_memory.specs.declared.queues.QueueTable.{QueueTable}
-
--- the serial of an item
-abbrev pub serial_of : Item → ℕ
-serial_of i = i.serial
-
--- the place of a landing
-abbrev pub place_of_landing : LandingRow → ℕ
-place_of_landing r = r.place
 
 -- an item of a change
 abbrev pub is_of_change : ℕ → Item → Bool
@@ -32,7 +24,7 @@ TellsItems entries items = AllByRecursion (λ i. In (entry_of i) entries) items
 
 -- all lists rise, and the index tells of each item
 pub record IsKept (t : QueueTable) : Type 0 where
-  pub items_rise : RisesFrom serial_of 0 t.items.items
+  pub items_rise : RisesFrom serial_of_item 0 t.items.items
   pub entries_rise : RisesFrom pair_key 0 t.entries.items
   pub entries_fit : AllByRecursion IsFit t.entries.items
   pub items_told : TellsItems t.entries.items t.items.items

@@ -2,14 +2,11 @@
 use Rattle.std.specs.Prelude.{ℕ, Bool, ◌==◌, ◌≤◌, ◌+◌, List, vec_len, vec_capacity}
 use Rattle.std.specs.List.{AllByRecursion}
 use Rattle.gate_types.specs.declared.rows.ReportRow.{ReportRow}
+use Rattle.gate_types.specs.Keys.{place_of_report}
 use Rattle.gate_book_trait.specs.Rising.{RisesFrom, In}
 use Rattle.gate_memory.specs.Pairs.{pair_key, IsFit}
 use Rattle.gate_memory.specs.declared.pairs.Pair.{Pair}
 use Rattle.gate_memory.specs.declared.reports.ReportTable.{ReportTable}
-
--- the place of a report
-abbrev pub report_place : ReportRow → ℕ
-report_place r = r.place
 
 -- a report of a serial
 abbrev pub is_of_serial : ℕ → ReportRow → Bool
@@ -25,7 +22,7 @@ TellsReports entries rows = AllByRecursion (λ r. In (entry_of r) entries) rows
 
 -- both lists rise, and the index tells of each report
 pub record IsKept (t : ReportTable) : Type 0 where
-  pub rows_rise : RisesFrom report_place 0 t.rows.items
+  pub rows_rise : RisesFrom place_of_report 0 t.rows.items
   pub entries_rise : RisesFrom pair_key 0 t.entries.items
   pub entries_fit : AllByRecursion IsFit t.entries.items
   pub reports_told : TellsReports t.entries.items t.rows.items

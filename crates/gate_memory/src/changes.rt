@@ -7,6 +7,7 @@ ghost use Rattle.std.specs.List.Sorted.{IsNonDecreasingBy, IsPermutation};
 ghost use Rattle.std.specs.Option.{option_copied, option_map_or};
 ghost use Rattle.std.specs.HashMap.{get, spare};
 ghost use Rattle.gate_types.specs.State.{put_by};
+ghost use Rattle.gate_types.specs.Keys.{number_of_change};
 ghost use Rattle.gate_book_trait.specs.Rising.{RisesFrom, In};
 ghost use Rattle.gate_memory.specs.Sorted.{without};
 ghost use Rattle.gate_book_trait.specs.RowReads.{change_in, needs_in, approval_in};
@@ -15,7 +16,7 @@ ghost use Rattle.gate_memory.specs.Pairs.{pair_key};
 ghost use Rattle.gate_memory.specs.declared.pairs.Pair.{Pair};
 ghost use Rattle.gate_memory.specs.Needs.{AreInOrder, IsRising, IsSmall, TellsNeedsOf, TellsNoneOf, pair_of_need};
 ghost use Rattle.gate_memory.specs.Changes.{AreApart, FindsNumbers, IsKept, HasRoom, IsWhatRowsTell, ready_by};
-ghost use Rattle.gate_memory.specs.Changes.{number_of, in_order, changes_of, entry_of};
+ghost use Rattle.gate_memory.specs.Changes.{in_order, changes_of, entry_of};
 
 use crate::needs::{forget_needs, note_needs};
 use crate::pairs::{Pair, of_first};
@@ -77,10 +78,11 @@ fn put_row(rows: &mut Vec<ChangeRow>, places: &mut HashMap<u64, usize>, row: Cha
     requires room { vec_len rows.old < vec_capacity rows.old }
     requires spare { 0 < spare places.old }
     requires finds { FindsNumbers places.old rows.old.items }
-    requires apart { AreApart number_of rows.old.items }
-    ensures rows { in_order number_of rows.new.items ≡ put_by number_of row (in_order number_of rows.old.items) }
+    requires apart { AreApart number_of_change rows.old.items }
+    ensures rows { in_order number_of_change rows.new.items
+        ≡ put_by number_of_change row (in_order number_of_change rows.old.items) }
     ensures finds { FindsNumbers places.new rows.new.items }
-    ensures apart { AreApart number_of rows.new.items }
+    ensures apart { AreApart number_of_change rows.new.items }
     ensures len { vec_len rows.new ≤ vec_len rows.old + 1 }
     ensures capacity { vec_capacity rows.new ≡ vec_capacity rows.old }
     ensures room { spare places.old ≤ spare places.new + 1 }
@@ -99,10 +101,11 @@ fn put_row(rows: &mut Vec<ChangeRow>, places: &mut HashMap<u64, usize>, row: Cha
 /// Drops the row of a number, if there is one. The last row takes its place.
 fn remove_row(rows: &mut Vec<ChangeRow>, places: &mut HashMap<u64, usize>, number: u64)
     requires finds { FindsNumbers places.old rows.old.items }
-    requires apart { AreApart number_of rows.old.items }
-    ensures rows { in_order number_of rows.new.items ≡ without number_of number (in_order number_of rows.old.items) }
+    requires apart { AreApart number_of_change rows.old.items }
+    ensures rows { in_order number_of_change rows.new.items
+        ≡ without number_of_change number (in_order number_of_change rows.old.items) }
     ensures finds { FindsNumbers places.new rows.new.items }
-    ensures apart { AreApart number_of rows.new.items }
+    ensures apart { AreApart number_of_change rows.new.items }
     ensures len { vec_len rows.new ≤ vec_len rows.old }
     ensures capacity { vec_capacity rows.new ≡ vec_capacity rows.old }
     ensures room { spare places.old ≤ spare places.new }
@@ -118,7 +121,7 @@ fn remove_row(rows: &mut Vec<ChangeRow>, places: &mut HashMap<u64, usize>, numbe
 }
 
 fn number_of_row(row: &ChangeRow) -> u64
-    ensures { result ≡ number_of row.now }
+    ensures { result ≡ number_of_change row.now }
 {
     row.change.number.get()
 }
@@ -136,7 +139,7 @@ fn row_of<'a>(
     number: u64,
 ) -> Option<&'a ChangeRow>
     requires { FindsNumbers places.now rows.now }
-    ensures { option_copied result ≡ find (λ r. r.change.number == number) (in_order number_of rows.now) }
+    ensures { option_copied result ≡ find (λ r. r.change.number == number) (in_order number_of_change rows.now) }
 {
     match place_of(places, number) {
         Some(place) => row_in(rows, place),
@@ -147,7 +150,7 @@ fn row_of<'a>(
 /// The approval number of a change, while it is ready.
 fn approval_of(rows: &[ChangeRow], places: &HashMap<u64, usize>, number: u64) -> Option<u64>
     requires { FindsNumbers places.now rows.now }
-    ensures { result ≡ approval_in (in_order number_of rows.now) number }
+    ensures { result ≡ approval_in (in_order number_of_change rows.now) number }
 {
     match row_of(rows, places, number) {
         Some(row) => row.approval,
@@ -211,7 +214,7 @@ fn forget_row(index: &mut Vec<Pair>, rows: &[ChangeRow], places: &HashMap<u64, u
     requires finds { FindsNumbers places.now rows.now }
     requires order { AreInOrder index.old.items }
     ensures order { AreInOrder index.new.items }
-    ensures gone { TellsNoneOf index.new.items number (needs_in (in_order number_of rows.now) number) }
+    ensures gone { TellsNoneOf index.new.items number (needs_in (in_order number_of_change rows.now) number) }
     ensures others { (p : Pair) → p.second ≢ number → In p index.old.items → In p index.new.items }
     ensures back { (p : Pair) → In p index.new.items → In p index.old.items }
     ensures len { vec_len index.new ≤ vec_len index.old }
@@ -225,7 +228,7 @@ fn forget_row(index: &mut Vec<Pair>, rows: &[ChangeRow], places: &HashMap<u64, u
 /// What a pair of the index tells, if it is still so.
 fn ready_at(rows: &[ChangeRow], places: &HashMap<u64, usize>, pair: Pair) -> Option<Ready>
     requires { FindsNumbers places.now rows.now }
-    ensures { result ≡ ready_by (in_order number_of rows.now) pair }
+    ensures { result ≡ ready_by (in_order number_of_change rows.now) pair }
 {
     let row = row_of(rows, places, pair.second)?;
     if row.approval == Some(pair.first) {
@@ -255,7 +258,7 @@ fn collect_ready(
     pairs: &[Pair],
 ) -> Result<Sequence<Ready>, NoMemory>
     requires { FindsNumbers places.now rows.now }
-    ensures { IfOk result (λ found. found ≡ filter_map (ready_by (in_order number_of rows.now)) pairs.now) }
+    ensures { IfOk result (λ found. found ≡ filter_map (ready_by (in_order number_of_change rows.now)) pairs.now) }
 {
     let mut found = Sequence::new(alloc);
     for pair in pairs {
@@ -283,7 +286,7 @@ fn ready_if_needing(
     change: ChangeNo,
 ) -> Option<Ready>
     requires { FindsNumbers places.now rows.now }
-    ensures { result ≡ needing_by (in_order number_of rows.now) change pair }
+    ensures { result ≡ needing_by (in_order number_of_change rows.now) change pair }
 {
     let row = row_of(rows, places, pair.second)?;
     let approval = row.approval?;
@@ -307,7 +310,7 @@ fn collect_needing(
 ) -> Result<Sequence<Ready>, NoMemory>
     requires { FindsNumbers places.now rows.now }
     ensures { IfOk result (λ found. found
-        ≡ filter_map (needing_by (in_order number_of rows.now) change) pairs.now) }
+        ≡ filter_map (needing_by (in_order number_of_change rows.now) change) pairs.now) }
 {
     let mut found = Sequence::new(alloc);
     for pair in pairs {
@@ -357,7 +360,7 @@ impl ChangeTable {
     pub fn put(&mut self, row: ChangeRow)
         requires kept { IsKept self.old }
         requires room { HasRoom 1 (length row.change.needs) self.old }
-        ensures rows { changes_of self.new ≡ put_by number_of row (changes_of self.old) }
+        ensures rows { changes_of self.new ≡ put_by number_of_change row (changes_of self.old) }
         ensures kept { IsKept self.new }
         ensures room { (n m : ℕ) → HasRoom (suc n) (length row.change.needs + m) self.old → HasRoom n m self.new }
     {
@@ -377,7 +380,7 @@ impl ChangeTable {
     /// The change is no longer there, if it was.
     pub fn remove(&mut self, number: ChangeNo)
         requires kept { IsKept self.old }
-        ensures rows { changes_of self.new ≡ without number_of number (changes_of self.old) }
+        ensures rows { changes_of self.new ≡ without number_of_change number (changes_of self.old) }
         ensures kept { IsKept self.new }
         ensures room { (n m : ℕ) → HasRoom n m self.old → HasRoom n m self.new }
     {

@@ -2,12 +2,12 @@
 ghost use Rattle.std.specs.Prelude.{◌≡◌, ◌++◌, [], option_to_list, IfOk, OnOk};
 ghost use Rattle.std.specs.List.{AllByRecursion, cons_option, filter_map};
 ghost use Rattle.std.specs.Option.{option_copied};
+ghost use Rattle.gate_types.specs.Keys.{serial_of_item};
 ghost use Rattle.gate_memory.specs.Builds.{AreKept};
 ghost use Rattle.gate_memory.specs.Changes as change_table;
 ghost use Rattle.gate_memory.specs.Plans as plan_table;
 ghost use Rattle.gate_memory.specs.Needs.{IsRising, IsSmall, TellsSerials};
 ghost use Rattle.gate_memory.specs.Queues as queue_table;
-ghost use Rattle.gate_memory.specs.Queues.{serial_of};
 ghost use Rattle.gate_book_trait.specs.Rising.{RisesFrom};
 ghost use Rattle.gate_memory.specs.Sorted.{passing};
 ghost use Rattle.gate_book_trait.specs.RowReads.{is_needing_in, needing_in, plans_of_rows};
@@ -84,9 +84,9 @@ fn if_needing<'a>(
     above: u64,
 ) -> Option<&'a Item>
     requires kept { change_table.IsKept changes.now }
-    requires rising { RisesFrom serial_of 0 items.now }
+    requires rising { RisesFrom serial_of_item 0 items.now }
     ensures { option_copied result
-        ≡ passing serial_of (is_needing_in (change_table.changes_of changes.now) change above) items.now serial }
+        ≡ passing serial_of_item (is_needing_in (change_table.changes_of changes.now) change above) items.now serial }
 {
     let item = sorted::at(items, serial as u128)?;
     if item.serial.get() > above && changes.needs(item.change, change) {
@@ -106,9 +106,10 @@ fn needing_at(
     above: u64,
 ) -> Result<Sequence<Item>, NoMemory>
     requires kept { change_table.IsKept changes.now }
-    requires rising { RisesFrom serial_of 0 items.now }
+    requires rising { RisesFrom serial_of_item 0 items.now }
     ensures { IfOk result (λ found. found ≡ filter_map
-        (passing serial_of (is_needing_in (change_table.changes_of changes.now) change above) items.now) serials.now) }
+        (passing serial_of_item (is_needing_in (change_table.changes_of changes.now) change above) items.now)
+        serials.now) }
 {
     let mut found = Sequence::new(alloc);
     for serial in serials {

@@ -1,8 +1,9 @@
 //! The plans of a book in memory.
 ghost use Rattle.std.specs.Prelude.{◌≡◌, ◌==◌, ℕ, suc, [], find, is_some, IfOk, OnOk};
 ghost use Rattle.gate_types.specs.State.{put_by};
+ghost use Rattle.gate_types.specs.Keys.{serial_of_plan};
 ghost use Rattle.gate_memory.specs.Sorted.{without};
-ghost use Rattle.gate_memory.specs.Plans.{IsKept, HasRoom, serial_of};
+ghost use Rattle.gate_memory.specs.Plans.{IsKept, HasRoom};
 
 use crate::sorted;
 use crate::sorted::Keyed;
@@ -18,9 +19,9 @@ pub struct PlanTable {
 }
 
 impl Keyed for Plan {
-    ghost use Rattle.gate_memory.specs.Plans.{serial_of};
+    ghost use Rattle.gate_types.specs.Keys.{serial_of_plan};
 
-    ghost key = { serial_of };
+    ghost key = { serial_of_plan };
 
     fn key(&self) -> u128 {
         self.serial.get() as u128
@@ -52,7 +53,7 @@ impl PlanTable {
     pub fn put(&mut self, plan: Plan)
         requires kept { IsKept self.old }
         requires room { HasRoom 1 self.old }
-        ensures rows { self.new.rows.items ≡ put_by serial_of plan self.old.rows.items }
+        ensures rows { self.new.rows.items ≡ put_by serial_of_plan plan self.old.rows.items }
         ensures kept { IsKept self.new }
         ensures room { (n : ℕ) → HasRoom (suc n) self.old → HasRoom n self.new }
     {
@@ -62,7 +63,7 @@ impl PlanTable {
     /// Drops the plan under a serial, if there is one.
     pub fn remove(&mut self, serial: Serial)
         requires { IsKept self.old }
-        ensures rows { self.new.rows.items ≡ without serial_of serial self.old.rows.items }
+        ensures rows { self.new.rows.items ≡ without serial_of_plan serial self.old.rows.items }
         ensures kept { IsKept self.new }
         ensures room { (n : ℕ) → HasRoom n self.old → HasRoom n self.new }
     {

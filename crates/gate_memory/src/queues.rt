@@ -11,10 +11,11 @@ ghost use Rattle.gate_memory.specs.Sorted.{passing, first_of, without};
 ghost use Rattle.gate_memory.specs.Pairs.{IsFit};
 ghost use Rattle.gate_memory.specs.Needs.{IsRising, TellsSerials};
 ghost use Rattle.gate_memory.specs.Queues as entries;
-ghost use Rattle.gate_memory.specs.Queues.{IsKept, HasRoom, rows_of, serial_of, is_of_change};
+ghost use Rattle.gate_memory.specs.Queues.{IsKept, HasRoom, rows_of, is_of_change};
 ghost use Rattle.gate_book_trait.specs.RowReads.{landing_serial};
 ghost use Rattle.gate_book_trait.specs.Reads as read;
 ghost use Rattle.gate_types.specs.Limits.{most_listed};
+ghost use Rattle.gate_types.specs.Keys.{serial_of_item};
 
 use crate::needs::add_seconds;
 use crate::pairs::{Pair, of_first};
@@ -44,9 +45,9 @@ pub struct QueueTable {
 }
 
 impl Keyed for Item {
-    ghost use Rattle.gate_memory.specs.Queues.{serial_of};
+    ghost use Rattle.gate_types.specs.Keys.{serial_of_item};
 
-    ghost key = { serial_of };
+    ghost key = { serial_of_item };
 
     fn key(&self) -> u128 {
         self.serial.get() as u128
@@ -54,7 +55,7 @@ impl Keyed for Item {
 }
 
 impl Keyed for LandingRow {
-    ghost use Rattle.gate_memory.specs.Queues.{place_of_landing};
+    ghost use Rattle.gate_types.specs.Keys.{place_of_landing};
 
     ghost key = { place_of_landing };
 
@@ -75,9 +76,9 @@ fn entry_of(item: &Item) -> Pair
 
 fn put_row(items: &mut Vec<Item>, item: &Item)
     requires room { vec_len items.old < vec_capacity items.old }
-    requires rising { RisesFrom serial_of 0 items.old.items }
-    ensures rows { items.new.items ≡ put_by serial_of item.now items.old.items }
-    ensures rising { RisesFrom serial_of 0 items.new.items }
+    requires rising { RisesFrom serial_of_item 0 items.old.items }
+    ensures rows { items.new.items ≡ put_by serial_of_item item.now items.old.items }
+    ensures rising { RisesFrom serial_of_item 0 items.new.items }
     ensures len { vec_len items.new ≤ vec_len items.old + 1 }
     ensures capacity { vec_capacity items.new ≡ vec_capacity items.old }
 {
@@ -135,7 +136,7 @@ impl QueueTable {
         requires kept { IsKept self.old }
         requires room { HasRoom 1 self.old }
         ensures rows { rows_of self.new
-            ≡ record (rows_of self.old) { items = put_by serial_of item.now self.old.items.items } }
+            ≡ record (rows_of self.old) { items = put_by serial_of_item item.now self.old.items.items } }
         ensures kept { IsKept self.new }
         ensures room { (n : ℕ) → HasRoom (suc n) self.old → HasRoom n self.new }
     {
@@ -146,7 +147,7 @@ impl QueueTable {
     fn drop_item(&mut self, serial: Serial)
         requires kept { IsKept self.old }
         ensures rows { rows_of self.new
-            ≡ record (rows_of self.old) { items = without serial_of serial self.old.items.items } }
+            ≡ record (rows_of self.old) { items = without serial_of_item serial self.old.items.items } }
         ensures kept { IsKept self.new }
         ensures room { (n : ℕ) → HasRoom (suc n) self.old → HasRoom n self.new }
     {
@@ -296,7 +297,7 @@ impl QueueTable {
     pub fn item_rows(&self) -> &[Item]
         requires { IsKept self.now }
         ensures rows { result.now ≡ (rows_of self.now).items }
-        ensures rising { RisesFrom serial_of 0 result.now }
+        ensures rising { RisesFrom serial_of_item 0 result.now }
     {
         &self.items
     }
@@ -350,7 +351,7 @@ impl QueueTable {
     pub fn items_behind(&self, above: u64) -> &[Item]
         requires { IsKept self.now }
         ensures rows { result.now ≡ filter (λ i. nat_lt above i.serial) (rows_of self.now).items }
-        ensures rising { RisesFrom serial_of 0 result.now }
+        ensures rising { RisesFrom serial_of_item 0 result.now }
     {
         sorted::behind(&self.items, above)
     }
@@ -395,8 +396,8 @@ fn count_below(landings: &[LandingRow], serial: Serial) -> usize
 
 /// The item of a serial, if it is of this change.
 fn item_if(items: &[Item], serial: u64, change: ChangeNo) -> Option<&Item>
-    requires { RisesFrom serial_of 0 items.now }
-    ensures { option_copied result ≡ passing serial_of (is_of_change change) items.now serial }
+    requires { RisesFrom serial_of_item 0 items.now }
+    ensures { option_copied result ≡ passing serial_of_item (is_of_change change) items.now serial }
 {
     let item = sorted::at(items, serial as u128)?;
     if item.change == change {
@@ -408,9 +409,9 @@ fn item_if(items: &[Item], serial: u64, change: ChangeNo) -> Option<&Item>
 
 /// The first item of a change, of the serials that the entries tell.
 fn first_item<'a>(items: &'a [Item], entries: &[Pair], change: ChangeNo) -> Option<&'a Item>
-    requires { RisesFrom serial_of 0 items.now }
+    requires { RisesFrom serial_of_item 0 items.now }
     ensures { option_copied result
-        ≡ first_of (filter_map (λ p. passing serial_of (is_of_change change) items.now p.second) entries.now) }
+        ≡ first_of (filter_map (λ p. passing serial_of_item (is_of_change change) items.now p.second) entries.now) }
 {
     for entry in entries {
         if let Some(item) = item_if(items, entry.second, change) {

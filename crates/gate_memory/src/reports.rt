@@ -7,8 +7,9 @@ ghost use Rattle.gate_book_trait.specs.Rising.{RisesFrom};
 ghost use Rattle.gate_memory.specs.Sorted.{passing, first_of};
 ghost use Rattle.gate_memory.specs.Pairs.{IsFit};
 ghost use Rattle.gate_memory.specs.Reports as entries;
-ghost use Rattle.gate_memory.specs.Reports.{IsKept, HasRoom, report_place, is_of_serial};
+ghost use Rattle.gate_memory.specs.Reports.{IsKept, HasRoom, is_of_serial};
 ghost use Rattle.gate_types.specs.Limits.{most_listed};
+ghost use Rattle.gate_types.specs.Keys.{place_of_report};
 
 use crate::pairs::{Pair, of_first, paired};
 use crate::sorted;
@@ -26,9 +27,9 @@ pub struct ReportTable {
 }
 
 impl Keyed for ReportRow {
-    ghost use Rattle.gate_memory.specs.Reports.{report_place};
+    ghost use Rattle.gate_types.specs.Keys.{place_of_report};
 
-    ghost key = { report_place };
+    ghost key = { place_of_report };
 
     fn key(&self) -> u128 {
         self.place as u128
@@ -45,8 +46,8 @@ fn entry_of(row: &ReportRow) -> Pair
 
 /// The report at a place, if it is of this serial.
 fn report_if(rows: &[ReportRow], place: u64, serial: Serial) -> Option<&ReportRow>
-    requires { RisesFrom report_place 0 rows.now }
-    ensures { option_copied result ≡ passing report_place (is_of_serial serial) rows.now place }
+    requires { RisesFrom place_of_report 0 rows.now }
+    ensures { option_copied result ≡ passing place_of_report (is_of_serial serial) rows.now place }
 {
     let row = sorted::at(rows, place as u128)?;
     if row.report.serial == serial {
@@ -62,9 +63,9 @@ fn first_report<'a>(
     entries: &[Pair],
     serial: Serial,
 ) -> Option<&'a ReportRow>
-    requires { RisesFrom report_place 0 rows.now }
+    requires { RisesFrom place_of_report 0 rows.now }
     ensures { option_copied result
-        ≡ first_of (filter_map (λ p. passing report_place (is_of_serial serial) rows.now p.second) entries.now) }
+        ≡ first_of (filter_map (λ p. passing place_of_report (is_of_serial serial) rows.now p.second) entries.now) }
 {
     for entry in entries {
         if let Some(row) = report_if(rows, entry.second, serial) {
@@ -101,7 +102,7 @@ impl ReportTable {
     pub fn put(&mut self, row: ReportRow)
         requires kept { IsKept self.old }
         requires room { HasRoom 1 self.old }
-        ensures rows { self.new.rows.items ≡ put_by report_place row self.old.rows.items }
+        ensures rows { self.new.rows.items ≡ put_by place_of_report row self.old.rows.items }
         ensures kept { IsKept self.new }
         ensures room { (n : ℕ) → HasRoom (suc n) self.old → HasRoom n self.new }
     {

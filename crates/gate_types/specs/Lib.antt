@@ -32,6 +32,7 @@ pub mod Lawful
 pub mod Forms
 pub mod SettingsText
 pub mod Columns
+pub mod Keys
 pub mod Rows
 pub mod Tables
 pub mod AdoptedTables

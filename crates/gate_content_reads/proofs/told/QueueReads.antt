@@ -8,7 +8,6 @@ use Rattle.std.proofs.lemmas.Bool.{lt-ltb, ltb-true, ltb-false}
 use Rattle.gate_types.specs.declared.records.Landing.{Landing}
 use Rattle.gate_types.specs.declared.records.Report.{Report}
 use Rattle.gate_types.specs.declared.rows.LandingRow.{LandingRow}
-use Rattle.gate_types.specs.declared.rows.ReportRow.{ReportRow}
 use Rattle.gate_types.specs.Forms.{IsLawfulContent}
 use Rattle.gate_types.specs.Names.{same_name}
 use Rattle.gate_types.specs.Once.{Content}
@@ -16,6 +15,7 @@ use Rattle.gate_types.specs.Rows.{numbered}
 use Rattle.gate_types.specs.Settings.{Settings}
 use Rattle.gate_types.specs.State.{Queue, State}
 use Rattle.gate_types.specs.Tables.{QueueRows, numbered_landings, tables}
+use Rattle.gate_types.specs.Keys.{place_of_landing, place_of_report}
 use Rattle.gate_schema.specs.Rows.{QueueRow, Stored}
 use Rattle.gate_rows.specs.Tells.{Tells, landings_of, of_queue, placed, reports_of}
 use Rattle.gate_book_trait.specs.Reads as content
@@ -26,13 +26,6 @@ use Rattle.gate_laws.proofs.Rising.{Rising, rising}
 use Rattle.gate_content_reads.proofs.told.Lists.{filtered_same, mapped_same, permuted_same, pick, same_greatest}
 
 -- ---- places from 1 on
-
--- the place of a landing, and of a report
-abbrev place_of_landing : LandingRow → ℕ
-place_of_landing r = r.place
-
-abbrev report_place : ReportRow → ℕ
-report_place r = r.place
 
 -- as many places as rows, from the one after n
 abbrev places_from : {X : Type 0} → ℕ → List X → List ℕ
@@ -46,7 +39,7 @@ landing_places n [] = refl
 landing_places n (l ∷ ls) = ap (λ ms. suc n ∷ ms) (landing_places (suc n) ls)
 
 -- and of numbered reports
-report_places : (n : ℕ) (rs : List Report) → map report_place (numbered n rs) ≡ places_from n rs
+report_places : (n : ℕ) (rs : List Report) → map place_of_report (numbered n rs) ≡ places_from n rs
 report_places n [] = refl
 report_places n (r ∷ rs) = ap (λ ms. suc n ∷ ms) (report_places (suc n) rs)
 
@@ -176,9 +169,9 @@ module _ (c : Settings) (x : Content) (b : Stored) (told : Tells b (tables c x))
   reports_are name =
       let rows = of_queue (λ q. q.reports) name (tables c x).queues in
       let here = reports_of name b.reports in
-      same_greatest (map report_place here) (map report_place rows)
-      (mapped_same report_place here rows (permuted_same here rows (told.queues_are.reports_are name)))
-      ∙ ap (λ l. file.greatest (map report_place l)) (report_rows name)
+      same_greatest (map place_of_report here) (map place_of_report rows)
+      (mapped_same place_of_report here rows (permuted_same here rows (told.queues_are.reports_are name)))
+      ∙ ap (λ l. file.greatest (map place_of_report l)) (report_rows name)
       ∙ ap file.greatest (report_places 0 (reports_in x.state name))
       ∙ last_place 0 (reports_in x.state name) ∙ by_queue (content.queue_named x.state name)
     where

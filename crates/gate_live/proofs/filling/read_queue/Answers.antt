@@ -1,6 +1,6 @@
 use Rattle.std.proofs.Common.{◌≡◌, ◌∙◌, List, Some, ap, sym, subst}
 use Rattle.gate_types.specs.declared.records.Item.{Item}
-use Rattle.gate_memory.specs.Queues.{serial_of}
+use Rattle.gate_types.specs.Keys.{serial_of_item}
 use Rattle.gate_book_trait.specs.Rising.{RisesFrom}
 use Rattle.gate_live.specs.Live.{LiveQueue}
 use Rattle.gate_live.proofs.FilledLemmas.{with_items, no_queue, queue_read}
@@ -28,5 +28,5 @@ returns-clause-found g c trusted k x held lawful =
     (c.in_ok-landings.ensures.found three k x held2 lawful)
     (c.in_ok-reports.ensures.found trusted k x held3 lawful) in
     let slice : c.as_slice.result.now ≡ c.in_ok-items.items = c.as_slice.ensures in
-    let rise : RisesFrom serial_of 0 c.as_slice.result.now = subst (λ (zs : List Item). RisesFrom serial_of 0 zs) (sym slice) read.0 in
+    let rise : RisesFrom serial_of_item 0 c.as_slice.result.now = subst (λ (zs : List Item). RisesFrom serial_of_item 0 zs) (sym slice) read.0 in
     ap (λ (l : LiveQueue). Some l) (c.in_ok-queue.ensures.rows rise ∙ ap (with_items name w ls rs) slice) ∙ read.1

@@ -1,15 +1,16 @@
 use Rattle.std.proofs.Common.{◌≡◌, ◌∙◌, ◌++◌, suc, ◌+◌, [], Option, take, sym, ap, arith}
 use Rattle.std.specs.List.{filter_map, cons_option}
 use Rattle.gate_types.specs.declared.records.Ready.{Ready}
+use Rattle.gate_types.specs.Keys.{number_of_change}
 use Rattle.gate_memory.specs.declared.pairs.Pair.{Pair}
-use Rattle.gate_memory.specs.Changes.{in_order, number_of}
+use Rattle.gate_memory.specs.Changes.{in_order}
 use Rattle.gate_memory.specs.TableReads.{needing_by}
 use Rattle.gate_memory.proofs.CollectLemmas.{filter_map_next}
 use Rattle.gate_memory.proofs.changes.collect_needing.Goals as goal
 
 pub loop-pair-preserved : goal.loop-pair-preserved
 loop-pair-preserved c =
-    let look : Pair → Option Ready = needing_by (in_order number_of c.args.rows.now) c.args.change in
+    let look : Pair → Option Ready = needing_by (in_order number_of_change c.args.rows.now) c.args.change in
     let pairs = c.args.pairs.now in
     let k = c.loop-pair.pair-index in
     let d : Pair = record { first = 0; second = 0 } in

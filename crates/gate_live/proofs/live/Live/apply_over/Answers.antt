@@ -1,7 +1,7 @@
 use Rattle.std.proofs.Common.{◌∙◌, ap, subst}
 use Rattle.std.proofs.lemmas.Result.{err_from_is_err_and}
 use Rattle.std.specs.Prelude.{option_map}
-use Rattle.gate_memory.specs.Plans.{serial_of}
+use Rattle.gate_types.specs.Keys.{serial_of_plan}
 use Rattle.gate_book_trait.specs.Rising.{RisesFrom}
 use Rattle.gate_live.specs.Live.{fold_live}
 use Rattle.gate_live.specs.Held.{live_of}
@@ -22,7 +22,7 @@ returns-clause-edited g c k x y lawful agrees leads =
     let view = c.self.view_is in
     agrees_after k x y edits is_item c.args.self.now
     (record { tables = option_map live_of c.apply_to.new.held; builds = known_of c.apply_to_items.new.builds; plans = plans_held c.apply_to_items.new.plans; changes = option_map changes_held c.edit.new.changes })
-    lawful (subst (λ (p : Parts). RisesFrom serial_of 0 p.plans) view c.self.invariant.2)
+    lawful (subst (λ (p : Parts). RisesFrom serial_of_plan 0 p.plans) view c.self.invariant.2)
     (c.in_ok-apply_to.ensures.edited ∙ ap (λ (p : Parts). option_map (λ l. fold_live l edits) p.tables) view)
     (c.apply_to_items.ensures.builds ∙ λ i. fold_held ((c.make_room.ensures.rows ∙ ap (λ (p : Parts). p.builds) view) i) (copies i))
     (c.apply_to_items.ensures.plans ∙ λ i. fold_held_plans is_item ((c.make_room-2.ensures.rows ∙ ap (λ (p : Parts). p.plans) view) i) (copies i))
