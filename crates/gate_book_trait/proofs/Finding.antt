@@ -4,7 +4,7 @@ use Rattle.std.proofs.Common.{◌∷◌, length, drop, get_or, map, refl, sym, a
 use Rattle.std.specs.Prelude.{◌==◌, find, option_map, unwrap_or}
 use Rattle.std.specs.List.{AllByRecursion}
 use Rattle.std.proofs.lemmas.Option.{none-some}
-use Rattle.gate_book_trait.specs.Rising.{In}
+use Rattle.gate_types.specs.Rising.{In}
 
 -- what is found among the images
 pub find_map : {X Y : Type 0} (f : X → Y) (test : Y → Bool) (xs : List X) → find test (map f xs) ≡ option_map f (find (λ x. test (f x)) xs)

@@ -3,5 +3,4 @@ pub mod Kept
 pub mod Faults
 pub mod Text
 pub mod Writes
-pub mod Rising
 pub mod RowReads

@@ -11,7 +11,7 @@ use Rattle.gate_types.specs.declared.rows.ChangeRow.{ChangeRow}
 use Rattle.gate_types.specs.declared.rows.LandingRow.{LandingRow}
 use Rattle.gate_types.specs.Names.{same_name}
 use Rattle.gate_types.specs.Tables.{QueueRows, approval_of}
-use Rattle.gate_book_trait.specs.Rising.{RisesFrom}
+use Rattle.gate_types.specs.Rising.{RisesFrom}
 use Rattle.gate_book_trait.specs.declared.rows.QueuedItem.{QueuedItem}
 
 -- the row of a change

@@ -4,8 +4,8 @@ use Rattle.std.proofs.Common.{[], ◌∷◌, map, refl, sym, ap, ◌∙◌, eqb-
 use Rattle.std.specs.Prelude.{◌==◌, ◌||◌, filter, find, fold}
 use Rattle.std.proofs.lemmas.Bool.{eq-eqb, ne_eqb}
 use Rattle.gate_types.specs.State.{put_by}
+use Rattle.gate_types.specs.Rising.{RisesFrom}
 use Rattle.gate_types.proofs.PlainLemmas.{below_or}
-use Rattle.gate_book_trait.specs.Rising.{RisesFrom}
 use Rattle.gate_memory.specs.Sorted.{without}
 use Rattle.gate_memory.proofs.SortedLemmas.{rises-filter, put_first, put_before, put_after, found_above}
 use Rattle.gate_memory.proofs.IndexLemmas.{without_absent}

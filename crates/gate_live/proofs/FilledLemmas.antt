@@ -22,9 +22,9 @@ use Rattle.gate_types.specs.Forms.{IsLawfulContent}
 use Rattle.gate_types.specs.Lawful.{IsSound}
 use Rattle.gate_types.specs.Tables.{QueueRows, tables}
 use Rattle.gate_types.specs.Keys.{serial_of_item}
+use Rattle.gate_types.specs.Rising.{RisesFrom}
 use Rattle.gate_types.specs.declared.edits.Edit.TheVariants as edit
 use Rattle.gate_memory.proofs.SortedLemmas.{put_after, rises-at}
-use Rattle.gate_book_trait.specs.Rising.{RisesFrom}
 use Rattle.gate_book_trait.specs.Reads as read
 use Rattle.gate_book_trait.specs.RowReads.{rows_named}
 use Rattle.gate_book_trait.proofs.ReadLemmas.{rows_of_queue, named_is, found_passes}

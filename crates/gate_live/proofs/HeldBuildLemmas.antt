@@ -12,8 +12,8 @@ use Rattle.gate_types.specs.State.{put_by}
 use Rattle.gate_types.specs.Rebase.{with_live}
 use Rattle.gate_types.specs.Rows.{with_outcome, change_build}
 use Rattle.gate_types.specs.Tables.{edited_build_rows}
+use Rattle.gate_types.specs.Rising.{RisesFrom}
 use Rattle.gate_types.proofs.PlainLemmas.{filter_twice}
-use Rattle.gate_book_trait.specs.Rising.{RisesFrom}
 use Rattle.gate_memory.specs.Sorted.{without}
 use Rattle.gate_memory.specs.Builds.{number_of, is_live_of, is_of}
 use Rattle.gate_memory.specs.TableReads.{builds_of_rows}

@@ -13,7 +13,7 @@ use Rattle.gate_types.specs.declared.rows.ChangeRow.{ChangeRow}
 use Rattle.gate_types.specs.State.{put_by}
 use Rattle.gate_types.specs.Tables.{approval_of}
 use Rattle.gate_types.specs.Keys.{number_of_change}
-use Rattle.gate_book_trait.specs.Rising.{RisesFrom, In}
+use Rattle.gate_types.specs.Rising.{RisesFrom, In}
 use Rattle.gate_book_trait.specs.RowReads.{AreReady, row_of, approval_in, change_in, needs_in, needing_in}
 use Rattle.gate_book_trait.specs.RowReads.{ready_needing_in}
 use Rattle.gate_book_trait.proofs.Finding.{all_in, found_in}

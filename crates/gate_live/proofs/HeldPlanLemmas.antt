@@ -11,7 +11,7 @@ use Rattle.gate_types.specs.declared.records.Plan.{Plan}
 use Rattle.gate_types.specs.State.{put_by}
 use Rattle.gate_types.specs.Tables.{edited_plans}
 use Rattle.gate_types.specs.Keys.{serial_of_plan}
-use Rattle.gate_book_trait.specs.Rising.{RisesFrom}
+use Rattle.gate_types.specs.Rising.{RisesFrom}
 use Rattle.gate_book_trait.specs.RowReads.{plans_of_rows}
 use Rattle.gate_book_trait.proofs.Finding.{all_found, all_in, found_has}
 use Rattle.gate_memory.specs.Sorted.{without}

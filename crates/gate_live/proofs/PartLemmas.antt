@@ -10,7 +10,7 @@ use Rattle.gate_types.specs.Once.{Content}
 use Rattle.gate_types.specs.Forms.{IsLawfulContent}
 use Rattle.gate_types.specs.Tables.{Leads, Tables, edited_build_rows, edited_plans, edited_tables, fold_all, tables}
 use Rattle.gate_types.specs.Keys.{serial_of_plan}
-use Rattle.gate_book_trait.specs.Rising.{RisesFrom}
+use Rattle.gate_types.specs.Rising.{RisesFrom}
 use Rattle.gate_memory.specs.Builds.{number_of}
 use Rattle.gate_live.specs.Live.{LiveTables, live_tables, fold_live}
 use Rattle.gate_live.specs.Held.{IsLiveOf}

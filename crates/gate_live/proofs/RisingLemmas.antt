@@ -11,9 +11,9 @@ use Rattle.gate_types.specs.Rows.{row_of, item_rows}
 use Rattle.gate_types.specs.Once.{Content}
 use Rattle.gate_types.specs.Forms.{IsLawfulContent}
 use Rattle.gate_types.specs.Keys.{serial_of_item}
+use Rattle.gate_types.specs.Rising.{RisesFrom}
 use Rattle.gate_memory.specs.Builds.{number_of}
 use Rattle.gate_book_trait.specs.Reads as read
-use Rattle.gate_book_trait.specs.Rising.{RisesFrom}
 use Rattle.gate_book_trait.proofs.Finding.{all_found}
 use Rattle.gate_book_trait.proofs.ReadLemmas.{numbers_rise, all_rows}
 

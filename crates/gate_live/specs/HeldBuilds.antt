@@ -5,7 +5,7 @@ use Rattle.gate_types.specs.declared.edits.Edit.{Edit}
 use Rattle.gate_types.specs.declared.edits.Edit.TheVariants as edit
 use Rattle.gate_types.specs.State.{put_by}
 use Rattle.gate_types.specs.Rows.{with_outcome, change_build}
-use Rattle.gate_book_trait.specs.Rising.{RisesFrom}
+use Rattle.gate_types.specs.Rising.{RisesFrom}
 use Rattle.gate_memory.specs.Sorted.{without}
 use Rattle.gate_memory.specs.Builds as build_table
 use Rattle.gate_memory.specs.Builds.{is_of, number_of}

@@ -5,7 +5,7 @@ ghost use Rattle.std.specs.Prelude.{vec_capacity};
 ghost use Rattle.std.specs.List.{AllByRecursion};
 ghost use Rattle.gate_types.specs.declared.edits.Edit.TheVariants as edit;
 ghost use Rattle.gate_types.specs.State.{put_by};
-ghost use Rattle.gate_book_trait.specs.Rising.{RisesFrom};
+ghost use Rattle.gate_types.specs.Rising.{RisesFrom};
 ghost use Rattle.gate_memory.specs.Builds as build_table;
 ghost use Rattle.gate_memory.specs.Builds.{is_live_of, number_of};
 ghost use Rattle.gate_memory.specs.TableReads.{builds_of_rows};

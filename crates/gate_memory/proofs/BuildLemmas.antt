@@ -7,9 +7,9 @@ use Rattle.std.proofs.lemmas.Bool.{eq-eqb, false≢true}
 use Rattle.gate_types.specs.declared.records.Build.{Build}
 use Rattle.gate_types.specs.State.{put_by}
 use Rattle.gate_types.specs.Rows.{change_build}
+use Rattle.gate_types.specs.Rising.{In}
 use Rattle.gate_types.proofs.PlainLemmas.{below_or}
 use Rattle.gate_memory.specs.declared.pairs.Pair.{Pair}
-use Rattle.gate_book_trait.specs.Rising.{In}
 use Rattle.gate_memory.specs.Sorted.{without}
 use Rattle.gate_memory.specs.Pairs.{pair_key, IsFit}
 use Rattle.gate_memory.specs.Builds.{TellsLive, number_of, is_live_of, pair_of}

@@ -7,9 +7,9 @@ use Rattle.std.proofs.lemmas.Option.{none-some}
 use Rattle.gate_types.specs.declared.rows.ChangeRow.{ChangeRow}
 use Rattle.gate_types.specs.State.{put_by}
 use Rattle.gate_types.specs.Keys.{number_of_change}
+use Rattle.gate_types.specs.Rising.{RisesFrom, In}
 use Rattle.gate_types.proofs.PlainLemmas.{below_or}
 use Rattle.gate_memory.specs.declared.pairs.Pair.{Pair}
-use Rattle.gate_book_trait.specs.Rising.{RisesFrom, In}
 use Rattle.gate_memory.specs.Sorted.{without}
 use Rattle.gate_memory.specs.Pairs.{pair_key, IsFit}
 use Rattle.gate_memory.specs.Changes.{TellsReady, in_order, entry_of}

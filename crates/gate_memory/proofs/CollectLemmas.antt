@@ -4,7 +4,7 @@ use Rattle.std.proofs.Common.{List, [], ◌∷◌, ◌++◌, length, take, get_o
 use Rattle.std.specs.Prelude.{◌==◌, filter, find, option_and_then}
 use Rattle.std.specs.List.{AllByRecursion, filter_map, cons_option}
 use Rattle.std.proofs.lemmas.Bool.{eq-eqb, ne_eqb}
-use Rattle.gate_book_trait.specs.Rising.{RisesFrom, In}
+use Rattle.gate_types.specs.Rising.{RisesFrom, In}
 use Rattle.gate_memory.specs.Sorted.{kept_if, passing}
 use Rattle.gate_memory.proofs.SortedLemmas.{found_above, in_above}
 use Rattle.gate_types.proofs.PlainLemmas.{below_or}

@@ -6,7 +6,7 @@ use Rattle.std.specs.List.{AllByRecursion}
 use Rattle.std.proofs.lemmas.Bool.Decides.{eqb_tells}
 use Rattle.std.proofs.lemmas.Option.{none-some}
 use Rattle.gate_types.specs.declared.records.Build.{Build}
-use Rattle.gate_book_trait.specs.Rising.{RisesFrom, In}
+use Rattle.gate_types.specs.Rising.{RisesFrom, In}
 use Rattle.gate_book_trait.proofs.Finding.{all_in}
 use Rattle.gate_memory.specs.declared.pairs.Pair.{Pair}
 use Rattle.gate_memory.specs.Sorted.{first_of, without}

@@ -10,10 +10,10 @@ use Rattle.std.proofs.lemmas.Option.{none-some}
 use Rattle.gate_types.specs.declared.records.Build.{Build}
 use Rattle.gate_types.specs.State.{put_by}
 use Rattle.gate_types.specs.Rows.{change_build}
+use Rattle.gate_types.specs.Rising.{RisesFrom, In}
 use Rattle.gate_types.proofs.PlainLemmas.{below_or}
 use Rattle.gate_archive.specs.declared.rows.BuildSummary.{BuildSummary}
 use Rattle.gate_archive.specs.ItemText.{last_of, summary_of}
-use Rattle.gate_book_trait.specs.Rising.{RisesFrom, In}
 use Rattle.gate_book_trait.proofs.Finding.{all_in}
 use Rattle.gate_memory.specs.declared.pairs.Pair.{Pair}
 use Rattle.gate_memory.specs.Sorted.{without}

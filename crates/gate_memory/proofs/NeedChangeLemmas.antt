@@ -9,7 +9,7 @@ use Rattle.std.proofs.lemmas.Bool.Decides.{eqb_tells}
 use Rattle.gate_types.specs.declared.rows.ChangeRow.{ChangeRow}
 use Rattle.gate_types.specs.State.{put_by}
 use Rattle.gate_types.specs.Keys.{number_of_change}
-use Rattle.gate_book_trait.specs.Rising.{RisesFrom, In}
+use Rattle.gate_types.specs.Rising.{RisesFrom, In}
 use Rattle.gate_book_trait.specs.RowReads.{row_of, needs_in}
 use Rattle.gate_book_trait.proofs.Finding.{all_in, in_weaker}
 use Rattle.gate_memory.specs.declared.pairs.Pair.{Pair}

@@ -8,8 +8,8 @@ use Rattle.std.proofs.lemmas.Option.{none-some}
 use Rattle.gate_types.specs.declared.records.Item.{Item}
 use Rattle.gate_types.specs.State.{put_by}
 use Rattle.gate_types.specs.Keys.{serial_of_item}
+use Rattle.gate_types.specs.Rising.{In}
 use Rattle.gate_memory.specs.declared.pairs.Pair.{Pair}
-use Rattle.gate_book_trait.specs.Rising.{In}
 use Rattle.gate_memory.specs.Sorted.{first_of, without}
 use Rattle.gate_memory.specs.Pairs.{pair_key, IsFit}
 use Rattle.gate_memory.specs.Queues.{TellsItems, is_of_change, entry_of}

@@ -7,9 +7,9 @@ use Rattle.std.specs.List.{AllWithin, AllByRecursion}
 use Rattle.std.proofs.lemmas.Bool.{eq-eqb, ne_eqb, le-ltb, lt-ltb, le-leb, lt-leb}
 use Rattle.std.proofs.lemmas.Bool.Decides.{eqb_tells}
 use Rattle.gate_types.specs.State.{put_by}
+use Rattle.gate_types.specs.Rising.{RisesFrom, In}
 use Rattle.gate_types.proofs.PlainLemmas.{below_or}
 use Rattle.std.proofs.lemmas.Option.{none-some, slice_get-get_or}
-use Rattle.gate_book_trait.specs.Rising.{RisesFrom, In}
 use Rattle.gate_memory.specs.Sorted.{IsAt, place_in, without}
 
 -- what stands at a place needs no default

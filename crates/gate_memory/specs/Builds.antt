@@ -2,7 +2,7 @@
 use Rattle.std.specs.Prelude.{ℕ, ◌≡◌, ◌==◌, ◌≤◌, ◌+◌, Bool, ◌&&◌, true, List, vec_len, vec_capacity}
 use Rattle.std.specs.List.{AllByRecursion}
 use Rattle.gate_types.specs.declared.records.Build.{Build}
-use Rattle.gate_book_trait.specs.Rising.{RisesFrom, In}
+use Rattle.gate_types.specs.Rising.{RisesFrom, In}
 use Rattle.gate_memory.specs.Pairs.{pair_key, IsFit}
 use Rattle.gate_memory.specs.declared.pairs.Pair.{Pair}
 use Rattle.gate_memory.specs.declared.builds.BuildTable.{BuildTable}

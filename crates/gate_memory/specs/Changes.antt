@@ -10,7 +10,7 @@ use Rattle.gate_types.specs.declared.rows.ChangeRow.{ChangeRow}
 use Rattle.gate_types.specs.declared.records.Ready.{Ready}
 use Rattle.gate_types.specs.State.{put_by}
 use Rattle.gate_types.specs.Keys.{number_of_change}
-use Rattle.gate_book_trait.specs.Rising.{RisesFrom, In}
+use Rattle.gate_types.specs.Rising.{RisesFrom, In}
 use Rattle.gate_memory.specs.Pairs.{pair_key, IsFit}
 use Rattle.gate_memory.specs.Needs.{AreInOrder, AreNeeds, TellsNeeds}
 use Rattle.gate_memory.specs.declared.pairs.Pair.{Pair}

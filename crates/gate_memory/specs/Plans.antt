@@ -1,7 +1,7 @@
 -- How a book in memory keeps plans: by serial.
 use Rattle.std.specs.Prelude.{ℕ, ◌≤◌, ◌+◌, vec_len, vec_capacity}
 use Rattle.gate_types.specs.Keys.{serial_of_plan}
-use Rattle.gate_book_trait.specs.Rising.{RisesFrom}
+use Rattle.gate_types.specs.Rising.{RisesFrom}
 use Rattle.gate_memory.specs.declared.plans.PlanTable.{PlanTable}
 
 -- the plans rise by serial

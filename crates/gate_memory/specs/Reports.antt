@@ -3,7 +3,7 @@ use Rattle.std.specs.Prelude.{ℕ, Bool, ◌==◌, ◌≤◌, ◌+◌, List, vec
 use Rattle.std.specs.List.{AllByRecursion}
 use Rattle.gate_types.specs.declared.rows.ReportRow.{ReportRow}
 use Rattle.gate_types.specs.Keys.{place_of_report}
-use Rattle.gate_book_trait.specs.Rising.{RisesFrom, In}
+use Rattle.gate_types.specs.Rising.{RisesFrom, In}
 use Rattle.gate_memory.specs.Pairs.{pair_key, IsFit}
 use Rattle.gate_memory.specs.declared.pairs.Pair.{Pair}
 use Rattle.gate_memory.specs.declared.reports.ReportTable.{ReportTable}

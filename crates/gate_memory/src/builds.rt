@@ -6,7 +6,7 @@ ghost use Rattle.std.specs.Option.{option_copied};
 ghost use Rattle.gate_types.specs.State.{put_by};
 ghost use Rattle.gate_types.specs.Rebase.{with_live};
 ghost use Rattle.gate_types.specs.Rows.{with_outcome, change_build};
-ghost use Rattle.gate_book_trait.specs.Rising.{RisesFrom};
+ghost use Rattle.gate_types.specs.Rising.{RisesFrom};
 ghost use Rattle.gate_archive.specs.ItemText.{last_of, summary_of};
 ghost use Rattle.gate_memory.specs.Sorted.{passing, first_of, without};
 ghost use Rattle.gate_memory.specs.Pairs.{pair_key, IsFit};

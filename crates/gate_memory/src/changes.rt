@@ -8,7 +8,7 @@ ghost use Rattle.std.specs.Option.{option_copied, option_map_or};
 ghost use Rattle.std.specs.HashMap.{get, spare};
 ghost use Rattle.gate_types.specs.State.{put_by};
 ghost use Rattle.gate_types.specs.Keys.{number_of_change};
-ghost use Rattle.gate_book_trait.specs.Rising.{RisesFrom, In};
+ghost use Rattle.gate_types.specs.Rising.{RisesFrom, In};
 ghost use Rattle.gate_memory.specs.Sorted.{without};
 ghost use Rattle.gate_book_trait.specs.RowReads.{change_in, needs_in, approval_in};
 ghost use Rattle.gate_memory.specs.TableReads.{needing_by, IsWhatRowsTellOf};

@@ -3,12 +3,12 @@ ghost use Rattle.std.specs.Prelude.{◌≡◌, ◌++◌, [], option_to_list, IfO
 ghost use Rattle.std.specs.List.{AllByRecursion, cons_option, filter_map};
 ghost use Rattle.std.specs.Option.{option_copied};
 ghost use Rattle.gate_types.specs.Keys.{serial_of_item};
+ghost use Rattle.gate_types.specs.Rising.{RisesFrom};
 ghost use Rattle.gate_memory.specs.Builds.{AreKept};
 ghost use Rattle.gate_memory.specs.Changes as change_table;
 ghost use Rattle.gate_memory.specs.Plans as plan_table;
 ghost use Rattle.gate_memory.specs.Needs.{IsRising, IsSmall, TellsSerials};
 ghost use Rattle.gate_memory.specs.Queues as queue_table;
-ghost use Rattle.gate_book_trait.specs.Rising.{RisesFrom};
 ghost use Rattle.gate_memory.specs.Sorted.{passing};
 ghost use Rattle.gate_book_trait.specs.RowReads.{is_needing_in, needing_in, plans_of_rows};
 ghost use Rattle.gate_memory.specs.TableReads.{builds_of_rows};

@@ -1,7 +1,7 @@
 //! An index of which change needs which.
 ghost use Rattle.std.specs.Prelude.{◌≡◌, ◌≢◌, ◌≤◌, ◌+◌, ◌⊎◌, ℕ, length, OnOk, IfSome, vec_len, vec_capacity};
 ghost use Rattle.std.specs.List.{AllByRecursion};
-ghost use Rattle.gate_book_trait.specs.Rising.{In};
+ghost use Rattle.gate_types.specs.Rising.{In};
 ghost use Rattle.gate_memory.specs.Needs.{AreInOrder, IsRising, TellsNeedsOf, TellsNoneOf, needs_of, needs_of_all};
 ghost use Rattle.gate_memory.specs.declared.pairs.Pair.{Pair};
 

@@ -1,7 +1,7 @@
 //! Pairs of numbers: what an index keeps.
 ghost use Rattle.std.specs.Prelude.{◌≡◌, ◌==◌, ◌+◌, ◌<◌, ◌≤◌, ◌^◌, not, filter, vec_len, vec_capacity};
 ghost use Rattle.std.specs.List.{AllByRecursion, remove_range};
-ghost use Rattle.gate_book_trait.specs.Rising.{RisesFrom};
+ghost use Rattle.gate_types.specs.Rising.{RisesFrom};
 ghost use Rattle.gate_memory.specs.Pairs.{pair_key, IsFit};
 
 use crate::sorted::{Keyed, between, place_of};

@@ -6,7 +6,6 @@ ghost use Rattle.std.specs.Option.{option_copied};
 ghost use Rattle.gate_types.specs.Names.{same_name};
 ghost use Rattle.gate_types.specs.State.{put_by};
 ghost use Rattle.gate_types.specs.Tables.{edited_queue};
-ghost use Rattle.gate_book_trait.specs.Rising.{RisesFrom, In};
 ghost use Rattle.gate_memory.specs.Sorted.{passing, first_of, without};
 ghost use Rattle.gate_memory.specs.Pairs.{IsFit};
 ghost use Rattle.gate_memory.specs.Needs.{IsRising, TellsSerials};
@@ -16,6 +15,7 @@ ghost use Rattle.gate_book_trait.specs.RowReads.{landing_serial};
 ghost use Rattle.gate_book_trait.specs.Reads as read;
 ghost use Rattle.gate_types.specs.Limits.{most_listed};
 ghost use Rattle.gate_types.specs.Keys.{serial_of_item};
+ghost use Rattle.gate_types.specs.Rising.{RisesFrom, In};
 
 use crate::needs::add_seconds;
 use crate::pairs::{Pair, of_first};

@@ -3,13 +3,13 @@ ghost use Rattle.std.specs.Prelude.{◌≡◌, ◌==◌, ◌-◌, ℕ, suc, [], 
 ghost use Rattle.std.specs.List.{filter_map};
 ghost use Rattle.std.specs.Option.{option_copied};
 ghost use Rattle.gate_types.specs.State.{put_by};
-ghost use Rattle.gate_book_trait.specs.Rising.{RisesFrom};
 ghost use Rattle.gate_memory.specs.Sorted.{passing, first_of};
 ghost use Rattle.gate_memory.specs.Pairs.{IsFit};
 ghost use Rattle.gate_memory.specs.Reports as entries;
 ghost use Rattle.gate_memory.specs.Reports.{IsKept, HasRoom, is_of_serial};
 ghost use Rattle.gate_types.specs.Limits.{most_listed};
 ghost use Rattle.gate_types.specs.Keys.{place_of_report};
+ghost use Rattle.gate_types.specs.Rising.{RisesFrom};
 
 use crate::pairs::{Pair, of_first, paired};
 use crate::sorted;

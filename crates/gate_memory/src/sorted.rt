@@ -3,7 +3,7 @@ ghost use Rattle.std.specs.Prelude.{◌≡◌, ◌==◌, ◌<◌, ◌≤◌, ◌
 ghost use Rattle.std.specs.Prelude.{slice_set, length, None, IfSome, IfNone, vec_len, vec_capacity};
 ghost use Rattle.std.specs.Option.{option_copied};
 ghost use Rattle.gate_types.specs.State.{put_by};
-ghost use Rattle.gate_book_trait.specs.Rising.{RisesFrom};
+ghost use Rattle.gate_types.specs.Rising.{RisesFrom};
 ghost use Rattle.gate_memory.specs.Sorted.{IsAt, place_in, last_below, without};
 
 /// A row with a key.

@@ -2,8 +2,8 @@
 ghost use Rattle.std.specs.Prelude.{◌≡◌, ◌==◌, ◌++◌, [], find, option_map, IfOk, OnOk};
 ghost use Rattle.std.specs.List.{filter_map, cons_option};
 ghost use Rattle.std.specs.Option.{option_copied};
+ghost use Rattle.gate_types.specs.Rising.{RisesFrom};
 ghost use Rattle.gate_archive.specs.ItemText.{last_of, summary_of};
-ghost use Rattle.gate_book_trait.specs.Rising.{RisesFrom};
 ghost use Rattle.gate_memory.specs.Builds.{number_of};
 
 use crate::pairs::Pair;

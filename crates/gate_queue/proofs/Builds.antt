@@ -18,8 +18,9 @@ use Rattle.gate_types.specs.Slot.{is_blocked, is_running, is_cut, is_wanted}
 use Rattle.gate_types.specs.Rebase.{with_live, stays_live}
 use Rattle.gate_types.specs.Sweep.{judge, judged_after, verdict_of, next_staying, goes, without_runs}
 use Rattle.gate_types.specs.Rows.{row_of, edited_builds, change_build}
+use Rattle.gate_types.specs.Rising.{RisesFrom}
 use Rattle.gate_queue.specs.Edits.{stops, stop_edits, item_edits, edits_at, next_reports}
-use Rattle.gate_queue.proofs.Ordered.{RiseFrom, build_number}
+use Rattle.gate_queue.proofs.Ordered.{build_number}
 use Rattle.gate_queue.proofs.Folds.{edits_along}
 use Rattle.gate_laws.proofs.LiveBuildsCount.{place_serial}
 
@@ -65,7 +66,7 @@ map_same : (f g : Build → Build) (bs : List Build) → ((b : Build) → Has bs
 map_same f g [] h = refl
 map_same f g (b ∷ bs) h = λ k. h b (inl refl) k ∷ map_same f g bs (λ x m. h x (inr m)) k
 
-any_none : (m n : ℕ) (test : Build → Bool) (bs : List Build) → m < n → RiseFrom build_number n bs → list_any (λ c. m == c.number) (filter test bs) ≡ false
+any_none : (m n : ℕ) (test : Build → Bool) (bs : List Build) → m < n → RisesFrom build_number n bs → list_any (λ c. m == c.number) (filter test bs) ≡ false
 any_none m n test [] l r = refl
 any_none m n test (b ∷ bs) l r = let from : n ≤ b.number = r.0 in by_test (omega arith) (any_none m (suc b.number) test bs (omega arith) r.1) (test b)
   where
@@ -73,14 +74,14 @@ any_none m n test (b ∷ bs) l r = let from : n ≤ b.number = r.0 in by_test (o
     by_test below rest true = ap (λ x. x || list_any (λ c. m == c.number) (filter test bs)) (ne_eqb m b.number (λ e. omega (arith, e))) ∙ rest
     by_test below rest false = rest
 
-has_above : (n : ℕ) (bs : List Build) (b : Build) → RiseFrom build_number n bs → Has bs b → n ≤ b.number
+has_above : (n : ℕ) (bs : List Build) (b : Build) → RisesFrom build_number n bs → Has bs b → n ≤ b.number
 has_above n [] b r m = absurd m
 has_above n (x ∷ xs) b r m =
     ⊎_elim (λ (e : x ≡ b). subst (λ (y : Build). n ≤ y.number) e r.0)
     (λ (h : Has xs b). let i : suc x.number ≤ b.number = has_above (suc x.number) xs b r.1 h in let j : n ≤ x.number = r.0 in omega arith) m
 
 -- a build's number is that of a selected build just where it is selected
-any_of : (n : ℕ) (test : Build → Bool) (bs : List Build) (b : Build) → RiseFrom build_number n bs → Has bs b → list_any (λ c. b.number == c.number) (filter test bs) ≡ test b
+any_of : (n : ℕ) (test : Build → Bool) (bs : List Build) (b : Build) → RisesFrom build_number n bs → Has bs b → list_any (λ c. b.number == c.number) (filter test bs) ≡ test b
 any_of n test [] b r m = absurd m
 any_of n test (x ∷ xs) b r m = ⊎_elim here (λ (h : Has xs b). there_at (has_above (suc x.number) xs b r.1 h) (any_of (suc x.number) test xs b r.1 h) (test x)) m
   where
@@ -108,7 +109,7 @@ abbrev pub stops_along : List Build → List Item → List Place → Build → B
 stops_along bs staying [] b = false
 stops_along bs staying (p ∷ ps) b = stops_at bs staying p b || stops_along bs (next_staying staying (judge bs staying p)) ps b
 
-builds_step : (name : List ℕ) (bs : List Build) (n : ℕ) (staying : List Item) (p : Place) (test : Build → Bool) (rest : List Edit) → RiseFrom build_number 0 bs →
+builds_step : (name : List ℕ) (bs : List Build) (n : ℕ) (staying : List Item) (p : Place) (test : Build → Bool) (rest : List Edit) → RisesFrom build_number 0 bs →
     fold (edited_builds name) (map (stop_if test) bs) (edits_at name bs n staying p ++ rest) ≡ fold (edited_builds name) (map (stop_if (λ b. test b || stops_at bs staying p b)) bs) rest
 builds_step name bs n staying p test rest r =
     let f = edited_builds name in
@@ -123,7 +124,7 @@ builds_step name bs n staying p test rest r =
     (λ b m. ap (λ t. cond (test b || t) (stopped b) b) (any_of 0 (stops_at bs staying p) bs b r m)))
 
 -- each build that some item stops, and no other, is stopped
-builds_along : (name : List ℕ) (bs : List Build) (n : ℕ) (staying : List Item) (ps : List Place) (test : Build → Bool) → RiseFrom build_number 0 bs →
+builds_along : (name : List ℕ) (bs : List Build) (n : ℕ) (staying : List Item) (ps : List Place) (test : Build → Bool) → RisesFrom build_number 0 bs →
     fold (edited_builds name) (map (stop_if test) bs) (edits_along name bs n staying ps) ≡ map (stop_if (λ b. test b || stops_along bs staying ps b)) bs
 builds_along name bs n staying [] test r = λ k. map (stop_if (λ b. sym (or_false (test b)) k)) bs
 builds_along name bs n staying (p ∷ ps) test r =
@@ -190,7 +191,7 @@ record Aside (bs : List Build) (staying : List Item) (ps : List Place) (b : Buil
   counting : wanted_at bs ps b ≡ false
   leaving : goes (judged_after bs staying ps) b.serial ≡ false
 
-aside : (bs : List Build) (b : Build) (n : ℕ) (staying : List Item) (ps : List Place) → b.serial < n → RiseFrom place_serial n ps → Aside bs staying ps b
+aside : (bs : List Build) (b : Build) (n : ℕ) (staying : List Item) (ps : List Place) → b.serial < n → RisesFrom place_serial n ps → Aside bs staying ps b
 aside bs b n staying [] l r = record { stopping = refl; queued = refl; counting = refl; leaving = refl }
 aside bs b n staying (p ∷ ps) l r =
     let from : n ≤ p.item.serial = r.0 in
@@ -213,7 +214,7 @@ aside bs b n staying (p ∷ ps) l r =
     }
 
 -- a build stays live just where it does after a rebase and a sweep
-lives : (bs : List Build) (b : Build) (n : ℕ) (staying : List Item) (ps : List Place) → RiseFrom place_serial n ps →
+lives : (bs : List Build) (b : Build) (n : ℕ) (staying : List Item) (ps : List Place) → RisesFrom place_serial n ps →
     b.live && not (stops_along bs staying ps b) ≡ (b.live && (not (is_of ps b) || wanted_at bs ps b) && not (is_running b.outcome && goes (judged_after bs staying ps) b.serial))
 lives bs b n staying [] r = none b.live (is_running b.outcome)
   where
@@ -240,7 +241,7 @@ lives bs b n staying (p ∷ ps) r =
     (λ k. left b.live (t.0 k) nb sm g u run (stops_along bs next ps b)) ∙ other b.live nb sm g u run (stops_along bs next ps b) (is_of ps b) (wanted_at bs ps b) (goes (judged_after bs next ps) b.serial) h ∙ sym (λ k. right b.live (t.0 k) (y k) nb sm g u run (is_of ps b) (wanted_at bs ps b) (goes (judged_after bs next ps) b.serial)))
     (eqb_tells b.serial p.item.serial)
 
-builds_are : (bs cs : List Build) (ps : List Place) → RiseFrom place_serial 0 ps →
+builds_are : (bs cs : List Build) (ps : List Place) → RisesFrom place_serial 0 ps →
     map (stop_if (λ b. false || stops_along bs [] ps b)) cs ≡ without_runs (goes (judged_after bs [] ps)) (map (λ b. with_live (b.live && stays_live bs ps b) b) cs)
 builds_are bs [] ps r = refl
 builds_are bs (b ∷ cs) ps r = λ k. (stop_live (stops_along bs [] ps b) b.live b ∙ ap (λ l. with_live l b) (lives bs b 0 [] ps r)) k ∷ builds_are bs cs ps r k
@@ -250,7 +251,7 @@ unstopped [] = refl
 unstopped (c ∷ cs) = ap (λ l. c ∷ l) (unstopped cs)
 
 -- the builds are those of a rebase and then a sweep
-pub builds_fold : (name : List ℕ) (bs : List Build) (n : ℕ) (ps : List Place) → RiseFrom build_number 0 bs → RiseFrom place_serial 0 ps →
+pub builds_fold : (name : List ℕ) (bs : List Build) (n : ℕ) (ps : List Place) → RisesFrom build_number 0 bs → RisesFrom place_serial 0 ps →
     fold (edited_builds name) bs (edits_along name bs n [] ps) ≡ without_runs (goes (judged_after bs [] ps)) (map (λ b. with_live (b.live && stays_live bs ps b) b) bs)
 builds_fold name bs n ps r s =
     ap (λ (l : List Build). fold (edited_builds name) l (edits_along name bs n [] ps)) (sym (unstopped bs))

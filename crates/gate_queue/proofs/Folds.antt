@@ -21,8 +21,9 @@ use Rattle.gate_types.specs.Window.{Bounds}
 use Rattle.gate_types.specs.declared.rows.ReportRow.{ReportRow}
 use Rattle.gate_types.specs.Rows.{Rows, row_of, numbered, edited, edited_items, edited_builds, edited_reports}
 use Rattle.gate_types.specs.Rows.{edited_window, fold_edits}
+use Rattle.gate_types.specs.Rising.{RisesFrom}
 use Rattle.gate_queue.specs.Edits.{stops, stop_edits, item_edits, edits_at, edits_after, next_reports, window_behind}
-use Rattle.gate_queue.proofs.Ordered.{RiseFrom, AllBelow, GoWith, Tells, row_serial}
+use Rattle.gate_queue.proofs.Ordered.{AllBelow, GoWith, Tells, row_serial}
 use Rattle.gate_laws.proofs.Stays.{stayers}
 use Rattle.gate_laws.proofs.Touches.{name_itself}
 
@@ -139,14 +140,14 @@ put_there (y ∷ ys) rest i x e h =
     ∙ ap (λ t. cond t (x ∷ y ∷ (ys ++ i ∷ rest)) (y ∷ put_by row_serial x (ys ++ i ∷ rest))) (le-ltb x.serial y.serial (omega arith))
     ∙ ap (λ zs. y ∷ zs) (put_there ys rest i x e h.1)
 
-drop_none : (s n : ℕ) (is : List ItemRow) → s < n → RiseFrom row_serial n is → filter (λ j. not (j.serial == s)) is ≡ is
+drop_none : (s n : ℕ) (is : List ItemRow) → s < n → RisesFrom row_serial n is → filter (λ j. not (j.serial == s)) is ≡ is
 drop_none s n [] l r = refl
 drop_none s n (i ∷ is) l r =
     let from : n ≤ i.serial = r.0 in
     ap (λ t. cond (not t) (i ∷ filter (λ j. not (j.serial == s)) is) (filter (λ j. not (j.serial == s)) is)) (ne_eqb i.serial s (λ x. omega (arith, x)))
     ∙ ap (λ zs. i ∷ zs) (drop_none s (suc i.serial) is (omega arith) r.1)
 
-drop_there : (done : List ItemRow) (i : ItemRow) (is : List ItemRow) → AllBelow row_serial i.serial done → RiseFrom row_serial (suc i.serial) is → filter (λ j. not (j.serial == i.serial)) (done ++ i ∷ is) ≡ done ++ is
+drop_there : (done : List ItemRow) (i : ItemRow) (is : List ItemRow) → AllBelow row_serial i.serial done → RisesFrom row_serial (suc i.serial) is → filter (λ j. not (j.serial == i.serial)) (done ++ i ∷ is) ≡ done ++ is
 drop_there [] i is h r =
     ap (λ t. cond (not t) (i ∷ filter (λ j. not (j.serial == i.serial)) is) (filter (λ j. not (j.serial == i.serial)) is)) (eq-eqb i.serial i.serial refl)
     ∙ drop_none i.serial (suc i.serial) is (omega arith) r
@@ -168,7 +169,7 @@ below_kept n [] x None l h = (l, tt)
 below_kept n [] x (Some v) l h = tt
 below_kept n (y ∷ ys) x v l h = (h.0, below_kept n ys x v l h.1)
 
-pub items_own : (name : List ℕ) (n : ℕ) (done : List ItemRow) (i x : ItemRow) (v : Option Verdict) (rest : List ItemRow) → x.serial ≡ i.serial → AllBelow row_serial i.serial done → RiseFrom row_serial (suc i.serial) rest →
+pub items_own : (name : List ℕ) (n : ℕ) (done : List ItemRow) (i x : ItemRow) (v : Option Verdict) (rest : List ItemRow) → x.serial ≡ i.serial → AllBelow row_serial i.serial done → RisesFrom row_serial (suc i.serial) rest →
     fold (edited_items name) (done ++ i ∷ rest) (item_edits name n x v) ≡ (done ++ kept v x) ++ rest
 items_own name n done i x None rest e h r =
     ap (λ t. cond t (put_by row_serial x (done ++ i ∷ rest)) (done ++ i ∷ rest)) (name_itself name)
@@ -191,7 +192,7 @@ kept_cons done tail bs p v leaves ps e =
 
 -- between rows that are done and a tail, each item that stays has its row with both columns
 pub items_fold : (name : List ℕ) (bs : List Build) (n m : ℕ) (staying : List Item) (leaves : ℕ → Bool) (done is tail : List ItemRow) (ps : List Place) →
-    AllBelow row_serial m done → RiseFrom row_serial m (is ++ tail) → GoWith is ps → Tells leaves (judged_after bs staying ps) →
+    AllBelow row_serial m done → RisesFrom row_serial m (is ++ tail) → GoWith is ps → Tells leaves (judged_after bs staying ps) →
     fold (edited_items name) (done ++ (is ++ tail)) (edits_along name bs n staying ps) ≡ done ++ (map (row_of bs) (stayers leaves ps) ++ tail)
 items_fold name bs n m staying leaves done [] tail [] h r g t = refl
 items_fold name bs n m staying leaves done [] tail (p ∷ ps) h r g t = absurd g

@@ -12,8 +12,9 @@ use Rattle.gate_types.specs.Slot.{is_blocked, is_cut, slot_of, raw_slot_of}
 use Rattle.gate_types.specs.Standing.{is_failing, places, all_places, places_after, place_of, with_ahead, next_ahead}
 use Rattle.gate_types.specs.Rebase.{rebase, stays_live}
 use Rattle.gate_types.specs.Sweep.{judged, judged_after, judge, next_staying, goes}
+use Rattle.gate_types.specs.Rising.{RisesFrom}
 use Rattle.gate_queue.specs.Laws.{RebaseKeepsMarks, SlotsTellFailing, WhatGoesStandsInNoLine}
-use Rattle.gate_queue.proofs.Ordered.{RiseFrom, Tells, rises, ahead_rise}
+use Rattle.gate_queue.proofs.Ordered.{Tells, rises, ahead_rise}
 use Rattle.gate_laws.proofs.Members.{all}
 use Rattle.gate_laws.proofs.Stays.{Among, among_next, goes_failing}
 use Rattle.gate_laws.proofs.Cuts.{failed_cut}
@@ -65,7 +66,7 @@ none_goes bs ahead staying (p ∷ ps) leaves a h t =
         stays true e = absurd (true≢false (sym (e refl)))
         stays false e = refl
 
-pub items_rise : (c : Settings) (s : State) (q : Queue) (is : List Item) (n : ℕ) → RiseFrom (λ i. i.serial) n is → RiseFrom place_serial n (map (place_of c s q) is)
+pub items_rise : (c : Settings) (s : State) (q : Queue) (is : List Item) (n : ℕ) → RisesFrom (λ i. i.serial) n is → RisesFrom place_serial n (map (place_of c s q) is)
 items_rise c s q [] n r = tt
 items_rise c s q (i ∷ is) n r = (r.0, items_rise c s q is (suc i.serial) r.1)
 

@@ -16,9 +16,10 @@ use Rattle.gate_types.specs.Standing.{with_ahead, next_ahead, places_after}
 use Rattle.gate_types.specs.Rebase.{with_live}
 use Rattle.gate_types.specs.Sweep.{Judged, judge, judged_after, next_staying, next_window, verdict_of, goes, report_on}
 use Rattle.gate_types.specs.Sweep.{without_runs}
+use Rattle.gate_types.specs.Rising.{RisesFrom}
 use Rattle.gate_queue.specs.Settled.{verdicts}
 use Rattle.gate_queue.specs.Laws.{Scan, swept, without, one_out, OneSweepIsOneByOne}
-use Rattle.gate_queue.proofs.Ordered.{RiseFrom, rises, ahead_rise}
+use Rattle.gate_queue.proofs.Ordered.{rises, ahead_rise}
 use Rattle.gate_queue.proofs.Builds.{or_false}
 use Rattle.gate_laws.proofs.Alike.{verdict_alike}
 use Rattle.gate_laws.proofs.StoppedRuns.{stopped_alike}
@@ -75,9 +76,9 @@ record Apart (bounds : Bounds) (js : List Judged) (j : Judged) (rest : List Judg
   reports : filter_map report_on js ≡ filter_map report_on (j ∷ []) ++ filter_map report_on rest
   only : Only (is_one j) js
   fewer : length (filter_map report_on js) ≡ suc (length (filter_map report_on rest))
-  above : (n : ℕ) → RiseFrom serial_of n js → n ≤ j.item.serial
+  above : (n : ℕ) → RisesFrom serial_of n js → n ≤ j.item.serial
 
-none_left : (j : Judged) (n : ℕ) (js : List Judged) → j.item.serial < n → RiseFrom serial_of n js → left_of (is_one j) js ≡ js
+none_left : (j : Judged) (n : ℕ) (js : List Judged) → j.item.serial < n → RisesFrom serial_of n js → left_of (is_one j) js ≡ js
 none_left j n [] l r = refl
 none_left j n (x ∷ xs) l r =
     let from : n ≤ x.item.serial = r.0 in
@@ -89,7 +90,7 @@ none_left j n (x ∷ xs) l r =
     off true = refl
     off false = refl
 
-only_none : (j : Judged) (n : ℕ) (js : List Judged) → j.item.serial < n → RiseFrom serial_of n js → Only (is_one j) js
+only_none : (j : Judged) (n : ℕ) (js : List Judged) → j.item.serial < n → RisesFrom serial_of n js → Only (is_one j) js
 only_none j n [] l r = tt
 only_none j n (x ∷ xs) l r =
     let from : n ≤ x.item.serial = r.0 in (
@@ -134,7 +135,7 @@ report_counts x js e = by_verdict x.verdict e
     by_verdict (Some v) h = refl
 
 -- the first one goes
-apart_first : (bounds : Bounds) (n : ℕ) (x : Judged) (xs : List Judged) → is_some x.verdict ≡ true → RiseFrom serial_of n (x ∷ xs) → Apart bounds (x ∷ xs) x (left_of (is_one x) (x ∷ xs))
+apart_first : (bounds : Bounds) (n : ℕ) (x : Judged) (xs : List Judged) → is_some x.verdict ≡ true → RisesFrom serial_of n (x ∷ xs) → Apart bounds (x ∷ xs) x (left_of (is_one x) (x ∷ xs))
 apart_first bounds n x xs g r =
     subst (λ (l : List Judged). Apart bounds (x ∷ xs) x l)
     (sym
@@ -150,7 +151,7 @@ apart_first bounds n x xs g r =
     })
 
 -- one behind it does
-apart_later : (bounds : Bounds) (n : ℕ) (x : Judged) (xs : List Judged) (j : Judged) → is_some x.verdict ≡ false → RiseFrom serial_of n (x ∷ xs) → Apart bounds xs j (left_of (is_one j) xs) → Apart bounds (x ∷ xs) j (left_of (is_one j) (x ∷ xs))
+apart_later : (bounds : Bounds) (n : ℕ) (x : Judged) (xs : List Judged) (j : Judged) → is_some x.verdict ≡ false → RisesFrom serial_of n (x ∷ xs) → Apart bounds xs j (left_of (is_one j) xs) → Apart bounds (x ∷ xs) j (left_of (is_one j) (x ∷ xs))
 apart_later bounds n x xs j g r ih =
     let low : suc x.item.serial ≤ j.item.serial = ih.above (suc x.item.serial) r.1 in
     let other : j.item.serial == x.item.serial ≡ false = ne_eqb j.item.serial x.item.serial (λ e. omega (arith, e)) in
@@ -167,7 +168,7 @@ apart_later bounds n x xs j g r ih =
       above = λ m s. let from : m ≤ x.item.serial = s.0 in omega arith;
     })
 
-apart : (bounds : Bounds) (n : ℕ) (js : List Judged) (j : Judged) → RiseFrom serial_of n js → first_out js ≡ Some j → Apart bounds js j (left_of (is_one j) js)
+apart : (bounds : Bounds) (n : ℕ) (js : List Judged) (j : Judged) → RisesFrom serial_of n js → first_out js ≡ Some j → Apart bounds js j (left_of (is_one j) js)
 apart bounds n [] j r e = absurd (none_some e)
   where
     none_some : {X : Type 0} {x : X} → None ≡ Some x → ⊥
@@ -204,25 +205,25 @@ stop_twice (b ∷ bs) one more all h =
         table true true true y = refl
         table true true false y = refl
 
-rise_less : (m n : ℕ) (ps : List Place) → m ≤ n → RiseFrom place_serial n ps → RiseFrom place_serial m ps
+rise_less : (m n : ℕ) (ps : List Place) → m ≤ n → RisesFrom place_serial n ps → RisesFrom place_serial m ps
 rise_less m n [] l r = tt
 rise_less m n (p ∷ ps) l r = let from : n ≤ p.item.serial = r.0 in (omega arith, r.1)
 
-rise_stayers : (n : ℕ) (ps : List Place) (leaves : ℕ → Bool) → RiseFrom place_serial n ps → RiseFrom place_serial n (stayers leaves ps)
+rise_stayers : (n : ℕ) (ps : List Place) (leaves : ℕ → Bool) → RisesFrom place_serial n ps → RisesFrom place_serial n (stayers leaves ps)
 rise_stayers n [] leaves r = tt
 rise_stayers n (p ∷ ps) leaves r = by_test (leaves p.item.serial) (rise_stayers (suc p.item.serial) ps leaves r.1)
   where
-    by_test : (t : Bool) → RiseFrom place_serial (suc p.item.serial) (stayers leaves ps) → RiseFrom place_serial n (cond (not t) (p ∷ stayers leaves ps) (stayers leaves ps))
+    by_test : (t : Bool) → RisesFrom place_serial (suc p.item.serial) (stayers leaves ps) → RisesFrom place_serial n (cond (not t) (p ∷ stayers leaves ps) (stayers leaves ps))
     by_test true h = let from : n ≤ p.item.serial = r.0 in rise_less n (suc p.item.serial) (stayers leaves ps) (omega arith) h
     by_test false h = (r.0, h)
 
 -- the verdicts rise as their places do
-judged_rise : (bs : List Build) (n : ℕ) (staying : List Item) (ps : List Place) → RiseFrom place_serial n ps → RiseFrom serial_of n (judged_after bs staying ps)
+judged_rise : (bs : List Build) (n : ℕ) (staying : List Item) (ps : List Place) → RisesFrom place_serial n ps → RisesFrom serial_of n (judged_after bs staying ps)
 judged_rise bs n staying [] r = tt
 judged_rise bs n staying (p ∷ ps) r = (r.0, judged_rise bs (suc p.item.serial) (next_staying staying (judge bs staying p)) ps r.1)
 
 -- taking one out leaves the sweep as it is
-out_same : (bounds : Bounds) (q : Scan) (j : Judged) → RiseFrom place_serial 0 q.places → first_out (verdicts q.places q.builds) ≡ Some j →
+out_same : (bounds : Bounds) (q : Scan) (j : Judged) → RisesFrom place_serial 0 q.places → first_out (verdicts q.places q.builds) ≡ Some j →
     (swept bounds (without bounds q j) ≡ swept bounds q) × (length (filter_map report_on (verdicts q.places q.builds)) ≡ suc (length (filter_map report_on (verdicts (without bounds q j).places (without bounds q j).builds))))
 out_same bounds q j r e =
     let js = verdicts q.places q.builds in
@@ -281,7 +282,7 @@ idle_same bounds q e =
       reports = (ap (λ l. q.reports ++ l) i.reports ∙ append-nil q.reports) k;
     }
 
-outs : (bounds : Bounds) (l : List Place) (q : Scan) → RiseFrom place_serial 0 q.places → length (filter_map report_on (verdicts q.places q.builds)) ≤ length l → fold (λ t _. one_out bounds t) q l ≡ swept bounds q
+outs : (bounds : Bounds) (l : List Place) (q : Scan) → RisesFrom place_serial 0 q.places → length (filter_map report_on (verdicts q.places q.builds)) ≤ length l → fold (λ t _. one_out bounds t) q l ≡ swept bounds q
 outs bounds [] q r few = by_first (first_out (verdicts q.places q.builds)) refl
   where
     by_first : (o : Option Judged) → first_out (verdicts q.places q.builds) ≡ o → q ≡ swept bounds q
@@ -289,7 +290,7 @@ outs bounds [] q r few = by_first (first_out (verdicts q.places q.builds)) refl
     by_first (Some j) e = let more = (out_same bounds q j r e).1 in absurd (omega arith)
 outs bounds (x ∷ l) q r few = by_first (λ t h k. outs bounds l t h k) (first_out (verdicts q.places q.builds)) refl
   where
-    by_first : ((t : Scan) → RiseFrom place_serial 0 t.places → length (filter_map report_on (verdicts t.places t.builds)) ≤ length l → fold (λ t _. one_out bounds t) t l ≡ swept bounds t) →
+    by_first : ((t : Scan) → RisesFrom place_serial 0 t.places → length (filter_map report_on (verdicts t.places t.builds)) ≤ length l → fold (λ t _. one_out bounds t) t l ≡ swept bounds t) →
         (o : Option Judged) → first_out (verdicts q.places q.builds) ≡ o → fold (λ t _. one_out bounds t) (one_out bounds q) l ≡ swept bounds q
     by_first ih None e =
         let none : length (filter_map report_on (verdicts q.places q.builds)) ≡ 0 = ap length (idle bounds (verdicts q.places q.builds) e).reports in

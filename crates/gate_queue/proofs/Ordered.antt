@@ -12,14 +12,10 @@ use Rattle.gate_types.specs.State.{Item}
 use Rattle.gate_types.specs.Line.{Place}
 use Rattle.gate_types.specs.Standing.{places_after, with_ahead, next_ahead}
 use Rattle.gate_types.specs.Sweep.{Judged}
+use Rattle.gate_types.specs.Rising.{RisesFrom}
 use Rattle.std.specs.List.{AllByRecursion as Each}
 use Rattle.gate_laws.proofs.Stays.{Tells as TellsOf}
 use Rattle.gate_laws.proofs.LiveBuildsCount.{place_serial}
-
--- numbers are at least n, and rise
-abbrev pub RiseFrom : {X : Type 0} → (X → ℕ) → ℕ → List X → Type 0
-RiseFrom key n [] = Unit {0}
-RiseFrom key n (x ∷ xs) = (n ≤ key x) × RiseFrom key (suc (key x)) xs
 
 -- they are below n
 abbrev pub AllBelow : {X : Type 0} → (X → ℕ) → ℕ → List X → Type 0
@@ -44,7 +40,7 @@ abbrev pub Tells : (ℕ → Bool) → List Judged → Type 0
 Tells leaves = Each (TellsOf leaves)
 
 -- a list of numbers that rises, by its recursion
-numbers_rise : (n : ℕ) (ns : List ℕ) → AllPairs (λ x y. x < y) ns → All (λ x. n ≤ x) ns → RiseFrom (λ x. x) n ns
+numbers_rise : (n : ℕ) (ns : List ℕ) → AllPairs (λ x y. x < y) ns → All (λ x. n ≤ x) ns → RisesFrom (λ x. x) n ns
 numbers_rise n [] h l = tt
 numbers_rise n (x ∷ xs) h l = (
   l 0 0 (omega arith),
@@ -53,15 +49,15 @@ numbers_rise n (x ∷ xs) h l = (
       (λ k d b. h 0 (suc k) d (omega arith) (omega (arith, b))),
 )
 
-by_key : {X : Type 0} (key : X → ℕ) (n : ℕ) (xs : List X) → RiseFrom (λ x. x) n (map key xs) → RiseFrom key n xs
+by_key : {X : Type 0} (key : X → ℕ) (n : ℕ) (xs : List X) → RisesFrom (λ x. x) n (map key xs) → RisesFrom key n xs
 by_key key n [] h = tt
 by_key key n (x ∷ xs) h = (h.0, by_key key (suc (key x)) xs h.1)
 
-pub rises : {X : Type 0} (key : X → ℕ) (xs : List X) → IsStrictlyIncreasing (map key xs) → RiseFrom key 0 xs
+pub rises : {X : Type 0} (key : X → ℕ) (xs : List X) → IsStrictlyIncreasing (map key xs) → RisesFrom key 0 xs
 rises key xs h = by_key key 0 xs (numbers_rise 0 (map key xs) (AllPairs-from_increasing (map key xs) h) (λ k d b. omega arith))
 
 -- the places rise with the rows
-pub places_rise : (n : ℕ) (is : List ItemRow) (ps : List Place) → GoWith is ps → RiseFrom row_serial n is → RiseFrom place_serial n ps
+pub places_rise : (n : ℕ) (is : List ItemRow) (ps : List Place) → GoWith is ps → RisesFrom row_serial n is → RisesFrom place_serial n ps
 places_rise n [] [] g r = tt
 places_rise n [] (p ∷ ps) g r = absurd g
 places_rise n (i ∷ is) [] g r = absurd g
@@ -70,11 +66,11 @@ places_rise n (i ∷ is) (p ∷ ps) g r =
     let from : n ≤ i.serial = r.0 in
     (omega arith, places_rise (suc p.item.serial) is ps g.1 (ap_rise (suc i.serial) (suc p.item.serial) is (omega arith) r.1))
   where
-    ap_rise : (m n : ℕ) (js : List ItemRow) → m ≡ n → RiseFrom row_serial m js → RiseFrom row_serial n js
-    ap_rise m n js e h = subst (λ k. RiseFrom row_serial k js) e h
+    ap_rise : (m n : ℕ) (js : List ItemRow) → m ≡ n → RisesFrom row_serial m js → RisesFrom row_serial n js
+    ap_rise m n js e h = subst (λ k. RisesFrom row_serial k js) e h
 
 -- what is ahead doesn't change the order
-pub ahead_rise : (bs : List Build) (n : ℕ) (ahead : List Item) (ps : List Place) → RiseFrom place_serial n ps → RiseFrom place_serial n (places_after bs ahead ps)
+pub ahead_rise : (bs : List Build) (n : ℕ) (ahead : List Item) (ps : List Place) → RisesFrom place_serial n ps → RisesFrom place_serial n (places_after bs ahead ps)
 ahead_rise bs n ahead [] r = tt
 ahead_rise bs n ahead (p ∷ ps) r = (r.0, ahead_rise bs (suc p.item.serial) (next_ahead bs (with_ahead ahead p)) ps r.1)
 

@@ -19,9 +19,10 @@ use Rattle.gate_types.specs.Sweep.{Judged, judge, judged_after, next_staying, ne
 use Rattle.gate_types.specs.Sweep.{without_runs}
 use Rattle.gate_types.specs.Rows.{numbered, row_of, fold_edits, edited_items, edited_builds, edited_reports}
 use Rattle.gate_types.specs.Rows.{edited_window}
+use Rattle.gate_types.specs.Rising.{RisesFrom}
 use Rattle.gate_queue.specs.Edits.{edits_after, window_edits, edits_of_queue}
 use Rattle.gate_queue.specs.Settled.{rebased, verdicts, swept_rows, settled_rows}
-use Rattle.gate_queue.proofs.Ordered.{RiseFrom, GoWith, Tells, row_serial, build_number, places_rise, ahead_rise}
+use Rattle.gate_queue.proofs.Ordered.{GoWith, Tells, row_serial, build_number, places_rise, ahead_rise}
 use Rattle.gate_queue.proofs.Ordered.{ahead_with}
 use Rattle.gate_queue.proofs.Folds.{fold_parts, edits_along, along, window_fold, reports_fold, items_fold, reports_of}
 use Rattle.gate_queue.proofs.Builds.{builds_fold}
@@ -34,7 +35,7 @@ use Rattle.gate_queue.proofs.Keeps.{PassesAll, all_alike, places_kept, verdicts_
 use Rattle.gate_queue.proofs.Keeps.{rows_stay}
 
 -- an item of another serial isn't told of
-goes_none : (bs : List Build) (n m : ℕ) (staying : List Item) (ps : List Place) → n < m → RiseFrom place_serial m ps → goes (judged_after bs staying ps) n ≡ false
+goes_none : (bs : List Build) (n m : ℕ) (staying : List Item) (ps : List Place) → n < m → RisesFrom place_serial m ps → goes (judged_after bs staying ps) n ≡ false
 goes_none bs n m staying [] l r = refl
 goes_none bs n m staying (p ∷ ps) l r =
     let from : m ≤ p.item.serial = r.0 in
@@ -46,7 +47,7 @@ goes_none bs n m staying (p ∷ ps) l r =
     v_off true = refl
     v_off false = refl
 
-tells_more : (leaves more : ℕ → Bool) (bs : List Build) (m : ℕ) (staying : List Item) (ps : List Place) → ((n : ℕ) → m ≤ n → more n ≡ leaves n) → RiseFrom place_serial m ps → Tells leaves (judged_after bs staying ps) → Tells more (judged_after bs staying ps)
+tells_more : (leaves more : ℕ → Bool) (bs : List Build) (m : ℕ) (staying : List Item) (ps : List Place) → ((n : ℕ) → m ≤ n → more n ≡ leaves n) → RisesFrom place_serial m ps → Tells leaves (judged_after bs staying ps) → Tells more (judged_after bs staying ps)
 tells_more leaves more bs m staying [] h r t = tt
 tells_more leaves more bs m staying (p ∷ ps) h r t =
     let from : m ≤ p.item.serial = r.0 in (
@@ -55,7 +56,7 @@ tells_more leaves more bs m staying (p ∷ ps) h r t =
     )
 
 -- the verdicts tell which of their items go
-pub goes_tells : (bs : List Build) (m : ℕ) (staying : List Item) (ps : List Place) → RiseFrom place_serial m ps → Tells (goes (judged_after bs staying ps)) (judged_after bs staying ps)
+pub goes_tells : (bs : List Build) (m : ℕ) (staying : List Item) (ps : List Place) → RisesFrom place_serial m ps → Tells (goes (judged_after bs staying ps)) (judged_after bs staying ps)
 goes_tells bs m staying [] r = tt
 goes_tells bs m staying (p ∷ ps) r =
     let next = next_staying staying (judge bs staying p) in
@@ -104,7 +105,7 @@ verdicts_rebased ps bs =
     ap (judged_after (rebased ps bs) []) (places_kept bs [] ps test (rebase_passes bs (places_after bs [] ps))) ∙ verdicts_kept bs [] (places_after bs [] ps) test (rebase_passes bs (places_after bs [] ps))
 
 -- the rows of the items that stay, worked out anew from what a rebase and a sweep leave
-rows_settled : (ps : List Place) (bs : List Build) → RiseFrom place_serial 0 ps →
+rows_settled : (ps : List Place) (bs : List Build) → RisesFrom place_serial 0 ps →
     (let leaves = goes (verdicts ps bs) in let left = without_runs leaves (rebased ps bs) in map (row_of left) (places_after left [] (stayers leaves ps)) ≡ map (row_of bs) (stayers leaves (places_after bs [] ps)))
 rows_settled ps bs r =
     let test = stays_live bs (places_after bs [] ps) in
@@ -118,7 +119,7 @@ rows_settled ps bs r =
     ∙ stayers_kept bs (places_after bs [] ps) leaves test (rebase_passes bs (places_after bs [] ps))
 
 -- what the edits make of the rows
-pub edits_make : (name : List ℕ) (bounds : Bounds) (w n : ℕ) (bs : List Build) (is : List ItemRow) (ps : List Place) (rs : List Report) → length rs ≡ n → GoWith is ps → RiseFrom row_serial 0 is → RiseFrom build_number 0 bs →
+pub edits_make : (name : List ℕ) (bounds : Bounds) (w n : ℕ) (bs : List Build) (is : List ItemRow) (ps : List Place) (rs : List Report) → length rs ≡ n → GoWith is ps → RisesFrom row_serial 0 is → RisesFrom build_number 0 bs →
     fold_edits (record { name = name; window = w; items = is; builds = bs; reports = numbered 0 rs }) (edits_of_queue name bounds w n bs ps)
     ≡ record {
       name = name;
@@ -144,7 +145,7 @@ edits_make name bounds w n bs is ps rs en g r rb =
     ∙ window_leaves (edited_items name) name w new (fold (edited_items name) is own) refl
     ∙ ap (fold (edited_items name) is) same
     ∙ ap (λ (l : List ItemRow). fold (edited_items name) l (edits_along name bs n [] qs)) (sym (append-nil is))
-    ∙ items_fold name bs n 0 [] (goes js) [] is [] qs tt (subst (RiseFrom row_serial 0) (sym (append-nil is)) r) (ahead_with bs [] is ps g) (goes_tells bs 0 [] qs rq)
+    ∙ items_fold name bs n 0 [] (goes js) [] is [] qs tt (subst (RisesFrom row_serial 0) (sym (append-nil is)) r) (ahead_with bs [] is ps g) (goes_tells bs 0 [] qs rq)
     ∙ append-nil (map (row_of bs) (stayers (goes js) qs)) in
     let builds : fold (edited_builds name) bs (own ++ last) ≡ without_runs (goes js) (rebased ps bs) =
     fold-append (edited_builds name) bs own last
@@ -159,7 +160,7 @@ edits_make name bounds w n bs is ps rs en g r rb =
     parts ∙ (λ k. record { name = name; window = windows k; items = items k; builds = builds k; reports = reports k })
 
 -- they are those of a rebase and then a sweep
-pub settles : (name : List ℕ) (bounds : Bounds) (w n : ℕ) (bs : List Build) (is : List ItemRow) (ls : List Landing) (ps : List Place) (rs : List Report) (items : List Item) → length rs ≡ n → GoWith is ps → RiseFrom row_serial 0 is → RiseFrom build_number 0 bs →
+pub settles : (name : List ℕ) (bounds : Bounds) (w n : ℕ) (bs : List Build) (is : List ItemRow) (ls : List Landing) (ps : List Place) (rs : List Report) (items : List Item) → length rs ≡ n → GoWith is ps → RisesFrom row_serial 0 is → RisesFrom build_number 0 bs →
     fold_edits (record { name = name; window = w; items = is; builds = bs; reports = numbered 0 rs }) (edits_of_queue name bounds w n bs ps)
     ≡ settled_rows bounds ps bs (record { name = name; window = w; landings = ls; items = items; reports = rs })
 settles name bounds w n bs is ls ps rs items en g r rb =

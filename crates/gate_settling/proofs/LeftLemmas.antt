@@ -34,9 +34,10 @@ use Rattle.gate_reads.specs.declared.touched.Event.{Event}
 use Rattle.gate_reads.specs.declared.touched.Event.TheVariants as event
 use Rattle.gate_laws.proofs.Members.{In, every, map_map, from_append, to_left, to_right, none_to}
 use Rattle.gate_laws.proofs.Parts.{ItemsRise}
-use Rattle.gate_queue.proofs.Ordered.{RiseFrom, AllBelow, rises}
+use Rattle.gate_queue.proofs.Ordered.{AllBelow, rises}
 use Rattle.gate_walk.proofs.Parting.{rise_at}
 use Rattle.gate_types.specs.Once.{Content}
+use Rattle.gate_types.specs.Rising.{RisesFrom}
 use Rattle.gate_settling.specs.Touching.{Touching}
 use Rattle.gate_settling.specs.Rows.{has_landed, reports_now, build_now}
 use Rattle.gate_settling.proofs.ColumnLemmas.{columns_found}
@@ -72,7 +73,7 @@ below_apart n (k ∷ js) b j m = elim m [
   | inr r ↦ below_apart n js b.1 j r
 ]
 
-above_apart : (n low : ℕ) (js : List Item) → n < low → RiseFrom (λ j. j.serial) low js → (j : Item) → In j js →
+above_apart : (n low : ℕ) (js : List Item) → n < low → RisesFrom (λ j. j.serial) low js → (j : Item) → In j js →
     j.serial == n ≡ false
 above_apart n low [] l r j m = absurd m
 above_apart n low (k ∷ js) l r j m = elim m [
@@ -82,7 +83,7 @@ above_apart n low (k ∷ js) l r j m = elim m [
 ]
 
 -- no other item of the queue has the serial
-apart : (is js : List Item) (i : Item) → RiseFrom (λ (j : Item). j.serial) 0 (is ++ i ∷ js) →
+apart : (is js : List Item) (i : Item) → RisesFrom (λ (j : Item). j.serial) 0 (is ++ i ∷ js) →
     ((j : Item) → In j is → j.serial == i.serial ≡ false) × ((j : Item) → In j js → j.serial == i.serial ≡ false)
 apart is js i r =
     let parts = rise_at (λ (j : Item). j.serial) 0 is i js r in
@@ -133,7 +134,7 @@ is_apart : (c : Settings) (s : State) (q : Queue) (is : List Item) (i : Item) (j
 is_apart c s q is i js h =
     let m = subst (In q) (sym h.queues) (to_right h.before (q ∷ h.after) q (inl refl)) in
     let rise = rises (λ (j : Item). j.serial) q.items (every ItemsRise s.queues h.sound.items_rise q m) in
-    let both = apart is js i (subst (RiseFrom (λ (j : Item). j.serial) 0) h.items rise) in
+    let both = apart is js i (subst (RisesFrom (λ (j : Item). j.serial) 0) h.items rise) in
     record { there = m; before = both.0; behind = both.1 }
 
 rows_out : (c : Settings) (s : State) (q : Queue) (is : List Item) (i : Item) (js : List Item) → IsIn c s q is i js →

@@ -8,11 +8,12 @@ use Rattle.std.proofs.lemmas.List.{take-append-le, append-nil, length-append}
 use Rattle.std.proofs.lemmas.List.Folds.{list_any-append}
 use Rattle.gate_types.specs.declared.records.Item.{Item as ItemRow}
 use Rattle.gate_types.specs.State.{State, change_of}
+use Rattle.gate_types.specs.Rising.{RisesFrom}
 use Rattle.gate_types.proofs.PlainLemmas.{and_false, filter_twice}
 use Rattle.gate_walk.specs.Walk.{Seen, Walk, behind_visit, verdict_by}
 use Rattle.gate_book_trait.specs.Reads.{first_above, items_needing}
 use Rattle.gate_laws.proofs.Members.{In, from_filter, filter_same, found}
-use Rattle.gate_queue.proofs.Ordered.{RiseFrom, row_serial}
+use Rattle.gate_queue.proofs.Ordered.{row_serial}
 use Rattle.gate_settling.specs.Rows.{is_needing, first_needing_any, needing_any, merged, joined_behind, AreKept}
 use Rattle.gate_settling.proofs.ListLemmas.{or_false, find_same, find_kept}
 use Rattle.gate_settling.proofs.WantedLemmas.{low_in}
@@ -20,7 +21,7 @@ use Rattle.gate_settling.proofs.WantedLemmas.{low_in}
 -- ---- rows of two lists
 
 -- rows that rise, kept by two tests and merged, are those that pass one of them
-pub joined_is : (p q : ItemRow → Bool) (n : ℕ) (rows : List ItemRow) → RiseFrom row_serial n rows →
+pub joined_is : (p q : ItemRow → Bool) (n : ℕ) (rows : List ItemRow) → RisesFrom row_serial n rows →
     merged (filter p rows) (filter q rows) ≡ filter (λ r. p r || q r) rows
 joined_is p q n [] h = refl
 joined_is p q n (y ∷ rows) h = by_both (p y) (q y) (joined_is p q (suc y.serial) rows h.1)
@@ -65,7 +66,7 @@ joined_is p q n (y ∷ rows) h = by_both (p y) (q y) (joined_is p q (suc y.seria
 -- ---- the rows that need one of several changes
 
 -- one change more
-pub needing_more : (s : State) (gone : List ℕ) (g n : ℕ) (rows : List ItemRow) → RiseFrom row_serial 0 rows →
+pub needing_more : (s : State) (gone : List ℕ) (g n : ℕ) (rows : List ItemRow) → RisesFrom row_serial 0 rows →
     merged (needing_any s gone n rows) (items_needing s g n rows) ≡ needing_any s (gone ++ g ∷ []) n rows
 needing_more s gone g n rows h =
     joined_is (λ r. nat_lt n r.serial && is_needing s gone r) (λ r. nat_lt n r.serial && needs r g) 0 rows h

@@ -11,6 +11,7 @@ use Rattle.gate_types.specs.State.{Queue, State, known_change}
 use Rattle.gate_types.specs.Lawful.{IsSound}
 use Rattle.gate_types.specs.Rows.{item_rows}
 use Rattle.gate_types.specs.Once.{Content}
+use Rattle.gate_types.specs.Rising.{RisesFrom}
 use Rattle.gate_types.proofs.PlainLemmas.{and_false, same_truth}
 use Rattle.gate_walk.specs.declared.walk.Next.{Next as CodeNext}
 use Rattle.gate_walk.specs.declared.walk.Next.TheVariants as code
@@ -24,7 +25,7 @@ use Rattle.gate_laws.proofs.Members.{In, every, from_map, found, any_map}
 use Rattle.gate_laws.proofs.Parts.{ItemsRise}
 use Rattle.gate_laws.proofs.Tests.{not_and_false}
 use Rattle.gate_book_trait.proofs.Finding.{find_map}
-use Rattle.gate_queue.proofs.Ordered.{RiseFrom, row_serial, rises}
+use Rattle.gate_queue.proofs.Ordered.{row_serial, rises}
 use Rattle.gate_queue.proofs.LawLemmas.{items_rise}
 use Rattle.gate_walk.proofs.Visits.{stored_rise}
 use Rattle.gate_settling.specs.Touching.{Touching, delivered, sees, IsUnderWay}
@@ -175,7 +176,7 @@ goes_under_way h old new r vs next row g f l e =
 
 -- ---- the rows of a queue
 
-pub low_in : (n : ℕ) (rows : List ItemRow) → RiseFrom row_serial n rows → (r : ItemRow) → In r rows → n ≤ r.serial
+pub low_in : (n : ℕ) (rows : List ItemRow) → RisesFrom row_serial n rows → (r : ItemRow) → In r rows → n ≤ r.serial
 low_in n [] h r m = absurd m
 low_in n (y ∷ rows) h r m =
     let low : n ≤ y.serial = h.0 in
@@ -186,10 +187,10 @@ low_in n (y ∷ rows) h r m =
 
 -- the rows of a queue rise
 pub items_in_rise : (c : Settings) (s : State) → IsSound c s → (name : List ℕ) →
-    RiseFrom row_serial 0 (items_in c s name)
+    RisesFrom row_serial 0 (items_in c s name)
 items_in_rise c s sound name = by_queue (queue_named s name) refl
   where
-    by_queue : (f : Option Queue) → queue_named s name ≡ f → RiseFrom row_serial 0 (option_map_or (item_rows c s) f [])
+    by_queue : (f : Option Queue) → queue_named s name ≡ f → RisesFrom row_serial 0 (option_map_or (item_rows c s) f [])
     by_queue None e = tt
     by_queue (Some q) e =
         let there = found _ s.queues q e in

@@ -33,6 +33,7 @@ pub mod Forms
 pub mod SettingsText
 pub mod Columns
 pub mod Keys
+pub mod Rising
 pub mod Rows
 pub mod Tables
 pub mod AdoptedTables

@@ -25,13 +25,14 @@ use Rattle.gate_types.specs.Standing.{with_ahead, next_ahead, places_after, plac
 use Rattle.gate_types.specs.Sweep.{Judged, judge, judged, judged_after, verdict_of}
 use Rattle.gate_types.specs.Rows.{row_of}
 use Rattle.gate_types.specs.Lawful.{IsSound, is_sound_item, is_sound_build, is_of_item, waiting_changes, landed_changes}
+use Rattle.gate_types.specs.Rising.{RisesFrom}
 use Rattle.gate_walk.specs.Rescan.{live_builds_are_wanted, standing_in, IsCalm}
 use Rattle.gate_laws.proofs.Members.{In, every, all_from, any_from, to_map, to_flat}
 use Rattle.gate_laws.proofs.ContentForms.{is_none}
 use Rattle.gate_laws.proofs.LiveBuildsCount.{place_serial}
 use Rattle.gate_laws.proofs.RecordedChange.{open_unlanded}
 use Rattle.gate_walk.proofs.Once.{Once, once, once_left, once_right}
-use Rattle.gate_queue.proofs.Ordered.{RiseFrom, rises}
+use Rattle.gate_queue.proofs.Ordered.{rises}
 use Rattle.gate_queue.proofs.Builds.{or_false}
 use Rattle.gate_walk.proofs.Slots.{is_live_of, wanted_all_count, wanted_all_ended}
 use Rattle.gate_walk.proofs.Resets.{Quiet, NotLanded}
@@ -157,14 +158,14 @@ quiet_queue c s h r q m stand tail says =
 
 -- ---- serials
 
-pub places_rise_from : (c : Settings) (s : State) (q : Queue) (n : ℕ) (is : List Item) → RiseFrom (λ (i : Item). i.serial) n is → RiseFrom place_serial n (map (place_of c s q) is)
+pub places_rise_from : (c : Settings) (s : State) (q : Queue) (n : ℕ) (is : List Item) → RisesFrom (λ (i : Item). i.serial) n is → RisesFrom place_serial n (map (place_of c s q) is)
 places_rise_from c s q n [] r = tt
 places_rise_from c s q n (i ∷ is) r = (r.0, places_rise_from c s q (suc i.serial) is r.1)
 
-pub items_rise_from : (c : Settings) (s : State) → IsSound c s → (q : Queue) → In q s.queues → RiseFrom (λ (i : Item). i.serial) 0 q.items
+pub items_rise_from : (c : Settings) (s : State) → IsSound c s → (q : Queue) → In q s.queues → RisesFrom (λ (i : Item). i.serial) 0 q.items
 items_rise_from c s h q m = rises (λ (i : Item). i.serial) q.items (every (λ (o : Queue). IsStrictlyIncreasing (map (λ i. i.serial) o.items)) s.queues h.items_rise q m)
 
-above : {X : Type 0} (key : X → ℕ) (n : ℕ) (front : List X) (x : X) (behind : List X) → RiseFrom key n (front ++ x ∷ behind) → n ≤ key x
+above : {X : Type 0} (key : X → ℕ) (n : ℕ) (front : List X) (x : X) (behind : List X) → RisesFrom key n (front ++ x ∷ behind) → n ≤ key x
 above key n [] x behind r = r.0
 above key n (y ∷ ys) x behind r =
     let low : n ≤ key y = r.0 in
@@ -172,32 +173,32 @@ above key n (y ∷ ys) x behind r =
     omega arith
 
 -- those before an item have lower serials
-pub lower_front : (n : ℕ) (front : List Place) (p : Place) (behind : List Place) → RiseFrom place_serial n (front ++ p ∷ behind) → Others p.item.serial front
+pub lower_front : (n : ℕ) (front : List Place) (p : Place) (behind : List Place) → RisesFrom place_serial n (front ++ p ∷ behind) → Others p.item.serial front
 lower_front n [] p behind r = tt
 lower_front n (f ∷ front) p behind r =
     let more : suc f.item.serial ≤ p.item.serial = above place_serial (suc f.item.serial) front p behind r.1 in
     (ne_eqb f.item.serial p.item.serial (λ e. omega (arith, e)), lower_front (suc f.item.serial) front p behind r.1)
 
-higher_all : (m n : ℕ) (ps : List Place) → m < n → RiseFrom place_serial n ps → Others m ps
+higher_all : (m n : ℕ) (ps : List Place) → m < n → RisesFrom place_serial n ps → Others m ps
 higher_all m n [] l r = tt
 higher_all m n (p ∷ ps) l r =
     let low : n ≤ p.item.serial = r.0 in
     (ne_eqb p.item.serial m (λ e. omega (arith, e)), higher_all m (suc p.item.serial) ps (omega arith) r.1)
 
 -- those behind it higher ones
-pub higher_behind : (n : ℕ) (front : List Place) (p : Place) (behind : List Place) → RiseFrom place_serial n (front ++ p ∷ behind) → RiseFrom place_serial (suc p.item.serial) behind
+pub higher_behind : (n : ℕ) (front : List Place) (p : Place) (behind : List Place) → RisesFrom place_serial n (front ++ p ∷ behind) → RisesFrom place_serial (suc p.item.serial) behind
 higher_behind n [] p behind r = r.1
 higher_behind n (f ∷ front) p behind r = higher_behind (suc f.item.serial) front p behind r.1
 
-pub others_behind : (p : Place) (behind : List Place) → RiseFrom place_serial (suc p.item.serial) behind → Others p.item.serial behind
+pub others_behind : (p : Place) (behind : List Place) → RisesFrom place_serial (suc p.item.serial) behind → Others p.item.serial behind
 others_behind p behind r = higher_all p.item.serial (suc p.item.serial) behind (omega arith) r
 
-rise_more : (m n : ℕ) (ps : List Place) → m ≤ n → RiseFrom place_serial n ps → RiseFrom place_serial m ps
+rise_more : (m n : ℕ) (ps : List Place) → m ≤ n → RisesFrom place_serial n ps → RisesFrom place_serial m ps
 rise_more m n [] l r = tt
 rise_more m n (p ∷ ps) l r = let low : n ≤ p.item.serial = r.0 in (omega arith, r.1)
 
 -- without it they rise still
-pub rise_without : (n : ℕ) (front : List Place) (p : Place) (behind : List Place) → RiseFrom place_serial n (front ++ p ∷ behind) → RiseFrom place_serial n (front ++ behind)
+pub rise_without : (n : ℕ) (front : List Place) (p : Place) (behind : List Place) → RisesFrom place_serial n (front ++ p ∷ behind) → RisesFrom place_serial n (front ++ behind)
 rise_without n [] p behind r = let low : n ≤ p.item.serial = r.0 in rise_more n (suc p.item.serial) behind (omega arith) r.1
 rise_without n (f ∷ front) p behind r = (r.0, rise_without (suc f.item.serial) front p behind r.1)
 

@@ -20,10 +20,11 @@ use Rattle.gate_types.specs.Rebase.{with_live}
 use Rattle.gate_types.specs.Sweep.{without_runs}
 use Rattle.gate_types.specs.Step.{with_ending}
 use Rattle.gate_types.specs.Lawful.{live_builds_of, is_single}
+use Rattle.gate_types.specs.Rising.{RisesFrom}
 use Rattle.std.proofs.lemmas.List.Sums.{sum_by-cons}
 use Rattle.gate_laws.proofs.Members.{In, to_filter}
 use Rattle.gate_laws.proofs.EndedBuild.{ended, ended_serial}
-use Rattle.gate_queue.proofs.Ordered.{RiseFrom, build_number}
+use Rattle.gate_queue.proofs.Ordered.{build_number}
 use Rattle.gate_walk.proofs.Slots.{is_live_of, all_count, count_all}
 use Rattle.gate_walk.proofs.Moved.{Elsewhere}
 
@@ -33,11 +34,11 @@ pub else_map : (t : ℕ) (f : Build → Build) (bs : List Build) → ((b : Build
 else_map t f [] hs h = tt
 else_map t f (b ∷ bs) hs h = (hs b, h b (inl refl), else_map t f bs hs (λ x m. h x (inr m)))
 
-pub rise_map : (f : Build → Build) (n : ℕ) (bs : List Build) → ((b : Build) → (f b).number ≡ b.number) → RiseFrom build_number n bs → RiseFrom build_number n (map f bs)
+pub rise_map : (f : Build → Build) (n : ℕ) (bs : List Build) → ((b : Build) → (f b).number ≡ b.number) → RisesFrom build_number n bs → RisesFrom build_number n (map f bs)
 rise_map f n [] h r = tt
 rise_map f n (b ∷ bs) h r = (
   subst (λ m. n ≤ m) (sym (h b)) r.0,
-  subst (λ m. RiseFrom build_number (suc m) (map f bs)) (sym (h b)) (rise_map f (suc b.number) bs h r.1),
+  subst (λ m. RisesFrom build_number (suc m) (map f bs)) (sym (h b)) (rise_map f (suc b.number) bs h r.1),
 )
 
 -- ---- the item leaves
@@ -51,7 +52,7 @@ pub stops_elsewhere : (t : ℕ) (bs : List Build) → Elsewhere t bs (without_ru
 stops_elsewhere t bs = else_map t (λ b. with_live (b.live && not (is_running b.outcome && b.serial == t)) b) bs (λ b. refl)
     (λ b m e. λ k. with_live ((ap (λ x. b.live && not (is_running b.outcome && x)) e ∙ off_run b.live (is_running b.outcome)) k) b)
 
-pub stops_rise : (t n : ℕ) (bs : List Build) → RiseFrom build_number n bs → RiseFrom build_number n (without_runs (λ m. m == t) bs)
+pub stops_rise : (t n : ℕ) (bs : List Build) → RisesFrom build_number n bs → RisesFrom build_number n (without_runs (λ m. m == t) bs)
 stops_rise t n bs r = rise_map (λ b. with_live (b.live && not (is_running b.outcome && b.serial == t)) b) n bs (λ b. refl) r
 
 -- ---- a build ends
@@ -63,14 +64,14 @@ ended_number e n b = at (b.number == n)
     at true = refl
     at false = refl
 
-number_above : (n : ℕ) (bs : List Build) (b : Build) → RiseFrom build_number n bs → In b bs → n ≤ b.number
+number_above : (n : ℕ) (bs : List Build) (b : Build) → RisesFrom build_number n bs → In b bs → n ≤ b.number
 number_above n [] b r m = absurd m
 number_above n (x ∷ xs) b r m =
     ⊎_elim (λ (e : x ≡ b). subst (λ (y : Build). n ≤ y.number) e r.0)
     (λ (h : In b xs). let i : suc x.number ≤ b.number = number_above (suc x.number) xs b r.1 h in let j : n ≤ x.number = r.0 in omega arith) m
 
 -- a number is one build's
-pub one_number : (n : ℕ) (bs : List Build) (a b : Build) → RiseFrom build_number n bs → In a bs → In b bs → a.number ≡ b.number → a ≡ b
+pub one_number : (n : ℕ) (bs : List Build) (a b : Build) → RisesFrom build_number n bs → In a bs → In b bs → a.number ≡ b.number → a ≡ b
 one_number n [] a b r ma mb e = absurd ma
 one_number n (x ∷ xs) a b r ma mb e =
     ⊎_elim
@@ -80,7 +81,7 @@ one_number n (x ∷ xs) a b r ma mb e =
     (λ (eb : x ≡ b). let up : suc x.number ≤ a.number = number_above (suc x.number) xs a r.1 ha in let same : x.number ≡ b.number = ap (λ (y : Build). y.number) eb in absurd (omega (arith, e)))
     (λ (hb : In b xs). one_number (suc x.number) xs a b r.1 ha hb e) mb) ma
 
-pub ended_elsewhere : (e : Ending) (b : Build) (t : ℕ) (bs : List Build) → RiseFrom build_number 0 bs → In b bs → b.serial ≡ t → Elsewhere t bs (map (ended e b.number) bs)
+pub ended_elsewhere : (e : Ending) (b : Build) (t : ℕ) (bs : List Build) → RisesFrom build_number 0 bs → In b bs → b.serial ≡ t → Elsewhere t bs (map (ended e b.number) bs)
 ended_elsewhere e b t bs r mb s = else_map t (ended e b.number) bs (ended_serial e b.number) (λ x mx o. at x mx o (x.number == b.number) refl)
   where
     at : (x : Build) → In x bs → (x.serial == t) ≡ false → (y : Bool) → (x.number == b.number) ≡ y → cond (x.number == b.number) (with_ending e x) x ≡ x
@@ -89,7 +90,7 @@ ended_elsewhere e b t bs r mb s = else_map t (ended e b.number) bs (ended_serial
         let same = one_number 0 bs x b r mx mb (eqb-true x.number b.number k) in
         absurd (true≢false (sym (eq-eqb x.serial t (ap (λ (y : Build). y.serial) same ∙ s)) ∙ o))
 
-pub ended_rise : (e : Ending) (m n : ℕ) (bs : List Build) → RiseFrom build_number n bs → RiseFrom build_number n (map (ended e m) bs)
+pub ended_rise : (e : Ending) (m n : ℕ) (bs : List Build) → RisesFrom build_number n bs → RisesFrom build_number n (map (ended e m) bs)
 ended_rise e m n bs r = rise_map (ended e m) n bs (ended_number e m) r
 
 ended_counts : (e : Ending) (n : ℕ) (p : Place) (b : Build) → counts p (ended e n b) ≡ counts p b
@@ -248,7 +249,7 @@ running_job s p j b h single mb run own name =
     ∙ not_failed os (subst (λ m. m ≤ 3) (sym (length_outcomes (live_builds_of s p j))) three) (subst (λ m. m ≤ 1) (count_outcomes (live_builds_of s p j)) one) (has_running (live_builds_of s p j) b there both.1)
 
 -- of another job nothing changes
-other_job : (e : Ending) (b : Build) (p : Place) (j : Job) (all bs : List Build) → RiseFrom build_number 0 all → In b all → ((x : Build) → In x bs → In x all) → same_name b.job j.name ≡ false → outcomes_of (map (ended e b.number) bs) p j ≡ outcomes_of bs p j
+other_job : (e : Ending) (b : Build) (p : Place) (j : Job) (all bs : List Build) → RisesFrom build_number 0 all → In b all → ((x : Build) → In x bs → In x all) → same_name b.job j.name ≡ false → outcomes_of (map (ended e b.number) bs) p j ≡ outcomes_of bs p j
 other_job e b p j all [] r mb sub o = refl
 other_job e b p j all (x ∷ xs) r mb sub o = at (x.number == b.number) refl (other_job e b p j all xs r mb (λ y m. sub y (inr m)) o)
   where
@@ -274,7 +275,7 @@ other_job e b p j all (x ∷ xs) r mb sub o = at (x.number == b.number) refl (ot
         ∙ sym (push (same_name x.job j.name && counts p x) x (filter (λ y. same_name y.job j.name && counts p y) xs))
 
 -- a failing item that has a running build is failing still when that ends
-pub ended_fails : (s : State) (p : Place) (b : Build) (e : Ending) → RiseFrom build_number 0 s.builds → all_count s.builds p ≡ true → ((j : Job) → In j p.jobs → is_single s p j ≡ true) → In b s.builds → b.live && is_running b.outcome ≡ true → b.serial ≡ p.item.serial →
+pub ended_fails : (s : State) (p : Place) (b : Build) (e : Ending) → RisesFrom build_number 0 s.builds → all_count s.builds p ≡ true → ((j : Job) → In j p.jobs → is_single s p j ≡ true) → In b s.builds → b.live && is_running b.outcome ≡ true → b.serial ≡ p.item.serial →
     is_failing s.builds p ≡ true → is_failing (map (ended e b.number) s.builds) p ≡ true
 ended_fails s p b e r h single mb run own f =
     ⊎_elim (λ (x : is_blocked p ≡ true). ap (λ t. t || list_any (λ j. j.voting && is_failed_slot (raw_slot_of (map (ended e b.number) s.builds) p j)) p.jobs) x)

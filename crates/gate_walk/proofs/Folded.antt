@@ -24,11 +24,12 @@ use Rattle.gate_types.specs.Sweep.{judge, judged_after, next_staying, next_windo
 use Rattle.gate_types.specs.Window.{Bounds}
 use Rattle.gate_types.specs.Rows.{numbered, row_of, fold_edits, edited_items, edited_builds, edited_reports}
 use Rattle.gate_types.specs.Rows.{edited_window}
+use Rattle.gate_types.specs.Rising.{RisesFrom}
 use Rattle.gate_queue.specs.Edits.{stops, stop_edits, item_edits, edits_at, next_reports, window_behind}
 use Rattle.gate_queue.specs.Settled.{verdicts, settled_rows}
 use Rattle.gate_walk.specs.Walk.{Seen, Carry, asks_for, carried, is_same_row, row_edits, visit_edits, walk_edits}
 use Rattle.gate_walk.specs.Walk.{window_edits_by}
-use Rattle.gate_queue.proofs.Ordered.{RiseFrom, AllBelow, GoWith, Tells, row_serial, build_number, places_rise}
+use Rattle.gate_queue.proofs.Ordered.{AllBelow, GoWith, Tells, row_serial, build_number, places_rise}
 use Rattle.gate_queue.proofs.Ordered.{ahead_rise, ahead_with}
 use Rattle.gate_queue.proofs.Folds.{fold_parts, edits_along, stops_leave, window_own, window_same, reports_fold}
 use Rattle.gate_queue.proofs.Folds.{items_own, below_kept, below_more, kept, kept_cons}
@@ -108,7 +109,7 @@ row_aside f name n i x None y h = by_test (is_same_row i x)
 row_aside f name n i x (Some v) y h = refl
 
 -- and the items are the same
-pub items_row : (name : List ℕ) (n : ℕ) (done : List ItemRow) (i x : ItemRow) (v : Option Verdict) (rest : List ItemRow) → x.serial ≡ i.serial → AllBelow row_serial i.serial done → RiseFrom row_serial (suc i.serial) rest →
+pub items_row : (name : List ℕ) (n : ℕ) (done : List ItemRow) (i x : ItemRow) (v : Option Verdict) (rest : List ItemRow) → x.serial ≡ i.serial → AllBelow row_serial i.serial done → RisesFrom row_serial (suc i.serial) rest →
     fold (edited_items name) (done ++ i ∷ rest) (row_edits name n i x v) ≡ (done ++ kept v x) ++ rest
 items_row name n done i x None rest e h r = by_test (is_same_row i x) refl
   where
@@ -199,7 +200,7 @@ part_told f name bounds bs n w staying (p ∷ ps) (i ∷ is) (None ∷ es) y hw 
 
 -- between rows that are done and a tail, each item that stays has its row with both columns
 items_told : (name : List ℕ) (bounds : Bounds) (bs : List Build) (n m w : ℕ) (staying : List Item) (leaves : ℕ → Bool) (done is : List ItemRow) (ps : List Place) (es : List (Option (List Edit))) →
-    AllBelow row_serial m done → RiseFrom row_serial m is → GoWith is ps → Tells leaves (judged_after bs staying ps) → Right name bounds bs n w staying ps is es →
+    AllBelow row_serial m done → RisesFrom row_serial m is → GoWith is ps → Tells leaves (judged_after bs staying ps) → Right name bounds bs n w staying ps is es →
     fold (edited_items name) (done ++ is) (told es) ≡ done ++ (map (row_of bs) (stayers leaves ps) ++ [])
 items_told name bounds bs n m w staying leaves done [] [] [] h r g t a = refl
 items_told name bounds bs n m w staying leaves done [] [] (e ∷ es) h r g t a = absurd a
@@ -235,7 +236,7 @@ items_told name bounds bs n m w staying leaves done (i ∷ is) (p ∷ ps) (None 
 
 -- the walk's edits settle the queue as a look at all of it would
 pub walk_settles : (name : List ℕ) (bounds : Bounds) (w n : ℕ) (bs : List Build) (is : List ItemRow) (ls : List Landing) (ps : List Place) (rs : List Report) (items : List Item) (es : List (Option (List Edit))) →
-    length rs ≡ n → GoWith is ps → RiseFrom row_serial 0 is → RiseFrom build_number 0 bs → Right name bounds bs n w [] (places_after bs [] ps) is es →
+    length rs ≡ n → GoWith is ps → RisesFrom row_serial 0 is → RisesFrom build_number 0 bs → Right name bounds bs n w [] (places_after bs [] ps) is es →
     fold_edits (record { name = name; window = w; items = is; builds = bs; reports = numbered 0 rs }) (told es)
     ≡ settled_rows bounds ps bs (record { name = name; window = w; landings = ls; items = items; reports = rs })
 walk_settles name bounds w n bs is ls ps rs items es en g r rb a =

@@ -4,10 +4,11 @@ use Rattle.std.proofs.Common.{◌++◌, map, refl, sym, ap, ◌∙◌, arith, ap
 use Rattle.std.specs.Prelude.{nat_lt, nat_le, filter, find}
 use Rattle.std.proofs.lemmas.Bool.{lt-ltb, le-ltb, ltb-true, le-leb, leb-true}
 use Rattle.gate_types.specs.Window.{Bounds}
+use Rattle.gate_types.specs.Rising.{RisesFrom}
 use Rattle.gate_types.specs.declared.edits.Edit.{Edit}
 use Rattle.gate_walk.specs.Walk.{Seen, Carry, visit_edits, carried, asks_for, walk_edits, walk_from}
 use Rattle.gate_walk.specs.Next.{untold, VisitsGoOn}
-use Rattle.gate_queue.proofs.Ordered.{RiseFrom, AllBelow, rises}
+use Rattle.gate_queue.proofs.Ordered.{AllBelow, rises}
 use Rattle.gate_walk.specs.Rescan.{row_seen}
 use Rattle.gate_walk.proofs.Visits.{seen_from}
 use Rattle.gate_walk.proofs.NextRows.{seen_serial, test_of, wanted_is, below_push, below_up}
@@ -16,7 +17,7 @@ abbrev above : ℕ → Seen → Bool
 above n v = nat_lt n v.row.serial
 
 -- rows that rise from above a serial are all above it
-all_above : (n m : ℕ) (vs : List Seen) → n < m → RiseFrom seen_serial m vs → filter (above n) vs ≡ vs
+all_above : (n m : ℕ) (vs : List Seen) → n < m → RisesFrom seen_serial m vs → filter (above n) vs ≡ vs
 all_above n m [] l r = refl
 all_above n m (v ∷ vs) l r =
     let low : m ≤ v.row.serial = r.0 in
@@ -30,7 +31,7 @@ past n (u ∷ us) vs b =
     ap (λ t. cond t (u ∷ filter (above n) (us ++ vs)) (filter (above n) (us ++ vs))) (le-ltb n u.row.serial (omega arith)) ∙ past n us vs b.1
 
 -- behind a row are the rows behind it
-behind : (us : List Seen) (v : Seen) (vs : List Seen) → AllBelow seen_serial v.row.serial us → RiseFrom seen_serial (suc v.row.serial) vs → filter (above v.row.serial) (us ++ v ∷ vs) ≡ vs
+behind : (us : List Seen) (v : Seen) (vs : List Seen) → AllBelow seen_serial v.row.serial us → RisesFrom seen_serial (suc v.row.serial) vs → filter (above v.row.serial) (us ++ v ∷ vs) ≡ vs
 behind us v vs b r =
     ap (filter (above v.row.serial)) (sym (append_assoc us (v ∷ []) vs))
     ∙ past v.row.serial (us ++ v ∷ []) vs (below_push (suc v.row.serial) us v (below_up v.row.serial (suc v.row.serial) us (omega arith) b) (omega arith))
@@ -40,7 +41,7 @@ behind us v vs b r =
 abbrev told_by : List ℕ → Bounds → Carry → Option Seen → List Seen → List Edit
 told_by name bounds k o ws = elim o as (λ x. List Edit) [ None ↦ [] | Some v ↦ visit_edits name bounds k v ++ untold name bounds (carried bounds k v) v.row.serial ws ]
 
-goes_on : (name : List ℕ) (bounds : Bounds) (n m : ℕ) (k : Carry) (us vs : List Seen) → AllBelow seen_serial m us → RiseFrom seen_serial m vs → walk_edits name bounds k (filter (above n) vs) ≡ told_by name bounds k (find (test_of k n) vs) (us ++ vs)
+goes_on : (name : List ℕ) (bounds : Bounds) (n m : ℕ) (k : Carry) (us vs : List Seen) → AllBelow seen_serial m us → RisesFrom seen_serial m vs → walk_edits name bounds k (filter (above n) vs) ≡ told_by name bounds k (find (test_of k n) vs) (us ++ vs)
 goes_on name bounds n m k us [] b r = refl
 goes_on name bounds n m k us (v ∷ vs) b r =
     let low : m ≤ v.row.serial = r.0 in
@@ -64,7 +65,7 @@ goes_on name bounds n m k us (v ∷ vs) b r =
         ∙ sym (ap (λ t. told_by name bounds k (cond t (Some v) (find (test_of k n) vs)) (us ++ v ∷ vs)) ey)
 
 -- the same of the first visit
-begins : (name : List ℕ) (bounds : Bounds) (n m : ℕ) (k : Carry) (us vs : List Seen) → AllBelow seen_serial m us → RiseFrom seen_serial m vs → walk_from name bounds k (filter (λ v. nat_le n v.row.serial) vs) ≡ told_by name bounds k (find (λ v. nat_le n v.row.serial) vs) (us ++ vs)
+begins : (name : List ℕ) (bounds : Bounds) (n m : ℕ) (k : Carry) (us vs : List Seen) → AllBelow seen_serial m us → RisesFrom seen_serial m vs → walk_from name bounds k (filter (λ v. nat_le n v.row.serial) vs) ≡ told_by name bounds k (find (λ v. nat_le n v.row.serial) vs) (us ++ vs)
 begins name bounds n m k us [] b r = refl
 begins name bounds n m k us (v ∷ vs) b r =
     let low : m ≤ v.row.serial = r.0 in
@@ -73,7 +74,7 @@ begins name bounds n m k us (v ∷ vs) b r =
     (ap (λ l. told_by name bounds k (find (λ x. nat_le n x.row.serial) vs) l) (append_assoc us (v ∷ []) vs))
     (begins name bounds n (suc v.row.serial) k (us ++ v ∷ []) vs (below_push (suc v.row.serial) us v (below_up v.row.serial (suc v.row.serial) us (omega arith) under) (omega arith)) r.1)
   where
-    all_from : (j : ℕ) (xs : List Seen) → n ≤ j → RiseFrom seen_serial j xs → filter (λ x. nat_le n x.row.serial) xs ≡ xs
+    all_from : (j : ℕ) (xs : List Seen) → n ≤ j → RisesFrom seen_serial j xs → filter (λ x. nat_le n x.row.serial) xs ≡ xs
     all_from j [] l h = refl
     all_from j (x ∷ xs) l h =
         let more : j ≤ x.row.serial = h.0 in

@@ -5,11 +5,12 @@ use Rattle.std.proofs.Common.{append_assoc}
 use Rattle.std.specs.Prelude.{zero, ◌==◌, nat_lt, find}
 use Rattle.std.proofs.lemmas.Bool.{lt-ltb, le-ltb, eqb-true}
 use Rattle.gate_types.specs.Window.{Bounds}
+use Rattle.gate_types.specs.Rising.{RisesFrom}
 use Rattle.gate_types.specs.declared.edits.Edit.{Edit}
 use Rattle.gate_walk.specs.Walk.{Seen, SeenNeed, Carry, needs_gone, fails, visit_edits, carried, asks_for, walk_edits}
 use Rattle.gate_walk.specs.Rescan.{start}
 use Rattle.gate_walk.specs.Next.{go, need, stop, next_of, wanted, visits_from, VisitsAreTheWalk, WalkStops}
-use Rattle.gate_queue.proofs.Ordered.{RiseFrom, AllBelow, rises}
+use Rattle.gate_queue.proofs.Ordered.{AllBelow, rises}
 use Rattle.gate_laws.proofs.Tests.{and_true}
 
 abbrev pub seen_serial : Seen → ℕ
@@ -81,7 +82,7 @@ find_push : (test : Seen → Bool) (us : List Seen) (v : Seen) → find test us 
 find_push test us v h e = find_past test us (v ∷ []) h ∙ ap (λ t. cond t (Some v) None) e
 
 -- from any row on
-pub visits_walk : (m : ℕ) (name : List ℕ) (bounds : Bounds) (n low : ℕ) (k : Carry) (us vs : List Seen) → length vs ≤ m → n < low → AllBelow seen_serial low us → RiseFrom seen_serial low vs → find (test_of k n) us ≡ None →
+pub visits_walk : (m : ℕ) (name : List ℕ) (bounds : Bounds) (n low : ℕ) (k : Carry) (us vs : List Seen) → length vs ≤ m → n < low → AllBelow seen_serial low us → RisesFrom seen_serial low vs → find (test_of k n) us ≡ None →
     visits_from m name bounds (next_of k n) k (us ++ vs) ≡ walk_edits name bounds k vs
 visits_walk m name bounds n low k us [] few l b r f = ended m
   where

@@ -11,10 +11,11 @@ use Rattle.gate_types.specs.State.{Item, has_change}
 use Rattle.gate_types.specs.Line.{Place}
 use Rattle.gate_types.specs.Standing.{is_failing, with_ahead, next_ahead, places_after}
 use Rattle.gate_types.specs.Rows.{Rows, row_of, numbered, fold_edits}
+use Rattle.gate_types.specs.Rising.{RisesFrom}
 use Rattle.gate_queue.specs.Settled.{settled_rows}
 use Rattle.gate_walk.specs.Walk.{Seen, Carry, asks_for, carried, visit_edits, walk_from}
 use Rattle.gate_walk.specs.Rescan.{settled_to}
-use Rattle.gate_queue.proofs.Ordered.{RiseFrom, GoWith, row_serial, build_number, ahead_rise, ahead_with}
+use Rattle.gate_queue.proofs.Ordered.{GoWith, row_serial, build_number, ahead_rise, ahead_with}
 use Rattle.gate_walk.proofs.Slots.{all_count}
 use Rattle.gate_walk.proofs.Steps.{Known}
 use Rattle.gate_walk.proofs.Resets.{Right, asked, rows_seen, last_serial, none_parts, Quiet, visits, same, NotLanded}
@@ -53,14 +54,14 @@ map_same : (ps : List Place) → map same ps ≡ ps
 map_same [] = refl
 map_same (p ∷ ps) = ap (λ l. p ∷ l) (map_same ps)
 
-rise_back : (n : ℕ) (is : List ItemRow) (ps : List Place) → GoWith is ps → RiseFrom place_serial n ps → RiseFrom row_serial n is
+rise_back : (n : ℕ) (is : List ItemRow) (ps : List Place) → GoWith is ps → RisesFrom place_serial n ps → RisesFrom row_serial n is
 rise_back n [] [] g r = tt
 rise_back n [] (p ∷ ps) g r = absurd g
 rise_back n (i ∷ is) [] g r = absurd g
 rise_back n (i ∷ is) (p ∷ ps) g r =
     let same : i.serial ≡ p.item.serial = g.0 in
     let from : n ≤ p.item.serial = r.0 in
-    (omega arith, rise_back (suc i.serial) is ps g.1 (subst (λ m. RiseFrom place_serial (suc m) ps) (sym same) r.1))
+    (omega arith, rise_back (suc i.serial) is ps g.1 (subst (λ m. RisesFrom place_serial (suc m) ps) (sym same) r.1))
 
 -- the rows of a queue before the walk: its items by what they were, all else as it is
 abbrev pub stale : List ℕ → ℕ → List ItemRow → List Build → List Report → Rows
@@ -78,8 +79,8 @@ pub record Walked (name : List ℕ) (bounds : Bounds) (w : ℕ) (cs : List Build
   pub parts : is ≡ front_rows ++ rows_seen vs
   pub front_many : length front ≡ length front_rows
   pub go : GoWith is ps
-  pub rise : RiseFrom place_serial 0 ps
-  pub numbers : RiseFrom build_number 0 cs
+  pub rise : RisesFrom place_serial 0 ps
+  pub numbers : RisesFrom build_number 0 cs
 
 -- what it leaves
 pub walked_settles : (name : List ℕ) (bounds : Bounds) (w : ℕ) (cs : List Build) (is : List ItemRow) (ls : List Landing) (ps : List Place) (rs : List Report) (items : List Item) (k : Carry) (vs : List Seen) → Walked name bounds w cs is ps rs k vs →
@@ -134,7 +135,7 @@ go_first [] js (p ∷ ps) qs e g = absurd (omega (arith, e))
 go_first (i ∷ is) js [] qs e g = absurd (omega (arith, e))
 go_first (i ∷ is) js (p ∷ ps) qs e g = (g.0, go_first is js ps qs (omega (arith, e)) g.1)
 
-rise_first : (n : ℕ) (ps qs : List Place) → RiseFrom place_serial n (ps ++ qs) → RiseFrom place_serial n ps
+rise_first : (n : ℕ) (ps qs : List Place) → RisesFrom place_serial n (ps ++ qs) → RisesFrom place_serial n ps
 rise_first n [] qs r = tt
 rise_first n (p ∷ ps) qs r = (r.0, rise_first (suc p.item.serial) ps qs r.1)
 
@@ -171,11 +172,11 @@ walked_so_far name bounds w cs is ls ps rs items k vs us ws xs ys h ev ep en =
     let b7 : length h.front ≡ length h.front_rows = h.front_many in
     let right = right_first name bounds cs (length rs) w [] (places_after cs [] xs) (places_after cs (ahead_end cs [] xs) ys) first (rows_seen ws) es more.0 (omega arith) (omega arith) whole in
     let go_all : GoWith (first ++ rows_seen ws) (xs ++ ys) = cast (λ i. GoWith (rows i) (ep i)) h.go in
-    let rise_all = subst (RiseFrom row_serial 0) rows (rise_back 0 is ps h.go h.rise) in
+    let rise_all = subst (RisesFrom row_serial 0) rows (rise_back 0 is ps h.go h.rise) in
     ap (λ l. fold_edits (stale name w l cs rs) (walk_from name bounds k us)) rows
     ∙ ap (fold_edits (stale name w (first ++ rows_seen ws) cs rs)) (sym (nones_told h.front (forced name bounds k us) ∙ forced_told name bounds k us))
     ∙ told_so_far name bounds w cs (places_after cs [] xs) first (rows_seen ws) ls items rs es (ahead_with cs [] first xs (go_first first (rows_seen ws) xs ys as_many go_all)) rise_all
-    (ahead_rise cs 0 [] xs (rise_first 0 xs ys (subst (RiseFrom place_serial 0) ep h.rise))) h.numbers right
+    (ahead_rise cs 0 [] xs (rise_first 0 xs ys (subst (RisesFrom place_serial 0) ep h.rise))) h.numbers right
 
 -- ---- the touched item stands
 
@@ -187,8 +188,8 @@ pub record Stands (stand : ℕ → Option Bool) (bs cs : List Build) (front : Li
   pub counting : all_count cs (with_ahead (ahead_end bs [] front) p) ≡ true
   pub fails_still : is_failing bs (with_ahead (ahead_end bs [] front) p) ≡ true → is_failing cs (with_ahead (ahead_end bs [] front) p) ≡ true
   pub not_landed : NotLanded p.item.change behind
-  pub builds_rise : RiseFrom build_number 0 cs
-  pub places_rise : RiseFrom place_serial 0 (front ++ p ∷ behind)
+  pub builds_rise : RisesFrom build_number 0 cs
+  pub places_rise : RisesFrom place_serial 0 (front ++ p ∷ behind)
 
 -- the items from the touched one on, as visits see them
 abbrev pub seen_standing : (ℕ → Option Bool) → List Build → List Build → List Place → Place → List Place → List Seen
@@ -242,8 +243,8 @@ pub record Left (stand : ℕ → Option Bool) (bs cs : List Build) (front : List
   pub elsewhere : Elsewhere p.item.serial bs cs
   pub others : Others p.item.serial front × Others p.item.serial behind
   pub not_landed : NotLanded p.item.change behind
-  pub builds_rise : RiseFrom build_number 0 cs
-  pub places_rise : RiseFrom place_serial 0 (front ++ behind)
+  pub builds_rise : RisesFrom build_number 0 cs
+  pub places_rise : RisesFrom place_serial 0 (front ++ behind)
 
 -- the rows that are left, as they were
 abbrev pub rows_left : List Build → List Place → Place → List Place → List ItemRow
@@ -299,8 +300,8 @@ pub record Lands (stand : ℕ → Option Bool) (bs cs : List Build) (front : Lis
   pub others : Others p.item.serial front × Others p.item.serial behind
   pub in_front : Front p.item cs front
   pub is_behind : Behind p.item cs behind
-  pub builds_rise : RiseFrom build_number 0 cs
-  pub places_rise : RiseFrom place_serial 0 (map (landed_place p.item) front ++ map (landed_place p.item) behind)
+  pub builds_rise : RisesFrom build_number 0 cs
+  pub places_rise : RisesFrom place_serial 0 (map (landed_place p.item) front ++ map (landed_place p.item) behind)
 
 abbrev pub seen_landed : (ℕ → Option Bool) → List Build → Place → List Place → List Seen
 seen_landed stand cs p behind = visits stand cs (landed_place p.item) (p.item ∷ []) behind

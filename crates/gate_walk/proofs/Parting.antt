@@ -4,19 +4,20 @@ use Rattle.std.proofs.Common.{length, inl, inr, subst, refl, sym, ap, ◌∙◌,
 use Rattle.std.specs.Prelude.{nat_lt, nat_le, filter, find}
 use Rattle.std.proofs.lemmas.Bool.{lt-ltb, le-ltb, le-leb, lt-leb, ltb-true, ltb-false, leb-false}
 use Rattle.std.proofs.lemmas.List.Elements.{filter-append}
+use Rattle.gate_types.specs.Rising.{RisesFrom}
 use Rattle.gate_laws.proofs.Members.{In}
 use Rattle.gate_laws.proofs.Rising.{Rising}
-use Rattle.gate_queue.proofs.Ordered.{RiseFrom, AllBelow}
+use Rattle.gate_queue.proofs.Ordered.{AllBelow}
 
 none_some : {Y : Type 0} (z : Y) → None ≡ Some z → ⊥
 none_some z q = cc
 
 -- numbers that rise from one on rise
-pub rising_from : {X : Type 0} (key : X → ℕ) (n : ℕ) (xs : List X) → RiseFrom key n xs → Rising key xs
+pub rising_from : {X : Type 0} (key : X → ℕ) (n : ℕ) (xs : List X) → RisesFrom key n xs → Rising key xs
 rising_from key n [] r = tt
 rising_from {X = X} key n (x ∷ xs) r = ((λ y m. least (suc (key x)) xs r.1 y m), rising_from key (suc (key x)) xs r.1)
   where
-    least : (j : ℕ) (zs : List X) → RiseFrom key j zs → (y : X) → In y zs → j ≤ key y
+    least : (j : ℕ) (zs : List X) → RisesFrom key j zs → (y : X) → In y zs → j ≤ key y
     least j [] h y m = absurd m
     least j (z ∷ zs) h y m =
         let low : j ≤ key z = h.0 in
@@ -36,20 +37,20 @@ pub all_under : {X : Type 0} (key : X → ℕ) (p : ℕ) (xs : List X) → AllBe
 all_under key p [] b = refl
 all_under key p (x ∷ xs) b = λ k. cond (lt-ltb (key x) p b.0 k) (x ∷ all_under key p xs b.1 k) (all_under key p xs b.1 k)
 
-pub none_under : {X : Type 0} (key : X → ℕ) (p m : ℕ) (xs : List X) → p ≤ m → RiseFrom key m xs → under key p xs ≡ []
+pub none_under : {X : Type 0} (key : X → ℕ) (p m : ℕ) (xs : List X) → p ≤ m → RisesFrom key m xs → under key p xs ≡ []
 none_under key p m [] l r = refl
 none_under key p m (x ∷ xs) l r =
     let low : m ≤ key x = r.0 in
     (λ k. cond (le-ltb (key x) p (omega arith) k) (x ∷ under key p xs) (none_under key p (suc (key x)) xs (omega arith) r.1 k))
 
-pub all_onward : {X : Type 0} (key : X → ℕ) (p m : ℕ) (xs : List X) → p ≤ m → RiseFrom key m xs → onward key p xs ≡ xs
+pub all_onward : {X : Type 0} (key : X → ℕ) (p m : ℕ) (xs : List X) → p ≤ m → RisesFrom key m xs → onward key p xs ≡ xs
 all_onward key p m [] l r = refl
 all_onward key p m (x ∷ xs) l r =
     let low : m ≤ key x = r.0 in
     (λ k. cond (le-leb p (key x) (omega arith) k) (x ∷ all_onward key p (suc (key x)) xs (omega arith) r.1 k) (onward key p xs))
 
 -- first those below, then those from it on
-pub cut : {X : Type 0} (key : X → ℕ) (p m : ℕ) (xs : List X) → RiseFrom key m xs → xs ≡ under key p xs ++ onward key p xs
+pub cut : {X : Type 0} (key : X → ℕ) (p m : ℕ) (xs : List X) → RisesFrom key m xs → xs ≡ under key p xs ++ onward key p xs
 cut key p m [] r = refl
 cut {X = X} key p m (x ∷ xs) r = by_test (nat_lt (key x) p) refl (cut key p (suc (key x)) xs r.1)
   where
@@ -85,14 +86,14 @@ onward_many {X = X} key p (x ∷ xs) = by_test (nat_le p (key x)) (onward_many k
 
 -- ---- parted at one of them
 
-pub low_at : {X : Type 0} (key : X → ℕ) (m : ℕ) (us : List X) (v : X) (bs : List X) → RiseFrom key m (us ++ v ∷ bs) → m ≤ key v
+pub low_at : {X : Type 0} (key : X → ℕ) (m : ℕ) (us : List X) (v : X) (bs : List X) → RisesFrom key m (us ++ v ∷ bs) → m ≤ key v
 low_at key m [] v bs r = r.0
 low_at key m (a ∷ us) v bs r =
     let low : m ≤ key a = r.0 in
     let more : suc (key a) ≤ key v = low_at key (suc (key a)) us v bs r.1 in
     omega arith
 
-pub rise_at : {X : Type 0} (key : X → ℕ) (m : ℕ) (us : List X) (v : X) (bs : List X) → RiseFrom key m (us ++ v ∷ bs) → AllBelow key (key v) us × RiseFrom key (suc (key v)) bs
+pub rise_at : {X : Type 0} (key : X → ℕ) (m : ℕ) (us : List X) (v : X) (bs : List X) → RisesFrom key m (us ++ v ∷ bs) → AllBelow key (key v) us × RisesFrom key (suc (key v)) bs
 rise_at key m [] v bs r = (tt, r.1)
 rise_at key m (a ∷ us) v bs r =
     let more : suc (key a) ≤ key v = low_at key (suc (key a)) us v bs r.1 in
@@ -103,13 +104,13 @@ pub under_up : {X : Type 0} (key : X → ℕ) (m n : ℕ) (xs : List X) → m �
 under_up key m n [] l h = tt
 under_up key m n (x ∷ xs) l h = let low : key x < m = h.0 in (omega arith, under_up key m n xs l h.1)
 
-pub under_at : {X : Type 0} (key : X → ℕ) (m : ℕ) (us : List X) (v : X) (bs : List X) → RiseFrom key m (us ++ v ∷ bs) → under key (key v) (us ++ v ∷ bs) ≡ us
+pub under_at : {X : Type 0} (key : X → ℕ) (m : ℕ) (us : List X) (v : X) (bs : List X) → RisesFrom key m (us ++ v ∷ bs) → under key (key v) (us ++ v ∷ bs) ≡ us
 under_at key m us v bs r =
     let parts = rise_at key m us v bs r in
     let none : under key (key v) (v ∷ bs) ≡ [] = none_under key (key v) (key v) (v ∷ bs) (omega arith) (omega arith, parts.1) in
     filter-append (λ x. nat_lt (key x) (key v)) us (v ∷ bs) ∙ (λ k. all_under key (key v) us parts.0 k ++ none k) ∙ append-nil us
 
-pub under_behind : {X : Type 0} (key : X → ℕ) (m : ℕ) (us : List X) (v : X) (bs : List X) → RiseFrom key m (us ++ v ∷ bs) → under key (suc (key v)) (us ++ v ∷ bs) ≡ us ++ v ∷ []
+pub under_behind : {X : Type 0} (key : X → ℕ) (m : ℕ) (us : List X) (v : X) (bs : List X) → RisesFrom key m (us ++ v ∷ bs) → under key (suc (key v)) (us ++ v ∷ bs) ≡ us ++ v ∷ []
 under_behind key m us v bs r =
     let parts = rise_at key m us v bs r in
     let all = under_up key (key v) (suc (key v)) us (omega arith) parts.0 in

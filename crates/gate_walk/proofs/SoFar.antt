@@ -12,10 +12,11 @@ use Rattle.gate_types.specs.State.{Item}
 use Rattle.gate_types.specs.Line.{Place}
 use Rattle.gate_types.specs.Sweep.{judge, judged_after, next_staying, verdict_of, goes}
 use Rattle.gate_types.specs.Rows.{numbered, row_of, fold_edits, edited_items, edited_builds, edited_reports}
+use Rattle.gate_types.specs.Rising.{RisesFrom}
 use Rattle.gate_queue.specs.Edits.{next_reports, window_behind}
 use Rattle.gate_walk.specs.Rescan.{settled_to}
 use Rattle.gate_walk.specs.Walk.{Seen, Carry, asks_for, carried, visit_edits, window_edits_by}
-use Rattle.gate_queue.proofs.Ordered.{RiseFrom, AllBelow, GoWith, Tells, row_serial, build_number}
+use Rattle.gate_queue.proofs.Ordered.{AllBelow, GoWith, Tells, row_serial, build_number}
 use Rattle.gate_queue.proofs.Folds.{fold_parts, below_kept, below_more, kept, kept_cons, reports_fold}
 use Rattle.gate_laws.proofs.Stays.{stayers}
 use Rattle.gate_laws.proofs.LiveBuildsCount.{place_serial}
@@ -60,7 +61,7 @@ asked_more name bounds k (u ∷ us) vs =
 
 -- between rows that are done and a tail that isn't reached yet
 items_so_far : (name : List ℕ) (bounds : Bounds) (bs : List Build) (n m w : ℕ) (staying : List Item) (leaves : ℕ → Bool) (done is tail : List ItemRow) (ps : List Place) (es : List (Option (List Edit))) →
-    AllBelow row_serial m done → RiseFrom row_serial m (is ++ tail) → GoWith is ps → Tells leaves (judged_after bs staying ps) → Right name bounds bs n w staying ps is es →
+    AllBelow row_serial m done → RisesFrom row_serial m (is ++ tail) → GoWith is ps → Tells leaves (judged_after bs staying ps) → Right name bounds bs n w staying ps is es →
     fold (edited_items name) (done ++ (is ++ tail)) (told es) ≡ done ++ (map (row_of bs) (stayers leaves ps) ++ tail)
 items_so_far name bounds bs n m w staying leaves done [] tail [] [] h r g t a = refl
 items_so_far name bounds bs n m w staying leaves done [] tail [] (e ∷ es) h r g t a = absurd a
@@ -94,7 +95,7 @@ items_so_far name bounds bs n m w staying leaves done (i ∷ is) tail (p ∷ ps)
 
 -- so it is with the fold of what was told of the first rows
 pub told_so_far : (name : List ℕ) (bounds : Bounds) (w : ℕ) (bs : List Build) (qs : List Place) (is behind : List ItemRow) (ls : List Landing) (items : List Item) (rs : List Report) (es : List (Option (List Edit))) →
-    GoWith is qs → RiseFrom row_serial 0 (is ++ behind) → RiseFrom place_serial 0 qs → RiseFrom build_number 0 bs → Right name bounds bs (length rs) w [] qs is es →
+    GoWith is qs → RisesFrom row_serial 0 (is ++ behind) → RisesFrom place_serial 0 qs → RisesFrom build_number 0 bs → Right name bounds bs (length rs) w [] qs is es →
     fold_edits (record { name = name; window = w; items = is ++ behind; builds = bs; reports = numbered 0 rs }) (told es) ≡ settled_to bounds bs qs behind (record { name = name; window = w; landings = ls; items = items; reports = rs })
 told_so_far name bounds w bs qs is behind ls items rs es g r rq rb a =
     let js = judged_after bs [] qs in

@@ -12,9 +12,9 @@ use Rattle.gate_types.specs.State.{Item, State, has_change, plan_of}
 use Rattle.gate_types.specs.Line.{Place}
 use Rattle.gate_types.specs.Standing.{with_ahead, next_ahead, places_after, needs_of}
 use Rattle.gate_types.specs.Rows.{row_of}
+use Rattle.gate_types.specs.Rising.{RisesFrom}
 use Rattle.gate_walk.specs.Walk.{Seen}
 use Rattle.gate_walk.specs.Rescan.{standing_in, row_seen, without_row, rows_from, ahead_at, fails_at}
-use Rattle.gate_queue.proofs.Ordered.{RiseFrom}
 use Rattle.gate_walk.proofs.Steps.{seen_need}
 use Rattle.gate_walk.proofs.Resets.{Quiet, visits}
 use Rattle.gate_walk.proofs.Events.{all_before}
@@ -105,19 +105,19 @@ less_all : (m n : ℕ) (rows : List ItemRow) → m ≤ n → AllFrom n rows → 
 less_all m n [] l h = tt
 less_all m n (r ∷ rows) l h = let high : n ≤ r.serial = h.0 in (omega arith, less_all m n rows l h.1)
 
-rows_all_from : (bs : List Build) (ahead : List Item) (m n : ℕ) (ps : List Place) → m ≤ n → RiseFrom place_serial n ps → AllFrom m (map (row_of bs) (places_after bs ahead ps))
+rows_all_from : (bs : List Build) (ahead : List Item) (m n : ℕ) (ps : List Place) → m ≤ n → RisesFrom place_serial n ps → AllFrom m (map (row_of bs) (places_after bs ahead ps))
 rows_all_from bs ahead m n [] l r = tt
 rows_all_from bs ahead m n (p ∷ ps) l r =
     let low : n ≤ p.item.serial = r.0 in (omega arith, rows_all_from bs (next_ahead bs (with_ahead ahead p)) m (suc p.item.serial) ps (omega arith) r.1)
 
-pub low_place : (n : ℕ) (front : List Place) (p : Place) (behind : List Place) → RiseFrom place_serial n (front ++ p ∷ behind) → n ≤ p.item.serial
+pub low_place : (n : ℕ) (front : List Place) (p : Place) (behind : List Place) → RisesFrom place_serial n (front ++ p ∷ behind) → n ≤ p.item.serial
 low_place n [] p behind r = r.0
 low_place n (f ∷ front) p behind r =
     let low : n ≤ f.item.serial = r.0 in
     let more : suc f.item.serial ≤ p.item.serial = low_place (suc f.item.serial) front p behind r.1 in
     omega arith
 
-rows_all_under : (bs : List Build) (ahead : List Item) (n : ℕ) (front : List Place) (p : Place) (behind : List Place) → RiseFrom place_serial n (front ++ p ∷ behind) → AllUnder p.item.serial (map (row_of bs) (places_after bs ahead front))
+rows_all_under : (bs : List Build) (ahead : List Item) (n : ℕ) (front : List Place) (p : Place) (behind : List Place) → RisesFrom place_serial n (front ++ p ∷ behind) → AllUnder p.item.serial (map (row_of bs) (places_after bs ahead front))
 rows_all_under bs ahead n [] p behind r = tt
 rows_all_under bs ahead n (f ∷ front) p behind r =
     let more : suc f.item.serial ≤ p.item.serial = low_place (suc f.item.serial) front p behind r.1 in
@@ -131,7 +131,7 @@ pub record Parted (n : ℕ) (front : List ItemRow) (r : ItemRow) (behind : List 
   pub ahead : ahead_at n (front ++ r ∷ behind) ≡ r.ahead
   pub fails : fails_at n (front ++ r ∷ behind) ≡ r.failing
 
-pub parted : (bs : List Build) (front : List Place) (p : Place) (behind : List Place) (was : List Item) → RiseFrom place_serial 0 (front ++ p ∷ behind) → RiseFrom place_serial (suc p.item.serial) behind →
+pub parted : (bs : List Build) (front : List Place) (p : Place) (behind : List Place) (was : List Item) → RisesFrom place_serial 0 (front ++ p ∷ behind) → RisesFrom place_serial (suc p.item.serial) behind →
     (let a = ahead_end bs [] front in Parted p.item.serial (map (row_of bs) (places_after bs [] front)) (row_of bs (with_ahead a p)) (map (row_of bs) (places_after bs was behind)))
 parted bs front p behind was r rb =
     let n = p.item.serial in

@@ -19,6 +19,7 @@ use Rattle.gate_types.specs.Standing.{is_failing, with_ahead, next_ahead, places
 use Rattle.gate_types.specs.Rows.{row_of}
 use Rattle.gate_types.specs.Step.{end_build}
 use Rattle.gate_types.specs.Lawful.{IsSound, is_single}
+use Rattle.gate_types.specs.Rising.{RisesFrom}
 use Rattle.gate_walk.specs.Walk.{Seen, Carry}
 use Rattle.gate_walk.specs.Rescan.{settled_to, Walks, IsCalm, standing_in, row_seen, TakenOut, start, stored}
 use Rattle.gate_walk.specs.Rescan.{without_row, rows_from, ahead_at, fails_at, WalkAfterBuild, WalkAfterLeaving}
@@ -28,7 +29,7 @@ use Rattle.std.proofs.lemmas.List.Elements.{All-contains}
 use Rattle.gate_laws.proofs.Rising.{increasing}
 use Rattle.gate_laws.proofs.LiveBuildsCount.{place_serial}
 use Rattle.gate_laws.proofs.Places.{ahead_end}
-use Rattle.gate_queue.proofs.Ordered.{RiseFrom, GoWith, row_serial, build_number, rises}
+use Rattle.gate_queue.proofs.Ordered.{GoWith, row_serial, build_number, rises}
 use Rattle.gate_walk.proofs.Parting.{rising_from}
 use Rattle.gate_walk.proofs.Resets.{rows_seen, Quiet, visits, same, last_serial, first_last}
 use Rattle.gate_walk.proofs.Passes.{cast, landed_place, Behind}
@@ -52,9 +53,9 @@ pub record Around (c : Settings) (s : State) (q : Queue) (is js : List Item) (i 
   item : In i q.items
   split : map (place_of c s q) q.items ≡ map (place_of c s q) is ++ place_of c s q i ∷ map (place_of c s q) js
   quiet : Quiet (standing_in (stored c s q)) s.builds [] [] (map (place_of c s q) is ++ place_of c s q i ∷ map (place_of c s q) js)
-  pub rise : RiseFrom place_serial 0 (map (place_of c s q) is ++ place_of c s q i ∷ map (place_of c s q) js)
+  pub rise : RisesFrom place_serial 0 (map (place_of c s q) is ++ place_of c s q i ∷ map (place_of c s q) js)
   pub rows : stored c s q ≡ map (row_of s.builds) (places_after s.builds [] (map (place_of c s q) is ++ place_of c s q i ∷ map (place_of c s q) js))
-  numbers : RiseFrom build_number 0 s.builds
+  numbers : RisesFrom build_number 0 s.builds
   began : (j : Item) → In j q.items → (b : Build) → In b s.builds → (b.serial == j.serial) ≡ true → nat_le b.after (length q.landings) ≡ true
 
 pub around : (c : Settings) (s : State) (qs rs : List Queue) (q : Queue) (is js : List Item) (i : Item) → IsSound c s → IsCalm c s → s.queues ≡ qs ++ q ∷ rs → q.items ≡ is ++ i ∷ js → Around c s q is js i
@@ -67,7 +68,7 @@ around c s qs rs q is js i sound rest eq ei =
       item = subst (λ (l : List Item). In i l) (sym ei) (to_right is (i ∷ js) i (inl refl));
       split = split;
       quiet = subst (Quiet (standing_in rows) s.builds [] []) split (quiet_queue c s sound rest q m (standing_in rows) [] (λ n f. ap (λ l. standing_in l n) (sym (append-nil rows))));
-      rise = subst (RiseFrom place_serial 0) split (places_rise_from c s q 0 q.items (items_rise_from c s sound q m));
+      rise = subst (RisesFrom place_serial 0) split (places_rise_from c s q 0 q.items (items_rise_from c s sound q m));
       rows = ap (λ l. map (row_of s.builds) (places_after s.builds [] l)) split;
       numbers = rises build_number s.builds sound.builds_rise;
       began = began_there c s sound q m;
@@ -174,7 +175,7 @@ walk_after_leaving c s t qs rs q o is js i bounds sound rest eq ei left =
       elsewhere = elsewhere;
       others = others;
       not_landed = not_landed_places c s q i.change js (never_landed c s sound q calm.there i calm.item);
-      builds_rise = subst (RiseFrom build_number 0) (sym left.builds) (stops_rise i.serial 0 bs calm.numbers);
+      builds_rise = subst (RisesFrom build_number 0) (sym left.builds) (stops_rise i.serial 0 bs calm.numbers);
       places_rise = rise_without 0 front p behind calm.rise;
     } in
     let sb = still_quiet stand i.serial bs cs (before ++ i ∷ []) was behind elsewhere others.1 h.quiet_behind in
@@ -260,12 +261,12 @@ none_last (x ∷ xs) h =
     let zero : length (x ∷ xs) ≡ 0 = eqb-true (length (x ∷ xs)) 0 (sym no) in
     absurd (omega arith)
 
-rise_landed : (t : Item) (n : ℕ) (ps : List Place) → RiseFrom place_serial n ps → RiseFrom place_serial n (map (landed_place t) ps)
+rise_landed : (t : Item) (n : ℕ) (ps : List Place) → RisesFrom place_serial n ps → RisesFrom place_serial n (map (landed_place t) ps)
 rise_landed t n [] r = tt
 rise_landed t n (p ∷ ps) r = (r.0, rise_landed t (suc p.item.serial) ps r.1)
 
 -- the builds of the items before it and behind it began on landings that were there
-front_of : (c : Settings) (s : State) (q : Queue) (bs cs : List Build) (i : Item) (n : ℕ) (is : List Item) (p : Place) (behind : List Place) → p.item ≡ i → RiseFrom place_serial n (map (place_of c s q) is ++ p ∷ behind) → Elsewhere i.serial bs cs → Others i.serial (map (place_of c s q) is) →
+front_of : (c : Settings) (s : State) (q : Queue) (bs cs : List Build) (i : Item) (n : ℕ) (is : List Item) (p : Place) (behind : List Place) → p.item ≡ i → RisesFrom place_serial n (map (place_of c s q) is ++ p ∷ behind) → Elsewhere i.serial bs cs → Others i.serial (map (place_of c s q) is) →
     ((j : Item) → In j is → (b : Build) → In b bs → (b.serial == j.serial) ≡ true → nat_le b.after (length q.landings) ≡ true) → Front i cs (map (place_of c s q) is)
 front_of c s q bs cs i n [] p behind e r el o k = tt
 front_of c s q bs cs i n (j ∷ is) p behind e r el o k =
@@ -275,7 +276,7 @@ front_of c s q bs cs i n (j ∷ is) p behind e r el o k =
       front_of c s q bs cs i (suc j.serial) is p behind e r.1 el o.1 (λ x m. k x (inr m)),
     )
 
-behind_of : (c : Settings) (s : State) (q : Queue) (bs cs : List Build) (i : Item) (n : ℕ) (js : List Item) → i.serial < n → RiseFrom place_serial n (map (place_of c s q) js) → Elsewhere i.serial bs cs → Others i.serial (map (place_of c s q) js) →
+behind_of : (c : Settings) (s : State) (q : Queue) (bs cs : List Build) (i : Item) (n : ℕ) (js : List Item) → i.serial < n → RisesFrom place_serial n (map (place_of c s q) js) → Elsewhere i.serial bs cs → Others i.serial (map (place_of c s q) js) →
     ((j : Item) → In j js → (b : Build) → In b bs → (b.serial == j.serial) ≡ true → nat_le b.after (length q.landings) ≡ true) → Behind i cs (map (place_of c s q) js)
 behind_of c s q bs cs i n [] l r el o k = tt
 behind_of c s q bs cs i n (j ∷ js) l r el o k =
@@ -327,8 +328,8 @@ walk_after_landing c s t qs rs q o is js i bounds sound rest eq ei left first pa
       others = others;
       in_front = front_of c s q bs cs i 0 is p behind refl calm.rise elsewhere others.0 (λ j m. calm.began j (subst (λ (l : List Item). In j l) (sym ei) (to_left is (i ∷ js) j m)));
       is_behind = behind_of c s q bs cs i (suc i.serial) js (omega arith) rb elsewhere others.1 (λ j m. calm.began j (subst (λ (l : List Item). In j l) (sym ei) (to_right is (i ∷ js) j (inr m))));
-      builds_rise = subst (RiseFrom build_number 0) (sym left.builds) (stops_rise i.serial 0 bs calm.numbers);
-      places_rise = subst (RiseFrom place_serial 0) (map-append now front behind) (rise_landed i 0 (front ++ behind) (rise_without 0 front p behind calm.rise));
+      builds_rise = subst (RisesFrom build_number 0) (sym left.builds) (stops_rise i.serial 0 bs calm.numbers);
+      places_rise = subst (RisesFrom place_serial 0) (map-append now front behind) (rise_landed i 0 (front ++ behind) (rise_without 0 front p behind calm.rise));
     } in
     let sb = still_quiet stand i.serial bs cs (before ++ i ∷ []) (i ∷ []) behind elsewhere others.1 h.quiet_behind in
     let nows = now_behind c t s q now is js (are_now c t s q o now (is ++ js) left.places) in

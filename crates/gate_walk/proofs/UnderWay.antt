@@ -9,6 +9,7 @@ use Rattle.gate_types.specs.declared.records.Item.{Item as ItemRow}
 use Rattle.gate_types.specs.declared.edits.Edit.{Edit}
 use Rattle.gate_types.specs.Standing.{places_after}
 use Rattle.gate_types.specs.Rows.{fold_edits}
+use Rattle.gate_types.specs.Rising.{RisesFrom}
 use Rattle.gate_walk.specs.Walk.{Seen, Carry, Walk, behind_visit, fails, verdict_by, visit_edits, carried, asks_for}
 use Rattle.gate_walk.specs.Walk.{walk_edits, walk_from}
 use Rattle.gate_walk.specs.Next.{need, stop, next_of, wanted}
@@ -25,7 +26,7 @@ use Rattle.gate_walk.specs.UnderWay.{row_wanted, AreWanted, HasVisited, IsBehind
 use Rattle.gate_walk.specs.UnderWay.{Ends, Visits}
 use Rattle.gate_laws.proofs.Members.{found}
 use Rattle.gate_laws.proofs.LiveBuildsCount.{place_serial}
-use Rattle.gate_queue.proofs.Ordered.{RiseFrom, row_serial, rises}
+use Rattle.gate_queue.proofs.Ordered.{row_serial, rises}
 use Rattle.gate_walk.proofs.Parting.{none_under, all_onward, under, onward, cut, under_at, under_behind, rise_at}
 use Rattle.gate_walk.proofs.Parting.{low_at, onward_onward, onward_many, found_first, none_found, find_in, AllFail}
 use Rattle.gate_walk.proofs.Parting.{all_fail, parts_at}
@@ -72,27 +73,27 @@ onward_seen x n (r ∷ rows) = by_test (nat_le n r.serial) (onward_seen x n rows
     by_test false h = h
 
 -- rows from a number on rise from it
-onward_rise : {X : Type 0} (key : X → ℕ) (p m : ℕ) (xs : List X) → RiseFrom key m xs → RiseFrom key p (onward key p xs)
+onward_rise : {X : Type 0} (key : X → ℕ) (p m : ℕ) (xs : List X) → RisesFrom key m xs → RisesFrom key p (onward key p xs)
 onward_rise key p m [] r = tt
 onward_rise {X = X} key p m (x ∷ xs) r = by_test (nat_le p (key x)) refl (onward_rise key p (suc (key x)) xs r.1)
   where
-    by_test : (t : Bool) → nat_le p (key x) ≡ t → RiseFrom key p (onward key p xs) → RiseFrom key p (cond t (x ∷ onward key p xs) (onward key p xs))
+    by_test : (t : Bool) → nat_le p (key x) ≡ t → RisesFrom key p (onward key p xs) → RisesFrom key p (cond t (x ∷ onward key p xs) (onward key p xs))
     by_test true e rest =
         let low = leb-true p (key x) e in
-        (low, subst (RiseFrom key (suc (key x))) (sym (all_onward key p (suc (key x)) xs (omega (arith, low)) r.1)) r.1)
+        (low, subst (RisesFrom key (suc (key x))) (sym (all_onward key p (suc (key x)) xs (omega (arith, low)) r.1)) r.1)
     by_test false e rest = rest
 
-seen_rise : (x : Delivered) → RiseFrom seen_serial 0 (rows_seen x)
+seen_rise : (x : Delivered) → RisesFrom seen_serial 0 (rows_seen x)
 seen_rise x = rises seen_serial (rows_seen x) (walked x).rise
 
-on_rise : (x : Delivered) → RiseFrom seen_serial x.item.serial (rows_on x)
+on_rise : (x : Delivered) → RisesFrom seen_serial x.item.serial (rows_on x)
 on_rise x = onward_rise seen_serial x.item.serial 0 (rows_seen x) (seen_rise x)
 
 -- the rows of the items rise too
-rows_rise : (x : Delivered) → RiseFrom row_serial 0 (stale_rows x)
+rows_rise : (x : Delivered) → RisesFrom row_serial 0 (stale_rows x)
 rows_rise x = back 0 (stale_rows x) (seen_rise x)
   where
-    back : (n : ℕ) (rows : List ItemRow) → RiseFrom seen_serial n (map (see x) rows) → RiseFrom row_serial n rows
+    back : (n : ℕ) (rows : List ItemRow) → RisesFrom seen_serial n (map (see x) rows) → RisesFrom row_serial n rows
     back n [] r = tt
     back n (y ∷ rows) r = (r.0, back (suc y.serial) rows r.1)
 
@@ -187,7 +188,7 @@ told_on x (y ∷ us) u vs =
     ∙ sym (append_assoc first (walk_edits (queue_after x).name (bounds_after x) k (us ++ u ∷ [])) (walk_edits (queue_after x).name (bounds_after x) (carried_on (queue_after x).name (bounds_after x) k (us ++ u ∷ [])) vs))
 
 -- a row behind a serial that isn't wanted isn't asked for
-unasked : (k : Carry) (n m : ℕ) (vs ws : List Seen) → n < m → RiseFrom seen_serial m (vs ++ ws) → AllFail (test_of k n) vs → AllFail (asks_for k) vs
+unasked : (k : Carry) (n m : ℕ) (vs ws : List Seen) → n < m → RisesFrom seen_serial m (vs ++ ws) → AllFail (test_of k n) vs → AllFail (asks_for k) vs
 unasked k n m [] ws l r h = tt
 unasked k n m (v ∷ vs) ws l r h =
     let low : m ≤ v.row.serial = r.0 in
@@ -224,7 +225,7 @@ record Behind (x : Delivered) (u : Seen) (k : Carry) (passed : List Seen) : Type
   passed_is : passed ≡ ahead ++ u ∷ []
   left : List Seen
   parts : rows_on x ≡ (ahead ++ u ∷ []) ++ left
-  rise : RiseFrom seen_serial (suc u.row.serial) left
+  rise : RisesFrom seen_serial (suc u.row.serial) left
   finds : wanted k.gone (next_of k u.row.serial) (rows_seen x) ≡ find (test_of k u.row.serial) left
 
 rows_behind : (x : Delivered) (u : Seen) (vs : List Seen) (h : Reached x (u ∷ vs)) → Behind x u (carry_by x (u ∷ vs)) h.passed
@@ -233,7 +234,7 @@ rows_behind x u vs h =
     let n = u.row.serial in
     let ahead = h.last.0 in
     let parts : rows_on x ≡ (ahead ++ u ∷ []) ++ h.left = h.parts ∙ ap (λ l. l ++ h.left) h.last.1 in
-    let rise = subst (RiseFrom seen_serial x.item.serial) (parts ∙ append_assoc ahead (u ∷ []) h.left) (on_rise x) in
+    let rise = subst (RisesFrom seen_serial x.item.serial) (parts ∙ append_assoc ahead (u ∷ []) h.left) (on_rise x) in
     let low = low_at seen_serial x.item.serial ahead u h.left rise in
     let at = rise_at seen_serial x.item.serial ahead u h.left rise in
     let below = below_push (suc n) ahead u (below_up n (suc n) ahead (omega arith) at.0) (omega arith) in
@@ -266,7 +267,7 @@ reaches_next x u vs v h e =
     let us = b.ahead ++ u ∷ [] in
     let zs = at.before in
     let passed_is : h.passed ≡ us = b.passed_is in
-    let none = unasked k n (suc n) zs (v ∷ at.behind) (omega arith) (subst (RiseFrom seen_serial (suc n)) at.parts b.rise) at.fail in
+    let none = unasked k n (suc n) zs (v ∷ at.behind) (omega arith) (subst (RisesFrom seen_serial (suc n)) at.parts b.rise) at.fail in
     let asked : asks_for k v ≡ true = (and_parts (nat_lt n v.row.serial) (asks_for k v) at.passes).1 in
     let carries : carry_behind x us ≡ k = sym (h.carries ∙ ap (carry_behind x) passed_is) in
     let carry_front : carry_behind x (us ++ zs) ≡ k = carry_on x b.ahead u zs ∙ ap (λ c. carried_on name bounds c zs) carries ∙ unasked_carry name bounds k zs none in
@@ -305,7 +306,7 @@ reached x (v ∷ vs) w =
 pub settled_before : (x : Delivered) (vs : List Seen) (v : Seen) → AreWanted x vs → row_wanted x vs ≡ Some v → fold_edits (tables x) (edits_by x vs) ≡ tables_settled_below x v.row.serial
 settled_before x vs v w e =
     let r = reaches x vs v (reached x vs w) e in
-    let rise = subst (RiseFrom seen_serial x.item.serial) r.parts (on_rise x) in
+    let rise = subst (RisesFrom seen_serial x.item.serial) r.parts (on_rise x) in
     let low = low_at seen_serial x.item.serial r.front v r.behind rise in
     ap (fold_edits (tables x)) (r.tells ∙ ap (told_by x) (sym (ap (under seen_serial v.row.serial) r.parts ∙ under_at seen_serial x.item.serial r.front v r.behind rise)))
     ∙ settled_under x v.row.serial low
@@ -313,7 +314,7 @@ settled_before x vs v w e =
 pub settled_behind : (x : Delivered) (vs : List Seen) (v : Seen) → AreWanted x vs → row_wanted x vs ≡ Some v → fold_edits (tables x) (edits_by x (v ∷ vs)) ≡ tables_settled_below x (v.row.serial + 1)
 settled_behind x vs v w e =
     let r = reaches x vs v (reached x vs w) e in
-    let rise = subst (RiseFrom seen_serial x.item.serial) r.parts (on_rise x) in
+    let rise = subst (RisesFrom seen_serial x.item.serial) r.parts (on_rise x) in
     let low = low_at seen_serial x.item.serial r.front v r.behind rise in
     let next : v.row.serial + 1 ≡ suc v.row.serial = omega arith in
     ap (fold_edits (tables x)) (r.tells_on ∙ ap (told_by x) (sym (ap (under seen_serial (suc v.row.serial)) r.parts ∙ under_behind seen_serial x.item.serial r.front v r.behind rise)))
@@ -332,7 +333,7 @@ settled_at_end x (u ∷ vs) w e =
     let us = b.ahead ++ u ∷ [] in
     let passed_is : h.passed ≡ us = b.passed_is in
     let carries : carry_behind x us ≡ k = sym (h.carries ∙ ap (carry_behind x) passed_is) in
-    let none = unasked k n (suc n) b.left [] (omega arith) (subst (RiseFrom seen_serial (suc n)) (sym (append-nil b.left)) b.rise) (all_fail (test_of k n) b.left (sym b.finds ∙ e)) in
+    let none = unasked k n (suc n) b.left [] (omega arith) (subst (RisesFrom seen_serial (suc n)) (sym (append-nil b.left)) b.rise) (all_fail (test_of k n) b.left (sym b.finds ∙ e)) in
     let told : told_by x (us ++ b.left) ≡ told_by x us =
     told_on x b.ahead u b.left ∙ (λ j. told_by x us ++ walk_edits name bounds (carries j) b.left) ∙ ap (λ l. told_by x us ++ l) (unasked_edits name bounds k b.left none) ∙ append-nil (told_by x us) in
     ap (fold_edits (tables x)) (h.tells ∙ ap (told_by x) passed_is ∙ sym told ∙ ap (told_by x) (sym b.parts)) ∙ settled_all x

@@ -13,6 +13,7 @@ use Rattle.gate_types.specs.State.{Item, Queue, State}
 use Rattle.gate_types.specs.Line.{Place}
 use Rattle.gate_types.specs.Standing.{place_of}
 use Rattle.gate_types.specs.Rows.{row_of}
+use Rattle.gate_types.specs.Rising.{RisesFrom}
 use Rattle.gate_walk.specs.Walk.{Seen, Carry, visit_edits, carried, walk_edits, walk_from}
 use Rattle.gate_walk.specs.Rescan.{row_seen, rows_from, stored}
 use Rattle.gate_walk.specs.Next.{next_of, visits_from}
@@ -20,41 +21,41 @@ use Rattle.gate_walk.specs.Delivery.{Touch, build_ended, item_left, item_landed,
 use Rattle.std.specs.List.Sorted.{IsStrictlyIncreasing}
 use Rattle.gate_laws.proofs.Rising.{increasing}
 use Rattle.gate_laws.proofs.LiveBuildsCount.{place_serial}
-use Rattle.gate_queue.proofs.Ordered.{RiseFrom, AllBelow, row_serial, ahead_rise}
+use Rattle.gate_queue.proofs.Ordered.{AllBelow, row_serial, ahead_rise}
 use Rattle.gate_walk.proofs.Parting.{rising_from}
 use Rattle.gate_walk.proofs.NextRows.{seen_serial, passed, below_push, below_up, visits_walk}
 
 -- ---- rows in order
 
-rise_low : {X : Type 0} (key : X → ℕ) (m n : ℕ) (xs : List X) → m ≤ n → RiseFrom key n xs → RiseFrom key m xs
+rise_low : {X : Type 0} (key : X → ℕ) (m n : ℕ) (xs : List X) → m ≤ n → RisesFrom key n xs → RisesFrom key m xs
 rise_low key m n [] l r = tt
 rise_low key m n (x ∷ xs) l r = let low : n ≤ key x = r.0 in (omega arith, r.1)
 
-rise_filter : {X : Type 0} (key : X → ℕ) (test : X → Bool) (n : ℕ) (xs : List X) → RiseFrom key n xs → RiseFrom key n (filter test xs)
+rise_filter : {X : Type 0} (key : X → ℕ) (test : X → Bool) (n : ℕ) (xs : List X) → RisesFrom key n xs → RisesFrom key n (filter test xs)
 rise_filter key test n [] r = tt
 rise_filter {X = X} key test n (x ∷ xs) r = by_test (test x) (rise_filter key test (suc (key x)) xs r.1)
   where
-    by_test : (t : Bool) → RiseFrom key (suc (key x)) (filter test xs) → RiseFrom key n (cond t (x ∷ filter test xs) (filter test xs))
+    by_test : (t : Bool) → RisesFrom key (suc (key x)) (filter test xs) → RisesFrom key n (cond t (x ∷ filter test xs) (filter test xs))
     by_test true h = (r.0, h)
     by_test false h = let low : n ≤ key x = r.0 in rise_low key n (suc (key x)) (filter test xs) (omega arith) h
 
-rows_rise : (bs : List Build) (n : ℕ) (ps : List Place) → RiseFrom place_serial n ps → RiseFrom row_serial n (map (row_of bs) ps)
+rows_rise : (bs : List Build) (n : ℕ) (ps : List Place) → RisesFrom place_serial n ps → RisesFrom row_serial n (map (row_of bs) ps)
 rows_rise bs n [] r = tt
 rows_rise bs n (p ∷ ps) r = (r.0, rows_rise bs (suc p.item.serial) ps r.1)
 
-pub stored_rise : (c : Settings) (s : State) (q : Queue) → RiseFrom place_serial 0 (map (place_of c s q) q.items) → RiseFrom row_serial 0 (stored c s q)
+pub stored_rise : (c : Settings) (s : State) (q : Queue) → RisesFrom place_serial 0 (map (place_of c s q) q.items) → RisesFrom row_serial 0 (stored c s q)
 stored_rise c s q r = rows_rise s.builds 0 _ (ahead_rise s.builds 0 [] (map (place_of c s q) q.items) r)
 
-pub standing_rise : (k : Touch) (i : Item) (rows : List ItemRow) → RiseFrom row_serial 0 rows → RiseFrom row_serial 0 (standing_rows k i rows)
+pub standing_rise : (k : Touch) (i : Item) (rows : List ItemRow) → RisesFrom row_serial 0 rows → RisesFrom row_serial 0 (standing_rows k i rows)
 standing_rise build_ended i rows r = r
 standing_rise item_left i rows r = rise_filter row_serial (λ x. not (x.serial == i.serial)) 0 rows r
 standing_rise item_landed i rows r = rise_filter row_serial (λ x. not (x.serial == i.serial)) 0 rows r
 
-seen_rise : (c : Settings) (t : State) (all : List ItemRow) (n : ℕ) (rows : List ItemRow) → RiseFrom row_serial n rows → RiseFrom seen_serial n (map (row_seen c t all) rows)
+seen_rise : (c : Settings) (t : State) (all : List ItemRow) (n : ℕ) (rows : List ItemRow) → RisesFrom row_serial n rows → RisesFrom seen_serial n (map (row_seen c t all) rows)
 seen_rise c t all n [] r = tt
 seen_rise c t all n (x ∷ rows) r = (r.0, seen_rise c t all (suc x.serial) rows r.1)
 
-pub seen_increase : (c : Settings) (t : State) (rows : List ItemRow) → RiseFrom row_serial 0 rows → IsStrictlyIncreasing (map seen_serial (map (row_seen c t rows) rows))
+pub seen_increase : (c : Settings) (t : State) (rows : List ItemRow) → RisesFrom row_serial 0 rows → IsStrictlyIncreasing (map seen_serial (map (row_seen c t rows) rows))
 seen_increase c t rows r = let vs = map (row_seen c t rows) rows in increasing seen_serial vs (rising_from seen_serial 0 vs (seen_rise c t rows 0 rows r))
 
 -- ---- from a serial on
@@ -71,7 +72,7 @@ seen_from c t all n (x ∷ rows) = by_test (nat_le n x.serial) (seen_from c t al
     by_test true h = ap (λ l. row_seen c t all x ∷ l) h
     by_test false h = h
 
-all_on : (n m : ℕ) (vs : List Seen) → n ≤ m → RiseFrom seen_serial m vs → filter (from_on n) vs ≡ vs
+all_on : (n m : ℕ) (vs : List Seen) → n ≤ m → RisesFrom seen_serial m vs → filter (from_on n) vs ≡ vs
 all_on n m [] l r = refl
 all_on n m (v ∷ vs) l r =
     let low : m ≤ v.row.serial = r.0 in
@@ -84,7 +85,7 @@ visits_of name bounds k o vs = elim o as (λ x. List Edit) [
   | Some v ↦ visit_edits name bounds k v ++ visits_from (length vs) name bounds (next_of (carried bounds k v) v.row.serial) (carried bounds k v) vs
 ]
 
-visits_on : (name : List ℕ) (bounds : Bounds) (n m : ℕ) (k : Carry) (us vs : List Seen) → AllBelow seen_serial n us → RiseFrom seen_serial m vs → visits_of name bounds k (find (from_on n) vs) (us ++ vs) ≡ walk_from name bounds k (filter (from_on n) vs)
+visits_on : (name : List ℕ) (bounds : Bounds) (n m : ℕ) (k : Carry) (us vs : List Seen) → AllBelow seen_serial n us → RisesFrom seen_serial m vs → visits_of name bounds k (find (from_on n) vs) (us ++ vs) ≡ walk_from name bounds k (filter (from_on n) vs)
 visits_on name bounds n m k us [] b r = refl
 visits_on name bounds n m k us (v ∷ vs) b r = by_test (from_on n v) refl (λ low. visits_on name bounds n (suc v.row.serial) k (us ++ v ∷ []) vs (below_push n us v b low) r.1)
   where
@@ -108,7 +109,7 @@ visits_on name bounds n m k us (v ∷ vs) b r = by_test (from_on n v) refl (λ l
         first high ∙ ap (λ l. walk_from name bounds k (v ∷ l)) (sym (all_on n (suc v.row.serial) vs (omega (arith, high)) r.1))
     by_test false e on = ap (visits_of name bounds k (find (from_on n) vs)) (sym (append_assoc us (v ∷ []) vs)) ∙ on (below_it e)
 
-pub visited_is_walked : (c : Settings) (t : State) (name : List ℕ) (bounds : Bounds) (n : ℕ) (k : Carry) (rows : List ItemRow) → RiseFrom row_serial 0 rows →
+pub visited_is_walked : (c : Settings) (t : State) (name : List ℕ) (bounds : Bounds) (n : ℕ) (k : Carry) (rows : List ItemRow) → RisesFrom row_serial 0 rows →
     visited name bounds k n (map (row_seen c t rows) rows) ≡ walk_from name bounds k (map (row_seen c t rows) (rows_from n rows))
 visited_is_walked c t name bounds n k rows r =
     visits_on name bounds n 0 k [] (map (row_seen c t rows) rows) tt (seen_rise c t rows 0 rows r) ∙ ap (walk_from name bounds k) (seen_from c t rows n rows)

@@ -13,8 +13,9 @@ use Rattle.gate_types.specs.Line.{Place}
 use Rattle.gate_types.specs.Slot.{is_blocked, slot_of, is_waiting_slot}
 use Rattle.gate_types.specs.Standing.{places, place_of}
 use Rattle.gate_types.specs.Choice.{build_for, builds_for}
+use Rattle.gate_types.specs.Rising.{RisesFrom}
 use Rattle.gate_queue.specs.WholeQueue.Chooses.{first_choice, build_of_choice, FirstChoiceIsGiven}
-use Rattle.gate_queue.proofs.Ordered.{RiseFrom, rises, ahead_rise}
+use Rattle.gate_queue.proofs.Ordered.{rises, ahead_rise}
 use Rattle.gate_queue.proofs.LawLemmas.{items_rise}
 use Rattle.gate_laws.proofs.LiveBuildsCount.{place_serial}
 
@@ -47,7 +48,7 @@ abbrev Found : List Place → List Place → Type 0
 Found all [] = Unit {0}
 Found all (p ∷ ps) = (find (λ x. x.item.serial == p.item.serial) all ≡ Some p) × Found all ps
 
-found_more : (p : Place) (n : ℕ) (all ps : List Place) → p.item.serial < n → RiseFrom place_serial n ps → Found all ps → Found (p ∷ all) ps
+found_more : (p : Place) (n : ℕ) (all ps : List Place) → p.item.serial < n → RisesFrom place_serial n ps → Found all ps → Found (p ∷ all) ps
 found_more p n all [] l r f = tt
 found_more p n all (x ∷ ps) l r f =
     let from : n ≤ x.item.serial = r.0 in (
@@ -55,7 +56,7 @@ found_more p n all (x ∷ ps) l r f =
       found_more p (suc x.item.serial) all ps (omega arith) r.1 f.1,
     )
 
-found_all : (n : ℕ) (ps : List Place) → RiseFrom place_serial n ps → Found ps ps
+found_all : (n : ℕ) (ps : List Place) → RisesFrom place_serial n ps → Found ps ps
 found_all n [] r = tt
 found_all n (p ∷ ps) r = (
   ap (λ t. cond t (Some p) (find (λ y. y.item.serial == p.item.serial) ps)) (eq-eqb p.item.serial p.item.serial refl),

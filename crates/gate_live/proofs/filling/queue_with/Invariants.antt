@@ -1,6 +1,6 @@
 use Rattle.std.proofs.Common.{◌≡◌, [], length, take, drop}
 use Rattle.gate_types.specs.Keys.{serial_of_item}
-use Rattle.gate_book_trait.specs.Rising.{RisesFrom}
+use Rattle.gate_types.specs.Rising.{RisesFrom}
 use Rattle.gate_live.specs.Held.{HasRoomIn, IsKeptQueue, queue_of}
 use Rattle.gate_live.proofs.filling.queue_with.Given as goal
 

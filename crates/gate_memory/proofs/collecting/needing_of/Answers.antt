@@ -2,10 +2,10 @@ use Rattle.std.proofs.Common.{◌≡◌, ◌∙◌, Bool, true, refl}
 use Rattle.std.specs.Prelude.{nat_lt}
 use Rattle.gate_types.specs.declared.records.Item.{Item}
 use Rattle.gate_types.specs.Keys.{serial_of_item}
+use Rattle.gate_types.specs.Rising.{In}
 use Rattle.gate_memory.specs.declared.pairs.Pair.{Pair}
 use Rattle.gate_memory.specs.Changes.{changes_of}
 use Rattle.gate_memory.specs.Needs.{TellsSerials, pair_of_need}
-use Rattle.gate_book_trait.specs.Rising.{In}
 use Rattle.gate_book_trait.specs.RowReads.{is_needing_in}
 use Rattle.gate_book_trait.proofs.Finding.{all_in}
 use Rattle.gate_memory.proofs.CollectLemmas.{AreTold, collected}

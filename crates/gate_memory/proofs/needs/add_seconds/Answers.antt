@@ -1,7 +1,7 @@
 use Rattle.std.proofs.Common.{◌≡◌, ◌∙◌, ℕ, ap, take, get_or}
 use Rattle.std.specs.List.{AllByRecursion}
 use Rattle.gate_types.specs.State.{put_by}
-use Rattle.gate_book_trait.specs.Rising.{In}
+use Rattle.gate_types.specs.Rising.{In}
 use Rattle.gate_memory.specs.declared.pairs.Pair.{Pair}
 use Rattle.gate_book_trait.proofs.Finding.{in_weaker}
 use Rattle.gate_memory.proofs.BuildLemmas.{in_put, still_in}

@@ -1,7 +1,7 @@
 use Rattle.std.proofs.Common.{ℕ, take}
 use Rattle.std.specs.List.{AllByRecursion}
+use Rattle.gate_types.specs.Rising.{In}
 use Rattle.gate_memory.specs.Needs.{IsRising}
-use Rattle.gate_book_trait.specs.Rising.{In}
 use Rattle.gate_memory.proofs.needs.add_seconds.Given as goal
 
 abbrev pub invariant-loop-pair : goal.invariant-loop-pair

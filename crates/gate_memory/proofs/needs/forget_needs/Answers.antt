@@ -1,10 +1,10 @@
 use Rattle.std.proofs.Common.{◌≡◌, ◌≢◌, not, true, refl, ap, take, arith}
 use Rattle.std.specs.Prelude.{◌==◌}
 use Rattle.std.specs.List.{AllByRecursion}
+use Rattle.gate_types.specs.Rising.{In}
 use Rattle.gate_memory.specs.Needs.{IsSmall, TellsNoneOf, pair_of_need}
 use Rattle.gate_memory.specs.Pairs.{pair_key, IsFit}
 use Rattle.gate_memory.specs.Sorted.{without}
-use Rattle.gate_book_trait.specs.Rising.{In}
 use Rattle.gate_memory.specs.declared.pairs.Pair.{Pair}
 use Rattle.gate_book_trait.proofs.Finding.{in_weaker, all_in}
 use Rattle.gate_memory.proofs.BuildLemmas.{all_without, in_without}

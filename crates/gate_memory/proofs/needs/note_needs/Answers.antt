@@ -1,9 +1,9 @@
 use Rattle.std.proofs.Common.{◌≡◌, ◌⊎◌, inr, ⊎_elim, sym, ap, subst, take, arith}
 use Rattle.std.specs.List.{AllByRecursion}
 use Rattle.gate_types.specs.State.{put_by}
+use Rattle.gate_types.specs.Rising.{In}
 use Rattle.gate_memory.specs.Needs.{IsSmall, TellsNeedsOf, pair_of_need}
 use Rattle.gate_memory.specs.Pairs.{pair_key, IsFit}
-use Rattle.gate_book_trait.specs.Rising.{In}
 use Rattle.gate_memory.specs.declared.pairs.Pair.{Pair}
 use Rattle.gate_book_trait.proofs.Finding.{in_weaker, all_in}
 use Rattle.gate_memory.proofs.BuildLemmas.{all_put, in_put, still_in}

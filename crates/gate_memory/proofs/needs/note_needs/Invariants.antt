@@ -1,7 +1,7 @@
 use Rattle.std.proofs.Common.{◌≡◌, ◌≤◌, ◌+◌, ◌⊎◌, take}
 use Rattle.std.specs.Prelude.{vec_len, vec_capacity}
+use Rattle.gate_types.specs.Rising.{In}
 use Rattle.gate_memory.specs.Needs.{AreInOrder, TellsNeedsOf}
-use Rattle.gate_book_trait.specs.Rising.{In}
 use Rattle.gate_memory.specs.declared.pairs.Pair.{Pair}
 use Rattle.gate_memory.proofs.needs.note_needs.Given as goal
 

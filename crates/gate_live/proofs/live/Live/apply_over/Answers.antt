@@ -2,7 +2,7 @@ use Rattle.std.proofs.Common.{◌∙◌, ap, subst}
 use Rattle.std.proofs.lemmas.Result.{err_from_is_err_and}
 use Rattle.std.specs.Prelude.{option_map}
 use Rattle.gate_types.specs.Keys.{serial_of_plan}
-use Rattle.gate_book_trait.specs.Rising.{RisesFrom}
+use Rattle.gate_types.specs.Rising.{RisesFrom}
 use Rattle.gate_live.specs.Live.{fold_live}
 use Rattle.gate_live.specs.Held.{live_of}
 use Rattle.gate_live.specs.HeldBuilds.{fold_held, known_of}

@@ -2,7 +2,7 @@ use Rattle.std.proofs.Common.{◌≡◌, Some, None, not}
 use Rattle.std.specs.Prelude.{◌==◌, filter, option_map}
 use Rattle.std.specs.List.{AllByRecursion}
 use Rattle.gate_types.specs.declared.records.Build.{Build}
-use Rattle.gate_book_trait.specs.Rising.{RisesFrom}
+use Rattle.gate_types.specs.Rising.{RisesFrom}
 use Rattle.gate_memory.specs.declared.pairs.Pair.{Pair}
 use Rattle.gate_memory.specs.Sorted.{first_of}
 use Rattle.gate_memory.specs.Pairs.{pair_key, IsFit}

@@ -1,6 +1,6 @@
 use Rattle.std.proofs.Common.{refl}
 use Rattle.gate_types.specs.Rows.{with_outcome}
-use Rattle.gate_book_trait.specs.Rising.{RisesFrom}
+use Rattle.gate_types.specs.Rising.{RisesFrom}
 use Rattle.gate_memory.specs.Builds.{Indexes, TellsLive, number_of}
 use Rattle.gate_memory.proofs.SortedLemmas.{rises-changed}
 use Rattle.gate_memory.proofs.BuildLemmas.{tells_changed}

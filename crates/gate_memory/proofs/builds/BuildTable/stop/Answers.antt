@@ -2,7 +2,7 @@ use Rattle.std.proofs.Common.{◌≡◌, false, refl}
 use Rattle.std.specs.List.{AllByRecursion}
 use Rattle.std.proofs.lemmas.Bool.{false≢true}
 use Rattle.gate_types.specs.Rebase.{with_live}
-use Rattle.gate_book_trait.specs.Rising.{RisesFrom}
+use Rattle.gate_types.specs.Rising.{RisesFrom}
 use Rattle.gate_memory.specs.Sorted.{without}
 use Rattle.gate_memory.specs.Pairs.{pair_key, IsFit}
 use Rattle.gate_memory.specs.Builds.{Indexes, TellsLive, number_of}

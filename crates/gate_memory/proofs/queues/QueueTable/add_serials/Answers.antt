@@ -3,9 +3,9 @@ use Rattle.std.specs.Prelude.{◌==◌, filter}
 use Rattle.std.specs.List.{AllByRecursion}
 use Rattle.std.proofs.lemmas.Bool.{eq-eqb}
 use Rattle.gate_types.specs.declared.records.Item.{Item}
+use Rattle.gate_types.specs.Rising.{In}
 use Rattle.gate_memory.specs.declared.pairs.Pair.{Pair}
 use Rattle.gate_memory.specs.Queues.{entry_of}
-use Rattle.gate_book_trait.specs.Rising.{In}
 use Rattle.gate_book_trait.proofs.Finding.{in_weaker, all_in}
 use Rattle.gate_memory.proofs.NeedLemmas.{in_filter}
 use Rattle.gate_memory.proofs.queues.QueueTable.add_serials.Goals as goal
