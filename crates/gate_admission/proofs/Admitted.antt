@@ -18,7 +18,7 @@ use Rattle.gate_types.specs.Names.{same_name, is_name}
 use Rattle.gate_types.specs.Once.{Content}
 use Rattle.gate_types.specs.Lawful.{IsSound}
 use Rattle.gate_types.specs.Forms.{IsLawfulContent, is_queue_in_form}
-use Rattle.gate_laws.proofs.Members.{In, every}
+use Rattle.gate_laws.proofs.Members.{every}
 use Rattle.gate_laws.proofs.Alone.{names_differ}
 use Rattle.gate_types.specs.Settings.{Settings, are_sound, are_distinct}
 use Rattle.gate_types.specs.State.{Item, Queue, State, has_change, change_of, known_change, project_of}
@@ -34,6 +34,7 @@ use Rattle.gate_admission.specs.Enters.{item_in}
 use Rattle.gate_reads.proofs.Queues.{names}
 use Rattle.gate_types.specs.Counters.{last_number}
 use Rattle.gate_types.specs.Limits.{most_items}
+use Rattle.gate_types.specs.Rising.{In}
 
 -- the names of the queues differ, and none is empty
 pub record AreNamed (s : State) : Type 0 where

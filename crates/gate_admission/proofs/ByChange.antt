@@ -9,8 +9,9 @@ use Rattle.gate_types.specs.declared.records.Item.{Item as ItemRow}
 use Rattle.gate_types.specs.declared.edits.Edit.{Edit}
 use Rattle.gate_types.specs.declared.edits.Edit.TheVariants as edit
 use Rattle.gate_types.specs.Keys.{serial_of_item}
+use Rattle.gate_types.specs.Rising.{In}
 use Rattle.gate_book_trait.specs.declared.rows.QueuedItem.{QueuedItem}
-use Rattle.gate_laws.proofs.Members.{In, found, not_found}
+use Rattle.gate_laws.proofs.Members.{found, not_found}
 use Rattle.gate_laws.proofs.Rising.{Rising}
 use Rattle.gate_admission.specs.Seen.{items_after, item_at, if_of, item_if, item_if_at, serial_put, item_put, item_left}
 use Rattle.gate_admission.specs.Enters.{item_in}

@@ -26,9 +26,10 @@ use Rattle.gate_types.specs.Lawful.{IsSound}
 use Rattle.gate_types.specs.Tables.{Tables, QueueRows, tables, queue_rows, change_row, approval_of, edited_queue}
 use Rattle.gate_types.specs.Tables.{edited_tables, fold_all}
 use Rattle.gate_types.specs.Keys.{number_of_change, serial_of_item}
+use Rattle.gate_types.specs.Rising.{In}
 use Rattle.gate_types.proofs.NameLemmas.{same_name_is}
 use Rattle.gate_book_trait.specs.Reads.{queue_named}
-use Rattle.gate_laws.proofs.Members.{In, all, found, map_map, map_same}
+use Rattle.gate_laws.proofs.Members.{all, found, map_map, map_same}
 use Rattle.gate_laws.proofs.Rising.{Rising, rising}
 use Rattle.gate_laws.proofs.Counts.{times, times-append, distinct_to}
 use Rattle.gate_laws.proofs.Alone.{changes_once, item_changes, name_alone, same_name_of}

@@ -22,7 +22,7 @@ use Rattle.gate_types.specs.declared.records.Ready.{Ready}
 use Rattle.gate_types.specs.Admit.{next_item, next_plan, with_item, entered}
 use Rattle.gate_types.specs.Rows.{row_of, item_rows}
 use Rattle.gate_types.specs.Lawful.{IsDistinct}
-use Rattle.gate_laws.proofs.Members.{In}
+use Rattle.gate_types.specs.Rising.{In}
 use Rattle.gate_laws.proofs.Plans.{plan_kept, replanned}
 use Rattle.gate_laws.proofs.Places.{ahead_end}
 use Rattle.gate_admission.specs.Enters.{item_in, is_met_by_rows, ahead_after, ahead_behind, entering_row}

@@ -11,8 +11,9 @@ use Rattle.gate_types.specs.declared.edits.Edit.{Edit}
 use Rattle.gate_types.specs.declared.edits.Edit.TheVariants as edit
 use Rattle.gate_types.specs.Names.{same_name}
 use Rattle.gate_types.specs.Keys.{serial_of_item}
+use Rattle.gate_types.specs.Rising.{In}
 use Rattle.gate_book_trait.specs.Reads.{last_below}
-use Rattle.gate_laws.proofs.Members.{In, found, not_found, from_filter, to_filter, filter_none, filter_all, filter_same}
+use Rattle.gate_laws.proofs.Members.{found, not_found, from_filter, to_filter, filter_none, filter_all, filter_same}
 use Rattle.gate_laws.proofs.Rising.{Rising, rising_filter}
 use Rattle.gate_admission.specs.Seen.{items_after, item_at, if_at, later, put_below, last_put_below}
 use Rattle.gate_admission.specs.Enters.{last_row}

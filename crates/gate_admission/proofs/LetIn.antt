@@ -14,8 +14,9 @@ use Rattle.gate_types.specs.Settings.{Settings}
 use Rattle.gate_types.specs.State.{State, known_change, change_of, is_landed}
 use Rattle.gate_types.specs.Once.{Content}
 use Rattle.gate_types.specs.Lawful.{IsSound}
+use Rattle.gate_types.specs.Rising.{In}
 use Rattle.gate_book_trait.specs.Reads.{ready_needing}
-use Rattle.gate_laws.proofs.Members.{In, from_filter, to_filter, from_append, to_left, to_right, from_flat, to_flat}
+use Rattle.gate_laws.proofs.Members.{from_filter, to_filter, from_append, to_left, to_right, from_flat, to_flat}
 use Rattle.gate_laws.proofs.Members.{any_from, any_to, none_from, contains_in, in_contains}
 use Rattle.gate_admission.specs.Led.{IsLed}
 use Rattle.gate_admission.specs.Seen.{ready_after, ready_without, with_approval, change_put}

@@ -10,8 +10,9 @@ use Rattle.gate_types.specs.declared.config.Queue.{Queue as QueueSetting}
 use Rattle.gate_types.specs.Settings.{Settings, are_sound, has_queue, are_sound_jobs}
 use Rattle.gate_types.specs.State.{Queue, State}
 use Rattle.gate_types.specs.Lawful.{IsSound}
+use Rattle.gate_types.specs.Rising.{In}
 use Rattle.gate_book_trait.specs.Reads.{queue_named}
-use Rattle.gate_laws.proofs.Members.{In, found, not_found, all_from, any_from}
+use Rattle.gate_laws.proofs.Members.{found, not_found, all_from, any_from}
 use Rattle.gate_admission.specs.Known.{IsQueue}
 
 any_named : (name : List ℕ) (qs : List Queue) →

@@ -10,8 +10,9 @@ use Rattle.gate_types.specs.Names.{same_name}
 use Rattle.gate_types.specs.State.{put_by}
 use Rattle.gate_types.specs.Rows.{edited_items}
 use Rattle.gate_types.specs.Keys.{serial_of_item}
+use Rattle.gate_types.specs.Rising.{In}
 use Rattle.gate_book_trait.specs.Reads.{first_above}
-use Rattle.gate_laws.proofs.Members.{In, from_filter}
+use Rattle.gate_laws.proofs.Members.{from_filter}
 use Rattle.gate_laws.proofs.Rising.{Rising, from_put, rising_put, rising_filter}
 use Rattle.gate_admission.specs.Seen.{items_after, item_at, if_at}
 

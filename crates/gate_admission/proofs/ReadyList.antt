@@ -16,8 +16,9 @@ use Rattle.gate_types.specs.State.{State, put_by, known_change, change_of, is_op
 use Rattle.gate_types.specs.Once.{Content}
 use Rattle.gate_types.specs.Lawful.{IsSound, waiting_changes}
 use Rattle.gate_types.specs.Tables.{approval_of, change_row, edited_changes}
+use Rattle.gate_types.specs.Rising.{In}
 use Rattle.gate_types.proofs.PlainLemmas.{some_is}
-use Rattle.gate_laws.proofs.Members.{In, every, found, not_found, from_filter, to_filter, from_append, to_left}
+use Rattle.gate_laws.proofs.Members.{every, found, not_found, from_filter, to_filter, from_append, to_left}
 use Rattle.gate_laws.proofs.Members.{to_right}
 use Rattle.gate_laws.proofs.Rising.{Rising, rising}
 use Rattle.gate_laws.proofs.Counts.{distinct_from, times-append, one_of}

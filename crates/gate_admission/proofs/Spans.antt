@@ -14,7 +14,7 @@ use Rattle.gate_types.specs.Rows.{item_rows, edited_items}
 use Rattle.gate_types.specs.Once.{Content}
 use Rattle.gate_types.specs.Forms.{IsLawfulContent, is_queue_in_form, is_item_in_form}
 use Rattle.gate_book_trait.specs.Reads.{queue_named, items_in, item_count, first_above, last_below}
-use Rattle.gate_laws.proofs.Members.{In, every, all_from, not_found, filter_all}
+use Rattle.gate_laws.proofs.Members.{every, all_from, not_found, filter_all}
 use Rattle.gate_laws.proofs.Rising.{Rising}
 use Rattle.gate_laws.proofs.ItemRows.{rows_length}
 use Rattle.gate_admission.specs.Led.{IsLed}
@@ -29,6 +29,7 @@ use Rattle.gate_admission.proofs.Standing.{queue_in, items_rise, row_is_of, row_
 use Rattle.gate_types.specs.Counters.{last_number}
 use Rattle.gate_types.specs.Limits.{most_items}
 use Rattle.gate_types.specs.Keys.{serial_of_item}
+use Rattle.gate_types.specs.Rising.{In}
 
 -- ---- the rows of a queue
 

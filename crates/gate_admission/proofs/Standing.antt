@@ -15,9 +15,10 @@ use Rattle.gate_types.specs.Standing.{place_of, places_after, with_ahead, next_a
 use Rattle.gate_types.specs.Rows.{row_of, item_rows}
 use Rattle.gate_types.specs.Lawful.{IsSound, serials_of, drawn_serials}
 use Rattle.gate_types.specs.Keys.{serial_of_item}
+use Rattle.gate_types.specs.Rising.{In}
 use Rattle.gate_book_trait.specs.declared.rows.QueuedItem.{QueuedItem}
 use Rattle.gate_book_trait.specs.Reads.{queue_named, items_in, queued_items, queued_of}
-use Rattle.gate_laws.proofs.Members.{In, every, found, not_found, from_map, to_map, from_flat, to_flat, to_left}
+use Rattle.gate_laws.proofs.Members.{every, found, not_found, from_map, to_map, from_flat, to_flat, to_left}
 use Rattle.gate_laws.proofs.Rising.{Rising, rising}
 use Rattle.gate_laws.proofs.Alone.{change_alone}
 use Rattle.gate_admission.proofs.QueueItems.{at_there}

@@ -18,8 +18,9 @@ use Rattle.gate_types.specs.Once.{Content}
 use Rattle.gate_types.specs.Tables.{Leads, edited_counters}
 use Rattle.gate_types.specs.Admit.{may_enter, entered, admit_one, admit}
 use Rattle.gate_types.specs.Step.{is_exhausted}
+use Rattle.gate_types.specs.Rising.{In}
 use Rattle.gate_reads.specs.Moves.{in_state}
-use Rattle.gate_laws.proofs.Members.{In, found}
+use Rattle.gate_laws.proofs.Members.{found}
 use Rattle.gate_admission.specs.Led.{IsLed}
 use Rattle.gate_admission.specs.Counted.{sets_past}
 use Rattle.gate_admission.specs.Candidates.{AreCandidates}

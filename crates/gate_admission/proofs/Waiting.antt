@@ -12,8 +12,9 @@ use Rattle.gate_types.specs.Settings.{Settings}
 use Rattle.gate_types.specs.State.{State}
 use Rattle.gate_types.specs.Admit.{may_enter, entered}
 use Rattle.gate_types.specs.Lawful.{IsSound}
+use Rattle.gate_types.specs.Rising.{In}
 use Rattle.gate_types.proofs.PlainLemmas.{some_is}
-use Rattle.gate_laws.proofs.Members.{In, from_filter, to_filter, contains_in, in_contains}
+use Rattle.gate_laws.proofs.Members.{from_filter, to_filter, contains_in, in_contains}
 use Rattle.gate_laws.proofs.Rising.{Rising, rising}
 use Rattle.gate_admission.specs.Candidates.{needs_it, change_under, IsAmong, AreCandidates, AreOthers, AreToLookAt}
 use Rattle.gate_admission.specs.Candidates.{EntersFirst}

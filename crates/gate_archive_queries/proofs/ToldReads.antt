@@ -25,7 +25,7 @@ use Rattle.gate_archive.specs.declared.rows.LeftItem.{LeftItem}
 use Rattle.gate_laws.proofs.Alone.{report_serials, same_name_of, serials_once}
 use Rattle.gate_laws.proofs.Counts.{one_of, one_part, times}
 use Rattle.gate_laws.proofs.FewRows.{rows_are_few}
-use Rattle.gate_laws.proofs.Members.{In, all, all_from, every, found, from_filter, from_flat, from_map, to_filter}
+use Rattle.gate_laws.proofs.Members.{all, all_from, every, found, from_filter, from_flat, from_map, to_filter}
 use Rattle.gate_laws.proofs.Members.{to_flat, to_map}
 use Rattle.gate_content_reads.proofs.told.Items.{names_placed}
 use Rattle.gate_content_reads.proofs.told.Lists.{lone_found, permuted_same, same_find}
@@ -34,6 +34,7 @@ use Rattle.gate_archive_queries.specs.Answers.{IsArchiveOf}
 use Rattle.gate_archive_queries.specs.Asked as file
 use Rattle.gate_archive_queries.specs.HistoryFrom.{HoldsReports, text_from}
 use Rattle.gate_types.specs.Counters.{last_number}
+use Rattle.gate_types.specs.Rising.{In}
 
 -- ---- numbered reports
 

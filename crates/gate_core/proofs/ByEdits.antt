@@ -44,7 +44,7 @@ use Rattle.gate_laws.proofs.Alone.{same_name_of}
 use Rattle.gate_laws.proofs.EachAccepted.{on_accepted, each_revision, each_approved, each_withdrawn, each_closed}
 use Rattle.gate_laws.proofs.EachAccepted.{each_landed, each_refused, each_take, each_result}
 use Rattle.gate_laws.proofs.IdleSweep.{judged_items}
-use Rattle.gate_laws.proofs.Members.{In, every, from_map, any_from, any_to, none_from, from_filter, map_map}
+use Rattle.gate_laws.proofs.Members.{every, from_map, any_from, any_to, none_from, from_filter, map_map}
 use Rattle.gate_laws.proofs.Members.{contains_in}
 use Rattle.gate_reads.specs.Moves.{swept}
 use Rattle.gate_admission.specs.Led.{IsLed}
@@ -55,6 +55,7 @@ use Rattle.gate_admission.proofs.LetIn.{are_putting, was_ready, change_stays}
 use Rattle.gate_settling.proofs.ListLemmas.{each_same}
 use Rattle.gate_book_trait.proofs.ReadLemmas.{length_reports}
 use Rattle.gate_types.specs.Limits.{most_items}
+use Rattle.gate_types.specs.Rising.{In}
 
 -- ---- a queue that items may have left
 

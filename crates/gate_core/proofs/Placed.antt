@@ -17,11 +17,12 @@ use Rattle.gate_types.specs.Standing.{place_of, places_after, next_ahead, with_a
 use Rattle.gate_types.specs.Rows.{row_of, item_rows}
 use Rattle.gate_types.specs.Step.{approval_reply}
 use Rattle.gate_types.specs.Lawful.{IsSound, is_sound_item}
+use Rattle.gate_types.specs.Rising.{In}
 use Rattle.gate_types.proofs.NameLemmas.{same_name_is}
 use Rattle.gate_book_trait.specs.Reads.{queue_named, items_in}
 use Rattle.gate_laws.proofs.Alone.{changes_once, map-flat}
 use Rattle.gate_laws.proofs.Counts.{times}
-use Rattle.gate_laws.proofs.Members.{In, every, found, not_found, from_flat, to_flat}
+use Rattle.gate_laws.proofs.Members.{every, found, not_found, from_flat, to_flat}
 use Rattle.gate_reads.proofs.Found.{found_itself}
 use Rattle.gate_admission.proofs.Admitted.{AreNamed}
 use Rattle.gate_reads.proofs.Queues.{named_itself}

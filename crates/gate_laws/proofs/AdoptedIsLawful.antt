@@ -24,7 +24,7 @@ use Rattle.gate_types.proofs.PlainLemmas.{same_truth}
 use Rattle.gate_types.proofs.NameLemmas.{same_name_is}
 use Rattle.gate_laws.specs.Rest.{IsAtRest}
 use Rattle.gate_laws.specs.Adoption.{AdoptedIsLawful, AdoptedContentIsLawful, AdoptedOrdersStay}
-use Rattle.gate_laws.proofs.Members.{In, every, all, any_from, any_to, all_from, not_found, contains_in, in_contains}
+use Rattle.gate_laws.proofs.Members.{every, all, any_from, any_to, all_from, not_found, contains_in, in_contains}
 use Rattle.gate_laws.proofs.Members.{from_filter_map}
 use Rattle.gate_laws.proofs.Alone.{same_name_of}
 use Rattle.gate_laws.proofs.SettledIsAtRest.{settled_is_at_rest, rest_is_settled}
@@ -39,6 +39,7 @@ use Rattle.gate_laws.proofs.Adopting.{Adopts, Resizes, each_queue, still_queue, 
 use Rattle.gate_laws.proofs.Adopting.{queue_there, set_kept}
 use Rattle.gate_laws.proofs.AdoptedIsSound.{adopted_sound}
 use Rattle.gate_types.specs.Limits.{most_items, most_window}
+use Rattle.gate_types.specs.Rising.{In}
 
 -- ---- at rest
 

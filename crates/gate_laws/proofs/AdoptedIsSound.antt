@@ -21,9 +21,10 @@ use Rattle.gate_types.specs.Evidence.{has_evidence}
 use Rattle.gate_types.specs.Lawful.{IsSound, serials_of, drawn_serials, waiting_changes, landed_changes}
 use Rattle.gate_types.specs.Lawful.{is_sound_item, is_sound_build, is_overtaken_rightly, is_of_item, TellsLandings}
 use Rattle.gate_types.specs.Lawful.{ArePlanned}
+use Rattle.gate_types.specs.Rising.{In}
 use Rattle.gate_types.proofs.NameLemmas.{same_name_is}
 use Rattle.gate_laws.specs.Adoption.{AdoptedIsSound}
-use Rattle.gate_laws.proofs.Members.{In, every, all, from_map, to_map, found, not_found, map_map, map_same}
+use Rattle.gate_laws.proofs.Members.{every, all, from_map, to_map, found, not_found, map_map, map_same}
 use Rattle.gate_laws.proofs.Members.{in_contains, contains_in}
 use Rattle.gate_laws.proofs.Counts.{times, times-append, distinct_less, all_below}
 use Rattle.gate_laws.proofs.Alone.{same_name_of, map-flat, item_changes}

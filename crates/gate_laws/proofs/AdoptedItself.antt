@@ -10,8 +10,9 @@ use Rattle.gate_types.specs.Names.{same_name}
 use Rattle.gate_types.specs.Settings.{Settings, has_queue, are_distinct}
 use Rattle.gate_types.specs.State.{Queue, State, empty_queue}
 use Rattle.gate_types.specs.Adopt.{keeps_window, resized, adopted_queue}
+use Rattle.gate_types.specs.Rising.{In}
 use Rattle.gate_laws.specs.Adoption.{AdoptedItself}
-use Rattle.gate_laws.proofs.Members.{In, any_to, all_to}
+use Rattle.gate_laws.proofs.Members.{any_to, all_to}
 use Rattle.gate_laws.proofs.Elements.{rest_of}
 use Rattle.gate_laws.proofs.Alone.{same_name_of, names_differ}
 use Rattle.gate_laws.proofs.Adopting.{found_named}

@@ -14,9 +14,10 @@ use Rattle.gate_types.specs.State.{Queue, State, empty_queue, change_of, is_open
 use Rattle.gate_types.specs.Step.{has_project}
 use Rattle.gate_types.specs.Adopt.{may_adopt, keeps_window, resized, adopted_queue, adopted}
 use Rattle.gate_types.specs.Lawful.{IsSound}
+use Rattle.gate_types.specs.Rising.{In}
 use Rattle.gate_types.proofs.PlainLemmas.{same_truth}
 use Rattle.gate_types.proofs.NameLemmas.{same_name_is}
-use Rattle.gate_laws.proofs.Members.{In, every, from_map, to_map, any_from, any_to, all_from, none_from, found}
+use Rattle.gate_laws.proofs.Members.{every, from_map, to_map, any_from, any_to, all_from, none_from, found}
 use Rattle.gate_laws.proofs.Members.{not_found, from_flat, to_flat}
 use Rattle.gate_laws.proofs.Counts.{times, times-append}
 use Rattle.gate_laws.proofs.Alone.{same_name_of, names_differ}

@@ -14,9 +14,10 @@ use Rattle.gate_types.specs.Slot.{is_blocked, is_cut, raw_slot_of, slot_of, is_w
 use Rattle.gate_types.specs.Standing.{with_ahead, place_of, places}
 use Rattle.gate_types.specs.Window.{within_window}
 use Rattle.gate_types.specs.Choice.{build_for, builds_for, choices, choose}
+use Rattle.gate_types.specs.Rising.{In}
 use Rattle.gate_types.specs.declared.records.Outcome.TheVariants as outcome
 use Rattle.gate_laws.proofs.Cuts.{waiting_cut}
-use Rattle.gate_laws.proofs.Members.{In, from_map, from_filter, from_flat, contains_in, in_contains, got}
+use Rattle.gate_laws.proofs.Members.{from_map, from_filter, from_flat, contains_in, in_contains, got}
 use Rattle.gate_laws.proofs.Places.{item_of_place}
 
 -- a build for a waiting job of an item that is neither blocked nor cut

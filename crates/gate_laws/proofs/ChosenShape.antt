@@ -16,7 +16,8 @@ use Rattle.gate_types.specs.Choice.{build_for, choose}
 use Rattle.gate_types.specs.Step.{with_build}
 use Rattle.gate_types.specs.Lawful.{IsSound}
 use Rattle.gate_types.specs.Forms.{is_change_number, is_revision_number, is_entry_in_form, are_settings_in_form}
-use Rattle.gate_laws.proofs.Members.{In, from_map, to_map, from_append, any_to, all_from, all_to}
+use Rattle.gate_types.specs.Rising.{In}
+use Rattle.gate_laws.proofs.Members.{from_map, to_map, from_append, any_to, all_from, all_to}
 use Rattle.gate_laws.proofs.Alone.{same_name_of}
 use Rattle.gate_laws.proofs.Chosen.{chosen}
 use Rattle.gate_laws.proofs.Shapes.{plan_named, NumberedItem, BuildShape, Shaped}

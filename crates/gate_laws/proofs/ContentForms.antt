@@ -23,9 +23,10 @@ use Rattle.gate_types.specs.Lawful.{IsLawful}
 use Rattle.gate_types.specs.Forms.{are_settings_in_form, are_counters_in_form, is_delivery_in_form, is_id_in_form}
 use Rattle.gate_types.specs.Forms.{is_call_in_form, is_text_in_form, is_kept_in_form, is_reply_in_form, IsInForm}
 use Rattle.gate_types.specs.Forms.{IsContentInForm}
+use Rattle.gate_types.specs.Rising.{In}
 use Rattle.gate_laws.specs.InForm.{EmptyIsInForm, NextContentIsInForm, NextContentIsLawful, RunIsInForm}
 use Rattle.gate_laws.specs.Runs.{StartWithIsLawful}
-use Rattle.gate_laws.proofs.Members.{In, every, not_found}
+use Rattle.gate_laws.proofs.Members.{every, not_found}
 use Rattle.gate_laws.proofs.StartIsLawful.{start_at, start_at_lawful, start_lawful}
 use Rattle.gate_laws.proofs.RunIsLawful.{next_lawful}
 use Rattle.gate_laws.proofs.StepIsInForm.{start_at_in_form, start_is_in_form, step_is_in_form}

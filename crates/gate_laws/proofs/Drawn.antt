@@ -9,7 +9,8 @@ use Rattle.gate_types.specs.declared.records.Report.{Report}
 use Rattle.gate_types.specs.Settings.{Settings}
 use Rattle.gate_types.specs.State.{Item, Queue, State}
 use Rattle.gate_types.specs.Lawful.{IsSound, serials_of, drawn_serials}
-use Rattle.gate_laws.proofs.Members.{In, every, to_map, to_left, to_right, to_flat}
+use Rattle.gate_types.specs.Rising.{In}
+use Rattle.gate_laws.proofs.Members.{every, to_map, to_left, to_right, to_flat}
 use Rattle.gate_laws.proofs.Alone.{item_serials, report_serials}
 use Rattle.gate_laws.proofs.Serials.{landing_report}
 

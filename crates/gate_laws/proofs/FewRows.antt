@@ -20,7 +20,7 @@ use Rattle.gate_types.specs.Step.{is_exhausted}
 use Rattle.gate_types.specs.Lawful.{IsSound, serials_of, landing_of, TellsLandings}
 use Rattle.gate_types.specs.Forms.{is_change_number, is_change_in_form}
 use Rattle.gate_laws.specs.InForm.{RowsAreFew}
-use Rattle.gate_laws.proofs.Members.{In, every, all, any_from, from_map}
+use Rattle.gate_laws.proofs.Members.{every, all, any_from, from_map}
 use Rattle.gate_laws.proofs.Counts.{times, hits, misses, times-append, times_out, distinct_from, distinct_to}
 use Rattle.gate_laws.proofs.Rising.{Rising, rising}
 use Rattle.gate_laws.proofs.Alone.{item_serials, report_serials}
@@ -30,6 +30,7 @@ use Rattle.gate_laws.proofs.Plans.{plan_drawn}
 use Rattle.gate_laws.proofs.Shapes.{Shaped, shaped_from, least, most}
 use Rattle.gate_types.specs.Counters.{last_number}
 use Rattle.gate_types.specs.Keys.{serial_of_plan}
+use Rattle.gate_types.specs.Rising.{In}
 
 -- ---- numbers
 

@@ -14,7 +14,8 @@ use Rattle.gate_types.specs.Step.{left_queue, landed_plan}
 use Rattle.gate_types.specs.Sweep.{without_plans}
 use Rattle.gate_types.specs.Forms.{is_change_in_form}
 use Rattle.gate_types.specs.Keys.{serial_of_plan}
-use Rattle.gate_laws.proofs.Members.{In, from_filter}
+use Rattle.gate_types.specs.Rising.{In}
+use Rattle.gate_laws.proofs.Members.{from_filter}
 use Rattle.gate_laws.proofs.Rising.{from_put}
 use Rattle.gate_laws.proofs.LeaveIsSound.{leaving}
 use Rattle.gate_laws.proofs.RecordedChange.{open_known}

@@ -24,10 +24,11 @@ use Rattle.gate_types.specs.Lawful.{IsSound, IsLawful, serials_of, landed_change
 use Rattle.gate_types.specs.Lawful.{TellsLandings}
 use Rattle.gate_types.specs.Forms.{are_settings_in_form, is_project_in_form}
 use Rattle.gate_types.specs.Keys.{serial_of_plan}
+use Rattle.gate_types.specs.Rising.{In}
 use Rattle.gate_laws.specs.Rest.{IsAtRest}
 use Rattle.gate_laws.specs.Migration.{place_before, places_before, all_before, is_shown_before, WasLawful}
 use Rattle.gate_laws.specs.Migration.{MigratedIsLawful, MigratedContentIsLawful, NothingWasCut}
-use Rattle.gate_laws.proofs.Members.{In, every, all, all_from, any_from, found, not_found, from_map, to_map}
+use Rattle.gate_laws.proofs.Members.{every, all, all_from, any_from, found, not_found, from_map, to_map}
 use Rattle.gate_laws.proofs.Members.{from_append, to_left, to_right, from_flat, to_flat, flat_same, map_same}
 use Rattle.gate_laws.proofs.Members.{in_contains, got}
 use Rattle.gate_laws.proofs.Counts.{distinct_from}

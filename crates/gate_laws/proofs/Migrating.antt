@@ -17,7 +17,8 @@ use Rattle.gate_types.specs.State.{Queue, State, put_by, plan_in}
 use Rattle.gate_types.specs.Migrate.{item_plan, landing_plan, plans_of_queue, put_all}
 use Rattle.gate_types.specs.Lawful.{serials_of, landing_of, TellsLandings, is_of_an_item, is_of_a_landing}
 use Rattle.gate_types.specs.Keys.{serial_of_plan}
-use Rattle.gate_laws.proofs.Members.{In, any_map, map_map}
+use Rattle.gate_types.specs.Rising.{In}
+use Rattle.gate_laws.proofs.Members.{any_map, map_map}
 use Rattle.gate_laws.proofs.Counts.{times, hits, times-append, times_flat_le}
 use Rattle.gate_laws.proofs.Alone.{item_serials, report_serials, map-flat}
 use Rattle.gate_laws.proofs.Rising.{Rising, rising_put, from_put}

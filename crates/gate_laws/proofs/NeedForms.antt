@@ -12,8 +12,9 @@ use Rattle.std.proofs.lemmas.Option.{none-some}
 use Rattle.gate_types.specs.Needs.{needs, named_change, number_of, after_base, without_blanks, after_footer}
 use Rattle.gate_types.specs.Needs.{without_end, with_number}
 use Rattle.gate_types.specs.Forms.{is_change_number}
+use Rattle.gate_types.specs.Rising.{In}
 use Rattle.gate_types.proofs.DigitLemmas.{value_small, value_positive}
-use Rattle.gate_laws.proofs.Members.{In, all_to, from_append, from_filter_map}
+use Rattle.gate_laws.proofs.Members.{all_to, from_append, from_filter_map}
 use Rattle.gate_laws.proofs.Shapes.{up_to}
 
 -- ---- digits

@@ -13,7 +13,8 @@ use Rattle.gate_types.specs.Sweep.{without_plans}
 use Rattle.gate_types.specs.Step.{is_of_change}
 use Rattle.gate_types.specs.Lawful.{IsSound, is_of_an_item, is_of_a_landing}
 use Rattle.gate_types.specs.Keys.{serial_of_plan}
-use Rattle.gate_laws.proofs.Members.{In, none_to, map_same, filter_all, any_from, any_to, found, not_found}
+use Rattle.gate_types.specs.Rising.{In}
+use Rattle.gate_laws.proofs.Members.{none_to, map_same, filter_all, any_from, any_to, found, not_found}
 use Rattle.gate_laws.proofs.Alone.{serial_alone}
 use Rattle.gate_laws.proofs.Serials.{landing_unqueued}
 use Rattle.gate_laws.proofs.Drawn.{item_drawn, landing_drawn}

@@ -29,8 +29,9 @@ use Rattle.gate_types.specs.Step.{with_landing, build_of, raw_step, step, settle
 use Rattle.gate_types.specs.Lawful.{IsSound, IsLawful}
 use Rattle.gate_types.specs.Forms.{is_item_in_form, is_queue_in_form, is_drawn_number, is_reply_in_form}
 use Rattle.gate_types.specs.Forms.{are_settings_in_form, are_counters_in_form, IsInForm}
+use Rattle.gate_types.specs.Rising.{In}
 use Rattle.gate_laws.specs.InForm.{ReplyIsInForm}
-use Rattle.gate_laws.proofs.Members.{In, every, all_from, from_flat, found}
+use Rattle.gate_laws.proofs.Members.{every, all_from, from_flat, found}
 use Rattle.gate_laws.proofs.OrderFacts.{shows}
 use Rattle.gate_laws.proofs.AfterLanding.{Submitted, is_after, after_landing, here_after, landed_here}
 use Rattle.gate_laws.proofs.SettledIsAtRest.{settled_is_at_rest}

@@ -10,8 +10,9 @@ use Rattle.gate_types.specs.State.{Queue, State, empty_queue}
 use Rattle.gate_types.specs.Once.{Content}
 use Rattle.gate_types.specs.Adopt.{may_adopt, resized, adopted_queue, adopted_content}
 use Rattle.gate_types.specs.Lawful.{IsSound}
+use Rattle.gate_types.specs.Rising.{In}
 use Rattle.gate_laws.specs.Sessions.{SameSettingsStay}
-use Rattle.gate_laws.proofs.Members.{In, any_to, all_to}
+use Rattle.gate_laws.proofs.Members.{any_to, all_to}
 use Rattle.gate_laws.proofs.Alone.{same_name_of, names_differ}
 use Rattle.gate_laws.proofs.Adopting.{found_named}
 use Rattle.gate_laws.proofs.AdoptedItself.{kept_window}

@@ -19,9 +19,10 @@ use Rattle.gate_types.specs.Forms.{is_up_to, is_change_number, is_revision_numbe
 use Rattle.gate_types.specs.Forms.{is_change_in_form, is_ready_in_form, is_item_in_form, is_landing_in_form}
 use Rattle.gate_types.specs.Forms.{is_plan_in_form, is_verdict_in_form, is_report_in_form, is_queue_in_form}
 use Rattle.gate_types.specs.Forms.{is_build_in_form, IsInForm}
-use Rattle.gate_laws.proofs.Members.{In, every, all_from, all_to, found}
+use Rattle.gate_laws.proofs.Members.{every, all_from, all_to, found}
 use Rattle.gate_types.specs.Counters.{last_number}
 use Rattle.gate_types.specs.Limits.{most_items, most_window}
+use Rattle.gate_types.specs.Rising.{In}
 
 -- ---- what is said of rows
 

@@ -27,7 +27,7 @@ use Rattle.gate_types.specs.Lawful.{IsSound}
 use Rattle.gate_types.specs.Forms.{is_change_number, is_revision_number, is_change_in_form, are_settings_in_form}
 use Rattle.gate_types.specs.Forms.{is_project_in_form}
 use Rattle.gate_types.proofs.NameLemmas.{same_name_is}
-use Rattle.gate_laws.proofs.Members.{In, every, all_from, from_map, from_filter, from_append, any_from, found}
+use Rattle.gate_laws.proofs.Members.{every, all_from, from_map, from_filter, from_append, any_from, found}
 use Rattle.gate_laws.proofs.Rising.{from_put}
 use Rattle.gate_laws.proofs.Alone.{name_alone, same_name_of}
 use Rattle.gate_laws.proofs.LeaveIsSound.{leaving}
@@ -40,6 +40,7 @@ use Rattle.gate_laws.proofs.RowShapes.{builds_shaped, shrunk_small, floor_small,
 use Rattle.gate_laws.proofs.RowShapes.{entered_shape, swept_shape}
 use Rattle.gate_types.specs.Limits.{most_items}
 use Rattle.gate_types.specs.Keys.{serial_of_plan}
+use Rattle.gate_types.specs.Rising.{In}
 
 -- the whole shape of a queue
 abbrev pub WholeQueue : Queue → Type 0

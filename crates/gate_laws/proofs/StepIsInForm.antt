@@ -25,7 +25,7 @@ use Rattle.gate_types.specs.Forms.{is_change_number, is_revision_number, is_chan
 use Rattle.gate_types.specs.Forms.{is_plan_in_form, is_queue_in_form, is_build_in_form, are_settings_in_form}
 use Rattle.gate_types.specs.Forms.{is_delivery_in_form, IsInForm}
 use Rattle.gate_laws.specs.InForm.{StartIsInForm, StepIsInForm}
-use Rattle.gate_laws.proofs.Members.{In, every, all, all_from, from_map, found}
+use Rattle.gate_laws.proofs.Members.{every, all, all_from, from_map, found}
 use Rattle.gate_laws.proofs.OrderFacts.{shows}
 use Rattle.gate_laws.proofs.AfterLanding.{is_after}
 use Rattle.gate_laws.proofs.SettledIsAtRest.{settled_is_at_rest}
@@ -45,6 +45,7 @@ use Rattle.gate_laws.proofs.FewRows.{tops}
 use Rattle.gate_laws.proofs.ChosenShape.{queue_set, take_shaped}
 use Rattle.gate_laws.proofs.LandedShape.{after_shaped}
 use Rattle.gate_types.specs.Limits.{most_window}
+use Rattle.gate_types.specs.Rising.{In}
 
 -- ---- shape and lawfulness are form
 

@@ -15,7 +15,7 @@ use Rattle.gate_types.specs.Line.{Place}
 use Rattle.gate_types.specs.Slot.{are_met_by}
 use Rattle.gate_types.specs.Sweep.{Judged, has_failed, judge, next_staying, judged_after, report_of, report_on}
 use Rattle.gate_types.specs.Lawful.{landing_of}
-use Rattle.gate_laws.proofs.Members.{In}
+use Rattle.gate_types.specs.Rising.{In}
 
 -- ---- reports that tell of no landing
 

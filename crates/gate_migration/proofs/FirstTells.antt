@@ -14,13 +14,14 @@ use Rattle.gate_types.specs.Rows.{item_of, item_rows}
 use Rattle.gate_types.specs.Settings.{Settings, are_distinct, are_sound}
 use Rattle.gate_types.specs.State.{Queue, State}
 use Rattle.gate_types.specs.Tables.{QueueRows}
+use Rattle.gate_types.specs.Rising.{In}
 use Rattle.gate_types.specs.declared.edits.Edit.{Edit}
 use Rattle.gate_schema.specs.Rows.{AreNamed, QueueRow, Stored}
 use Rattle.gate_rows.specs.Tells.{Tells, landings_of}
 use Rattle.gate_book_trait.proofs.ReadLemmas.{rows_of_queue}
 use Rattle.gate_queue_queries.specs.First.{ShowsFirst, first_schema}
 use Rattle.gate_laws.proofs.Alone.{names_differ, same_name_of}
-use Rattle.gate_laws.proofs.Members.{In, all, none_from, to_map}
+use Rattle.gate_laws.proofs.Members.{all, none_from, to_map}
 use Rattle.gate_laws.proofs.ItemRows.{items_of_rows}
 use Rattle.gate_content_reads.specs.Held.{queue_names}
 use Rattle.gate_migration.specs.Standing.{is_newly_taken}

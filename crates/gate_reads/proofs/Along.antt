@@ -17,7 +17,8 @@ use Rattle.gate_types.specs.Line.{Place}
 use Rattle.gate_types.specs.Standing.{with_ahead, next_ahead, places_after, place_of, places}
 use Rattle.gate_types.specs.Choice.{builds_for}
 use Rattle.gate_types.specs.Rows.{row_of}
-use Rattle.gate_laws.proofs.Members.{In, got}
+use Rattle.gate_types.specs.Rising.{In}
+use Rattle.gate_laws.proofs.Members.{got}
 use Rattle.gate_laws.proofs.Rising.{Rising, rising}
 use Rattle.gate_book_trait.specs.Reads.{live_builds, plans_of_items, builds_of_items}
 use Rattle.gate_reads.specs.NextBuild.{with_number}

@@ -6,7 +6,8 @@ use Rattle.std.specs.Bool.{then_some}
 use Rattle.std.specs.List.{list_any}
 use Rattle.std.proofs.lemmas.Bool.{eq-eqb, eqb-true}
 use Rattle.std.proofs.lemmas.Option.{none-some, same_Some}
-use Rattle.gate_laws.proofs.Members.{In, found, not_found}
+use Rattle.gate_types.specs.Rising.{In}
+use Rattle.gate_laws.proofs.Members.{found, not_found}
 use Rattle.gate_laws.proofs.Counts.{times, hits, one_of}
 
 -- a test passes somewhere just where something is found

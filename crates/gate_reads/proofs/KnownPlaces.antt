@@ -20,8 +20,9 @@ use Rattle.gate_types.specs.Choice.{build_for, builds_for}
 use Rattle.gate_types.specs.Rows.{row_of}
 use Rattle.gate_types.specs.Lawful.{IsLawful}
 use Rattle.gate_types.specs.Names.{same_name}
+use Rattle.gate_types.specs.Rising.{In}
 use Rattle.gate_types.proofs.NameLemmas.{same_name_is}
-use Rattle.gate_laws.proofs.Members.{In, contains_in, found, from_flat, to_flat}
+use Rattle.gate_laws.proofs.Members.{contains_in, found, from_flat, to_flat}
 use Rattle.gate_laws.proofs.Places.{item_of_place}
 use Rattle.gate_book_trait.specs.Reads.{queue_named, landings_in, landings_before, live_builds}
 use Rattle.gate_reads.specs.NextBuild.{with_number}

@@ -16,7 +16,8 @@ use Rattle.gate_types.specs.Slot.{cut_slot, slot_of, is_waiting_slot, is_finishe
 use Rattle.gate_types.specs.Standing.{is_failing, are_finished, all_places}
 use Rattle.gate_types.specs.Choice.{build_for, builds_for}
 use Rattle.gate_types.specs.Lawful.{IsLawful}
-use Rattle.gate_laws.proofs.Members.{In, every}
+use Rattle.gate_types.specs.Rising.{In}
+use Rattle.gate_laws.proofs.Members.{every}
 use Rattle.gate_laws.proofs.LiveBuildsCount.{live_builds_count}
 use Rattle.gate_laws.proofs.Cuts.{uncut, finished_is, waiting_cut}
 use Rattle.gate_book_trait.specs.Reads.{live_builds}

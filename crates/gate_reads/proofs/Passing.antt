@@ -13,7 +13,8 @@ use Rattle.gate_types.specs.Line.{Place}
 use Rattle.gate_types.specs.Standing.{is_failing, are_finished, next_ahead, places, all_places}
 use Rattle.gate_types.specs.SubmitOrder.{order_of}
 use Rattle.gate_types.specs.Rows.{row_of, item_of, item_rows}
-use Rattle.gate_laws.proofs.Members.{In, in_contains, to_map}
+use Rattle.gate_types.specs.Rising.{In}
+use Rattle.gate_laws.proofs.Members.{in_contains, to_map}
 use Rattle.gate_laws.proofs.Leads.{made}
 use Rattle.gate_book_trait.specs.Reads.{queue_named, items_in, first_above}
 use Rattle.gate_reads.specs.Orders.{order_in, IsRowOf, TellsOrder}

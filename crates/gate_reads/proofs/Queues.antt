@@ -11,7 +11,8 @@ use Rattle.gate_types.specs.Settings.{Settings, are_sound}
 use Rattle.gate_types.specs.State.{Queue, State}
 use Rattle.gate_types.specs.Choice.{choices, choose}
 use Rattle.gate_types.specs.Lawful.{IsSound}
-use Rattle.gate_laws.proofs.Members.{In, found, not_found}
+use Rattle.gate_types.specs.Rising.{In}
+use Rattle.gate_laws.proofs.Members.{found, not_found}
 use Rattle.gate_laws.proofs.Alone.{name_alone, same_name_of}
 use Rattle.gate_book_trait.specs.Reads.{queue_named}
 use Rattle.gate_reads.specs.NextBuild.{with_number}

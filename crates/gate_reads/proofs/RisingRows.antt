@@ -6,7 +6,7 @@ use Rattle.std.specs.List.Sorted.{IsStrictlyIncreasing}
 use Rattle.std.proofs.lemmas.Bool.{le-leb, ltb-true}
 use Rattle.std.proofs.lemmas.Option.{none-some, same_Some}
 use Rattle.gate_types.specs.declared.records.Item.{Item as ItemRow}
-use Rattle.gate_laws.proofs.Members.{In}
+use Rattle.gate_types.specs.Rising.{In}
 use Rattle.gate_laws.proofs.Rising.{Rising, increasing}
 use Rattle.gate_book_trait.specs.Reads.{first_items_above, items_between}
 use Rattle.gate_reads.specs.Parts.{last_serial}

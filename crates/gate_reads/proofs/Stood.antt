@@ -14,8 +14,9 @@ use Rattle.gate_types.specs.Line.{Place}
 use Rattle.gate_types.specs.Standing.{places, places_after, place_of, with_ahead, next_ahead, all_places}
 use Rattle.gate_types.specs.Rows.{row_of, item_rows}
 use Rattle.gate_types.specs.Lawful.{IsSound}
+use Rattle.gate_types.specs.Rising.{In}
 use Rattle.gate_laws.specs.Touch.{queue_of_change}
-use Rattle.gate_laws.proofs.Members.{In, map_map, flat_same, from_flat, from_map, to_flat, in_contains}
+use Rattle.gate_laws.proofs.Members.{map_map, flat_same, from_flat, from_map, to_flat, in_contains}
 use Rattle.gate_laws.proofs.Counts.{times}
 use Rattle.gate_laws.proofs.Alone.{map-flat, serials_once, changes_once}
 use Rattle.gate_book_trait.specs.declared.rows.QueuedItem.{QueuedItem}

@@ -10,7 +10,8 @@ use Rattle.gate_types.specs.declared.records.Build.{Build}
 use Rattle.gate_types.specs.declared.records.Item.{Item as ItemRow}
 use Rattle.gate_types.specs.declared.records.Plan.{Plan}
 use Rattle.gate_types.specs.State.{State, plan_in, plan_of}
-use Rattle.gate_laws.proofs.Members.{In, from_filter, from_flat, to_flat, found, not_found}
+use Rattle.gate_types.specs.Rising.{In}
+use Rattle.gate_laws.proofs.Members.{from_filter, from_flat, to_flat, found, not_found}
 use Rattle.gate_book_trait.specs.Reads.{plan_at, live_builds, plans_of_items, builds_of_items}
 
 -- ---- its plan

@@ -17,7 +17,8 @@ use Rattle.gate_types.specs.Line.{Place}
 use Rattle.gate_types.specs.Standing.{next_ahead, places, places_after, place_of}
 use Rattle.gate_types.specs.Choice.{builds_for, choices}
 use Rattle.gate_types.specs.Rows.{row_of}
-use Rattle.gate_laws.proofs.Members.{In, all, in_contains}
+use Rattle.gate_types.specs.Rising.{In}
+use Rattle.gate_laws.proofs.Members.{all, in_contains}
 use Rattle.gate_book_trait.specs.Reads.{queue_named, items_in, first_items_above}
 use Rattle.gate_reads.specs.NextBuild.{with_number}
 use Rattle.gate_reads.specs.Parts.{last_serial, ahead_behind, AreBehind}

@@ -16,7 +16,8 @@ use Rattle.gate_types.specs.Rows.{row_of, item_rows}
 use Rattle.gate_types.specs.Once.{Content}
 use Rattle.gate_types.specs.Forms.{IsLawfulContent, is_drawn_number, is_revision_number, is_item_in_form}
 use Rattle.gate_types.specs.Forms.{is_landing_in_form, is_report_in_form, is_queue_in_form}
-use Rattle.gate_laws.proofs.Members.{In, all_from, every, found}
+use Rattle.gate_types.specs.Rising.{In}
+use Rattle.gate_laws.proofs.Members.{all_from, every, found}
 use Rattle.gate_laws.proofs.Parts.{ItemsRise}
 use Rattle.gate_laws.proofs.Rising.{Rising, rising}
 use Rattle.gate_book_trait.specs.Reads.{queue_named, items_in, first_above}

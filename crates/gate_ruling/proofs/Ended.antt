@@ -22,11 +22,12 @@ use Rattle.gate_types.specs.Lawful.{IsSound, is_sound_build}
 use Rattle.gate_book_trait.specs.Reads.{queue_named, queued_items, item_at, items_in}
 use Rattle.gate_book_trait.specs.declared.rows.QueuedItem.{QueuedItem}
 use Rattle.gate_laws.specs.Touch.{has_serial, queue_of_serial}
-use Rattle.gate_laws.proofs.Members.{In, every, found, not_found, from_map, from_flat, in_contains, any_from, any_to}
+use Rattle.gate_laws.proofs.Members.{every, found, not_found, from_map, from_flat, in_contains, any_from, any_to}
 use Rattle.gate_laws.proofs.Facts.{build_facts}
 use Rattle.gate_laws.proofs.Tests.{implied}
 use Rattle.gate_laws.proofs.Alone.{serial_alone}
 use Rattle.gate_types.specs.Names.{same_name}
+use Rattle.gate_types.specs.Rising.{In}
 use Rattle.gate_types.proofs.NameLemmas.{same_name_is}
 use Rattle.gate_laws.proofs.Places.{item_of_place}
 use Rattle.gate_reads.specs.Moves.{Moves}

@@ -7,7 +7,8 @@ use Rattle.gate_types.specs.Settings.{Settings}
 use Rattle.gate_types.specs.State.{Queue}
 use Rattle.gate_types.specs.Once.{Content}
 use Rattle.gate_types.specs.Forms.{IsLawfulContent, are_counters_in_form}
-use Rattle.gate_laws.proofs.Members.{In, every}
+use Rattle.gate_types.specs.Rising.{In}
+use Rattle.gate_laws.proofs.Members.{every}
 use Rattle.gate_laws.proofs.FewRows.{rows_are_few}
 
 order_small : (d : Drawn) → are_counters_in_form d ≡ true → d.order ≤ last_number

@@ -23,11 +23,12 @@ use Rattle.gate_types.specs.Tables.{change_row, edited_changes, edited_counters,
 use Rattle.gate_types.specs.Tables.{edited_queue}
 use Rattle.gate_types.specs.Lawful.{IsSound}
 use Rattle.gate_types.specs.Forms.{IsLawfulContent}
+use Rattle.gate_types.specs.Rising.{In}
 use Rattle.gate_types.proofs.PlainLemmas.{same_truth}
 use Rattle.gate_types.proofs.NameLemmas.{same_name_is}
 use Rattle.gate_book_trait.specs.Reads.{items_in, reports_in, live_builds}
 use Rattle.gate_book_trait.specs.declared.rows.QueuedItem.{QueuedItem}
-use Rattle.gate_laws.proofs.Members.{In, every, map_same, map_map, filter_same, filter_none}
+use Rattle.gate_laws.proofs.Members.{every, map_same, map_map, filter_same, filter_none}
 use Rattle.gate_laws.proofs.Rising.{Rising, rising}
 use Rattle.gate_laws.proofs.Alone.{serial_alone, change_alone, name_alone, same_name_of}
 use Rattle.gate_walk.proofs.Leaving.{one_leaves}

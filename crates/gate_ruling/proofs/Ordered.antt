@@ -27,9 +27,10 @@ use Rattle.gate_types.specs.Step.{with_stage, Stepped, raw_landed, raw_refused, 
 use Rattle.gate_types.specs.Once.{Content}
 use Rattle.gate_types.specs.Tables.{numbered_landings}
 use Rattle.gate_types.specs.Lawful.{IsSound}
+use Rattle.gate_types.specs.Rising.{In}
 use Rattle.gate_types.proofs.NameLemmas.{same_name_is}
 use Rattle.gate_book_trait.specs.declared.rows.QueuedItem.{QueuedItem}
-use Rattle.gate_laws.proofs.Members.{In, map_same, map_map, from_map, found, filter_all}
+use Rattle.gate_laws.proofs.Members.{map_same, map_map, from_map, found, filter_all}
 use Rattle.gate_laws.proofs.Alone.{name_alone, same_name_of, queued_unready}
 use Rattle.gate_laws.proofs.OrderFacts.{shows}
 use Rattle.gate_laws.proofs.RecordedChange.{known_number}

@@ -15,7 +15,8 @@ use Rattle.gate_types.specs.Admit.{without_ready}
 use Rattle.gate_types.specs.Step.{made_ready}
 use Rattle.gate_types.specs.Once.{Content}
 use Rattle.gate_types.specs.Tables.{approval_of, change_row}
-use Rattle.gate_laws.proofs.Members.{In, map_same, found}
+use Rattle.gate_types.specs.Rising.{In}
+use Rattle.gate_laws.proofs.Members.{map_same, found}
 use Rattle.gate_laws.proofs.Rising.{Rising, rising}
 use Rattle.gate_reads.specs.Moves.{in_state, Moves}
 use Rattle.gate_ruling.proofs.Folded.{by_parts}

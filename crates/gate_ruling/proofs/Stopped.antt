@@ -15,8 +15,9 @@ use Rattle.gate_types.specs.Sweep.{without_runs}
 use Rattle.gate_types.specs.Rows.{item_of, change_build}
 use Rattle.gate_types.specs.Tables.{edited_build_rows}
 use Rattle.gate_types.specs.Lawful.{IsSound}
+use Rattle.gate_types.specs.Rising.{In}
 use Rattle.gate_book_trait.specs.Reads.{live_builds}
-use Rattle.gate_laws.proofs.Members.{In, map_same, from_filter, to_filter, any_to, none_to}
+use Rattle.gate_laws.proofs.Members.{map_same, from_filter, to_filter, any_to, none_to}
 use Rattle.gate_laws.proofs.Alone.{change_alone}
 use Rattle.gate_laws.proofs.EndedBuild.{one_build}
 use Rattle.gate_laws.proofs.LeaveIsSound.{leaving}

@@ -8,8 +8,9 @@ use Rattle.gate_types.specs.Settings.{Settings}
 use Rattle.gate_types.specs.State.{Queue, State}
 use Rattle.gate_types.specs.Standing.{places}
 use Rattle.gate_types.specs.Rows.{item_of, row_of, item_rows}
+use Rattle.gate_types.specs.Rising.{In}
 use Rattle.gate_book_trait.specs.Reads.{queue_named, items_in}
-use Rattle.gate_laws.proofs.Members.{In, contains_in, from_map, found}
+use Rattle.gate_laws.proofs.Members.{contains_in, from_map, found}
 use Rattle.gate_laws.proofs.Places.{item_of_place}
 
 -- a row of a queue stands for an item of the first queue of this name

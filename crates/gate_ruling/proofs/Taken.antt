@@ -16,7 +16,8 @@ use Rattle.gate_types.specs.Choice.{choose}
 use Rattle.gate_types.specs.Step.{raw_take, accepted, refused, with_build}
 use Rattle.gate_types.specs.Once.{Content}
 use Rattle.gate_types.specs.Lawful.{IsSound}
-use Rattle.gate_laws.proofs.Members.{In, every}
+use Rattle.gate_types.specs.Rising.{In}
+use Rattle.gate_laws.proofs.Members.{every}
 use Rattle.gate_laws.proofs.Chosen.{chosen}
 use Rattle.gate_reads.specs.Moves.{Moves}
 use Rattle.gate_reads.specs.NextBuild.{with_number}

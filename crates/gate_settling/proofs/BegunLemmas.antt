@@ -31,7 +31,7 @@ use Rattle.gate_reads.specs.Touches.{event_of}
 use Rattle.gate_reads.specs.Windows.{window_now}
 use Rattle.gate_reads.specs.declared.touched.Event.{Event}
 use Rattle.gate_reads.specs.declared.touched.TouchedItem.{TouchedItem}
-use Rattle.gate_laws.proofs.Members.{In, from_map, to_map, from_append, found, not_found}
+use Rattle.gate_laws.proofs.Members.{from_map, to_map, from_append, found, not_found}
 use Rattle.gate_laws.proofs.Counts.{times, in_times, distinct_from, one_part}
 use Rattle.gate_laws.proofs.Alone.{same_name_of}
 use Rattle.gate_laws.proofs.Drawn.{item_drawn, report_drawn}
@@ -42,6 +42,7 @@ use Rattle.gate_settling.proofs.LeftLemmas.{left}
 use Rattle.gate_settling.proofs.StandingLemmas.{queue_there, item_there, item_from_1, report_from_1, queue_is}
 use Rattle.gate_settling.proofs.StandingLemmas.{touched_row}
 use Rattle.gate_types.specs.Counters.{last_number}
+use Rattle.gate_types.specs.Rising.{In}
 
 -- ---- the queue is there
 

@@ -16,9 +16,10 @@ use Rattle.gate_types.specs.Lawful.{IsSound, IsLawful}
 use Rattle.gate_types.specs.Rows.{row_of, item_rows}
 use Rattle.gate_types.specs.Once.{Content}
 use Rattle.gate_types.specs.Tables.{tables, queue_rows}
+use Rattle.gate_types.specs.Rising.{In}
 use Rattle.gate_laws.specs.Touch.{touched_by, is_other}
 use Rattle.gate_reads.specs.Moves.{Columns, columns_at, columns_of, row_by, swept, tables_by}
-use Rattle.gate_laws.proofs.Members.{In, from_map, to_map, to_flat, found, not_found, contains_in, in_contains}
+use Rattle.gate_laws.proofs.Members.{from_map, to_map, to_flat, found, not_found, contains_in, in_contains}
 use Rattle.gate_laws.proofs.Counts.{one_of}
 use Rattle.gate_laws.proofs.Alone.{name_alone, same_name_of}
 use Rattle.gate_laws.proofs.LiveBuildsCount.{place_serial, places_once}

@@ -32,12 +32,12 @@ use Rattle.gate_reads.specs.Windows.{window_now}
 use Rattle.gate_reads.specs.declared.touched.TouchedItem.{TouchedItem}
 use Rattle.gate_reads.specs.declared.touched.Event.{Event}
 use Rattle.gate_reads.specs.declared.touched.Event.TheVariants as event
-use Rattle.gate_laws.proofs.Members.{In, every, map_map, from_append, to_left, to_right, none_to}
+use Rattle.gate_laws.proofs.Members.{every, map_map, from_append, to_left, to_right, none_to}
 use Rattle.gate_laws.proofs.Parts.{ItemsRise}
 use Rattle.gate_queue.proofs.Ordered.{AllBelow, rises}
 use Rattle.gate_walk.proofs.Parting.{rise_at}
 use Rattle.gate_types.specs.Once.{Content}
-use Rattle.gate_types.specs.Rising.{RisesFrom}
+use Rattle.gate_types.specs.Rising.{RisesFrom, In}
 use Rattle.gate_settling.specs.Touching.{Touching}
 use Rattle.gate_settling.specs.Rows.{has_landed, reports_now, build_now}
 use Rattle.gate_settling.proofs.ColumnLemmas.{columns_found}

@@ -4,9 +4,10 @@ use Rattle.std.proofs.Common.{sym, ap, ◌∙◌, subst}
 use Rattle.std.specs.Prelude.{◌==◌, filter, find}
 use Rattle.std.specs.List.{list_any}
 use Rattle.std.proofs.lemmas.Bool.{eqb-true, eq-eqb}
-use Rattle.gate_laws.proofs.Members.{In, any_from, any_to}
+use Rattle.gate_laws.proofs.Members.{any_from, any_to}
 use Rattle.gate_laws.proofs.Elements.{rest_of}
 use Rattle.gate_types.proofs.PlainLemmas.{same_truth}
+use Rattle.gate_types.specs.Rising.{In}
 
 -- ---- tests
 

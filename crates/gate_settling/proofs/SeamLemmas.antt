@@ -21,12 +21,13 @@ use Rattle.gate_types.specs.Once.{Content}
 use Rattle.gate_types.specs.Tables.{QueueRows, tables, queue_rows, edited_changes, edited_queue}
 use Rattle.gate_types.specs.Tables.{edited_landings, edited_plans, edited_build_rows, edited_counters, edited_kept}
 use Rattle.gate_types.specs.Tables.{edited_tables, fold_all, Leads}
+use Rattle.gate_types.specs.Rising.{In}
 use Rattle.gate_types.proofs.NameLemmas.{same_name_is}
 use Rattle.gate_laws.specs.Touch.{has_serial, rebase_one, settle_one}
 use Rattle.gate_queue.specs.Settled.{swept_of, rows_in}
 use Rattle.gate_walk.specs.Rescan.{rows_with}
 use Rattle.gate_reads.specs.Moves.{Columns, row_by, tables_by, columns_of, swept, in_state, Moves}
-use Rattle.gate_laws.proofs.Members.{In, map_map}
+use Rattle.gate_laws.proofs.Members.{map_map}
 use Rattle.gate_laws.proofs.Elements.{rest_of}
 use Rattle.gate_laws.proofs.TableParts.{all_parts}
 use Rattle.gate_settling.proofs.ListLemmas.{first_or}

@@ -13,6 +13,7 @@ use Rattle.gate_types.specs.State.{Item, Queue, State, known_change, known_or_cl
 use Rattle.gate_types.specs.Standing.{needs_of}
 use Rattle.gate_types.specs.Rows.{item_of, item_rows}
 use Rattle.gate_types.specs.Once.{Content}
+use Rattle.gate_types.specs.Rising.{In}
 use Rattle.gate_types.proofs.NameLemmas.{same_name_is}
 use Rattle.gate_walk.specs.Rescan.{standing_in, need_seen}
 use Rattle.gate_walk.specs.Delivery.{moved}
@@ -21,7 +22,7 @@ use Rattle.gate_book_trait.specs.Reads.{queued_items, queued_of}
 use Rattle.gate_book_trait.specs.declared.rows.QueuedItem.{QueuedItem}
 use Rattle.gate_reads.specs.Moves.{columns_of, row_by}
 use Rattle.gate_reads.specs.declared.touched.TouchedItem.{TouchedItem}
-use Rattle.gate_laws.proofs.Members.{In, from_map, to_map, map_map, map_same, from_flat, to_flat, found, not_found}
+use Rattle.gate_laws.proofs.Members.{from_map, to_map, map_map, map_same, from_flat, to_flat, found, not_found}
 use Rattle.gate_laws.proofs.Alone.{change_alone, name_alone, same_name_of}
 use Rattle.gate_settling.specs.Touching.{Touching, delivered, sees}
 use Rattle.gate_settling.specs.Rows.{has_landed, stands_still, standing_by, need_now, needs_known, row_now}

@@ -17,6 +17,7 @@ use Rattle.gate_types.specs.Lawful.{IsSound}
 use Rattle.gate_types.specs.Rows.{item_of, item_rows}
 use Rattle.gate_types.specs.Once.{Content}
 use Rattle.gate_types.specs.Forms.{is_queue_in_form, is_item_in_form, is_report_in_form}
+use Rattle.gate_types.specs.Rising.{In}
 use Rattle.gate_types.proofs.NameLemmas.{same_name_is}
 use Rattle.gate_walk.specs.Delivery.{touch_of, standing_rows}
 use Rattle.gate_walk.specs.UnderWay.{stale_rows}
@@ -25,7 +26,7 @@ use Rattle.gate_reads.specs.Moves.{columns_of, row_by}
 use Rattle.gate_reads.specs.Touches.{event_of}
 use Rattle.gate_reads.specs.declared.touched.Event.{Event}
 use Rattle.gate_reads.specs.declared.touched.TouchedItem.{TouchedItem}
-use Rattle.gate_laws.proofs.Members.{In, every, from_map, to_right, from_filter, to_filter, filter_all, all_from}
+use Rattle.gate_laws.proofs.Members.{every, from_map, to_right, from_filter, to_filter, filter_all, all_from}
 use Rattle.gate_laws.proofs.Members.{found, not_found, contains_in}
 use Rattle.gate_laws.proofs.Alone.{serial_alone, name_alone, same_name_of}
 use Rattle.gate_settling.specs.Touching.{Touching, delivered}

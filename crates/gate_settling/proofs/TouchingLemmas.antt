@@ -14,12 +14,13 @@ use Rattle.gate_types.specs.Rows.{item_of, item_rows}
 use Rattle.gate_types.specs.Once.{Content}
 use Rattle.gate_types.specs.Forms.{IsLawfulContent}
 use Rattle.gate_types.specs.Tables.{tables, fold_all, Leads}
+use Rattle.gate_types.specs.Rising.{In}
 use Rattle.gate_laws.specs.Touch.{touched_by}
 use Rattle.gate_walk.specs.Delivery.{is_stale}
 use Rattle.gate_reads.specs.Moves.{columns_of, row_by, tables_by, swept, in_state, Moves}
 use Rattle.gate_reads.specs.Touches.{IsTouched}
 use Rattle.gate_reads.specs.declared.touched.TouchedItem.{TouchedItem}
-use Rattle.gate_laws.proofs.Members.{In, from_map, to_right, in_split, contains_in}
+use Rattle.gate_laws.proofs.Members.{from_map, to_right, in_split, contains_in}
 use Rattle.gate_walk.proofs.TouchedQueue.{has_touched}
 use Rattle.gate_walk.proofs.Deliveries.{a_walk_is_enough}
 use Rattle.gate_settling.specs.Touching.{Touching, AreToldOf}

@@ -22,6 +22,7 @@ use Rattle.gate_types.specs.Lawful.{IsSound, serials_of}
 use Rattle.gate_types.specs.Rows.{Rows, row_of, edited_items, edited_builds, fold_edits}
 use Rattle.gate_types.specs.Once.{Content}
 use Rattle.gate_types.specs.Tables.{edited_plans}
+use Rattle.gate_types.specs.Rising.{In}
 use Rattle.gate_types.proofs.NameLemmas.{same_name_is}
 use Rattle.gate_laws.specs.Touch.{has_serial, touched_by, rebase_one, settle_one, settle_touched}
 use Rattle.gate_queue.specs.Settled.{swept_of, rows_in}
@@ -32,7 +33,7 @@ use Rattle.gate_walk.specs.Rescan.{rows_with}
 use Rattle.gate_walk.specs.UnderWay.{Delivered, queue_after, stale_rows, rows_seen, walk_by, next_by, AreWanted}
 use Rattle.gate_reads.specs.Moves.{Columns, columns_of, row_by, swept}
 use Rattle.gate_reads.specs.declared.touched.TouchedItem.{TouchedItem}
-use Rattle.gate_laws.proofs.Members.{In, every, from_map, to_map, from_flat, any_from, any_to, all_to, contains_in}
+use Rattle.gate_laws.proofs.Members.{every, from_map, to_map, from_flat, any_from, any_to, all_to, contains_in}
 use Rattle.gate_laws.proofs.Counts.{distinct_from}
 use Rattle.gate_laws.proofs.Stays.{Tells}
 use Rattle.gate_laws.proofs.Swept.{staying_items, keeps_items, tells_all}

@@ -14,8 +14,9 @@ use Rattle.gate_types.specs.Line.{Place}
 use Rattle.gate_types.specs.Slot.{are_met_by, is_blocked}
 use Rattle.gate_types.specs.Standing.{is_failing, next_ahead, places}
 use Rattle.gate_types.specs.Lawful.{IsSound}
+use Rattle.gate_types.specs.Rising.{In}
 use Rattle.gate_types.proofs.PlainLemmas.{and_false}
-use Rattle.gate_laws.proofs.Members.{In, found, not_found, any_to, none_to, to_flat, to_map}
+use Rattle.gate_laws.proofs.Members.{found, not_found, any_to, none_to, to_flat, to_map}
 use Rattle.gate_laws.proofs.Counts.{one_of}
 use Rattle.gate_laws.proofs.Alone.{same_name_of, name_alone}
 use Rattle.gate_book_trait.specs.Reads.{queued_of}

@@ -19,7 +19,7 @@ use Rattle.gate_types.specs.Status.{slot_word}
 use Rattle.gate_types.specs.History.{verdict_word}
 use Rattle.gate_types.specs.Rows.{row_of}
 use Rattle.gate_types.specs.Lawful.{IsSound}
-use Rattle.gate_laws.proofs.Members.{In, found, map_map, flat_same, to_flat}
+use Rattle.gate_laws.proofs.Members.{found, map_map, flat_same, to_flat}
 use Rattle.gate_laws.proofs.Alone.{map-flat}
 use Rattle.gate_book_trait.proofs.Finding.{find_map}
 use Rattle.gate_book_trait.specs.Reads.{queued_of, item_at, live_builds}
@@ -43,6 +43,7 @@ use Rattle.gate_texts.specs.declared.item.ToldItem.{ToldItem}
 use Rattle.gate_texts.proofs.AheadByKey.{blocked_by_key}
 use Rattle.gate_texts.proofs.Entries.{AreEntries, joined_behind, array_is, name_is}
 use Rattle.gate_types.specs.Limits.{most_listed}
+use Rattle.gate_types.specs.Rising.{In}
 
 -- ---- the item of a serial
 

@@ -25,9 +25,9 @@ use Rattle.gate_types.specs.Standing.{with_ahead, next_ahead, places_after, plac
 use Rattle.gate_types.specs.Sweep.{Judged, judge, judged, judged_after, verdict_of}
 use Rattle.gate_types.specs.Rows.{row_of}
 use Rattle.gate_types.specs.Lawful.{IsSound, is_sound_item, is_sound_build, is_of_item, waiting_changes, landed_changes}
-use Rattle.gate_types.specs.Rising.{RisesFrom}
+use Rattle.gate_types.specs.Rising.{RisesFrom, In}
 use Rattle.gate_walk.specs.Rescan.{live_builds_are_wanted, standing_in, IsCalm}
-use Rattle.gate_laws.proofs.Members.{In, every, all_from, any_from, to_map, to_flat}
+use Rattle.gate_laws.proofs.Members.{every, all_from, any_from, to_map, to_flat}
 use Rattle.gate_laws.proofs.ContentForms.{is_none}
 use Rattle.gate_laws.proofs.LiveBuildsCount.{place_serial}
 use Rattle.gate_laws.proofs.RecordedChange.{open_unlanded}

@@ -30,7 +30,7 @@ use Rattle.gate_walk.specs.Kinds.{IsIn}
 use Rattle.gate_walk.specs.Delivery.{build_ended, item_left, item_landed, moved, is_on, touch_of, out_by}
 use Rattle.gate_walk.specs.Delivery.{standing_rows, WalksFrom, TouchedQueueIsWalked, AWalkIsEnough}
 use Rattle.gate_queue.specs.Settled.{swept_of}
-use Rattle.gate_laws.proofs.Members.{In, every, all, to_map, to_right, found, not_found, any_to, all_to, in_contains}
+use Rattle.gate_laws.proofs.Members.{every, all, to_map, to_right, found, not_found, any_to, all_to, in_contains}
 use Rattle.gate_laws.proofs.Parts.{ItemsRise}
 use Rattle.gate_laws.proofs.Alone.{serial_alone, names_differ}
 use Rattle.gate_laws.proofs.EachAccepted.{closed_state, new_revision, landed_state, refused_state}
@@ -54,6 +54,7 @@ use Rattle.gate_walk.proofs.StoredRows.{parted}
 use Rattle.gate_walk.proofs.Touching.{around, walk_after_build, walk_after_leaving, walk_after_landing}
 use Rattle.gate_walk.proofs.Leaving.{items_leave}
 use Rattle.gate_types.specs.Rows.{fold_edits}
+use Rattle.gate_types.specs.Rising.{In}
 use Rattle.gate_queue.proofs.Ordered.{rises}
 use Rattle.gate_queue.proofs.LawLemmas.{items_rise}
 use Rattle.gate_walk.proofs.Visits.{stored_rise, standing_rise, seen_increase, visited_is_walked}

@@ -20,9 +20,9 @@ use Rattle.gate_types.specs.Rebase.{with_live}
 use Rattle.gate_types.specs.Sweep.{without_runs}
 use Rattle.gate_types.specs.Step.{with_ending}
 use Rattle.gate_types.specs.Lawful.{live_builds_of, is_single}
-use Rattle.gate_types.specs.Rising.{RisesFrom}
+use Rattle.gate_types.specs.Rising.{RisesFrom, In}
 use Rattle.std.proofs.lemmas.List.Sums.{sum_by-cons}
-use Rattle.gate_laws.proofs.Members.{In, to_filter}
+use Rattle.gate_laws.proofs.Members.{to_filter}
 use Rattle.gate_laws.proofs.EndedBuild.{ended, ended_serial}
 use Rattle.gate_queue.proofs.Ordered.{build_number}
 use Rattle.gate_walk.proofs.Slots.{is_live_of, all_count, count_all}

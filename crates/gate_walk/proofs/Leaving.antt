@@ -16,12 +16,13 @@ use Rattle.gate_types.specs.Standing.{needs_of, place_of}
 use Rattle.gate_types.specs.Sweep.{without_runs, without_plans}
 use Rattle.gate_types.specs.Step.{left_queue, leave, with_stage, revised, landed_queue, landed_plan, with_landing}
 use Rattle.gate_types.specs.Lawful.{IsSound}
+use Rattle.gate_types.specs.Rising.{In}
 use Rattle.gate_walk.specs.Rescan.{need_behind, place_behind}
 use Rattle.gate_walk.specs.Kinds.{IsIn, ItemsLeave}
 use Rattle.gate_laws.proofs.Tests.{flipped}
 use Rattle.gate_laws.proofs.Plans.{plan_stays, plan_kept, same_place, other_stays}
 use Rattle.gate_laws.proofs.Touches.{changes_apart}
-use Rattle.gate_laws.proofs.Members.{In, any_from, any_to, from_append, to_map, to_left, to_right}
+use Rattle.gate_laws.proofs.Members.{any_from, any_to, from_append, to_map, to_left, to_right}
 use Rattle.gate_laws.proofs.RecordedChange.{number_itself, open_unlanded}
 use Rattle.gate_walk.proofs.Once.{Once}
 use Rattle.gate_walk.proofs.Calm.{items_once, item_open}

@@ -1,7 +1,8 @@
 -- Numbers that stand once.
 use Rattle.std.proofs.Common.{◌≡◌, ℕ, suc, ◌<◌, List, [], ◌∷◌, ◌++◌, length, get_or, ⊎_elim, arith, sym}
 use Rattle.gate_types.specs.Lawful.{IsDistinct}
-use Rattle.gate_laws.proofs.Members.{In, to_left}
+use Rattle.gate_types.specs.Rising.{In}
+use Rattle.gate_laws.proofs.Members.{to_left}
 
 -- no number stands twice, by recursion
 abbrev pub Once : List ℕ → Type 0

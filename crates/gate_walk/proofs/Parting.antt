@@ -4,8 +4,7 @@ use Rattle.std.proofs.Common.{length, inl, inr, subst, refl, sym, ap, ◌∙◌,
 use Rattle.std.specs.Prelude.{nat_lt, nat_le, filter, find}
 use Rattle.std.proofs.lemmas.Bool.{lt-ltb, le-ltb, le-leb, lt-leb, ltb-true, ltb-false, leb-false}
 use Rattle.std.proofs.lemmas.List.Elements.{filter-append}
-use Rattle.gate_types.specs.Rising.{RisesFrom}
-use Rattle.gate_laws.proofs.Members.{In}
+use Rattle.gate_types.specs.Rising.{RisesFrom, In}
 use Rattle.gate_laws.proofs.Rising.{Rising}
 use Rattle.gate_queue.proofs.Ordered.{AllBelow}
 

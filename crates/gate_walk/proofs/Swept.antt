@@ -17,10 +17,11 @@ use Rattle.gate_types.specs.Window.{bounds_of}
 use Rattle.gate_types.specs.Sweep.{Judged, verdict_of, judge, judged, judged_after, next_staying, goes, without_runs}
 use Rattle.gate_types.specs.Sweep.{without_plans, swept_queue, sweep}
 use Rattle.gate_types.specs.Rows.{rows_of}
+use Rattle.gate_types.specs.Rising.{In}
 use Rattle.gate_types.proofs.NameLemmas.{same_name_is}
 use Rattle.gate_laws.specs.Touch.{queues_named, rebase_one, settle_one}
 use Rattle.gate_queue.specs.Settled.{rebased, verdicts, settled_rows, rows_in, swept_of}
-use Rattle.gate_laws.proofs.Members.{In, to_map, none_from, filter_none}
+use Rattle.gate_laws.proofs.Members.{to_map, none_from, filter_none}
 use Rattle.gate_laws.proofs.Alone.{same_name_of}
 use Rattle.gate_laws.proofs.AfterRebase.{judged_rebased}
 use Rattle.gate_laws.proofs.Swept.{items_left, staying_items, staying_not}

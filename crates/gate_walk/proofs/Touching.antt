@@ -19,12 +19,12 @@ use Rattle.gate_types.specs.Standing.{is_failing, with_ahead, next_ahead, places
 use Rattle.gate_types.specs.Rows.{row_of}
 use Rattle.gate_types.specs.Step.{end_build}
 use Rattle.gate_types.specs.Lawful.{IsSound, is_single}
-use Rattle.gate_types.specs.Rising.{RisesFrom}
+use Rattle.gate_types.specs.Rising.{RisesFrom, In}
 use Rattle.gate_walk.specs.Walk.{Seen, Carry}
 use Rattle.gate_walk.specs.Rescan.{settled_to, Walks, IsCalm, standing_in, row_seen, TakenOut, start, stored}
 use Rattle.gate_walk.specs.Rescan.{without_row, rows_from, ahead_at, fails_at, WalkAfterBuild, WalkAfterLeaving}
 use Rattle.gate_walk.specs.Rescan.{WalkAfterLanding}
-use Rattle.gate_laws.proofs.Members.{In, every, all, to_right, to_left, to_flat}
+use Rattle.gate_laws.proofs.Members.{every, all, to_right, to_left, to_flat}
 use Rattle.std.proofs.lemmas.List.Elements.{All-contains}
 use Rattle.gate_laws.proofs.Rising.{increasing}
 use Rattle.gate_laws.proofs.LiveBuildsCount.{place_serial}

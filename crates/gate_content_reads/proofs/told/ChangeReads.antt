@@ -20,6 +20,7 @@ use Rattle.gate_types.specs.Settings.{Settings}
 use Rattle.gate_types.specs.State.{State, change_of, is_open, known_change}
 use Rattle.gate_types.specs.Tables.{approval_of, change_row, tables}
 use Rattle.gate_types.specs.Lawful.{IsSound}
+use Rattle.gate_types.specs.Rising.{In}
 use Rattle.gate_schema.specs.Edits.{need_rows}
 use Rattle.gate_schema.specs.Rows.{NeedRow, Stored, change_key}
 use Rattle.gate_schema.specs.Shown.{needs_it}
@@ -31,7 +32,7 @@ use Rattle.gate_found_rows.specs.Asked as file
 use Rattle.gate_laws.proofs.Alone.{changes_once, ready_changes}
 use Rattle.gate_laws.proofs.Changes.{unknown}
 use Rattle.gate_laws.proofs.Counts.{one_of, times}
-use Rattle.gate_laws.proofs.Members.{In, all, every, found, from_flat, from_map, not_found, to_flat, to_map}
+use Rattle.gate_laws.proofs.Members.{all, every, found, from_flat, from_map, not_found, to_flat, to_map}
 use Rattle.gate_laws.proofs.Rising.{Rising, rising}
 use Rattle.gate_content_reads.proofs.told.Lists.{HaveSame, any_filter, pairs_rise, permuted_same, rising_alone}
 use Rattle.gate_content_reads.proofs.told.Lists.{same_rising}

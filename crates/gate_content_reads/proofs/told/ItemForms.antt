@@ -19,13 +19,14 @@ use Rattle.gate_types.specs.Settings.{Settings}
 use Rattle.gate_types.specs.Standing.{ahead_of, is_failing, next_ahead, place_of, places, places_after, with_ahead}
 use Rattle.gate_types.specs.State.{Item, Queue, State}
 use Rattle.gate_types.specs.Tables.{tables}
+use Rattle.gate_types.specs.Rising.{In}
 use Rattle.gate_schema.specs.Rows.{ItemRow, Stored}
 use Rattle.gate_rows.specs.Tells.{Tells, items_of}
 use Rattle.gate_book_trait.specs.Reads.{queue_named}
 use Rattle.gate_found_rows.specs.Whole.{is_item_row_in_form}
 use Rattle.gate_laws.proofs.Alone.{changes_once, item_changes, same_name_of}
 use Rattle.gate_laws.proofs.Counts.{hits, in_times, one_part, times, times_in}
-use Rattle.gate_laws.proofs.Members.{In, all, all_from, every, found, from_append, from_map, got, to_filter, to_map}
+use Rattle.gate_laws.proofs.Members.{all, all_from, every, found, from_append, from_map, got, to_filter, to_map}
 use Rattle.gate_laws.proofs.ItemRows.{rows_length}
 use Rattle.gate_content_reads.proofs.told.Items.{items_are, keys_are, queue_of_row, row_alone, row_item}
 

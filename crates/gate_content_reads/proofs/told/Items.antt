@@ -11,6 +11,7 @@ use Rattle.gate_types.specs.Rows.{item_of, item_rows}
 use Rattle.gate_types.specs.Settings.{Settings}
 use Rattle.gate_types.specs.State.{Item, Queue, State}
 use Rattle.gate_types.specs.Tables.{tables}
+use Rattle.gate_types.specs.Rising.{In}
 use Rattle.gate_types.proofs.NameLemmas.{same_name_is}
 use Rattle.gate_schema.specs.Rows.{AreNamed, ItemRow, QueueRow, Stored}
 use Rattle.gate_rows.specs.Tells.{Tells, items_of, placed}
@@ -20,7 +21,7 @@ use Rattle.gate_book_trait.proofs.ReadLemmas as read
 use Rattle.gate_found_rows.specs.Asked.{queued}
 use Rattle.gate_laws.proofs.Alone.{same_name_of}
 use Rattle.gate_laws.proofs.Counts.{one_of, one_part, times}
-use Rattle.gate_laws.proofs.Members.{In, flat_same, found, from_filter, from_flat, from_map, map_map, to_filter}
+use Rattle.gate_laws.proofs.Members.{flat_same, found, from_filter, from_flat, from_map, map_map, to_filter}
 use Rattle.gate_laws.proofs.Members.{to_flat, to_map}
 use Rattle.gate_laws.proofs.ItemRows.{items_of_rows}
 use Rattle.gate_content_reads.proofs.told.Lists.{lone_found, same_find}

@@ -5,8 +5,9 @@ use Rattle.std.specs.Prelude.{AllPairs, IsPermutation, nat_lt, filter, find, fol
 use Rattle.std.specs.List.{list_any}
 use Rattle.std.proofs.lemmas.Bool.{ltb-true, ltb-false}
 use Rattle.std.proofs.lemmas.List.Sorted.{Contains-permutation, IsPermutation-sym}
+use Rattle.gate_types.specs.Rising.{In}
 use Rattle.gate_found_rows.specs.Asked.{greatest}
-use Rattle.gate_laws.proofs.Members.{In, contains_in, every, found, from_filter, from_map, in_contains, not_found}
+use Rattle.gate_laws.proofs.Members.{contains_in, every, found, from_filter, from_map, in_contains, not_found}
 use Rattle.gate_laws.proofs.Members.{to_filter, to_map}
 use Rattle.gate_laws.proofs.Rising.{Rising}
 

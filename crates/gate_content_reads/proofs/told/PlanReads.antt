@@ -10,6 +10,7 @@ use Rattle.gate_types.specs.Names.{is_name}
 use Rattle.gate_types.specs.Once.{Content}
 use Rattle.gate_types.specs.Settings.{Settings, are_sound_jobs}
 use Rattle.gate_types.specs.Tables.{tables}
+use Rattle.gate_types.specs.Rising.{In}
 use Rattle.gate_types.specs.declared.config.Job.{Job}
 use Rattle.gate_types.specs.declared.records.Plan.{Plan}
 use Rattle.gate_schema.specs.Edits.{job_rows}
@@ -18,7 +19,7 @@ use Rattle.gate_rows.specs.Tells.{Tells, jobs_in}
 use Rattle.gate_book_trait.specs.Reads as content
 use Rattle.gate_found_rows.specs.Asked as file
 use Rattle.gate_found_rows.specs.Whole.{ArePlaced, is_job_row_in_form}
-use Rattle.gate_laws.proofs.Members.{In, all, all_from, every, found, to_filter}
+use Rattle.gate_laws.proofs.Members.{all, all_from, every, found, to_filter}
 
 -- the jobs of the rows of a plan
 jobs_of_rows : (n m : ℕ) (js : List Job) → map (λ (x : JobRow). x.job) (job_rows n m js) ≡ js

@@ -16,12 +16,13 @@ use Rattle.gate_types.specs.Settings.{Settings}
 use Rattle.gate_types.specs.State.{Queue, State}
 use Rattle.gate_types.specs.Tables.{QueueRows, numbered_landings, tables}
 use Rattle.gate_types.specs.Keys.{place_of_landing, place_of_report}
+use Rattle.gate_types.specs.Rising.{In}
 use Rattle.gate_schema.specs.Rows.{QueueRow, Stored}
 use Rattle.gate_rows.specs.Tells.{Tells, landings_of, of_queue, placed, reports_of}
 use Rattle.gate_book_trait.specs.Reads as content
 use Rattle.gate_book_trait.proofs.ReadLemmas as read
 use Rattle.gate_found_rows.specs.Asked as file
-use Rattle.gate_laws.proofs.Members.{In, every, filter_none, found}
+use Rattle.gate_laws.proofs.Members.{every, filter_none, found}
 use Rattle.gate_laws.proofs.Rising.{Rising, rising}
 use Rattle.gate_content_reads.proofs.told.Lists.{filtered_same, mapped_same, permuted_same, pick, same_greatest}
 

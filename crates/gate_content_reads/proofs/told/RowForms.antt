@@ -21,9 +21,10 @@ use Rattle.gate_schema.specs.Rows.{QueueRow, Stored}
 use Rattle.gate_rows.specs.Tells.{Tells, placed}
 use Rattle.gate_book_trait.proofs.ReadLemmas.{rows_of_queue}
 use Rattle.gate_found_rows.specs.Whole.{is_build_row_in_form, is_change_row_in_form}
-use Rattle.gate_laws.proofs.Members.{In, all, every, found, from_map}
+use Rattle.gate_laws.proofs.Members.{all, every, found, from_map}
 use Rattle.gate_types.specs.Counters.{last_number}
 use Rattle.gate_types.specs.Limits.{most_items, most_window}
+use Rattle.gate_types.specs.Rising.{In}
 
 -- the row of a queue has its window
 window_of_row : (c : Settings) (s : State) (n : ℕ) (qs : List Queue) (r : QueueRow) →

@@ -29,8 +29,9 @@ use Rattle.gate_types.specs.Rebase.{rebase, with_live, stays_live}
 use Rattle.gate_types.specs.Window.{bounds_of}
 use Rattle.gate_types.specs.Sweep.{Judged, judged, judged_after, goes, without_runs, sweep, next_window, report_of}
 use Rattle.gate_types.specs.Rows.{row_of, numbered}
+use Rattle.gate_types.specs.Rising.{In}
 use Rattle.gate_laws.proofs.Tests.{implied}
-use Rattle.gate_laws.proofs.Members.{In, every, any_to, to_right, map_same, from_filter}
+use Rattle.gate_laws.proofs.Members.{every, any_to, to_right, map_same, from_filter}
 use Rattle.gate_laws.proofs.Alike.{StandsAlike, alike_slots, places_alike, verdicts_alike, live_alike}
 use Rattle.gate_laws.proofs.Keeps.{keeps, map-cond}
 use Rattle.gate_laws.proofs.Outcomes.{counted_live}
