@@ -61,7 +61,8 @@ fn met<B: Book>(
     Ok(is_fine(item_in(book, edits, queue, need.change)?))
 }
 
-fn both(first: bool, second: bool) -> bool
+/// `&&` as a function, for the proof's sake: in the loop itself it would split the turn into two cases.
+fn conjunction(first: bool, second: bool) -> bool
     ensures { result ≡ (first && second) }
 {
     first && second
@@ -84,7 +85,7 @@ fn all_met<B: Book>(
         let Some(fine) = met(book, edits, queue, need)? else {
             return Ok(None);
         };
-        all_fine = both(all_fine, fine);
+        all_fine = conjunction(all_fine, fine);
     }
     Ok(Some(all_fine))
 }

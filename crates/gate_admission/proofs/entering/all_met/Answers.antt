@@ -31,7 +31,7 @@ loop-need-preserved g c = record {
       let t : Need → Bool = is_met_by_rows rows in
       let rest : Bool = list_all t (drop (k + 1) needs) in
       let met = sym (c.in_ok-fine.ensures.found trusted s x start lawful v led there) ∙ c.in-Some.is in
-      ap (λ b. b && rest) c.both-all_fine.ensures ∙ and_assoc c.loop-need.all_fine c.in-Some.fine rest
+      ap (λ b. b && rest) c.conjunction-all_fine.ensures ∙ and_assoc c.loop-need.all_fine c.in-Some.fine rest
       ∙ ap (λ b. c.loop-need.all_fine && (b && rest)) (fine_is rows c.need-item.result c.in-Some.fine met)
       ∙ ap (λ b. c.loop-need.all_fine && b)
       (sym (all_step t needs k c.need-item.result c.loop-need-test.true c.need-item.is))
