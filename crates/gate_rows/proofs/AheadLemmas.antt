@@ -1,10 +1,15 @@
 -- The text of entries, entry by entry.
 use Rattle.std.proofs.Common.{◌≡◌, ℕ, ◌+◌, ◌<◌, zero, suc, List, [], ◌∷◌, ◌++◌, take, length, not, ◌||◌, eqb, get_or}
-use Rattle.std.proofs.Common.{Bool, true, false, refl, sym, ap, ◌∙◌, arith, append-nil}
+use Rattle.std.proofs.Common.{Bool, true, false, cond, refl, sym, ap, ◌∙◌, arith, append-nil}
 use mathlib.Core.List.{append_assoc}
 use Rattle.std.proofs.lemmas.Bool.Decides.{nat_tests}
 use Rattle.gate_types.specs.declared.records.Entry.{Entry}
 use Rattle.gate_schema.specs.AheadText.{entry_text, entries_text, comma_if}
+
+-- what stands before all entries but the first is a comma
+pub comma_but : (first : Bool) → cond first [] (44 ∷ []) ≡ comma_if (not first)
+comma_but true = refl
+comma_but false = refl
 
 -- one more entry is written
 or_true : (b : Bool) → (b || true) ≡ true

@@ -14,6 +14,7 @@ pub mod canonical;
 pub mod config;
 pub mod deliveries;
 pub mod edits;
+pub mod entries;
 mod json_text;
 pub mod laws;
 pub mod limits;

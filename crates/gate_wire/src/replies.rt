@@ -1,36 +1,14 @@
 //! Writes the text of a reply.
-ghost use Rattle.std.specs.Prelude.{◌≡◌, ◌==◌, if◌then◌else◌, [], ◌++◌, map, codes, decimal, IfOk, OnOk, string_bytes};
+ghost use Rattle.std.specs.Prelude.{◌≡◌, [], ◌++◌, map, codes, decimal, IfOk, string_bytes};
 ghost use Rattle.gate_types.specs.JsonText.{array, entry as entry_piece};
 ghost use Rattle.gate_types.specs.ReplyText.{reply_text};
 
 use gate_types::deliveries::Reply;
+use gate_types::entries::{push_entry, separator};
 use gate_types::names::NoMemory;
 use gate_types::numbers::Serial;
 use gate_types::records::{Build, Entry};
 use std::alloc::Global;
-
-/// Adds a separator, and a change at its revision.
-fn push_entry(
-    alloc: Global,
-    text: &mut String,
-    separator: &str,
-    entry: Entry,
-) -> Result<(), NoMemory>
-    ensures { OnOk result (string_bytes text.new ≡ string_bytes text.old ++ (separator.now ++ entry_piece entry [])) }
-{
-    let change = entry.change.get();
-    let revision = entry.revision.get();
-    let piece = format!(in alloc; "{separator}[{change},{revision}]")?;
-    text.push_str(piece.as_str())?;
-    Ok(())
-}
-
-/// What stands before an entry at a place.
-fn separator(place: usize) -> &'static str
-    ensures { result.now ≡ if place == 0 then [] else codes "," }
-{
-    if place == 0 { "" } else { "," }
-}
 
 /// The changes ahead of a build's own, as an array.
 pub fn ahead_text(alloc: Global, ahead: &[Entry]) -> Result<String, NoMemory>

@@ -1,0 +1,30 @@
+//! Lists of entries as texts, written entry by entry.
+ghost use Rattle.std.specs.Prelude.{◌≡◌, ◌==◌, if◌then◌else◌, [], ◌++◌, codes, OnOk, string_bytes};
+ghost use Rattle.gate_types.specs.JsonText.{entry as entry_piece};
+
+use crate::names::NoMemory;
+use crate::records::Entry;
+use std::alloc::Global;
+
+/// Adds a separator, and a change at its revision.
+pub fn push_entry(
+    alloc: Global,
+    text: &mut String,
+    separator: &str,
+    entry: Entry,
+) -> Result<(), NoMemory>
+    ensures { OnOk result (string_bytes text.new ≡ string_bytes text.old ++ (separator.now ++ entry_piece entry [])) }
+{
+    let change = entry.change.get();
+    let revision = entry.revision.get();
+    let piece = format!(in alloc; "{separator}[{change},{revision}]")?;
+    text.push_str(piece.as_str())?;
+    Ok(())
+}
+
+/// What stands before an entry at a place.
+pub fn separator(place: usize) -> &'static str
+    ensures { result.now ≡ if place == 0 then [] else codes "," }
+{
+    if place == 0 { "" } else { "," }
+}
