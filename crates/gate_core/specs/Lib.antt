@@ -13,5 +13,4 @@ pub mod Landing
 pub mod LineAnswer
 pub mod Line
 pub mod Runs
-pub mod Faults
 pub mod ReadBack

@@ -11,6 +11,7 @@ use Rattle.gate_core.specs.declared.fault.ReplayFault.{ReplayFault}
 use Rattle.gate_core.specs.declared.fault.ReplayFault.TheVariants as replay
 use Rattle.gate_http.specs.declared.request_fault.RequestFault.{RequestFault}
 use Rattle.gate_http.specs.declared.request_fault.RequestFault.TheVariants as request
+use Rattle.gate_http.specs.RequestFaults.{request_fault_text}
 use Rattle.gate_types.specs.declared.open_fault.OpenFault.{OpenFault}
 use Rattle.gate_types.specs.declared.open_fault.OpenFault.TheVariants as file
 use Rattle.gated_cli.specs.declared.run.fault.Fault.{Fault}
@@ -46,13 +47,13 @@ abbrev pub text_of : Fault → List ℕ
 text_of (fault.Settings f) = settings_text f
 text_of (fault.File f) = file_text f
 text_of fault.Unavailable = codes "E15 unavailable"
-text_of fault.Read = codes "I1 read"
-text_of fault.Write = codes "I2 write"
-text_of fault.NoMemory = codes "I3 no-memory"
+text_of fault.Read = request_fault_text request.Read
+text_of fault.Write = request_fault_text request.Write
+text_of fault.NoMemory = request_fault_text request.NoMemory
 text_of fault.Listener = codes "I4 listen"
 text_of fault.SettingsFile = codes "I5 settings-file"
 text_of fault.NoQueue = codes "I6 no-queue"
-text_of fault.Store = codes "I7 store"
+text_of fault.Store = request_fault_text request.Store
 text_of fault.NoDelivery = codes "I8 no-delivery"
 text_of fault.Refused = codes "I9 refused"
 
