@@ -1,10 +1,12 @@
-//! Numbers, names and sequences, as they are made and given back.
+//! Numbers, names, sequences and entries, as they are made and given back.
 use crate::claims::is;
 use gate_types::deliveries::Ending;
+use gate_types::entries::{push_entry, separator};
 use gate_types::names::{Base, Message, Name, PathName, Text};
 use gate_types::numbers::{BuildNo, ChangeNo, Revision, Serial};
-use gate_types::records::Outcome;
+use gate_types::records::{Entry, Outcome};
 use gate_types::sequence::Sequence;
+use std::alloc::Global;
 use std::process::Abort;
 
 /// A number that is given back, if it is in its range.
@@ -100,6 +102,24 @@ fn a_sequence_keeps_its_order(rt: HostRuntime) {
     assert!(rt; numbers.as_slice() == [2, 1].as_slice());
     let again = Sequence::from_vec(numbers.into_vec());
     assert!(rt; again.as_slice() == [2, 1].as_slice());
+}
+
+/// An entry twice, each behind what stands before it.
+fn twice(alloc: Global) -> Option<String> {
+    let entry = Entry {
+        change: ChangeNo::new(101)?,
+        revision: Revision::new(2)?,
+    };
+    let mut text = String::from_str(alloc, "").ok()?;
+    push_entry(alloc, &mut text, separator(0), entry).ok()?;
+    push_entry(alloc, &mut text, separator(1), entry).ok()?;
+    Some(text)
+}
+
+#[test]
+fn entries_have_a_comma_between(rt: HostRuntime) {
+    let text = twice(rt.alloc()).unwrap_or(owned(&rt, "none"));
+    is(&rt, text.as_str(), "[101,2],[101,2]", "entries");
 }
 
 #[test]
