@@ -22,9 +22,9 @@ pub fn push_entry(
     Ok(())
 }
 
-/// What stands before an entry at a place.
-pub fn separator(place: usize) -> &'static str
-    ensures { result.now ≡ if place == 0 then [] else codes "," }
+/// What stands before the entry at an index.
+pub fn separator(index: usize) -> &'static str
+    ensures { result.now ≡ if index == 0 then [] else codes "," }
 {
-    if place == 0 { "" } else { "," }
+    if index == 0 { "" } else { "," }
 }
