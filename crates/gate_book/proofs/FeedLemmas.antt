@@ -11,13 +11,12 @@ use Rattle.gate_types.specs.Tap.{Took, TookFront, WritesFront}
 use Rattle.gate_types.specs.declared.records.Id.{Id}
 use Rattle.gate_types.specs.declared.records.Kept.{Kept}
 use Rattle.gate_types.specs.declared.tap.Tap.{Tap}
-use Rattle.gate_types.proofs.TapLemmas.{writes_later}
+use Rattle.gate_types.proofs.TapLemmas.{writes_later, writes_sooner}
 use Rattle.gate_archive.specs.Feed.{feed_line, feed_lines, behind, fed}
 use Rattle.gate_archive.specs.Writes.{TookSome, WritesFeed}
 use Rattle.gate_archive.specs.declared.fault.FeedFault.{FeedFault}
 use Rattle.gate_archive.specs.declared.fault.FeedFault.TheVariants as fault
 use Rattle.gate_book.specs.Past.{BreaksOff, LeavesLines, WritesLines}
-use Rattle.gate_book.proofs.HistoryLemmas.{writes_sooner}
 
 -- the lines up to a delivery, and its own
 pub feed_next : (ks : List Kept) (i : ℕ) (k : Kept) → i < length ks → k ≡ get_or ks i k →

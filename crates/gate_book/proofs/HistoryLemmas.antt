@@ -7,7 +7,7 @@ use Rattle.std.specs.List.{enumerate_from}
 use Rattle.std.specs.Io.KnownBytes.{Appends}
 use Rattle.std.proofs.KnownBytes.{Appends-trans, Appends-nil}
 use Rattle.std.proofs.lemmas.List.Concat.{flat_map-append}
-use Rattle.std.proofs.lemmas.List.{take_more, take-append-le}
+use Rattle.std.proofs.lemmas.List.{take_more}
 use Rattle.gate_types.specs.Tap.{Took, TookFront, WritesFront}
 use Rattle.gate_types.specs.Settings.{Settings}
 use Rattle.gate_types.specs.State.{Queue, State}
@@ -18,7 +18,7 @@ use Rattle.gate_types.specs.History.{report_row, history_text}
 use Rattle.gate_types.specs.declared.records.Report.{Report}
 use Rattle.gate_types.specs.declared.rows.ReportRow.{ReportRow}
 use Rattle.gate_types.specs.declared.tap.Tap.{Tap}
-use Rattle.gate_types.proofs.TapLemmas.{writes_later}
+use Rattle.gate_types.proofs.TapLemmas.{writes_later, writes_sooner}
 use Rattle.gate_book_trait.specs.declared.fault.HistoryFault.{HistoryFault}
 use Rattle.gate_book_trait.specs.declared.fault.HistoryFault.TheVariants as fault
 use Rattle.gate_book_trait.specs.Reads.{queue_named}
@@ -45,11 +45,6 @@ lines_next rows k r l at =
 pub lines_split : (rows : List ReportRow) (k : ℕ) →
     report_lines rows ≡ report_lines (take k rows) ++ report_lines (drop k rows)
 lines_split rows k = ap report_lines (sym (take-append-drop k rows)) ∙ flat_map-append line_of (take k rows) (drop k rows)
-
--- a front is one of a longer text too
-pub writes_sooner : (a b : Option (List ℕ)) (xs ys : List ℕ) → WritesFront a b xs → WritesFront a b (xs ++ ys)
-writes_sooner a b xs ys (n, short, w) =
-    (n, omega (arith, short, length-append xs ys), subst (Appends a b) (sym (take-append-le n xs ys (omega (arith, short)))) w)
 
 -- nothing written is a front of a line
 pub nothing_of_line : (a : Option (List ℕ)) (r : ReportRow) → WritesFront a a (report_row (r.place, r.report))

@@ -8,7 +8,6 @@ use Rattle.std.specs.Io.KnownBytes.{Appends, Keeps, append_known}
 use Rattle.std.specs.Io.Buffered.{writer_contents, writer_buffer, writer_inner}
 use Rattle.std.specs.declared.io.buffered.BufWriter.{BufWriter}
 use Rattle.std.proofs.KnownBytes.{Appends-trans}
-use Rattle.std.proofs.lemmas.List.{take-append-le}
 use Rattle.std.proofs.lemmas.List.Concat.{flat_map-append}
 use Rattle.std.proofs.lemmas.List.Sums.{fold-append}
 use Rattle.gate_types.specs.declared.records.Id.{Id}
@@ -16,7 +15,7 @@ use Rattle.gate_types.specs.declared.deliveries.Delivery.{Delivery}
 use Rattle.gate_types.specs.declared.deliveries.Refusal.{Refusal}
 use Rattle.gate_types.specs.declared.tap.Tap.{Tap}
 use Rattle.gate_types.specs.Settings.{Settings}
-use Rattle.gate_types.specs.Tap.{inside, has_failed, WritesFront, Took, TookFront}
+use Rattle.gate_types.specs.Tap.{inside, has_failed, Took, TookFront}
 use Rattle.gate_types.specs.Once.{Call, Content, next_content}
 use Rattle.gate_types.specs.Gated.{Gated}
 use Rattle.gate_types.proofs.TapLemmas.{writes_later}
@@ -228,14 +227,6 @@ broke_off Why (Ok s) (Err fault.Read) why write is = cc
 broke_off Why (Ok s) (Err fault.NoMemory) why write is = cc
 
 -- ---- faults
-
--- a beginning of a text is one of the text and more
-pub writes_sooner : (a b : Option (List ℕ)) (xs ys : List ℕ) → WritesFront a b xs → WritesFront a b (xs ++ ys)
-writes_sooner a b xs ys (n, short, w) = (
-  n,
-  omega (arith, short, length-append xs ys),
-  subst (Appends a b) (sym (take-append-le n xs ys (omega (arith, short)))) w,
-)
 
 module _ {T : Type 0} (held : T → Option (List ℕ)) where
   -- faults, and then one more

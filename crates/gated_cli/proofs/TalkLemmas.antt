@@ -3,7 +3,7 @@ use Rattle.std.proofs.Common.{◌≡◌, ◌≤◌, ◌++◌, ◌∙◌, ℕ, Bo
 use Rattle.std.proofs.Common.{inr, refl, subst, sym}
 use Rattle.std.specs.Prelude.{Result, Ok, Err, IfErr, OnOk}
 use Rattle.std.proofs.KnownBytes.{Appends-nil, Appends-trans}
-use Rattle.gate_types.proofs.TapLemmas.{writes_later}
+use Rattle.gate_types.proofs.TapLemmas.{writes_later, writes_sooner}
 use Rattle.gate_types.specs.Tap.{has_failed, inside}
 use Rattle.gate_types.specs.declared.tap.Tap.{Tap}
 use Rattle.gate_http.specs.declared.request_fault.RequestFault.{RequestFault}
@@ -16,7 +16,6 @@ use Rattle.gated_command.specs.declared.words.Cmd.{Cmd}
 use Rattle.gated_command.specs.declared.words.Cmd.TheVariants.{Check, Init, Replay, Deliver, Status, History}
 use Rattle.gated_command.specs.declared.words.Cmd.TheVariants.{Deliveries, Get, Serve, Migrate}
 use Rattle.gated_cli.specs.declared.run.fault.Fault.{Fault}
-use Rattle.gated_cli.proofs.TellLemmas.{writes_sooner}
 
 module _ {E : Type 0} (held : E → Option (List ℕ)) where
   none_told : (tap : Tap E) → has_failed tap ≡ false → AreTold held tap tap []

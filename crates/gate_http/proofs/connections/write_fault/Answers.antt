@@ -2,8 +2,7 @@ use Rattle.std.proofs.Common.{[], ◌∷◌, ◌++◌}
 use Rattle.std.specs.Prelude.{codes}
 use Rattle.std.proofs.lemmas.Result.{err_from_is_err_and}
 use Rattle.gate_http.specs.RequestFaults.{request_fault_text}
-use Rattle.gate_http.proofs.ConnectionLemmas.{writes_sooner}
-use Rattle.gate_types.proofs.TapLemmas.{writes_later}
+use Rattle.gate_types.proofs.TapLemmas.{writes_later, writes_sooner}
 use Rattle.gate_http.proofs.connections.write_fault.Goals as goal
 
 pub returns-in_err-write_all-clause-err : goal.returns-in_err-write_all-clause-err

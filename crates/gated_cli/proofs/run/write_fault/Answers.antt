@@ -1,6 +1,5 @@
 use Rattle.std.proofs.Common.{◌++◌, [], ◌∷◌, inr, codes}
-use Rattle.gate_types.proofs.TapLemmas.{writes_later}
-use Rattle.gated_cli.proofs.TellLemmas.{writes_sooner}
+use Rattle.gate_types.proofs.TapLemmas.{writes_later, writes_sooner}
 use Rattle.gated_cli.specs.Faults.{text_of}
 use Rattle.gated_cli.proofs.run.write_fault.Goals as goal
 
