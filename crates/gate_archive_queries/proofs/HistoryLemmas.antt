@@ -3,19 +3,18 @@ use Rattle.std.proofs.Common.{◌≢◌, ◌<◌, ℕ, List, [], ◌∷◌, ◌+
 use Rattle.std.proofs.Common.{subst, arith, length-append, IsTrue}
 use Rattle.std.specs.Prelude.{MatchResult}
 use Rattle.std.proofs.lemmas.List.{take-append-le}
-use Rattle.std.proofs.KnownBytes.{Appends-trans}
 use Rattle.std.specs.Io.KnownBytes.{Appends}
 use Rattle.sqlite.specs.State.{State}
-use Rattle.gate_types.proofs.TapLemmas.{writes_later}
 use Rattle.gate_types.specs.Tap.{Took, TookFront, WritesFront}
 use Rattle.gate_types.specs.declared.tap.Tap.{Tap}
-use Rattle.gate_book_trait.specs.Text.{BreaksOff, last_line}
+use Rattle.gate_book_trait.specs.Text.{last_line}
 use Rattle.gate_book_trait.specs.declared.fault.HistoryFault.{HistoryFault}
 use Rattle.gate_book_trait.specs.declared.fault.HistoryFault.TheVariants as fault
 use Rattle.gate_found_rows.specs.Finds.{OnlyReads}
 use Rattle.gate_found_rows.proofs.SilentLemmas.{plain_only_reads}
 use Rattle.gate_schema.specs.Schema.{gate_schema}
 use Rattle.gate_queue_queries.specs.History.{WritesPart, CutsText, WritesWhole}
+use Rattle.gate_queue_queries.proofs.HistoryLemmas.{written_head}
 use Rattle.gate_archive.specs.Writes.{TookSome}
 use Rattle.gate_archive_queries.specs.HistoryFrom.{history_sql}
 use Rattle.gate_archive_queries.proofs.HistoryReads.{history_asks}
@@ -35,13 +34,6 @@ pub history_reads : OnlyReads history_sql
 history_reads = plain_only_reads gate_schema history_sql history_asks.0.1
 
 module _ {W : Type 0} (held : W → Option (List ℕ)) (old : Tap W) where
-  -- a late fault leaves a beginning
-  pub leaves_late : (new : Tap W) (text : List ℕ) (f : HistoryFault) → BreaksOff new f → TookFront held old new text → CutsText held old new text f
-  leaves_late new text fault.NoQueue h cut = absurd h
-  leaves_late new text fault.Unavailable h cut = absurd h
-  leaves_late new text fault.Broken h cut = cut
-  leaves_late new text fault.Write h cut = cut
-
   -- a fault in the head leaves nothing or a beginning
   pub leaves_head : (new : Tap W) (head rest end : List ℕ) (f : HistoryFault) → CutsText held old new head f → CutsText held old new ((head ++ rest) ++ end) f
   leaves_head new head rest end fault.NoQueue h = absurd h
@@ -56,20 +48,7 @@ module _ {W : Type 0} (held : W → Option (List ℕ)) (old : Tap W) where
   -- the last line is written behind the others, or a beginning of it
   pub written_last : (mid new : Tap W) (text : List ℕ) (count : ℕ) (result : Result (Unit {0}) HistoryFault) → Took held old mid text → WritesPart held mid new (last_line count) result
       → WritesWhole held old new (text ++ last_line count) result
-  written_last mid new text count (Ok x) took it = Appends-trans _ _ _ _ _ took it.taken
-  written_last mid new text count (Err f) took it = leaves_late new (text ++ last_line count) f it.stops (writes_later _ _ _ text (last_line count) took it.taken)
-
-  -- a late fault cuts the head
-  cuts_late : (new : Tap W) (text : List ℕ) (f : HistoryFault) → BreaksOff new f → TookFront held old new text → CutsText held old new text f
-  cuts_late new text fault.NoQueue h cut = absurd h
-  cuts_late new text fault.Unavailable h cut = absurd h
-  cuts_late new text fault.Broken h cut = cut
-  cuts_late new text fault.Write h cut = cut
-
-  -- the front is written, and the first line behind it
-  pub written_head : (mid new : Tap W) (front line : List ℕ) (result : Result (Unit {0}) HistoryFault) → Took held old mid front → WritesPart held mid new line result → WritesWhole held old new (front ++ line) result
-  written_head mid new front line (Ok x) took it = Appends-trans _ _ _ _ _ took it.taken
-  written_head mid new front line (Err f) took it = cuts_late new (front ++ line) f it.stops (writes_later _ _ _ front line took it.taken)
+  written_last mid new text count result took it = written_head held old mid new text (last_line count) result took it
 
 -- where the connection was open, it was so whatever is answered
 pub opened_so : (s : State) (result : Result (Unit {0}) HistoryFault) → IsTrue s.is_open → MatchResult result (λ _. IsTrue s.is_open) (λ f. f ≢ fault.Unavailable → IsTrue s.is_open)

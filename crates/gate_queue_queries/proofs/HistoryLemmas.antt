@@ -265,8 +265,8 @@ pub written_last : {W : Type 0} (s : State) (name front : List ℕ) (held : W �
 written_last s name front held old mid new text (Ok x) it whole cut = whole it.taken
 written_last s name front held old mid new text (Err f) it whole cut = leaves_late s name front held old new f it.stops (cut it.taken)
 
--- a late fault cuts the head
-cuts_late : {W : Type 0} (held : W → Option (List ℕ)) (old new : Tap W) (text : List ℕ) (f : HistoryFault) → BreaksOff new f → TookFront held old new text → CutsText held old new text f
+-- a late fault leaves a beginning of a text
+pub cuts_late : {W : Type 0} (held : W → Option (List ℕ)) (old new : Tap W) (text : List ℕ) (f : HistoryFault) → BreaksOff new f → TookFront held old new text → CutsText held old new text f
 cuts_late held old new text fault.NoQueue h cut = absurd h
 cuts_late held old new text fault.Unavailable h cut = absurd h
 cuts_late held old new text fault.Broken h cut = cut

@@ -8,7 +8,8 @@ use Rattle.gate_book_trait.specs.Text.{first_line, last_line}
 use Rattle.gate_queue_queries.specs.History.{report_shown}
 use Rattle.gate_archive_queries.specs.HistoryFrom.{line_from}
 use Rattle.gate_archive_queries.specs.Streamed.{body, lines}
-use Rattle.gate_archive_queries.proofs.HistoryLemmas.{cut_before_end, leaves_head, leaves_late, written_last}
+use Rattle.gate_archive_queries.proofs.HistoryLemmas.{cut_before_end, leaves_head, written_last}
+use Rattle.gate_queue_queries.proofs.HistoryLemmas.{cuts_late}
 use Rattle.gate_archive_queries.proofs.StreamLemmas.{begins_writing, cut_in_line, ends_full, ends_none, front_some}
 use Rattle.gate_archive_queries.proofs.StreamLemmas.{stops_behind, writes_on}
 use Rattle.gate_archive_queries.proofs.history_reads.write_reports.Goals as goal
@@ -64,7 +65,7 @@ returns-in_err-write_report-clause-found g c clean sql params gave rs streams =
     let p = err_from_is_err_and c.from_residual-in_err-write_report.result c.from_residual-in_err-write_report.ensures.1 in
     let was = rw c.in-Some.is at (c.loop-step.invariant.writing clean sql params gave rs streams) in
     let text = body (c.args.front.now ++ first_line c.args.queue.now) (line_from c.args.first) most_listed rs in
-    rw (p.1, p.2) (leaves_late g.W.Write.contents c.args.w.now c.write_report.new.w (body (c.args.front.now ++ first_line c.args.queue.now) (line_from c.args.first) most_listed rs ++ last_line c.args.count) _
+    rw (p.1, p.2) (cuts_late g.W.Write.contents c.args.w.now c.write_report.new.w (body (c.args.front.now ++ first_line c.args.queue.now) (line_from c.args.first) most_listed rs ++ last_line c.args.count) _
     c.in_err-write_report.ensures.stops
     (cut_before_end g.W.Write.contents c.args.w.now c.write_report.new.w (body (c.args.front.now ++ first_line c.args.queue.now) (line_from c.args.first) most_listed rs) c.args.count
     (cut_in_line g.S.Store sql params report_shown (line_from c.args.first) (c.args.front.now ++ first_line c.args.queue.now) g.W.Write.contents c.args.w.now most_listed c.loop-step.w c.write_report.new.w
