@@ -8,7 +8,7 @@ use Rattle.gate_types.specs.Settings.{Settings, default_rule}
 use Rattle.gate_types.specs.Events.{Event, called, set, through}
 use Rattle.gate_types.specs.Status.{status_text}
 use Rattle.gate_types.specs.OrderList.{order_list_text}
-use Rattle.gate_types.specs.Gated.{opened}
+use Rattle.gate_types.specs.Gated.{opened as first}
 use Rattle.gate_laws.specs.FastExamples.{fast_settings}
 use Rattle.gate_laws.specs.Script.{base, core, lib, app, site, unit, queue, settings, core_alone, opened, approved}
 use Rattle.gate_laws.specs.Script.{take, passed, failed, numbered, lines}
@@ -39,10 +39,10 @@ both_tested = docs_failed ++ calls 21
 
 -- the status, and the orders, after events
 abbrev status_after : List Event → List ℕ
-status_after es = (let g = through (opened settings) es in status_text g.settings g.content.state)
+status_after es = (let g = through (first settings) es in status_text g.settings g.content.state)
 
 abbrev orders_after : List Event → List ℕ
-orders_after es = (let g = through (opened settings) es in order_list_text g.settings g.content.state)
+orders_after es = (let g = through (first settings) es in order_list_text g.settings g.content.state)
 
 -- an item keeps the jobs that its project had when it was admitted; one that comes later has the new ones
 pub record AnItemKeepsItsJobs : Type 0 where
@@ -108,7 +108,7 @@ pub record ARuleIsAdopted : Type 0 where
 
 -- 102 in front of 101, whose `docs` runs still when its `unit` fails; in between the settings are others
 abbrev status_between : Settings → Settings → List ℕ
-status_between before then = (let g = through (opened before)
+status_between before then = (let g = through (first before)
     (calls 1 (opened 101 lib ∷ opened 102 app ∷ approved 102 ∷ approved 101 ∷ take ∷ take ∷ take ∷ []) ++
     (set then ∷ calls 11 (failed 2 ∷ []))) in status_text g.settings g.content.state)
 
