@@ -6,6 +6,7 @@ use Rattle.std.specs.Str.Parse.{digits_value}
 use Rattle.std.proofs.lemmas.Bool.{ltb-false}
 use Rattle.httparse.specs.Grammar.{RequestHead}
 use Rattle.httparse.specs.Spans.{name_and_value}
+use Rattle.gate_http.specs.declared.response.Extent.TheVariants as extent
 use Rattle.gate_http.specs.declared.fields.BodyLength.{BodyLength}
 use Rattle.gate_http.specs.declared.fields.BodyLength.TheVariants as body
 use Rattle.gate_http.specs.declared.fault.HttpFault.TheVariants as fault
@@ -19,7 +20,7 @@ use Rattle.gate_types.specs.Limits.{most_bytes}
 use Rattle.gate_http.specs.Asked.{later_history}
 use Rattle.gate_http.specs.Routes.{route_of, path_of, queue_in, place_in}
 use Rattle.gate_http.specs.Way.{Decided, refused, posted, shown, recalled, posted_of, by_post, by_get, read_at}
-use Rattle.gate_http.specs.Way.{on_route, decided_of, decided, is_head}
+use Rattle.gate_http.specs.Way.{on_route, decided_of, decided, extent_of}
 
 abbrev pub FitsBody : BodyLength → Type 0
 FitsBody body.Missing = ⊤
@@ -68,11 +69,11 @@ bounded_cond true a b h k = h
 bounded_cond false a b h k = k
 
 bounded_by_post : (h : RequestHead) (d : Door) → IsBounded (by_post h d)
-bounded_by_post h d = bounded_cond _ (posted_of d (length_of (map name_and_value h.fields))) (refused fault.NotPost (is_head h)) (bounded_post d (length_of (map name_and_value h.fields)) (fits_unless (named_of (codes "transfer-encoding") (map name_and_value h.fields)) (named_of (codes "content-length") (map name_and_value h.fields)))) tt
+bounded_by_post h d = bounded_cond _ (posted_of d (length_of (map name_and_value h.fields))) (refused fault.NotPost (extent_of h.method)) (bounded_post d (length_of (map name_and_value h.fields)) (fits_unless (named_of (codes "transfer-encoding") (map name_and_value h.fields)) (named_of (codes "content-length") (map name_and_value h.fields)))) tt
 
 bounded_by_get : (h : RequestHead) (d : Option Decided) → IsBoundedIf d → IsBounded (by_get h d)
 bounded_by_get h None k = tt
-bounded_by_get h (Some d) k = bounded_cond _ d (refused fault.NotGet (is_head h)) k tt
+bounded_by_get h (Some d) k = bounded_cond _ d (refused fault.NotGet (extent_of h.method)) k tt
 
 bounded_place : (name : List ℕ) (place : Option ℕ)
     → IsBoundedIf (option_map (λ n. recalled (later_history name n)) place)
@@ -94,7 +95,7 @@ bounded_of None = tt
 bounded_of (Some h) = bounded_route h (path_of h.target) (route_of (path_of h.target))
 
 pub bounded : (head : List ℕ) (found : Option RequestHead) → IsBounded (decided head found)
-bounded head found = bounded_cond _ (refused fault.HeadTooLarge false) (decided_of found) tt (bounded_of found)
+bounded head found = bounded_cond _ (refused fault.HeadTooLarge extent.Whole) (decided_of found) tt (bounded_of found)
 
 pub posted_within : (head : List ℕ) (found : Option RequestHead) (d : Door) (n : ℕ) → posted d n ≡ decided head found → n ≤ most_bytes
 posted_within head found d n e = subst IsBounded (sym e) (bounded head found)

@@ -1,5 +1,5 @@
 -- Which way a request goes, from how it was read.
-use Rattle.std.proofs.Common.{◌≡◌, ℕ, ◌<◌, ◌≤◌, Bool, true, false, cond, List, [], ◌++◌, length, take, Option, Some}
+use Rattle.std.proofs.Common.{◌≡◌, ℕ, ◌<◌, ◌≤◌, true, false, cond, List, [], ◌++◌, length, take, Option, Some}
 use Rattle.std.proofs.Common.{None, arith, refl, sym, ap, subst, ◌∙◌, append_assoc, append-nil, length-append}
 use Rattle.std.specs.Io.KnownBytes.{Consumes, IsAtEnd}
 use Rattle.std.proofs.KnownBytes.{Consumes-trans}
@@ -8,6 +8,8 @@ use Rattle.std.proofs.lemmas.List.{take_all}
 use Rattle.std.proofs.lemmas.Bool.{le-ltb, lt-ltb}
 use Rattle.httparse.specs.Grammar.{RequestHead}
 use Rattle.gate_wire.specs.declared.door.Door.{Door}
+use Rattle.gate_http.specs.declared.response.Extent.{Extent}
+use Rattle.gate_http.specs.declared.response.Extent.TheVariants as extent
 use Rattle.gate_http.specs.declared.fault.HttpFault.{HttpFault}
 use Rattle.gate_http.specs.declared.fault.HttpFault.TheVariants as fault
 use Rattle.gate_http.specs.declared.head.Came.TheVariants as came
@@ -57,13 +59,13 @@ read_nothing from left bytes h =
 
 -- the input ended within the head
 pub read_part : (from left : Option (List ℕ)) (bytes : List ℕ) → HeadComes came.Part bytes from left
-    → Reads from left (refusal fault.Cut false)
+    → Reads from left (refusal fault.Cut extent.Whole)
 read_part from left bytes h =
     read_without from left bytes cut (known_end from left bytes h.read h.begins.0) h.begins.1 refl h.read
 
 -- the head is too long
 pub read_too_much : (from left : Option (List ℕ)) (bytes : List ℕ) → HeadComes came.TooMuch bytes from left
-    → Reads from left (refusal fault.HeadTooLarge false)
+    → Reads from left (refusal fault.HeadTooLarge extent.Whole)
 read_too_much from left bytes h =
     let k = known from left bytes h.read in
     let first : take 8192 (bytes ++ k.0) ≡ bytes =
@@ -101,10 +103,10 @@ read_head_alone from left head d w h decides alone =
     (subst (Consumes from left) (sym (append-nil head)) h.read)))
 
 -- it is refused by its head
-pub read_refused : (from left : Option (List ℕ)) (head : List ℕ) (f : HttpFault) (bodiless : Bool)
-    → HeadComes came.Whole head from left → Decides head (refused f bodiless) → Reads from left (refusal f bodiless)
-read_refused from left head f bodiless h decides =
-    read_head_alone from left head (refused f bodiless) (refusal f bodiless) h decides (λ rest. (refl, refl))
+pub read_refused : (from left : Option (List ℕ)) (head : List ℕ) (f : HttpFault) (x : Extent)
+    → HeadComes came.Whole head from left → Decides head (refused f x) → Reads from left (refusal f x)
+read_refused from left head f x h decides =
+    read_head_alone from left head (refused f x) (refusal f x) h decides (λ rest. (refl, refl))
 
 -- what needs no body goes its way whatever follows
 alone_by : (w : Wanted) (rest : List ℕ) → (way_on rest (read_by w) ≡ way_on [] (read_by w)) × (body_on rest (read_by w) ≡ [])
@@ -127,7 +129,7 @@ read_posted from mid left head body d n h decides b =
     let first : take n rest ≡ body = subst (λ m. take m rest ≡ body) b.ends (take-append_seam body k.0) in
     let enough : n ≤ length rest = omega (arith, length-append body k.0, b.ends) in
     let asked : way_on rest (posted d n) ≡ question (delivery d body) =
-    ap (λ t. cond t (refusal fault.Cut false) (question (delivery d (take n rest)))) (le-ltb (length rest) n enough)
+    ap (λ t. cond t (refusal fault.Cut extent.Whole) (question (delivery d (take n rest)))) (le-ltb (length rest) n enough)
     ∙ ap (λ x. question (delivery d x)) first in
     subst (Reads from left) asked (read_whole from left head rest (posted d n)
     (subst (IsKnown from) (append_assoc head body k.0) k.1) (h.begins rest) decides
@@ -136,12 +138,12 @@ read_posted from mid left head body d n h decides b =
 -- a delivery that the input cuts
 pub read_cut : (from mid left : Option (List ℕ)) (head body : List ℕ) (d : Door) (n : ℕ)
     → HeadComes came.Whole head from mid → Decides head (posted d n) → BodyComes false n body mid left
-    → Reads from left (refusal fault.Cut false)
+    → Reads from left (refusal fault.Cut extent.Whole)
 read_cut from mid left head body d n h decides b =
     let read = Consumes-trans from mid left head body h.read b.read in
     let all : take n body ≡ body = take_all n body (omega (arith, b.ends.0)) in
-    let asked : way_on body (posted d n) ≡ refusal fault.Cut false =
-    ap (λ t. cond t (refusal fault.Cut false) (question (delivery d (take n body)))) (lt-ltb (length body) n b.ends.0) in
+    let asked : way_on body (posted d n) ≡ refusal fault.Cut extent.Whole =
+    ap (λ t. cond t (refusal fault.Cut extent.Whole) (question (delivery d (take n body)))) (lt-ltb (length body) n b.ends.0) in
     subst (Reads from left) asked (read_whole from left head body (posted d n)
     (known_end from left (head ++ body) read b.ends.1) (h.begins body) decides
     (subst (λ x. Consumes from left (head ++ x)) (sym all) read))
@@ -152,8 +154,8 @@ pub body_waits : (from mid left : Option (List ℕ)) (head body : List ℕ) (d :
     → length body < n → Consumes mid left body → Waits from left
 body_waits from mid left head body d n h (found, finds, p) short took =
     let e = h.begins body in
-    let asked : way_on body (posted d n) ≡ refusal fault.Cut false =
-    ap (λ t. cond t (refusal fault.Cut false) (question (delivery d (take n body)))) (lt-ltb (length body) n short) in
+    let asked : way_on body (posted d n) ≡ refusal fault.Cut extent.Whole =
+    ap (λ t. cond t (refusal fault.Cut extent.Whole) (question (delivery d (take n body)))) (lt-ltb (length body) n short) in
     record {
       front = record { input = head ++ body; found = found; finds = subst (λ x. FindsIn x found) (sym e) finds };
       read = Consumes-trans from mid left head body h.read took;

@@ -6,6 +6,7 @@ use Rattle.gate_types.specs.Once.{Content}
 use Rattle.gate_types.specs.Gated.{Gated}
 use Rattle.gate_core.specs.declared.gate.Gate.{Gate}
 use Rattle.gate_core.specs.Held.{Goes}
+use Rattle.gate_http.specs.declared.response.Extent.TheVariants as extent
 use Rattle.gate_http.specs.declared.fault.HttpFault.TheVariants as fault
 use Rattle.gate_http.specs.declared.response.Form.TheVariants as form
 use Rattle.gate_http.specs.declared.routes.Route.{Route}
@@ -49,8 +50,8 @@ route_keeps path at (Some route.DeliveriesAfter) u = refl
 pub got_keeps : (path : List ℕ) → Keeps (way_got path)
 got_keeps path = go (nat_lt path_limit (length path)) (is_target path)
   where
-    go : (long good : Bool) → Keeps (way_on [] (if long then refused fault.HeadTooLarge false else
-        (if good then decided_of (Some (get_head path)) else refused fault.BadRequest false)))
+    go : (long good : Bool) → Keeps (way_on [] (if long then refused fault.HeadTooLarge extent.Whole else
+        (if good then decided_of (Some (get_head path)) else refused fault.BadRequest extent.Whole)))
     go true good u = refl
     go false true u = route_keeps path (path_of path) (route_of (path_of path)) u
     go false false u = refl
@@ -81,8 +82,8 @@ module _ {B : Type 0} (trusted : B → Type 0) (holds : B → Settings → Conte
   pub serves_stays : (old new : Gate B) (w : Way) (served : Served) (Takes : List ℕ → Type 0) → Keeps w
       → ServesAs trusted holds leaves form.Content old new w served Takes → Stays old new w served Takes
   serves_stays old new silence served Takes keeps (text, takes, s) = of_one old new silence served Takes keeps text takes s.answers
-  serves_stays old new (refusal f bodiless) served Takes keeps (text, takes, s) =
-      of_one old new (refusal f bodiless) served Takes keeps text takes s.answers
+  serves_stays old new (refusal f x) served Takes keeps (text, takes, s) =
+      of_one old new (refusal f x) served Takes keeps text takes s.answers
   serves_stays old new (question asked) served Takes keeps (text, takes, s) =
       of_one old new (question asked) served Takes keeps text takes s.answers
   serves_stays old new (stream wanted) served Takes keeps s = record {

@@ -6,6 +6,7 @@ use Rattle.std.proofs.lemmas.List.Sums.{sum_by-append}
 use Rattle.httparse.specs.Grammar.{LineEnd, crlf, lf, print_end, print_field, Field, print_section, print_blank}
 use Rattle.httparse.specs.Grammar.{print_version, print_request, RequestHead}
 use Rattle.httparse.proofs.GrammarLemmas.{request_unique}
+use Rattle.gate_http.specs.declared.response.Extent.TheVariants as extent
 use Rattle.gate_http.specs.declared.fault.HttpFault.{HttpFault}
 use Rattle.gate_http.specs.declared.fault.HttpFault.TheVariants as fault
 use Rattle.gate_http.specs.Asked.{Asked, delivery}
@@ -68,7 +69,7 @@ few_lines head h rest = λ reads few.
     omega (arith, all, lines_request h)
 
 -- an input that is answered by nothing is empty
-silent_if : (t : Bool) (f : HttpFault) (a : Asked) → cond t (refusal f false) (question a) ≡ silence → ⊥
+silent_if : (t : Bool) (f : HttpFault) (a : Asked) → cond t (refusal f extent.Whole) (question a) ≡ silence → ⊥
 silent_if true f a e = cc
 silent_if false f a e = cc
 

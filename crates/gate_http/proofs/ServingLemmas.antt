@@ -26,7 +26,7 @@ use Rattle.gate_http.specs.declared.respond.Told.TheVariants as told
 use Rattle.gate_http.specs.declared.response.Form.{Form}
 use Rattle.gate_http.specs.declared.served.Served.{Served}
 use Rattle.gate_http.specs.declared.served.Served.TheVariants.{Answered as AnsweredBy}
-use Rattle.gate_http.specs.Asked.{Asked, delivery, is_status_page, told_status, is_failure, Streamed}
+use Rattle.gate_http.specs.Asked.{Asked, delivery, media_of, told_status, is_failure, Streamed}
 use Rattle.gate_http.specs.Response.{fault_in, told_in, stream_in, failure_in}
 use Rattle.gate_http.specs.Way.{Way, silence, refusal as refusing, question, stream, Request, way_of}
 use Rattle.gate_http.specs.Exchange.{IsRead, OfRead, Comes, Recalled, recited, missing, failed, OfLines}
@@ -273,7 +273,7 @@ module _ {B : Type 0} (trusted : B → Type 0) (holds : B → Settings → Conte
   -- what a question comes to
   serves_question : (form : Form) (asked : Asked) (old new : Gate B) (served : Served) (t : Told)
       → Responds trusted holds leaves old asked t new → served ≡ AnsweredBy (told_status t)
-      → Serves trusted holds leaves form old new (question asked) served (told_in form (is_status_page asked) t)
+      → Serves trusted holds leaves form old new (question asked) served (told_in form (media_of asked) t)
   serves_question form asked old new served a r status =
       let e : is_503 served ≡ is_failure a = ap is_503 status ∙ by_status a in
       record {
@@ -287,7 +287,7 @@ module _ {B : Type 0} (trusted : B → Type 0) (holds : B → Settings → Conte
                 p.1,
                 record {
                   status = status ∙ ap (λ b. AnsweredBy (told_status b)) q.0;
-                  said = ap (told_in form (is_status_page asked)) q.0;
+                  said = ap (told_in form (media_of asked)) q.0;
                   stands = q.1;
                 },
               );
@@ -373,15 +373,15 @@ module _ {B : Type 0} (trusted : B → Type 0) (holds : B → Settings → Conte
         (serves_nothing form old silence served [] refl
         (λ g. record { status = status; said = refl; stands = refl })),
   )
-  serves_as form (refusing f bodiless) old new served Takes (status, takes, stays) = (
-    fault_in form f bodiless,
+  serves_as form (refusing f x) old new served Takes (status, takes, stays) = (
+    fault_in form f x,
     takes,
-    subst (λ n. Serves trusted holds leaves form old n (refusing f bodiless) served (fault_in form f bodiless))
-        (sym stays) (serves_nothing form old (refusing f bodiless) served (fault_in form f bodiless) refl
+    subst (λ n. Serves trusted holds leaves form old n (refusing f x) served (fault_in form f x))
+        (sym stays) (serves_nothing form old (refusing f x) served (fault_in form f x) refl
         (λ g. record { status = status; said = refl; stands = refl })),
   )
   serves_as form (question asked) old new served Takes (t, r, status, takes) = (
-    told_in form (is_status_page asked) t,
+    told_in form (media_of asked) t,
     takes,
     serves_question form asked old new served t r status,
   )
@@ -401,7 +401,7 @@ module _ {B : Type 0} (trusted : B → Type 0) (holds : B → Settings → Conte
       → ((text : List ℕ) → P text → Q text) → ServesAs trusted holds leaves form old new w served P
       → ServesAs trusted holds leaves form old new w served Q
   serves_weaker form silence old new served P Q weaker h = (h.0, weaker h.0 h.1, h.2)
-  serves_weaker form (refusing f bodiless) old new served P Q weaker h = (h.0, weaker h.0 h.1, h.2)
+  serves_weaker form (refusing f x) old new served P Q weaker h = (h.0, weaker h.0 h.1, h.2)
   serves_weaker form (question asked) old new served P Q weaker h = (h.0, weaker h.0 h.1, h.2)
   serves_weaker form (stream wanted) old new served P Q weaker h = record {
     answers = record {

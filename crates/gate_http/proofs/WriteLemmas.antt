@@ -1,6 +1,7 @@
 -- An answer that was written, or only begun.
-use Rattle.std.proofs.Common.{◌≡◌, List, ℕ, Bool, Option, Result, Ok, Err, IfOk, OnErr, refl}
+use Rattle.std.proofs.Common.{◌≡◌, List, ℕ, Option, Result, Ok, Err, IfOk, OnErr, refl}
 use Rattle.std.specs.Prelude.{IsErrOf}
+use Rattle.gate_http.specs.declared.response.Extent.{Extent}
 use Rattle.gate_http.specs.declared.request_fault.RequestFault.{RequestFault}
 use Rattle.gate_http.specs.declared.request_fault.RequestFault.TheVariants as request
 use Rattle.gate_http.specs.declared.fault.HttpFault.{HttpFault}
@@ -8,7 +9,7 @@ use Rattle.gate_http.specs.declared.respond.Told.{Told}
 use Rattle.gate_http.specs.declared.response.Form.{Form}
 use Rattle.gate_http.specs.declared.served.Served.{Served}
 use Rattle.gate_http.specs.declared.served.Served.TheVariants.{Answered}
-use Rattle.gate_http.specs.Asked.{Asked, is_status_page, told_status}
+use Rattle.gate_http.specs.Asked.{Asked, media_of, told_status}
 use Rattle.gate_http.specs.Faults.{fault_status}
 use Rattle.gate_http.specs.Response.{fault_in, told_in}
 use Rattle.gate_http.specs.Way.{Way, refusal, question}
@@ -36,39 +37,39 @@ read_whole from left w P (Err e) reads h = tt
 
 module _ {S : Type 0} (responds : Responding S) (recalls : Recalling S) (form : Form) where
   -- an answer of HTTP's own
-  pub refused_whole : (old : S) (f : HttpFault) (bodiless : Bool) (Takes : List ℕ → Type 0)
+  pub refused_whole : (old : S) (f : HttpFault) (x : Extent) (Takes : List ℕ → Type 0)
       (r : Result Served RequestFault)
-      → IfOk r (λ served. (served ≡ Answered (fault_status f)) × Takes (fault_in form f bodiless))
-      → IfOk r (Comes responds recalls form (refusal f bodiless) old Takes old)
-  refused_whole old f bodiless Takes r h =
-      written_whole (Comes responds recalls form (refusal f bodiless) old Takes old) (Answered (fault_status f))
-      (Takes (fault_in form f bodiless)) r (λ served e takes. (e, takes, refl)) h
+      → IfOk r (λ served. (served ≡ Answered (fault_status f)) × Takes (fault_in form f x))
+      → IfOk r (Comes responds recalls form (refusal f x) old Takes old)
+  refused_whole old f x Takes r h =
+      written_whole (Comes responds recalls form (refusal f x) old Takes old) (Answered (fault_status f))
+      (Takes (fault_in form f x)) r (λ served e takes. (e, takes, refl)) h
 
   -- its beginning
-  pub refused_front : (old : S) (f : HttpFault) (bodiless : Bool) (Takes : List ℕ → Type 0)
+  pub refused_front : (old : S) (f : HttpFault) (x : Extent) (Takes : List ℕ → Type 0)
       (r : Result Served RequestFault)
-      → OnErr r (Takes (fault_in form f bodiless)) → IsErrOf r request.Write
-      → (served : Served) × Comes responds recalls form (refusal f bodiless) old Takes old served
-  refused_front old f bodiless Takes r h e =
-      written_front (Comes responds recalls form (refusal f bodiless) old Takes old) (Answered (fault_status f))
-      (Takes (fault_in form f bodiless)) r (λ served e takes. (e, takes, refl)) h e
+      → OnErr r (Takes (fault_in form f x)) → IsErrOf r request.Write
+      → (served : Served) × Comes responds recalls form (refusal f x) old Takes old served
+  refused_front old f x Takes r h e =
+      written_front (Comes responds recalls form (refusal f x) old Takes old) (Answered (fault_status f))
+      (Takes (fault_in form f x)) r (λ served e takes. (e, takes, refl)) h e
 
   -- what is told
   pub told_whole : (old new : S) (asked : Asked) (t : Told) (Takes : List ℕ → Type 0) (r : Result Served RequestFault)
       → responds old asked t new
-      → IfOk r (λ served. (served ≡ Answered (told_status t)) × Takes (told_in form (is_status_page asked) t))
+      → IfOk r (λ served. (served ≡ Answered (told_status t)) × Takes (told_in form (media_of asked) t))
       → IfOk r (Comes responds recalls form (question asked) old Takes new)
   told_whole old new asked t Takes r said h =
       written_whole (Comes responds recalls form (question asked) old Takes new) (Answered (told_status t))
-      (Takes (told_in form (is_status_page asked) t)) r (λ served e takes. (t, said, e, takes)) h
+      (Takes (told_in form (media_of asked) t)) r (λ served e takes. (t, said, e, takes)) h
 
   -- its beginning
   pub told_front : (old new : S) (asked : Asked) (t : Told) (Takes : List ℕ → Type 0) (r : Result Served RequestFault)
-      → responds old asked t new → OnErr r (Takes (told_in form (is_status_page asked) t)) → IsErrOf r request.Write
+      → responds old asked t new → OnErr r (Takes (told_in form (media_of asked) t)) → IsErrOf r request.Write
       → (served : Served) × Comes responds recalls form (question asked) old Takes new served
   told_front old new asked t Takes r said h e =
       written_front (Comes responds recalls form (question asked) old Takes new) (Answered (told_status t))
-      (Takes (told_in form (is_status_page asked) t)) r (λ served e takes. (t, said, e, takes)) h e
+      (Takes (told_in form (media_of asked) t)) r (λ served e takes. (t, said, e, takes)) h e
 
   -- ---- for a request that was read
 
@@ -87,17 +88,17 @@ module _ {S : Type 0} (responds : Responding S) (recalls : Recalling S) (form : 
       read_as from left w (λ v. (served : Served) × Comes responds recalls form v old Takes new served) reads h
 
   -- an answer of HTTP's own
-  pub refused_read : (from left : Option (List ℕ)) (old : S) (f : HttpFault) (bodiless : Bool) (Takes : List ℕ → Type 0)
-      (r : Result Served RequestFault) → Reads from left (refusal f bodiless)
-      → IfOk r (λ served. (served ≡ Answered (fault_status f)) × Takes (fault_in form f bodiless))
+  pub refused_read : (from left : Option (List ℕ)) (old : S) (f : HttpFault) (x : Extent) (Takes : List ℕ → Type 0)
+      (r : Result Served RequestFault) → Reads from left (refusal f x)
+      → IfOk r (λ served. (served ≡ Answered (fault_status f)) × Takes (fault_in form f x))
       → IfOk r (λ served. OfRead from left (λ v. Comes responds recalls form v old Takes old served))
-  refused_read from left old f bodiless Takes r reads h =
-      comes_read from left (refusal f bodiless) old old Takes r reads (refused_whole old f bodiless Takes r h)
+  refused_read from left old f x Takes r reads h =
+      comes_read from left (refusal f x) old old Takes r reads (refused_whole old f x Takes r h)
 
   -- its beginning
-  pub refused_begun : (from left : Option (List ℕ)) (old : S) (f : HttpFault) (bodiless : Bool) (Takes : List ℕ → Type 0)
-      (r : Result Served RequestFault) → Reads from left (refusal f bodiless)
-      → OnErr r (Takes (fault_in form f bodiless)) → IsErrOf r request.Write
+  pub refused_begun : (from left : Option (List ℕ)) (old : S) (f : HttpFault) (x : Extent) (Takes : List ℕ → Type 0)
+      (r : Result Served RequestFault) → Reads from left (refusal f x)
+      → OnErr r (Takes (fault_in form f x)) → IsErrOf r request.Write
       → OfRead from left (λ v. (served : Served) × Comes responds recalls form v old Takes old served)
-  refused_begun from left old f bodiless Takes r reads h e =
-      comes_begun from left (refusal f bodiless) old old Takes reads (refused_front old f bodiless Takes r h e)
+  refused_begun from left old f x Takes r reads h e =
+      comes_begun from left (refusal f x) old old Takes reads (refused_front old f x Takes r h e)

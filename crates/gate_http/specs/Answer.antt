@@ -31,7 +31,7 @@ use Rattle.gate_http.specs.declared.served.Served.{Served}
 use Rattle.gate_http.specs.declared.served.Served.TheVariants.{Nothing, Answered}
 use Rattle.gate_http.specs.Digits.{number_up_to}
 use Rattle.gate_http.specs.Faults.{fault_status}
-use Rattle.gate_http.specs.Asked.{Asked, delivery, page, build, change, item, is_status_page, told_status, Streamed}
+use Rattle.gate_http.specs.Asked.{Asked, delivery, page, build, change, item, media_of, told_status, Streamed}
 use Rattle.gate_http.specs.Asked.{whole_history, later_history, all_deliveries, later_deliveries}
 use Rattle.gate_http.specs.Way.{Way, silence, refusal as refusing, question, stream}
 use Rattle.gate_http.specs.Response.{fault_in, told_in, stream_in, failure_in}
@@ -128,7 +128,7 @@ gate_after g calls = record g { content = once g.settings g.content calls }
 -- the call that a request makes
 abbrev pub calls_made : Bool → Way → List Call
 calls_made unavailable silence = []
-calls_made unavailable (refusing f bodiless) = []
+calls_made unavailable (refusing f e) = []
 calls_made unavailable (question asked) = calls_asked unavailable asked
 calls_made unavailable (stream wanted) = []
 
@@ -137,7 +137,7 @@ calls_made unavailable (stream wanted) = []
 -- whether a request is answered, and by which status
 abbrev pub served_as : Bool → Gated → Way → Served
 served_as unavailable g silence = Nothing
-served_as unavailable g (refusing f bodiless) = Answered (fault_status f)
+served_as unavailable g (refusing f e) = Answered (fault_status f)
 served_as unavailable g (question asked) = Answered (told_status (answer_to unavailable g asked))
 served_as unavailable g (stream wanted) =
     Answered (if unavailable then 503 else stream_status (stream_of g.content wanted))
@@ -145,8 +145,8 @@ served_as unavailable g (stream wanted) =
 -- the answer to a request, as a response or its content alone
 abbrev pub answer : Form → Bool → Gated → Way → List ℕ
 answer form unavailable g silence = []
-answer form unavailable g (refusing f bodiless) = fault_in form f bodiless
-answer form unavailable g (question asked) = told_in form (is_status_page asked) (answer_to unavailable g asked)
+answer form unavailable g (refusing f e) = fault_in form f e
+answer form unavailable g (question asked) = told_in form (media_of asked) (answer_to unavailable g asked)
 answer form unavailable g (stream wanted) =
     if unavailable then failure_in form else stream_in form wanted (stream_of g.content wanted)
 

@@ -1,10 +1,12 @@
 -- What is asked of the gate, and the status and the text of what is told.
-use Rattle.std.specs.Prelude.{ℕ, Bool, true, false, List}
+use Rattle.std.specs.Prelude.{ℕ, Bool, false, List}
 use Rattle.gate_types.specs.declared.deliveries.Answer.{Answer}
 use Rattle.gate_types.specs.declared.deliveries.Answer.TheVariants as answer
 use Rattle.gate_types.specs.Once.{answer_text, is_unavailable}
 use Rattle.gate_types.specs.Refusals.{refusal_row}
 use Rattle.gate_wire.specs.declared.door.Door.{Door}
+use Rattle.gate_http.specs.declared.response.Media.{Media}
+use Rattle.gate_http.specs.declared.response.Media.TheVariants as media
 use Rattle.gate_http.specs.declared.fault.HttpFault.{HttpFault}
 use Rattle.gate_http.specs.declared.fault.HttpFault.TheVariants as fault
 use Rattle.gate_http.specs.declared.respond.Page.{Page}
@@ -45,15 +47,15 @@ missing_of (later_history name place) = fault.NoQueue
 missing_of all_deliveries = fault.NoDelivery
 missing_of (later_deliveries text) = fault.NoDelivery
 
--- whether the status text is asked for, which is plain text
-abbrev pub is_status_page : Asked → Bool
-is_status_page (page pages.Status) = true
-is_status_page (page pages.Orders) = false
-is_status_page (page pages.Running) = false
-is_status_page (delivery door bytes) = false
-is_status_page (build number) = false
-is_status_page (change number) = false
-is_status_page (item number) = false
+-- in which form it is answered: the status text is plain text
+abbrev pub media_of : Asked → Media
+media_of (page pages.Status) = media.Plain
+media_of (page pages.Orders) = media.Json
+media_of (page pages.Running) = media.Json
+media_of (delivery door bytes) = media.Json
+media_of (build number) = media.Json
+media_of (change number) = media.Json
+media_of (item number) = media.Json
 
 -- each reply and each text has the status 200, a refusal its own
 abbrev pub answer_status : Answer → ℕ

@@ -3,6 +3,7 @@ use Rattle.std.specs.Prelude.{ℕ, ◌≡◌, true, false, List, [], ◌++◌, O
 use Rattle.std.specs.Io.KnownBytes.{Consumes}
 use Rattle.gate_types.specs.declared.tap.Tap.{Tap}
 use Rattle.gate_types.specs.Tap.{inside, has_failed, Took, TookFront}
+use Rattle.gate_http.specs.declared.response.Extent.TheVariants as extent
 use Rattle.gate_http.specs.declared.fault.HttpFault.TheVariants as fault
 use Rattle.gate_http.specs.declared.respond.StreamFault.{StreamFault}
 use Rattle.gate_http.specs.declared.respond.StreamFault.TheVariants as stopped
@@ -12,7 +13,7 @@ use Rattle.gate_http.specs.declared.response.Form.TheVariants as form
 use Rattle.gate_http.specs.declared.served.Served.{Served}
 use Rattle.gate_http.specs.declared.served.Served.TheVariants.{Nothing, Answered}
 use Rattle.gate_http.specs.Faults.{fault_status}
-use Rattle.gate_http.specs.Asked.{Asked, is_status_page, Streamed, missing_of, told_status}
+use Rattle.gate_http.specs.Asked.{Asked, media_of, Streamed, missing_of, told_status}
 use Rattle.gate_http.specs.Way.{Way, silence, refusal, question, stream, Request, way_of, taken_of}
 use Rattle.gate_http.specs.Response.{fault_in, told_in, front_in, failure_in}
 
@@ -31,7 +32,7 @@ pub record IsRead (from left : Option (List ℕ)) (r : Request) : Type 0 where
 -- what was read is no whole request yet: by itself it is nothing, or is cut
 abbrev pub IsUnfinished : Way → Type 0
 IsUnfinished silence = ⊤
-IsUnfinished (refusal f bodiless) = f ≡ fault.Cut
+IsUnfinished (refusal f e) = f ≡ fault.Cut
 IsUnfinished (question asked) = ⊥
 IsUnfinished (stream wanted) = ⊥
 
@@ -79,18 +80,18 @@ pub data Recalled {S : Type 0} (recalls : Recalling S) (f : Form) (old : S) (wan
   recited : served ≡ Answered 200 → recalls old wanted (OfLines f Takes) new →
       Recalled recalls f old wanted Takes new served
   missing : served ≡ Answered 404 → recalls old wanted (λ text. text ≡ None) new →
-      Takes (fault_in f (missing_of wanted) false) → Recalled recalls f old wanted Takes new served
+      Takes (fault_in f (missing_of wanted) extent.Whole) → Recalled recalls f old wanted Takes new served
   failed : served ≡ Answered 503 → recalls old wanted (λ text. ⊤) new → Takes (failure_in f) →
       Recalled recalls f old wanted Takes new served
 
 -- a request that goes this way is answered so: this is so of the answer, and the state after it
 abbrev pub Comes : {S : Type 0} → Responding S → Recalling S → Form → Way → S → (List ℕ → Type 0) → S → Served → Type 0
 Comes responds recalls f silence old Takes new served = (served ≡ Nothing) × Takes [] × (new ≡ old)
-Comes responds recalls f (refusal refused bodiless) old Takes new served =
-    (served ≡ Answered (fault_status refused)) × Takes (fault_in f refused bodiless) × (new ≡ old)
+Comes responds recalls f (refusal refused e) old Takes new served =
+    (served ≡ Answered (fault_status refused)) × Takes (fault_in f refused e) × (new ≡ old)
 Comes responds recalls f (question asked) old Takes new served =
     (t : Told) × responds old asked t new
-    × (served ≡ Answered (told_status t)) × Takes (told_in f (is_status_page asked) t)
+    × (served ≡ Answered (told_status t)) × Takes (told_in f (media_of asked) t)
 Comes responds recalls f (stream wanted) old Takes new served = Recalled recalls f old wanted Takes new served
 
 -- lines were asked for, and this is so of the beginning of the answer that was written

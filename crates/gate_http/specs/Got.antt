@@ -1,7 +1,8 @@
 -- What a GET of a path comes to, whatever answers: its content alone.
-use Rattle.std.specs.Prelude.{ℕ, Bool, false, ◌&&◌, List, [], length, Some, nat_lt, if◌then◌else◌, codes}
+use Rattle.std.specs.Prelude.{ℕ, Bool, ◌&&◌, List, [], length, Some, nat_lt, if◌then◌else◌, codes}
 use Rattle.std.specs.List.{list_all}
 use Rattle.httparse.specs.Grammar.{RequestHead, is_uri_byte, crlf}
+use Rattle.gate_http.specs.declared.response.Extent.TheVariants as extent
 use Rattle.gate_http.specs.declared.fault.HttpFault.TheVariants as fault
 use Rattle.gate_http.specs.declared.response.Form.TheVariants as form
 use Rattle.gate_http.specs.declared.served.Served.{Served}
@@ -24,8 +25,8 @@ path_limit = 8175
 -- what it asks for
 abbrev pub got : List ℕ → Decided
 got path =
-    if nat_lt path_limit (length path) then refused fault.HeadTooLarge false else
-    if is_target path then decided_of (Some (get_head path)) else refused fault.BadRequest false
+    if nat_lt path_limit (length path) then refused fault.HeadTooLarge extent.Whole else
+    if is_target path then decided_of (Some (get_head path)) else refused fault.BadRequest extent.Whole
 
 -- what becomes of it
 abbrev pub way_got : List ℕ → Way

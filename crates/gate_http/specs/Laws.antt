@@ -1,7 +1,9 @@
 -- Laws of the definitions, and examples.
-use Rattle.std.specs.Prelude.{ℕ, ◌≡◌, ◌≤◌, ◌==◌, List, [], ◌∷◌, ◌++◌, length, count_by, Option, Some, None, true}
-use Rattle.std.specs.Prelude.{false, codes}
+use Rattle.std.specs.Prelude.{ℕ, ◌≡◌, ◌≤◌, ◌==◌, List, [], ◌∷◌, ◌++◌, length, count_by, Option, Some, None}
+use Rattle.std.specs.Prelude.{codes}
 use Rattle.httparse.specs.Grammar.{RequestHead, ReadsRequest, crlf, lf}
+use Rattle.gate_http.specs.declared.response.Extent.TheVariants as extent
+use Rattle.gate_http.specs.declared.response.Media.TheVariants as media
 use Rattle.gate_http.specs.declared.fault.HttpFault.TheVariants as fault
 use Rattle.gate_wire.specs.declared.door.Door.TheVariants as door
 use Rattle.gate_http.specs.declared.respond.Page.TheVariants as pages
@@ -105,15 +107,15 @@ PostIsRead =
     Finds posted_head (Some posted_request)
     × (way (posted_head ++ codes "{}rest") (Some posted_request) ≡ question (delivery door.Forge (codes "{}")))
     × (taken (posted_head ++ codes "{}rest") (Some posted_request) ≡ posted_head ++ codes "{}")
-    × (way (posted_head ++ codes "{") (Some posted_request) ≡ refusal fault.Cut false)
+    × (way (posted_head ++ codes "{") (Some posted_request) ≡ refusal fault.Cut extent.Whole)
 
 -- responses byte for byte
 abbrev pub ExampleIsAnswered : Type 0
 ExampleIsAnswered =
-    (fault_in form.Response fault.Cut false ≡ codes "HTTP/1.1 400 Bad Request\r\n"
+    (fault_in form.Response fault.Cut extent.Whole ≡ codes "HTTP/1.1 400 Bad Request\r\n"
     ++ codes "Content-Type: application/json\r\nContent-Length: 15\r\nConnection: close\r\n\r\n"
     ++ codes "{\"error\":\"cut\"}")
-    × (fault_in form.Response fault.NotGet true ≡ codes "HTTP/1.1 405 Method Not Allowed\r\n"
+    × (fault_in form.Response fault.NotGet extent.Head ≡ codes "HTTP/1.1 405 Method Not Allowed\r\n"
     ++ codes "Content-Type: application/json\r\nContent-Length: 18\r\nAllow: GET\r\nConnection: close\r\n\r\n")
     × (stream_in form.Response (whole_history (codes "core")) None ≡ codes "HTTP/1.1 404 Not Found\r\n"
     ++ codes "Content-Type: application/json\r\nContent-Length: 20\r\nConnection: close\r\n\r\n"
@@ -123,6 +125,6 @@ ExampleIsAnswered =
     ++ codes "Content-Type: text/plain\r\nConnection: close\r\n\r\nhistory core\nend 0\n")
     × (stream_in form.Response all_deliveries (Some (codes "end 0\n")) ≡ codes "HTTP/1.1 200 OK\r\n"
     ++ codes "Content-Type: text/plain\r\nConnection: close\r\n\r\nend 0\n")
-    × (told_in form.Response false told.NoItem ≡ codes "HTTP/1.1 404 Not Found\r\n"
+    × (told_in form.Response media.Json told.NoItem ≡ codes "HTTP/1.1 404 Not Found\r\n"
     ++ codes "Content-Type: application/json\r\nContent-Length: 19\r\nConnection: close\r\n\r\n"
     ++ codes "{\"error\":\"no-item\"}")

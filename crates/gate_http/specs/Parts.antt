@@ -8,6 +8,7 @@ use Rattle.gate_book_trait.specs.declared.fault.HistoryFault.{HistoryFault}
 use Rattle.gate_book_trait.specs.declared.fault.HistoryFault.TheVariants as history
 use Rattle.gate_archive.specs.declared.fault.FeedFault.{FeedFault}
 use Rattle.gate_archive.specs.declared.fault.FeedFault.TheVariants as feed
+use Rattle.gate_http.specs.declared.response.Extent.{Extent}
 use Rattle.gate_http.specs.declared.head.Came.{Came}
 use Rattle.gate_http.specs.declared.head.Came.TheVariants as came
 use Rattle.gate_http.specs.declared.fields.NamedField.{NamedField}
@@ -34,7 +35,7 @@ use Rattle.gate_types.specs.declared.tap.Tap.{Tap}
 use Rattle.gate_types.specs.Tap.{Took, TookFront}
 use Rattle.gate_http.specs.Answer.{stream_of}
 use Rattle.gate_http.specs.Exchange.{Responding, Recalling, Comes, Broke, HasText}
-use Rattle.gate_http.specs.Way.{Decided, refused, posted, shown, recalled, is_head, on_route, way_on}
+use Rattle.gate_http.specs.Way.{Decided, refused, posted, shown, recalled, extent_of, on_route, way_on}
 
 -- so many bytes were read, and whatever follows, the input begins like this
 abbrev pub Begins : Came → List ℕ → Option (List ℕ) → Type 0
@@ -84,21 +85,21 @@ abbrev pub read_by : Wanted → Decided
 read_by (wanted.Ask q) = shown (asked_by q)
 read_by (wanted.Lines s) = recalled (streamed_by s)
 
--- what is read, or what HTTP itself refuses, maybe without its body
-abbrev pub read_or : Bool → Result Wanted HttpFault → Decided
-read_or bodiless (Ok w) = read_by w
-read_or bodiless (Err f) = refused f bodiless
+-- what is read, or what HTTP itself refuses
+abbrev pub read_or : Extent → Result Wanted HttpFault → Decided
+read_or e (Ok w) = read_by w
+read_or e (Err f) = refused f e
 
 -- what a decision stands for
 abbrev pub view : Decision → Decided
-view (decision.Refuse f bodiless) = refused f bodiless
+view (decision.Refuse f e) = refused f e
 view (decision.Post d n) = posted d n
 view (decision.Read w) = read_by w
 
 -- what a path has by its route for who delivers nothing
 abbrev pub reading : RequestHead → List ℕ → Option Route → Decided
-reading h path (Some route.Forge) = refused fault.NotPost (is_head h)
-reading h path (Some route.Worker) = refused fault.NotPost (is_head h)
+reading h path (Some route.Forge) = refused fault.NotPost (extent_of h.method)
+reading h path (Some route.Worker) = refused fault.NotPost (extent_of h.method)
 reading h path r = on_route h path r
 
 -- what is read came to this

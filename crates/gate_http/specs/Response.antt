@@ -1,8 +1,12 @@
 -- The texts of responses.
-use Rattle.std.specs.Prelude.{ℕ, Bool, false, ◌&&◌, List, [], ◌++◌, length, ◌==◌, if◌then◌else◌, Option, None, Some}
+use Rattle.std.specs.Prelude.{ℕ, List, [], ◌++◌, length, ◌==◌, if◌then◌else◌, Option, None, Some}
 use Rattle.std.specs.Prelude.{codes, decimal}
 use Rattle.gate_types.specs.declared.deliveries.Answer.TheVariants.{Refused}
 use Rattle.gate_types.specs.declared.deliveries.Refusal.TheVariants as refusal
+use Rattle.gate_http.specs.declared.response.Extent.{Extent}
+use Rattle.gate_http.specs.declared.response.Extent.TheVariants as extent
+use Rattle.gate_http.specs.declared.response.Media.{Media}
+use Rattle.gate_http.specs.declared.response.Media.TheVariants as media
 use Rattle.gate_http.specs.declared.fault.HttpFault.{HttpFault}
 use Rattle.gate_http.specs.declared.fault.HttpFault.TheVariants as fault
 use Rattle.gate_http.specs.declared.respond.Told.{Told}
@@ -65,21 +69,23 @@ json = codes "application/json"
 abbrev pub plain : List ℕ
 plain = codes "text/plain"
 
--- the content of an answer of HTTP's own, maybe without its body
-abbrev pub fault_content : HttpFault → Bool → List ℕ
-fault_content f bodiless = if bodiless then [] else fault_text f
+-- the content of an answer of HTTP's own
+abbrev pub fault_content : HttpFault → Extent → List ℕ
+fault_content f extent.Whole = fault_text f
+fault_content f extent.Head = []
 
 -- the head of the response with it
 abbrev pub fault_head : HttpFault → List ℕ
 fault_head f = head_text (fault_status f) json (length (fault_text f)) (allow_line f)
 
 -- the type of what is told; the status text is plain text, all else is JSON
-abbrev pub told_kind : Bool → Told → List ℕ
-told_kind is_plain t = if is_plain && told_status t == 200 then plain else json
+abbrev pub told_kind : Media → Told → List ℕ
+told_kind media.Json t = json
+told_kind media.Plain t = if told_status t == 200 then plain else json
 
 -- the head of the response with it
-abbrev pub told_head : Bool → Told → List ℕ
-told_head is_plain t = head_text (told_status t) (told_kind is_plain t) (length (told_text t)) []
+abbrev pub told_head : Media → Told → List ℕ
+told_head m t = head_text (told_status t) (told_kind m t) (length (told_text t)) []
 
 -- the head of a response that is written line by line, which has no length: its body ends where the connection is
 -- closed
@@ -98,12 +104,12 @@ abbrev pub written_in : Form → List ℕ → List ℕ → List ℕ
 written_in a head content = head_in a head ++ content
 
 -- the answer of HTTP's own
-abbrev pub fault_in : Form → HttpFault → Bool → List ℕ
-fault_in a f bodiless = written_in a (fault_head f) (fault_content f bodiless)
+abbrev pub fault_in : Form → HttpFault → Extent → List ℕ
+fault_in a f e = written_in a (fault_head f) (fault_content f e)
 
 -- the answer with what is told
-abbrev pub told_in : Form → Bool → Told → List ℕ
-told_in a is_plain t = written_in a (told_head is_plain t) (told_text t)
+abbrev pub told_in : Form → Media → Told → List ℕ
+told_in a m t = written_in a (told_head m t) (told_text t)
 
 -- what stands before the lines
 abbrev pub front_in : Form → List ℕ
@@ -111,9 +117,9 @@ front_in a = head_in a stream_head
 
 -- the answer with lines, or where there is nothing of the kind
 abbrev pub stream_in : Form → Streamed → Option (List ℕ) → List ℕ
-stream_in a wanted None = fault_in a (missing_of wanted) false
+stream_in a wanted None = fault_in a (missing_of wanted) extent.Whole
 stream_in a wanted (Some text) = front_in a ++ text
 
 -- the answer where the gate fails
 abbrev pub failure_in : Form → List ℕ
-failure_in a = told_in a false (told.Answer (Refused refusal.Unavailable))
+failure_in a = told_in a media.Json (told.Answer (Refused refusal.Unavailable))

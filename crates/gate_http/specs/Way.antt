@@ -1,9 +1,11 @@
 -- What becomes of an input.
-use Rattle.std.specs.Prelude.{ℕ, ◌≡◌, ◌≤◌, Bool, false, List, [], ◌++◌, length, map, take, count_by, Option, Some}
+use Rattle.std.specs.Prelude.{ℕ, ◌≡◌, ◌≤◌, List, [], ◌++◌, length, map, take, count_by, Option, Some}
 use Rattle.std.specs.Prelude.{None, option_map, nat_lt, ◌==◌, if◌then◌else◌, codes}
 use Rattle.std.specs.Str.{bytes_eq}
 use Rattle.httparse.specs.Grammar.{RequestHead, ReadsRequest}
 use Rattle.httparse.specs.Spans.{name_and_value}
+use Rattle.gate_http.specs.declared.response.Extent.{Extent}
+use Rattle.gate_http.specs.declared.response.Extent.TheVariants as extent
 use Rattle.gate_http.specs.declared.fault.HttpFault.{HttpFault}
 use Rattle.gate_http.specs.declared.fault.HttpFault.TheVariants as fault
 use Rattle.gate_wire.specs.declared.door.Door.{Door}
@@ -31,27 +33,27 @@ Finds head (Some h) = IsRequest head h
 -- what a head asks for: an answer of HTTP's own, maybe without its body; a delivery of so many bytes; what is told at
 -- once; what is written line by line
 pub data Decided : Type 0 where
-  refused : HttpFault → Bool → Decided
+  refused : HttpFault → Extent → Decided
   posted : Door → ℕ → Decided
   shown : Asked → Decided
   recalled : Streamed → Decided
 
--- the method is HEAD
-abbrev pub is_head : RequestHead → Bool
-is_head h = bytes_eq h.method (codes "HEAD")
+-- how much is written of an answer to a method
+abbrev pub extent_of : List ℕ → Extent
+extent_of method = if bytes_eq method (codes "HEAD") then extent.Head else extent.Whole
 
 -- a delivery, by what its length is
 abbrev pub posted_of : Door → BodyLength → Decided
-posted_of d body.Missing = refused fault.NoLength false
-posted_of d body.Bad = refused fault.BadRequest false
-posted_of d body.Long = refused fault.TooLarge false
+posted_of d body.Missing = refused fault.NoLength extent.Whole
+posted_of d body.Bad = refused fault.BadRequest extent.Whole
+posted_of d body.Long = refused fault.TooLarge extent.Whole
 posted_of d (body.Bytes n) = posted d n
 
 -- a delivery, if the method is POST
 abbrev pub by_post : RequestHead → Door → Decided
 by_post h d =
     if bytes_eq h.method (codes "POST") then posted_of d (length_of (map name_and_value h.fields))
-    else refused fault.NotPost (is_head h)
+    else refused fault.NotPost (extent_of h.method)
 
 -- what is read at a path of a route, if there is something to read
 abbrev pub read_at : List ℕ → Route → Option Decided
@@ -70,46 +72,46 @@ read_at path route.DeliveriesAfter = Some (recalled (later_deliveries (parameter
 
 -- this, if there is something and the method is GET
 abbrev pub by_get : RequestHead → Option Decided → Decided
-by_get h None = refused fault.NoRoute (is_head h)
-by_get h (Some d) = if bytes_eq h.method (codes "GET") then d else refused fault.NotGet (is_head h)
+by_get h None = refused fault.NoRoute (extent_of h.method)
+by_get h (Some d) = if bytes_eq h.method (codes "GET") then d else refused fault.NotGet (extent_of h.method)
 
 -- what is asked for at a path, by its route
 abbrev pub on_route : RequestHead → List ℕ → Option Route → Decided
-on_route h path None = refused fault.NoRoute (is_head h)
+on_route h path None = refused fault.NoRoute (extent_of h.method)
 on_route h path (Some route.Forge) = by_post h door.Forge
 on_route h path (Some route.Worker) = by_post h door.Worker
 on_route h path (Some r) = by_get h (read_at path r)
 
 -- a request
 abbrev pub decided_of : Option RequestHead → Decided
-decided_of None = refused fault.BadRequest false
+decided_of None = refused fault.BadRequest extent.Whole
 decided_of (Some h) = on_route h (path_of h.target) (route_of (path_of h.target))
 
 -- a head: it may have 66 lines
 abbrev pub decided : List ℕ → Option RequestHead → Decided
 decided head found =
-    if nat_lt 66 (count_by (λ b. b == 10) head) then refused fault.HeadTooLarge false else decided_of found
+    if nat_lt 66 (count_by (λ b. b == 10) head) then refused fault.HeadTooLarge extent.Whole else decided_of found
 
 -- what becomes of an input: nothing, an answer of HTTP's own, a question to the gate, or what is written line by line
 pub data Way : Type 0 where
   silence : Way
-  refusal : HttpFault → Bool → Way
+  refusal : HttpFault → Extent → Way
   question : Asked → Way
   stream : Streamed → Way
 
 -- by what the head asks for, and the bytes behind it
 abbrev pub way_on : List ℕ → Decided → Way
-way_on rest (refused f bodiless) = refusal f bodiless
+way_on rest (refused f e) = refusal f e
 way_on rest (posted d n) =
-    if nat_lt (length rest) n then refusal fault.Cut false else question (delivery d (take n rest))
+    if nat_lt (length rest) n then refusal fault.Cut extent.Whole else question (delivery d (take n rest))
 way_on rest (shown asked) = question asked
 way_on rest (recalled wanted) = stream wanted
 
 -- by how the input begins
 abbrev pub way_from : Front → Option RequestHead → Way
 way_from empty found = silence
-way_from cut found = refusal fault.Cut false
-way_from too_large found = refusal fault.HeadTooLarge false
+way_from cut found = refusal fault.Cut extent.Whole
+way_from too_large found = refusal fault.HeadTooLarge extent.Whole
 way_from (whole head rest) found = way_on rest (decided head found)
 
 abbrev pub way : List ℕ → Option RequestHead → Way
@@ -117,7 +119,7 @@ way input found = way_from (front_of input) found
 
 -- the bytes behind the head that are read
 abbrev pub body_on : List ℕ → Decided → List ℕ
-body_on rest (refused f bodiless) = []
+body_on rest (refused f e) = []
 body_on rest (posted d n) = take n rest
 body_on rest (shown asked) = []
 body_on rest (recalled wanted) = []

@@ -2,7 +2,7 @@
 ghost use Rattle.std.specs.Prelude.{◌≡◌, ◌≤◌, [], false, true, OnOk, OnErr, IfOk, IfErr, IsErrOf, vec_capacity, ◌⊎◌};
 ghost use Rattle.gate_types.specs.Tap.{has_failed, Took, TookFront};
 ghost use Rattle.gate_http.specs.Faults.{fault_status};
-ghost use Rattle.gate_http.specs.Asked.{is_status_page, told_status, streamed_by, missing_of};
+ghost use Rattle.gate_http.specs.Asked.{media_of, told_status, streamed_by, missing_of};
 ghost use Rattle.gate_http.specs.Response.{fault_content, told_kind, fault_in, told_in};
 ghost use Rattle.gate_http.specs.Exchange.{OfLines, Recalled};
 ghost use Rattle.gate_http.specs.Parts.{asked_by, ReadsTo, BreaksOff};
@@ -11,7 +11,7 @@ use crate::fault::HttpFault;
 use crate::request::{Question, Wanted};
 use crate::request_fault::RequestFault;
 use crate::respond::{Page, Respond, Stream, StreamFault, Told, status_of, text_of};
-use crate::response::{Form, allow_of, front_of, write_answer};
+use crate::response::{Extent, Form, Media, allow_of, front_of, write_answer};
 use crate::served::Served;
 use gate_types::deliveries::{Answer, Refusal};
 use gate_types::tap::Tap;
@@ -19,28 +19,33 @@ use std::alloc::Global;
 use std::io::Write;
 
 /// The content of an answer of HTTP's own, or nothing.
-fn content_of(fault: HttpFault, bodiless: bool) -> &'static str
-    ensures { result.now ≡ fault_content fault bodiless }
+fn content_of(fault: HttpFault, extent: Extent) -> &'static str
+    ensures { result.now ≡ fault_content fault extent }
 {
-    if bodiless { "" } else { fault.text() }
-}
-
-/// The type of what is told.
-fn kind_of(told: &Told, is_status_page: bool) -> &'static str
-    ensures { result.now ≡ told_kind is_status_page told.now }
-{
-    if is_status_page && status_of(told) == 200 {
-        "text/plain"
-    } else {
-        "application/json"
+    match extent {
+        Extent::Whole => fault.text(),
+        Extent::Head => "",
     }
 }
 
-/// Whether this asks for the page that is plain text.
-fn is_status(question: Question<'_>) -> bool
-    ensures { result ≡ is_status_page (asked_by question.entry) }
+/// The type of what is told.
+fn kind_of(told: &Told, media: Media) -> &'static str
+    ensures { result.now ≡ told_kind media told.now }
 {
-    matches!(question, Question::Page(Page::Status))
+    match media {
+        Media::Plain if status_of(told) == 200 => "text/plain",
+        _ => "application/json",
+    }
+}
+
+/// In which form the answer to a question is.
+fn media_of(question: Question<'_>) -> Media
+    ensures { result ≡ media_of (asked_by question.entry) }
+{
+    match question {
+        Question::Page(Page::Status) => Media::Plain,
+        _ => Media::Json,
+    }
 }
 
 /// Writes an answer of HTTP's own.
@@ -49,21 +54,21 @@ pub(crate) fn refuse<W: Write>(
     room: &mut Vec<u8>,
     form: Form,
     fault: HttpFault,
-    bodiless: bool,
+    extent: Extent,
 ) -> Result<Served, RequestFault>
     requires writer { has_failed writer.old ≡ false }
     requires empty { room.old.items ≡ [] }
     requires room { 256 ≤ vec_capacity room.old }
     ensures ok { IfOk result (λ served. (served ≡ Served.Answered (fault_status fault))
-        × Took W.contents writer.old writer.new (fault_in form fault bodiless)) }
-    ensures err { OnErr result (TookFront W.contents writer.old writer.new (fault_in form fault bodiless)) }
+        × Took W.contents writer.old writer.new (fault_in form fault extent)) }
+    ensures err { OnErr result (TookFront W.contents writer.old writer.new (fault_in form fault extent)) }
     ensures write { IfErr result (λ e. e ≡ RequestFault.Write) }
     ensures unfailed { OnOk result (has_failed writer.new ≡ false) }
     ensures failed { OnErr result (has_failed writer.new ≡ true) }
 {
     let status = fault.status();
     let len = fault.text().len();
-    let content = content_of(fault, bodiless);
+    let content = content_of(fault, extent);
     let kind = "application/json";
     match write_answer(
         writer,
@@ -86,21 +91,21 @@ pub(crate) fn tell<W: Write>(
     room: &mut Vec<u8>,
     form: Form,
     told: &Told,
-    is_status_page: bool,
+    media: Media,
 ) -> Result<Served, RequestFault>
     requires writer { has_failed writer.old ≡ false }
     requires empty { room.old.items ≡ [] }
     requires room { 256 ≤ vec_capacity room.old }
     ensures ok { IfOk result (λ served. (served ≡ Served.Answered (told_status told.now))
-        × Took W.contents writer.old writer.new (told_in form is_status_page told.now)) }
-    ensures err { OnErr result (TookFront W.contents writer.old writer.new (told_in form is_status_page told.now)) }
+        × Took W.contents writer.old writer.new (told_in form media told.now)) }
+    ensures err { OnErr result (TookFront W.contents writer.old writer.new (told_in form media told.now)) }
     ensures write { IfErr result (λ e. e ≡ RequestFault.Write) }
     ensures unfailed { OnOk result (has_failed writer.new ≡ false) }
     ensures failed { OnErr result (has_failed writer.new ≡ true) }
 {
     let status = status_of(told);
     let text = text_of(told);
-    let kind = kind_of(told, is_status_page);
+    let kind = kind_of(told, media);
     match write_answer(writer, room, form, status, kind, text.len(), "", text) {
         Ok(()) => Ok(Served::Answered(status)),
         Err(_) => Err(RequestFault::Write),
@@ -154,10 +159,10 @@ fn tell_lines<G: Respond, W: Write>(
 {
     match gate.show_stream(alloc, wanted, front_of(form).as_bytes(), writer) {
         Ok(()) => Ok(Served::Answered(200)),
-        Err(StreamFault::Missing) => refuse(writer, room, form, missing_of(wanted), false),
+        Err(StreamFault::Missing) => refuse(writer, room, form, missing_of(wanted), Extent::Whole),
         Err(StreamFault::Unavailable) => {
             let said = Told::Answer(Answer::Refused(Refusal::Unavailable));
-            tell(writer, room, form, &said, false)
+            tell(writer, room, form, &said, Media::Json)
         }
         Err(StreamFault::Broken) => Err(RequestFault::Store),
         Err(StreamFault::Write) => Err(RequestFault::Write),
@@ -191,7 +196,7 @@ pub(crate) fn answer_wanted<G: Respond, W: Write>(
     match wanted {
         Wanted::Ask(question) => {
             let said = ask(alloc, gate, question);
-            tell(writer, room, form, &said, is_status(question))
+            tell(writer, room, form, &said, media_of(question))
         }
         Wanted::Lines(stream) => tell_lines(alloc, gate, writer, room, form, stream),
     }

@@ -12,7 +12,7 @@ use crate::head::{Came, HEAD_LIMIT, read_head};
 use crate::request::{Decision, decide};
 use crate::request_fault::RequestFault;
 use crate::respond::{Respond, Told};
-use crate::response::{Form, HEAD_ROOM};
+use crate::response::{Extent, Form, HEAD_ROOM, Media};
 use crate::routes::{Route, router};
 use crate::served::Served;
 use gate_types::limits::MOST_BYTES;
@@ -56,19 +56,25 @@ fn answer<G: Respond, R: Read, W: Write>(
     let form = Form::Response;
     match read_head(reader, head) {
         Ok(Came::Nothing) => return Ok(Served::Nothing),
-        Ok(Came::Part) => return refuse(writer, room, form, HttpFault::Cut, false),
-        Ok(Came::TooMuch) => return refuse(writer, room, form, HttpFault::HeadTooLarge, false),
+        Ok(Came::Part) => return refuse(writer, room, form, HttpFault::Cut, Extent::Whole),
+        Ok(Came::TooMuch) => return refuse(
+            writer,
+            room,
+            form,
+            HttpFault::HeadTooLarge,
+            Extent::Whole,
+        ),
         Ok(Came::Whole) => {}
         Err(_) => return Err(RequestFault::Read),
     }
     match decide(router, head.as_slice()) {
-        Decision::Refuse(fault, bodiless) => refuse(writer, room, form, fault, bodiless),
+        Decision::Refuse(fault, extent) => refuse(writer, room, form, fault, extent),
         Decision::Post(door, n) => match read_body(reader, body, n) {
             Ok(true) => {
                 let said = gate.hear(alloc, door, body.as_slice());
-                tell(writer, room, form, &Told::Answer(said), false)
+                tell(writer, room, form, &Told::Answer(said), Media::Json)
             }
-            Ok(false) => refuse(writer, room, form, HttpFault::Cut, false),
+            Ok(false) => refuse(writer, room, form, HttpFault::Cut, Extent::Whole),
             Err(_) => Err(RequestFault::Read),
         },
         Decision::Read(wanted) => answer_wanted(alloc, gate, writer, room, form, wanted),

@@ -13,7 +13,7 @@ use crate::fault::HttpFault;
 use crate::request::{Wanted, read};
 use crate::request_fault::RequestFault;
 use crate::respond::Respond;
-use crate::response::{Form, HEAD_ROOM};
+use crate::response::{Extent, Form, HEAD_ROOM};
 use crate::routes::{Route, cut_query, find_route, router};
 use crate::served::Served;
 use gate_archive::Archive;
@@ -48,7 +48,7 @@ fn is_target(path: &str) -> bool
 /// the path itself.
 fn find<'a>(router: &Router<Route>, path: &'a str) -> Result<Wanted<'a>, HttpFault>
     requires { router.now ≡ routes }
-    ensures { read_or false result ≡ got path.now }
+    ensures { read_or Extent.Whole result ≡ got path.now }
 {
     if path.len() > PATH_LIMIT {
         return Err(HttpFault::HeadTooLarge);
@@ -92,7 +92,7 @@ pub fn get<G: Respond, W: Write>(
     match (router(alloc), Vec::with_capacity(alloc, HEAD_ROOM)) {
         (Ok(router), Ok(mut room)) => match find(&router, path) {
             Ok(wanted) => answer_wanted(alloc, gate, writer, &mut room, Form::Content, wanted),
-            Err(fault) => refuse(writer, &mut room, Form::Content, fault, false),
+            Err(fault) => refuse(writer, &mut room, Form::Content, fault, Extent::Whole),
         },
         _ => Err(RequestFault::NoMemory),
     }

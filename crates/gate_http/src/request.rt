@@ -4,12 +4,13 @@ ghost use Rattle.std.specs.Str.{bytes_eq};
 ghost use Rattle.httparse.specs.Grammar.{RequestHead};
 ghost use Rattle.httparse.specs.Spans.{IsRequestAt, IsRequestWithin};
 ghost use Rattle.gate_http.specs.Routes.{routes};
-ghost use Rattle.gate_http.specs.Way.{IsRequest, Finds, decided, decided_of, posted_of, read_at, is_head};
+ghost use Rattle.gate_http.specs.Way.{IsRequest, Finds, decided, decided_of, posted_of, read_at, extent_of};
 ghost use Rattle.gate_http.specs.Parts.{view, read_by, read_or, reading};
 
 use crate::fault::HttpFault;
 use crate::fields::{BodyLength, body_length};
 use crate::respond::{Page, Stream};
+use crate::response::Extent;
 use crate::routes::{Route, cut_query, find_route, parameter, place, queue};
 use gate_wire::Door;
 use http::Method;
@@ -45,8 +46,8 @@ pub(crate) enum Wanted<'a> {
 
 /// What a head asks for.
 pub(crate) enum Decision<'a> {
-    /// An answer of HTTP's own, without its body if that is said.
-    Refuse(HttpFault, bool),
+    /// An answer of HTTP's own.
+    Refuse(HttpFault, Extent),
     /// A delivery of so many bytes.
     Post(Door, usize),
     Read(Wanted<'a>),
@@ -70,9 +71,9 @@ fn posted<'a>(door: Door, length: BodyLength) -> Decision<'a>
     ensures { view result ≡ posted_of door length }
 {
     match length {
-        BodyLength::Missing => Decision::Refuse(HttpFault::NoLength, false),
-        BodyLength::Bad => Decision::Refuse(HttpFault::BadRequest, false),
-        BodyLength::Long => Decision::Refuse(HttpFault::TooLarge, false),
+        BodyLength::Missing => Decision::Refuse(HttpFault::NoLength, Extent::Whole),
+        BodyLength::Bad => Decision::Refuse(HttpFault::BadRequest, Extent::Whole),
+        BodyLength::Long => Decision::Refuse(HttpFault::TooLarge, Extent::Whole),
         BodyLength::Bytes(n) => Decision::Post(door, n),
     }
 }
@@ -113,7 +114,7 @@ pub(crate) fn read<'a>(
     is_get: bool,
 ) -> Result<Wanted<'a>, HttpFault>
     ensures { (h : RequestHead) → bytes_eq h.method (codes "GET") ≡ is_get →
-        read_or (is_head h) result ≡ reading h path.now route }
+        read_or (extent_of h.method) result ≡ reading h path.now route }
 {
     match route {
         None => Err(HttpFault::NoRoute),
@@ -123,6 +124,17 @@ pub(crate) fn read<'a>(
             Some(wanted) if is_get => Ok(wanted),
             Some(_) => Err(HttpFault::NotGet),
         },
+    }
+}
+
+/// How much is written of an answer to this method.
+fn extent_of(method: &[u8]) -> Extent
+    ensures { result ≡ extent_of method.now }
+{
+    if method == Method::HEAD.as_str().as_bytes() {
+        Extent::Head
+    } else {
+        Extent::Whole
     }
 }
 
@@ -139,9 +151,9 @@ fn ask<'a>(
     ensures { (h : RequestHead) → IsRequestAt head.now headers.now spans h → view result ≡ decided_of (Some h) }
 {
     let method = spans.method.of(head);
-    let bodiless = method == Method::HEAD.as_str().as_bytes();
+    let extent = extent_of(method);
     let Ok(target) = from_utf8(spans.path.of(head)) else {
-        return Decision::Refuse(HttpFault::NoRoute, bodiless);
+        return Decision::Refuse(HttpFault::NoRoute, extent);
     };
     let path = cut_query(target);
     let route = find_route(router, path);
@@ -152,7 +164,7 @@ fn ask<'a>(
         Some(Route::Worker) if is_post => posted(Door::Worker, body_length(head, fields)),
         route => match read(route, path, method == Method::GET.as_str().as_bytes()) {
             Ok(wanted) => Decision::Read(wanted),
-            Err(fault) => Decision::Refuse(fault, bodiless),
+            Err(fault) => Decision::Refuse(fault, extent),
         },
     }
 }
@@ -172,10 +184,10 @@ pub(crate) fn decide<'a>(router: &Router<Route>, head: &'a [u8]) -> Decision<'a>
     let mut headers = [EMPTY_HEADER_SPAN; FIELDS];
     let found = parse(head, &mut headers);
     if line_ends(head) > LINES {
-        return Decision::Refuse(HttpFault::HeadTooLarge, false);
+        return Decision::Refuse(HttpFault::HeadTooLarge, Extent::Whole);
     }
     match found {
         Some(spans) => ask(router, head, &headers, spans),
-        None => Decision::Refuse(HttpFault::BadRequest, false),
+        None => Decision::Refuse(HttpFault::BadRequest, Extent::Whole),
     }
 }

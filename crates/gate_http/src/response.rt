@@ -25,6 +25,23 @@ pub enum Form {
     Content,
 }
 
+/// How much of an answer is written: one to `HEAD` has no content (RFC 9110, section 9.3.2).
+#[derive(Clone, Copy)]
+pub enum Extent {
+    /// The head and the content.
+    Whole,
+    /// The head alone.
+    Head,
+}
+
+/// In which form something is told.
+#[derive(Clone, Copy)]
+pub enum Media {
+    Json,
+    /// Plain text, where it is there; a refusal is JSON.
+    Plain,
+}
+
 /// The phrase of a status that is answered. Any other has none here, whatever the crate has for it.
 fn phrase_of(status: u16) -> &'static str
     ensures value { result.now ≡ phrase status }

@@ -9,7 +9,7 @@ pub returns-in-Ask-clause-write : goal.returns-in-Ask-clause-write
 returns-in-Ask-clause-write g c =
     rw c.in-Ask.is (told_front g.G.Respond.responds g.G.Respond.recalls c.args.form c.args.gate.now c.ask-said.new.gate
     (asked_by c.in-Ask.question) c.ask-said.result (TookFront g.W.Write.contents c.args.writer.now c.tell.new.writer)
-    c.tell.result c.ask-said.ensures (rw c.is_status.ensures at c.tell.ensures.err))
+    c.tell.result c.ask-said.ensures (rw c.media_of.ensures at c.tell.ensures.err))
 
 pub returns-in-Lines-clause-store : goal.returns-in-Lines-clause-store
 returns-in-Lines-clause-store g c = λ broken.

@@ -1,6 +1,7 @@
 -- What came of the lines, and what was written in their place.
-use Rattle.std.proofs.Common.{Err, false, ap, refl}
+use Rattle.std.proofs.Common.{Err, ap, refl}
 use Rattle.gate_types.specs.Tap.{TookFront}
+use Rattle.gate_http.specs.declared.response.Extent.TheVariants as extent
 use Rattle.gate_http.specs.declared.served.Served.TheVariants.{Answered}
 use Rattle.gate_http.specs.Asked.{streamed_by, missing_of}
 use Rattle.gate_http.specs.Response.{fault_in, failure_in}
@@ -17,7 +18,7 @@ returns-in-Err-Missing-clause-write g c =
     let wanted = streamed_by c.args.wanted in
     let Takes = TookFront g.W.Write.contents c.args.writer.now c.refuse.new.writer in
     written_front (Recalled g.G.Respond.recalls c.args.form c.args.gate.now wanted Takes c.show_stream.new.self)
-    (Answered 404) (Takes (fault_in c.args.form (missing_of wanted) false)) c.refuse.result
+    (Answered 404) (Takes (fault_in c.args.form (missing_of wanted) extent.Whole)) c.refuse.result
     (λ served e takes. missing e (c.in-Err-Missing.ensures.missing (ap Err c.in-Err-Missing.field-0-is)) takes)
     (rw (rw c.in-Err-Missing.field-0-is at c.in-Err-Missing.ensures.stops, c.missing_of.ensures) at c.refuse.ensures.err)
 

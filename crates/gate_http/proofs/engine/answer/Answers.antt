@@ -1,7 +1,8 @@
 -- Each response stands on what was read, on what was decided, and on what was written.
-use Rattle.std.proofs.Common.{[], false, refl, arith, ◌≤◌}
+use Rattle.std.proofs.Common.{[], refl, arith, ◌≤◌}
 use Rattle.std.proofs.KnownBytes.{Appends-nil}
 use Rattle.gate_types.specs.Tap.{Took, TookFront}
+use Rattle.gate_http.specs.declared.response.Extent.TheVariants as extent
 use Rattle.gate_http.specs.declared.fault.HttpFault.TheVariants as fault
 use Rattle.gate_http.specs.declared.respond.Told.TheVariants as told
 use Rattle.gate_http.specs.declared.response.Form.TheVariants as form
@@ -25,25 +26,25 @@ returns-in-Ok-Nothing-clause-ok g c =
 
 pub returns-in-Ok-Part-clause-ok : goal.returns-in-Ok-Part-clause-ok
 returns-in-Ok-Part-clause-ok g c =
-    refused_read g.G.Respond.responds g.G.Respond.recalls form.Response _ _ c.args.gate.now fault.Cut false
+    refused_read g.G.Respond.responds g.G.Respond.recalls form.Response _ _ c.args.gate.now fault.Cut extent.Whole
     (Took g.W.Write.contents c.args.writer.now c.refuse.new.writer) c.refuse.result
     (read_part _ _ _ (rw c.in-Ok-Part.field-0-is at c.in-Ok-Part.ensures.ok)) c.refuse.ensures.ok
 
 pub returns-in-Ok-Part-clause-write : goal.returns-in-Ok-Part-clause-write
 returns-in-Ok-Part-clause-write g c =
-    refused_begun g.G.Respond.responds g.G.Respond.recalls form.Response _ _ c.args.gate.now fault.Cut false
+    refused_begun g.G.Respond.responds g.G.Respond.recalls form.Response _ _ c.args.gate.now fault.Cut extent.Whole
     (TookFront g.W.Write.contents c.args.writer.now c.refuse.new.writer) c.refuse.result
     (read_part _ _ _ (rw c.in-Ok-Part.field-0-is at c.in-Ok-Part.ensures.ok)) c.refuse.ensures.err
 
 pub returns-in-Ok-TooMuch-clause-ok : goal.returns-in-Ok-TooMuch-clause-ok
 returns-in-Ok-TooMuch-clause-ok g c =
-    refused_read g.G.Respond.responds g.G.Respond.recalls form.Response _ _ c.args.gate.now fault.HeadTooLarge false
+    refused_read g.G.Respond.responds g.G.Respond.recalls form.Response _ _ c.args.gate.now fault.HeadTooLarge extent.Whole
     (Took g.W.Write.contents c.args.writer.now c.refuse-in-Ok-TooMuch.new.writer) c.refuse-in-Ok-TooMuch.result
     (read_too_much _ _ _ (rw c.in-Ok-TooMuch.field-0-is at c.in-Ok-TooMuch.ensures.ok)) c.refuse-in-Ok-TooMuch.ensures.ok
 
 pub returns-in-Ok-TooMuch-clause-write : goal.returns-in-Ok-TooMuch-clause-write
 returns-in-Ok-TooMuch-clause-write g c =
-    refused_begun g.G.Respond.responds g.G.Respond.recalls form.Response _ _ c.args.gate.now fault.HeadTooLarge false
+    refused_begun g.G.Respond.responds g.G.Respond.recalls form.Response _ _ c.args.gate.now fault.HeadTooLarge extent.Whole
     (TookFront g.W.Write.contents c.args.writer.now c.refuse-in-Ok-TooMuch.new.writer) c.refuse-in-Ok-TooMuch.result
     (read_too_much _ _ _ (rw c.in-Ok-TooMuch.field-0-is at c.in-Ok-TooMuch.ensures.ok)) c.refuse-in-Ok-TooMuch.ensures.err
 
@@ -55,16 +56,16 @@ read_body-requires-clause-room g c =
 
 pub returns-in-Refuse-clause-ok : goal.returns-in-Refuse-clause-ok
 returns-in-Refuse-clause-ok g c =
-    refused_read g.G.Respond.responds g.G.Respond.recalls form.Response _ _ c.args.gate.now c.in-Refuse.fault c.in-Refuse.bodiless
+    refused_read g.G.Respond.responds g.G.Respond.recalls form.Response _ _ c.args.gate.now c.in-Refuse.fault c.in-Refuse.extent
     (Took g.W.Write.contents c.args.writer.now c.refuse-in-Refuse.new.writer) c.refuse-in-Refuse.result
-    (read_refused _ _ _ c.in-Refuse.fault c.in-Refuse.bodiless
+    (read_refused _ _ _ c.in-Refuse.fault c.in-Refuse.extent
     (rw c.in-Ok-Whole.field-0-is at c.in-Ok-Whole.ensures.ok) (rw c.as_slice.ensures.value at c.in-Refuse.ensures)) c.refuse-in-Refuse.ensures.ok
 
 pub returns-in-Refuse-clause-write : goal.returns-in-Refuse-clause-write
 returns-in-Refuse-clause-write g c =
-    refused_begun g.G.Respond.responds g.G.Respond.recalls form.Response _ _ c.args.gate.now c.in-Refuse.fault c.in-Refuse.bodiless
+    refused_begun g.G.Respond.responds g.G.Respond.recalls form.Response _ _ c.args.gate.now c.in-Refuse.fault c.in-Refuse.extent
     (TookFront g.W.Write.contents c.args.writer.now c.refuse-in-Refuse.new.writer) c.refuse-in-Refuse.result
-    (read_refused _ _ _ c.in-Refuse.fault c.in-Refuse.bodiless
+    (read_refused _ _ _ c.in-Refuse.fault c.in-Refuse.extent
     (rw c.in-Ok-Whole.field-0-is at c.in-Ok-Whole.ensures.ok) (rw c.as_slice.ensures.value at c.in-Refuse.ensures)) c.refuse-in-Refuse.ensures.err
 
 pub returns-in-Ok-true-clause-ok : goal.returns-in-Ok-true-clause-ok
@@ -93,14 +94,14 @@ returns-in-Ok-true-clause-write g c = λ failed.
 
 pub returns-in-Ok-false-clause-ok : goal.returns-in-Ok-false-clause-ok
 returns-in-Ok-false-clause-ok g c =
-    refused_read g.G.Respond.responds g.G.Respond.recalls form.Response _ _ c.args.gate.now fault.Cut false
+    refused_read g.G.Respond.responds g.G.Respond.recalls form.Response _ _ c.args.gate.now fault.Cut extent.Whole
     (Took g.W.Write.contents c.args.writer.now c.refuse-in-Ok-false.new.writer) c.refuse-in-Ok-false.result
     (read_cut _ _ _ _ _ c.in-Post.door c.in-Post.n (rw c.in-Ok-Whole.field-0-is at c.in-Ok-Whole.ensures.ok)
     (rw c.as_slice.ensures.value at c.in-Post.ensures) (rw c.in-Ok-false.field-0-test at c.in-Ok-false.ensures.ok)) c.refuse-in-Ok-false.ensures.ok
 
 pub returns-in-Ok-false-clause-write : goal.returns-in-Ok-false-clause-write
 returns-in-Ok-false-clause-write g c =
-    refused_begun g.G.Respond.responds g.G.Respond.recalls form.Response _ _ c.args.gate.now fault.Cut false
+    refused_begun g.G.Respond.responds g.G.Respond.recalls form.Response _ _ c.args.gate.now fault.Cut extent.Whole
     (TookFront g.W.Write.contents c.args.writer.now c.refuse-in-Ok-false.new.writer) c.refuse-in-Ok-false.result
     (read_cut _ _ _ _ _ c.in-Post.door c.in-Post.n (rw c.in-Ok-Whole.field-0-is at c.in-Ok-Whole.ensures.ok)
     (rw c.as_slice.ensures.value at c.in-Post.ensures) (rw c.in-Ok-false.field-0-test at c.in-Ok-false.ensures.ok)) c.refuse-in-Ok-false.ensures.err
