@@ -5,7 +5,7 @@ ghost use Rattle.sqlite.specs.Held.{state};
 ghost use Rattle.sqlite.specs.Values.{bound};
 ghost use Rattle.sqlite.specs.Given.{IsPlain};
 ghost use Rattle.sqlite.specs.Listing.{understood};
-ghost use Rattle.gate_schema.specs.Schema.{gate_schema};
+ghost use Rattle.sqlite.specs.Schema.{Schema};
 ghost use Rattle.gate_found_rows.specs.Finds.{Finds, OnlyReads, Stays};
 ghost use Rattle.gate_found_rows.specs.Reads.{IsOnlyRead};
 
@@ -60,7 +60,7 @@ pub fn read_rows<S: Alter>(
         IsTrue (state S.Store conn.old).is_open ×
         Finds sql.now (bound params.now) (state S.Store conn.old).now rows.items) }
     ensures fault { IfErr result (λ f. f ≢ BookFault.Damaged) }
-    ensures only_reads { IsPlain (understood gate_schema sql.now) →
+    ensures only_reads { (schema : Schema) → IsPlain (understood schema sql.now) →
         IsOnlyRead (state S.Store conn.old) (state S.Store conn.new) }
 {
     if !conn.is_autocommit() {

@@ -1,49 +1,21 @@
 //! Reads of a file of schema 1.
-ghost use Rattle.std.specs.Prelude.{◌≡◌, ◌≢◌, IfErr, IfOk, IsTrue, List, map};
-ghost use Rattle.sqlite.specs.Given.{IsPlain};
+ghost use Rattle.std.specs.Prelude.{◌≡◌, IfOk, List, map};
 ghost use Rattle.sqlite.specs.Held.{state};
-ghost use Rattle.sqlite.specs.Listing.{understood};
 ghost use Rattle.sqlite.specs.State.{HasCleanDisk};
-ghost use Rattle.sqlite.specs.Values.{bound};
 ghost use Rattle.gate_types.specs.declared.records.Item.{Item};
 ghost use Rattle.gate_types.specs.declared.records.Landing.{Landing};
 ghost use Rattle.gate_rows.specs.Tells.{items_of};
 ghost use Rattle.gate_schema.specs.Rows.{Stored};
-ghost use Rattle.gate_found_rows.specs.Finds.{Finds};
-ghost use Rattle.gate_queue_queries.specs.First.{HoldsLandings, IsFirstOf, IsProjectOf, first_schema, pair_shown};
+ghost use Rattle.gate_queue_queries.specs.First.{HoldsLandings, IsFirstOf, IsProjectOf, pair_shown};
 ghost use Rattle.gate_found_rows.specs.Reads.{IsOnlyRead};
 
 use gate_book_trait::BookFault;
 use gate_found_rows::columns::path_name_in;
-use gate_found_rows::fault::book_fault;
-use gate_found_rows::read::read_all;
+use gate_found_rows::read::read_rows;
 use gate_rows::values;
 use gate_types::names::{Name, PathName};
 use gate_types::numbers::ChangeNo;
-use sqlite::types::ValueRef;
 use sqlite::{Alter, Connection, Row};
-
-/// The rows that a query finds, or why there are none: `Store` within a transaction too.
-fn read_first<S: Alter>(
-    conn: &mut Connection<S>,
-    sql: &str,
-    params: &[ValueRef<'_>],
-) -> Result<Vec<Row>, BookFault>
-    ensures finds { HasCleanDisk (state S.Store conn.new) → IfOk result (λ rows.
-        IsTrue (state S.Store conn.old).is_open ×
-        Finds sql.now (bound params.now) (state S.Store conn.old).now rows.items) }
-    ensures fault { IfErr result (λ f. f ≢ BookFault.Damaged) }
-    ensures only_reads { IsPlain (understood first_schema sql.now) →
-        IsOnlyRead (state S.Store conn.old) (state S.Store conn.new) }
-{
-    if !conn.is_autocommit() {
-        return Err(BookFault::Store);
-    }
-    match read_all(conn, sql, params) {
-        Ok(rows) => Ok(rows),
-        Err(error) => Err(book_fault(&error)),
-    }
-}
 
 /// The serials of the items of a queue, front to back, each with its change.
 pub fn item_pairs<S: Alter>(conn: &mut Connection<S>, queue: &Name) -> Result<Vec<Row>, BookFault>
@@ -52,7 +24,7 @@ pub fn item_pairs<S: Alter>(conn: &mut Connection<S>, queue: &Name) -> Result<Ve
         ≡ map (λ (i : Item). pair_shown i.serial i.change) (items_of queue.now b.items)) }
     ensures only_reads { IsOnlyRead (state S.Store conn.old) (state S.Store conn.new) }
 {
-    read_first(
+    read_rows(
         conn,
         "SELECT serial, change FROM item WHERE queue = ?1 ORDER BY serial",
         &[values::text(queue.as_str())],
@@ -69,7 +41,7 @@ pub fn landing_pairs<S: Alter>(
         IfOk result (λ rows. rows.items ≡ map (λ (l : Landing). pair_shown l.serial l.change) ls) }
     ensures only_reads { IsOnlyRead (state S.Store conn.old) (state S.Store conn.new) }
 {
-    read_first(
+    read_rows(
         conn,
         "SELECT serial, change FROM landing WHERE queue = ?1 ORDER BY n",
         &[values::text(queue.as_str())],
@@ -85,7 +57,7 @@ pub fn project_name<S: Alter>(
         IfOk result (IsProjectOf b.changes number) }
     ensures only_reads { IsOnlyRead (state S.Store conn.old) (state S.Store conn.new) }
 {
-    let rows = read_first(
+    let rows = read_rows(
         conn,
         "SELECT project FROM change WHERE num = ?1",
         &[values::change(number)],

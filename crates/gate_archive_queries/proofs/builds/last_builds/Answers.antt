@@ -1,5 +1,6 @@
 use Rattle.std.proofs.Common.{◌∙◌, subst}
 use Rattle.sqlite.specs.Held.{state}
+use Rattle.gate_schema.specs.Schema.{gate_schema}
 use Rattle.gate_book_trait.specs.Reads.{Answers}
 use Rattle.gate_archive.specs.ItemText.{summary_of}
 use Rattle.gate_archive_queries.specs.Asked.{builds_of}
@@ -7,10 +8,10 @@ use Rattle.gate_archive_queries.proofs.BuildReads.{last_asks, last_found, last_i
 use Rattle.gate_archive_queries.proofs.builds.last_builds.Goals as goal
 
 pub returns-in_err-rows-clause-only_reads : goal.returns-in_err-rows-clause-only_reads
-returns-in_err-rows-clause-only_reads g c = c.read_rows.ensures.only_reads last_asks.0.1
+returns-in_err-rows-clause-only_reads g c = c.read_rows.ensures.only_reads gate_schema last_asks.0.1
 
 pub returns-clause-only_reads : goal.returns-clause-only_reads
-returns-clause-only_reads g c = c.read_rows.ensures.only_reads last_asks.0.1
+returns-clause-only_reads g c = c.read_rows.ensures.only_reads gate_schema last_asks.0.1
 
 pub returns-clause-found : goal.returns-clause-found
 returns-clause-found g c clean b shows whole =

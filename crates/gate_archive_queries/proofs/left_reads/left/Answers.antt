@@ -1,5 +1,6 @@
 use Rattle.std.proofs.Common.{◌∙◌, eqb}
 use Rattle.sqlite.specs.Held.{state}
+use Rattle.gate_schema.specs.Schema.{gate_schema}
 use Rattle.gate_schema.specs.Rows.{QueueReport}
 use Rattle.gate_found_rows.proofs.ShownLemmas.{answers_told, pass_filter}
 use Rattle.gate_archive_queries.specs.Asked.{is_left_in_form, left_row}
@@ -7,10 +8,10 @@ use Rattle.gate_archive_queries.proofs.LeftReads.{left_asks, left_found}
 use Rattle.gate_archive_queries.proofs.left_reads.left.Goals as goal
 
 pub returns-in_err-rows-clause-only_reads : goal.returns-in_err-rows-clause-only_reads
-returns-in_err-rows-clause-only_reads g c = c.read_rows.ensures.only_reads left_asks.0.1
+returns-in_err-rows-clause-only_reads g c = c.read_rows.ensures.only_reads gate_schema left_asks.0.1
 
 pub returns-clause-only_reads : goal.returns-clause-only_reads
-returns-clause-only_reads g c = c.read_rows.ensures.only_reads left_asks.0.1
+returns-clause-only_reads g c = c.read_rows.ensures.only_reads gate_schema left_asks.0.1
 
 pub returns-clause-found : goal.returns-clause-found
 returns-clause-found g c clean b shows form =

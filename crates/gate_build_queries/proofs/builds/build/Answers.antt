@@ -1,5 +1,6 @@
 use Rattle.std.proofs.Common.{◌∙◌, eqb}
 use Rattle.sqlite.specs.Held.{state}
+use Rattle.gate_schema.specs.Schema.{gate_schema}
 use Rattle.gate_schema.specs.Rows.{build_key}
 use Rattle.gate_found_rows.specs.Whole.{is_build_row_in_form}
 use Rattle.gate_build_queries.proofs.BuildReads.{build_found}
@@ -8,10 +9,10 @@ use Rattle.gate_found_rows.proofs.ShownLemmas.{answers_found, pass_filter}
 use Rattle.gate_build_queries.proofs.builds.build.Goals as goal
 
 pub returns-in_err-rows-clause-only_reads : goal.returns-in_err-rows-clause-only_reads
-returns-in_err-rows-clause-only_reads g c = c.read_rows.ensures.only_reads build_asks.0.1
+returns-in_err-rows-clause-only_reads g c = c.read_rows.ensures.only_reads gate_schema build_asks.0.1
 
 pub returns-clause-only_reads : goal.returns-clause-only_reads
-returns-clause-only_reads g c = c.read_rows.ensures.only_reads build_asks.0.1
+returns-clause-only_reads g c = c.read_rows.ensures.only_reads gate_schema build_asks.0.1
 
 pub returns-clause-found : goal.returns-clause-found
 returns-clause-found g c clean b shows whole =

@@ -1,14 +1,15 @@
 use Rattle.std.proofs.Common.{◌≡◌, ◌∙◌, ap, arith, eqb, length, not}
 use Rattle.sqlite.specs.Held.{state}
+use Rattle.gate_schema.specs.Schema.{gate_schema}
 use Rattle.gate_build_queries.proofs.PlanReads.{fast_found, found_is_any}
 use Rattle.gate_build_queries.proofs.PlanTexts.{fast_asks}
 use Rattle.gate_build_queries.proofs.plans.is_fast.Goals as goal
 
 pub returns-in_err-rows-clause-only_reads : goal.returns-in_err-rows-clause-only_reads
-returns-in_err-rows-clause-only_reads g c = c.read_rows.ensures.only_reads fast_asks.0.1
+returns-in_err-rows-clause-only_reads g c = c.read_rows.ensures.only_reads gate_schema fast_asks.0.1
 
 pub returns-clause-only_reads : goal.returns-clause-only_reads
-returns-clause-only_reads g c = c.read_rows.ensures.only_reads fast_asks.0.1
+returns-clause-only_reads g c = c.read_rows.ensures.only_reads gate_schema fast_asks.0.1
 
 pub returns-clause-found : goal.returns-clause-found
 returns-clause-found g c clean b shows whole =

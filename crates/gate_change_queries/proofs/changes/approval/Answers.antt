@@ -1,6 +1,7 @@
 use Rattle.std.proofs.Common.{◌∙◌, Option, eqb, filter, option_and_then, subst}
 use Rattle.sqlite.specs.Held.{state}
 use Rattle.sqlite_keyed.proofs.ListLemmas.{slice_get-filter}
+use Rattle.gate_schema.specs.Schema.{gate_schema}
 use Rattle.gate_types.specs.declared.rows.ChangeRow.{ChangeRow}
 use Rattle.gate_book_trait.specs.Reads.{Answers}
 use Rattle.gate_schema.specs.Rows.{change_key}
@@ -9,10 +10,10 @@ use Rattle.gate_change_queries.proofs.ChangeTexts.{approval_asks}
 use Rattle.gate_change_queries.proofs.changes.approval.Goals as goal
 
 pub returns-in_err-rows-clause-only_reads : goal.returns-in_err-rows-clause-only_reads
-returns-in_err-rows-clause-only_reads g c = c.read_rows.ensures.only_reads approval_asks.0.1
+returns-in_err-rows-clause-only_reads g c = c.read_rows.ensures.only_reads gate_schema approval_asks.0.1
 
 pub returns-clause-only_reads : goal.returns-clause-only_reads
-returns-clause-only_reads g c = c.read_rows.ensures.only_reads approval_asks.0.1
+returns-clause-only_reads g c = c.read_rows.ensures.only_reads gate_schema approval_asks.0.1
 
 pub returns-clause-found : goal.returns-clause-found
 returns-clause-found g c clean b shows whole =

@@ -1,5 +1,6 @@
 use Rattle.std.proofs.Common.{◌∙◌, eqb, filter, subst}
 use Rattle.sqlite.specs.Held.{state}
+use Rattle.gate_schema.specs.Schema.{gate_schema}
 use Rattle.gate_book_trait.specs.Reads.{Answers}
 use Rattle.gate_schema.specs.Rows.{ItemRow, item_key}
 use Rattle.gate_item_queries.proofs.ItemReads.{first_is, item_found}
@@ -7,10 +8,10 @@ use Rattle.gate_item_queries.proofs.ItemTexts.{item_is}
 use Rattle.gate_item_queries.proofs.item_reads.item.Goals as goal
 
 pub returns-in_err-rows-clause-only_reads : goal.returns-in_err-rows-clause-only_reads
-returns-in_err-rows-clause-only_reads g c = c.read_rows.ensures.only_reads item_is.0.1
+returns-in_err-rows-clause-only_reads g c = c.read_rows.ensures.only_reads gate_schema item_is.0.1
 
 pub returns-clause-only_reads : goal.returns-clause-only_reads
-returns-clause-only_reads g c = c.read_rows.ensures.only_reads item_is.0.1
+returns-clause-only_reads g c = c.read_rows.ensures.only_reads gate_schema item_is.0.1
 
 pub returns-clause-found : goal.returns-clause-found
 returns-clause-found g c clean b shows whole =

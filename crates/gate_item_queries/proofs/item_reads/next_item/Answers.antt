@@ -1,5 +1,6 @@
 use Rattle.std.proofs.Common.{◌∙◌, ◌<◌, ltb}
 use Rattle.sqlite.specs.Held.{state}
+use Rattle.gate_schema.specs.Schema.{gate_schema}
 use Rattle.gate_types.specs.Names.{same_name}
 use Rattle.gate_types.specs.declared.records.Item.{Item}
 use Rattle.gate_schema.specs.Rows.{ItemRow}
@@ -9,10 +10,10 @@ use Rattle.gate_item_queries.proofs.NextReads.{first_answers, next_found, next_i
 use Rattle.gate_item_queries.proofs.item_reads.next_item.Goals as goal
 
 pub returns-in_err-rows-clause-only_reads : goal.returns-in_err-rows-clause-only_reads
-returns-in_err-rows-clause-only_reads g c = c.read_rows.ensures.only_reads next_is.0.1
+returns-in_err-rows-clause-only_reads g c = c.read_rows.ensures.only_reads gate_schema next_is.0.1
 
 pub returns-clause-only_reads : goal.returns-clause-only_reads
-returns-clause-only_reads g c = c.read_rows.ensures.only_reads next_is.0.1
+returns-clause-only_reads g c = c.read_rows.ensures.only_reads gate_schema next_is.0.1
 
 pub returns-clause-found : goal.returns-clause-found
 returns-clause-found g c clean b shows whole =

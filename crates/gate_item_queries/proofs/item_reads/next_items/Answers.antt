@@ -1,6 +1,7 @@
 use Rattle.std.proofs.Common.{◌∙◌, ap, filter, ltb, subst, sym, take}
 use Rattle.std.proofs.lemmas.List.{take-map}
 use Rattle.sqlite.specs.Held.{state}
+use Rattle.gate_schema.specs.Schema.{gate_schema}
 use Rattle.gate_book_trait.specs.Reads.{Answers}
 use Rattle.gate_types.specs.Names.{same_name}
 use Rattle.gate_types.specs.declared.records.Item.{Item}
@@ -11,10 +12,10 @@ use Rattle.gate_item_queries.proofs.NextReads.{is_next, several_found}
 use Rattle.gate_item_queries.proofs.item_reads.next_items.Goals as goal
 
 pub returns-in_err-rows-clause-only_reads : goal.returns-in_err-rows-clause-only_reads
-returns-in_err-rows-clause-only_reads g c = c.read_rows.ensures.only_reads several_is.0.1
+returns-in_err-rows-clause-only_reads g c = c.read_rows.ensures.only_reads gate_schema several_is.0.1
 
 pub returns-clause-only_reads : goal.returns-clause-only_reads
-returns-clause-only_reads g c = c.read_rows.ensures.only_reads several_is.0.1
+returns-clause-only_reads g c = c.read_rows.ensures.only_reads gate_schema several_is.0.1
 
 pub returns-clause-found : goal.returns-clause-found
 returns-clause-found g c clean b shows whole =

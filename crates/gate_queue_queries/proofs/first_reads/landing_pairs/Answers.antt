@@ -1,11 +1,12 @@
 use Rattle.std.proofs.lemmas.Result.{IfOk-weaker}
 use Rattle.sqlite.specs.Held.{state}
+use Rattle.gate_queue_queries.specs.First.{first_schema}
 use Rattle.gate_queue_queries.proofs.FirstReads.{landing_pairs_asks, landing_pairs_found}
 use Rattle.gate_queue_queries.proofs.first_reads.landing_pairs.Goals as goal
 
 pub returns-clause-only_reads : goal.returns-clause-only_reads
-returns-clause-only_reads g c = c.read_first.ensures.only_reads landing_pairs_asks.1
+returns-clause-only_reads g c = c.read_rows.ensures.only_reads first_schema landing_pairs_asks.1
 
 pub returns-clause-found : goal.returns-clause-found
 returns-clause-found g c clean b shows ls holds =
-    IfOk-weaker c.read_first.result _ _ (λ rows it. landing_pairs_found (state g.S.Store c.args.conn.now) b c.args.queue.now ls rows.items (shows it.0) holds (rw (c.text.ensures, c.as_str.ensures.value) at it.1)) (c.read_first.ensures.finds clean)
+    IfOk-weaker c.read_rows.result _ _ (λ rows it. landing_pairs_found (state g.S.Store c.args.conn.now) b c.args.queue.now ls rows.items (shows it.0) holds (rw (c.text.ensures, c.as_str.ensures.value) at it.1)) (c.read_rows.ensures.finds clean)

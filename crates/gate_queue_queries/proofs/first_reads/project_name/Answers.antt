@@ -2,18 +2,19 @@ use Rattle.std.proofs.Common.{◌≡◌, ◌∙◌, ap, arith, get_or, length, s
 use Rattle.std.proofs.lemmas.Result.{IfOk-weaker}
 use Rattle.sqlite.specs.Held.{state}
 use Rattle.sqlite_value.specs.Order.{column}
+use Rattle.gate_queue_queries.specs.First.{first_schema}
 use Rattle.gate_queue_queries.specs.First.{IsProjectOf}
 use Rattle.gate_queue_queries.proofs.FirstReads.{project_asks, project_shown}
 use Rattle.gate_queue_queries.proofs.first_reads.project_name.Goals as goal
 
 pub returns-in_err-rows-clause-only_reads : goal.returns-in_err-rows-clause-only_reads
-returns-in_err-rows-clause-only_reads g c = c.read_first.ensures.only_reads project_asks.1
+returns-in_err-rows-clause-only_reads g c = c.read_rows.ensures.only_reads first_schema project_asks.1
 
 pub returns-in-len1-clause-only_reads : goal.returns-in-len1-clause-only_reads
-returns-in-len1-clause-only_reads g c = c.read_first.ensures.only_reads project_asks.1
+returns-in-len1-clause-only_reads g c = c.read_rows.ensures.only_reads first_schema project_asks.1
 
 pub returns-clause-only_reads : goal.returns-clause-only_reads
-returns-clause-only_reads g c = c.read_first.ensures.only_reads project_asks.1
+returns-clause-only_reads g c = c.read_rows.ensures.only_reads first_schema project_asks.1
 
 pub returns-in-len1-clause-found : goal.returns-in-len1-clause-found
 returns-in-len1-clause-found g c clean b shows =

@@ -1,5 +1,6 @@
 use Rattle.std.proofs.Common.{◌∷◌, [], ◌∙◌, ap, length}
 use Rattle.sqlite.specs.Held.{state}
+use Rattle.gate_schema.specs.Schema.{gate_schema}
 use Rattle.gate_rows.specs.Tells.{items_of}
 use Rattle.gate_queue_queries.proofs.CountReads.{counted_is}
 use Rattle.gate_queue_queries.proofs.QueueReads.{count_found}
@@ -7,10 +8,10 @@ use Rattle.gate_queue_queries.proofs.QueueTexts.{count_asks}
 use Rattle.gate_queue_queries.proofs.queues.item_count.Goals as goal
 
 pub returns-in_err-rows-clause-only_reads : goal.returns-in_err-rows-clause-only_reads
-returns-in_err-rows-clause-only_reads g c = c.read_rows.ensures.only_reads count_asks.0.1
+returns-in_err-rows-clause-only_reads g c = c.read_rows.ensures.only_reads gate_schema count_asks.0.1
 
 pub returns-clause-only_reads : goal.returns-clause-only_reads
-returns-clause-only_reads g c = c.read_rows.ensures.only_reads count_asks.0.1
+returns-clause-only_reads g c = c.read_rows.ensures.only_reads gate_schema count_asks.0.1
 
 pub returns-clause-found : goal.returns-clause-found
 returns-clause-found g c clean b shows whole =

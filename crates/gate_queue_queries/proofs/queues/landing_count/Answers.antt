@@ -1,15 +1,16 @@
 use Rattle.std.proofs.Common.{◌∙◌}
 use Rattle.sqlite.specs.Held.{state}
+use Rattle.gate_schema.specs.Schema.{gate_schema}
 use Rattle.gate_found_rows.proofs.GreatestLemmas.{answers_greatest}
 use Rattle.gate_queue_queries.proofs.QueueReads.{landing_found}
 use Rattle.gate_queue_queries.proofs.QueueTexts.{landing_asks}
 use Rattle.gate_queue_queries.proofs.queues.landing_count.Goals as goal
 
 pub returns-in_err-rows-clause-only_reads : goal.returns-in_err-rows-clause-only_reads
-returns-in_err-rows-clause-only_reads g c = c.read_rows.ensures.only_reads landing_asks.0.1
+returns-in_err-rows-clause-only_reads g c = c.read_rows.ensures.only_reads gate_schema landing_asks.0.1
 
 pub returns-clause-only_reads : goal.returns-clause-only_reads
-returns-clause-only_reads g c = c.read_rows.ensures.only_reads landing_asks.0.1
+returns-clause-only_reads g c = c.read_rows.ensures.only_reads gate_schema landing_asks.0.1
 
 pub returns-clause-found : goal.returns-clause-found
 returns-clause-found g c clean b shows whole =

@@ -1,5 +1,6 @@
 use Rattle.std.proofs.Common.{◌∙◌}
 use Rattle.sqlite.specs.Held.{state}
+use Rattle.gate_schema.specs.Schema.{gate_schema}
 use Rattle.gate_types.specs.Names.{same_name}
 use Rattle.gate_schema.specs.Rows.{QueueRow}
 use Rattle.gate_queue_queries.proofs.QueueReads.{window_found, windows_in_form}
@@ -8,10 +9,10 @@ use Rattle.gate_found_rows.proofs.ShownLemmas.{answers_told}
 use Rattle.gate_queue_queries.proofs.queues.window.Goals as goal
 
 pub returns-in_err-rows-clause-only_reads : goal.returns-in_err-rows-clause-only_reads
-returns-in_err-rows-clause-only_reads g c = c.read_rows.ensures.only_reads window_asks.0.1
+returns-in_err-rows-clause-only_reads g c = c.read_rows.ensures.only_reads gate_schema window_asks.0.1
 
 pub returns-clause-only_reads : goal.returns-clause-only_reads
-returns-clause-only_reads g c = c.read_rows.ensures.only_reads window_asks.0.1
+returns-clause-only_reads g c = c.read_rows.ensures.only_reads gate_schema window_asks.0.1
 
 pub returns-clause-found : goal.returns-clause-found
 returns-clause-found g c clean b shows whole =
