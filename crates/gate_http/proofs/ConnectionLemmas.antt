@@ -35,6 +35,7 @@ use Rattle.gate_http.specs.declared.response.Form.TheVariants as form
 use Rattle.gate_http.specs.Way.{Way, silence, refusal, question, stream, Request, way_of}
 use Rattle.gate_http.specs.Answer.{calls_made, gate_after, is_503}
 use Rattle.gate_http.specs.Serving.{CrashLeaves, Serves, ServesStream, ServesBy}
+use Rattle.gate_http.specs.RequestFaults.{request_fault_text}
 use Rattle.gate_http.specs.Connections.{CalledOver, fault_line, fault_lines, AreTold}
 
 -- ---- calls
@@ -47,7 +48,7 @@ one_read u (Err e) = omega arith
 -- a request is at most one
 one_call : (u : Bool) (w : Way) → length (calls_made u w) ≤ 1
 one_call u silence = omega arith
-one_call u (refusal f bodiless) = omega arith
+one_call u (refusal f x) = omega arith
 one_call u (question (delivery door body)) = one_read u (says door body)
 one_call u (question (page p)) = omega arith
 one_call u (question (build text)) = omega arith
@@ -133,7 +134,7 @@ module _ {B : Type 0} (trusted : B → Type 0) (holds : B → Settings → Conte
       → ServesBy trusted holds leaves old new w served Takes
       → Goes trusted holds old new (CalledOver leaves 1 old new)
   done_once old new silence served Takes h = served_once old new silence served h.0 h.2
-  done_once old new (refusal f bodiless) served Takes h = served_once old new (refusal f bodiless) served h.0 h.2
+  done_once old new (refusal f x) served Takes h = served_once old new (refusal f x) served h.0 h.2
   done_once old new (question asked) served Takes h = served_once old new (question asked) served h.0 h.2
   done_once old new (stream wanted) served Takes h = recalled_once old new wanted served Takes h
 
@@ -233,7 +234,7 @@ module _ {T : Type 0} (held : T → Option (List ℕ)) where
   both_told : (old mid new : Tap T) (faults : List RequestFault) (f : RequestFault) → has_failed mid ≡ false
       → AreTold held old mid faults → AreTold held mid new (f ∷ []) → AreTold held old new (faults ++ f ∷ [])
   both_told old mid new faults f unfailed first next =
-      let joined = sym (flat_map-append fault_line faults (f ∷ [])) in record {
+      let joined = sym (flat_map-append (λ g. fault_line (request_fault_text g)) faults (f ∷ [])) in record {
         whole = λ e. subst (Took held old new) joined (Appends-trans (held (inside old)) (held (inside mid))
             (held (inside new)) (fault_lines faults) (fault_lines (f ∷ [])) (first.whole unfailed) (next.whole e));
         cut = λ e. subst (TookFront held old new) joined (writes_later (held (inside old)) (held (inside mid))

@@ -24,13 +24,13 @@ abbrev pub CalledOver : {B : Type 0} → (B → Settings → List Content → Ty
 CalledOver leaves most old new g after =
     (called : IsCalled most g after) × LeavesBy leaves old new g called.calls
 
--- the line that tells of a fault
-abbrev pub fault_line : RequestFault → List ℕ
-fault_line f = codes "gated: " ++ (request_fault_text f ++ 10 ∷ [])
+-- the line that tells of a fault by its text
+abbrev pub fault_line : List ℕ → List ℕ
+fault_line text = codes "gated: " ++ (text ++ 10 ∷ [])
 
 -- a line for each of these faults
 abbrev pub fault_lines : List RequestFault → List ℕ
-fault_lines faults = flat_map fault_line faults
+fault_lines faults = flat_map (λ f. fault_line (request_fault_text f)) faults
 
 -- faults were told by a line each; of the lines a writer that failed took a beginning
 pub record AreTold {T : Type 0} (held : T → Option (List ℕ)) (old new : Tap T) (faults : List RequestFault) :

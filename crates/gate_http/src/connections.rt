@@ -25,16 +25,20 @@ use std::net::{OpenListener, OpenStream, Shutdown};
 #[derive(Clone, Copy, Debug, PartialEq, Eq)]
 pub struct NotListening;
 
-/// Writes the line that tells of a fault, or a beginning of it where the writer fails.
-fn write_fault<E: Write>(fault: RequestFault, errors: &mut Tap<E>) -> Result<(), Failed>
+/// Writes the line that tells of a fault by its text, or a beginning of it where the writer fails.
+///
+/// # Errors
+///
+/// `Failed` where the writer failed.
+pub fn write_fault<E: Write>(text: &str, errors: &mut Tap<E>) -> Result<(), Failed>
     requires { has_failed errors.old ≡ false }
-    ensures ok { OnOk result (Took E.contents errors.old errors.new (fault_line fault)) }
+    ensures ok { OnOk result (Took E.contents errors.old errors.new (fault_line text.now)) }
     ensures unfailed { OnOk result (has_failed errors.new ≡ false) }
-    ensures err { OnErr result (TookFront E.contents errors.old errors.new (fault_line fault)) }
+    ensures err { OnErr result (TookFront E.contents errors.old errors.new (fault_line text.now)) }
     ensures failed { OnErr result (has_failed errors.new ≡ true) }
 {
     errors.write_all(b"gated: ")?;
-    errors.write_line(fault.text())?;
+    errors.write_line(text)?;
     Ok(())
 }
 
@@ -44,7 +48,7 @@ fn tell<E: Write>(fault: RequestFault, errors: &mut Tap<E>)
     ensures silent { has_failed errors.old ≡ true → errors.new ≡ errors.old }
 {
     if !errors.failed() {
-        let _ = write_fault(fault, errors);
+        let _ = write_fault(fault.text(), errors);
     }
 }
 

@@ -28,7 +28,7 @@ mod routes;
 mod served;
 mod serving;
 
-pub use connections::{NotListening, serve};
+pub use connections::{NotListening, serve, write_fault};
 pub use engine::answer_request;
 pub use getting::{get, get_one};
 pub use request_fault::RequestFault;

@@ -1,5 +1,5 @@
 -- What is told of a fault.
-use Rattle.std.specs.Prelude.{ℕ, List, [], ◌∷◌, ◌++◌, codes}
+use Rattle.std.specs.Prelude.{ℕ, List, ◌++◌, codes}
 use Rattle.gate_config.specs.Words.{word_of}
 use Rattle.gate_config.specs.declared.fault.ConfigFault.{ConfigFault}
 use Rattle.gate_config.specs.declared.fault.ConfigFault.TheVariants as config
@@ -12,6 +12,7 @@ use Rattle.gate_core.specs.declared.fault.ReplayFault.TheVariants as replay
 use Rattle.gate_http.specs.declared.request_fault.RequestFault.{RequestFault}
 use Rattle.gate_http.specs.declared.request_fault.RequestFault.TheVariants as request
 use Rattle.gate_http.specs.RequestFaults.{request_fault_text}
+use Rattle.gate_http.specs.Connections.{fault_line}
 use Rattle.gate_types.specs.declared.open_fault.OpenFault.{OpenFault}
 use Rattle.gate_types.specs.declared.open_fault.OpenFault.TheVariants as file
 use Rattle.gated_cli.specs.declared.run.fault.Fault.{Fault}
@@ -59,7 +60,7 @@ text_of fault.Refused = codes "I9 refused"
 
 -- the line that tells a fault
 abbrev pub line_of : Fault → List ℕ
-line_of f = codes "gated: " ++ text_of f ++ 10 ∷ []
+line_of f = fault_line (text_of f)
 
 -- a fault of a replay
 abbrev pub of_replay : ReplayFault → Fault

@@ -32,13 +32,14 @@ use crate::run::showing::write_status;
 pub use fault::Fault;
 use gate_book::MemBook;
 use gate_core::{Gate, replay};
+use gate_http::write_fault;
 use gate_laws::forms::empty_is_in_form;
 use gate_laws::runs::start_is_lawful;
 use gate_laws::typed::settings_are_in_form;
 use gate_sql::Migrated;
 use gate_types::config::Config;
 use gate_types::names::NoMemory;
-use gate_types::tap::{Failed, Tap};
+use gate_types::tap::Tap;
 use gated_command::Cmd;
 use std::alloc::Global;
 use std::fs;
@@ -96,22 +97,14 @@ pub fn ended<E: Write>(done: Result<(), Fault>, errors: &mut Tap<E>) -> u8
 }
 
 /// Tells the fault, unless one before it couldn't be told.
+#[tactic(auto, using(crate::proofs::TellLemmas::told_either))]
 fn tell<E: Write>(fault: Fault, errors: &mut Tap<E>)
     ensures told { has_failed errors.old ≡ false → Tells E.contents errors.old errors.new (line_of fault) }
     ensures silent { has_failed errors.old ≡ true → errors.new ≡ errors.old }
 {
     if !errors.failed() {
-        let _ = write_fault(fault, errors);
+        let _ = write_fault(fault.text(), errors);
     }
-}
-
-fn write_fault<E: Write>(fault: Fault, errors: &mut Tap<E>) -> Result<(), Failed>
-    requires { has_failed errors.old ≡ false }
-    ensures { Tells E.contents errors.old errors.new (line_of fault) }
-{
-    errors.write_all(b"gated: ")?;
-    errors.write_line(fault.text())?;
-    Ok(())
 }
 
 fn perform<F: Files + GateFiles + AllocGlobal, R: Read, W: Write, E: Write>(

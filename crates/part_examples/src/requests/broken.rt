@@ -7,6 +7,8 @@ use crate::requests::streams::{Pace, Stream};
 use gate_archive::Archive;
 use gate_book::MemBook;
 use gate_core::Gate;
+use gate_http::write_fault;
+use gate_types::tap::Tap;
 use std::alloc::Global;
 use std::io;
 use std::io::ErrorKind;
@@ -75,4 +77,20 @@ fn faults_are_told<B: Archive>(rt: &(impl Abort + AllocGlobal), gate: &mut Gate<
 #[test]
 fn a_fault_is_told_and_the_next_is_served(rt: HostRuntime) {
     faults_are_told(&rt, &mut Gate::<MemBook>::fresh(&rt));
+}
+
+#[test]
+fn a_fault_is_a_line_of_its_text(rt: HostRuntime) {
+    let mut errors = Tap::new(Vec::new(rt.alloc()));
+    holds(
+        &rt,
+        write_fault("I2 write", &mut errors).is_ok(),
+        "a writer that takes all",
+    );
+    let told = errors.into_inner();
+    holds(
+        &rt,
+        told.as_slice() == b"gated: I2 write\n".as_slice(),
+        "the line of a fault",
+    );
 }
