@@ -64,7 +64,7 @@ queued_at test queues k t o l at e =
 
 -- where there is room for one more, there is room
 pub changes_less : (n k m : ℕ) (t : ChangeTable) → change.HasRoom (suc n) (k + m) t → change.HasRoom n m t
-changes_less n k m t room = let r = room.rows in let p = room.places in let q = room.ready in let u = room.needs in record { rows = omega (arith, r); places = omega (arith, p); ready = omega (arith, q); needs = omega (arith, u) }
+changes_less n k m t room = let r = room.rows in let p = room.positions in let q = room.ready in let u = room.needs in record { rows = omega (arith, r); positions = omega (arith, p); ready = omega (arith, q); needs = omega (arith, u) }
 
 pub plans_less : (n : ℕ) (t : PlanTable) → plan.HasRoom (suc n) t → plan.HasRoom n t
 plans_less n t room = omega (arith, room)
@@ -73,10 +73,10 @@ pub builds_less : (n : ℕ) (t : BuildTable) → HaveRoom (suc n) t → HaveRoom
 builds_less n t room = let r = room.rows in let q = room.live in let a = room.told in record { rows = omega (arith, r); live = omega (arith, q); told = omega (arith, a) }
 
 pub replies_less : (n : ℕ) (t : ReplyTable) → reply.HasRoom (suc n) t → reply.HasRoom n t
-replies_less n t room = let r = room.rows in let q = room.places in record { rows = omega (arith, r); places = omega (arith, q) }
+replies_less n t room = let r = room.rows in let q = room.positions in record { rows = omega (arith, r); positions = omega (arith, q) }
 
 changes_one : (n k m : ℕ) (t : ChangeTable) → change.HasRoom (suc n) (k + m) t → change.HasRoom 1 k t
-changes_one n k m t room = let r = room.rows in let p = room.places in let q = room.ready in let u = room.needs in record { rows = omega (arith, r); places = omega (arith, p); ready = omega (arith, q); needs = omega (arith, u) }
+changes_one n k m t room = let r = room.rows in let p = room.positions in let q = room.ready in let u = room.needs in record { rows = omega (arith, r); positions = omega (arith, p); ready = omega (arith, q); needs = omega (arith, u) }
 
 plans_one : (n : ℕ) (t : PlanTable) → plan.HasRoom (suc n) t → plan.HasRoom 1 t
 plans_one n t room = omega (arith, room)
@@ -85,7 +85,7 @@ builds_one : (n : ℕ) (t : BuildTable) → HaveRoom (suc n) t → HaveRoom 1 t
 builds_one n t room = let r = room.rows in let q = room.live in let a = room.told in record { rows = omega (arith, r); live = omega (arith, q); told = omega (arith, a) }
 
 replies_one : (n : ℕ) (t : ReplyTable) → reply.HasRoom (suc n) t → reply.HasRoom 1 t
-replies_one n t room = let r = room.rows in let q = room.places in record { rows = omega (arith, r); places = omega (arith, q) }
+replies_one n t room = let r = room.rows in let q = room.positions in record { rows = omega (arith, r); positions = omega (arith, q) }
 
 reports_one : (n : ℕ) (t : ReportTable) → report.HasRoom (suc n) t → report.HasRoom 1 t
 reports_one n t room = let r = room.rows in let e = room.entries in record { rows = omega (arith, r); entries = omega (arith, e) }

@@ -179,7 +179,7 @@ needs_same (_ ∷ es) = let rest = needs_same es in omega (arith, rest)
 pub room_fewer : (n m k j : ℕ) (t : ChangeTable) → k ≤ n → j ≤ m → HasRoom n m t → HasRoom k j t
 room_fewer n m k j t less few room = record {
   rows = omega (arith, room.rows);
-  places = omega (arith, room.places);
+  positions = omega (arith, room.positions);
   ready = omega (arith, room.ready);
   needs = omega (arith, room.needs);
 }

@@ -10,9 +10,9 @@ use Rattle.gate_types.specs.State.{put_by}
 use Rattle.gate_types.specs.Rising.{RisesFrom, In}
 use Rattle.gate_types.proofs.PlainLemmas.{below_or}
 use Rattle.std.proofs.lemmas.Option.{none-some, slice_get-get_or}
-use Rattle.gate_memory.specs.Sorted.{IsAt, place_in, without}
+use Rattle.gate_memory.specs.Sorted.{IsAt, position_in, without}
 
--- what stands at a place needs no default
+-- what stands at a position needs no default
 pub get_or_any : {X : Type 0} (xs : List X) (i : ℕ) (d e : X) → i < length xs → get_or xs i d ≡ get_or xs i e
 get_or_any [] i d e h = absurd (omega arith)
 get_or_any (x ∷ xs) zero d e h = refl
@@ -41,25 +41,25 @@ pub rises-more : {X : Type 0} (key : X → ℕ) (n m : ℕ) (xs : List X) → n 
 rises-more key n m [] h r = tt
 rises-more key n m (x ∷ xs) h r = let above : m ≤ key x = r.0 in (omega arith, r.1)
 
--- ---- the place of a key
+-- ---- the position of a key
 
 -- where the first is below, and where it isn't
-place_next : {X : Type 0} (key : X → ℕ) (n : ℕ) (x : X) (xs : List X) → key x < n → place_in key n (x ∷ xs) ≡ suc (place_in key n xs)
-place_next key n x xs h = ap (λ t. cond t (suc (place_in key n xs)) 0) (lt-ltb (key x) n h)
+position_next : {X : Type 0} (key : X → ℕ) (n : ℕ) (x : X) (xs : List X) → key x < n → position_in key n (x ∷ xs) ≡ suc (position_in key n xs)
+position_next key n x xs h = ap (λ t. cond t (suc (position_in key n xs)) 0) (lt-ltb (key x) n h)
 
-place_here : {X : Type 0} (key : X → ℕ) (n : ℕ) (x : X) (xs : List X) → n ≤ key x → place_in key n (x ∷ xs) ≡ 0
-place_here key n x xs h = ap (λ t. cond t (suc (place_in key n xs)) 0) (le-ltb (key x) n h)
+position_here : {X : Type 0} (key : X → ℕ) (n : ℕ) (x : X) (xs : List X) → n ≤ key x → position_in key n (x ∷ xs) ≡ 0
+position_here key n x xs h = ap (λ t. cond t (suc (position_in key n xs)) 0) (le-ltb (key x) n h)
 
--- the place that a binary search finds
-pub place_is : {X : Type 0} (key : X → ℕ) (n : ℕ) (xs : List X) (i : ℕ) → i ≤ length xs → AllWithin (λ y. nat_lt (key y) n ≡ true) xs 0 i → AllWithin (λ y. nat_lt (key y) n ≡ false) xs i (length xs) → i ≡ place_in key n xs
-place_is key n [] zero h below above = refl
-place_is key n [] (suc i) h below above = absurd (omega arith)
-place_is key n (x ∷ xs) zero h below above = sym (ap (λ t. cond t (suc (place_in key n xs)) 0) (above 0 x (omega arith) (omega arith)))
-place_is key n (x ∷ xs) (suc i) h below above =
-    ap (λ k. suc k) (place_is key n xs i (omega arith) (λ k e l m. below (suc k) e (omega arith) (omega arith)) (λ k e l m. above (suc k) e (omega arith) (omega arith)))
-    ∙ sym (ap (λ t. cond t (suc (place_in key n xs)) 0) (below 0 x (omega arith) (omega arith)))
+-- the position that a binary search finds
+pub position_is : {X : Type 0} (key : X → ℕ) (n : ℕ) (xs : List X) (i : ℕ) → i ≤ length xs → AllWithin (λ y. nat_lt (key y) n ≡ true) xs 0 i → AllWithin (λ y. nat_lt (key y) n ≡ false) xs i (length xs) → i ≡ position_in key n xs
+position_is key n [] zero h below above = refl
+position_is key n [] (suc i) h below above = absurd (omega arith)
+position_is key n (x ∷ xs) zero h below above = sym (ap (λ t. cond t (suc (position_in key n xs)) 0) (above 0 x (omega arith) (omega arith)))
+position_is key n (x ∷ xs) (suc i) h below above =
+    ap (λ k. suc k) (position_is key n xs i (omega arith) (λ k e l m. below (suc k) e (omega arith) (omega arith)) (λ k e l m. above (suc k) e (omega arith) (omega arith)))
+    ∙ sym (ap (λ t. cond t (suc (position_in key n xs)) 0) (below 0 x (omega arith) (omega arith)))
 
--- no row of this key stands at a place
+-- no row of this key stands at a position
 abbrev pub IsMissing : {X : Type 0} → (X → ℕ) → ℕ → List X → ℕ → Type 0
 IsMissing key n xs i = (length xs ≤ i) ⊎ ((d : _) × (key (get_or xs i d) ≢ n))
 
@@ -84,25 +84,25 @@ pub put_after : {X : Type 0} (key : X → ℕ) (x y : X) (ys : List X) → key y
 put_after key x y ys h = (λ k. branch (ne_eqb (key x) (key y) (λ s. omega (arith, s)) k) (le-ltb (key x) (key y) (omega arith) k) x y ys (put_by key x ys))
 
 -- a row whose key is there takes its place
-pub put_set_at : {X : Type 0} (key : X → ℕ) (x : X) (xs : List X) (i : ℕ) (d : X) → i ≡ place_in key (key x) xs → i < length xs → key (get_or xs i d) ≡ key x → put_by key x xs ≡ set xs i x
+pub put_set_at : {X : Type 0} (key : X → ℕ) (x : X) (xs : List X) (i : ℕ) (d : X) → i ≡ position_in key (key x) xs → i < length xs → key (get_or xs i d) ≡ key x → put_by key x xs ≡ set xs i x
 put_set_at key x [] i d p h e = absurd (omega arith)
 put_set_at key x (y ∷ ys) zero d p h e = put_first key x y ys (sym e)
 put_set_at key x (y ∷ ys) (suc i) d p h e = ⊎_elim
-    (λ l. put_after key x y ys l ∙ ap (λ zs. y ∷ zs) (put_set_at key x ys i d (let q = p ∙ place_next key (key x) y ys l in omega (arith, q)) (omega arith) e))
-    (λ l. absurd (let q = p ∙ place_here key (key x) y ys l in omega (arith, q)))
+    (λ l. put_after key x y ys l ∙ ap (λ zs. y ∷ zs) (put_set_at key x ys i d (let q = p ∙ position_next key (key x) y ys l in omega (arith, q)) (omega arith) e))
+    (λ l. absurd (let q = p ∙ position_here key (key x) y ys l in omega (arith, q)))
     (below_or (key y) (key x))
 
 -- a new one is put between
-pub put_insert_at : {X : Type 0} (key : X → ℕ) (x : X) (xs : List X) (i : ℕ) → i ≡ place_in key (key x) xs → IsMissing key (key x) xs i → put_by key x xs ≡ insert xs i x
+pub put_insert_at : {X : Type 0} (key : X → ℕ) (x : X) (xs : List X) (i : ℕ) → i ≡ position_in key (key x) xs → IsMissing key (key x) xs i → put_by key x xs ≡ insert xs i x
 put_insert_at key x [] zero p h = refl
 put_insert_at key x [] (suc i) p h = absurd (omega (arith, p))
 put_insert_at key x (y ∷ ys) zero p h = ⊎_elim
-    (λ l. absurd (let q = p ∙ place_next key (key x) y ys l in omega (arith, q)))
+    (λ l. absurd (let q = p ∙ position_next key (key x) y ys l in omega (arith, q)))
     (λ l. put_before key x y ys (let ne : key y ≢ key x = missing_first key (key x) y ys h in omega arith))
     (below_or (key y) (key x))
 put_insert_at key x (y ∷ ys) (suc i) p h = ⊎_elim
-    (λ l. put_after key x y ys l ∙ ap (λ zs. y ∷ zs) (put_insert_at key x ys i (let q = p ∙ place_next key (key x) y ys l in omega (arith, q)) (missing_rest key (key x) y ys i h)))
-    (λ l. absurd (let q = p ∙ place_here key (key x) y ys l in omega (arith, q)))
+    (λ l. put_after key x y ys l ∙ ap (λ zs. y ∷ zs) (put_insert_at key x ys i (let q = p ∙ position_next key (key x) y ys l in omega (arith, q)) (missing_rest key (key x) y ys i h)))
+    (λ l. absurd (let q = p ∙ position_here key (key x) y ys l in omega (arith, q)))
     (below_or (key y) (key x))
 
 pub rises-put : {X : Type 0} (key : X → ℕ) (n : ℕ) (x : X) (xs : List X) → n ≤ key x → RisesFrom key n xs → RisesFrom key n (put_by key x xs)
@@ -135,15 +135,15 @@ without_remove key n m (x ∷ xs) (suc i) d r h e =
     let above : suc (key x) ≤ key (get_or xs i d) = rises-at key (suc (key x)) xs i d r.1 (omega arith) in
     without_keep key n x xs (λ f. omega (arith, e, f)) ∙ ap (λ zs. x ∷ zs) (without_remove key n (suc (key x)) xs i d r.1 (omega arith) e)
 
-pub without_none : {X : Type 0} (key : X → ℕ) (n m : ℕ) (xs : List X) (i : ℕ) → RisesFrom key m xs → i ≡ place_in key n xs → IsMissing key n xs i → without key n xs ≡ xs
+pub without_none : {X : Type 0} (key : X → ℕ) (n m : ℕ) (xs : List X) (i : ℕ) → RisesFrom key m xs → i ≡ position_in key n xs → IsMissing key n xs i → without key n xs ≡ xs
 without_none key n m [] i r p h = refl
 without_none key n m (x ∷ xs) zero r p h = ⊎_elim
-    (λ l. absurd (let q = p ∙ place_next key n x xs l in omega (arith, q)))
+    (λ l. absurd (let q = p ∙ position_next key n x xs l in omega (arith, q)))
     (λ l. let ne : key x ≢ n = missing_first key n x xs h in without_keep key n x xs ne ∙ ap (λ zs. x ∷ zs) (without_above key n (suc (key x)) xs (omega arith) r.1))
     (below_or (key x) n)
 without_none key n m (x ∷ xs) (suc i) r p h = ⊎_elim
-    (λ l. without_keep key n x xs (λ e. omega (arith, e)) ∙ ap (λ zs. x ∷ zs) (without_none key n (suc (key x)) xs i r.1 (let q = p ∙ place_next key n x xs l in omega (arith, q)) (missing_rest key n x xs i h)))
-    (λ l. absurd (let q = p ∙ place_here key n x xs l in omega (arith, q)))
+    (λ l. without_keep key n x xs (λ e. omega (arith, e)) ∙ ap (λ zs. x ∷ zs) (without_none key n (suc (key x)) xs i r.1 (let q = p ∙ position_next key n x xs l in omega (arith, q)) (missing_rest key n x xs i h)))
+    (λ l. absurd (let q = p ∙ position_here key n x xs l in omega (arith, q)))
     (below_or (key x) n)
 
 pub rises-without : {X : Type 0} (key : X → ℕ) (n m : ℕ) (xs : List X) → RisesFrom key m xs → RisesFrom key m (without key n xs)
@@ -168,24 +168,24 @@ found_at key n m (x ∷ xs) (suc i) d r h e =
     let above : suc (key x) ≤ key (get_or xs i d) = rises-at key (suc (key x)) xs i d r.1 (omega arith) in
     ap (λ t. cond t (Some x) (find (λ y. key y == n) xs)) (ne_eqb (key x) n (λ f. omega (arith, e, f))) ∙ found_at key n (suc (key x)) xs i d r.1 (omega arith) e
 
-pub found_none : {X : Type 0} (key : X → ℕ) (n m : ℕ) (xs : List X) (i : ℕ) → RisesFrom key m xs → i ≡ place_in key n xs → IsMissing key n xs i → find (λ x. key x == n) xs ≡ None
+pub found_none : {X : Type 0} (key : X → ℕ) (n m : ℕ) (xs : List X) (i : ℕ) → RisesFrom key m xs → i ≡ position_in key n xs → IsMissing key n xs i → find (λ x. key x == n) xs ≡ None
 found_none key n m [] i r p h = refl
 found_none key n m (x ∷ xs) zero r p h = ⊎_elim
-    (λ l. absurd (let q = p ∙ place_next key n x xs l in omega (arith, q)))
+    (λ l. absurd (let q = p ∙ position_next key n x xs l in omega (arith, q)))
     (λ l. let ne : key x ≢ n = missing_first key n x xs h in ap (λ t. cond t (Some x) (find (λ y. key y == n) xs)) (ne_eqb (key x) n ne) ∙ found_above key n (suc (key x)) xs (omega arith) r.1)
     (below_or (key x) n)
 found_none key n m (x ∷ xs) (suc i) r p h = ⊎_elim
-    (λ l. ap (λ t. cond t (Some x) (find (λ y. key y == n) xs)) (ne_eqb (key x) n (λ e. omega (arith, e))) ∙ found_none key n (suc (key x)) xs i r.1 (let q = p ∙ place_next key n x xs l in omega (arith, q)) (missing_rest key n x xs i h))
-    (λ l. absurd (let q = p ∙ place_here key n x xs l in omega (arith, q)))
+    (λ l. ap (λ t. cond t (Some x) (find (λ y. key y == n) xs)) (ne_eqb (key x) n (λ e. omega (arith, e))) ∙ found_none key n (suc (key x)) xs i r.1 (let q = p ∙ position_next key n x xs l in omega (arith, q)) (missing_rest key n x xs i h))
+    (λ l. absurd (let q = p ∙ position_here key n x xs l in omega (arith, q)))
     (below_or (key x) n)
 
 -- the first row above n
-pub found_behind : {X : Type 0} (key : X → ℕ) (n : ℕ) (xs : List X) → slice_get xs (place_in key (n + 1) xs) ≡ find (λ x. nat_lt n (key x)) xs
+pub found_behind : {X : Type 0} (key : X → ℕ) (n : ℕ) (xs : List X) → slice_get xs (position_in key (n + 1) xs) ≡ find (λ x. nat_lt n (key x)) xs
 found_behind key n [] = refl
 found_behind key n (x ∷ xs) = ⊎_elim
-    (λ l. ap (λ i. slice_get (x ∷ xs) i) (place_next key (n + 1) x xs l) ∙ found_behind key n xs
+    (λ l. ap (λ i. slice_get (x ∷ xs) i) (position_next key (n + 1) x xs l) ∙ found_behind key n xs
     ∙ sym (ap (λ t. cond t (Some x) (find (λ y. nat_lt n (key y)) xs)) (le-ltb n (key x) (omega arith))))
-    (λ l. ap (λ i. slice_get (x ∷ xs) i) (place_here key (n + 1) x xs l)
+    (λ l. ap (λ i. slice_get (x ∷ xs) i) (position_here key (n + 1) x xs l)
     ∙ sym (ap (λ t. cond t (Some x) (find (λ y. nat_lt n (key y)) xs)) (lt-ltb n (key x) (omega arith))))
     (below_or (key x) (n + 1))
 
@@ -200,12 +200,12 @@ all_above key n m (x ∷ xs) h r =
     ap (λ ys. x ∷ ys) (all_above key n (suc (key x)) xs (omega arith) r.1)
     ∙ sym (ap (λ t. cond t (x ∷ those_above key n xs) (those_above key n xs)) (lt-ltb n (key x) (omega arith)))
 
-pub behind_is : {X : Type 0} (key : X → ℕ) (n m : ℕ) (xs : List X) → RisesFrom key m xs → drop (place_in key (n + 1) xs) xs ≡ those_above key n xs
+pub behind_is : {X : Type 0} (key : X → ℕ) (n m : ℕ) (xs : List X) → RisesFrom key m xs → drop (position_in key (n + 1) xs) xs ≡ those_above key n xs
 behind_is key n m [] r = refl
 behind_is key n m (x ∷ xs) r = ⊎_elim
-    (λ l. ap (λ i. drop i (x ∷ xs)) (place_next key (n + 1) x xs l) ∙ behind_is key n (suc (key x)) xs r.1
+    (λ l. ap (λ i. drop i (x ∷ xs)) (position_next key (n + 1) x xs l) ∙ behind_is key n (suc (key x)) xs r.1
     ∙ sym (ap (λ t. cond t (x ∷ those_above key n xs) (those_above key n xs)) (le-ltb n (key x) (omega arith))))
-    (λ l. ap (λ i. drop i (x ∷ xs)) (place_here key (n + 1) x xs l) ∙ all_above key n (key x) (x ∷ xs) (omega arith) (omega arith, r.1))
+    (λ l. ap (λ i. drop i (x ∷ xs)) (position_here key (n + 1) x xs l) ∙ all_above key n (key x) (x ∷ xs) (omega arith) (omega arith, r.1))
     (below_or (key x) (n + 1))
 
 -- the rows up to n
@@ -218,12 +218,12 @@ none_up_to key n m (x ∷ xs) h r =
     let above : m ≤ key x = r.0 in
     ap (λ t. cond t (x ∷ those_up_to key n xs) (those_up_to key n xs)) (lt-leb (key x) n (omega arith)) ∙ none_up_to key n (suc (key x)) xs (omega arith) r.1
 
-pub up_to_is : {X : Type 0} (key : X → ℕ) (n m : ℕ) (xs : List X) → RisesFrom key m xs → take (place_in key (n + 1) xs) xs ≡ those_up_to key n xs
+pub up_to_is : {X : Type 0} (key : X → ℕ) (n m : ℕ) (xs : List X) → RisesFrom key m xs → take (position_in key (n + 1) xs) xs ≡ those_up_to key n xs
 up_to_is key n m [] r = refl
 up_to_is key n m (x ∷ xs) r = ⊎_elim
-    (λ l. ap (λ i. take i (x ∷ xs)) (place_next key (n + 1) x xs l) ∙ ap (λ ys. x ∷ ys) (up_to_is key n (suc (key x)) xs r.1)
+    (λ l. ap (λ i. take i (x ∷ xs)) (position_next key (n + 1) x xs l) ∙ ap (λ ys. x ∷ ys) (up_to_is key n (suc (key x)) xs r.1)
     ∙ sym (ap (λ t. cond t (x ∷ those_up_to key n xs) (those_up_to key n xs)) (le-leb (key x) n (omega arith))))
-    (λ l. ap (λ i. take i (x ∷ xs)) (place_here key (n + 1) x xs l) ∙ sym (none_up_to key n (key x) (x ∷ xs) (omega arith) (omega arith, r.1)))
+    (λ l. ap (λ i. take i (x ∷ xs)) (position_here key (n + 1) x xs l) ∙ sym (none_up_to key n (key x) (x ∷ xs) (omega arith) (omega arith, r.1)))
     (below_or (key x) (n + 1))
 
 -- rows that are left out leave the order
@@ -251,31 +251,31 @@ none_below key n m (x ∷ xs) h r =
     let above : m ≤ key x = r.0 in
     ap (λ t. cond t (x ∷ those_below key n xs) (those_below key n xs)) (le-ltb (key x) n (omega arith)) ∙ none_below key n (suc (key x)) xs (omega arith) r.1
 
--- a place is how many rows are below it
-pub place_counts : {X : Type 0} (key : X → ℕ) (n m : ℕ) (xs : List X) → RisesFrom key m xs → place_in key n xs ≡ length (those_below key n xs)
-place_counts key n m [] r = refl
-place_counts key n m (x ∷ xs) r = ⊎_elim
-    (λ l. place_next key n x xs l ∙ ap (λ k. suc k) (place_counts key n (suc (key x)) xs r.1) ∙ sym (ap length (below_first key n x xs l)))
-    (λ l. place_here key n x xs l ∙ sym (ap length (none_below key n (key x) (x ∷ xs) l (omega arith, r.1))))
+-- a position is how many rows are below it
+pub position_counts : {X : Type 0} (key : X → ℕ) (n m : ℕ) (xs : List X) → RisesFrom key m xs → position_in key n xs ≡ length (those_below key n xs)
+position_counts key n m [] r = refl
+position_counts key n m (x ∷ xs) r = ⊎_elim
+    (λ l. position_next key n x xs l ∙ ap (λ k. suc k) (position_counts key n (suc (key x)) xs r.1) ∙ sym (ap length (below_first key n x xs l)))
+    (λ l. position_here key n x xs l ∙ sym (ap length (none_below key n (key x) (x ∷ xs) l (omega arith, r.1))))
     (below_or (key x) n)
 
--- nothing is below the first place
-pub last_none : {X : Type 0} (key : X → ℕ) (n m : ℕ) (xs : List X) (before : Option X) → RisesFrom key m xs → place_in key n xs ≡ 0 → last_of before (those_below key n xs) ≡ before
+-- nothing is below the first position
+pub last_none : {X : Type 0} (key : X → ℕ) (n m : ℕ) (xs : List X) (before : Option X) → RisesFrom key m xs → position_in key n xs ≡ 0 → last_of before (those_below key n xs) ≡ before
 last_none key n m [] before r e = refl
 last_none key n m (x ∷ xs) before r e = ⊎_elim
-    (λ l. absurd (let q = place_next key n x xs l in omega (arith, e, q)))
+    (λ l. absurd (let q = position_next key n x xs l in omega (arith, e, q)))
     (λ l. ap (last_of before) (none_below key n (key x) (x ∷ xs) l (omega arith, r.1)))
     (below_or (key x) n)
 
--- else it is the row before the place
-pub last_at : {X : Type 0} (key : X → ℕ) (n m : ℕ) (xs : List X) (before : Option X) (k : ℕ) → RisesFrom key m xs → place_in key n xs ≡ suc k → last_of before (those_below key n xs) ≡ slice_get xs k
+-- else it is the row before the position
+pub last_at : {X : Type 0} (key : X → ℕ) (n m : ℕ) (xs : List X) (before : Option X) (k : ℕ) → RisesFrom key m xs → position_in key n xs ≡ suc k → last_of before (those_below key n xs) ≡ slice_get xs k
 last_at key n m [] before k r e = absurd (omega (arith, e))
 last_at key n m (x ∷ xs) before k r e = ⊎_elim
-    (λ l. ap (last_of before) (below_first key n x xs l) ∙ behind l k (λ j f. last_at key n (suc (key x)) xs (Some x) j r.1 f) (let q = place_next key n x xs l in omega (arith, e, q)))
-    (λ l. absurd (let q = place_here key n x xs l in omega (arith, e, q)))
+    (λ l. ap (last_of before) (below_first key n x xs l) ∙ behind l k (λ j f. last_at key n (suc (key x)) xs (Some x) j r.1 f) (let q = position_next key n x xs l in omega (arith, e, q)))
+    (λ l. absurd (let q = position_here key n x xs l in omega (arith, e, q)))
     (below_or (key x) n)
   where
-    behind : key x < n → (k : ℕ) → ((j : ℕ) → place_in key n xs ≡ suc j → last_of (Some x) (those_below key n xs) ≡ slice_get xs j) → place_in key n xs ≡ k → last_of (Some x) (those_below key n xs) ≡ slice_get (x ∷ xs) k
+    behind : key x < n → (k : ℕ) → ((j : ℕ) → position_in key n xs ≡ suc j → last_of (Some x) (those_below key n xs) ≡ slice_get xs j) → position_in key n xs ≡ k → last_of (Some x) (those_below key n xs) ≡ slice_get (x ∷ xs) k
     behind l zero later e = last_none key n (suc (key x)) xs (Some x) r.1 e
     behind l (suc j) later e = later j e
 
@@ -302,7 +302,7 @@ changed_set key n f m (x ∷ xs) (suc i) d r h e =
 pub key_at : {X : Type 0} (key : X → ℕ) (n : ℕ) (xs : List X) (i : ℕ) (d : X) → IsAt key n xs i → key (get_or xs i d) ≡ n
 key_at key n xs i d at = ap (λ o. unwrap_or o 0) (sym (ap (option_map key) (slice_get-get_or xs i d at.within)) ∙ at.has_key)
 
--- a row at its place, changed
+-- a row at its position, changed
 pub changed_at : {X : Type 0} (key : X → ℕ) (n : ℕ) (f : X → X) (xs : List X) (i : ℕ) (d y : X) → RisesFrom key 0 xs → IsAt key n xs i → y ≡ get_or xs i d → set xs i (f y) ≡ map (λ x. cond (key x == n) (f x) x) xs
 changed_at key n f xs i d y r at here = ap (λ z. set xs i (f z)) here ∙ sym (changed_set key n f 0 xs i d r at.within (key_at key n xs i d at))
 
@@ -329,11 +329,11 @@ rises-changed key n f m (x ∷ xs) keeps r = by_key (key x == n) (rises-changed 
 abbrev is_within : {X : Type 0} → (X → ℕ) → ℕ → ℕ → X → Bool
 is_within key from to x = nat_le from (key x) && nat_lt (key x) to
 
-pub place_order : {X : Type 0} (key : X → ℕ) (from to : ℕ) (xs : List X) → from ≤ to → place_in key from xs ≤ place_in key to xs
-place_order key from to [] h = omega arith
-place_order key from to (x ∷ xs) h = ⊎_elim
-    (λ l. let p = place_next key from x xs l in let q = place_next key to x xs (omega arith) in let rest = place_order key from to xs h in omega (arith, p, q, rest))
-    (λ l. let p = place_here key from x xs l in omega (arith, p))
+pub position_order : {X : Type 0} (key : X → ℕ) (from to : ℕ) (xs : List X) → from ≤ to → position_in key from xs ≤ position_in key to xs
+position_order key from to [] h = omega arith
+position_order key from to (x ∷ xs) h = ⊎_elim
+    (λ l. let p = position_next key from x xs l in let q = position_next key to x xs (omega arith) in let rest = position_order key from to xs h in omega (arith, p, q, rest))
+    (λ l. let p = position_here key from x xs l in omega (arith, p))
     (below_or (key x) from)
 
 none_within : {X : Type 0} (key : X → ℕ) (from to m : ℕ) (xs : List X) → to ≤ m → RisesFrom key m xs → filter (is_within key from to) xs ≡ []
@@ -355,33 +355,33 @@ first_before : {X : Type 0} (key : X → ℕ) (from to : ℕ) (x : X) (xs : List
 first_before key from to x xs l =
     ap (λ t. cond (t && nat_lt (key x) to) (x ∷ filter (is_within key from to) xs) (filter (is_within key from to) xs)) (lt-leb from (key x) l)
 
-place_none : {X : Type 0} (key : X → ℕ) (n m : ℕ) (xs : List X) → n ≤ m → RisesFrom key m xs → place_in key n xs ≡ 0
-place_none key n m [] h r = refl
-place_none key n m (x ∷ xs) h r = let above : m ≤ key x = r.0 in place_here key n x xs (omega arith)
+position_none : {X : Type 0} (key : X → ℕ) (n m : ℕ) (xs : List X) → n ≤ m → RisesFrom key m xs → position_in key n xs ≡ 0
+position_none key n m [] h r = refl
+position_none key n m (x ∷ xs) h r = let above : m ≤ key x = r.0 in position_here key n x xs (omega arith)
 
-pub between_is : {X : Type 0} (key : X → ℕ) (from to m : ℕ) (xs : List X) → from ≤ to → RisesFrom key m xs → take (place_in key to xs - place_in key from xs) (drop (place_in key from xs) xs) ≡ filter (is_within key from to) xs
+pub between_is : {X : Type 0} (key : X → ℕ) (from to m : ℕ) (xs : List X) → from ≤ to → RisesFrom key m xs → take (position_in key to xs - position_in key from xs) (drop (position_in key from xs) xs) ≡ filter (is_within key from to) xs
 between_is key from to m [] h r = refl
 between_is key from to m (x ∷ xs) h r = ⊎_elim
-    (λ l. (λ i. take (place_next key to x xs (omega arith) i - place_next key from x xs l i) (drop (place_next key from x xs l i) (x ∷ xs)))
+    (λ l. (λ i. take (position_next key to x xs (omega arith) i - position_next key from x xs l i) (drop (position_next key from x xs l i) (x ∷ xs)))
     ∙ less ∙ between_is key from to (suc (key x)) xs h r.1 ∙ sym (first_before key from to x xs l))
     (λ l. ⊎_elim
-    (λ u. (λ i. take (place_next key to x xs u i - place_here key from x xs l i) (drop (place_here key from x xs l i) (x ∷ xs)))
-    ∙ ap (λ n. take n (x ∷ xs)) plain ∙ ap (λ ys. x ∷ ys) (whole (place_none key from (suc (key x)) xs (omega arith) r.1) (between_is key from to (suc (key x)) xs h r.1)) ∙ sym (first_within key from to x xs l u))
-    (λ u. (λ i. take (place_here key to x xs u i - place_here key from x xs l i) (drop (place_here key from x xs l i) (x ∷ xs)))
+    (λ u. (λ i. take (position_next key to x xs u i - position_here key from x xs l i) (drop (position_here key from x xs l i) (x ∷ xs)))
+    ∙ ap (λ n. take n (x ∷ xs)) plain ∙ ap (λ ys. x ∷ ys) (whole (position_none key from (suc (key x)) xs (omega arith) r.1) (between_is key from to (suc (key x)) xs h r.1)) ∙ sym (first_within key from to x xs l u))
+    (λ u. (λ i. take (position_here key to x xs u i - position_here key from x xs l i) (drop (position_here key from x xs l i) (x ∷ xs)))
     ∙ sym (none_within key from to (key x) (x ∷ xs) u (omega arith, r.1)))
     (below_or (key x) to))
     (below_or (key x) from)
   where
-    plain : suc (place_in key to xs) - 0 ≡ suc (place_in key to xs)
+    plain : suc (position_in key to xs) - 0 ≡ suc (position_in key to xs)
     plain = omega arith
 
-    less : take (suc (place_in key to xs) - suc (place_in key from xs)) (drop (place_in key from xs) xs) ≡ take (place_in key to xs - place_in key from xs) (drop (place_in key from xs) xs)
-    less = let e : suc (place_in key to xs) - suc (place_in key from xs) ≡ place_in key to xs - place_in key from xs = omega arith in ap (λ n. take n (drop (place_in key from xs) xs)) e
+    less : take (suc (position_in key to xs) - suc (position_in key from xs)) (drop (position_in key from xs) xs) ≡ take (position_in key to xs - position_in key from xs) (drop (position_in key from xs) xs)
+    less = let e : suc (position_in key to xs) - suc (position_in key from xs) ≡ position_in key to xs - position_in key from xs = omega arith in ap (λ n. take n (drop (position_in key from xs) xs)) e
 
-    whole : place_in key from xs ≡ 0 → take (place_in key to xs - place_in key from xs) (drop (place_in key from xs) xs) ≡ filter (is_within key from to) xs → take (place_in key to xs) xs ≡ filter (is_within key from to) xs
+    whole : position_in key from xs ≡ 0 → take (position_in key to xs - position_in key from xs) (drop (position_in key from xs) xs) ≡ filter (is_within key from to) xs → take (position_in key to xs) xs ≡ filter (is_within key from to) xs
     whole e rest =
-        let least : place_in key to xs ≡ place_in key to xs - 0 = omega arith in
-        ap (λ n. take n xs) least ∙ sym (λ i. take (place_in key to xs - e i) (drop (e i) xs)) ∙ rest
+        let least : position_in key to xs ≡ position_in key to xs - 0 = omega arith in
+        ap (λ n. take n xs) least ∙ sym (λ i. take (position_in key to xs - e i) (drop (e i) xs)) ∙ rest
 
 -- the rows not between two keys
 abbrev those_outside : {X : Type 0} → (X → ℕ) → ℕ → ℕ → List X → List X
@@ -406,16 +406,16 @@ all_outside key from to m (x ∷ xs) h r =
     by_from true = refl
     by_from false = refl
 
-pub outside_is : {X : Type 0} (key : X → ℕ) (from to m : ℕ) (xs : List X) → from ≤ to → RisesFrom key m xs → take (place_in key from xs) xs ++ drop (place_in key to xs) xs ≡ those_outside key from to xs
+pub outside_is : {X : Type 0} (key : X → ℕ) (from to m : ℕ) (xs : List X) → from ≤ to → RisesFrom key m xs → take (position_in key from xs) xs ++ drop (position_in key to xs) xs ≡ those_outside key from to xs
 outside_is key from to m [] h r = refl
 outside_is {X} key from to m (x ∷ xs) h r = ⊎_elim
-    (λ l. (λ i. parts (place_next key from x xs l i) (place_next key to x xs (omega arith) i))
+    (λ l. (λ i. parts (position_next key from x xs l i) (position_next key to x xs (omega arith) i))
     ∙ ap (λ ys. x ∷ ys) (outside_is key from to (suc (key x)) xs h r.1) ∙ sym (outside_first key from to x xs l))
     (λ l. ⊎_elim
-    (λ u. (λ i. parts (place_here key from x xs l i) (place_next key to x xs u i))
-    ∙ ap (λ n. take n xs ++ drop (place_in key to xs) xs) (sym (place_none key from (suc (key x)) xs (omega arith) r.1))
+    (λ u. (λ i. parts (position_here key from x xs l i) (position_next key to x xs u i))
+    ∙ ap (λ n. take n xs ++ drop (position_in key to xs) xs) (sym (position_none key from (suc (key x)) xs (omega arith) r.1))
     ∙ outside_is key from to (suc (key x)) xs h r.1 ∙ sym (outside_drop key from to x xs l u))
-    (λ u. (λ i. parts (place_here key from x xs l i) (place_here key to x xs u i)) ∙ all_outside key from to (key x) (x ∷ xs) u (omega arith, r.1))
+    (λ u. (λ i. parts (position_here key from x xs l i) (position_here key to x xs u i)) ∙ all_outside key from to (key x) (x ∷ xs) u (omega arith, r.1))
     (below_or (key x) to))
     (below_or (key x) from)
   where
@@ -423,12 +423,12 @@ outside_is {X} key from to m (x ∷ xs) h r = ⊎_elim
     parts i j = take i (x ∷ xs) ++ drop j (x ∷ xs)
 
 -- where all that stands before a key passes, a filter begins there
-pub front_passes : {X : Type 0} (key : X → ℕ) (n : ℕ) (test : X → Bool) (xs : List X) → AllByRecursion (λ x. key x < n → test x ≡ true) xs → take (place_in key n xs) xs ++ filter test (drop (place_in key n xs) xs) ≡ filter test xs
+pub front_passes : {X : Type 0} (key : X → ℕ) (n : ℕ) (test : X → Bool) (xs : List X) → AllByRecursion (λ x. key x < n → test x ≡ true) xs → take (position_in key n xs) xs ++ filter test (drop (position_in key n xs) xs) ≡ filter test xs
 front_passes key n test [] pass = refl
 front_passes {X} key n test (x ∷ xs) pass = ⊎_elim
-    (λ l. ap parts (place_next key n x xs l) ∙ ap (λ ys. x ∷ ys) (front_passes key n test xs pass.1)
+    (λ l. ap parts (position_next key n x xs l) ∙ ap (λ ys. x ∷ ys) (front_passes key n test xs pass.1)
     ∙ sym (ap (λ t. cond t (x ∷ filter test xs) (filter test xs)) (pass.0 l)))
-    (λ l. ap parts (place_here key n x xs l))
+    (λ l. ap parts (position_here key n x xs l))
     (below_or (key x) n)
   where
     parts : ℕ → List X

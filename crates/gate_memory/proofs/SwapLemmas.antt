@@ -1,4 +1,4 @@
--- Two rows of a list in each other's place.
+-- Two rows of a list in each other's position.
 use Rattle.std.proofs.Common.{◌≡◌, ℕ, zero, suc, ◌+◌, ◌<◌, ◌≤◌, ⊎_elim, Bool, true, false, cond, List, [], ◌∷◌, ◌++◌}
 use Rattle.std.proofs.Common.{length, take, drop, get_or, set, refl, sym, ap, subst, ◌∙◌, append_assoc, arith}
 use Rattle.std.specs.Prelude.{filter}
@@ -7,7 +7,7 @@ use Rattle.gate_book_trait.proofs.Finding.{rest_at}
 use Rattle.gate_memory.proofs.SortedLemmas.{get_or_any}
 use Rattle.gate_types.proofs.PlainLemmas.{below_or}
 
--- rows set at two places: what stands up to the first, and behind the second
+-- rows set at two positions: what stands up to the first, and behind the second
 front : {X : Type 0} (i j : ℕ) (a b : X) (xs : List X) → i < j → i < length xs → take (suc i) (set (set xs i a) j b) ≡ take i xs ++ a ∷ []
 front i j a b [] l h = absurd (omega arith)
 front i zero a b (x ∷ xs) l h = absurd (omega arith)

@@ -12,7 +12,7 @@ use Rattle.gate_types.specs.Keys.{number_of_change}
 use Rattle.gate_types.specs.declared.rows.ChangeRow.{ChangeRow}
 use Rattle.gate_types.proofs.PlainLemmas.{below_or}
 use Rattle.gate_types.proofs.PutLemmas.{put_over, put_swap}
-use Rattle.gate_memory.specs.Changes.{Numbers, FindsNumbers, in_order, place_at}
+use Rattle.gate_memory.specs.Changes.{Numbers, FindsNumbers, in_order, position_at}
 use Rattle.gate_memory.proofs.SortedLemmas.{put_first, put_before, put_after}
 
 pub some_at : (o : Option ℕ) (i : ℕ) → option_map (λ j. suc j) o ≡ Some i → (j : ℕ) × (o ≡ Some j) × (i ≡ suc j)
@@ -27,38 +27,38 @@ abbrev pub at_head : Bool → Option ℕ → Option ℕ
 at_head b o = cond b (Some 0) (option_map (λ i. suc i) o)
 
 -- a row whose key is there takes its place
-pub in_order_set : {X : Type 0} (key : X → ℕ) (x : X) (rows : List X) (i : ℕ) → place_at key (key x) rows ≡ Some i → in_order key (set rows i x) ≡ put_by key x (in_order key rows)
+pub in_order_set : {X : Type 0} (key : X → ℕ) (x : X) (rows : List X) (i : ℕ) → position_at key (key x) rows ≡ Some i → in_order key (set rows i x) ≡ put_by key x (in_order key rows)
 in_order_set key x [] i e = absurd (none-some i e)
 in_order_set key x (y ∷ ys) i e = ⊎_elim
-    (λ t. let z : 0 ≡ i = ap (λ o. unwrap_or o 0) (sym (ap (λ b. at_head b (place_at key (key x) ys)) t.0) ∙ e) in
+    (λ t. let z : 0 ≡ i = ap (λ o. unwrap_or o 0) (sym (ap (λ b. at_head b (position_at key (key x) ys)) t.0) ∙ e) in
     sym (ap (λ k. in_order key (set (y ∷ ys) k x)) z) ∙ sym (put_over key y x (in_order key ys) t.1))
-    (λ t. let s = some_at (place_at key (key x) ys) i (sym (ap (λ b. at_head b (place_at key (key x) ys)) t.0) ∙ e) in
+    (λ t. let s = some_at (position_at key (key x) ys) i (sym (ap (λ b. at_head b (position_at key (key x) ys)) t.0) ∙ e) in
     ap (λ k. in_order key (set (y ∷ ys) k x)) s.2 ∙ ap (put_by key y) (in_order_set key x ys s.0 s.1) ∙ sym (put_swap key y x (in_order key ys) t.1))
     (eqb_tells (key y) (key x))
 
 -- a row of a new key is put at the end
-pub in_order_push : {X : Type 0} (key : X → ℕ) (x : X) (rows : List X) → place_at key (key x) rows ≡ None → in_order key (rows ++ x ∷ []) ≡ put_by key x (in_order key rows)
+pub in_order_push : {X : Type 0} (key : X → ℕ) (x : X) (rows : List X) → position_at key (key x) rows ≡ None → in_order key (rows ++ x ∷ []) ≡ put_by key x (in_order key rows)
 in_order_push key x [] e = refl
 in_order_push key x (y ∷ ys) e = ⊎_elim
-    (λ t. absurd (none-some 0 (sym e ∙ ap (λ b. at_head b (place_at key (key x) ys)) t.0)))
-    (λ t. let n = none_at (place_at key (key x) ys) (sym (ap (λ b. at_head b (place_at key (key x) ys)) t.0) ∙ e) in
+    (λ t. absurd (none-some 0 (sym e ∙ ap (λ b. at_head b (position_at key (key x) ys)) t.0)))
+    (λ t. let n = none_at (position_at key (key x) ys) (sym (ap (λ b. at_head b (position_at key (key x) ys)) t.0) ∙ e) in
     ap (put_by key y) (in_order_push key x ys n) ∙ sym (put_swap key y x (in_order key ys) t.1))
     (eqb_tells (key y) (key x))
 
-pub place_bound : {X : Type 0} (key : X → ℕ) (n : ℕ) (rows : List X) (i : ℕ) → place_at key n rows ≡ Some i → i < length rows
-place_bound key n [] i e = absurd (none-some i e)
-place_bound key n (y ∷ ys) i e = ⊎_elim
-    (λ t. let z : 0 ≡ i = ap (λ o. unwrap_or o 0) (sym (ap (λ b. at_head b (place_at key n ys)) t.0) ∙ e) in omega (arith, z))
-    (λ t. let s = some_at (place_at key n ys) i (sym (ap (λ b. at_head b (place_at key n ys)) t.0) ∙ e) in let h = place_bound key n ys s.0 s.1 in omega (arith, h, s.2))
+pub position_bound : {X : Type 0} (key : X → ℕ) (n : ℕ) (rows : List X) (i : ℕ) → position_at key n rows ≡ Some i → i < length rows
+position_bound key n [] i e = absurd (none-some i e)
+position_bound key n (y ∷ ys) i e = ⊎_elim
+    (λ t. let z : 0 ≡ i = ap (λ o. unwrap_or o 0) (sym (ap (λ b. at_head b (position_at key n ys)) t.0) ∙ e) in omega (arith, z))
+    (λ t. let s = some_at (position_at key n ys) i (sym (ap (λ b. at_head b (position_at key n ys)) t.0) ∙ e) in let h = position_bound key n ys s.0 s.1 in omega (arith, h, s.2))
     (eqb_tells (key y) n)
 
-pub place_set : {X : Type 0} (key : X → ℕ) (x : X) (n : ℕ) (rows : List X) (i : ℕ) → place_at key (key x) rows ≡ Some i → place_at key n (set rows i x) ≡ place_at key n rows
-place_set key x n [] i e = absurd (none-some i e)
-place_set key x n (y ∷ ys) i e = ⊎_elim
-    (λ t. let z : 0 ≡ i = ap (λ o. unwrap_or o 0) (sym (ap (λ b. at_head b (place_at key (key x) ys)) t.0) ∙ e) in
-    sym (ap (λ k. place_at key n (set (y ∷ ys) k x)) z) ∙ sym (ap (λ k. at_head (k == n) (place_at key n ys)) t.1))
-    (λ t. let s = some_at (place_at key (key x) ys) i (sym (ap (λ b. at_head b (place_at key (key x) ys)) t.0) ∙ e) in
-    ap (λ k. place_at key n (set (y ∷ ys) k x)) s.2 ∙ ap (at_head (key y == n)) (place_set key x n ys s.0 s.1))
+pub position_set : {X : Type 0} (key : X → ℕ) (x : X) (n : ℕ) (rows : List X) (i : ℕ) → position_at key (key x) rows ≡ Some i → position_at key n (set rows i x) ≡ position_at key n rows
+position_set key x n [] i e = absurd (none-some i e)
+position_set key x n (y ∷ ys) i e = ⊎_elim
+    (λ t. let z : 0 ≡ i = ap (λ o. unwrap_or o 0) (sym (ap (λ b. at_head b (position_at key (key x) ys)) t.0) ∙ e) in
+    sym (ap (λ k. position_at key n (set (y ∷ ys) k x)) z) ∙ sym (ap (λ k. at_head (k == n) (position_at key n ys)) t.1))
+    (λ t. let s = some_at (position_at key (key x) ys) i (sym (ap (λ b. at_head b (position_at key (key x) ys)) t.0) ∙ e) in
+    ap (λ k. position_at key n (set (y ∷ ys) k x)) s.2 ∙ ap (at_head (key y == n)) (position_set key x n ys s.0 s.1))
     (eqb_tells (key y) (key x))
 
 push_step : (n : ℕ) (o : Option ℕ) (c b : Bool) (r : Option ℕ) → r ≡ option_or o (cond c (Some n) None) → at_head b r ≡ option_or (at_head b o) (cond c (Some (suc n)) None)
@@ -70,9 +70,9 @@ push_step n o c false r e = ap (λ p. option_map (λ i. suc i) p) e ∙ by_last 
     by_last None false = refl
     by_last (Some i) b = refl
 
-pub place_push : {X : Type 0} (key : X → ℕ) (n : ℕ) (rows : List X) (x : X) → place_at key n (rows ++ x ∷ []) ≡ option_or (place_at key n rows) (cond (key x == n) (Some (length rows)) None)
-place_push key n [] x = refl
-place_push key n (y ∷ ys) x = push_step (length ys) (place_at key n ys) (key x == n) (key y == n) (place_at key n (ys ++ x ∷ [])) (place_push key n ys x)
+pub position_push : {X : Type 0} (key : X → ℕ) (n : ℕ) (rows : List X) (x : X) → position_at key n (rows ++ x ∷ []) ≡ option_or (position_at key n rows) (cond (key x == n) (Some (length rows)) None)
+position_push key n [] x = refl
+position_push key n (y ∷ ys) x = push_step (length ys) (position_at key n ys) (key x == n) (key y == n) (position_at key n (ys ++ x ∷ [])) (position_push key n ys x)
 
 -- what is found at a key after a put
 pub find_put : {X : Type 0} (key : X → ℕ) (n : ℕ) (x : X) (ys : List X) → find (λ y. key y == n) (put_by key x ys) ≡ cond (key x == n) (Some x) (find (λ y. key y == n) ys)
@@ -105,9 +105,9 @@ at_step x xs None false r e = e
 at_step x xs (Some i) false r e = e
 
 -- a read by key
-pub row_found : {X : Type 0} (key : X → ℕ) (n : ℕ) (rows : List X) → row_at rows (place_at key n rows) ≡ find (λ y. key y == n) (in_order key rows)
+pub row_found : {X : Type 0} (key : X → ℕ) (n : ℕ) (rows : List X) → row_at rows (position_at key n rows) ≡ find (λ y. key y == n) (in_order key rows)
 row_found key n [] = refl
-row_found key n (x ∷ xs) = at_step x xs (place_at key n xs) (key x == n) (find (λ y. key y == n) (in_order key xs)) (row_found key n xs) ∙ sym (find_put key n x (in_order key xs))
+row_found key n (x ∷ xs) = at_step x xs (position_at key n xs) (key x == n) (find (λ y. key y == n) (in_order key xs)) (row_found key n xs) ∙ sym (find_put key n x (in_order key xs))
 
 noted : (f : ℕ → Option ℕ) (id q n : ℕ) → f id ≡ None → cond (id == q) (Some n) (f q) ≡ option_or (f q) (cond (id == q) (Some n) None)
 noted f id q n none = ⊎_elim
@@ -125,9 +125,9 @@ noted f id q n none = ⊎_elim
     by_false : (b : Bool) → b ≡ false → (o : Option ℕ) → cond b (Some n) o ≡ option_or o (cond b (Some n) None)
     by_false b t o = ap (λ c. cond c (Some n) o) t ∙ by_last o ∙ sym (ap (λ c. option_or o (cond c (Some n) None)) t)
 
-pub numbers_push : (m n : Numbers) (rows : List ChangeRow) (x : ChangeRow) (place : ℕ) → place ≡ length rows → get nat_eq m x.change.number ≡ None → ((q : ℕ) → get nat_eq n q ≡ cond (x.change.number == q) (Some place) (get nat_eq m q)) → FindsNumbers m rows → FindsNumbers n (rows ++ x ∷ [])
-numbers_push m n rows x place here none e f q =
-    e q ∙ noted (get nat_eq m) x.change.number q place none ∙ (λ j. option_or (f q j) (cond (x.change.number == q) (Some (here j)) None)) ∙ sym (place_push number_of_change q rows x)
+pub numbers_push : (m n : Numbers) (rows : List ChangeRow) (x : ChangeRow) (position : ℕ) → position ≡ length rows → get nat_eq m x.change.number ≡ None → ((q : ℕ) → get nat_eq n q ≡ cond (x.change.number == q) (Some position) (get nat_eq m q)) → FindsNumbers m rows → FindsNumbers n (rows ++ x ∷ [])
+numbers_push m n rows x position here none e f q =
+    e q ∙ noted (get nat_eq m) x.change.number q position none ∙ (λ j. option_or (f q j) (cond (x.change.number == q) (Some (here j)) None)) ∙ sym (position_push number_of_change q rows x)
 
 pub numbers_set : (m : Numbers) (rows : List ChangeRow) (x : ChangeRow) (i : ℕ) → get nat_eq m x.change.number ≡ Some i → FindsNumbers m rows → FindsNumbers m (set rows i x)
-numbers_set m rows x i e f q = f q ∙ sym (place_set number_of_change x q rows i (sym (f x.change.number) ∙ e))
+numbers_set m rows x i e f q = f q ∙ sym (position_set number_of_change x q rows i (sym (f x.change.number) ∙ e))

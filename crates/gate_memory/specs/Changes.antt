@@ -1,4 +1,4 @@
--- How a book in memory keeps changes: in the order in which they came first, beside their places by number, and an
+-- How a book in memory keeps changes: in the order in which they came first, beside their positions by number, and an
 -- index of the ready ones.
 use Rattle.std.specs.Prelude.{ℕ, Bool, false, ◌≡◌, ◌==◌, ◌≤◌, ◌+◌, if◌then◌else◌, suc, nat_eq, List, [], ◌∷◌, Option}
 use Rattle.std.specs.Prelude.{Some, None, find, option_map, option_and_then, vec_len, vec_capacity}
@@ -17,7 +17,7 @@ use Rattle.gate_memory.specs.declared.pairs.Pair.{Pair}
 use Rattle.gate_memory.specs.declared.changes.ChangeTable.{ChangeTable}
 use Rattle.gate_book_trait.specs.RowReads.{AreReady}
 
--- the places of numbers
+-- the positions of numbers
 abbrev pub Numbers : Type 0
 Numbers = HashMap ℕ ℕ (BuildHasherDefault FoldHasher)
 
@@ -26,19 +26,19 @@ abbrev pub in_order : {X : Type 0} → (X → ℕ) → List X → List X
 in_order key [] = []
 in_order key (x ∷ xs) = put_by key x (in_order key xs)
 
--- the first place of a key
-abbrev pub place_at : {X : Type 0} → (X → ℕ) → ℕ → List X → Option ℕ
-place_at key n [] = None
-place_at key n (x ∷ xs) = if key x == n then Some 0 else option_map (λ i. suc i) (place_at key n xs)
+-- the first position of a key
+abbrev pub position_at : {X : Type 0} → (X → ℕ) → ℕ → List X → Option ℕ
+position_at key n [] = None
+position_at key n (x ∷ xs) = if key x == n then Some 0 else option_map (λ i. suc i) (position_at key n xs)
 
 -- no two rows have one key
 abbrev pub AreApart : {X : Type 0} → (X → ℕ) → List X → Type 0
 AreApart key [] = Unit {0}
-AreApart key (x ∷ xs) = (place_at key (key x) xs ≡ None) × AreApart key xs
+AreApart key (x ∷ xs) = (position_at key (key x) xs ≡ None) × AreApart key xs
 
--- each number has the place of its row
+-- each number has the position of its row
 abbrev pub FindsNumbers : Numbers → List ChangeRow → Type 0
-FindsNumbers places rows = (n : ℕ) → get nat_eq places n ≡ place_at number_of_change n rows
+FindsNumbers positions rows = (n : ℕ) → get nat_eq positions n ≡ position_at number_of_change n rows
 
 -- what the index keeps of a ready change: the number of its approval, and its own
 abbrev pub entry_of : ℕ → ℕ → Pair
@@ -56,7 +56,7 @@ same_number (Some m) n = m == n
 -- numbers differ and find their rows, and the indexes, which rise, tell of each ready change and of exactly the needs
 pub record IsKept (t : ChangeTable) : Type 0 where
   pub apart : AreApart number_of_change t.rows.items
-  pub finds : FindsNumbers t.places t.rows.items
+  pub finds : FindsNumbers t.positions t.rows.items
   pub ready_rise : RisesFrom pair_key 0 t.ready.items
   pub ready_fit : AllByRecursion IsFit t.ready.items
   pub ready_told : TellsReady t.ready.items (in_order number_of_change t.rows.items)
@@ -67,7 +67,7 @@ pub record IsKept (t : ChangeTable) : Type 0 where
 -- room for n more, which have m needs
 pub record HasRoom (n m : ℕ) (t : ChangeTable) : Type 0 where
   pub rows : vec_len t.rows + n ≤ vec_capacity t.rows
-  pub places : n ≤ spare t.places
+  pub positions : n ≤ spare t.positions
   pub ready : vec_len t.ready + n ≤ vec_capacity t.ready
   pub needs : vec_len t.needs + m ≤ vec_capacity t.needs
 

@@ -1,4 +1,4 @@
--- How a book in memory keeps deliveries: in the order in which they were accepted, beside their places by id.
+-- How a book in memory keeps deliveries: in the order in which they were accepted, beside their positions by id.
 use Rattle.std.specs.Prelude.{ℕ, Bool, ◌≡◌, ◌≤◌, ◌+◌, if◌then◌else◌, suc, nat_eq, List, [], ◌∷◌, Option, Some, None}
 use Rattle.std.specs.Prelude.{option_map, vec_len, vec_capacity}
 use Rattle.std.specs.HashMap.{get, spare, HashMap}
@@ -8,9 +8,9 @@ use lib.Pointwise.{pointwise}
 use Rattle.gate_types.specs.declared.records.Kept.{Kept}
 use Rattle.gate_memory.specs.declared.replies.ReplyTable.{ReplyTable}
 
--- the places of ids
-abbrev pub Places : Type 0
-Places = HashMap (List ℕ) ℕ (BuildHasherDefault FoldHasher)
+-- the positions of ids
+abbrev pub Positions : Type 0
+Positions = HashMap (List ℕ) ℕ (BuildHasherDefault FoldHasher)
 
 -- two ids are the same bytes
 abbrev pub same_id : List ℕ → List ℕ → Bool
@@ -20,16 +20,16 @@ same_id = pointwise nat_eq
 abbrev pub has_id : List ℕ → Kept → Bool
 has_id id k = same_id k.id.0 id
 
--- the place of the first that passes
-abbrev pub place_by : (Kept → Bool) → List Kept → Option ℕ
-place_by test [] = None
-place_by test (k ∷ ks) = if test k then Some 0 else option_map (λ i. suc i) (place_by test ks)
+-- the position of the first that passes
+abbrev pub position_by : (Kept → Bool) → List Kept → Option ℕ
+position_by test [] = None
+position_by test (k ∷ ks) = if test k then Some 0 else option_map (λ i. suc i) (position_by test ks)
 
--- each id has the place of the first delivery that was kept under it
+-- each id has the position of the first delivery that was kept under it
 pub record IsKept (t : ReplyTable) : Type 0 where
-  pub finds : (id : List ℕ) → get same_id t.places id ≡ place_by (has_id id) t.rows.items
+  pub finds : (id : List ℕ) → get same_id t.positions id ≡ position_by (has_id id) t.rows.items
 
 -- room for n more
 pub record HasRoom (n : ℕ) (t : ReplyTable) : Type 0 where
   pub rows : vec_len t.rows + n ≤ vec_capacity t.rows
-  pub places : n ≤ spare t.places
+  pub positions : n ≤ spare t.positions

@@ -3,15 +3,15 @@ use Rattle.std.specs.Prelude.{ℕ, Bool, not, ◌==◌, nat_lt, if◌then◌else
 use Rattle.std.specs.Prelude.{find, fold, slice_get, Option, Some, None, option_map, option_and_then}
 
 -- how many keys at the front are below n
-abbrev pub place_in : {X : Type 0} → (X → ℕ) → ℕ → List X → ℕ
-place_in key n [] = 0
-place_in key n (x ∷ xs) = if nat_lt (key x) n then suc (place_in key n xs) else 0
+abbrev pub position_in : {X : Type 0} → (X → ℕ) → ℕ → List X → ℕ
+position_in key n [] = 0
+position_in key n (x ∷ xs) = if nat_lt (key x) n then suc (position_in key n xs) else 0
 
--- the row at a place has this key, and is what is found of it
-pub record IsAt {X : Type 0} (key : X → ℕ) (n : ℕ) (xs : List X) (place : ℕ) : Type 0 where
-  pub within : place < length xs
-  pub has_key : option_map key (slice_get xs place) ≡ Some n
-  pub found : find (λ x. key x == n) xs ≡ slice_get xs place
+-- the row at a position has this key, and is what is found of it
+pub record IsAt {X : Type 0} (key : X → ℕ) (n : ℕ) (xs : List X) (position : ℕ) : Type 0 where
+  pub within : position < length xs
+  pub has_key : option_map key (slice_get xs position) ≡ Some n
+  pub found : find (λ x. key x == n) xs ≡ slice_get xs position
 
 -- the last row below a key
 abbrev pub last_below : {X : Type 0} → (X → ℕ) → ℕ → List X → Option X

@@ -98,20 +98,20 @@ fn first_number(told: &[Pair], serial: Serial) -> Option<u64>
     }
 }
 
-/// Moves the build at a place behind those that stay, unless it is of a serial, and says where those end then.
-fn keep_other(rows: &mut Vec<Build>, place: usize, end: usize, serial: Serial) -> usize
-    requires within { place < vec_len rows.old }
-    requires order { end ≤ place }
-    ensures kept { take result rows.new.items ++ filter (λ b. not (is_of serial b)) (drop (place + 1) rows.new.items)
-        ≡ take end rows.old.items ++ filter (λ b. not (is_of serial b)) (drop place rows.old.items) }
-    ensures order { result ≤ place + 1 }
+/// Moves the build at a position behind those that stay, unless it is of a serial, and says where those end then.
+fn keep_other(rows: &mut Vec<Build>, position: usize, end: usize, serial: Serial) -> usize
+    requires within { position < vec_len rows.old }
+    requires order { end ≤ position }
+    ensures kept { take result rows.new.items ++ filter (λ b. not (is_of serial b)) (drop (position + 1) rows.new.items)
+        ≡ take end rows.old.items ++ filter (λ b. not (is_of serial b)) (drop position rows.old.items) }
+    ensures order { result ≤ position + 1 }
     ensures len { vec_len rows.new ≡ vec_len rows.old }
     ensures capacity { vec_capacity rows.new ≡ vec_capacity rows.old }
 {
-    if is_of(&rows[place], serial) {
+    if is_of(&rows[position], serial) {
         return end;
     }
-    rows.swap(end, place);
+    rows.swap(end, position);
     end + 1
 }
 
@@ -123,10 +123,10 @@ fn drop_rows(rows: &mut Vec<Build>, first: u64, serial: Serial)
     ensures len { vec_len rows.new ≤ vec_len rows.old }
     ensures capacity { vec_capacity rows.new ≡ vec_capacity rows.old }
 {
-    let start = sorted::place_of(rows, first as u128);
+    let start = sorted::position_of(rows, first as u128);
     let mut end = start;
-    for place in start..rows.len() {
-        end = keep_other(rows, place, end, serial);
+    for position in start..rows.len() {
+        end = keep_other(rows, position, end, serial);
     }
     rows.truncate(end);
 }
@@ -136,8 +136,8 @@ fn set_outcome(rows: &mut Vec<Build>, number: BuildNo, outcome: Outcome)
     ensures rows { rows.new.items ≡ change_build number (with_outcome outcome) rows.old.items }
     ensures capacity { vec_capacity rows.new ≡ vec_capacity rows.old }
 {
-    if let Some(place) = sorted::place_at(rows, number.get() as u128) {
-        rows[place].outcome = outcome;
+    if let Some(position) = sorted::position_at(rows, number.get() as u128) {
+        rows[position].outcome = outcome;
     }
 }
 
@@ -148,10 +148,10 @@ fn stop(rows: &mut Vec<Build>, number: BuildNo) -> Option<Pair>
     ensures capacity { vec_capacity rows.new ≡ vec_capacity rows.old }
     ensures pair { IfSome result (λ pair. (pair.second ≡ number) × IsFit pair) }
 {
-    let Some(place) = sorted::place_at(rows, number.get() as u128) else {
+    let Some(position) = sorted::position_at(rows, number.get() as u128) else {
         return None;
     };
-    let build = &mut rows[place];
+    let build = &mut rows[position];
     build.live = false;
     Some(Pair {
         first: build.serial.get(),

@@ -30,7 +30,7 @@ use gate_types::sequence::Sequence;
 use std::alloc::{AllocError, Global};
 use std::collections::HashMap;
 
-/// All changes, the place of each number, and two indexes: of the ready ones (pairs of the number of the approval
+/// All changes, the position of each number, and two indexes: of the ready ones (pairs of the number of the approval
 /// and the change's own), and of needs (pairs of the needed change and one that needs it). Both indexes have what
 /// stands, and nothing of an earlier revision, so that they grow with the changes and not with what is put.
 ///
@@ -38,60 +38,60 @@ use std::collections::HashMap;
 #[derive(Drop)]
 pub struct ChangeTable {
     rows: Vec<ChangeRow>,
-    places: HashMap<u64, usize>,
+    positions: HashMap<u64, usize>,
     ready: Vec<Pair>,
     needs: Vec<Pair>,
 }
 
-fn place_of(places: &HashMap<u64, usize>, number: u64) -> Option<usize>
-    ensures { result ≡ get nat_eq places.now number }
+fn position_of(positions: &HashMap<u64, usize>, number: u64) -> Option<usize>
+    ensures { result ≡ get nat_eq positions.now number }
 {
-    match places.get(&number) {
-        Some(place) => Some(*place),
+    match positions.get(&number) {
+        Some(position) => Some(*position),
         None => None,
     }
 }
 
-/// Takes the place of a number out.
-fn take_place(places: &mut HashMap<u64, usize>, number: u64) -> Option<usize>
-    ensures value { result ≡ get nat_eq places.old number }
-    ensures gone { (q : ℕ) → get nat_eq places.new q ≡ if number == q then None else get nat_eq places.old q }
-    ensures room { spare places.old ≤ spare places.new }
+/// Takes the position of a number out.
+fn take_position(positions: &mut HashMap<u64, usize>, number: u64) -> Option<usize>
+    ensures value { result ≡ get nat_eq positions.old number }
+    ensures gone { (q : ℕ) → get nat_eq positions.new q ≡ if number == q then None else get nat_eq positions.old q }
+    ensures room { spare positions.old ≤ spare positions.new }
 {
-    places.remove(&number)
+    positions.remove(&number)
 }
 
-/// Writes over the place of a number that has one, which takes no memory.
-fn move_place(places: &mut HashMap<u64, usize>, number: u64, place: usize)
-    requires { IsSome (get nat_eq places.old number) }
-    ensures moved { (q : ℕ) → get nat_eq places.new q
-        ≡ if number == q then Some place else get nat_eq places.old q }
-    ensures room { spare places.new ≡ spare places.old }
+/// Writes over the position of a number that has one, which takes no memory.
+fn move_position(positions: &mut HashMap<u64, usize>, number: u64, position: usize)
+    requires { IsSome (get nat_eq positions.old number) }
+    ensures moved { (q : ℕ) → get nat_eq positions.new q
+        ≡ if number == q then Some position else get nat_eq positions.old q }
+    ensures room { spare positions.new ≡ spare positions.old }
 {
-    if let Some(held) = places.get_mut(&number) {
-        *held = place;
+    if let Some(held) = positions.get_mut(&number) {
+        *held = position;
     }
 }
 
 /// Puts a row where there is room, in place of one with its number.
-fn put_row(rows: &mut Vec<ChangeRow>, places: &mut HashMap<u64, usize>, row: ChangeRow)
+fn put_row(rows: &mut Vec<ChangeRow>, positions: &mut HashMap<u64, usize>, row: ChangeRow)
     requires room { vec_len rows.old < vec_capacity rows.old }
-    requires spare { 0 < spare places.old }
-    requires finds { FindsNumbers places.old rows.old.items }
+    requires spare { 0 < spare positions.old }
+    requires finds { FindsNumbers positions.old rows.old.items }
     requires apart { AreApart number_of_change rows.old.items }
     ensures rows { in_order number_of_change rows.new.items
         ≡ put_by number_of_change row (in_order number_of_change rows.old.items) }
-    ensures finds { FindsNumbers places.new rows.new.items }
+    ensures finds { FindsNumbers positions.new rows.new.items }
     ensures apart { AreApart number_of_change rows.new.items }
     ensures len { vec_len rows.new ≤ vec_len rows.old + 1 }
     ensures capacity { vec_capacity rows.new ≡ vec_capacity rows.old }
-    ensures room { spare places.old ≤ spare places.new + 1 }
+    ensures room { spare positions.old ≤ spare positions.new + 1 }
 {
     let number = number_of_row(&row);
-    match place_of(places, number) {
-        Some(place) => sorted::put_at(rows, place, row),
+    match position_of(positions, number) {
+        Some(position) => sorted::put_at(rows, position, row),
         None => {
-            let inserted: Result<_, _> = places.insert(number, rows.len());
+            let inserted: Result<_, _> = positions.insert(number, rows.len());
             let _old = inserted.unwrap();
             rows.push_reserved(row);
         }
@@ -99,24 +99,24 @@ fn put_row(rows: &mut Vec<ChangeRow>, places: &mut HashMap<u64, usize>, row: Cha
 }
 
 /// Drops the row of a number, if there is one. The last row takes its place.
-fn remove_row(rows: &mut Vec<ChangeRow>, places: &mut HashMap<u64, usize>, number: u64)
-    requires finds { FindsNumbers places.old rows.old.items }
+fn remove_row(rows: &mut Vec<ChangeRow>, positions: &mut HashMap<u64, usize>, number: u64)
+    requires finds { FindsNumbers positions.old rows.old.items }
     requires apart { AreApart number_of_change rows.old.items }
     ensures rows { in_order number_of_change rows.new.items
         ≡ without number_of_change number (in_order number_of_change rows.old.items) }
-    ensures finds { FindsNumbers places.new rows.new.items }
+    ensures finds { FindsNumbers positions.new rows.new.items }
     ensures apart { AreApart number_of_change rows.new.items }
     ensures len { vec_len rows.new ≤ vec_len rows.old }
     ensures capacity { vec_capacity rows.new ≡ vec_capacity rows.old }
-    ensures room { spare places.old ≤ spare places.new }
+    ensures room { spare positions.old ≤ spare positions.new }
 {
-    let Some(place) = take_place(places, number) else {
+    let Some(position) = take_position(positions, number) else {
         return;
     };
     let last = rows.pop().unwrap();
-    if place < rows.len() {
-        move_place(places, number_of_row(&last), place);
-        sorted::put_at(rows, place, last);
+    if position < rows.len() {
+        move_position(positions, number_of_row(&last), position);
+        sorted::put_at(rows, position, last);
     }
 }
 
@@ -126,33 +126,33 @@ fn number_of_row(row: &ChangeRow) -> u64
     row.change.number.get()
 }
 
-fn row_in(rows: &[ChangeRow], place: usize) -> Option<&ChangeRow>
-    ensures { option_copied result ≡ slice_get rows.now place }
+fn row_in(rows: &[ChangeRow], position: usize) -> Option<&ChangeRow>
+    ensures { option_copied result ≡ slice_get rows.now position }
 {
-    rows.get(place)
+    rows.get(position)
 }
 
 /// The row of a number.
 fn row_of<'a>(
     rows: &'a [ChangeRow],
-    places: &HashMap<u64, usize>,
+    positions: &HashMap<u64, usize>,
     number: u64,
 ) -> Option<&'a ChangeRow>
-    requires { FindsNumbers places.now rows.now }
+    requires { FindsNumbers positions.now rows.now }
     ensures { option_copied result ≡ find (λ r. r.change.number == number) (in_order number_of_change rows.now) }
 {
-    match place_of(places, number) {
-        Some(place) => row_in(rows, place),
+    match position_of(positions, number) {
+        Some(position) => row_in(rows, position),
         None => None,
     }
 }
 
 /// The approval number of a change, while it is ready.
-fn approval_of(rows: &[ChangeRow], places: &HashMap<u64, usize>, number: u64) -> Option<u64>
-    requires { FindsNumbers places.now rows.now }
+fn approval_of(rows: &[ChangeRow], positions: &HashMap<u64, usize>, number: u64) -> Option<u64>
+    requires { FindsNumbers positions.now rows.now }
     ensures { result ≡ approval_in (in_order number_of_change rows.now) number }
 {
-    match row_of(rows, places, number) {
+    match row_of(rows, positions, number) {
         Some(row) => row.approval,
         None => None,
     }
@@ -210,8 +210,13 @@ fn note_row(index: &mut Vec<Pair>, row: &ChangeRow)
 }
 
 /// Drops what the index keeps of the needs of a change.
-fn forget_row(index: &mut Vec<Pair>, rows: &[ChangeRow], places: &HashMap<u64, usize>, number: u64)
-    requires finds { FindsNumbers places.now rows.now }
+fn forget_row(
+    index: &mut Vec<Pair>,
+    rows: &[ChangeRow],
+    positions: &HashMap<u64, usize>,
+    number: u64,
+)
+    requires finds { FindsNumbers positions.now rows.now }
     requires order { AreInOrder index.old.items }
     ensures order { AreInOrder index.new.items }
     ensures gone { TellsNoneOf index.new.items number (needs_in (in_order number_of_change rows.now) number) }
@@ -220,17 +225,17 @@ fn forget_row(index: &mut Vec<Pair>, rows: &[ChangeRow], places: &HashMap<u64, u
     ensures len { vec_len index.new ≤ vec_len index.old }
     ensures capacity { vec_capacity index.new ≡ vec_capacity index.old }
 {
-    if let Some(row) = row_of(rows, places, number) {
+    if let Some(row) = row_of(rows, positions, number) {
         forget_needs(index, row.change.number, row.change.needs.as_slice());
     }
 }
 
 /// What a pair of the index tells, if it is still so.
-fn ready_at(rows: &[ChangeRow], places: &HashMap<u64, usize>, pair: Pair) -> Option<Ready>
-    requires { FindsNumbers places.now rows.now }
+fn ready_at(rows: &[ChangeRow], positions: &HashMap<u64, usize>, pair: Pair) -> Option<Ready>
+    requires { FindsNumbers positions.now rows.now }
     ensures { result ≡ ready_by (in_order number_of_change rows.now) pair }
 {
-    let row = row_of(rows, places, pair.second)?;
+    let row = row_of(rows, positions, pair.second)?;
     if row.approval == Some(pair.first) {
         Some(Ready {
             approval: pair.first,
@@ -254,15 +259,15 @@ fn push_ready(found: &mut Sequence<Ready>, ready: Option<Ready>) -> Result<(), N
 fn collect_ready(
     alloc: Global,
     rows: &[ChangeRow],
-    places: &HashMap<u64, usize>,
+    positions: &HashMap<u64, usize>,
     pairs: &[Pair],
 ) -> Result<Sequence<Ready>, NoMemory>
-    requires { FindsNumbers places.now rows.now }
+    requires { FindsNumbers positions.now rows.now }
     ensures { IfOk result (λ found. found ≡ filter_map (ready_by (in_order number_of_change rows.now)) pairs.now) }
 {
     let mut found = Sequence::new(alloc);
     for pair in pairs {
-        push_ready(&mut found, ready_at(rows, places, *pair))?;
+        push_ready(&mut found, ready_at(rows, positions, *pair))?;
     }
     Ok(found)
 }
@@ -281,14 +286,14 @@ fn row_needs(row: &ChangeRow, other: ChangeNo) -> bool
 /// The change that a pair names second, if it is ready and needs this one.
 fn ready_if_needing(
     rows: &[ChangeRow],
-    places: &HashMap<u64, usize>,
+    positions: &HashMap<u64, usize>,
     pair: Pair,
     change: ChangeNo,
 ) -> Option<Ready>
-    requires { FindsNumbers places.now rows.now }
+    requires { FindsNumbers positions.now rows.now }
     ensures { result ≡ needing_by (in_order number_of_change rows.now) change pair }
 {
-    let row = row_of(rows, places, pair.second)?;
+    let row = row_of(rows, positions, pair.second)?;
     let approval = row.approval?;
     if row_needs(row, change) {
         Some(Ready {
@@ -304,17 +309,17 @@ fn ready_if_needing(
 fn collect_needing(
     alloc: Global,
     rows: &[ChangeRow],
-    places: &HashMap<u64, usize>,
+    positions: &HashMap<u64, usize>,
     pairs: &[Pair],
     change: ChangeNo,
 ) -> Result<Sequence<Ready>, NoMemory>
-    requires { FindsNumbers places.now rows.now }
+    requires { FindsNumbers positions.now rows.now }
     ensures { IfOk result (λ found. found
         ≡ filter_map (needing_by (in_order number_of_change rows.now) change) pairs.now) }
 {
     let mut found = Sequence::new(alloc);
     for pair in pairs {
-        push_ready(&mut found, ready_if_needing(rows, places, *pair, change))?;
+        push_ready(&mut found, ready_if_needing(rows, positions, *pair, change))?;
     }
     Ok(found)
 }
@@ -336,7 +341,7 @@ impl ChangeTable {
     {
         ChangeTable {
             rows: Vec::new(alloc),
-            places: HashMap::new(alloc),
+            positions: HashMap::new(alloc),
             ready: Vec::new(alloc),
             needs: Vec::new(alloc),
         }
@@ -350,7 +355,7 @@ impl ChangeTable {
         ensures room { OnOk result (HasRoom n needs self.new) }
     {
         self.rows.reserve(n)?;
-        self.places.reserve(n)?;
+        self.positions.reserve(n)?;
         self.ready.reserve(n)?;
         self.needs.reserve(needs)?;
         Ok(())
@@ -366,15 +371,15 @@ impl ChangeTable {
     {
         let number = number_of_row(&row);
         let approval = row.approval;
-        forget_row(&mut self.needs, &self.rows, &self.places, number);
+        forget_row(&mut self.needs, &self.rows, &self.positions, number);
         note_row(&mut self.needs, &row);
         drop_ready(
             &mut self.ready,
-            approval_of(&self.rows, &self.places, number),
+            approval_of(&self.rows, &self.positions, number),
             number,
         );
         note_ready(&mut self.ready, approval, number);
-        put_row(&mut self.rows, &mut self.places, row);
+        put_row(&mut self.rows, &mut self.positions, row);
     }
 
     /// The change is no longer there, if it was.
@@ -385,20 +390,20 @@ impl ChangeTable {
         ensures room { (n m : ℕ) → HasRoom n m self.old → HasRoom n m self.new }
     {
         let number = number.get();
-        forget_row(&mut self.needs, &self.rows, &self.places, number);
+        forget_row(&mut self.needs, &self.rows, &self.positions, number);
         drop_ready(
             &mut self.ready,
-            approval_of(&self.rows, &self.places, number),
+            approval_of(&self.rows, &self.positions, number),
             number,
         );
-        remove_row(&mut self.rows, &mut self.places, number);
+        remove_row(&mut self.rows, &mut self.positions, number);
     }
 
     fn row(&self, number: ChangeNo) -> Option<&ChangeRow>
         requires { IsKept self.now }
         ensures { option_copied result ≡ find (λ r. r.change.number == number) (changes_of self.now) }
     {
-        row_of(&self.rows, &self.places, number.get())
+        row_of(&self.rows, &self.positions, number.get())
     }
 
     /// Whether a change is there.
@@ -424,7 +429,7 @@ impl ChangeTable {
         requires { IsKept self.now }
         ensures { result ≡ approval_in (changes_of self.now) number }
     {
-        approval_of(&self.rows, &self.places, number.get())
+        approval_of(&self.rows, &self.positions, number.get())
     }
 
     /// Pairs of which the second numbers tell the changes that need this one.
@@ -455,7 +460,7 @@ impl ChangeTable {
         requires { IsKept self.now }
         ensures { IfOk result (IsWhatRowsTell (changes_of self.now)) }
     {
-        let found = collect_ready(alloc, &self.rows, &self.places, &self.ready)?;
+        let found = collect_ready(alloc, &self.rows, &self.positions, &self.ready)?;
         Ok(found)
     }
 
@@ -470,7 +475,7 @@ impl ChangeTable {
         ensures { IfOk result (IsWhatRowsTellOf (changes_of self.now) change) }
     {
         let pairs = self.needing(change);
-        let found = collect_needing(alloc, &self.rows, &self.places, pairs, change)?;
+        let found = collect_needing(alloc, &self.rows, &self.positions, pairs, change)?;
         Ok(by_approval(found))
     }
 }

@@ -27,4 +27,4 @@ pub use needs::count_needs;
 pub use plans::PlanTable;
 pub use queues::QueueTable;
 pub use replies::ReplyTable;
-pub use sorted::{Keyed, at, place_at, put, put_at, remove};
+pub use sorted::{Keyed, at, position_at, put, put_at, remove};

@@ -4,7 +4,7 @@ ghost use Rattle.std.specs.List.{AllByRecursion, remove_range};
 ghost use Rattle.gate_types.specs.Rising.{RisesFrom};
 ghost use Rattle.gate_memory.specs.Pairs.{pair_key, IsFit};
 
-use crate::sorted::{Keyed, between, place_of};
+use crate::sorted::{Keyed, between, position_of};
 
 /// Two numbers, the first of which decides the order before the second.
 #[derive(Clone, Copy, PartialEq, Eq)]
@@ -46,8 +46,8 @@ pub fn of_first(pairs: &[Pair], first: u64) -> &[Pair]
     between(pairs, least.key(), next.key())
 }
 
-/// Drops the pairs from a place on, up to and without another.
-fn drop_places(pairs: &mut Vec<Pair>, start: usize, end: usize)
+/// Drops the pairs from a position on, up to and without another.
+fn drop_positions(pairs: &mut Vec<Pair>, start: usize, end: usize)
     requires ordered { start ≤ end }
     requires within { end ≤ vec_len pairs.old }
     ensures pairs { pairs.new.items ≡ remove_range pairs.old.items start end }
@@ -73,7 +73,7 @@ pub fn remove_first(pairs: &mut Vec<Pair>, first: u64)
         first: first + 1,
         second: 0,
     };
-    let start = place_of(pairs, least.key());
-    let end = place_of(pairs, next.key());
-    drop_places(pairs, start, end);
+    let start = position_of(pairs, least.key());
+    let end = position_of(pairs, next.key());
+    drop_positions(pairs, start, end);
 }

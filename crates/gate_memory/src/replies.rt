@@ -12,42 +12,42 @@ use gate_types::records::{Id, Kept};
 use std::alloc::{AllocError, Global};
 use std::collections::HashMap;
 
-/// The kept deliveries, in the order in which they were accepted, and the place of each id.
+/// The kept deliveries, in the order in which they were accepted, and the position of each id.
 #[derive(Drop)]
 pub struct ReplyTable {
     rows: Vec<Kept>,
-    places: HashMap<[u8; 16], usize>,
+    positions: HashMap<[u8; 16], usize>,
 }
 
-/// Notes the place of an id, unless it has one.
-fn note_place(places: &mut HashMap<[u8; 16], usize>, id: [u8; 16], place: usize)
-    requires { 0 < spare places.old }
-    ensures noted { (q : List ℕ) → get same_id places.new q
-        ≡ option_or (get same_id places.old q) (if same_id id q then Some place else None) }
-    ensures room { spare places.old ≤ spare places.new + 1 }
+/// Notes the position of an id, unless it has one.
+fn note_position(positions: &mut HashMap<[u8; 16], usize>, id: [u8; 16], position: usize)
+    requires { 0 < spare positions.old }
+    ensures noted { (q : List ℕ) → get same_id positions.new q
+        ≡ option_or (get same_id positions.old q) (if same_id id q then Some position else None) }
+    ensures room { spare positions.old ≤ spare positions.new + 1 }
 {
-    if places.get(&id).is_some() {
+    if positions.get(&id).is_some() {
         return;
     }
-    let inserted: Result<_, _> = places.insert(id, place);
+    let inserted: Result<_, _> = positions.insert(id, position);
     let _old = inserted.unwrap();
 }
 
-fn copy_at(rows: &[Kept], place: usize) -> Result<Option<Kept>, NoMemory>
-    ensures { IfOk result (λ found. found ≡ slice_get rows.now place) }
+fn copy_at(rows: &[Kept], position: usize) -> Result<Option<Kept>, NoMemory>
+    ensures { IfOk result (λ found. found ≡ slice_get rows.now position) }
 {
-    match rows.get(place) {
+    match rows.get(position) {
         Some(kept) => Ok(Some(kept.copy()?)),
         None => Ok(None),
     }
 }
 
-/// The rows behind a place.
-fn behind_place(rows: &[Kept], place: usize) -> &[Kept]
-    requires { place < length rows.now }
-    ensures { result.now ≡ drop (place + 1) rows.now }
+/// The rows behind a position.
+fn behind_position(rows: &[Kept], position: usize) -> &[Kept]
+    requires { position < length rows.now }
+    ensures { result.now ≡ drop (position + 1) rows.now }
 {
-    &rows[place + 1..]
+    &rows[position + 1..]
 }
 
 impl ReplyTable {
@@ -57,7 +57,7 @@ impl ReplyTable {
     {
         ReplyTable {
             rows: Vec::new(alloc),
-            places: HashMap::new(alloc),
+            positions: HashMap::new(alloc),
         }
     }
 
@@ -69,7 +69,7 @@ impl ReplyTable {
         ensures room { OnOk result (HasRoom n self.new) }
     {
         self.rows.reserve(n)?;
-        self.places.reserve(n)?;
+        self.positions.reserve(n)?;
         Ok(())
     }
 
@@ -81,7 +81,7 @@ impl ReplyTable {
         ensures kept { IsKept self.new }
         ensures room { (n : ℕ) → HasRoom (suc n) self.old → HasRoom n self.new }
     {
-        note_place(&mut self.places, kept.id.0, self.rows.len());
+        note_position(&mut self.positions, kept.id.0, self.rows.len());
         self.rows.push_reserved(kept);
     }
 
@@ -90,8 +90,8 @@ impl ReplyTable {
         requires { IsKept self.now }
         ensures { IfOk result (λ found. found ≡ kept_for id.now self.now.rows.items) }
     {
-        match self.places.get(&id.0) {
-            Some(place) => copy_at(&self.rows, *place),
+        match self.positions.get(&id.0) {
+            Some(position) => copy_at(&self.rows, *position),
             None => Ok(None),
         }
     }
@@ -109,8 +109,8 @@ impl ReplyTable {
         ensures there { IfSome result (λ ks. behind_id id.now self.now.rows.items ≡ Some ks.now) }
         ensures missing { IfNone result (behind_id id.now self.now.rows.items ≡ None) }
     {
-        match self.places.get(&id.0) {
-            Some(place) => Some(behind_place(&self.rows, *place)),
+        match self.positions.get(&id.0) {
+            Some(position) => Some(behind_position(&self.rows, *position)),
             None => None,
         }
     }

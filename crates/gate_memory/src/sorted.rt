@@ -4,7 +4,7 @@ ghost use Rattle.std.specs.Prelude.{slice_set, length, None, IfSome, IfNone, vec
 ghost use Rattle.std.specs.Option.{option_copied};
 ghost use Rattle.gate_types.specs.State.{put_by};
 ghost use Rattle.gate_types.specs.Rising.{RisesFrom};
-ghost use Rattle.gate_memory.specs.Sorted.{IsAt, place_in, last_below, without};
+ghost use Rattle.gate_memory.specs.Sorted.{IsAt, position_in, last_below, without};
 
 /// A row with a key.
 pub trait Keyed {
@@ -17,30 +17,30 @@ pub trait Keyed {
 }
 
 /// How many rows have keys below this one.
-pub fn place_of<T: Keyed>(rows: &[T], key: u128) -> usize
+pub fn position_of<T: Keyed>(rows: &[T], key: u128) -> usize
     requires { RisesFrom T.key 0 rows.now }
     ensures bound { result ≤ length rows.now }
-    ensures place { result ≡ place_in T.key key rows.now }
+    ensures position { result ≡ position_in T.key key rows.now }
 {
     rows.partition_point(|row| row.key() < key)
 }
 
-/// The row at a place.
-fn row_at<T>(rows: &[T], place: usize) -> Option<&T>
-    ensures { option_copied result ≡ slice_get rows.now place }
+/// The row at a position.
+fn row_at<T>(rows: &[T], position: usize) -> Option<&T>
+    ensures { option_copied result ≡ slice_get rows.now position }
 {
-    rows.get(place)
+    rows.get(position)
 }
 
-/// The place of the row of a key.
-pub fn place_at<T: Keyed>(rows: &[T], key: u128) -> Option<usize>
+/// The position of the row of a key.
+pub fn position_at<T: Keyed>(rows: &[T], key: u128) -> Option<usize>
     requires { RisesFrom T.key 0 rows.now }
-    ensures there { IfSome result (λ place. IsAt T.key key rows.now place) }
+    ensures there { IfSome result (λ position. IsAt T.key key rows.now position) }
     ensures missing { IfNone result (find (λ row. T.key row == key) rows.now ≡ None) }
 {
-    let place = place_of(rows, key);
-    if place < rows.len() && rows[place].key() == key {
-        Some(place)
+    let position = position_of(rows, key);
+    if position < rows.len() && rows[position].key() == key {
+        Some(position)
     } else {
         None
     }
@@ -51,8 +51,8 @@ pub fn at<T: Keyed>(rows: &[T], key: u128) -> Option<&T>
     requires { RisesFrom T.key 0 rows.now }
     ensures { option_copied result ≡ find (λ row. T.key row == key) rows.now }
 {
-    match place_at(rows, key) {
-        Some(place) => row_at(rows, place),
+    match position_at(rows, key) {
+        Some(position) => row_at(rows, position),
         None => None,
     }
 }
@@ -62,7 +62,7 @@ pub fn above<T: Keyed>(rows: &[T], key: u64) -> Option<&T>
     requires { RisesFrom T.key 0 rows.now }
     ensures { option_copied result ≡ find (λ row. nat_lt key (T.key row)) rows.now }
 {
-    row_at(rows, place_of(rows, key as u128 + 1))
+    row_at(rows, position_of(rows, key as u128 + 1))
 }
 
 /// The last row below a key.
@@ -70,11 +70,11 @@ pub fn last_below<T: Keyed>(rows: &[T], key: u64) -> Option<&T>
     requires { RisesFrom T.key 0 rows.now }
     ensures { option_copied result ≡ last_below T.key key rows.now }
 {
-    let place = place_of(rows, key as u128);
-    if place == 0 {
+    let position = position_of(rows, key as u128);
+    if position == 0 {
         None
     } else {
-        Some(&rows[place - 1])
+        Some(&rows[position - 1])
     }
 }
 
@@ -84,8 +84,8 @@ pub fn behind<T: Keyed>(rows: &[T], key: u64) -> &[T]
     ensures rows { result.now ≡ filter (λ row. nat_lt key (T.key row)) rows.now }
     ensures rising { RisesFrom T.key 0 result.now }
 {
-    let place = place_of(rows, key as u128 + 1);
-    &rows[place..]
+    let position = position_of(rows, key as u128 + 1);
+    &rows[position..]
 }
 
 /// The rows up to a key.
@@ -93,8 +93,8 @@ pub fn up_to<T: Keyed>(rows: &[T], key: u64) -> &[T]
     requires { RisesFrom T.key 0 rows.now }
     ensures { result.now ≡ filter (λ row. nat_le (T.key row) key) rows.now }
 {
-    let place = place_of(rows, key as u128 + 1);
-    &rows[..place]
+    let position = position_of(rows, key as u128 + 1);
+    &rows[..position]
 }
 
 /// The first rows, no more than `most`.
@@ -110,8 +110,8 @@ pub fn between<T: Keyed>(rows: &[T], from: u128, to: u128) -> &[T]
     requires order { from ≤ to }
     ensures { result.now ≡ filter (λ row. nat_le from (T.key row) && nat_lt (T.key row) to) rows.now }
 {
-    let start = place_of(rows, from);
-    let end = place_of(rows, to);
+    let start = position_of(rows, from);
+    let end = position_of(rows, to);
     &rows[start..end]
 }
 
@@ -125,22 +125,22 @@ pub fn put<T: Keyed + Drop>(rows: &mut Vec<T>, row: T)
     ensures capacity { vec_capacity rows.new ≡ vec_capacity rows.old }
 {
     let key = row.key();
-    let place = place_of(rows, key);
-    if place < rows.len() && rows[place].key() == key {
-        rows[place] = row;
+    let position = position_of(rows, key);
+    if position < rows.len() && rows[position].key() == key {
+        rows[position] = row;
     } else {
-        rows.insert(place, row).unwrap();
+        rows.insert(position, row).unwrap();
     }
 }
 
 /// Puts a row in place of one.
-pub fn put_at<T: Drop>(rows: &mut Vec<T>, place: usize, row: T)
-    requires { place < vec_len rows.old }
-    ensures rows { rows.new.items ≡ slice_set rows.old.items place row }
+pub fn put_at<T: Drop>(rows: &mut Vec<T>, position: usize, row: T)
+    requires { position < vec_len rows.old }
+    ensures rows { rows.new.items ≡ slice_set rows.old.items position row }
     ensures capacity { vec_capacity rows.new ≡ vec_capacity rows.old }
     ensures len { vec_len rows.new ≡ vec_len rows.old }
 {
-    rows[place] = row;
+    rows[position] = row;
 }
 
 /// Drops the row of a key, if there is one.
@@ -151,8 +151,8 @@ pub fn remove<T: Keyed + Drop>(rows: &mut Vec<T>, key: u128)
     ensures len { vec_len rows.new ≤ vec_len rows.old }
     ensures capacity { vec_capacity rows.new ≡ vec_capacity rows.old }
 {
-    let place = place_of(rows, key);
-    if place < rows.len() && rows[place].key() == key {
-        let _row = rows.remove(place);
+    let position = position_of(rows, key);
+    if position < rows.len() && rows[position].key() == key {
+        let _row = rows.remove(position);
     }
 }

@@ -8,8 +8,8 @@ use Rattle.gate_memory.proofs.builds.set_outcome.Goals as goal
 
 pub returns-in-Some-clause-rows : goal.returns-in-Some-clause-rows
 returns-in-Some-clause-rows c =
-    let there : IsAt number_of c.args.number c.args.rows.now.items c.in-Some.place = rw (c.get.ensures.value, c.deref.ensures.value) at c.in-Some.ensures.there in
-    changed_at number_of c.args.number (with_outcome c.args.outcome) c.args.rows.now.items c.in-Some.place c.index_mut.result.now c.index_mut.result.now c.requires there c.index_mut.ensures.value
+    let there : IsAt number_of c.args.number c.args.rows.now.items c.in-Some.position = rw (c.get.ensures.value, c.deref.ensures.value) at c.in-Some.ensures.there in
+    changed_at number_of c.args.number (with_outcome c.args.outcome) c.args.rows.now.items c.in-Some.position c.index_mut.result.now c.index_mut.result.now c.requires there c.index_mut.ensures.value
 
 pub returns-in_default-clause-rows : goal.returns-in_default-clause-rows
 returns-in_default-clause-rows c =

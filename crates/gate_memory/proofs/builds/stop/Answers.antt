@@ -13,11 +13,11 @@ returns-in_default-clause-rows c =
 
 pub returns-clause-rows : goal.returns-clause-rows
 returns-clause-rows c =
-    let there : IsAt number_of c.args.number c.args.rows.now.items c.in-Some.place = rw (c.get.ensures.value, c.deref.ensures.value) at c.in-Some.ensures.there in
-    changed_at number_of c.args.number (with_live false) c.args.rows.now.items c.in-Some.place c.index_mut-build.result.now c.index_mut-build.result.now c.requires there c.index_mut-build.ensures.value
+    let there : IsAt number_of c.args.number c.args.rows.now.items c.in-Some.position = rw (c.get.ensures.value, c.deref.ensures.value) at c.in-Some.ensures.there in
+    changed_at number_of c.args.number (with_live false) c.args.rows.now.items c.in-Some.position c.index_mut-build.result.now c.index_mut-build.result.now c.requires there c.index_mut-build.ensures.value
 
 pub returns-clause-pair : goal.returns-clause-pair
 returns-clause-pair c =
-    let there : IsAt number_of c.args.number c.args.rows.now.items c.in-Some.place = rw (c.get.ensures.value, c.deref.ensures.value) at c.in-Some.ensures.there in
-    let same = c.get-3.ensures.value ∙ ap number_of c.index_mut-build.ensures.value ∙ key_at number_of c.args.number c.args.rows.now.items c.in-Some.place c.index_mut-build.result.now there in
+    let there : IsAt number_of c.args.number c.args.rows.now.items c.in-Some.position = rw (c.get.ensures.value, c.deref.ensures.value) at c.in-Some.ensures.there in
+    let same = c.get-3.ensures.value ∙ ap number_of c.index_mut-build.ensures.value ∙ key_at number_of c.args.number c.args.rows.now.items c.in-Some.position c.index_mut-build.result.now there in
     (same, c.get-3.type_inv)

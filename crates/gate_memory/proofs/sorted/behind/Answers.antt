@@ -7,10 +7,10 @@ use Rattle.gate_memory.proofs.sorted.behind.Goals as goal
 pub returns-clause-rows : goal.returns-clause-rows
 returns-clause-rows g c =
     let rows = c.args.rows.now in
-    let place = c.place_of-place.result in
-    let all : length (drop place rows) ≤ length rows - place = omega (arith, length-drop place rows) in
-    take_all (length rows - place) (drop place rows) all
-    ∙ ap (λ i. drop i rows) c.place_of-place.ensures.place ∙ behind_is g.T.Keyed.key c.args.key 0 rows c.requires
+    let position = c.position_of-position.result in
+    let all : length (drop position rows) ≤ length rows - position = omega (arith, length-drop position rows) in
+    take_all (length rows - position) (drop position rows) all
+    ∙ ap (λ i. drop i rows) c.position_of-position.ensures.position ∙ behind_is g.T.Keyed.key c.args.key 0 rows c.requires
 
 pub returns-clause-rising : goal.returns-clause-rising
 returns-clause-rising g c =

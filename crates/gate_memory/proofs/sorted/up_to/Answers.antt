@@ -5,4 +5,4 @@ use Rattle.gate_memory.proofs.sorted.up_to.Goals as goal
 
 pub returns : goal.returns
 returns g c =
-    ap (λ i. take i c.args.rows.now) c.place_of-place.ensures.place ∙ up_to_is g.T.Keyed.key c.args.key 0 c.args.rows.now c.requires
+    ap (λ i. take i c.args.rows.now) c.position_of-position.ensures.position ∙ up_to_is g.T.Keyed.key c.args.key 0 c.args.rows.now c.requires
