@@ -16,7 +16,7 @@ ghost use Rattle.gate_book_trait.specs.RowReads.{plans_of_rows, all_queued, land
 ghost use Rattle.gate_memory.specs.TableReads.{IsWhatRowsTellOf, builds_of_rows};
 ghost use Rattle.gate_book.specs.Memory.{tables_of, IsKept, HasRoom, HasRoomBeside, drawn_of, start_with};
 ghost use Rattle.gate_types.specs.AdoptedTables.{adopted_tables, empty_rows};
-ghost use Rattle.gate_types.specs.Counters.{within};
+ghost use Rattle.gate_types.specs.Counters.{capped};
 
 use crate::adopting::adopt_queues;
 use gate_book_trait::QueuedItem;
@@ -514,7 +514,7 @@ impl MemTables {
 
     /// The last numbers drawn, none above the last that there is.
     pub(crate) fn counters(&self) -> Counters
-        ensures { result ≡ within (tables_of self.now).counters }
+        ensures { result ≡ capped (tables_of self.now).counters }
     {
         Counters {
             approval: self.drawn.approval.min(LAST_NUMBER),

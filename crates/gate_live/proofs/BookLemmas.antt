@@ -3,7 +3,7 @@ use Rattle.std.proofs.Common.{◌≡◌, ◌≤◌, min, true, List, Option, Som
 use Rattle.std.specs.Prelude.{◌&&◌, nat_le, option_map, IfSome, OnOk, OnErr, Result, Ok, Err}
 use Rattle.std.proofs.lemmas.Bool.{and_parts}
 use borrow.Author.Tests.{leb-true}
-use Rattle.gate_types.specs.Counters.{Drawn, last_number, within}
+use Rattle.gate_types.specs.Counters.{Drawn, capped, last_number}
 use Rattle.gate_types.specs.Forms.{are_counters_in_form}
 use Rattle.gate_types.specs.Once.{Content}
 use Rattle.gate_types.specs.Settings.{Settings}
@@ -46,8 +46,8 @@ held_is c x p held h view e agrees =
 -- ---- counters
 
 -- counters in form are none above the last number
-pub within_form : (d : Drawn) → are_counters_in_form d ≡ true → within d ≡ d
-within_form d e =
+pub capped_form : (d : Drawn) → are_counters_in_form d ≡ true → capped d ≡ d
+capped_form d e =
     let outer = and_parts (nat_le d.approval last_number && nat_le d.build last_number) (nat_le d.order last_number) e in
     let inner = and_parts (nat_le d.approval last_number) (nat_le d.build last_number) outer.0 in
     let a : d.approval ≤ last_number = leb-true d.approval last_number inner.0 in

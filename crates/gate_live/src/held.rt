@@ -4,7 +4,7 @@ ghost use Rattle.std.specs.List.{AllByRecursion};
 ghost use Rattle.std.specs.Option.{option_copied, option_map_or};
 ghost use Rattle.gate_types.specs.Names.{same_name};
 ghost use Rattle.gate_types.specs.Tables.{set_counter, edited_counters};
-ghost use Rattle.gate_types.specs.Counters.{within};
+ghost use Rattle.gate_types.specs.Counters.{capped};
 ghost use Rattle.gate_book_trait.specs.Reads as read;
 ghost use Rattle.gate_memory.specs.Queues as queue_table;
 ghost use Rattle.gate_live.specs.Live.{edited_live, edited_live_queue, fold_live, live_named, live_items, live_queued};
@@ -339,7 +339,7 @@ impl Held {
 
     /// The last numbers drawn, each capped at `LAST_NUMBER`.
     pub(crate) fn counters(&self) -> Counters
-        ensures { result ≡ within (live_of self.now).counters }
+        ensures { result ≡ capped (live_of self.now).counters }
     {
         Counters {
             approval: self.drawn.approval.min(LAST_NUMBER),

@@ -12,8 +12,8 @@ pub record Drawn : Type 0 where
   pub order : ℕ
 
 -- the counters, none above the last number
-abbrev pub within : Drawn → Drawn
-within d = record {
+abbrev pub capped : Drawn → Drawn
+capped d = record {
   approval = min d.approval last_number;
   build = min d.build last_number;
   order = min d.order last_number;
