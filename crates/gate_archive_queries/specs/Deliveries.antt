@@ -70,7 +70,7 @@ abbrev pub WritesPart : {W : Type 0} → (W → Option (List ℕ)) → Tap W →
 WritesPart held old new text result =
     MatchResult result (λ _. Took held old new text × (has_failed new ≡ false)) (CutsPart held old new text)
 
--- why the lines weren't written whole: the first row was not had, or some first bytes were written
+-- why the lines weren't written whole: the first row could not be read, or some first bytes were written
 abbrev pub CutsLines : {W : Type 0} → (W → Option (List ℕ)) → Tap W → Tap W → List ℕ → FeedFault → Type 0
 CutsLines held old new text fault.NoDelivery = ⊥
 CutsLines held old new text fault.Unavailable = ⊤

@@ -7,8 +7,8 @@ use Rattle.gate_types.specs.Once.{Content, Call, once, answers, answer_of, next_
 use Rattle.gate_types.specs.Adopt.{may_adopt, adopted_content}
 use Rattle.gate_types.specs.Events.{Event, called, set, through, answers_through, next_gated}
 use Rattle.gate_types.specs.Gated.{Gated, opened}
-use Rattle.gate_laws.specs.Adoption.{IsSoundEvent, IsEventInForm, CallsAreOnce, IsGovernedLawfully}
-use Rattle.gate_laws.specs.Adoption.{EventsAreLawful, IsGovernedInForm, EventsAreInForm}
+use Rattle.gate_laws.specs.Adoption.{IsSoundEvent, IsEventInForm, CallsAreOnce, IsGatedLawfully}
+use Rattle.gate_laws.specs.Adoption.{EventsAreLawful, IsGatedInForm, EventsAreInForm}
 use Rattle.gate_laws.specs.Adoption.{EveryChangeLandsOnceThroughEvents, EveryLandingIsShownThroughEvents}
 use Rattle.gate_laws.proofs.StartIsLawful.{start_lawful}
 use Rattle.gate_laws.proofs.RunIsLawful.{next_lawful}
@@ -32,17 +32,17 @@ calls_are_once = record { content = λ c x ks. calls_through c ks x; answers = �
 
 -- ---- from the empty gate
 
-event_lawful : (g : Gated) (e : Event) → IsSoundEvent e → IsGovernedLawfully g →
-    IsGovernedLawfully (next_gated g e)
+event_lawful : (g : Gated) (e : Event) → IsSoundEvent e → IsGatedLawfully g →
+    IsGatedLawfully (next_gated g e)
 event_lawful g (called k) w h =
     record { settings = h.settings; state = next_lawful g.settings h.settings g.content k h.state }
 event_lawful g (set d) w h =
     cond_both (may_adopt g.settings d) (record { settings = d; content = adopted_content g.settings d g.content }) g
-    IsGovernedLawfully
+    IsGatedLawfully
     (λ e. record { settings = w; state = adopted_lawful g.settings d g.content.state h.settings w e h.state }) (λ e. h)
 
-through_lawful : (es : List Event) (g : Gated) → Each IsSoundEvent es → IsGovernedLawfully g →
-    IsGovernedLawfully (through g es)
+through_lawful : (es : List Event) (g : Gated) → Each IsSoundEvent es → IsGatedLawfully g →
+    IsGatedLawfully (through g es)
 through_lawful [] g w h = h
 through_lawful (e ∷ es) g w h = through_lawful es (next_gated g e) w.1 (event_lawful g e w.0 h)
 
@@ -57,7 +57,7 @@ every_landing_is_shown_through_events c es w v = (events_are_lawful c es w v).st
 
 -- ---- from any content
 
-event_in_form : (g : Gated) (e : Event) → IsEventInForm e → IsGovernedInForm g → IsGovernedInForm (next_gated g e)
+event_in_form : (g : Gated) (e : Event) → IsEventInForm e → IsGatedInForm g → IsGatedInForm (next_gated g e)
 event_in_form g (called k) v h = record {
   settings = h.settings;
   in_form = h.in_form;
@@ -65,15 +65,15 @@ event_in_form g (called k) v h = record {
 }
 event_in_form g (set d) v h =
     cond_both (may_adopt g.settings d) (record { settings = d; content = adopted_content g.settings d g.content }) g
-    IsGovernedInForm
+    IsGatedInForm
     (λ e. record {
       settings = v.0;
       in_form = v.1;
       content = adopted_content_is_lawful g.settings d g.content h.settings v.0 v.1 e h.content;
     }) (λ e. h)
 
-through_in_form : (es : List Event) (g : Gated) → Each IsEventInForm es → IsGovernedInForm g →
-    IsGovernedInForm (through g es)
+through_in_form : (es : List Event) (g : Gated) → Each IsEventInForm es → IsGatedInForm g →
+    IsGatedInForm (through g es)
 through_in_form [] g v h = h
 through_in_form (e ∷ es) g v h = through_in_form es (next_gated g e) v.1 (event_in_form g e v.0 h)
 

@@ -59,23 +59,23 @@ pub record CallsAreOnce : Type 0 where
       answers_through (record { settings = c; content = x }) (map called ks) ≡ answers c x ks
 
 -- the settings in force are sound, and the state is lawful under them, whatever came
-pub record IsGovernedLawfully (g : Gated) : Type 0 where
+pub record IsGatedLawfully (g : Gated) : Type 0 where
   pub settings : are_sound g.settings ≡ true
   pub state : IsLawful g.settings g.content.state
 
 abbrev pub EventsAreLawful : Type 0
 EventsAreLawful = (c : Settings) (es : List Event) → are_sound c ≡ true → Each IsSoundEvent es →
-    IsGovernedLawfully (through (opened c) es)
+    IsGatedLawfully (through (opened c) es)
 
 -- from any lawful content, all stays lawful and of its form
-pub record IsGovernedInForm (g : Gated) : Type 0 where
+pub record IsGatedInForm (g : Gated) : Type 0 where
   pub settings : are_sound g.settings ≡ true
   pub in_form : are_settings_in_form g.settings ≡ true
   pub content : IsLawfulContent g.settings g.content
 
 abbrev pub EventsAreInForm : Type 0
-EventsAreInForm = (g : Gated) (es : List Event) → IsGovernedInForm g → Each IsEventInForm es →
-    IsGovernedInForm (through g es)
+EventsAreInForm = (g : Gated) (es : List Event) → IsGatedInForm g → Each IsEventInForm es →
+    IsGatedInForm (through g es)
 
 -- no change stands twice among all landings
 abbrev pub EveryChangeLandsOnceThroughEvents : Type 0

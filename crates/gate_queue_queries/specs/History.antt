@@ -68,7 +68,7 @@ pub record OfReports (s : State) (name front : List ℕ) (Takes : List ℕ → T
   pub taken : (b : Stored) → IsShown s b → (rs : List Report) → HoldsReports b name rs →
       Takes (front ++ reports_text name rs)
 
--- why it was not written whole: the first row was not had, or a beginning was written
+-- why it was not written whole: the first row could not be read, or a beginning was written
 abbrev pub LeavesReports : {W : Type 0} → State → List ℕ → List ℕ → (W → Option (List ℕ)) → Tap W → Tap W →
     HistoryFault → Type 0
 LeavesReports s name front held old new fault.NoQueue = OfReports s name front (λ _. ⊥)
@@ -87,7 +87,7 @@ pub record WritesPart {W : Type 0} (held : W → Option (List ℕ)) (old new : T
   pub taken : IsWritten held old new text result
   pub stops : LeavesTap new result
 
--- why a text was not written whole: the first row was not had, or a beginning was written
+-- why a text was not written whole: the first row could not be read, or a beginning was written
 abbrev pub CutsText : {W : Type 0} → (W → Option (List ℕ)) → Tap W → Tap W → List ℕ → HistoryFault → Type 0
 CutsText held old new text fault.NoQueue = ⊥
 CutsText held old new text fault.Unavailable = ⊤
