@@ -6,7 +6,7 @@ use gate_types::numbers::ChangeNo;
 use gate_types::records::{Counters, Item, Plan, Ready};
 use std::process::Abort;
 
-pub fn window_is<B: Book>(
+pub(crate) fn window_is<B: Book>(
     rt: &(impl Abort + AllocGlobal),
     book: &mut B,
     queue: &str,
@@ -17,7 +17,7 @@ pub fn window_is<B: Book>(
 }
 
 /// A queue has so many items and landings.
-pub fn sizes_are<B: Book>(
+pub(crate) fn sizes_are<B: Book>(
     rt: &(impl Abort + AllocGlobal),
     book: &mut B,
     queue: &str,
@@ -29,7 +29,7 @@ pub fn sizes_are<B: Book>(
     assert!(rt; book.landing_count(&name) == Ok(landings), "{queue}");
 }
 
-pub fn reports_are<B: Book>(
+pub(crate) fn reports_are<B: Book>(
     rt: &(impl Abort + AllocGlobal),
     book: &mut B,
     queue: &str,
@@ -40,7 +40,7 @@ pub fn reports_are<B: Book>(
 }
 
 /// So many landings of `core` have a lower serial.
-pub fn landings_before<B: Book>(
+pub(crate) fn landings_before<B: Book>(
     rt: &(impl Abort + AllocGlobal),
     book: &mut B,
     serial: u64,
@@ -50,24 +50,34 @@ pub fn landings_before<B: Book>(
     assert!(rt; found == Ok(wanted), "{serial}");
 }
 
-pub fn counters_are<B: Book>(rt: &impl Abort, book: &mut B, wanted: Counters) {
+pub(crate) fn counters_are<B: Book>(rt: &impl Abort, book: &mut B, wanted: Counters) {
     assert!(rt; book.counters() == Ok(wanted));
 }
 
-pub fn ready_are<B: Book>(rt: &impl Abort, book: &mut B, wanted: &[Ready]) {
+pub(crate) fn ready_are<B: Book>(rt: &impl Abort, book: &mut B, wanted: &[Ready]) {
     let ready = book.ready().expect(rt, "the ready list");
     assert!(rt; ready.as_slice() == wanted);
 }
 
 /// The ready changes that need this one.
-pub fn ready_needing_is<B: Book>(rt: &impl Abort, book: &mut B, change: u64, wanted: &[Ready]) {
+pub(crate) fn ready_needing_is<B: Book>(
+    rt: &impl Abort,
+    book: &mut B,
+    change: u64,
+    wanted: &[Ready],
+) {
     let found = book.ready_needing(change_no(rt, change));
     let ready = found.expect(rt, "ready changes");
     assert!(rt; ready.as_slice() == wanted, "{change}");
 }
 
 /// A change's approval has this number; None where it isn't ready.
-pub fn approval_is<B: Book>(rt: &impl Abort, book: &mut B, change: u64, wanted: Option<u64>) {
+pub(crate) fn approval_is<B: Book>(
+    rt: &impl Abort,
+    book: &mut B,
+    change: u64,
+    wanted: Option<u64>,
+) {
     assert!(rt;
         book.approval(change_no(rt, change)) == Ok(wanted),
         "{change}"
@@ -75,17 +85,17 @@ pub fn approval_is<B: Book>(rt: &impl Abort, book: &mut B, change: u64, wanted: 
 }
 
 /// The items of `core`.
-pub fn items_are<B: Book>(rt: &(impl Abort + AllocGlobal), book: &mut B, wanted: &[Item]) {
+pub(crate) fn items_are<B: Book>(rt: &(impl Abort + AllocGlobal), book: &mut B, wanted: &[Item]) {
     let items = book.items(&name(rt, "core")).expect(rt, "items");
     assert!(rt; items.as_slice() == wanted);
 }
 
-pub fn item_is<B: Book>(rt: &impl Abort, book: &mut B, serial: u64, wanted: Option<Item>) {
+pub(crate) fn item_is<B: Book>(rt: &impl Abort, book: &mut B, serial: u64, wanted: Option<Item>) {
     assert!(rt; book.item(serial_no(rt, serial)) == Ok(wanted), "{serial}");
 }
 
 /// The first item of `core` above a serial.
-pub fn next_item_is<B: Book>(
+pub(crate) fn next_item_is<B: Book>(
     rt: &(impl Abort + AllocGlobal),
     book: &mut B,
     above: u64,
@@ -98,7 +108,7 @@ pub fn next_item_is<B: Book>(
 }
 
 /// The last item of `core` below a serial.
-pub fn last_item_is<B: Book>(
+pub(crate) fn last_item_is<B: Book>(
     rt: &(impl Abort + AllocGlobal),
     book: &mut B,
     below: u64,
@@ -111,7 +121,7 @@ pub fn last_item_is<B: Book>(
 }
 
 /// The first items of `core` above a serial, no more than `most`.
-pub fn next_items_are<B: Book>(
+pub(crate) fn next_items_are<B: Book>(
     rt: &(impl Abort + AllocGlobal),
     book: &mut B,
     above: u64,
@@ -124,7 +134,7 @@ pub fn next_items_are<B: Book>(
 }
 
 /// The items of `core` above a serial whose changes need this one.
-pub fn needing_is<B: Book>(
+pub(crate) fn needing_is<B: Book>(
     rt: &(impl Abort + AllocGlobal),
     book: &mut B,
     change: u64,
@@ -137,14 +147,14 @@ pub fn needing_is<B: Book>(
 }
 
 /// A change stands in `core` as this item.
-pub fn queued_is<B: Book>(rt: &impl Abort, book: &mut B, change: u64, wanted: Item) {
+pub(crate) fn queued_is<B: Book>(rt: &impl Abort, book: &mut B, change: u64, wanted: Item) {
     let queued = book.queued(change_no(rt, change)).expect(rt, "an item");
     let queued = queued.expect(rt, "an item");
     assert_eq!(rt; queued.queue.as_str(), "core");
     assert!(rt; queued.item == wanted, "{change}");
 }
 
-pub fn not_queued<B: Book>(rt: &impl Abort, book: &mut B, change: u64) {
+pub(crate) fn not_queued<B: Book>(rt: &impl Abort, book: &mut B, change: u64) {
     assert!(rt;
         matches!(&book.queued(change_no(rt, change)), Ok(None)),
         "{change}"
@@ -152,13 +162,13 @@ pub fn not_queued<B: Book>(rt: &impl Abort, book: &mut B, change: u64) {
 }
 
 /// A change is known, and needs these.
-pub fn needs_are<B: Book>(rt: &impl Abort, book: &mut B, change: u64, wanted: &[ChangeNo]) {
+pub(crate) fn needs_are<B: Book>(rt: &impl Abort, book: &mut B, change: u64, wanted: &[ChangeNo]) {
     let known = book.change(change_no(rt, change)).expect(rt, "a change");
     let needs = known.expect(rt, "a change").needs;
     assert!(rt; needs.as_slice() == wanted, "{change}");
 }
 
-pub fn not_known<B: Book>(rt: &impl Abort, book: &mut B, change: u64) {
+pub(crate) fn not_known<B: Book>(rt: &impl Abort, book: &mut B, change: u64) {
     assert!(rt;
         matches!(&book.change(change_no(rt, change)), Ok(None)),
         "{change}"
@@ -178,7 +188,12 @@ fn plan_text(rt: &(impl Abort + AllocGlobal), plan: &Plan) -> String {
 }
 
 /// Under a serial stands this plan.
-pub fn plan_is<B: Book>(rt: &(impl Abort + AllocGlobal), book: &mut B, serial: u64, wanted: &str) {
+pub(crate) fn plan_is<B: Book>(
+    rt: &(impl Abort + AllocGlobal),
+    book: &mut B,
+    serial: u64,
+    wanted: &str,
+) {
     let found = book.plan(serial_no(rt, serial)).expect(rt, "a plan");
     let plan = found.expect(rt, "a plan");
     assert_eq!(rt; plan.serial.get(), serial);
@@ -186,7 +201,7 @@ pub fn plan_is<B: Book>(rt: &(impl Abort + AllocGlobal), book: &mut B, serial: u
 }
 
 /// The items of `core` above a serial up to another have plans under these serials.
-pub fn planned_between<B: Book>(
+pub(crate) fn planned_between<B: Book>(
     rt: &(impl Abort + AllocGlobal),
     book: &mut B,
     above: u64,
@@ -200,7 +215,7 @@ pub fn planned_between<B: Book>(
 }
 
 /// The items of `core` above a serial up to another have live builds of these numbers.
-pub fn live_between<B: Book>(
+pub(crate) fn live_between<B: Book>(
     rt: &(impl Abort + AllocGlobal),
     book: &mut B,
     above: u64,
@@ -213,7 +228,7 @@ pub fn live_between<B: Book>(
     assert!(rt; numbers.eq(wanted.iter().copied()), "{above} {last}");
 }
 
-pub fn no_plan<B: Book>(rt: &impl Abort, book: &mut B, serial: u64) {
+pub(crate) fn no_plan<B: Book>(rt: &impl Abort, book: &mut B, serial: u64) {
     assert!(rt;
         matches!(&book.plan(serial_no(rt, serial)), Ok(None)),
         "{serial}"
@@ -221,18 +236,18 @@ pub fn no_plan<B: Book>(rt: &impl Abort, book: &mut B, serial: u64) {
 }
 
 /// An item has so many live builds.
-pub fn live_builds<B: Book>(rt: &impl Abort, book: &mut B, serial: u64, wanted: usize) {
+pub(crate) fn live_builds<B: Book>(rt: &impl Abort, book: &mut B, serial: u64, wanted: usize) {
     let live = book.live_builds(serial_no(rt, serial)).expect(rt, "builds");
     assert!(rt; live.as_slice().len() == wanted, "{serial}");
 }
 
 /// This reply is kept under an id.
-pub fn reply_is<B: Book>(rt: &impl Abort, book: &mut B, number: u64, wanted: &str) {
+pub(crate) fn reply_is<B: Book>(rt: &impl Abort, book: &mut B, number: u64, wanted: &str) {
     let kept = book.delivery(&id(number)).expect(rt, "a kept reply");
     let reply = kept.expect(rt, "a kept reply").reply;
     assert_eq!(rt; reply.as_str(), wanted);
 }
 
-pub fn no_reply<B: Book>(rt: &impl Abort, book: &mut B, number: u64) {
+pub(crate) fn no_reply<B: Book>(rt: &impl Abort, book: &mut B, number: u64) {
     assert!(rt; matches!(&book.delivery(&id(number)), Ok(None)), "{number}");
 }

@@ -10,15 +10,15 @@ use std::io::Write;
 
 /// Answers as the book in it; the first edits are refused by a fault, if one is set, and so is one read, by the store.
 #[derive(Drop)]
-pub struct Counting<B> {
-    pub book: B,
-    pub reads: u32,
-    pub refuses: Option<BookFault>,
-    pub fails_at: Option<u32>,
+pub(crate) struct Counting<B> {
+    pub(crate) book: B,
+    pub(crate) reads: u32,
+    pub(crate) refuses: Option<BookFault>,
+    pub(crate) fails_at: Option<u32>,
 }
 
 /// Over this book, asked for nothing yet.
-pub fn counted<B: Book>(book: B, refuses: Option<BookFault>) -> Counting<B> {
+pub(crate) fn counted<B: Book>(book: B, refuses: Option<BookFault>) -> Counting<B> {
     Counting {
         book,
         reads: 0,
@@ -28,7 +28,7 @@ pub fn counted<B: Book>(book: B, refuses: Option<BookFault>) -> Counting<B> {
 }
 
 /// The same, where the store refuses a read: the first one is 1.
-pub fn failing_at<B: Book>(book: B, read: u32) -> Counting<B> {
+pub(crate) fn failing_at<B: Book>(book: B, read: u32) -> Counting<B> {
     Counting {
         book,
         reads: 0,

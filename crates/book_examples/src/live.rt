@@ -16,10 +16,10 @@ use gate_types::edits::Edit;
 use gate_types::records::{Counters, Landing, Verdict};
 use std::process::Abort;
 
-pub type Live = LiveBook<Counting<MemBook>>;
+pub(crate) type Live = LiveBook<Counting<MemBook>>;
 
 /// Over the book of the first edits, with nothing held.
-pub fn unfilled(rt: &(impl Abort + AllocGlobal), refuses: Option<BookFault>) -> Live {
+pub(crate) fn unfilled(rt: &(impl Abort + AllocGlobal), refuses: Option<BookFault>) -> Live {
     LiveBook::new(rt.alloc(), counted(first_book(rt), refuses))
 }
 
@@ -30,14 +30,14 @@ fn fill(rt: &(impl Abort + AllocGlobal), book: &mut Live) {
 
 /// Seven reads fill it: the window, the items, the landings and the reports of its queue, the counters, the ready list
 /// and the only change that is ready.
-pub fn filled(rt: &(impl Abort + AllocGlobal), refuses: Option<BookFault>) -> Live {
+pub(crate) fn filled(rt: &(impl Abort + AllocGlobal), refuses: Option<BookFault>) -> Live {
     let mut book = unfilled(rt, refuses);
     fill(rt, &mut book);
     book
 }
 
 /// The book below was asked so often.
-pub fn reads_are(rt: &impl Abort, book: Live, wanted: u32) -> MemBook {
+pub(crate) fn reads_are(rt: &impl Abort, book: Live, wanted: u32) -> MemBook {
     let Counting {
         book,
         reads,
@@ -134,7 +134,7 @@ fn edits_change_both(rt: HostRuntime) {
 }
 
 /// The fault that the book below answers to these edits.
-pub fn is_refused(rt: &impl Abort, book: &mut Live, edits: &[Edit], wanted: BookFault) {
+pub(crate) fn is_refused(rt: &impl Abort, book: &mut Live, edits: &[Edit], wanted: BookFault) {
     assert!(rt; book.apply(edits) == Err(wanted));
 }
 

@@ -55,7 +55,7 @@ fn queues_are_read_back(rt: HostRuntime) {
     queues_are_told(&rt, &mut book);
 }
 
-pub fn items_are_told<B: Book>(rt: &(impl Abort + AllocGlobal), book: &mut B) {
+pub(crate) fn items_are_told<B: Book>(rt: &(impl Abort + AllocGlobal), book: &mut B) {
     items_are(rt, book, [item(rt, 2, 101), item(rt, 4, 102)].as_slice());
     item_is(rt, book, 4, Some(item(rt, 4, 102)));
     item_is(rt, book, 3, None);
@@ -74,7 +74,7 @@ fn items_are_read_back(rt: HostRuntime) {
     items_are_told(&rt, &mut book);
 }
 
-pub fn changes_and_builds_are_told<B: Book>(rt: &(impl Abort + AllocGlobal), book: &mut B) {
+pub(crate) fn changes_and_builds_are_told<B: Book>(rt: &(impl Abort + AllocGlobal), book: &mut B) {
     needs_are(rt, book, 102, [change_no(rt, 101)].as_slice());
     let ready = Ready {
         approval: 7,
@@ -116,7 +116,7 @@ fn approvals_are_read_back(rt: HostRuntime) {
 }
 
 /// Of the items and of the landing, and no others.
-pub fn plans_are_told<B: Book>(rt: &(impl Abort + AllocGlobal), book: &mut B) {
+pub(crate) fn plans_are_told<B: Book>(rt: &(impl Abort + AllocGlobal), book: &mut B) {
     plan_is(rt, book, 1, "-docs unit slow");
     plan_is(rt, book, 2, "unit -docs fast");
     plan_is(rt, book, 4, "unit slow");

@@ -7,7 +7,7 @@ use gate_live::LiveBook;
 use gate_types::records::Ready;
 use std::process::Abort;
 
-pub fn ready(rt: &impl Abort, approval: u64, change: u64) -> Ready {
+pub(crate) fn ready(rt: &impl Abort, approval: u64, change: u64) -> Ready {
     Ready {
         approval,
         change: change_no(rt, change),

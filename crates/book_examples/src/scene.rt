@@ -13,37 +13,37 @@ use gate_types::records::{
 use gate_types::sequence::Sequence;
 use std::process::Abort;
 
-pub fn name(rt: &(impl Abort + AllocGlobal), text: &str) -> Name {
+pub(crate) fn name(rt: &(impl Abort + AllocGlobal), text: &str) -> Name {
     let text = String::from_str(rt.alloc(), text).expect(rt, "memory");
     Name::new(text).expect(rt, "a name")
 }
 
-pub fn path_name(rt: &(impl Abort + AllocGlobal), text: &str) -> PathName {
+pub(crate) fn path_name(rt: &(impl Abort + AllocGlobal), text: &str) -> PathName {
     let text = String::from_str(rt.alloc(), text).expect(rt, "memory");
     PathName::new(text).expect(rt, "a path name")
 }
 
-pub fn text(rt: &(impl Abort + AllocGlobal), text: &str) -> Text {
+pub(crate) fn text(rt: &(impl Abort + AllocGlobal), text: &str) -> Text {
     Text::new(String::from_str(rt.alloc(), text).expect(rt, "memory"))
 }
 
-pub fn change_no(rt: &impl Abort, number: u64) -> ChangeNo {
+pub(crate) fn change_no(rt: &impl Abort, number: u64) -> ChangeNo {
     ChangeNo::new(number).expect(rt, "a change number")
 }
 
-pub fn serial_no(rt: &impl Abort, number: u64) -> Serial {
+pub(crate) fn serial_no(rt: &impl Abort, number: u64) -> Serial {
     Serial::new(number).expect(rt, "a serial")
 }
 
-pub fn build_no(rt: &impl Abort, number: u64) -> BuildNo {
+pub(crate) fn build_no(rt: &impl Abort, number: u64) -> BuildNo {
     BuildNo::new(number).expect(rt, "a build number")
 }
 
-pub fn first_revision(rt: &impl Abort) -> Revision {
+pub(crate) fn first_revision(rt: &impl Abort) -> Revision {
     Revision::new(1).expect(rt, "a revision")
 }
 
-pub fn queues(rt: &(impl Abort + AllocGlobal), core: Name) -> Sequence<Queue>
+pub(crate) fn queues(rt: &(impl Abort + AllocGlobal), core: Name) -> Sequence<Queue>
     ensures { result ≡ record { name = core; window = 10; floor = 1; rule = default_rule } ∷ [] }
 {
     let mut queues = Sequence::new(rt.alloc());
@@ -57,7 +57,7 @@ pub fn queues(rt: &(impl Abort + AllocGlobal), core: Name) -> Sequence<Queue>
     queues
 }
 
-pub fn jobs(rt: &(impl Abort + AllocGlobal), unit: Name) -> Sequence<Job>
+pub(crate) fn jobs(rt: &(impl Abort + AllocGlobal), unit: Name) -> Sequence<Job>
     ensures { result ≡ record { name = unit; voting = true } ∷ [] }
 {
     let mut jobs = Sequence::new(rt.alloc());
@@ -69,7 +69,7 @@ pub fn jobs(rt: &(impl Abort + AllocGlobal), unit: Name) -> Sequence<Job>
     jobs
 }
 
-pub fn projects(
+pub(crate) fn projects(
     rt: &(impl Abort + AllocGlobal),
     name: PathName,
     queue: Name,
@@ -95,7 +95,7 @@ pub fn projects(
 }
 
 /// A queue `core` for the project `lib`.
-pub fn settings(rt: &(impl Abort + AllocGlobal)) -> Config {
+pub(crate) fn settings(rt: &(impl Abort + AllocGlobal)) -> Config {
     let base = String::from_str(rt.alloc(), "https://forge/c/").expect(rt, "memory");
     let base = Base::new(base).expect(rt, "a base");
     let core = name(rt, "core");
@@ -128,7 +128,7 @@ fn change(rt: &(impl Abort + AllocGlobal), number: u64, need: Option<u64>) -> Ch
     }
 }
 
-pub fn item(rt: &impl Abort, serial: u64, number: u64) -> Item {
+pub(crate) fn item(rt: &impl Abort, serial: u64, number: u64) -> Item {
     Item {
         serial: serial_no(rt, serial),
         change: change_no(rt, number),
@@ -138,7 +138,12 @@ pub fn item(rt: &impl Abort, serial: u64, number: u64) -> Item {
     }
 }
 
-pub fn build(rt: &(impl Abort + AllocGlobal), number: u64, serial: u64, change: u64) -> Build {
+pub(crate) fn build(
+    rt: &(impl Abort + AllocGlobal),
+    number: u64,
+    serial: u64,
+    change: u64,
+) -> Build {
     Build {
         number: build_no(rt, number),
         queue: name(rt, "core"),
@@ -153,11 +158,11 @@ pub fn build(rt: &(impl Abort + AllocGlobal), number: u64, serial: u64, change: 
     }
 }
 
-pub fn id(number: u64) -> Id {
+pub(crate) fn id(number: u64) -> Id {
     Id((number as u128).to_be_bytes())
 }
 
-pub fn put_change(
+pub(crate) fn put_change(
     rt: &(impl Abort + AllocGlobal),
     number: u64,
     need: Option<u64>,
@@ -169,7 +174,7 @@ pub fn put_change(
     }
 }
 
-pub fn put_item(rt: &(impl Abort + AllocGlobal), serial: u64, number: u64) -> Edit {
+pub(crate) fn put_item(rt: &(impl Abort + AllocGlobal), serial: u64, number: u64) -> Edit {
     Edit::PutItem {
         queue: name(rt, "core"),
         item: item(rt, serial, number),
@@ -187,7 +192,12 @@ fn jobs_of(rt: &(impl Abort + AllocGlobal), names: &str) -> Sequence<Job> {
     jobs
 }
 
-pub fn put_plan(rt: &(impl Abort + AllocGlobal), serial: u64, jobs: &str, fast: bool) -> Edit {
+pub(crate) fn put_plan(
+    rt: &(impl Abort + AllocGlobal),
+    serial: u64,
+    jobs: &str,
+    fast: bool,
+) -> Edit {
     Edit::PutPlan(Plan {
         serial: serial_no(rt, serial),
         jobs: jobs_of(rt, jobs),
@@ -195,7 +205,7 @@ pub fn put_plan(rt: &(impl Abort + AllocGlobal), serial: u64, jobs: &str, fast: 
     })
 }
 
-pub fn put_landing(rt: &(impl Abort + AllocGlobal)) -> Edit {
+pub(crate) fn put_landing(rt: &(impl Abort + AllocGlobal)) -> Edit {
     Edit::PutLanding {
         queue: name(rt, "core"),
         place: 1,
@@ -207,7 +217,7 @@ pub fn put_landing(rt: &(impl Abort + AllocGlobal)) -> Edit {
     }
 }
 
-pub fn put_report(
+pub(crate) fn put_report(
     rt: &(impl Abort + AllocGlobal),
     place: u64,
     serial: u64,
@@ -226,18 +236,23 @@ pub fn put_report(
     }
 }
 
-pub fn put_build(rt: &(impl Abort + AllocGlobal), number: u64, serial: u64, change: u64) -> Edit {
+pub(crate) fn put_build(
+    rt: &(impl Abort + AllocGlobal),
+    number: u64,
+    serial: u64,
+    change: u64,
+) -> Edit {
     Edit::PutBuild(build(rt, number, serial, change))
 }
 
-pub fn set_outcome(rt: &impl Abort, number: u64, outcome: Outcome) -> Edit {
+pub(crate) fn set_outcome(rt: &impl Abort, number: u64, outcome: Outcome) -> Edit {
     Edit::SetOutcome {
         build: build_no(rt, number),
         outcome,
     }
 }
 
-pub fn set_order_counter(drawn: u64) -> Edit {
+pub(crate) fn set_order_counter(drawn: u64) -> Edit {
     Edit::SetCounter {
         counter: Counter::Order,
         drawn,
@@ -245,7 +260,7 @@ pub fn set_order_counter(drawn: u64) -> Edit {
 }
 
 /// Keeps a reply under an id.
-pub fn keep(rt: &(impl Abort + AllocGlobal), number: u64, reply: &str) -> Edit {
+pub(crate) fn keep(rt: &(impl Abort + AllocGlobal), number: u64, reply: &str) -> Edit {
     Edit::Keep(Kept {
         id: id(number),
         said: text(rt, "said"),
@@ -253,7 +268,7 @@ pub fn keep(rt: &(impl Abort + AllocGlobal), number: u64, reply: &str) -> Edit {
     })
 }
 
-pub fn set_window(rt: &(impl Abort + AllocGlobal), window: u32) -> Edit {
+pub(crate) fn set_window(rt: &(impl Abort + AllocGlobal), window: u32) -> Edit {
     Edit::SetWindow {
         queue: name(rt, "core"),
         window,
@@ -266,7 +281,7 @@ fn push(rt: &impl Abort, edits: &mut Vec<Edit>, edit: Edit) {
 
 /// Changes 101, 102 (which needs 101) and 103 (approved); items 2, which fails fast, and 4; a landing, a report and
 /// two builds of item 2.
-pub fn first_edits(rt: &(impl Abort + AllocGlobal)) -> Vec<Edit> {
+pub(crate) fn first_edits(rt: &(impl Abort + AllocGlobal)) -> Vec<Edit> {
     let mut edits = Vec::new(rt.alloc());
     push(rt, &mut edits, put_change(rt, 103, None, Some(7)));
     push(rt, &mut edits, put_change(rt, 101, None, None));
@@ -291,7 +306,7 @@ pub fn first_edits(rt: &(impl Abort + AllocGlobal)) -> Vec<Edit> {
 }
 
 /// Item 2 leaves, one of its builds stops, the other fails, change 103 is no longer ready.
-pub fn later_edits(rt: &(impl Abort + AllocGlobal)) -> Vec<Edit> {
+pub(crate) fn later_edits(rt: &(impl Abort + AllocGlobal)) -> Vec<Edit> {
     let mut edits = Vec::new(rt.alloc());
     push(rt, &mut edits, Edit::DropItem(serial_no(rt, 2)));
     push(rt, &mut edits, Edit::StopBuild(build_no(rt, 1)));
@@ -302,12 +317,12 @@ pub fn later_edits(rt: &(impl Abort + AllocGlobal)) -> Vec<Edit> {
 }
 
 /// Does what edits say.
-pub fn apply<B: Book>(rt: &impl Abort, book: &mut B, edits: &[Edit]) {
+pub(crate) fn apply<B: Book>(rt: &impl Abort, book: &mut B, edits: &[Edit]) {
     book.apply(edits).expect(rt, "memory");
 }
 
 /// A book that holds what these edits make of an empty one.
-pub fn book_of(rt: &(impl Abort + AllocGlobal), edits: &[Edit]) -> MemBook {
+pub(crate) fn book_of(rt: &(impl Abort + AllocGlobal), edits: &[Edit]) -> MemBook {
     let config = settings(rt);
     let mut book = MemBook::new(rt.alloc(), &config).expect(rt, "memory");
     apply(rt, &mut book, edits);
@@ -315,7 +330,7 @@ pub fn book_of(rt: &(impl Abort + AllocGlobal), edits: &[Edit]) -> MemBook {
 }
 
 /// A book that holds what the first edits make of an empty one.
-pub fn first_book(rt: &(impl Abort + AllocGlobal)) -> MemBook {
+pub(crate) fn first_book(rt: &(impl Abort + AllocGlobal)) -> MemBook {
     let edits = first_edits(rt);
     book_of(rt, edits.as_slice())
 }

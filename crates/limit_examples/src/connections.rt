@@ -18,7 +18,7 @@ fn exchanges(alloc: Global) -> Result<Exchanges, AllocError> {
 }
 
 /// Each client is answered.
-pub fn serves<B: Archive>(rt: &(impl Abort + AllocGlobal), gate: &mut Gate<B>) {
+pub(crate) fn serves<B: Archive>(rt: &(impl Abort + AllocGlobal), gate: &mut Gate<B>) {
     let exchanges = exchanges(rt.alloc()).expect(rt, "memory");
     are_served(rt, gate, &exchanges, "connections");
 }

@@ -12,7 +12,7 @@ use std::str::from_utf8;
 
 /// What clients send, one after another, and all that they are to get.
 #[derive(Drop)]
-pub struct Exchanges {
+pub(crate) struct Exchanges {
     alloc: Global,
     requests: Vec<String>,
     responses: String,
@@ -37,7 +37,7 @@ fn status_of(answer: &str) -> &'static str {
 }
 
 impl Exchanges {
-    pub fn new(alloc: Global) -> Self {
+    pub(crate) fn new(alloc: Global) -> Self {
         Self {
             alloc,
             requests: Vec::new(alloc),
@@ -57,13 +57,13 @@ impl Exchanges {
     }
 
     /// The page at a path is of this type, and has this text.
-    pub fn get(&mut self, path: &str, kind: &str, text: &str) -> Result<(), AllocError> {
+    pub(crate) fn get(&mut self, path: &str, kind: &str, text: &str) -> Result<(), AllocError> {
         self.ask(path)?;
         self.respond("200 OK", kind, text)
     }
 
     /// What is written line by line at a path is this text. It has no length.
-    pub fn stream(&mut self, path: &str, text: &str) -> Result<(), AllocError> {
+    pub(crate) fn stream(&mut self, path: &str, text: &str) -> Result<(), AllocError> {
         self.ask(path)?;
         self.responses.push_str(
             "HTTP/1.1 200 OK\r\nContent-Type: text/plain\r\nConnection: close\r\n\r\n",
@@ -73,7 +73,7 @@ impl Exchanges {
     }
 
     /// The deliveries of a talk get its answers.
-    pub fn talk(&mut self, talk: &str) -> Result<(), AllocError> {
+    pub(crate) fn talk(&mut self, talk: &str) -> Result<(), AllocError> {
         for part in talk.split("> ") {
             if let Some((delivery, answer)) = part.split_once("\n< ") {
                 self.post(delivery, answer.trim_end())?;
@@ -116,7 +116,7 @@ fn all_served<B: Archive>(
 }
 
 /// Each client gets its response.
-pub fn are_served<B: Archive>(
+pub(crate) fn are_served<B: Archive>(
     rt: &(impl Abort + AllocGlobal),
     gate: &mut Gate<B>,
     exchanges: &Exchanges,

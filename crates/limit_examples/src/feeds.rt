@@ -90,7 +90,7 @@ fn has_all<B: Archive>(rt: &(impl Abort + AllocGlobal), gate: &mut Gate<B>, text
 }
 
 /// The gate tells its deliveries again.
-pub fn plays<B: Archive>(rt: &(impl Abort + AllocGlobal), gate: &mut Gate<B>) {
+pub(crate) fn plays<B: Archive>(rt: &(impl Abort + AllocGlobal), gate: &mut Gate<B>) {
     let feeds = new_feeds(rt.alloc()).expect(rt, "memory");
     has_feed(rt, gate, "", feeds.first.as_str());
     has_feed(rt, gate, SECOND, feeds.second.as_str());
@@ -99,7 +99,7 @@ pub fn plays<B: Archive>(rt: &(impl Abort + AllocGlobal), gate: &mut Gate<B>) {
 }
 
 /// The same by requests.
-pub fn ask(alloc: Global, exchanges: &mut Exchanges) -> Result<(), AllocError> {
+pub(crate) fn ask(alloc: Global, exchanges: &mut Exchanges) -> Result<(), AllocError> {
     let feeds = new_feeds(alloc)?;
     exchanges.stream("/deliveries", feeds.first.as_str())?;
     let path = format!(in alloc; "/deliveries/{SECOND}")?;

@@ -7,13 +7,13 @@ use sqlite::{Alter, Connection};
 use std::process::Abort;
 
 /// A gate of these settings over a book in memory.
-pub fn gate_in_memory(rt: &(impl Abort + AllocGlobal), config: Config) -> Gate<MemBook> {
+pub(crate) fn gate_in_memory(rt: &(impl Abort + AllocGlobal), config: Config) -> Gate<MemBook> {
     let book = MemBook::new(rt.alloc(), &config).expect(rt, "a book");
     Gate::new(config, book)
 }
 
 /// A file with the tables of a new gate of these settings.
-pub fn made<S: Alter + Drop>(
+pub(crate) fn made<S: Alter + Drop>(
     rt: &(impl Abort + AllocGlobal),
     conn: Connection<S>,
     config: &Config,
@@ -23,7 +23,7 @@ pub fn made<S: Alter + Drop>(
 }
 
 /// The gate of these settings in a file.
-pub fn gate_in<S: Alter + Drop>(
+pub(crate) fn gate_in<S: Alter + Drop>(
     rt: &(impl Abort + AllocGlobal),
     conn: Connection<S>,
     config: Config,
@@ -33,6 +33,6 @@ pub fn gate_in<S: Alter + Drop>(
 }
 
 /// The connection that a gate was made over. A test ends a gate so: the end of a connection takes the prover less.
-pub fn conn_of<S: Alter + Drop>(gate: Gate<SqlBook<S>>) -> Connection<S> {
+pub(crate) fn conn_of<S: Alter + Drop>(gate: Gate<SqlBook<S>>) -> Connection<S> {
     gate.into_book().into_conn()
 }

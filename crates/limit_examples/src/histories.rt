@@ -85,7 +85,7 @@ fn has_history<B: Archive>(
 }
 
 /// The gate has these histories behind its deliveries, and tells the deliveries again.
-pub fn plays<B: Archive>(rt: &(impl Abort + AllocGlobal), gate: &mut Gate<B>) {
+pub(crate) fn plays<B: Archive>(rt: &(impl Abort + AllocGlobal), gate: &mut Gate<B>) {
     let talk = talk(rt.alloc()).expect(rt, "memory");
     tells(rt, gate, "reports", talk.as_str());
     let histories = new_histories(rt.alloc()).expect(rt, "memory");
@@ -111,7 +111,7 @@ fn exchanges(alloc: Global) -> Result<Exchanges, AllocError> {
 }
 
 /// The gate has the same histories over HTTP.
-pub fn serves<B: Archive>(rt: &(impl Abort + AllocGlobal), gate: &mut Gate<B>) {
+pub(crate) fn serves<B: Archive>(rt: &(impl Abort + AllocGlobal), gate: &mut Gate<B>) {
     let exchanges = exchanges(rt.alloc()).expect(rt, "memory");
     are_served(rt, gate, &exchanges, "histories");
 }

@@ -147,7 +147,7 @@ fn shows<B: Archive>(
 }
 
 /// The gate is told, and shows, what it is to.
-pub fn plays<B: Archive>(rt: &(impl Abort + AllocGlobal), gate: &mut Gate<B>) {
+pub(crate) fn plays<B: Archive>(rt: &(impl Abort + AllocGlobal), gate: &mut Gate<B>) {
     let texts = new_texts(rt.alloc()).expect(rt, "memory");
     tells(rt, gate, "built", texts.built.as_str());
     shows(rt, gate, texts.orders.as_str(), texts.status.as_str());
@@ -169,7 +169,7 @@ fn exchanges(alloc: Global) -> Result<Exchanges, AllocError> {
 }
 
 /// The gate answers and shows the same over HTTP.
-pub fn serves<B: Archive>(rt: &(impl Abort + AllocGlobal), gate: &mut Gate<B>) {
+pub(crate) fn serves<B: Archive>(rt: &(impl Abort + AllocGlobal), gate: &mut Gate<B>) {
     let exchanges = exchanges(rt.alloc()).expect(rt, "memory");
     are_served(rt, gate, &exchanges, "each queue");
 }

@@ -152,7 +152,11 @@ fn prepared<S: Alter + Drop>(
 }
 
 /// The next change lands in a file in which so many numbers are drawn.
-pub fn plays_in<S: Alter + Drop>(rt: &(impl Abort + AllocGlobal), conn: Connection<S>, drawn: u64) {
+pub(crate) fn plays_in<S: Alter + Drop>(
+    rt: &(impl Abort + AllocGlobal),
+    conn: Connection<S>,
+    drawn: u64,
+) {
     let config = one_job(rt);
     let conn = made(rt, conn, &config);
     let conn = prepared(rt, conn, with(rt, PREPARED, drawn).as_str());

@@ -11,7 +11,7 @@ use std::process::Abort;
 
 /// What is told and shown.
 #[derive(Clone, Copy)]
-pub enum Scene {
+pub(crate) enum Scene {
     /// A change of each queue lands, under the largest settings.
     Largest,
     /// There are 2,500 reports, and 5,001 deliveries.
@@ -22,7 +22,7 @@ pub enum Scene {
 
 /// What is played over tables.
 #[derive(Clone, Copy)]
-pub enum Stored {
+pub(crate) enum Stored {
     Scene(Scene),
     /// A change lands where so many numbers were drawn.
     Numbers(u64),
@@ -30,7 +30,7 @@ pub enum Stored {
 
 /// What is asked over HTTP.
 #[derive(Clone, Copy)]
-pub enum Asked {
+pub(crate) enum Asked {
     Scene(Scene),
     /// Fifty connections.
     Connections,
@@ -89,19 +89,19 @@ fn stored_in<S: Alter + Drop>(
 }
 
 /// It is played by a gate over a book in memory.
-pub fn in_memory(rt: &(impl Abort + AllocGlobal), scene: Scene) {
+pub(crate) fn in_memory(rt: &(impl Abort + AllocGlobal), scene: Scene) {
     let config = settings(rt, scene);
     plays(rt, &mut gate_in_memory(rt, config), scene);
 }
 
 /// It is asked of a gate over a book in memory.
-pub fn over_http(rt: &(impl Abort + AllocGlobal), asked: Asked) {
+pub(crate) fn over_http(rt: &(impl Abort + AllocGlobal), asked: Asked) {
     let config = settings_asked(rt, asked);
     serves(rt, &mut gate_in_memory(rt, config), asked);
 }
 
 /// It is played over the tables of a file in memory.
-pub fn over_tables(rt: &(impl Abort + AllocGlobal), stored: Stored) {
+pub(crate) fn over_tables(rt: &(impl Abort + AllocGlobal), stored: Stored) {
     let conn = Connection::open_in_memory(rt.alloc())
         .ok()
         .expect(rt, "a connection");

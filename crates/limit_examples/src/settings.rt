@@ -5,13 +5,13 @@ use std::alloc::{AllocError, Global};
 use std::process::Abort;
 
 /// As many queues as there may be.
-pub const QUEUES: u32 = 32;
+pub(crate) const QUEUES: u32 = 32;
 
 /// With this many projects in each queue there are 256, as many as there may be.
-pub const PROJECTS_OF_A_QUEUE: u32 = 8;
+pub(crate) const PROJECTS_OF_A_QUEUE: u32 = 8;
 
 /// As many jobs as a project may have.
-pub const JOBS: u32 = 32;
+pub(crate) const JOBS: u32 = 32;
 
 /// The first lines of settings.
 const FORGE: &str = "[forge]\nbase = \"https://forge/c/\"\n";
@@ -77,18 +77,18 @@ fn config(rt: &(impl Abort + AllocGlobal), text: &str) -> Config {
 }
 
 /// The largest settings.
-pub fn largest(rt: &(impl Abort + AllocGlobal)) -> Config {
+pub(crate) fn largest(rt: &(impl Abort + AllocGlobal)) -> Config {
     let text = largest_text(rt.alloc()).expect(rt, "memory");
     config(rt, text.as_str())
 }
 
 /// The queue `core`, with a project `lib` that has as many jobs as there may be.
-pub fn many_jobs(rt: &(impl Abort + AllocGlobal)) -> Config {
+pub(crate) fn many_jobs(rt: &(impl Abort + AllocGlobal)) -> Config {
     let text = many_jobs_text(rt.alloc()).expect(rt, "memory");
     config(rt, text.as_str())
 }
 
 /// The queue `core`, with a project `lib` that has one job.
-pub fn one_job(rt: &(impl Abort + AllocGlobal)) -> Config {
+pub(crate) fn one_job(rt: &(impl Abort + AllocGlobal)) -> Config {
     config(rt, ONE_JOB)
 }

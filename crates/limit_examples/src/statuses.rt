@@ -29,7 +29,7 @@ fn status(alloc: Global) -> Result<String, AllocError> {
 }
 
 /// The gate has this status behind its deliveries.
-pub fn plays<B: Archive>(rt: &(impl Abort + AllocGlobal), gate: &mut Gate<B>) {
+pub(crate) fn plays<B: Archive>(rt: &(impl Abort + AllocGlobal), gate: &mut Gate<B>) {
     let talk = approvals(rt.alloc(), ITEMS).expect(rt, "memory");
     tells(rt, gate, "items", talk.as_str());
     let text = status(rt.alloc()).expect(rt, "memory");
@@ -48,7 +48,7 @@ fn exchanges(alloc: Global) -> Result<Exchanges, AllocError> {
 }
 
 /// The gate has the same status over HTTP.
-pub fn serves<B: Archive>(rt: &(impl Abort + AllocGlobal), gate: &mut Gate<B>) {
+pub(crate) fn serves<B: Archive>(rt: &(impl Abort + AllocGlobal), gate: &mut Gate<B>) {
     let exchanges = exchanges(rt.alloc()).expect(rt, "memory");
     are_served(rt, gate, &exchanges, "a status");
 }

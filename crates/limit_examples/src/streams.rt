@@ -5,7 +5,7 @@ use std::io::{ErrorKind, Read, Write};
 use std::net::{Ipv4Addr, OpenListener, OpenStream, Shutdown, SocketAddr};
 
 /// What is kept behind a response once its stream says that no more follows.
-pub const CLOSED: &str = "\n(closed)\n";
+pub(crate) const CLOSED: &str = "\n(closed)\n";
 
 /// Adds what a client gets.
 fn keep(got: &RefCell<Vec<u8>>, bytes: &[u8]) -> io::Result<()> {
@@ -20,7 +20,7 @@ fn keep(got: &RefCell<Vec<u8>>, bytes: &[u8]) -> io::Result<()> {
 
 /// A client's end: what it sends is read, and what it gets is kept behind what all before it got.
 #[derive(Drop)]
-pub struct Stream<'a> {
+pub(crate) struct Stream<'a> {
     sent: &'a [u8],
     got: &'a RefCell<Vec<u8>>,
 }
@@ -60,10 +60,10 @@ impl OpenStream for Stream<'_> {
 
 /// Clients, one after another.
 #[derive(Drop)]
-pub struct Clients<'a> {
-    pub requests: &'a [String],
-    pub next: Cell<usize>,
-    pub got: &'a RefCell<Vec<u8>>,
+pub(crate) struct Clients<'a> {
+    pub(crate) requests: &'a [String],
+    pub(crate) next: Cell<usize>,
+    pub(crate) got: &'a RefCell<Vec<u8>>,
 }
 
 impl<'a> OpenListener for Clients<'a> {

@@ -8,7 +8,7 @@ use std::process::Abort;
 use std::str::from_utf8;
 
 /// So many changes of the project `lib` come, and each enters its queue.
-pub fn approvals(alloc: Global, changes: u32) -> Result<String, AllocError> {
+pub(crate) fn approvals(alloc: Global, changes: u32) -> Result<String, AllocError> {
     let mut talk = String::new(alloc);
     for n in 1..changes.saturating_add(1) {
         write!(
@@ -35,7 +35,7 @@ fn marked(alloc: Global, talk: &str, mark: &str) -> Result<String, AllocError> {
 }
 
 /// What is told gets its answers.
-pub fn tells<B: Book>(
+pub(crate) fn tells<B: Book>(
     rt: &(impl Abort + AllocGlobal),
     gate: &mut Gate<B>,
     title: &str,

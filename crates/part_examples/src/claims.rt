@@ -3,11 +3,11 @@
 use std::process::Abort;
 
 /// The claim holds.
-pub fn holds(rt: &impl Abort, claim: bool, what: &str) {
+pub(crate) fn holds(rt: &impl Abort, claim: bool, what: &str) {
     assert!(rt; claim, "{what}");
 }
 
 /// The text is the one that is wanted.
-pub fn is(rt: &impl Abort, found: &str, wanted: &str, what: &str) {
+pub(crate) fn is(rt: &impl Abort, found: &str, wanted: &str, what: &str) {
     assert_eq!(rt; found, wanted, "{what}");
 }

@@ -14,7 +14,7 @@ use std::str::from_utf8;
 const WIDE: usize = 100_000;
 
 /// A writer that takes so many bytes.
-pub fn narrow(alloc: Global, left: usize) -> Narrow {
+pub(crate) fn narrow(alloc: Global, left: usize) -> Narrow {
     Narrow {
         taken: Vec::new(alloc),
         left,
@@ -23,7 +23,7 @@ pub fn narrow(alloc: Global, left: usize) -> Narrow {
 }
 
 /// The change has this text, or is none that is known.
-pub fn has_change<B: Archive>(
+pub(crate) fn has_change<B: Archive>(
     rt: &(impl Abort + AllocGlobal),
     gate: &mut Gate<B>,
     title: &str,
@@ -42,7 +42,7 @@ pub fn has_change<B: Archive>(
 }
 
 /// The item of the serial has this text, or there is none.
-pub fn has_item<B: Archive>(
+pub(crate) fn has_item<B: Archive>(
     rt: &(impl Abort + AllocGlobal),
     gate: &mut Gate<B>,
     title: &str,
@@ -58,7 +58,7 @@ pub fn has_item<B: Archive>(
 }
 
 /// These builds run.
-pub fn has_running<B: Archive>(
+pub(crate) fn has_running<B: Archive>(
     rt: &(impl Abort + AllocGlobal),
     gate: &mut Gate<B>,
     title: &str,
@@ -70,7 +70,7 @@ pub fn has_running<B: Archive>(
 
 /// The deliveries behind that of an id, or all, are these lines, or their beginning is what a writer takes, or there is
 /// no delivery of that id.
-pub fn has_deliveries<B: Archive>(
+pub(crate) fn has_deliveries<B: Archive>(
     rt: &(impl Abort + AllocGlobal),
     gate: &mut Gate<B>,
     title: &str,

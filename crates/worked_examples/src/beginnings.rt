@@ -239,7 +239,7 @@ Changes 101 to 104 are queued in a window of 4, and each of their jobs is given 
 "#;
 
 /// What is told and answered in the beginning of this name.
-pub fn beginning(rt: &impl Abort, name: &str) -> &'static str {
+pub(crate) fn beginning(rt: &impl Abort, name: &str) -> &'static str {
     for beginning in BEGINNINGS.split("\n# ") {
         let (title, rest) = beginning.split_once('\n').unwrap_or((beginning, ""));
         let (_comes_to, talk) = rest.split_once('\n').unwrap_or((rest, ""));

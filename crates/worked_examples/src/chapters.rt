@@ -54,7 +54,7 @@ fn chapter_in_memory(
 }
 
 /// The gate goes on by all chapters of these parts.
-pub fn goes_on_in_memory(
+pub(crate) fn goes_on_in_memory(
     rt: &(impl Abort + AllocGlobal),
     mut gate: Gate<MemBook>,
     title: &str,
@@ -68,7 +68,7 @@ pub fn goes_on_in_memory(
 }
 
 /// The gate in a file goes on by these parts.
-pub fn goes_on_over<S: Alter + Drop>(
+pub(crate) fn goes_on_over<S: Alter + Drop>(
     rt: &(impl Abort + AllocGlobal),
     conn: Connection<S>,
     words: &str,
@@ -104,7 +104,7 @@ fn owned(rt: &(impl Abort + AllocGlobal), words: &str) -> String {
 }
 
 /// A gate over the tables of a new file goes on by all chapters of these parts. Each chapter closes the file.
-pub fn goes_on_in_file<S: Alter + Drop>(
+pub(crate) fn goes_on_in_file<S: Alter + Drop>(
     rt: &(impl Abort + AllocGlobal),
     conn: Connection<S>,
     queues: &str,

@@ -55,7 +55,11 @@ fn book(rt: &(impl Abort + AllocGlobal), config: &Config, drawn: &str) -> MemBoo
 }
 
 /// A gate with these queues, over a book in memory that has drawn such numbers.
-pub fn gate_in_memory(rt: &(impl Abort + AllocGlobal), queues: &str, drawn: &str) -> Gate<MemBook> {
+pub(crate) fn gate_in_memory(
+    rt: &(impl Abort + AllocGlobal),
+    queues: &str,
+    drawn: &str,
+) -> Gate<MemBook> {
     let config = config(rt, queues);
     let book = book(rt, &config, drawn);
     Gate::new(config, book)
@@ -84,7 +88,7 @@ fn plays_scene(rt: &(impl Abort + AllocGlobal), scene: &str) {
 }
 
 /// Each scene of the text is played.
-pub fn plays(rt: &(impl Abort + AllocGlobal), text: &str) {
+pub(crate) fn plays(rt: &(impl Abort + AllocGlobal), text: &str) {
     let scenes = text.strip_prefix("\n# ").expect(rt, "a title");
     for scene in scenes.split("\n# ") {
         plays_scene(rt, scene);

@@ -120,6 +120,6 @@ fn settings(rt: &(impl Abort + AllocGlobal), words: &str) -> String {
 }
 
 /// The settings of these words.
-pub fn config(rt: &(impl Abort + AllocGlobal), words: &str) -> Config {
+pub(crate) fn config(rt: &(impl Abort + AllocGlobal), words: &str) -> Config {
     read(rt.alloc(), settings(rt, words).as_bytes()).expect(rt, words)
 }

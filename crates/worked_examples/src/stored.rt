@@ -3,7 +3,7 @@ mod adopting;
 mod approvals;
 mod days;
 mod disks;
-pub mod files;
+pub(crate) mod files;
 mod first_schema;
 mod histories;
 mod makings;

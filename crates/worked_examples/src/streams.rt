@@ -4,10 +4,10 @@ use std::io::{Read, Write};
 
 /// Gives at most `step` bytes a read, and an error once `left` reads are done.
 #[derive(Drop)]
-pub struct Failing<'a> {
-    pub bytes: &'a [u8],
-    pub step: usize,
-    pub left: usize,
+pub(crate) struct Failing<'a> {
+    pub(crate) bytes: &'a [u8],
+    pub(crate) step: usize,
+    pub(crate) left: usize,
 }
 
 impl Read for Failing<'_> {
@@ -23,10 +23,10 @@ impl Read for Failing<'_> {
 
 /// Takes one byte a write, and fails once `left` bytes are taken: by an error, or by 0 bytes.
 #[derive(Drop)]
-pub struct Narrow {
-    pub taken: Vec<u8>,
-    pub left: usize,
-    pub silent: bool,
+pub(crate) struct Narrow {
+    pub(crate) taken: Vec<u8>,
+    pub(crate) left: usize,
+    pub(crate) silent: bool,
 }
 
 impl Write for Narrow {

@@ -78,7 +78,7 @@ fn answered(rt: &impl Abort, title: &str, talk: &str, written: &str) -> u64 {
 }
 
 /// What is told gets its answers.
-pub fn tells<B: Book>(
+pub(crate) fn tells<B: Book>(
     rt: &(impl Abort + AllocGlobal),
     gate: &mut Gate<B>,
     title: &str,
@@ -246,7 +246,7 @@ fn says<B: Archive>(rt: &(impl Abort + AllocGlobal), gate: &mut Gate<B>, title: 
 }
 
 /// The gate goes on by these parts.
-pub fn goes_on<B: Archive>(
+pub(crate) fn goes_on<B: Archive>(
     rt: &(impl Abort + AllocGlobal),
     gate: &mut Gate<B>,
     title: &str,

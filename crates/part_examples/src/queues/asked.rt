@@ -36,7 +36,7 @@ impl Board {
     }
 
     /// The edits that settle the whole queue.
-    pub fn settle(&self, rt: &(impl Abort + AllocGlobal)) -> Vec<Edit> {
+    pub(crate) fn settle(&self, rt: &(impl Abort + AllocGlobal)) -> Vec<Edit> {
         let items = self.items(rt);
         let about = self.facts(rt);
         assert!(rt; items_rise(&items));
@@ -67,7 +67,11 @@ impl Board {
     }
 
     /// The serial and the place of the job that the next build is for.
-    pub fn choose(&self, rt: &(impl Abort + AllocGlobal), window: u32) -> Option<(Serial, usize)> {
+    pub(crate) fn choose(
+        &self,
+        rt: &(impl Abort + AllocGlobal),
+        window: u32,
+    ) -> Option<(Serial, usize)> {
         let items = self.items(rt);
         let jobs = self.item_jobs(rt);
         assert_eq!(rt; jobs.len(), items.len());

@@ -14,25 +14,25 @@ use std::str::SplitWhitespace;
 
 /// An item's stored row, with the needs of its change, the jobs of its project, and whether it fails fast.
 #[derive(Drop)]
-pub struct Row {
-    pub item: Item,
-    pub needs: Vec<Need>,
-    pub jobs: Vec<Job>,
-    pub fast: bool,
+pub(crate) struct Row {
+    pub(crate) item: Item,
+    pub(crate) needs: Vec<Need>,
+    pub(crate) jobs: Vec<Job>,
+    pub(crate) fast: bool,
 }
 
 /// The queue `core`: its settings, its window, how many reports it has made, what has landed, its items and the live
 /// builds, by number.
 #[derive(Drop)]
-pub struct Board {
-    pub settings: Queue,
-    pub window: u32,
-    pub reports: u64,
-    pub landings: Vec<Landing>,
-    pub rows: Vec<Row>,
-    pub builds: Vec<Build>,
+pub(crate) struct Board {
+    pub(crate) settings: Queue,
+    pub(crate) window: u32,
+    pub(crate) reports: u64,
+    pub(crate) landings: Vec<Landing>,
+    pub(crate) rows: Vec<Row>,
+    pub(crate) builds: Vec<Build>,
     /// The reports that edits have put, a line each.
-    pub told: String,
+    pub(crate) told: String,
 }
 
 fn item_at(rows: &[Row], serial: Serial) -> Option<Item> {
@@ -45,7 +45,7 @@ fn item_at(rows: &[Row], serial: Serial) -> Option<Item> {
 }
 
 /// Whether the row of a change says that it is failing, where it stands.
-pub fn standing(rows: &[Row], of: ChangeNo) -> Option<bool> {
+pub(crate) fn standing(rows: &[Row], of: ChangeNo) -> Option<bool> {
     for row in rows {
         if row.item.change == of {
             return Some(row.item.failing);
@@ -55,7 +55,7 @@ pub fn standing(rows: &[Row], of: ChangeNo) -> Option<bool> {
 }
 
 /// Whether some need has neither landed nor stands as a non-failing item.
-pub fn is_blocked(rows: &[Row], needs: &[Need]) -> bool {
+pub(crate) fn is_blocked(rows: &[Row], needs: &[Need]) -> bool {
     needs.iter().any(|need| !need.landed && standing(rows, need.change) != Some(false))
 }
 
@@ -93,7 +93,7 @@ fn set_outcome(builds: &mut [Build], number: u64, outcome: Outcome) -> Option<Se
 
 impl Board {
     /// A queue without items.
-    pub fn new(rt: &(impl Abort + AllocGlobal)) -> Self {
+    pub(crate) fn new(rt: &(impl Abort + AllocGlobal)) -> Self {
         Board {
             settings: Queue {
                 name: name(rt, "core"),
@@ -197,7 +197,11 @@ impl Board {
     }
 
     /// Does what a line says, and tells which item it touched.
-    pub fn deliver(&mut self, rt: &(impl Abort + AllocGlobal), line: &str) -> Option<Touched> {
+    pub(crate) fn deliver(
+        &mut self,
+        rt: &(impl Abort + AllocGlobal),
+        line: &str,
+    ) -> Option<Touched> {
         let mut words = line.split_whitespace();
         let mut touched = None;
         match word(rt, &mut words) {
@@ -233,7 +237,7 @@ impl Board {
     }
 
     /// Does what edits say.
-    pub fn apply(&mut self, rt: &impl Abort, edits: &[Edit]) {
+    pub(crate) fn apply(&mut self, rt: &impl Abort, edits: &[Edit]) {
         for edit in edits {
             self.apply_one(rt, edit);
         }
@@ -246,7 +250,7 @@ impl Board {
     }
 
     /// The window, the rows, the live builds, and the reports that edits have put.
-    pub fn text(&self, rt: &(impl Abort + AllocGlobal)) -> String {
+    pub(crate) fn text(&self, rt: &(impl Abort + AllocGlobal)) -> String {
         let mut text = format!(in rt.alloc(); "window {}\n", self.window).expect(rt, "memory");
         for row in self.rows.iter() {
             tell_item(rt, &mut text, &row.item);

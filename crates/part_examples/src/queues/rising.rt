@@ -5,7 +5,7 @@ ghost use Rattle.std.specs.List.Sorted.{IsStrictlyIncreasing};
 use gate_types::records::{Build, Item};
 
 /// Whether items rise by serial.
-pub fn items_rise(items: &[Item]) -> bool
+pub(crate) fn items_rise(items: &[Item]) -> bool
     ensures { IsTrue result → IsStrictlyIncreasing (map (λ i. i.serial) items.now) }
 {
     for index in 1..items.len() {
@@ -17,7 +17,7 @@ pub fn items_rise(items: &[Item]) -> bool
 }
 
 /// Whether builds rise by number.
-pub fn builds_rise(builds: &[Build]) -> bool
+pub(crate) fn builds_rise(builds: &[Build]) -> bool
     ensures { IsTrue result → IsStrictlyIncreasing (map (λ b. b.number) builds.now) }
 {
     for index in 1..builds.len() {

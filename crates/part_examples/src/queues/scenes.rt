@@ -121,7 +121,7 @@ fn scene_holds(rt: &(impl Abort + AllocGlobal), scene: &str) {
 }
 
 /// Each scene of a text is told as it stands.
-pub fn scenes_hold(rt: &(impl Abort + AllocGlobal), scenes: &str) {
+pub(crate) fn scenes_hold(rt: &(impl Abort + AllocGlobal), scenes: &str) {
     let scenes = scenes.strip_prefix("# ").expect(rt, "a scene");
     for scene in scenes.split("\n# ") {
         scene_holds(rt, scene);

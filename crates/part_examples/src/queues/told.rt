@@ -4,7 +4,7 @@ use gate_types::records::{Item, Report};
 use std::process::Abort;
 
 /// The row of an item; `-` stands for no item ahead.
-pub fn tell_item(rt: &impl Abort, told: &mut String, item: &Item) {
+pub(crate) fn tell_item(rt: &impl Abort, told: &mut String, item: &Item) {
     let (serial, change, revision) = (item.serial.get(), item.change.get(), item.revision.get());
     let state = if item.failing { "failing" } else { "ok" };
     match item.ahead {
@@ -37,7 +37,7 @@ fn tell_report(rt: &impl Abort, told: &mut String, place: u64, report: &Report) 
 }
 
 /// An edit of a queue.
-pub fn tell_edit(rt: &impl Abort, told: &mut String, edit: &Edit) {
+pub(crate) fn tell_edit(rt: &impl Abort, told: &mut String, edit: &Edit) {
     match edit {
         Edit::PutItem { queue, item } => {
             write!(told, "{} ", queue.as_str()).expect(rt, "memory");

@@ -64,7 +64,7 @@ impl Board {
     }
 
     /// A walk behind a delivery to its stop, and the serials of the rows that it visited.
-    pub fn walk(&self, rt: &(impl Abort + AllocGlobal), touched: Touched) -> (Walk, String) {
+    pub(crate) fn walk(&self, rt: &(impl Abort + AllocGlobal), touched: Touched) -> (Walk, String) {
         assert!(rt; self.reports <= 1_000_000_000_000_000);
         let facts = QueueFacts {
             settings: &self.settings,

@@ -7,19 +7,19 @@ use gate_types::sequence::Sequence;
 use std::process::Abort;
 use std::str::SplitWhitespace;
 
-pub fn word<'a>(rt: &impl Abort, words: &mut SplitWhitespace<'a>) -> &'a str {
+pub(crate) fn word<'a>(rt: &impl Abort, words: &mut SplitWhitespace<'a>) -> &'a str {
     words.next().expect(rt, "a word")
 }
 
-pub fn size(rt: &impl Abort, words: &mut SplitWhitespace) -> u32 {
+pub(crate) fn size(rt: &impl Abort, words: &mut SplitWhitespace) -> u32 {
     word(rt, words).parse::<u32>().expect(rt, "a size")
 }
 
-pub fn number(rt: &impl Abort, word: &str) -> u64 {
+pub(crate) fn number(rt: &impl Abort, word: &str) -> u64 {
     word.parse::<u64>().expect(rt, word)
 }
 
-pub fn serial(rt: &impl Abort, words: &mut SplitWhitespace) -> Serial {
+pub(crate) fn serial(rt: &impl Abort, words: &mut SplitWhitespace) -> Serial {
     Serial::new(number(rt, word(rt, words))).expect(rt, "a serial")
 }
 
@@ -28,14 +28,14 @@ fn change(rt: &impl Abort, word: &str) -> ChangeNo {
 }
 
 /// A change, which stands at revision 1, as all do.
-pub fn entry(rt: &impl Abort, word: &str) -> Entry {
+pub(crate) fn entry(rt: &impl Abort, word: &str) -> Entry {
     Entry {
         change: change(rt, word),
         revision: Revision::new(1).expect(rt, "a revision"),
     }
 }
 
-pub fn landing(rt: &impl Abort, words: &mut SplitWhitespace) -> Landing {
+pub(crate) fn landing(rt: &impl Abort, words: &mut SplitWhitespace) -> Landing {
     let serial = serial(rt, words);
     let entry = entry(rt, word(rt, words));
     Landing {
@@ -45,7 +45,7 @@ pub fn landing(rt: &impl Abort, words: &mut SplitWhitespace) -> Landing {
     }
 }
 
-pub fn name(rt: &(impl Abort + AllocGlobal), text: &str) -> Name {
+pub(crate) fn name(rt: &(impl Abort + AllocGlobal), text: &str) -> Name {
     let text = text.to_string(rt.alloc()).expect(rt, "memory");
     Name::new(text).expect(rt, "a name")
 }
@@ -70,7 +70,7 @@ fn jobs(rt: &(impl Abort + AllocGlobal), project: &str) -> Vec<Job> {
 }
 
 /// The jobs of a project, and whether its items fail fast: those of one with a `!` behind its name do.
-pub fn plan(rt: &(impl Abort + AllocGlobal), project: &str) -> (Vec<Job>, bool) {
+pub(crate) fn plan(rt: &(impl Abort + AllocGlobal), project: &str) -> (Vec<Job>, bool) {
     match project.strip_suffix('!') {
         Some(project) => (jobs(rt, project), true),
         None => (jobs(rt, project), false),
@@ -86,7 +86,7 @@ fn pace(rt: &impl Abort, words: &mut SplitWhitespace) -> Pace {
 }
 
 /// How a window grows and by how much, and how it shrinks.
-pub fn rule(rt: &impl Abort, words: &mut SplitWhitespace) -> WindowRule {
+pub(crate) fn rule(rt: &impl Abort, words: &mut SplitWhitespace) -> WindowRule {
     WindowRule {
         increase: pace(rt, words),
         increase_by: size(rt, words),
@@ -96,7 +96,7 @@ pub fn rule(rt: &impl Abort, words: &mut SplitWhitespace) -> WindowRule {
 }
 
 /// The needs to the end of the line, those that have landed with a `+`.
-pub fn needs(rt: &(impl Abort + AllocGlobal), words: &mut SplitWhitespace) -> Vec<Need> {
+pub(crate) fn needs(rt: &(impl Abort + AllocGlobal), words: &mut SplitWhitespace) -> Vec<Need> {
     let mut needs = Vec::new(rt.alloc());
     for word in words {
         let (number, landed) = match word.strip_suffix('+') {
@@ -118,13 +118,13 @@ fn entries(rt: &(impl Abort + AllocGlobal), words: &mut SplitWhitespace) -> Sequ
     entries
 }
 
-pub fn outcome(rt: &impl Abort, word: &str) -> Outcome {
+pub(crate) fn outcome(rt: &impl Abort, word: &str) -> Outcome {
     Outcome::of_word(word.as_bytes()).expect(rt, "an outcome")
 }
 
 /// A live build: its number, the item's serial and change, the job, after how many landings it runs, its outcome,
 /// and what is ahead.
-pub fn build(rt: &(impl Abort + AllocGlobal), words: &mut SplitWhitespace) -> Build {
+pub(crate) fn build(rt: &(impl Abort + AllocGlobal), words: &mut SplitWhitespace) -> Build {
     let number_word = number(rt, word(rt, words));
     let item = landing(rt, words);
     let job = word(rt, words);

@@ -14,7 +14,7 @@ use std::net::{Net, OpenListener, OpenStream, Shutdown, TcpListener, TcpStream};
 use std::process::Abort;
 
 /// Serves so many connections: whether it listens to the end, and what is told of them.
-pub fn served<L: OpenListener, B: Archive>(
+pub(crate) fn served<L: OpenListener, B: Archive>(
     alloc: Global,
     listener: &L,
     gate: &mut Gate<B>,

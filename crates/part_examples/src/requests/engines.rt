@@ -12,8 +12,8 @@ use std::process::Abort;
 /// Remembers whether it took a delivery, which has to begin with a brace. The history of `torn` breaks off behind its
 /// first line.
 #[derive(Drop)]
-pub struct Fixed {
-    pub has_taken: bool,
+pub(crate) struct Fixed {
+    pub(crate) has_taken: bool,
 }
 
 fn said(alloc: Global, text: &str) -> Answer {

@@ -142,7 +142,7 @@ fn a_gate_responds(rt: HostRuntime) {
 }
 
 /// Change 101 of `lib` is known.
-pub const KNOWN: &str =
+pub(crate) const KNOWN: &str =
     r#"{"id":"0b000000-0000-4000-8000-000000000001","kind":"revision","change":101,"project":"lib","revision":1,"message":""}"#;
 
 const APPROVAL: &str =

@@ -9,7 +9,7 @@ use std::alloc::Global;
 use std::process::Abort;
 
 /// What can be made anew for each scene.
-pub trait Fresh: Respond + Drop {
+pub(crate) trait Fresh: Respond + Drop {
     fn fresh(rt: &(impl Abort + AllocGlobal)) -> Self;
 }
 
@@ -98,7 +98,7 @@ fn each_unread(
 }
 
 /// A writer that fails once it has these bytes is told.
-pub fn stops(
+pub(crate) fn stops(
     rt: &(impl Abort + AllocGlobal),
     server: &mut impl Respond,
     request: &[u8],
@@ -132,7 +132,7 @@ fn each_stops(
 }
 
 /// A response is had over streams that give and take a byte a call.
-pub fn drips(
+pub(crate) fn drips(
     rt: &(impl Abort + AllocGlobal),
     server: &mut impl Respond,
     request: &[u8],
@@ -144,7 +144,7 @@ pub fn drips(
 }
 
 /// A delivery is told, whatever is said to it.
-pub fn tell(rt: &(impl Abort + AllocGlobal), server: &mut impl Respond, delivery: &str) {
+pub(crate) fn tell(rt: &(impl Abort + AllocGlobal), server: &mut impl Respond, delivery: &str) {
     assert!(rt; delivery.len() <= 65_536, "{delivery}");
     let _said = server.hear(rt.alloc(), Door::Any, delivery.as_bytes());
 }
@@ -187,7 +187,7 @@ fn plays(rt: &(impl Abort + AllocGlobal), server: &mut impl Respond, scene: &str
 }
 
 /// Plays each scene of a text, which begins with `= `, over a server that is made for it.
-pub fn each_plays<S: Fresh>(rt: &(impl Abort + AllocGlobal), text: &str) {
+pub(crate) fn each_plays<S: Fresh>(rt: &(impl Abort + AllocGlobal), text: &str) {
     let scenes = text.strip_prefix("= ").expect(rt, "no scene");
     for scene in scenes.split("\n= ") {
         plays(rt, &mut S::fresh(rt), scene);

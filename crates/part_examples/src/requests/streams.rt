@@ -6,29 +6,29 @@ use std::net::OpenStream;
 
 /// How a stream goes: it gives and takes at most `step` bytes a call, and fails once so many reads or writes are done.
 #[derive(Clone, Copy)]
-pub struct Pace {
-    pub step: usize,
-    pub reads: usize,
-    pub writes: usize,
+pub(crate) struct Pace {
+    pub(crate) step: usize,
+    pub(crate) reads: usize,
+    pub(crate) writes: usize,
 }
 
 impl Pace {
     /// It gives and takes all at once.
-    pub const WHOLE: Self = Self {
+    pub(crate) const WHOLE: Self = Self {
         step: usize::MAX,
         reads: usize::MAX,
         writes: usize::MAX,
     };
 
     /// It gives and takes a byte a call.
-    pub const DRIP: Self = Self {
+    pub(crate) const DRIP: Self = Self {
         step: 1,
         reads: usize::MAX,
         writes: usize::MAX,
     };
 
     /// It gives so many bytes, one a call.
-    pub fn reading(reads: usize) -> Self {
+    pub(crate) fn reading(reads: usize) -> Self {
         Self {
             step: 1,
             reads,
@@ -37,7 +37,7 @@ impl Pace {
     }
 
     /// It takes so many bytes, one a call.
-    pub fn writing(writes: usize) -> Self {
+    pub(crate) fn writing(writes: usize) -> Self {
         Self {
             step: 1,
             reads: usize::MAX,
@@ -48,19 +48,19 @@ impl Pace {
 
 /// A stream over an input, with the output that it took.
 #[derive(Drop)]
-pub struct Stream<'a> {
-    pub input: &'a [u8],
-    pub output: Vec<u8>,
-    pub pace: Pace,
+pub(crate) struct Stream<'a> {
+    pub(crate) input: &'a [u8],
+    pub(crate) output: Vec<u8>,
+    pub(crate) pace: Pace,
     /// Whether it can be had twice.
-    pub clones: bool,
+    pub(crate) clones: bool,
     /// What it fails with.
-    pub fault: ErrorKind,
+    pub(crate) fault: ErrorKind,
 }
 
 impl<'a> Stream<'a> {
     /// One over this input.
-    pub fn new(alloc: Global, input: &'a [u8], pace: Pace) -> Self {
+    pub(crate) fn new(alloc: Global, input: &'a [u8], pace: Pace) -> Self {
         Self {
             input,
             output: Vec::new(alloc),

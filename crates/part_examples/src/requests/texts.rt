@@ -49,7 +49,7 @@ second-build HTTP/1.1 200 OK\r\nContent-Type: application/json\r\nContent-Length
 "#;
 
 /// What stands before the first blank, and behind it.
-pub fn halves<'a>(rt: &impl Abort, line: &'a str) -> (&'a str, &'a str) {
+pub(crate) fn halves<'a>(rt: &impl Abort, line: &'a str) -> (&'a str, &'a str) {
     line.split_once(' ').expect(rt, line)
 }
 
@@ -60,7 +60,7 @@ fn unescaped(rt: &(impl Abort + AllocGlobal), text: &str) -> String {
 }
 
 /// The response of a name.
-pub fn response(rt: &(impl Abort + AllocGlobal), name: &str) -> String {
+pub(crate) fn response(rt: &(impl Abort + AllocGlobal), name: &str) -> String {
     let key = format!(in rt.alloc(); "\n{name} ").expect(rt, "memory");
     let (_, behind) = RESPONSES.split_once(key.as_str()).expect(rt, name);
     let (text, _) = behind.split_once('\n').expect(rt, name);
@@ -88,7 +88,7 @@ fn expanded(rt: &(impl Abort + AllocGlobal), text: &str) -> String {
 
 /// The bytes of a request. In its line `\r`, `\n` and `\t` stand for the bytes that they name, `<TEXT*TIMES>` for a text
 /// so many times, and each other character for the byte of its number.
-pub fn request(rt: &(impl Abort + AllocGlobal), line: &str) -> Vec<u8> {
+pub(crate) fn request(rt: &(impl Abort + AllocGlobal), line: &str) -> Vec<u8> {
     let text = expanded(rt, unescaped(rt, line).as_str());
     let mut bytes = Vec::new(rt.alloc());
     for character in text.chars() {

@@ -11,7 +11,7 @@ use std::io::Write;
 
 /// Answers as the book in it, but that a history ends behind its first line.
 #[derive(Drop)]
-pub struct Torn<B>(pub B);
+pub(crate) struct Torn<B>(pub B);
 
 impl<B: Book> Book for Torn<B> {
     ghost Holds = { λ _ _ _. ⊥ };

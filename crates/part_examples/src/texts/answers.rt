@@ -92,7 +92,7 @@ fn needed(alloc: Global, asked: &[u8]) -> Option<String> {
     }
 }
 
-pub fn answer(alloc: Global, way: &str, asked: &[u8]) -> Option<String> {
+pub(crate) fn answer(alloc: Global, way: &str, asked: &[u8]) -> Option<String> {
     match way {
         "forge" => said(alloc, asked, Door::Forge),
         "worker" => said(alloc, asked, Door::Worker),

@@ -72,7 +72,7 @@ fn reply(alloc: Global, words: &str) -> Option<Reply> {
 }
 
 /// The text of a reply.
-pub fn replied(alloc: Global, asked: &[u8]) -> Option<String> {
+pub(crate) fn replied(alloc: Global, asked: &[u8]) -> Option<String> {
     let reply = reply(alloc, str::from_utf8(asked).ok()?)?;
     write_reply(alloc, &reply).ok()
 }

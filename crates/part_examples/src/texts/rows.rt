@@ -77,7 +77,7 @@ fn scene_holds(rt: &(impl Abort + AllocGlobal), scene: &str) {
 }
 
 /// Each row of a text is answered as it says.
-pub fn rows_hold(rt: &(impl Abort + AllocGlobal), text: &str) {
+pub(crate) fn rows_hold(rt: &(impl Abort + AllocGlobal), text: &str) {
     let text = text.strip_prefix("# ").expect(rt, "a title");
     for scene in text.split("\n# ") {
         scene_holds(rt, scene);

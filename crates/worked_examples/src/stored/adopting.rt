@@ -41,7 +41,7 @@ fn filled_files<S: Alter + Drop, D: Disks<Database = Connection<S>>>(
 }
 
 /// Stops an opening with other settings.
-pub fn each_stop_of_adopting<S: Alter + Drop, D: Disks<Database = Connection<S>>>(
+pub(crate) fn each_stop_of_adopting<S: Alter + Drop, D: Disks<Database = Connection<S>>>(
     rt: &(impl Abort + AllocGlobal),
     disks: &D,
 ) {

@@ -64,7 +64,7 @@ fn new_files<S: Alter + Drop, D: Disks<Database = Connection<S>>>(
 }
 
 /// Stops each delivery of the day.
-pub fn each_stop_of_the_day<S: Alter + Drop, D: Disks<Database = Connection<S>>>(
+pub(crate) fn each_stop_of_the_day<S: Alter + Drop, D: Disks<Database = Connection<S>>>(
     rt: &(impl Abort + AllocGlobal),
     disks: &D,
 ) {

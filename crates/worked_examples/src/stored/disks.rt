@@ -6,7 +6,7 @@ use std::process::Abort;
 
 /// Which file's disk fails, and after how many calls.
 #[derive(Clone, Copy)]
-pub enum Stop {
+pub(crate) enum Stop {
     Never,
     Log(u64),
     Database(u64),
@@ -14,7 +14,7 @@ pub enum Stop {
 
 impl Stop {
     /// One of the files after so many calls.
-    pub fn after(is_log: bool, calls: u64) -> Stop {
+    pub(crate) fn after(is_log: bool, calls: u64) -> Stop {
         if is_log {
             Stop::Log(calls)
         } else {
@@ -41,7 +41,7 @@ fn fused(rt: &(impl Abort + AllocGlobal), bytes: &[u8], calls: u64) -> Fuse<Memo
 }
 
 /// An empty file and an empty log, on disks with this stop.
-pub fn empty_files(rt: &(impl Abort + AllocGlobal), stop: Stop) -> Files<Fuse<Memory>> {
+pub(crate) fn empty_files(rt: &(impl Abort + AllocGlobal), stop: Stop) -> Files<Fuse<Memory>> {
     let (log_calls, db_calls) = stop.calls();
     Files {
         log: fused(rt, &[], log_calls),
@@ -50,7 +50,7 @@ pub fn empty_files(rt: &(impl Abort + AllocGlobal), stop: Stop) -> Files<Fuse<Me
 }
 
 /// Copies of a file and its log, on disks with this stop.
-pub fn copied(
+pub(crate) fn copied(
     rt: &(impl Abort + AllocGlobal),
     files: &Files<Fuse<Memory>>,
     stop: Stop,
@@ -64,7 +64,7 @@ pub fn copied(
 
 /// The databases of files on such disks. Functions take any `Disks`, since the proof of each call over the connections
 /// of `InMemory` takes long: a test makes one.
-pub trait Disks {
+pub(crate) trait Disks {
     /// An open database.
     type Database;
 
@@ -83,8 +83,8 @@ pub trait Disks {
 }
 
 #[derive(Clone, Copy)]
-pub struct InMemory {
-    pub alloc: Global,
+pub(crate) struct InMemory {
+    pub(crate) alloc: Global,
 }
 
 impl Disks for InMemory {
@@ -117,12 +117,12 @@ impl Disks for InMemory {
 }
 
 /// How files are opened: the log's salts come from this number.
-pub fn options() -> Options {
+pub(crate) fn options() -> Options {
     Options::new(7)
 }
 
 /// The database of these files.
-pub fn opened<D: Disks>(
+pub(crate) fn opened<D: Disks>(
     rt: &(impl Abort + AllocGlobal),
     disks: &D,
     files: Files<Fuse<Memory>>,
@@ -134,14 +134,18 @@ pub fn opened<D: Disks>(
 }
 
 /// The files of a database that is closed without a stop.
-pub fn closed<D: Disks>(rt: &impl Abort, disks: &D, conn: D::Database) -> Files<Fuse<Memory>> {
+pub(crate) fn closed<D: Disks>(
+    rt: &impl Abort,
+    disks: &D,
+    conn: D::Database,
+) -> Files<Fuse<Memory>> {
     let (is_whole, files) = disks.closed(conn);
     assert!(rt; is_whole, "the files aren't closed");
     files
 }
 
 /// The files after a crash, which loses all that wasn't synced.
-pub fn crashed(mut files: Files<Fuse<Memory>>) -> Files<Fuse<Memory>> {
+pub(crate) fn crashed(mut files: Files<Fuse<Memory>>) -> Files<Fuse<Memory>> {
     files.log.crash();
     files.db.crash();
     files

@@ -13,10 +13,10 @@ use std::alloc::Global;
 use std::process::Abort;
 
 /// The settings of most files.
-pub const SETTINGS: &str = "core 2 1 and web";
+pub(crate) const SETTINGS: &str = "core 2 1 and web";
 
 /// A gate over a file, as the program makes it.
-pub type FileGate<S> = Gate<LiveBook<SqlBook<S>>>;
+pub(crate) type FileGate<S> = Gate<LiveBook<SqlBook<S>>>;
 
 /// Why there is no book over a file's tables, if there is none, and the file's connection.
 fn parts<S: Alter + Drop>(
@@ -29,7 +29,7 @@ fn parts<S: Alter + Drop>(
 }
 
 /// What came of a file, as a line says it.
-pub fn outcome(fault: Option<OpenFault>) -> &'static str {
+pub(crate) fn outcome(fault: Option<OpenFault>) -> &'static str {
     match fault {
         None => "done",
         Some(OpenFault::WrongFile) => "WrongFile",
@@ -40,7 +40,7 @@ pub fn outcome(fault: Option<OpenFault>) -> &'static str {
 }
 
 /// Makes the tables of a new gate in a file: why they aren't made, if they aren't, and the connection.
-pub fn created_under<S: Alter + Drop>(
+pub(crate) fn created_under<S: Alter + Drop>(
     rt: &(impl Abort + AllocGlobal),
     conn: Connection<S>,
     words: &str,
@@ -50,7 +50,7 @@ pub fn created_under<S: Alter + Drop>(
 }
 
 /// Opens a file with these settings: why it isn't opened, if it isn't, and the connection.
-pub fn opened_under<S: Alter + Drop>(
+pub(crate) fn opened_under<S: Alter + Drop>(
     rt: &(impl Abort + AllocGlobal),
     conn: Connection<S>,
     words: &str,
@@ -60,7 +60,7 @@ pub fn opened_under<S: Alter + Drop>(
 }
 
 /// A file with the tables of a new gate under these settings.
-pub fn made_under<S: Alter + Drop>(
+pub(crate) fn made_under<S: Alter + Drop>(
     rt: &(impl Abort + AllocGlobal),
     conn: Connection<S>,
     words: &str,
@@ -71,7 +71,7 @@ pub fn made_under<S: Alter + Drop>(
 }
 
 /// A file with the tables of a new gate.
-pub fn new_file<S: Alter + Drop>(
+pub(crate) fn new_file<S: Alter + Drop>(
     rt: &(impl Abort + AllocGlobal),
     conn: Connection<S>,
 ) -> Connection<S> {
@@ -79,7 +79,7 @@ pub fn new_file<S: Alter + Drop>(
 }
 
 /// The gate in a file under these settings, or why there is none, with the connection.
-pub fn gate_under<S: Alter + Drop>(
+pub(crate) fn gate_under<S: Alter + Drop>(
     rt: &(impl Abort + AllocGlobal),
     conn: Connection<S>,
     words: &str,
@@ -92,7 +92,7 @@ pub fn gate_under<S: Alter + Drop>(
 }
 
 /// The gate in a file.
-pub fn gate_in<S: Alter + Drop>(
+pub(crate) fn gate_in<S: Alter + Drop>(
     rt: &(impl Abort + AllocGlobal),
     conn: Connection<S>,
 ) -> FileGate<S> {
@@ -102,7 +102,7 @@ pub fn gate_in<S: Alter + Drop>(
 }
 
 /// The connection that a gate was made over. A test ends a gate so: the end of a connection takes the prover less.
-pub fn conn_of<S: Alter + Drop>(gate: FileGate<S>) -> Connection<S> {
+pub(crate) fn conn_of<S: Alter + Drop>(gate: FileGate<S>) -> Connection<S> {
     gate.into_book().into_book().into_conn()
 }
 
@@ -115,7 +115,7 @@ fn said<B: Book>(alloc: Global, gate: &mut Gate<B>, lines: &str) -> Result<Vec<u
 }
 
 /// What a gate over a file writes for lines; and the connection.
-pub fn said_over<S: Alter + Drop>(
+pub(crate) fn said_over<S: Alter + Drop>(
     alloc: Global,
     mut gate: FileGate<S>,
     lines: &str,
@@ -139,7 +139,7 @@ fn tells<B: Book>(
 }
 
 /// The lines get the answers of a gate over a file, and leave the status; the connection is given back.
-pub fn tells_over<S: Alter + Drop>(
+pub(crate) fn tells_over<S: Alter + Drop>(
     rt: &(impl Abort + AllocGlobal),
     mut gate: FileGate<S>,
     lines: &str,

@@ -1,22 +1,22 @@
 //! A file of schema 1, as statements that make it.
 
 /// Its tables before that of the changes.
-pub const TABLES_BEFORE: &str =
+pub(crate) const TABLES_BEFORE: &str =
     "run CREATE TABLE meta (k TEXT PRIMARY KEY NOT NULL, v TEXT NOT NULL) STRICT
 run CREATE TABLE counter (name TEXT PRIMARY KEY NOT NULL, drawn INTEGER NOT NULL CHECK(drawn >= 0)) STRICT
 run CREATE TABLE queue (name TEXT PRIMARY KEY NOT NULL, place INTEGER NOT NULL UNIQUE, win INTEGER NOT NULL) STRICT";
 
 /// The table of the changes.
-pub const CHANGES: &str =
+pub(crate) const CHANGES: &str =
     "run CREATE TABLE change (num INTEGER PRIMARY KEY, project TEXT NOT NULL, revision INTEGER NOT NULL, state TEXT NOT NULL CHECK(state IN ('open','landed','closed')), approval INTEGER UNIQUE) STRICT";
 
 /// The same with an index of the approvals, as a file of schema 2 has it.
-pub const CHANGES_WITH_INDEX: &str =
+pub(crate) const CHANGES_WITH_INDEX: &str =
     "run CREATE TABLE change (num INTEGER PRIMARY KEY, project TEXT NOT NULL, revision INTEGER NOT NULL, state TEXT NOT NULL CHECK(state IN ('open','landed','closed')), approval INTEGER) STRICT
 run CREATE INDEX change_approval ON change(approval)";
 
 /// Its tables behind that, and its indexes.
-pub const TABLES_BEHIND: &str =
+pub(crate) const TABLES_BEHIND: &str =
     "run CREATE TABLE need (change INTEGER NOT NULL, place INTEGER NOT NULL, needed INTEGER NOT NULL, PRIMARY KEY(change, place)) STRICT
 run CREATE TABLE item (serial INTEGER PRIMARY KEY, queue TEXT NOT NULL, change INTEGER NOT NULL UNIQUE, revision INTEGER NOT NULL, ahead INTEGER, failing INTEGER NOT NULL CHECK(failing IN (0,1))) STRICT
 run CREATE TABLE build (num INTEGER PRIMARY KEY, queue TEXT NOT NULL, serial INTEGER NOT NULL, change INTEGER NOT NULL, revision INTEGER NOT NULL, job TEXT NOT NULL, base INTEGER NOT NULL, ahead TEXT NOT NULL, outcome TEXT NOT NULL CHECK(outcome IN ('running','success','failure','lost')), live INTEGER NOT NULL CHECK(live IN (0,1))) STRICT
@@ -28,7 +28,7 @@ run CREATE INDEX item_queue ON item(queue, serial)
 run CREATE INDEX build_serial ON build(serial)";
 
 /// Changes 101, 102 and 103 were queued; 101 failed and runs its other job, 102 has landed past it, and 103 is queued.
-pub const ROWS: &str = r#"run INSERT INTO meta VALUES ('format', 'gate')
+pub(crate) const ROWS: &str = r#"run INSERT INTO meta VALUES ('format', 'gate')
 run INSERT INTO meta VALUES ('schema', '1')
 run INSERT INTO meta VALUES ('settings', '{"base":"https://forge/c/","projects":[{"jobs":[{"name":"unit","voting":true},{"name":"docs","voting":false}],"name":"lib","queue":"core"},{"jobs":[{"name":"unit","voting":true}],"name":"app","queue":"core"},{"jobs":[{"name":"unit","voting":true}],"name":"site","queue":"web"}],"queues":[{"floor":1,"name":"core","window":2},{"floor":1,"name":"web","window":2}]}')
 run INSERT INTO counter VALUES ('approval', 3), ('build', 4), ('order', 3)
@@ -57,7 +57,7 @@ run INSERT INTO delivery VALUES (x'0c000000000040008000000000000001', '{"build":
 run INSERT INTO delivery VALUES (x'0c000000000040008000000000000002', '{"kind":"landed","order":2}', '{"n":1,"reply":"landed"}')"#;
 
 /// `lib` fails fast. Changes 101 and 102 have landed; 103, 104 and 105 are queued, and two builds of 103 run.
-pub const FAST_ROWS: &str = r#"run INSERT INTO meta VALUES ('format', 'gate')
+pub(crate) const FAST_ROWS: &str = r#"run INSERT INTO meta VALUES ('format', 'gate')
 run INSERT INTO meta VALUES ('schema', '1')
 run INSERT INTO meta VALUES ('settings', '{"base":"https://forge/c/","projects":[{"fail_fast":true,"jobs":[{"name":"unit","voting":true},{"name":"docs","voting":false}],"name":"lib","queue":"core"},{"jobs":[{"name":"unit","voting":true}],"name":"app","queue":"core"},{"jobs":[{"name":"unit","voting":true}],"name":"site","queue":"web"}],"queues":[{"floor":1,"name":"core","window":2},{"floor":1,"name":"web","window":2}]}')
 run INSERT INTO counter VALUES ('approval', 5), ('build', 5), ('order', 5)
@@ -74,7 +74,7 @@ run INSERT INTO landing VALUES ('core', 1, 1, 101, 1), ('core', 2, 2, 102, 1)
 run INSERT INTO report VALUES ('core', 1, 1, 101, 1, 'landed', 1), ('core', 2, 2, 102, 1, 'landed', 2)"#;
 
 /// All rows but those of 1,000 landings in `core`, changes 1 to 1000, of which each was the only item of its queue.
-pub const LONG_ROWS: &str = r#"run INSERT INTO meta VALUES ('format', 'gate')
+pub(crate) const LONG_ROWS: &str = r#"run INSERT INTO meta VALUES ('format', 'gate')
 run INSERT INTO meta VALUES ('schema', '1')
 run INSERT INTO meta VALUES ('settings', '{"base":"https://forge/c/","projects":[{"jobs":[{"name":"unit","voting":true},{"name":"docs","voting":false}],"name":"lib","queue":"core"},{"jobs":[{"name":"unit","voting":true}],"name":"app","queue":"core"},{"jobs":[{"name":"unit","voting":true}],"name":"site","queue":"web"}],"queues":[{"floor":1,"name":"core","window":2},{"floor":1,"name":"web","window":2}]}')
 run INSERT INTO counter VALUES ('approval', 1000), ('build', 1001000), ('order', 1000)

@@ -195,7 +195,7 @@ fn each_stop<S: Alter + Drop, D: Disks<Database = Connection<S>>>(
 }
 
 /// Each of the files fails, and any of these ends comes.
-pub fn all_stops<S: Alter + Drop, D: Disks<Database = Connection<S>>>(
+pub(crate) fn all_stops<S: Alter + Drop, D: Disks<Database = Connection<S>>>(
     rt: &(impl Abort + AllocGlobal),
     disks: &D,
 ) {

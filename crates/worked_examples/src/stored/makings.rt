@@ -89,7 +89,7 @@ fn each_stop_of_making<S: Alter + Drop, D: Disks<Database = Connection<S>>>(
 }
 
 /// Stops the making at each call of the log, then at each call of the database file.
-pub fn all_stops_of_making<S: Alter + Drop, D: Disks<Database = Connection<S>>>(
+pub(crate) fn all_stops_of_making<S: Alter + Drop, D: Disks<Database = Connection<S>>>(
     rt: &(impl Abort + AllocGlobal),
     disks: &D,
 ) {

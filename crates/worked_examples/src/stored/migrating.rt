@@ -330,7 +330,7 @@ fn with_rows<S: Alter + Drop>(
 }
 
 /// Stops the migration.
-pub fn each_stop_of_migrating<S: Alter + Drop, D: Disks<Database = Connection<S>>>(
+pub(crate) fn each_stop_of_migrating<S: Alter + Drop, D: Disks<Database = Connection<S>>>(
     rt: &(impl Abort + AllocGlobal),
     disks: &D,
 ) {

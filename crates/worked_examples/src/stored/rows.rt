@@ -24,7 +24,10 @@ const NEW_TABLES: [&str; 2] = [
 ];
 
 /// The rows of all tables, as a text.
-pub fn rows_in<S: Alter>(rt: &(impl Abort + AllocGlobal), conn: &mut Connection<S>) -> String {
+pub(crate) fn rows_in<S: Alter>(
+    rt: &(impl Abort + AllocGlobal),
+    conn: &mut Connection<S>,
+) -> String {
     let mut rows = String::new(rt.alloc());
     for table in TABLES {
         let read = conn.query_all(table, &[]).expect(rt, "rows");

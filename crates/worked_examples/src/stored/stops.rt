@@ -164,7 +164,7 @@ fn after<S: Alter + Drop, D: Disks<Database = Connection<S>>>(
 }
 
 /// Stops the work at each call of the log, then at each call of the database file; and goes on to the files after it.
-pub fn each_stop_of<S: Alter + Drop, D: Disks<Database = Connection<S>>>(
+pub(crate) fn each_stop_of<S: Alter + Drop, D: Disks<Database = Connection<S>>>(
     rt: &(impl Abort + AllocGlobal),
     disks: &D,
     files: Files<Fuse<Memory>>,
@@ -186,7 +186,7 @@ pub fn each_stop_of<S: Alter + Drop, D: Disks<Database = Connection<S>>>(
 }
 
 /// The work is done, or memory was refused: then the rows are as before, and it is done when it is tried again.
-pub fn does_or_leaves<S: Alter + Drop>(
+pub(crate) fn does_or_leaves<S: Alter + Drop>(
     rt: &(impl Abort + AllocGlobal),
     mut conn: Connection<S>,
     work: Work<'_>,

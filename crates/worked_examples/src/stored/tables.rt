@@ -97,7 +97,7 @@ fn is_so<S: Alter + Drop>(
 }
 
 /// What is left of a file when each line was so.
-pub fn after<S: Alter + Drop>(
+pub(crate) fn after<S: Alter + Drop>(
     rt: &(impl Abort + AllocGlobal),
     mut conn: Connection<S>,
     lines: &str,
@@ -109,6 +109,6 @@ pub fn after<S: Alter + Drop>(
 }
 
 /// An empty file.
-pub fn empty(rt: &(impl Abort + AllocGlobal)) -> Connection<MemStore> {
+pub(crate) fn empty(rt: &(impl Abort + AllocGlobal)) -> Connection<MemStore> {
     Connection::open_in_memory(rt.alloc()).expect(rt, "memory")
 }

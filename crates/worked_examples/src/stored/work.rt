@@ -8,7 +8,7 @@ use std::process::Abort;
 
 /// What is done, under settings of these words.
 #[derive(Clone, Copy)]
-pub enum Work<'a> {
+pub(crate) enum Work<'a> {
     /// The gate is told this line, and gives this answer.
     Delivery {
         words: &'a str,
@@ -27,7 +27,7 @@ pub enum Work<'a> {
 
 /// What comes of it.
 #[derive(Clone, Copy, PartialEq, Eq)]
-pub enum Came {
+pub(crate) enum Came {
     /// It isn't done.
     Nothing,
     /// It is done.
@@ -38,7 +38,7 @@ pub enum Came {
 
 impl Work<'_> {
     /// What comes of it where nothing stops it: whether it had been done before.
-    pub fn comes(&self, is_done: bool) -> Came {
+    pub(crate) fn comes(&self, is_done: bool) -> Came {
         match self {
             Work::Migration { words: _ } if is_done => Came::Already,
             _ => Came::Done,
@@ -108,7 +108,7 @@ fn migrated<S: Alter>(
 }
 
 /// Does it to the file of a connection, which is given back.
-pub fn done<S: Alter + Drop>(
+pub(crate) fn done<S: Alter + Drop>(
     rt: &(impl Abort + AllocGlobal),
     mut conn: Connection<S>,
     work: Work<'_>,
