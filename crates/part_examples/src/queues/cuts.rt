@@ -1,7 +1,7 @@
 //! Items that fail fast: what a voting job's failure ends of them, worked out by hand from the rules.
 use crate::claims::holds;
 use crate::queues::scenes::scenes_hold;
-use gate_queue::{is_finished, slot_where};
+use gate_queue::{is_cut, is_finished, slot_where};
 use gate_types::records::Slot;
 
 const SCENES: &str =
@@ -206,6 +206,22 @@ item 2 job 1
 #[test]
 fn a_failure_cuts_an_item_that_fails_fast(rt: HostRuntime) {
     scenes_hold(&rt, SCENES);
+}
+
+#[test]
+fn only_what_fails_fast_and_has_failed_is_cut(rt: HostRuntime) {
+    holds(&rt, is_cut(true, false, true), "a failed item");
+    holds(&rt, !is_cut(true, true, true), "a blocked item");
+    holds(
+        &rt,
+        !is_cut(false, false, true),
+        "an item that doesn't fail fast",
+    );
+    holds(
+        &rt,
+        !is_cut(true, false, false),
+        "an item without a failure",
+    );
 }
 
 /// What a job has come to, what of that is left where its item is cut, and whether it is finished by itself.
