@@ -8,7 +8,7 @@ use Rattle.gate_types.specs.declared.deliveries.Refusal.{Refusal}
 use Rattle.gate_types.specs.Settings.{Settings}
 use Rattle.gate_types.specs.Once.{Content, Call, acts, next_content, once}
 use Rattle.gate_types.specs.Gated.{Gated}
-use Rattle.gate_core.specs.Answered.{spared}
+use Rattle.gate_core.specs.Answered.{CallLeaves, spared}
 use Rattle.gate_core.specs.declared.gate.Gate.{Gate}
 use Rattle.gate_core.specs.Left.{LeavesBy, left_after, left_by}
 use Rattle.gate_core.specs.Replies.{Marked, call_of, call_read, calls_of_lines, gate_after_lines}
@@ -25,23 +25,18 @@ leaves_none leaves gate g = λ ys was. was
 
 -- after one call
 pub leaves_call : {B : Type 0} (leaves : B → Settings → List Content → Type 0) (old new : Gate B) (g : Gated)
-    (k : Call) →
-    (acts g.settings g.content k ≡ true → leaves new.book g.settings (next_content g.settings g.content k ∷ [])) →
-    (k.unavailable ≡ false → acts g.settings g.content k ≡ false →
-    (ys : List Content) → leaves old.book g.settings ys → leaves new.book g.settings ys) →
-    (k.unavailable ≡ true → (ys : List Content) → leaves old.book g.settings ys →
-    leaves new.book g.settings (ys ++ spared g.settings g.content k ∷ [])) →
+    (k : Call) → CallLeaves g.settings g.content k (leaves old.book g.settings) (leaves new.book g.settings) →
     LeavesBy leaves old new g (k ∷ [])
-leaves_call leaves old new g k acted stood failed =
+leaves_call leaves old new g k h =
     λ ys was. by_marks ys was (acts g.settings g.content k) refl k.unavailable refl
   where
     by_marks : (ys : List Content) → leaves old.book g.settings ys → (t : Bool) → acts g.settings g.content k ≡ t →
         (u : Bool) → k.unavailable ≡ u → leaves new.book g.settings
         (if t then next_content g.settings g.content k ∷ [] else
         if u then ys ++ spared g.settings g.content k ∷ [] else ys)
-    by_marks ys was true e u f = acted e
-    by_marks ys was false e true f = failed f ys was
-    by_marks ys was false e false f = stood f e ys was
+    by_marks ys was true e u f = h.acted e
+    by_marks ys was false e true f = h.failed f ys was
+    by_marks ys was false e false f = h.stood f e ys was
 
 -- a line that is answered `unavailable` before it was read
 pub leaves_unheard : {B : Type 0} (leaves : B → Settings → List Content → Type 0) → MayLeaveMore leaves →

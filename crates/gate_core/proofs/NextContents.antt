@@ -41,11 +41,13 @@ accepted_is_answered c x id d said r u a holds left leaves none e same lawful h 
       answer = rw (none, e) h.said;
       content = subst holds next h.content;
       lawful = lawful;
-      acted = λ _. subst (λ y. leaves (y ∷ [])) next h.crash;
-      stood = λ _ off.
-          let on : acts c x (call id d false) ≡ true = rw (none, e) refl in
-          absurd (true≢false (sym on ∙ off));
-      failed = λ marked. absurd (true≢false (sym marked));
+      crash = record {
+        acted = λ _. subst (λ y. leaves (y ∷ [])) next h.crash;
+        stood = λ _ off.
+            let on : acts c x (call id d false) ≡ true = rw (none, e) refl in
+            absurd (true≢false (sym on ∙ off));
+        failed = λ marked. absurd (true≢false (sym marked));
+      };
     }
 
 -- a refused delivery under a new id changes nothing
@@ -63,11 +65,13 @@ refused_is_answered c x id d r holds leaves none e lawful held =
       answer = rw (none, e) refl;
       content = subst holds next held;
       lawful = subst (IsLawfulContent c) next lawful;
-      acted = λ on.
-          let off : acts c x (call id d false) ≡ false = rw (none, e) refl in
-          absurd (true≢false (sym on ∙ off));
-      stood = λ _ off ys l. l;
-      failed = λ marked. absurd (true≢false (sym marked));
+      crash = record {
+        acted = λ on.
+            let off : acts c x (call id d false) ≡ false = rw (none, e) refl in
+            absurd (true≢false (sym on ∙ off));
+        stood = λ _ off ys l. l;
+        failed = λ marked. absurd (true≢false (sym marked));
+      };
     }
 
 -- a call that is answered `unavailable`, where the book may have gone on to what is accepted
@@ -82,9 +86,11 @@ failed_is_answered c x id d said r u holds left leaves none e same lawful h =
       answer = refl;
       content = h.content;
       lawful = lawful;
-      acted = λ on. absurd (true≢false (sym on));
-      stood = λ unmarked. absurd (true≢false unmarked);
-      failed = λ _ ys l. subst (λ y. leaves (ys ++ y ∷ [])) next (h.crash ys l);
+      crash = record {
+        acted = λ on. absurd (true≢false (sym on));
+        stood = λ unmarked. absurd (true≢false unmarked);
+        failed = λ _ ys l. subst (λ y. leaves (ys ++ y ∷ [])) next (h.crash ys l);
+      };
     }
 
 -- what a crash could leave before is what it could leave still earlier
@@ -95,7 +101,9 @@ answered_from c x k a holds old mid leaves on h = record {
   answer = h.answer;
   content = h.content;
   lawful = h.lawful;
-  acted = h.acted;
-  stood = λ unmarked off ys l. h.stood unmarked off ys (on ys l);
-  failed = λ marked ys l. h.failed marked ys (on ys l);
+  crash = record {
+    acted = h.crash.acted;
+    stood = λ unmarked off ys l. h.crash.stood unmarked off ys (on ys l);
+    failed = λ marked ys l. h.crash.failed marked ys (on ys l);
+  };
 }

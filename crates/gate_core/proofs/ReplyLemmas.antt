@@ -158,7 +158,7 @@ goes_told trusted holds leaves old new line id d a text settings before short sa
           lawful = subst (λ c. IsLawfulContent c after.content) (over.settings ∙ sym settings) h.lawful;
         },
         told_call leaves old new g line text id d a short said is h.answer
-            (leaves_call leaves old new g k h.acted h.stood h.failed),
+            (leaves_call leaves old new g k h.crash),
       );
 }
 

@@ -85,7 +85,7 @@ module _ {B : Type 0} (trusted : B → Type 0) (holds : B → Settings → Conte
       CrashLeaves g.settings g.content ks (leaves old.book g.settings) (leaves new.book g.settings) →
       LeavesBy leaves old new g ks
   called_leaves old new g [] few h = h
-  called_leaves old new g (k ∷ []) few h = leaves_call leaves old new g k h.acted h.stood h.failed
+  called_leaves old new g (k ∷ []) few h = leaves_call leaves old new g k h
   called_leaves old new g (k ∷ l ∷ ks) few h = absurd (omega (arith, few))
 
   -- a request was served

@@ -143,8 +143,7 @@ module _ {B : Type 0} (trusted : B → Type 0) (holds : B → Settings → Conte
               id d a settings over.settings (answered t g.content over.held over.lawful);
         },
         λ t x held lawful.
-            let h = answered t x held lawful in
-            record { acted = h.acted; stood = h.stood; failed = h.failed },
+            (answered t x held lawful).crash,
       )
 
   -- what nothing was done for stands

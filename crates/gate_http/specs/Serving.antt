@@ -1,8 +1,8 @@
 -- What serving a request comes to, by what a gate held.
-use Rattle.std.specs.Prelude.{ℕ, ◌≡◌, true, false, List, [], ◌∷◌, ◌++◌, Option}
+use Rattle.std.specs.Prelude.{ℕ, ◌≡◌, List, [], ◌∷◌, Option}
 use Rattle.gate_types.specs.Settings.{Settings}
-use Rattle.gate_types.specs.Once.{Content, Call, acts, next_content}
-use Rattle.gate_core.specs.Answered.{spared}
+use Rattle.gate_types.specs.Once.{Content, Call}
+use Rattle.gate_core.specs.Answered.{CallLeaves}
 use Rattle.gate_core.specs.declared.gate.Gate.{Gate}
 use Rattle.gate_core.specs.Held.{Goes}
 use Rattle.gate_core.specs.Holding.{OfGate}
@@ -15,17 +15,10 @@ use Rattle.gate_http.specs.Way.{Way, stream}
 use Rattle.gate_http.specs.Got.{way_got}
 use Rattle.gate_http.specs.Answer.{Answers, answer_to, calls_asked, calls_made, gate_after, stream_of, is_503}
 
--- what a crash leaves after a call: the content after it alone, after a first reply; what it could leave before,
--- after a kept reply or a refusal; and after `unavailable` one content more: what the delivery would have given
-pub record Survives (c : Settings) (x : Content) (k : Call) (left leaves : List Content → Type 0) : Type 0 where
-  pub acted : acts c x k ≡ true → leaves (next_content c x k ∷ [])
-  pub stood : k.unavailable ≡ false → acts c x k ≡ false → (ys : List Content) → left ys → leaves ys
-  pub failed : k.unavailable ≡ true → (ys : List Content) → left ys → leaves (ys ++ spared c x k ∷ [])
-
--- a crash after at most one call; where there is none, what it could leave before
+-- what a crash leaves after at most one call; where there is none, what it could leave before
 abbrev pub CrashLeaves : Settings → Content → List Call → (List Content → Type 0) → (List Content → Type 0) → Type 0
 CrashLeaves c x [] left leaves = (ys : List Content) → left ys → leaves ys
-CrashLeaves c x (k ∷ ks) left leaves = Survives c x k left leaves
+CrashLeaves c x (k ∷ ks) left leaves = CallLeaves c x k left leaves
 
 -- a gate was asked this and told this: the answer and the content of the plain gate, and what a crash leaves
 pub record Responds {B : Type 0} (trusted : B → Type 0) (holds : B → Settings → Content → Type 0)

@@ -11,9 +11,7 @@ returns-clause-answered g c trusted x held lawful =
       answer = h.answer;
       content = record { book = h.content; recent = λ _. c.deliver.ensures.recent trusted x held.book lawful told };
       lawful = h.lawful;
-      acted = h.acted;
-      stood = h.stood;
-      failed = h.failed;
+      crash = h.crash;
     }
 
 pub returns-clause-lands : goal.returns-clause-lands
