@@ -1,4 +1,4 @@
-//! Who might enter by what a delivery did, so that not all who wait are asked about.
+//! The candidates after a delivery: changes that might enter by what it did, so that the others aren't looked up.
 ghost use Rattle.std.specs.Prelude.{◌≡◌, ◌++◌, not, fold, filter, IfOk, IfErr, OnOk, ℕ};
 ghost use Rattle.std.specs.List.{list_any};
 ghost use Rattle.std.specs.Ordering.{nat_cmp};
@@ -153,7 +153,7 @@ fn to_look_at<B: Book>(alloc: Global, book: &mut B, edits: &[Edit]) -> Result<Ve
     }
 }
 
-/// Who might enter, each under the number of its approval: whoever may is among them.
+/// The candidates, each under the number of its approval: every change that may enter is among them.
 pub(crate) fn candidates<B: Book>(
     alloc: Global,
     book: &mut B,

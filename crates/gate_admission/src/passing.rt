@@ -1,4 +1,4 @@
-//! Who enters next: the first of the candidates that may.
+//! The change that enters next: the first of the candidates that may.
 ghost use Rattle.std.specs.Prelude.{◌≡◌, ◌<◌, None, find, IfOk, IfErr, IfNone, IfSome, MatchOption};
 ghost use Rattle.std.specs.Ordering.{nat_cmp};
 ghost use Rattle.std.specs.BTreeMap.{IsEmpty, IsLowerBound, Updates, btree_map_len};

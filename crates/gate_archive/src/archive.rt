@@ -1,4 +1,4 @@
-//! What a gate's book tells of the past.
+//! What a gate's book keeps of the past.
 use crate::fault::FeedFault;
 use crate::rows::{BuildSummary, LeftItem};
 use gate_book_trait::{Book, BookFault, HistoryFault};
@@ -8,8 +8,8 @@ use gate_types::sequence::Sequence;
 use gate_types::tap::Tap;
 use std::io::Write;
 
-/// A book that is asked, too, for what is past: no rule of the gate needs it, whoever asks a gate that runs does. Each
-/// read is by key, and touches no row but those that it tells of.
+/// A book that also answers what is past. No rule of the gate needs that: the queries to a running gate do. Each read is
+/// by key, and touches only the rows that it returns.
 pub trait Archive: Book {
     ghost use Rattle.std.specs.Prelude.{◌≡◌, false, length, IfErr};
     ghost use Rattle.gate_types.specs.Tap.{has_failed};

@@ -1,6 +1,6 @@
 //! What a book answers of the past: the trait `Archive`, beside `Book`; and the definitions of the texts by which a
-//! gate that runs tells of a change, of an item and its builds, of what runs, of a history from a place on, and of the
-//! deliveries that it accepted.
+//! running gate answers queries: a change, an item with its builds, the running builds, a history from a place on, and
+//! the deliveries that it accepted.
 //!
 //! ```text
 //! let left = book.left(serial)?; // why an item left

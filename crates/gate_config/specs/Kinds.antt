@@ -1,4 +1,4 @@
--- Of which kind each member is.
+-- The kind of each member.
 use Rattle.std.specs.Prelude.{ℕ, List, codes, Bool, false, ◌||◌, not, is_some}
 use Rattle.std.specs.List.{list_any, list_all}
 use Rattle.std.specs.Option.{option_map_or}

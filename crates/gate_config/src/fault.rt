@@ -4,7 +4,7 @@ ghost use Rattle.gate_config.specs.Words.{number_of, word_of};
 
 use std::alloc::AllocError;
 
-/// A fault of a settings file. Of several, the one with the least number is answered.
+/// A fault of a settings file. If the file has several, the one with the least number is answered.
 #[derive(Clone, Copy, Debug, PartialEq, Eq)]
 pub enum ConfigFault {
     /// The bytes are no TOML.

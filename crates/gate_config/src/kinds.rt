@@ -1,4 +1,4 @@
-//! Of which kind each member is.
+//! The kind of each member.
 ghost use Rattle.std.specs.Prelude.{◌≡◌, codes, false};
 ghost use Rattle.std.specs.Option.{option_map_or};
 ghost use Rattle.toml.specs.Data.{get};

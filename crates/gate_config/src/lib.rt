@@ -28,8 +28,7 @@ use toml::Value;
 ///
 /// # Errors
 ///
-/// Of all faults that the file has, the one with the least number; and `NoMemory`
-/// where memory was refused, whatever the file has.
+/// The fault with the least number, if the file has any; and `NoMemory` where memory was refused, whatever the file has.
 pub fn read(alloc: Global, bytes: &[u8]) -> Result<Config, ConfigFault>
     ensures { Gives result (said_by bytes.now) }
 {

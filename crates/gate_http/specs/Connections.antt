@@ -24,7 +24,7 @@ abbrev pub CalledOver : {B : Type 0} → (B → Settings → List Content → Ty
 CalledOver leaves most old new g after =
     (called : IsCalled most g after) × LeavesBy leaves old new g called.calls
 
--- the line that tells of a fault by its text
+-- the line of a fault, by the fault's text
 abbrev pub fault_line : List ℕ → List ℕ
 fault_line text = codes "gated: " ++ (text ++ 10 ∷ [])
 

@@ -25,7 +25,7 @@ use std::net::{OpenListener, OpenStream, Shutdown};
 #[derive(Clone, Copy, Debug, PartialEq, Eq)]
 pub struct NotListening;
 
-/// Writes the line that tells of a fault by its text, or a beginning of it where the writer fails.
+/// Writes the line of a fault, given the fault's text, or a beginning of the line where the writer fails.
 ///
 /// # Errors
 ///

@@ -1,4 +1,4 @@
-//! Who needs what has gone: each change that has gone is asked about once, and the rows that are told are kept.
+//! The items that need a change that has gone: each such change is looked up once, and the rows found are kept.
 ghost use Rattle.std.specs.Prelude.{◌≡◌, ◌<◌, ◌+◌, ◌∷◌, [], length, nat_lt, filter, option_copied, IfOk, OnOk, IfErr};
 ghost use Rattle.std.specs.Prelude.{IfSome, IfNone};
 ghost use Rattle.gate_book_trait.specs.Kept.{OfHeld, IsKept};
@@ -13,7 +13,7 @@ use gate_types::numbers::ChangeNo;
 use gate_types::records::Item;
 use std::alloc::Global;
 
-/// Of the rows of two lists the first, and what is left of each. A row of both is taken from both.
+/// The first row of two lists, and the rest of each. A row of both lists is taken from both.
 fn first_of<'a>(one: &'a [Item], other: &'a [Item]) -> Option<(Item, &'a [Item], &'a [Item])>
     ensures none { IfNone result (rows.merged one.now other.now ≡ []) }
     ensures first { IfSome result (λ f. rows.merged one.now other.now ≡ f.0 ∷ rows.merged f.1.now f.2.now) }
@@ -62,8 +62,8 @@ fn first_above(rows: &[Item], serial: u64) -> Option<&Item>
     rows.iter().find(|row| serial < row.serial.get())
 }
 
-/// Who needs what has gone: the rows of a queue behind the one that was taken last whose changes need one of the first
-/// changes that have gone, as many as were asked about, front to back.
+/// The rows of a queue, behind the one that was taken last, whose changes need one of the first `asked` changes that have
+/// gone, front to back.
 #[derive(Drop)]
 pub struct Needing {
     pub rows: Vec<Item>,

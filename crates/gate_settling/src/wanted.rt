@@ -1,4 +1,4 @@
-//! The row that a walk wants next.
+//! The row that a walk reads next.
 ghost use Rattle.std.specs.Prelude.{◌≡◌, ◌≤◌, ℕ, IfOk, IfSome, OnOk, IfErr};
 ghost use Rattle.gate_book_trait.specs.Kept.{OfHeld, IsKept};
 ghost use Rattle.gate_book_trait.specs.Reads as read;
@@ -15,7 +15,7 @@ use gate_types::records::Item;
 use gate_walk::Next;
 use std::alloc::Global;
 
-/// The first row that a walk wants: that of the touched item, or the one behind it.
+/// The first row that a walk reads: that of the touched item, or the one behind it.
 pub(crate) fn first_wanted<B: Book>(
     book: &mut B,
     touched: &TouchedItem,
@@ -36,7 +36,7 @@ pub(crate) fn first_wanted<B: Book>(
     Ok(row)
 }
 
-/// The row that a walk wants next, if it is there.
+/// The row that a walk reads next, if it is there.
 pub(crate) fn wanted<B: Book>(
     alloc: Global,
     book: &mut B,

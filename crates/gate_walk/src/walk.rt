@@ -58,7 +58,7 @@ pub struct QueueFacts<'a> {
     pub ghost reports_in_range: { reports ≤ last_number },
 }
 
-/// What a walk wants next: the queue's first item above a serial, its first item above it that needs a
+/// What a walk reads next: the queue's first item above a serial, its first item above it that needs a
 /// change of `gone`, or nothing more.
 #[derive(Clone, Copy, PartialEq, Eq)]
 pub enum Next {

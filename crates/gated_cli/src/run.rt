@@ -49,10 +49,10 @@ use std::rt::Files;
 /// The longest settings file, in bytes.
 const SETTINGS_LIMIT: usize = 1_048_576;
 
-/// Does a command over this input and output, and gives the status that the program ends with: 0
-/// where it is done, refused deliveries included; 1 after a fault, which is told on `errors` by
-/// one line: `gated: ` and the fault's text. A fault of the settings leaves input and output as
-/// they were. Of a server the faults of its connections are told before that, a line each.
+/// Does a command over this input and output, and gives the status that the program ends with: 0 where it is done,
+/// refused deliveries included; 1 after a fault, which is told on `errors` by one line: `gated: ` and the fault's text.
+/// A fault of the settings leaves input and output as they were. A server tells the faults of its connections before
+/// that, a line each.
 pub fn run<F: Files + GateFiles + AllocGlobal, R: Read, W: Write, E: Write>(
     rt: &F,
     cmd: Cmd<'_>,
