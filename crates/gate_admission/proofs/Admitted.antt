@@ -19,7 +19,7 @@ use Rattle.gate_types.specs.Once.{Content}
 use Rattle.gate_types.specs.Lawful.{IsSound}
 use Rattle.gate_types.specs.Forms.{IsLawfulContent, is_queue_in_form}
 use Rattle.gate_laws.proofs.Members.{every}
-use Rattle.gate_laws.proofs.Alone.{names_differ}
+use Rattle.gate_types.proofs.DistinctLemmas.{names_differ}
 use Rattle.gate_types.specs.Settings.{Settings, are_sound, are_distinct}
 use Rattle.gate_types.specs.State.{Item, Queue, State, has_change, change_of, known_change, project_of}
 use Rattle.gate_types.specs.State.{known_or_closed, need_of}

@@ -18,7 +18,7 @@ use Rattle.gate_rows.specs.Tells as rows
 use Rattle.gate_found_rows.specs.Reads.{Opened, Reads, Shows, Tells}
 use Rattle.gate_found_rows.specs.Whole.{IsWhole, is_build_row_in_form, is_change_row_in_form, is_item_row_in_form}
 use Rattle.gate_found_rows.specs.Whole.{is_job_row_in_form}
-use Rattle.gate_laws.proofs.Alone.{names_differ}
+use Rattle.gate_types.proofs.DistinctLemmas.{names_differ}
 use Rattle.gate_content_reads.specs.Answers.{IsAnsweredBy}
 use Rattle.gate_content_reads.specs.Held.{HoldsFor, IsShownFor}
 use Rattle.gate_content_reads.proofs.told.Names.{queues_are_named}

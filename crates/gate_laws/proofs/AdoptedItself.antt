@@ -14,7 +14,8 @@ use Rattle.gate_types.specs.Rising.{In}
 use Rattle.gate_laws.specs.Adoption.{AdoptedItself}
 use Rattle.gate_laws.proofs.Members.{any_to, all_to}
 use Rattle.gate_laws.proofs.Elements.{rest_of}
-use Rattle.gate_laws.proofs.Alone.{same_name_of, names_differ}
+use Rattle.gate_types.proofs.DistinctLemmas.{names_differ}
+use Rattle.gate_laws.proofs.Alone.{same_name_of}
 use Rattle.gate_laws.proofs.Adopting.{found_named}
 
 pub kept_window : (c : Settings) (r : QueueSetting) → In r c.queues → keeps_window c r ≡ true

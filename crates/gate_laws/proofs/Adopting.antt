@@ -20,7 +20,8 @@ use Rattle.gate_types.proofs.NameLemmas.{same_name_is}
 use Rattle.gate_laws.proofs.Members.{every, from_map, to_map, any_from, any_to, all_from, none_from, found}
 use Rattle.gate_laws.proofs.Members.{not_found, from_flat, to_flat}
 use Rattle.gate_laws.proofs.Counts.{times, times-append}
-use Rattle.gate_laws.proofs.Alone.{same_name_of, names_differ}
+use Rattle.gate_types.proofs.DistinctLemmas.{names_differ}
+use Rattle.gate_laws.proofs.Alone.{same_name_of}
 use Rattle.gate_laws.proofs.WindowIsSound.{with_window}
 use Rattle.gate_laws.proofs.RecordedChange.{open_known}
 

@@ -30,6 +30,7 @@ use Rattle.gate_types.specs.Lawful.{IsSound, IsLawful}
 use Rattle.gate_types.specs.Forms.{is_item_in_form, is_queue_in_form, is_drawn_number, is_reply_in_form}
 use Rattle.gate_types.specs.Forms.{are_settings_in_form, are_counters_in_form, IsInForm}
 use Rattle.gate_types.specs.Rising.{In}
+use Rattle.gate_types.specs.Limits.{most_needs}
 use Rattle.gate_laws.specs.InForm.{ReplyIsInForm}
 use Rattle.gate_laws.proofs.Members.{every, all_from, from_flat, found}
 use Rattle.gate_laws.proofs.OrderFacts.{shows}
@@ -91,7 +92,7 @@ each_replied c s w f h k (delivery.Revision n name r message) =
     on_either (RawReply c) (is_known_and s n (λ k. not (same_name k.project name))) _ _ tt (
     on_either (RawReply c) (is_known_and s n (λ k. nat_le r k.revision || is_landed k)) _ _ tt (
     on_either (RawReply c) (is_submitting c s n) _ _ tt (
-    on_either (RawReply c) (nat_lt 32 (length (needs c.base message))) _ _ tt tt))))
+    on_either (RawReply c) (nat_lt most_needs (length (needs c.base message))) _ _ tt tt))))
 each_replied c s w f h k (delivery.Approved n r) = reply_known (RawReply c) s n r _ (λ k known.
     on_either (RawReply c) (nat_lt r k.revision || not (is_open k)) _ _ tt (
     on_either (RawReply c) (is_ready s n || is_queued s n) _ _ tt (approval_replied c n (made_ready n s))))

@@ -13,7 +13,8 @@ use Rattle.gate_types.specs.Lawful.{IsSound}
 use Rattle.gate_types.specs.Rising.{In}
 use Rattle.gate_laws.specs.Sessions.{SameSettingsStay}
 use Rattle.gate_laws.proofs.Members.{any_to, all_to}
-use Rattle.gate_laws.proofs.Alone.{same_name_of, names_differ}
+use Rattle.gate_types.proofs.DistinctLemmas.{names_differ}
+use Rattle.gate_laws.proofs.Alone.{same_name_of}
 use Rattle.gate_laws.proofs.Adopting.{found_named}
 use Rattle.gate_laws.proofs.AdoptedItself.{kept_window}
 

@@ -46,6 +46,7 @@ use Rattle.gate_laws.proofs.ChosenShape.{queue_set, take_shaped}
 use Rattle.gate_laws.proofs.LandedShape.{after_shaped}
 use Rattle.gate_types.specs.Limits.{most_window}
 use Rattle.gate_types.specs.Rising.{In}
+use Rattle.gate_types.specs.Limits.{most_needs}
 
 -- ---- shape and lawfulness are form
 
@@ -83,16 +84,16 @@ form_of c s f h k =
 -- a change as a revision tells it
 new_in_form : (c : Settings) (n : ℕ) (name : List ℕ) (r : ℕ) (message : List ℕ) →
     is_delivery_in_form (delivery.Revision n name r message) ≡ true →
-    nat_lt 32 (length (needs c.base message)) ≡ false →
+    nat_lt most_needs (length (needs c.base message)) ≡ false →
     is_change_in_form (new_revision c n name r message) ≡ true
 new_in_form c n name r message d few =
     let p4 = and_parts _ _ d in
     let p3 = and_parts _ _ p4.0 in
-    let top = ltb-false 32 (length (needs c.base message)) few in
+    let top = ltb-false most_needs (length (needs c.base message)) few in
     and_from (is_change_number n && is_path_name name && is_revision_number r && nat_le (length (needs c.base message))
-    32) (list_all is_change_number (needs c.base message))
+    most_needs) (list_all is_change_number (needs c.base message))
     (and_from (is_change_number n && is_path_name name && is_revision_number r)
-    (nat_le (length (needs c.base message)) 32) p3.0 (le-leb (length (needs c.base message)) 32 top))
+    (nat_le (length (needs c.base message)) most_needs) p3.0 (le-leb (length (needs c.base message)) most_needs top))
     (needs_in_form c.base message)
 
 revision_shaped : (c : Settings) (s : State) (n : ℕ) (name : List ℕ) (r : ℕ) (message : List ℕ) →
@@ -103,7 +104,7 @@ revision_shaped c s n name r message d h =
     on_test (Shaped c) (is_known_and s n (λ k. not (same_name k.project name))) _ _ (λ a. tt) (λ a.
     on_test (Shaped c) (is_known_and s n (λ k. nat_le r k.revision || is_landed k)) _ _ (λ l. h) (λ l.
     on_test (Shaped c) (is_submitting c s n) _ _ (λ m. tt) (λ m.
-    on_test (Shaped c) (nat_lt 32 (length (needs c.base message))) _ _ (λ o. tt) (λ o.
+    on_test (Shaped c) (nat_lt most_needs (length (needs c.base message))) _ _ (λ o. tt) (λ o.
     put_shaped c (without_ready n (leave verdict.Superseded n s)) (new_revision c n name r message)
     (new_in_form c n name r message d o)
     (unready_shaped c (leave verdict.Superseded n s) n (leave_shaped c s verdict.Superseded n (λ m. tt) h)))))))

@@ -1,8 +1,8 @@
 -- What was read queue by queue is all that is live.
 use Rattle.std.proofs.Common.{◌≡◌, ℕ, zero, suc, ◌+◌, ◌<◌, ◌≤◌, true, false, not, cond, Option, Some, None}
 use Rattle.std.proofs.Common.{List, [], ◌∷◌, ◌++◌, length, map, take, get_or, refl, sym, ap, subst, ◌∙◌, arith}
-use Rattle.std.specs.Prelude.{◌&&◌, nat_le, option_map, IfSome}
-use Rattle.std.specs.List.{list_any, list_all}
+use Rattle.std.specs.Prelude.{option_map, IfSome}
+use Rattle.std.specs.List.{list_any}
 use Rattle.std.specs.Option.{option_map_or}
 use Rattle.std.proofs.lemmas.Option.{none-some}
 use Rattle.std.proofs.lemmas.Bool.{and_parts, not-true, or_parts}
@@ -10,11 +10,11 @@ use Rattle.std.proofs.lemmas.List.{map-append}
 use Rattle.std.proofs.Math.Seq.{take-suc}
 use Rattle.std.proofs.lemmas.Simd.{map-map}
 use lib.Pointwise.{bytes_decides}
-use Rattle.gate_types.proofs.PlainLemmas.{some_is, fifth_of_eight}
+use Rattle.gate_types.proofs.PlainLemmas.{some_is}
 use Rattle.gate_types.specs.declared.records.Item.{Item}
 use Rattle.gate_types.specs.declared.config.Queue.{Queue as QueueSetting}
 use Rattle.gate_types.specs.Names.{same_name}
-use Rattle.gate_types.specs.Settings.{Settings, are_distinct, are_sound, are_sound_jobs, has_queue, is_sound_window}
+use Rattle.gate_types.specs.Settings.{Settings, are_distinct}
 use Rattle.gate_types.specs.State.{Queue, put_by}
 use Rattle.gate_types.specs.Rows.{item_rows}
 use Rattle.gate_types.specs.Once.{Content}
@@ -173,14 +173,6 @@ told_next f qs q rs n r l at before here =
     ∙ ap (λ m. map f (take m rs)) step
 
 -- ---- the settings
-
-pub names_differ : (c : Settings) (rs : List QueueSetting) → are_sound c ≡ true → rs ≡ c.queues → are_distinct (map (λ (r : QueueSetting). r.name) rs) ≡ true
-names_differ c rs sound e =
-    ap (λ (zs : List QueueSetting). are_distinct (map (λ (r : QueueSetting). r.name) zs)) e
-    ∙ fifth_of_eight (nat_le 1 (length c.queues)) (nat_le (length c.queues) 32) (nat_le 1 (length c.projects))
-    (nat_le (length c.projects) 256)
-    (are_distinct (map (λ (r : QueueSetting). r.name) c.queues)) (are_distinct (map (λ p. p.name) c.projects)) (list_all is_sound_window c.queues)
-    (list_all (λ p. has_queue c.queues p.queue && are_sound_jobs p.jobs) c.projects) sound
 
 pub names_are : (c : Settings) (x : Content) (rs : List QueueSetting) → IsSound c x.state → rs ≡ c.queues →
     map (λ (q : QueueRows). q.name) (tables c x).queues ≡ map (λ (r : QueueSetting). r.name) rs

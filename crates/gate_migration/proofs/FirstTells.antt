@@ -20,7 +20,8 @@ use Rattle.gate_schema.specs.Rows.{AreNamed, QueueRow, Stored}
 use Rattle.gate_rows.specs.Tells.{Tells, landings_of}
 use Rattle.gate_book_trait.proofs.ReadLemmas.{rows_of_queue}
 use Rattle.gate_queue_queries.specs.First.{ShowsFirst, first_schema}
-use Rattle.gate_laws.proofs.Alone.{names_differ, same_name_of}
+use Rattle.gate_types.proofs.DistinctLemmas.{names_differ}
+use Rattle.gate_laws.proofs.Alone.{same_name_of}
 use Rattle.gate_laws.proofs.Members.{all, none_from, to_map}
 use Rattle.gate_laws.proofs.ItemRows.{items_of_rows}
 use Rattle.gate_content_reads.specs.Held.{queue_names}

@@ -16,6 +16,7 @@ use Rattle.gate_types.specs.Admit.{without_ready}
 use Rattle.gate_types.specs.SubmitOrder.{is_submitting}
 use Rattle.gate_types.specs.Step.{Stepped, raw_closed, raw_revision, accepted, refused, leave, revised, has_project}
 use Rattle.gate_types.specs.Step.{is_known_and}
+use Rattle.gate_types.specs.Limits.{most_needs}
 use Rattle.gate_walk.specs.Delivery.{is_stale}
 use Rattle.gate_ruling.specs.Guards.{GoesOn}
 use Rattle.gate_ruling.proofs.Guarded.{open_goes}
@@ -61,9 +62,9 @@ closed_is s n k known =
 pub revision_raw : (c : Settings) (s : State) (n : ℕ) (name : List ℕ) (r : ℕ) (message : List ℕ) →
     has_project c name ≡ true → is_known_and s n (λ k. not (same_name k.project name)) ≡ false →
     is_known_and s n (λ k. nat_le r k.revision || is_landed k) ≡ false → is_submitting c s n ≡ false →
-    length (needs c.base message) ≤ 32 → (k : Change) →
+    length (needs c.base message) ≤ most_needs → (k : Change) →
     k ≡ record { number = n; project = name; revision = r; stage = stage.Open; needs = needs c.base message } →
     raw_revision c s n name r message ≡ accepted reply.Recorded (revised k s)
 revision_raw c s n name r message there own late free few k is =
-    rw (there, own, late, free, le-ltb 32 (length (needs c.base message)) few) refl
+    rw (there, own, late, free, le-ltb most_needs (length (needs c.base message)) few) refl
     ∙ ap (λ j. accepted reply.Recorded (revised j s)) (sym is)

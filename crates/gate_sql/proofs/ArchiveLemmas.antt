@@ -27,7 +27,7 @@ use Rattle.gate_schema.specs.Rows.{Stored}
 use Rattle.gate_rows.specs.Tells as rows
 use Rattle.gate_found_rows.specs.Reads.{Opened, Shows}
 use Rattle.gate_found_rows.specs.Whole.{IsWhole}
-use Rattle.gate_laws.proofs.Alone.{names_differ}
+use Rattle.gate_types.proofs.DistinctLemmas.{names_differ}
 use Rattle.gate_file_changes.specs.Applies.{is_among}
 use Rattle.gate_content_reads.specs.Held.{HoldsFor}
 use Rattle.gate_content_reads.proofs.ReadLemmas.{told_of, no_rows, shown, shut}

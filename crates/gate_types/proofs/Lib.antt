@@ -9,4 +9,4 @@ pub mod ReadingLemmas
 pub mod DigitLemmas
 pub mod NameLemmas
 pub mod PutLemmas
-mod DistinctLemmas
+pub mod DistinctLemmas

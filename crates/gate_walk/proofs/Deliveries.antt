@@ -32,7 +32,8 @@ use Rattle.gate_walk.specs.Delivery.{standing_rows, WalksFrom, TouchedQueueIsWal
 use Rattle.gate_queue.specs.Settled.{swept_of}
 use Rattle.gate_laws.proofs.Members.{every, all, to_map, to_right, found, not_found, any_to, all_to, in_contains}
 use Rattle.gate_laws.proofs.Parts.{ItemsRise}
-use Rattle.gate_laws.proofs.Alone.{serial_alone, names_differ}
+use Rattle.gate_types.proofs.DistinctLemmas.{names_differ}
+use Rattle.gate_laws.proofs.Alone.{serial_alone}
 use Rattle.gate_laws.proofs.EachAccepted.{closed_state, new_revision, landed_state, refused_state}
 use Rattle.gate_walk.proofs.EachReply.{OnReply, on_reply, withdrawn_reply, closed_reply, revision_reply, landed_reply}
 use Rattle.gate_walk.proofs.EachReply.{refused_reply, result_reply}

@@ -20,6 +20,7 @@ use Rattle.gate_types.specs.SubmitOrder.{Order, shown_order, is_submitting}
 use Rattle.gate_types.specs.Step.{Stepped, accepted, refused, on_known, leave, revised, has_project, is_known_and}
 use Rattle.gate_types.specs.Step.{build_of, end_build, raw_revision, raw_withdrawn, raw_closed, raw_landed}
 use Rattle.gate_types.specs.Step.{raw_refused, raw_result}
+use Rattle.gate_types.specs.Limits.{most_needs}
 use Rattle.gate_walk.specs.Delivery.{is_stale}
 use Rattle.gate_laws.proofs.EachAccepted.{closed_state, new_revision, landed_state, refused_state}
 
@@ -101,13 +102,13 @@ revision_reply P c s n name r message revise =
     (λ a. test_reply s P (is_known_and s n (λ k. not (same_name k.project name))) (refused refusal.ProjectChanged) newer (λ b. tt)
     (λ b. test_reply s P (is_known_and s n (λ k. nat_le r k.revision || is_landed k)) (accepted reply.Stale s) latest (λ d. inl (refl, refl))
     (λ d. test_reply s P (is_submitting c s n) (refused refusal.Submitting) few (λ f. tt)
-    (λ f. test_reply s P (nat_lt 32 (length (needs c.base message))) (refused refusal.TooManyNeeds) recorded (λ g. tt) (λ g. inr (refl, revise))))))
+    (λ f. test_reply s P (nat_lt most_needs (length (needs c.base message))) (refused refusal.TooManyNeeds) recorded (λ g. tt) (λ g. inr (refl, revise))))))
   where
     recorded : Stepped
     recorded = accepted reply.Recorded (revised (new_revision c n name r message) s)
 
     few : Stepped
-    few = if nat_lt 32 (length (needs c.base message)) then refused refusal.TooManyNeeds else recorded
+    few = if nat_lt most_needs (length (needs c.base message)) then refused refusal.TooManyNeeds else recorded
 
     latest : Stepped
     latest = if is_submitting c s n then refused refusal.Submitting else few

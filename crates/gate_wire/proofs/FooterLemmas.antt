@@ -11,6 +11,7 @@ use Rattle.std.proofs.lemmas.List.Elements.{filter_map-append}
 use Rattle.std.proofs.lemmas.List.Sums.{fold-append}
 use Rattle.std.proofs.lemmas.Slice.Eq.{bytes_eq-Decides}
 use Rattle.gate_types.specs.Needs.{named_change, with_number, needs}
+use Rattle.gate_types.specs.Limits.{most_needs}
 
 false_unless : (b : Bool) → (b ≡ true → ⊥) → b ≡ false
 false_unless true h = absurd (h refl)
@@ -77,5 +78,5 @@ needs_all base message n e = ap (needs_in base) (take_all n (slice_split (λ b. 
 
 -- where some lines name too many, so does the message
 pub needs_beyond : (base message : List ℕ) (n : ℕ) (found : List ℕ) → found ≡ needs_in base (take n (slice_split (λ b. b == 10) message))
-    → 32 < length found → 32 < length (needs base message)
+    → most_needs < length found → most_needs < length (needs base message)
 needs_beyond base message n found so_far many = omega (arith, many, ap length so_far, needs_most base (slice_split (λ b. b == 10) message) n)

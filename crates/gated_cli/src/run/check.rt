@@ -1,6 +1,7 @@
 //! What is printed of settings without a fault.
-ghost use Rattle.std.specs.Prelude.{◌≡◌, ◌≤◌, length, IfOk, string_bytes};
+ghost use Rattle.std.specs.Prelude.{◌≡◌, ◌≤◌, ◌*◌, length, IfOk, string_bytes};
 ghost use Rattle.std.specs.List.{sum_by};
+ghost use Rattle.gate_types.specs.Limits.{most_jobs, most_projects};
 ghost use Rattle.gated_cli.specs.Doing.{check_text};
 
 use gate_types::config::{Config, Project};
@@ -17,7 +18,7 @@ pub(crate) fn check_text(alloc: Global, config: &Config) -> Result<String, Alloc
 }
 
 fn job_count(projects: &[Project]) -> usize
-    requires { sum_by (λ p. length p.jobs) projects.now ≤ 8192 }
+    requires { sum_by (λ p. length p.jobs) projects.now ≤ most_jobs * most_projects }
     ensures { result ≡ sum_by (λ p. length p.jobs) projects.now }
 {
     let mut count = 0;

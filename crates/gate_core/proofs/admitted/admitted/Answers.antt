@@ -1,6 +1,6 @@
 use Rattle.std.proofs.Common.{◌≡◌, ◌∙◌, true, ap, rules}
 use Rattle.gate_types.specs.Settings.{are_sound, are_distinct}
-use Rattle.gate_laws.proofs.Alone.{names_differ}
+use Rattle.gate_types.proofs.DistinctLemmas.{names_differ}
 use Rattle.gate_reads.specs.Moves.{swept}
 use Rattle.gate_core.proofs.ByEdits.{enters_by_edits}
 use Rattle.gate_core.proofs.admitted.admitted.Goals as goal

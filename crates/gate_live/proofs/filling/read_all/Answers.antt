@@ -1,9 +1,10 @@
-use Rattle.std.proofs.Common.{◌≡◌, ◌∙◌, map, ap, subst, true}
-use Rattle.gate_types.specs.Settings.{Settings, are_sound}
+use Rattle.std.proofs.Common.{◌≡◌, ◌∙◌, map, ap, subst, sym, true}
+use Rattle.gate_types.specs.Settings.{Settings, are_distinct, are_sound}
 use Rattle.gate_types.specs.Tables.{tables}
+use Rattle.gate_types.proofs.DistinctLemmas.{names_differ}
 use Rattle.gate_live.specs.Live.{live_queue}
 use Rattle.gate_live.specs.Held.{queue_of}
-use Rattle.gate_live.proofs.FilledLemmas.{filled, names_are, names_differ}
+use Rattle.gate_live.proofs.FilledLemmas.{filled, names_are}
 use Rattle.gate_live.proofs.filling.read_all.Goals as goal
 
 pub returns-clause-found : goal.returns-clause-found
@@ -17,6 +18,6 @@ returns-clause-found g c trusted x held lawful =
     let told = rw c.in-Some.is at (c.in_ok-queues.ensures.found first s x held lawful) in
     let queues : map queue_of c.in-Some.queues.items ≡ map live_queue (tables s x).queues =
     filled (map queue_of c.in-Some.queues.items) (tables s x).queues rs (names_are s x rs lawful.lawful.sound settings)
-    (names_differ s rs sound settings) told in
+    (subst (λ zs. are_distinct (map (λ z. z.name) zs) ≡ true) (sym settings) (names_differ s sound)) told in
     let counters = c.in_ok-counters.ensures.found trusted s x later lawful in
     c.new.ensures.rows ∙ λ i. record { queues = queues i; counters = counters i }

@@ -5,6 +5,7 @@ use Rattle.std.proofs.lemmas.Iterator.Splits.{YieldsList-from_slice_split}
 use Rattle.std.proofs.lemmas.Iterator.Consumers.{YieldsList-turn, YieldsList-end}
 use Rattle.gate_types.specs.declared.deliveries.Refusal.TheVariants as refusal
 use Rattle.gate_types.specs.Needs.{with_number}
+use Rattle.gate_types.specs.Limits.{most_needs}
 use Rattle.gate_wire.proofs.FooterLemmas.{needs_turn, needs_all, needs_beyond}
 use Rattle.gate_wire.proofs.footers.needs.Goals as goal
 
@@ -23,7 +24,7 @@ returns-in_err-keep-clause-many c = λ e.
     let p = err_from_is_err_and c.from_residual.result c.from_residual.ensures.1 in
     let refused = rw (p.1, p.2) at e in
     let same : c.in_err-keep.field-0.0 ≡ refusal.TooManyNeeds = cc in
-    let many : 32 < length (with_number c.loop-line.found.items c.in-Some-change_named.change) = c.in_err-keep.ensures.many (ap Err same) in
+    let many : most_needs < length (with_number c.loop-line.found.items c.in-Some-change_named.change) = c.in_err-keep.ensures.many (ap Err same) in
     let road = YieldsList-from_slice_split _ (λ b. b == 10) c.args.message.now (cc) (cc) (cc) (λ x b q k. search (rules, tests)) in
     let turn = YieldsList-turn road c.loop-line.yielded _ c.loop-line.yielded_by _ _ c.in-Some.line c.in-Some.is c.next.ensures.steps in
     let names = sym c.change_named.ensures ∙ c.in-Some-change_named.is in
@@ -49,4 +50,4 @@ pub returns-clause-few : goal.returns-clause-few
 returns-clause-few c =
     let road = YieldsList-from_slice_split _ (λ b. b == 10) c.args.message.now (cc) (cc) (cc) (λ x b q k. search (rules, tests)) in
     let end = YieldsList-end road c.loop-line.yielded _ c.loop-line.yielded_by _ _ c.in-None.is c.next.ensures.steps in
-    subst (λ found. length found ≤ 32) (c.loop-line.invariant.so_far ∙ needs_all c.args.base.now c.args.message.now _ end.1) c.loop-line.invariant.few
+    subst (λ found. length found ≤ most_needs) (c.loop-line.invariant.so_far ∙ needs_all c.args.base.now c.args.message.now _ end.1) c.loop-line.invariant.few

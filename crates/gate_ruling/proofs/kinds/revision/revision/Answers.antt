@@ -11,6 +11,7 @@ use Rattle.gate_types.specs.Settings.{Settings}
 use Rattle.gate_types.specs.State.{known_change, is_landed}
 use Rattle.gate_types.specs.SubmitOrder.{is_submitting}
 use Rattle.gate_types.specs.Step.{leave, revised, has_project, is_known_and}
+use Rattle.gate_types.specs.Limits.{most_needs}
 use Rattle.gate_reads.specs.Touches.{Touches}
 use Rattle.gate_ruling.proofs.GivenUp.{given_up}
 use Rattle.gate_ruling.proofs.Closed.{revision_raw}
@@ -43,7 +44,7 @@ returns-clause-raw g c trusted x holds lawful =
     let base : c.as_str.result.now ≡ s.base = c.as_str.ensures.value ∙ ap (λ (v : Settings). v.base) c.config.view_is in
     let texts : needs c.as_str.result.now c.as_str-2.result.now ≡ needs s.base message =
     (λ i. needs (base i) (c.as_str-2.ensures.value i)) in
-    let few : length (needs s.base message) ≤ 32 = subst (λ l. length l ≤ 32) texts c.in-Ok.ensures.few in
+    let few : length (needs s.base message) ≤ most_needs = subst (λ l. length l ≤ most_needs) texts c.in-Ok.ensures.few in
     let listed : c.from_vec.result ≡ needs s.base message = c.from_vec.ensures ∙ c.in-Ok.ensures.ok ∙ texts in
     let k : Change = record {
       number = n;
