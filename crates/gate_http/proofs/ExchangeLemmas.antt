@@ -16,7 +16,7 @@ use Rattle.gate_http.specs.declared.head.Came.TheVariants as came
 use Rattle.gate_http.specs.declared.request.Wanted.{Wanted}
 use Rattle.gate_http.specs.declared.request.Wanted.TheVariants as wanted
 use Rattle.gate_http.specs.Asked.{delivery}
-use Rattle.gate_http.specs.Head.{Front, empty, cut, too_large, whole, front_of}
+use Rattle.gate_http.specs.Head.{Front, empty, cut, too_large, whole, front_of, head_limit}
 use Rattle.gate_http.specs.Way.{Decided, refused, posted, decided, Way, silence, refusal, question, way_on, way_from}
 use Rattle.gate_http.specs.Way.{body_on, taken_from, Finds, FindsIn}
 use Rattle.gate_http.specs.Exchange.{IsKnown, IsUnfinished, Waits, OfRead}
@@ -68,7 +68,7 @@ pub read_too_much : (from left : Option (List ℕ)) (bytes : List ℕ) → HeadC
     → Reads from left (refusal fault.HeadTooLarge extent.Whole)
 read_too_much from left bytes h =
     let k = known from left bytes h.read in
-    let first : take 8192 (bytes ++ k.0) ≡ bytes =
+    let first : take head_limit (bytes ++ k.0) ≡ bytes =
     subst (λ n. take n (bytes ++ k.0) ≡ bytes) h.begins.0 (take-append_seam bytes k.0) in
     read_without from left (bytes ++ k.0) too_large k.1 (h.begins.1 k.0) refl
     (subst (Consumes from left) (sym first) h.read)

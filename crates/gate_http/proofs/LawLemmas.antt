@@ -10,7 +10,7 @@ use Rattle.gate_http.specs.declared.response.Extent.TheVariants as extent
 use Rattle.gate_http.specs.declared.fault.HttpFault.{HttpFault}
 use Rattle.gate_http.specs.declared.fault.HttpFault.TheVariants as fault
 use Rattle.gate_http.specs.Asked.{Asked, delivery}
-use Rattle.gate_http.specs.Head.{Front, empty, cut, too_large, whole, front_of, front_with, head_from}
+use Rattle.gate_http.specs.Head.{Front, empty, cut, too_large, whole, front_of, front_with, head_from, head_limit}
 use Rattle.gate_http.specs.Way.{Finds, Decided, refused, posted, shown, recalled, decided, way_on, way_from, silence}
 use Rattle.gate_http.specs.Way.{refusal, question}
 use Rattle.gate_http.specs.Laws.{FoundOnce, FewLinesFit, SilenceIsForNothing}
@@ -85,9 +85,9 @@ silent_short false found e = cc
 
 silent_front : (input : List ℕ) (h : Option (List ℕ)) (found : Option RequestHead) → way_from (front_with input h) found ≡ silence → input ≡ []
 silent_front [] h found e = refl
-silent_front (b ∷ bs) None found e = absurd (silent_short (ltb (length (b ∷ bs)) 8192) found e)
+silent_front (b ∷ bs) None found e = absurd (silent_short (ltb (length (b ∷ bs)) head_limit) found e)
 silent_front (b ∷ bs) (Some head) found e = absurd (silent_on (drop (length head) (b ∷ bs)) (decided head found) e)
 
 pub silent : (input : List ℕ) (found : Option RequestHead) → SilenceIsForNothing input found
 unfolding front_of
-silent input found = λ e. silent_front input (head_from [] (take 8192 input)) found e
+silent input found = λ e. silent_front input (head_from [] (take head_limit input)) found e

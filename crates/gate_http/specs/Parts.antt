@@ -15,7 +15,7 @@ use Rattle.gate_http.specs.declared.fields.NamedField.{NamedField}
 use Rattle.gate_http.specs.declared.fields.NamedField.TheVariants as found
 use Rattle.gate_http.specs.declared.request.Decision.{Decision}
 use Rattle.gate_http.specs.declared.request.Decision.TheVariants as decision
-use Rattle.gate_http.specs.Head.{cut, too_large, whole, front_of}
+use Rattle.gate_http.specs.Head.{cut, too_large, whole, front_of, head_limit}
 use Rattle.gate_http.specs.Fields.{Pair}
 use Rattle.gate_http.specs.declared.request.Question.{Question}
 use Rattle.gate_http.specs.declared.request.Question.TheVariants as question
@@ -42,7 +42,7 @@ abbrev pub Begins : Came → List ℕ → Option (List ℕ) → Type 0
 Begins came.Nothing bytes left = IsAtEnd left × (bytes ≡ [])
 Begins came.Part bytes left = IsAtEnd left × (front_of bytes ≡ cut)
 Begins came.TooMuch bytes left =
-    (length bytes ≡ 8192) × ((more : List ℕ) → front_of (bytes ++ more) ≡ too_large)
+    (length bytes ≡ head_limit) × ((more : List ℕ) → front_of (bytes ++ more) ≡ too_large)
 Begins came.Whole bytes left = (more : List ℕ) → front_of (bytes ++ more) ≡ whole bytes more
 
 -- that came of a head

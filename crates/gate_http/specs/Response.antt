@@ -61,6 +61,10 @@ head_text status kind len allow =
     ++ (line (codes "Content-Length: ") (decimal len)
     ++ (allow ++ codes "Connection: close\r\n\r\n")))
 
+-- the room that a head needs at most
+abbrev pub head_room : ℕ
+head_room = 256
+
 -- the type of JSON
 abbrev pub json : List ℕ
 json = codes "application/json"

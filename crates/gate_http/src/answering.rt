@@ -3,7 +3,7 @@ ghost use Rattle.std.specs.Prelude.{◌≡◌, ◌≤◌, [], false, true, OnOk,
 ghost use Rattle.gate_types.specs.Tap.{has_failed, Took, TookFront};
 ghost use Rattle.gate_http.specs.Faults.{fault_status};
 ghost use Rattle.gate_http.specs.Asked.{media_of, told_status, streamed_by, missing_of};
-ghost use Rattle.gate_http.specs.Response.{fault_content, told_kind, fault_in, told_in};
+ghost use Rattle.gate_http.specs.Response.{fault_content, told_kind, fault_in, told_in, head_room};
 ghost use Rattle.gate_http.specs.Exchange.{OfLines, Recalled};
 ghost use Rattle.gate_http.specs.Parts.{asked_by, ReadsTo, BreaksOff};
 
@@ -58,7 +58,7 @@ pub(crate) fn refuse<W: Write>(
 ) -> Result<Served, RequestFault>
     requires writer { has_failed writer.old ≡ false }
     requires empty { room.old.items ≡ [] }
-    requires room { 256 ≤ vec_capacity room.old }
+    requires room { head_room ≤ vec_capacity room.old }
     ensures ok { IfOk result (λ served. (served ≡ Served.Answered (fault_status fault))
         × Took W.contents writer.old writer.new (fault_in form fault extent)) }
     ensures err { OnErr result (TookFront W.contents writer.old writer.new (fault_in form fault extent)) }
@@ -95,7 +95,7 @@ pub(crate) fn tell<W: Write>(
 ) -> Result<Served, RequestFault>
     requires writer { has_failed writer.old ≡ false }
     requires empty { room.old.items ≡ [] }
-    requires room { 256 ≤ vec_capacity room.old }
+    requires room { head_room ≤ vec_capacity room.old }
     ensures ok { IfOk result (λ served. (served ≡ Served.Answered (told_status told.now))
         × Took W.contents writer.old writer.new (told_in form media told.now)) }
     ensures err { OnErr result (TookFront W.contents writer.old writer.new (told_in form media told.now)) }
@@ -145,7 +145,7 @@ fn tell_lines<G: Respond, W: Write>(
 ) -> Result<Served, RequestFault>
     requires writer { has_failed writer.old ≡ false }
     requires empty { room.old.items ≡ [] }
-    requires room { 256 ≤ vec_capacity room.old }
+    requires room { head_room ≤ vec_capacity room.old }
     ensures ok { IfOk result (λ served. Recalled G.recalls form gate.old (streamed_by wanted.entry)
         (Took W.contents writer.old writer.new) gate.new served) }
     ensures write { IsErrOf result RequestFault.Write → (served : Served) × Recalled G.recalls form gate.old
@@ -180,7 +180,7 @@ pub(crate) fn answer_wanted<G: Respond, W: Write>(
 ) -> Result<Served, RequestFault>
     requires writer { has_failed writer.old ≡ false }
     requires empty { room.old.items ≡ [] }
-    requires room { 256 ≤ vec_capacity room.old }
+    requires room { head_room ≤ vec_capacity room.old }
     ensures ok { IfOk result (ReadsTo G.responds G.recalls form wanted.entry gate.old
         (Took W.contents writer.old writer.new) gate.new) }
     ensures write { IsErrOf result RequestFault.Write → (served : Served)

@@ -1,6 +1,8 @@
 //! The engine: one request of a connection is answered, by whatever answers requests.
 ghost use Rattle.std.specs.Prelude.{◌≡◌, ◌≤◌, [], false, true, OnOk, IfOk, IfErr, IsErrOf, vec_capacity, ◌⊎◌};
 ghost use Rattle.gate_types.specs.Tap.{inside, has_failed};
+ghost use Rattle.gate_http.specs.Head.{head_limit};
+ghost use Rattle.gate_http.specs.Response.{head_room};
 ghost use Rattle.gate_http.specs.Routes.{routes};
 ghost use Rattle.gate_http.specs.Exchange.{AnswersTo, BreaksTo, StopsAt, Waits};
 ghost use Rattle.gate_types.specs.Limits.{most_bytes};
@@ -35,9 +37,9 @@ fn answer<G: Respond, R: Read, W: Write>(
     requires reader { has_failed reader.old ≡ false }
     requires writer { has_failed writer.old ≡ false }
     requires router { router.now ≡ routes }
-    requires head { (head.old.items ≡ []) × (8192 ≤ vec_capacity head.old) }
+    requires head { (head.old.items ≡ []) × (head_limit ≤ vec_capacity head.old) }
     requires body { (body.old.items ≡ []) × (most_bytes ≤ vec_capacity body.old) }
-    requires room { (room.old.items ≡ []) × (256 ≤ vec_capacity room.old) }
+    requires room { (room.old.items ≡ []) × (head_room ≤ vec_capacity room.old) }
     ensures ok { IfOk result (λ served. AnswersTo G.responds G.recalls R.remaining W.contents
         reader.old reader.new gate.old gate.new writer.old writer.new served) }
     ensures write { IsErrOf result RequestFault.Write → BreaksTo G.responds G.recalls R.remaining W.contents

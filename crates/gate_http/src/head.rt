@@ -1,7 +1,7 @@
 //! The head of a request is read, and not a byte more.
 ghost use Rattle.std.specs.Prelude.{◌≡◌, ◌≤◌, [], false, true, OnOk, OnErr, IfOk, vec_capacity};
 ghost use Rattle.gate_types.specs.Tap.{inside, has_failed};
-ghost use Rattle.gate_http.specs.Head.{ends_head};
+ghost use Rattle.gate_http.specs.Head.{ends_head, head_limit};
 ghost use Rattle.gate_http.specs.Parts.{HeadComes};
 ghost use Rattle.gate_http.specs.Exchange.{Waits};
 
@@ -35,7 +35,7 @@ fn ends(bytes: &[u8]) -> bool
 pub(crate) fn read_head<R: Read>(reader: &mut Tap<R>, head: &mut Vec<u8>) -> Result<Came, Failed>
     requires reader { has_failed reader.old ≡ false }
     requires empty { head.old.items ≡ [] }
-    requires room { 8192 ≤ vec_capacity head.old }
+    requires room { head_limit ≤ vec_capacity head.old }
     ensures ok { IfOk result (λ came.
         HeadComes came head.new.items (R.remaining (inside reader.old)) (R.remaining (inside reader.new))) }
     ensures waits { OnErr result (Waits (R.remaining (inside reader.old)) (R.remaining (inside reader.new))) }

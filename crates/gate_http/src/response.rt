@@ -2,7 +2,7 @@
 ghost use Rattle.std.specs.Prelude.{◌≡◌, ◌≤◌, ◌+◌, ◌++◌, [], false, true, OnOk, OnErr, length, vec_len, vec_capacity};
 ghost use Rattle.gate_types.specs.Tap.{has_failed, Took, TookFront};
 ghost use Rattle.gate_http.specs.Response.{phrase, line, status_line, head_text, allow_line, stream_head, front_in};
-ghost use Rattle.gate_http.specs.Response.{head_in, written_in};
+ghost use Rattle.gate_http.specs.Response.{head_in, head_room, written_in};
 
 use crate::fault::HttpFault;
 use gate_types::tap::{Failed, Tap};
@@ -108,7 +108,7 @@ fn put_line(room: &mut Vec<u8>, name: &str, value: &str)
 /// The head of a response. It takes no memory but the room.
 fn put_head(room: &mut Vec<u8>, status: u16, kind: &str, len: usize, allow: &str)
     requires empty { room.old.items ≡ [] }
-    requires room { 256 ≤ vec_capacity room.old }
+    requires room { head_room ≤ vec_capacity room.old }
     requires kind { length kind.now ≤ 16 }
     requires allow { length allow.now ≤ 13 }
     ensures { room.new.items ≡ head_text status kind.now len allow.now }
@@ -124,7 +124,7 @@ fn put_head(room: &mut Vec<u8>, status: u16, kind: &str, len: usize, allow: &str
 /// The head of an answer, which has one if it is a response.
 fn put_head_in(room: &mut Vec<u8>, form: Form, status: u16, kind: &str, len: usize, allow: &str)
     requires empty { room.old.items ≡ [] }
-    requires room { 256 ≤ vec_capacity room.old }
+    requires room { head_room ≤ vec_capacity room.old }
     requires kind { length kind.now ≤ 16 }
     requires allow { length allow.now ≤ 13 }
     ensures { room.new.items ≡ head_in form (head_text status kind.now len allow.now) }
@@ -166,7 +166,7 @@ pub(crate) fn write_answer<W: Write>(
 ) -> Result<(), Failed>
     requires writer { has_failed writer.old ≡ false }
     requires empty { room.old.items ≡ [] }
-    requires room { 256 ≤ vec_capacity room.old }
+    requires room { head_room ≤ vec_capacity room.old }
     requires kind { length kind.now ≤ 16 }
     requires allow { length allow.now ≤ 13 }
     ensures ok { OnOk result (Took W.contents writer.old writer.new
