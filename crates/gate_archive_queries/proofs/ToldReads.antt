@@ -19,7 +19,7 @@ use Rattle.gate_types.specs.Tables.{tables}
 use Rattle.gate_types.proofs.NameLemmas.{same_name_is}
 use Rattle.gate_book_trait.specs.Reads.{queue_named}
 use Rattle.gate_schema.specs.Rows.{AreNamed, QueueReport, QueueRow, Stored}
-use Rattle.gate_rows.specs.Tells.{Tells, reports_of}
+use Rattle.gate_rows.specs.Tells.{Matches, reports_of}
 use Rattle.gate_archive.specs.ItemText as content
 use Rattle.gate_archive.specs.declared.rows.LeftItem.{LeftItem}
 use Rattle.gate_laws.proofs.Alone.{report_serials, same_name_of, serials_once}
@@ -86,7 +86,7 @@ reports_form q h =
       reports = all_from (is_report_in_form (length q.landings)) q.reports last.1;
     }
 
-module _ (c : Settings) (x : Content) (b : Stored) (lawful : IsLawfulContent c x) (named : AreNamed b) (told : Tells b (tables c x)) where
+module _ (c : Settings) (x : Content) (b : Stored) (lawful : IsLawfulContent c x) (named : AreNamed b) (told : Matches b (tables c x)) where
   -- the reports of a queue's name, in any order
   rows_are : (name : List ℕ) → IsPermutation (reports_of name b.reports) (numbered 0 (reports_in x.state name))
   rows_are name = subst (λ l. IsPermutation (reports_of name b.reports) l) (report_rows c x b told name) (told.queues_are.reports_are name)
@@ -188,5 +188,5 @@ module _ (c : Settings) (x : Content) (b : Stored) (lawful : IsLawfulContent c x
   }
 
 -- each read of the past is told
-pub past_is_told : {c : Settings} {x : Content} {b : Stored} → IsLawfulContent c x → AreNamed b → Tells b (tables c x) → IsArchiveOf b x
+pub past_is_told : {c : Settings} {x : Content} {b : Stored} → IsLawfulContent c x → AreNamed b → Matches b (tables c x) → IsArchiveOf b x
 past_is_told {c = c} {x = x} {b = b} lawful named told = archive_is c x b lawful named told

@@ -4,12 +4,12 @@ ghost use Rattle.gate_types.specs.Once.{Content};
 ghost use Rattle.gate_types.specs.Settings.{Settings};
 ghost use Rattle.gate_types.specs.Tables.{tables};
 ghost use Rattle.gate_schema.specs.Rows.{AreNamed, Stored};
-ghost use Rattle.gate_rows.specs.Tells.{Tells};
+ghost use Rattle.gate_rows.specs.Tells.{Matches};
 ghost use Rattle.gate_archive_queries.specs.Answers.{IsArchiveOf};
 
 /// Where the file holds the tables of a lawful content, and no two queues have one name, each read of the past of the
 /// file is that of the content.
 pub fn every_read_of_the_past_is_told()
-    ensures { (c : Settings) (x : Content) (b : Stored) → IsLawfulContent c x → AreNamed b → Tells b (tables c x) →
+    ensures { (c : Settings) (x : Content) (b : Stored) → IsLawfulContent c x → AreNamed b → Matches b (tables c x) →
         IsArchiveOf b x }
 {}

@@ -82,7 +82,7 @@ shut closed b up = absurd (true≢false (sym up ∙ closed))
 -- where what is found of the file's rows is what the content says, a read that reads them answers that
 pub reads_so : {T : Type 0} {names : List (List ℕ)} {c : Settings} {x : Content} {P : Stored → T → Type 0} (v : T)
     (old new : State) (result : Result T BookFault) → Reads old new result P → Opened old new result → HasCleanDisk new →
-    HoldsFor old names c x → ((b : Stored) → rows.Tells b (tables c x) → IsWhole b × ((found : T) → P b found → found ≡ v)) →
+    HoldsFor old names c x → ((b : Stored) → rows.Matches b (tables c x) → IsWhole b × ((found : T) → P b found → found ≡ v)) →
     Answers v result
 reads_so v old new (Ok found) reads opened clean held told =
     let it = held.shows (opened clean) in
@@ -101,12 +101,12 @@ reads_so v old new (Err f) reads opened clean held told = blames_none old.is_ope
 -- the same where the read names what the rows answer
 pub reads_are : {T : Type 0} {names : List (List ℕ)} {c : Settings} {x : Content} {value : Stored → T} (v : T)
     (old new : State) (result : Result T BookFault) → Tells old new result value → Opened old new result → HasCleanDisk new →
-    HoldsFor old names c x → ((b : Stored) → rows.Tells b (tables c x) → IsWhole b × (value b ≡ v)) → Answers v result
+    HoldsFor old names c x → ((b : Stored) → rows.Matches b (tables c x) → IsWhole b × (value b ≡ v)) → Answers v result
 reads_are v old new result tells opened clean held told =
     reads_so v old new result tells opened clean held (λ b it. let say = told b it in (say.0, λ found is. is ∙ say.1))
 
 -- the rows of a lawful content are in form, and each read of them is the content's
 pub told_of : {c : Settings} {x : Content} {b : Stored} → are_sound c ≡ true → IsLawfulContent c x →
-    rows.Tells b (tables c x) → IsWhole b × IsAnsweredBy b c x
+    rows.Matches b (tables c x) → IsWhole b × IsAnsweredBy b c x
 told_of {c = c} sound lawful told =
     (rows_are_whole lawful told, reads_are_told lawful (queues_are_named (names_differ c sound) lawful told) told)

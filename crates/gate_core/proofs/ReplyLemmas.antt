@@ -27,7 +27,7 @@ use Rattle.gate_core.specs.Runs.{Answers, Runs, Broke}
 use Rattle.gate_core.specs.Replies.{CallsAreAnswered, call_replies, Marked, is_too_long, call_read, call_of}
 use Rattle.gate_core.specs.Replies.{calls_of_lines, gate_after_lines, text_read, reply_to, replies}
 use Rattle.gate_core.specs.Left.{LeavesBy}
-use Rattle.gate_core.specs.Held.{CutOver, Goes, ReplayedOver, Tells, ToldOver}
+use Rattle.gate_core.specs.Held.{CutOver, Goes, ReplayedOver, TellsLine, ToldOver}
 use Rattle.gate_core.proofs.LeftLemmas.{MayLeaveMore, leaves_call, leaves_none, leaves_then, leaves_unheard}
 
 -- the reply to a line, by whether it is too long, its mark and what was read
@@ -142,7 +142,7 @@ pub goes_told : {B : Type 0} (trusted : B → Type 0) (holds : B → Settings �
     length line ≤ most_bytes → says door.Any line ≡ Ok (id, d) → text ≡ answer_text a →
     OfGate trusted holds old new (λ x. Answered old.config x (call id d (is_unavailable a)) a (GateHolds holds new)
     (leaves old.book old.config) (leaves new.book old.config)) →
-    Tells trusted holds leaves old line text new
+    TellsLine trusted holds leaves old line text new
 goes_told trusted holds leaves old new line id d a text settings before short said is answered = record {
   settings = settings;
   trusted_before = before;
@@ -165,7 +165,7 @@ goes_told trusted holds leaves old new line id d a text settings before short sa
 -- a line that the engine answers, too long or not
 answers_told : {B : Type 0} (trusted : B → Type 0) (holds : B → Settings → Content → Type 0)
     (leaves : B → Settings → List Content → Type 0) (old : Gate B) (line text : List ℕ) (new : Gate B) →
-    Answers (Tells trusted holds leaves) old line text new → Tells trusted holds leaves old line text new
+    Answers (TellsLine trusted holds leaves) old line text new → TellsLine trusted holds leaves old line text new
 answers_told trusted holds leaves old line text new (inl (short, h)) = h
 answers_told trusted holds leaves old line text new (inr (over, said, stays)) =
     goes_nowhere trusted holds old new (ToldOver leaves old new line text) stays
@@ -194,7 +194,7 @@ replayed_cons leaves old between new g mid after line said lines more text joine
 -- what the engine ran through is replayed
 pub replayed_of_runs : {B : Type 0} (trusted : B → Type 0) (holds : B → Settings → Content → Type 0)
     (leaves : B → Settings → List Content → Type 0) (old : Gate B) (lines : List (List ℕ)) (text : List ℕ)
-    (new : Gate B) → Runs (Tells trusted holds leaves) old lines text new →
+    (new : Gate B) → Runs (TellsLine trusted holds leaves) old lines text new →
     Goes trusted holds old new (ReplayedOver leaves old new lines text)
 replayed_of_runs trusted holds leaves old [] text new (said, stays) =
     goes_nowhere trusted holds old new (ReplayedOver leaves old new [] text) stays
@@ -236,7 +236,7 @@ cut_behind leaves old between new g mid after lines front line more text said at
 -- what the engine broke off is cut
 pub cut_of_broke : {B : Type 0} (trusted : B → Type 0) (holds : B → Settings → Content → Type 0)
     (leaves : B → Settings → List Content → Type 0) (old new : Gate B) (lines : List (List ℕ)) (w v : Option (List ℕ))
-    (b : Broke (Tells trusted holds leaves) old lines new w v) → Goes trusted holds old new
+    (b : Broke (TellsLine trusted holds leaves) old lines new w v) → Goes trusted holds old new
     (CutOver leaves old new lines (b.text ++ take b.at (b.said ++ 10 ∷ [])) (length b.done))
 cut_of_broke trusted holds leaves old new lines w v b =
     goes_on trusted holds old b.mid new (ReplayedOver leaves old b.mid b.done b.text)

@@ -47,6 +47,6 @@ CutOver leaves old new lines text done g after = (cut : Cut g lines text after) 
     × LeavesBy leaves old new g (calls_of_lines (cut.done ++ cut.last ∷ []))
 
 -- a line is answered by a text, and the gate is another one then
-abbrev pub Tells : {B : Type 0} → (B → Type 0) → (B → Settings → Content → Type 0) →
+abbrev pub TellsLine : {B : Type 0} → (B → Type 0) → (B → Settings → Content → Type 0) →
     (B → Settings → List Content → Type 0) → Gate B → List ℕ → List ℕ → Gate B → Type 0
-Tells trusted holds leaves old line text new = Goes trusted holds old new (ToldOver leaves old new line text)
+TellsLine trusted holds leaves old line text new = Goes trusted holds old new (ToldOver leaves old new line text)

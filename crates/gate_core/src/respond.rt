@@ -7,9 +7,9 @@ use gate_wire::{Door, read_delivery};
 use std::alloc::Global;
 
 impl<B: Book> AnswerLines for Gate<B> {
-    ghost use Rattle.gate_core.specs.Held.{Tells};
+    ghost use Rattle.gate_core.specs.Held.{TellsLine};
 
-    ghost replies = { Tells B.IsTrusted B.Holds B.LeavesOneOf };
+    ghost replies = { TellsLine B.IsTrusted B.Holds B.LeavesOneOf };
 
     fn respond(&mut self, alloc: Global, line: &[u8]) -> LineAnswer {
         match read_delivery(alloc, line, Door::Any) {

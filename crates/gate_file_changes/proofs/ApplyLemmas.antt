@@ -29,7 +29,7 @@ use Rattle.gate_types.specs.declared.edits.Edit.TheVariants as edit
 use Rattle.gate_types.specs.declared.records.Plan.{Plan}
 use Rattle.gate_schema.specs.Edits.{after_edit, after_edits, with_window}
 use Rattle.gate_schema.specs.Rows.{AreNamed, Changes, QueueRow, Stands, Stored}
-use Rattle.gate_rows.specs.Tells.{FitsBeside, HaveJobs, IsInOrder, IsTold, NamesQueue, StandsFor, Tells, placed}
+use Rattle.gate_rows.specs.Tells.{FitsBeside, HaveJobs, IsInOrder, IsTold, NamesQueue, StandsFor, Matches, placed}
 use Rattle.gate_rows.proofs.PlanTells.{jobs_stay}
 use Rattle.gate_rows.proofs.ThenLemmas.{changes_same, changes_then}
 use Rattle.gate_rows.proofs.UniqueLemmas.{are_named}
@@ -132,7 +132,7 @@ steps_more law first old new edits i e within is steps change beside =
           let mine : is_known (names_in c) e ≡ true = ap (λ names. is_known names e) (edits_keep_names (take i edits) b) ∙ ap (is_known (names_in b)) is ∙ parts.1 in
           let held = steps.changes.stands b named stands in
           let next = law e c (fold_all t (take i edits)) (stands_in_order old c held) (names_queue e c mine, fits b named stands) (steps.planned b t named stands have) (steps.told b t named stands parts.0 have tells) in
-          subst (Tells (after_edits (take (i + 1) edits) b)) (folded t) (subst (λ d. Tells d (edited_tables (fold_all t (take i edits)) e)) (after b) next);
+          subst (Matches (after_edits (take (i + 1) edits) b)) (folded t) (subst (λ d. Matches d (edited_tables (fold_all t (take i edits)) e)) (after b) next);
     }
 
 -- ---- from a content to the one that the edits lead to
@@ -156,7 +156,7 @@ steps_turn old new edits steps = record {
         stored = after_edits edits b;
         stands = steps.changes.stands b named can.stands.stands;
         settings = edits_keep_settings edits b ∙ can.stands.settings;
-        tells = subst (Tells (after_edits edits b)) can.led.leads (steps.told b (tables c x) named can.stands.stands known can.led.planned can.stands.tells);
+        tells = subst (Matches (after_edits edits b)) can.led.leads (steps.told b (tables c x) named can.stands.stands known can.led.planned can.stands.tells);
       };
 }
 

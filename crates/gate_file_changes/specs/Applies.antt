@@ -15,7 +15,7 @@ use Rattle.gate_types.specs.declared.edits.Edit.TheVariants as edit
 use Rattle.gate_schema.specs.Edits.{after_edits}
 use Rattle.gate_schema.specs.Rows.{AreNamed, Changes, IsReady, QueueRow, Stands, Stored}
 use Rattle.gate_schema.specs.Schema.{gate_schema}
-use Rattle.gate_rows.specs.Tells.{HaveJobs, StandsFor, Tells}
+use Rattle.gate_rows.specs.Tells.{HaveJobs, StandsFor, Matches}
 use Rattle.gate_content_reads.specs.Held.{ShowsFor, queue_names}
 
 -- ---- the queues that edits name
@@ -67,8 +67,8 @@ pub record Steps (old new : State) (edits : List Edit) : Type 0 where
   pub planned : (b : Stored) (t : Tables) → AreNamed b → Stands old.now.trees b →
       HaveJobs t.plans → HaveJobs (fold_all t edits).plans
   pub told : (b : Stored) (t : Tables) → AreNamed b → Stands old.now.trees b →
-      are_known (names_in b) edits ≡ true → HaveJobs t.plans → Tells b t →
-      Tells (after_edits edits b) (fold_all t edits)
+      are_known (names_in b) edits ≡ true → HaveJobs t.plans → Matches b t →
+      Matches (after_edits edits b) (fold_all t edits)
 
 -- ---- what a call leaves
 

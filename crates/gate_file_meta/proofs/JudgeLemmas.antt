@@ -13,7 +13,7 @@ use Rattle.gate_types.specs.Settings.{Settings}
 use Rattle.gate_types.specs.SettingsText.{settings_text}
 use Rattle.gate_types.specs.declared.open_fault.OpenFault.{OpenFault}
 use Rattle.gate_types.specs.declared.open_fault.OpenFault.TheVariants as fault
-use Rattle.gate_kept_settings.specs.Told.{Tells}
+use Rattle.gate_kept_settings.specs.Told.{SaysSettings}
 use Rattle.gate_file_meta.specs.Opens.{IsJudged, MayOpen}
 use Rattle.gate_file_meta.specs.Reading.{IsFound, IsFoundOf, IsTold, meta_rows}
 
@@ -113,7 +113,7 @@ pub found_same : (o : Option Settings) (version kept : List ℕ) (d : Settings) 
 found_same o version kept d is found = subst (λ p. IsFound (Ok p) version kept d) is found
 
 pub found_others : (o : Option Settings) (c : Settings) (version kept : List ℕ) (d : Settings) → o ≡ Some c → IsFound (Ok o) version kept d →
-    (version ≡ codes "2") × (kept ≢ settings_text d) × Tells kept c × (may_adopt c d ≡ true)
+    (version ≡ codes "2") × (kept ≢ settings_text d) × SaysSettings kept c × (may_adopt c d ≡ true)
 found_others o c version kept d is found = subst (λ p. IsFound (Ok p) version kept d) is found
 
 pub found_of_same : (o : Option Settings) (Are : List ℕ → List ℕ → Type 0) (d : Settings) → o ≡ None → IsFoundOf (Ok o) Are d → Are (codes "2") (settings_text d)

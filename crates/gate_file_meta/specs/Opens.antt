@@ -10,7 +10,7 @@ use Rattle.sqlite_catalog.specs.Change.{is_used}
 use Rattle.gate_types.specs.Adopt.{may_adopt}
 use Rattle.gate_types.specs.Settings.{Settings}
 use Rattle.gate_types.specs.SettingsText.{settings_text}
-use Rattle.gate_kept_settings.specs.Told.{Tells}
+use Rattle.gate_kept_settings.specs.Told.{SaysSettings}
 use Rattle.gate_schema.specs.Rows.{IsFixed, pair_of_words}
 use Rattle.gate_schema.specs.Schema.{meta_at}
 use Rattle.gate_types.specs.declared.open_fault.OpenFault.{OpenFault}
@@ -30,7 +30,7 @@ IsMeta db version settings = IsFixed (
 
 -- the kept text is that of these settings, or of some in whose place they may be taken
 abbrev pub MayOpen : List ℕ → Settings → Type 0
-MayOpen kept d = (kept ≡ settings_text d) ⊎ ((c : Settings) × Tells kept c × (may_adopt c d ≡ true))
+MayOpen kept d = (kept ≡ settings_text d) ⊎ ((c : Settings) × SaysSettings kept c × (may_adopt c d ≡ true))
 
 -- no fault, or which one, of a file of this version that keeps settings of this text, opened with these
 abbrev pub IsJudged : Option OpenFault → List ℕ → List ℕ → Settings → Type 0

@@ -19,7 +19,7 @@ use Rattle.gate_schema.specs.Rows.{pair_of_words}
 use Rattle.gate_types.specs.Adopt.{may_adopt}
 use Rattle.gate_types.specs.Settings.{Settings}
 use Rattle.gate_types.specs.SettingsText.{settings_text}
-use Rattle.gate_kept_settings.specs.Told.{Tells}
+use Rattle.gate_kept_settings.specs.Told.{SaysSettings}
 use Rattle.gate_file_meta.specs.Opens.{IsJudged, MayOpen}
 use Rattle.gate_types.specs.declared.open_fault.OpenFault.{OpenFault}
 use Rattle.gate_types.specs.declared.open_fault.OpenFault.TheVariants as fault
@@ -81,26 +81,26 @@ met (Err f) = Some f
 abbrev pub IsFound : Result (Option Settings) OpenFault → List ℕ → List ℕ → Settings → Type 0
 IsFound (Ok None) version kept d = (version ≡ codes "2") × (kept ≡ settings_text d)
 IsFound (Ok (Some c)) version kept d =
-    (version ≡ codes "2") × (kept ≢ settings_text d) × Tells kept c × (may_adopt c d ≡ true)
+    (version ≡ codes "2") × (kept ≢ settings_text d) × SaysSettings kept c × (may_adopt c d ≡ true)
 IsFound (Err f) version kept d = IsJudged (Some f) version kept d
 
 -- and where `Are v k` says of which version it is, and which settings it keeps
 abbrev pub IsFoundOf : Result (Option Settings) OpenFault → (List ℕ → List ℕ → Type 0) → Settings → Type 0
 IsFoundOf (Ok None) Are d = Are (codes "2") (settings_text d)
 IsFoundOf (Ok (Some c)) Are d =
-    (kept : List ℕ) × (kept ≢ settings_text d) × Tells kept c × (may_adopt c d ≡ true) × Are (codes "2") kept
+    (kept : List ℕ) × (kept ≢ settings_text d) × SaysSettings kept c × (may_adopt c d ≡ true) × Are (codes "2") kept
 IsFoundOf (Err f) Are d = IsTold (Some f) Are d
 
 -- what is found of a kept text that is another
 abbrev pub IsMet : Result Settings OpenFault → List ℕ → Settings → Type 0
-IsMet (Ok c) kept d = Tells kept c × (may_adopt c d ≡ true)
-IsMet (Err fault.OtherSettings) kept d = (c : Settings) → Tells kept c → may_adopt c d ≡ true → ⊥
+IsMet (Ok c) kept d = SaysSettings kept c × (may_adopt c d ≡ true)
+IsMet (Err fault.OtherSettings) kept d = (c : Settings) → SaysSettings kept c → may_adopt c d ≡ true → ⊥
 IsMet (Err f) kept d = f ≡ fault.Unavailable
 
 -- it isn't so that the file keeps other settings in whose place these may be taken
 abbrev pub HasNoneToAdopt : Database → Settings → Type 0
 HasNoneToAdopt db d = (kept : List ℕ) (c : Settings) → ShowsMeta db (codes "2") kept → kept ≢ settings_text d →
-    Tells kept c → may_adopt c d ≡ true → ⊥
+    SaysSettings kept c → may_adopt c d ≡ true → ⊥
 
 -- there is no `meta` to read: no such table, or none with these columns
 abbrev pub HasNoMeta : Schema → Type 0

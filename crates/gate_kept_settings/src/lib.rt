@@ -12,7 +12,7 @@ ghost use Rattle.gate_types.specs.Settings.{Settings};
 ghost use Rattle.gate_types.specs.Reading.{value_of};
 ghost use Rattle.serde_json.specs.View.{view};
 ghost use Rattle.gate_kept_settings.specs.Reading.{Gives, said_by};
-ghost use Rattle.gate_kept_settings.specs.Told.{Tells};
+ghost use Rattle.gate_kept_settings.specs.Told.{SaysSettings};
 
 mod fault;
 mod laws;
@@ -55,8 +55,8 @@ fn read_members(alloc: Global, text: &[u8]) -> Result<Config, TextFault>
 ///
 /// `NotSettings` where it is the text of no settings, and `NoMemory` where memory was refused.
 pub fn read_text(alloc: Global, text: &[u8]) -> Result<Config, TextFault>
-    ensures exact { IfOk result (λ c. Tells text.now c) }
-    ensures told { (c : Settings) → Tells text.now c →
+    ensures exact { IfOk result (λ c. SaysSettings text.now c) }
+    ensures told { (c : Settings) → SaysSettings text.now c →
         MatchResult result (λ read. read ≡ c) (λ fault. fault ≡ TextFault.NoMemory) }
 {
     let config = read_members(alloc, text)?;

@@ -17,7 +17,7 @@ use Rattle.gate_types.specs.Tables.{QueueRows}
 use Rattle.gate_types.specs.Rising.{In}
 use Rattle.gate_types.specs.declared.edits.Edit.{Edit}
 use Rattle.gate_schema.specs.Rows.{AreNamed, QueueRow, Stored}
-use Rattle.gate_rows.specs.Tells.{Tells, landings_of}
+use Rattle.gate_rows.specs.Tells.{Matches, landings_of}
 use Rattle.gate_book_trait.proofs.ReadLemmas.{rows_of_queue}
 use Rattle.gate_queue_queries.specs.First.{ShowsFirst, first_schema}
 use Rattle.gate_types.proofs.DistinctLemmas.{names_differ}
@@ -50,7 +50,7 @@ queue_found c s (p ∷ ps) differ q m = elim m [
     both p ps differ = and_parts _ _ differ
 
 module _ (c : Settings) (x : Content) (b : Stored) (sound : are_sound c ≡ true) (set : map (λ (q : Queue). q.name) x.state.queues ≡ queue_names c)
-    (told : Tells (without_plans b) (tables_before c x)) where
+    (told : Matches (without_plans b) (tables_before c x)) where
   differ : are_distinct (map (λ (q : Queue). q.name) x.state.queues) ≡ true
   differ = subst (λ names. are_distinct names ≡ true) (sym set) (names_differ c sound)
 

@@ -11,7 +11,7 @@ use Rattle.gate_types.specs.declared.records.Change.{Change}
 use Rattle.gate_types.specs.declared.rows.ChangeRow.{ChangeRow}
 use Rattle.gate_schema.specs.Edits.{after_edit, change_with, need_rows}
 use Rattle.gate_schema.specs.Rows.{NeedRow, Stored, change_key}
-use Rattle.gate_rows.specs.Tells.{IsInOrder, Tells, needs_in}
+use Rattle.gate_rows.specs.Tells.{IsInOrder, Matches, needs_in}
 use Rattle.gate_rows.proofs.PutLemmas.{filter-append, find_put, put_is}
 use Rattle.gate_rows.proofs.TellsLemmas.{queues_stay}
 
@@ -44,7 +44,7 @@ needs_of_one k n m (x ∷ xs) =
     ap (λ l. cond (eqb k n) (first ∷ l) l) (needs_of_one k n (suc m) xs)
     ∙ elim (eqb k n) as (λ c. cond c (first ∷ cond c rest []) (cond c rest []) ≡ cond c (first ∷ rest) []) [ true ↦ refl | false ↦ refl ]
 
-pub tells_change : (k : Change) (a : Option ℕ) (b : Stored) (t : Tables) → IsInOrder b → Tells b t → Tells (after_edit (edit.PutChange k a) b) (edited_tables t (edit.PutChange k a))
+pub tells_change : (k : Change) (a : Option ℕ) (b : Stored) (t : Tables) → IsInOrder b → Matches b t → Matches (after_edit (edit.PutChange k a) b) (edited_tables t (edit.PutChange k a))
 tells_change k a b t order h =
     let x : ChangeRow = change_with k a in
     record {

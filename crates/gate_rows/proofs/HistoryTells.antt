@@ -14,7 +14,7 @@ use Rattle.gate_types.specs.declared.rows.LandingRow.{LandingRow}
 use Rattle.gate_types.specs.declared.rows.ReportRow.{ReportRow}
 use Rattle.gate_schema.specs.Edits.{after_edit}
 use Rattle.gate_schema.specs.Rows.{QueueLanding, QueueReport, Stored}
-use Rattle.gate_rows.specs.Tells.{Fits, Tells, landings_of, reports_of}
+use Rattle.gate_rows.specs.Tells.{Fits, Matches, landings_of, reports_of}
 use Rattle.gate_rows.proofs.ItemTells.{like, nothing_added}
 use Rattle.gate_rows.proofs.PutLemmas.{put_new}
 use Rattle.gate_rows.proofs.TellsLemmas.{of_queue_changed, of_queue_same, placed_same}
@@ -65,8 +65,8 @@ module _ {X Y : Type 0} (queue : X → List ℕ) (row : X → Y) (place : Y → 
           IsPermutation-push_more (of name rows) told (put_by place (row x) told) (row x) same (put_new place (row x) told there)
       go false e = same
 
-pub tells_landing : (name : List ℕ) (n : ℕ) (l : Landing) (b : Stored) (t : Tables) → Fits (edit.PutLanding name n l) b → Tells b t
-    → Tells (after_edit (edit.PutLanding name n l) b) (edited_tables t (edit.PutLanding name n l))
+pub tells_landing : (name : List ℕ) (n : ℕ) (l : Landing) (b : Stored) (t : Tables) → Fits (edit.PutLanding name n l) b → Matches b t
+    → Matches (after_edit (edit.PutLanding name n l) b) (edited_tables t (edit.PutLanding name n l))
 tells_landing name n l b t fits h =
     let f = edited_queue (edit.PutLanding name n l) in
     let x : QueueLanding = record { queue = name; row = record { place = n; landing = l } } in
@@ -90,8 +90,8 @@ tells_landing name n l b t fits h =
       plans_are = h.plans_are;
     }
 
-pub tells_report : (name : List ℕ) (n : ℕ) (r : Report) (b : Stored) (t : Tables) → Fits (edit.PutReport name n r) b → Tells b t
-    → Tells (after_edit (edit.PutReport name n r) b) (edited_tables t (edit.PutReport name n r))
+pub tells_report : (name : List ℕ) (n : ℕ) (r : Report) (b : Stored) (t : Tables) → Fits (edit.PutReport name n r) b → Matches b t
+    → Matches (after_edit (edit.PutReport name n r) b) (edited_tables t (edit.PutReport name n r))
 tells_report name n r b t fits h =
     let f = edited_queue (edit.PutReport name n r) in
     let x : QueueReport = record { queue = name; row = record { place = n; report = r } } in

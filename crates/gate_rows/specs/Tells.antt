@@ -78,7 +78,7 @@ pub record TellsPlans (jobs : List JobRow) (fast : List ℕ) (plans : List Plan)
   pub fast_are : (n : ℕ) → list_any (λ m. m == n) fast ≡ is_fast_in plans n
 
 -- the file holds these tables of the gate
-pub record Tells (b : Stored) (t : Tables) : Type 0 where
+pub record Matches (b : Stored) (t : Tables) : Type 0 where
   pub counters_are : b.counters ≡ t.counters
   pub queues_are : TellsQueues b.queues b.items b.landings b.reports t.queues
   pub changes_are : b.changes ≡ t.changes
@@ -92,7 +92,7 @@ pub record StandsFor (db : Trees) (c : Settings) (x : Content) : Type 0 where
   pub stored : Stored
   pub stands : Stands db stored
   pub settings : stored.settings ≡ settings_text c
-  pub tells : Tells stored (tables c x)
+  pub tells : Matches stored (tables c x)
 
 -- ---- what an edit asks
 
@@ -144,5 +144,5 @@ pub record IsInOrder (b : Stored) : Type 0 where
 
 -- after the edit, what the file holds is what the gate's tables hold after it
 abbrev pub IsTold : Edit → Type 0
-IsTold e = (b : Stored) (t : Tables) → IsInOrder b → Fits e b → HaveJobs t.plans → Tells b t →
-    Tells (after_edit e b) (edited_tables t e)
+IsTold e = (b : Stored) (t : Tables) → IsInOrder b → Fits e b → HaveJobs t.plans → Matches b t →
+    Matches (after_edit e b) (edited_tables t e)

@@ -40,7 +40,7 @@ use Rattle.gate_archive_queries.proofs.ToldReads.{past_is_told}
 use Rattle.gate_sql.proofs.HistoryLemmas.{names_told, some_known}
 
 -- the rows of a lawful content tell its past
-pub archive_of : {c : Settings} {x : Content} {b : Stored} → are_sound c ≡ true → IsLawfulContent c x → rows.Tells b (tables c x) → IsArchiveOf b x
+pub archive_of : {c : Settings} {x : Content} {b : Stored} → are_sound c ≡ true → IsLawfulContent c x → rows.Matches b (tables c x) → IsArchiveOf b x
 archive_of {c = c} sound lawful told = past_is_told lawful (queues_are_named (names_differ c sound) lawful told) told
 
 -- ---- the report of a serial
@@ -48,7 +48,7 @@ archive_of {c = c} sound lawful told = past_is_told lawful (queues_are_named (na
 -- where what is found of the reports' rows is what the content says, a read that reads them answers that
 pub reports_are : {T : Type 0} {names : List (List ℕ)} {c : Settings} {x : Content} {value : Stored → T} (v : T) (old new : State) (result : Result T BookFault)
     → TellsReports old new result value → Opened old new result → HasCleanDisk new → HoldsFor old names c x
-    → ((b : Stored) → rows.Tells b (tables c x) → AllPass is_left_in_form b.reports × (value b ≡ v)) → Answers v result
+    → ((b : Stored) → rows.Matches b (tables c x) → AllPass is_left_in_form b.reports × (value b ≡ v)) → Answers v result
 reports_are v old new (Ok found) tells opened clean held told =
     let it = held.shows (opened clean) in
     let b = it.stands.stored in

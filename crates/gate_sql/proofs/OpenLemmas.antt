@@ -11,18 +11,18 @@ use Rattle.gate_types.specs.Once.{Content}
 use Rattle.gate_types.specs.Settings.{Settings, are_sound}
 use Rattle.gate_types.specs.SettingsText.{settings_text}
 use Rattle.gate_types.specs.declared.open_fault.OpenFault.{OpenFault}
-use Rattle.gate_kept_settings.specs.Told.{OneTextASetting, Tells}
+use Rattle.gate_kept_settings.specs.Told.{OneTextASetting, SaysSettings}
 use Rattle.gate_laws.proofs.SameSettingsStay.{same_settings_stay}
 use Rattle.gate_file_changes.specs.Adopts.{CanAdopt, IsKept}
 use Rattle.gate_file_meta.specs.Opens.{MayOpen}
 use Rattle.gate_file_meta.specs.Reading.{HasNoneToAdopt, IsFoundOf, IsTold, IsToldOf, ShowsMeta}
 
 -- the settings that are kept tell their text
-told : (db : Trees) (c d : Settings) (x : Content) (keeps : IsKept db c x) → Tells keeps.stands.stored.settings c
+told : (db : Trees) (c d : Settings) (x : Content) (keeps : IsKept db c x) → SaysSettings keeps.stands.stored.settings c
 told db c d x keeps = record { sound = keeps.sound; in_form = keeps.in_form; is = keeps.stands.settings }
 
 -- settings that the kept text tells are those that are kept
-pub kept_is : OneTextASetting → (db : Trees) (c d k : Settings) (x : Content) (keeps : IsKept db c x) → Tells keeps.stands.stored.settings k → k ≡ c
+pub kept_is : OneTextASetting → (db : Trees) (c d k : Settings) (x : Content) (keeps : IsKept db c x) → SaysSettings keeps.stands.stored.settings k → k ≡ c
 kept_is law db c d k x keeps tells = law keeps.stands.stored.settings k c tells (told db c d x keeps)
 
 -- where these may be taken in their place, the kept text may be opened
@@ -46,7 +46,7 @@ can_adopt old new c d k x is same keeps may =
     subst (λ (e : Database). CanAdopt e.trees k d x) (sym is) (subst (λ s. CanAdopt old.trees s d x) (sym same) (record { sound = keeps.sound; may = may; lawful = keeps.lawful; stands = keeps.stands }))
 
 -- settings in whose place these may not be taken aren't found as some in whose place they may
-pub not_found : OneTextASetting → (db : Trees) (c d k : Settings) (x : Content) (keeps : IsKept db c x) → may_adopt c d ≡ false → Tells keeps.stands.stored.settings k → may_adopt k d ≡ true → ⊥
+pub not_found : OneTextASetting → (db : Trees) (c d k : Settings) (x : Content) (keeps : IsKept db c x) → may_adopt c d ≡ false → SaysSettings keeps.stands.stored.settings k → may_adopt k d ≡ true → ⊥
 not_found law db c d k x keeps refused tells may = true≢false (sym may ∙ ap (λ s. may_adopt s d) (kept_is law db c d k x keeps tells) ∙ refused)
 
 -- where other settings are found, there are some to adopt

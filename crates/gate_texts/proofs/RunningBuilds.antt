@@ -17,7 +17,7 @@ use Rattle.gate_book_trait.specs.Reads.{first_above, live_builds}
 use Rattle.gate_reads.proofs.Queues.{IsThere}
 use Rattle.gate_reads.proofs.Walking.{IsLeft, place_behind, step_along, end_along}
 use Rattle.gate_texts.specs.Listed.{with_entry}
-use Rattle.gate_texts.specs.Running.{running_among, running_in, Tells, listed_with, running_told}
+use Rattle.gate_texts.specs.Running.{running_among, running_in, OfBuilds, listed_with, running_told}
 use Rattle.gate_texts.specs.Values.{written}
 use Rattle.gate_texts.specs.declared.running.Running.{Running}
 use Rattle.gate_texts.proofs.Entries.{AreEntries, joined_more, array_is}
@@ -65,9 +65,9 @@ first_more builds b count list n l = by_count (nat_lt count most_listed) refl
         let full : most_listed ≤ count = ltb-false count most_listed e in
         l ∙ ap text (sym (take-append-le most_listed builds (b ∷ []) (omega (arith, n, full))))
 
-pub tells_more : (r new : Running) (builds : List Build) (b : Build) → Tells r builds →
+pub tells_more : (r new : Running) (builds : List Build) (b : Build) → OfBuilds r builds →
     string_bytes new.list ≡ listed_with r.count (string_bytes r.list) (running_piece b []) →
-    new.count ≡ r.count + 1 → Tells new (builds ++ b ∷ [])
+    new.count ≡ r.count + 1 → OfBuilds new (builds ++ b ∷ [])
 tells_more r new builds b h l n = record {
   list = l ∙ first_more builds b r.count (string_bytes r.list) h.count h.list;
   count = n ∙ ap (λ m. m + 1) h.count ∙ sym (length-append builds (b ∷ []));
@@ -81,11 +81,11 @@ pub record Along (c : Settings) (s : State) (q : Queue) (above : ℕ) (before : 
   pub rest : List Item
   pub done : List Build
   pub behind : IsLeft c s q above items rest
-  pub tells : Tells r done
+  pub tells : OfBuilds r done
   pub left : done ++ flat_map (λ i. running_of s i.serial) rest ≡ before ++ running_in s q
 
 pub along_front : (c : Settings) (s : State) (q : Queue) (before : List Build) (r : Running) →
-    IsLeft c s q 0 [] q.items → Tells r before → Along c s q 0 before r
+    IsLeft c s q 0 [] q.items → OfBuilds r before → Along c s q 0 before r
 along_front c s q before r l t = record {
   items = [];
   rest = q.items;
@@ -96,9 +96,9 @@ along_front c s q before r l t = record {
 }
 
 pub along_end : (c : Settings) (s : State) (q : Queue) (above : ℕ) (before : List Build) (r : Running) →
-    Along c s q above before r → first_above above (item_rows c s q) ≡ None → Tells r (before ++ running_in s q)
+    Along c s q above before r → first_above above (item_rows c s q) ≡ None → OfBuilds r (before ++ running_in s q)
 along_end c s q above before r h e =
-    subst (Tells r) (sym (append-nil h.done)
+    subst (OfBuilds r) (sym (append-nil h.done)
     ∙ ap (λ is. h.done ++ flat_map (λ (i : Item). running_of s i.serial) is)
     (sym (end_along c s q above h.items h.rest h.behind e))
     ∙ h.left) h.tells
@@ -106,7 +106,7 @@ along_end c s q above before r h e =
 pub along_next : (c : Settings) (s : State) (q : Queue) (above : ℕ) (before : List Build) (r new : Running)
     (row : ItemRow) (serial : ℕ) (builds : List Build) → Along c s q above before r →
     first_above above (item_rows c s q) ≡ Some row → serial ≡ row.serial → builds ≡ live_builds s row.serial →
-    ((done : List Build) → Tells r done → Tells new (done ++ running_among builds)) → Along c s q serial before new
+    ((done : List Build) → OfBuilds r done → OfBuilds new (done ++ running_among builds)) → Along c s q serial before new
 along_next c s q above before r new row serial builds h e es eb f =
     let n = step_along c s q above h.items h.rest row h.behind e in
     let own : running_among builds ≡ running_of s n.item.serial =
@@ -130,12 +130,12 @@ along_next c s q above before r new row serial builds h e es eb f =
 -- the builds of the queues before this one were told
 pub record Before (s : State) (k : ℕ) (r : Running) : Type 0 where
   pub done : List Build
-  pub tells : Tells r done
+  pub tells : OfBuilds r done
   pub left : done ++ flat_map (running_in s) (drop k s.queues) ≡ running_builds s
 
 pub before_next : {c : Settings} {s : State} {k : ℕ} {name : List ℕ} → (there : IsThere c s k name) →
     (r new : Running) → Before s k r →
-    ((done : List Build) → Tells r done → Tells new (done ++ running_in s there.queue)) → Before s (k + 1) new
+    ((done : List Build) → OfBuilds r done → OfBuilds new (done ++ running_in s there.queue)) → Before s (k + 1) new
 before_next {s = s} {k = k} there r new h f =
     let step : k + 1 ≡ suc k = omega arith in
     record {
@@ -148,12 +148,12 @@ before_next {s = s} {k = k} there r new h f =
           ∙ h.left;
     }
 
-pub before_end : (s : State) (k : ℕ) (r : Running) → Before s k r → drop k s.queues ≡ [] → Tells r (running_builds s)
+pub before_end : (s : State) (k : ℕ) (r : Running) → Before s k r → drop k s.queues ≡ [] → OfBuilds r (running_builds s)
 before_end s k r h e =
-    subst (Tells r) (sym (append-nil h.done) ∙ ap (λ qs. h.done ++ flat_map (running_in s) qs) (sym e) ∙ h.left) h.tells
+    subst (OfBuilds r) (sym (append-nil h.done) ∙ ap (λ qs. h.done ++ flat_map (running_in s) qs) (sym e) ∙ h.left) h.tells
 
 -- the text
-pub running_is : (s : State) (r : Running) (text : List ℕ) → Tells r (running_builds s) →
+pub running_is : (s : State) (r : Running) (text : List ℕ) → OfBuilds r (running_builds s) →
     text ≡ running_told (string_bytes r.list) r.count [] → text ≡ running_text s
 running_is s r text h t = t
     ∙ (λ i. object (

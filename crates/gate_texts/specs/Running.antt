@@ -20,7 +20,7 @@ abbrev pub running_in : State → Queue → List Build
 running_in s q = flat_map (λ i. running_of s i.serial) q.items
 
 -- these builds were told: the first 1,000 stand in the list, and all are counted
-pub record Tells (r : Running) (builds : List Build) : Type 0 where
+pub record OfBuilds (r : Running) (builds : List Build) : Type 0 where
   pub list : string_bytes r.list ≡ joined (map running_piece (take most_listed builds)) []
   pub count : r.count ≡ length builds
 

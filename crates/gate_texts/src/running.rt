@@ -57,7 +57,7 @@ fn push_listed(alloc: Global, running: &mut Running, build: &Build) -> Result<()
 /// One build more. No memory holds so many that they aren't to be counted.
 fn push_running(alloc: Global, running: &mut Running, build: &Build) -> Result<(), NoMemory>
     ensures { OnOk result ((builds : List Build) →
-        told.Tells running.old builds → told.Tells running.new (builds ++ build.now ∷ [])) }
+        told.OfBuilds running.old builds → told.OfBuilds running.new (builds ++ build.now ∷ [])) }
 {
     push_listed(alloc, running, build)?;
     let Some(count) = running.count.checked_add(1) else {
@@ -70,7 +70,7 @@ fn push_running(alloc: Global, running: &mut Running, build: &Build) -> Result<(
 /// Those of an item.
 fn push_builds(alloc: Global, running: &mut Running, builds: &[Build]) -> Result<(), NoMemory>
     ensures { OnOk result ((before : List Build) →
-        told.Tells running.old before → told.Tells running.new (before ++ told.running_among builds.now)) }
+        told.OfBuilds running.old before → told.OfBuilds running.new (before ++ told.running_among builds.now)) }
 {
     for build in builds {
         if is_running(build) {
@@ -89,7 +89,7 @@ fn push_queue<B: Book>(
 ) -> Result<(), BookFault>
     ensures found { OfHeld B.IsTrusted B.Holds book.old book.new (λ c x. (q : Queue) →
         queue_named x.state queue.now ≡ Some q → OnOk result ((before : List Build) →
-        told.Tells running.old before → told.Tells running.new (before ++ told.running_in x.state q))) }
+        told.OfBuilds running.old before → told.OfBuilds running.new (before ++ told.running_in x.state q))) }
     ensures kept { IsKept B.IsTrusted B.Holds B.LeavesOneOf book.old book.new }
     ensures fault { IfErr result (MayAnswer B.MayFault) }
 {
@@ -105,7 +105,7 @@ fn push_queue<B: Book>(
 /// Those of all queues, in the order of the settings.
 fn running_of<B: Book>(alloc: Global, book: &mut B, config: &Config) -> Result<Running, BookFault>
     ensures found { OfHeldUnder B.IsTrusted B.Holds book.old book.new config.now (λ x.
-        IfOk result (λ running. told.Tells running (running_builds x.state))) }
+        IfOk result (λ running. told.OfBuilds running (running_builds x.state))) }
     ensures kept { IsKept B.IsTrusted B.Holds B.LeavesOneOf book.old book.new }
     ensures fault { IfErr result (MayAnswer B.MayFault) }
 {

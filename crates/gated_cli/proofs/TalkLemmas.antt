@@ -9,7 +9,7 @@ use Rattle.gate_types.specs.declared.tap.Tap.{Tap}
 use Rattle.gate_http.specs.declared.request_fault.RequestFault.{RequestFault}
 use Rattle.gate_http.specs.Connections.{AreTold, fault_lines}
 use Rattle.std.proofs.lemmas.Bool.{true≢false}
-use Rattle.gated_cli.specs.Ending.{Tells}
+use Rattle.gated_cli.specs.Ending.{TellsText}
 use Rattle.gated_cli.specs.Faults.{line_of}
 use Rattle.gated_cli.specs.Telling.{TellsUpTo, ToldBy, TellsBy}
 use Rattle.gated_command.specs.declared.words.Cmd.{Cmd}
@@ -31,9 +31,9 @@ module _ {E : Type 0} (held : E → Option (List ℕ)) where
 
   -- one fault's line behind the lines of connections
   behind : (most : ℕ) (old mid new : Tap E) (f : Fault) (failed : Bool) → has_failed mid ≡ failed
-      → TellsUpTo held most old mid → (has_failed mid ≡ false → Tells held mid new (line_of f))
+      → TellsUpTo held most old mid → (has_failed mid ≡ false → TellsText held mid new (line_of f))
       → (has_failed mid ≡ true → new ≡ mid)
-      → (faults : List RequestFault) × (length faults ≤ most) × Tells held old new (fault_lines faults ++ line_of f)
+      → (faults : List RequestFault) × (length faults ≤ most) × TellsText held old new (fault_lines faults ++ line_of f)
   behind most old mid new f false is h told silent = (
     h.0,
     h.1,
@@ -48,19 +48,19 @@ module _ {E : Type 0} (held : E → Option (List ℕ)) where
   behind most old mid new f true is h told silent = (
     h.0,
     h.1,
-    subst (λ t. Tells held old t (fault_lines h.0 ++ line_of f)) (sym (silent is))
+    subst (λ t. TellsText held old t (fault_lines h.0 ++ line_of f)) (sym (silent is))
         (inr (writes_sooner (held (inside old)) (held (inside mid)) (fault_lines h.0) (line_of f) (h.2.cut is), is)),
   )
 
   -- a fault's line where nothing was told
   alone : (old mid new : Tap E) (f : Fault) → has_failed old ≡ false → mid ≡ old
-      → (has_failed mid ≡ false → Tells held mid new (line_of f)) → Tells held old new (line_of f)
+      → (has_failed mid ≡ false → TellsText held mid new (line_of f)) → TellsText held old new (line_of f)
   alone old mid new f unfailed same told =
-      subst (λ t. Tells held t new (line_of f)) same (told (ap has_failed same ∙ unfailed))
+      subst (λ t. TellsText held t new (line_of f)) same (told (ap has_failed same ∙ unfailed))
 
   -- what a command had told, and then its fault
   pub told_then : (cmd : Cmd) (old mid new : Tap E) (f : Fault) → has_failed old ≡ false → ToldBy held cmd old mid
-      → (has_failed mid ≡ false → Tells held mid new (line_of f)) → (has_failed mid ≡ true → new ≡ mid)
+      → (has_failed mid ≡ false → TellsText held mid new (line_of f)) → (has_failed mid ≡ true → new ≡ mid)
       → TellsBy held f cmd old new
   told_then (Check settings) old mid new f unfailed so_far told silent = alone old mid new f unfailed so_far told
   told_then (Init settings file) old mid new f unfailed so_far told silent = alone old mid new f unfailed so_far told

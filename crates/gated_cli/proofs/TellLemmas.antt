@@ -5,12 +5,12 @@ use Rattle.std.proofs.Common.{inl, inr}
 use Rattle.gate_types.specs.declared.tap.Tap.{Tap}
 use Rattle.gate_types.specs.declared.tap.Failed.{Failed}
 use Rattle.gate_types.specs.Tap.{has_failed, Took, TookFront}
-use Rattle.gated_cli.specs.Ending.{Tells}
+use Rattle.gated_cli.specs.Ending.{TellsText}
 
 -- a line that was written whole or in part is told
 pub told_either : {E : Type 0} (held : E → Option (List ℕ)) (old new : Tap E) (text : List ℕ)
     (done : Result (Unit {0}) Failed) → OnOk done (Took held old new text) → OnErr done (TookFront held old new text)
-    → OnErr done (has_failed new ≡ true) → Tells held old new text
+    → OnErr done (has_failed new ≡ true) → TellsText held old new text
 told_either held old new text (Ok u) whole part failed = inl whole
 told_either held old new text (Err e) whole part failed = inr (part, failed)
 

@@ -213,5 +213,5 @@ EndsBy fault (Serve settings file port count) before after = ServingEnds port fa
 EndsBy fault (Migrate settings file) before after = MigrationEnds fault before after
 
 -- the whole text is written, or a beginning where the writer has failed
-abbrev pub Tells : {E : Type 0} → (E → Option (List ℕ)) → Tap E → Tap E → List ℕ → Type 0
-Tells held old new text = Took held old new text ⊎ (TookFront held old new text × (has_failed new ≡ true))
+abbrev pub TellsText : {E : Type 0} → (E → Option (List ℕ)) → Tap E → Tap E → List ℕ → Type 0
+TellsText held old new text = Took held old new text ⊎ (TookFront held old new text × (has_failed new ≡ true))

@@ -7,7 +7,7 @@ use Rattle.gate_types.specs.declared.tap.Tap.{Tap}
 use Rattle.gated_command.specs.CommandLine.{Names, may_ask_help}
 use Rattle.gated_cli.specs.Doing.{Streams, Does}
 use Rattle.gated_cli.specs.OfFile.{Made}
-use Rattle.gated_cli.specs.Ending.{EndsBy, Tells}
+use Rattle.gated_cli.specs.Ending.{EndsBy, TellsText}
 use Rattle.gated_cli.specs.Faults.{line_of}
 use Rattle.gated_cli.specs.Telling.{ToldBy, TellsBy}
 use Rattle.gated_command.specs.declared.words.Cmd.{Cmd}
@@ -38,7 +38,7 @@ abbrev pub FailsBy : {E : Type 0} → (E → Option (List ℕ)) → Fault → Li
     → Type 0
 FailsBy held f words before after old new =
     ((cmd : Cmd) × Names words cmd × EndsBy f cmd before after × TellsBy held f cmd old new)
-    ⊎ ((may_ask_help words ≡ true) × HelpEndsBy f before after × Tells held old new (line_of f))
+    ⊎ ((may_ask_help words ≡ true) × HelpEndsBy f before after × TellsText held old new (line_of f))
 
 -- what is told where there is no memory to tell more
 abbrev pub out_of_memory : List ℕ

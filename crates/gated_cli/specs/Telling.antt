@@ -3,7 +3,7 @@ use Rattle.std.specs.Prelude.{◌≡◌, ◌≤◌, ℕ, List, ◌++◌, length,
 use Rattle.gate_types.specs.declared.tap.Tap.{Tap}
 use Rattle.gate_http.specs.declared.request_fault.RequestFault.{RequestFault}
 use Rattle.gate_http.specs.Connections.{AreTold, fault_lines}
-use Rattle.gated_cli.specs.Ending.{Tells}
+use Rattle.gated_cli.specs.Ending.{TellsText}
 use Rattle.gated_cli.specs.Faults.{line_of}
 use Rattle.gated_command.specs.declared.words.Cmd.{Cmd}
 use Rattle.gated_command.specs.declared.words.Cmd.TheVariants.{Check, Init, Replay, Deliver, Status, History}
@@ -29,14 +29,14 @@ ToldBy held (Migrate settings file) old new = new ≡ old
 
 -- what a command that ended with a fault has told: the fault's line, behind the faults of connections for a server
 abbrev pub TellsBy : {E : Type 0} → (E → Option (List ℕ)) → Fault → Cmd → Tap E → Tap E → Type 0
-TellsBy held fault (Check settings) old new = Tells held old new (line_of fault)
-TellsBy held fault (Init settings file) old new = Tells held old new (line_of fault)
-TellsBy held fault (Replay settings status) old new = Tells held old new (line_of fault)
-TellsBy held fault (Deliver settings file) old new = Tells held old new (line_of fault)
-TellsBy held fault (Status settings file) old new = Tells held old new (line_of fault)
-TellsBy held fault (History settings file queue) old new = Tells held old new (line_of fault)
-TellsBy held fault (Deliveries settings file after_id) old new = Tells held old new (line_of fault)
-TellsBy held fault (Get settings file path) old new = Tells held old new (line_of fault)
+TellsBy held fault (Check settings) old new = TellsText held old new (line_of fault)
+TellsBy held fault (Init settings file) old new = TellsText held old new (line_of fault)
+TellsBy held fault (Replay settings status) old new = TellsText held old new (line_of fault)
+TellsBy held fault (Deliver settings file) old new = TellsText held old new (line_of fault)
+TellsBy held fault (Status settings file) old new = TellsText held old new (line_of fault)
+TellsBy held fault (History settings file queue) old new = TellsText held old new (line_of fault)
+TellsBy held fault (Deliveries settings file after_id) old new = TellsText held old new (line_of fault)
+TellsBy held fault (Get settings file path) old new = TellsText held old new (line_of fault)
 TellsBy held fault (Serve settings file port count) old new = (faults : List RequestFault) × (length faults ≤ count)
-    × Tells held old new (fault_lines faults ++ line_of fault)
-TellsBy held fault (Migrate settings file) old new = Tells held old new (line_of fault)
+    × TellsText held old new (fault_lines faults ++ line_of fault)
+TellsBy held fault (Migrate settings file) old new = TellsText held old new (line_of fault)

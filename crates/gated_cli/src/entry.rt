@@ -4,7 +4,7 @@ ghost use Rattle.clap.specs.Words.{kind_of};
 ghost use Rattle.gate_types.specs.Tap.{has_failed};
 ghost use Rattle.gated_command.specs.CommandLine.{is_help, is_refused, may_be_refused};
 ghost use Rattle.gated_cli.specs.Doing.{streams};
-ghost use Rattle.gated_cli.specs.Ending.{Tells};
+ghost use Rattle.gated_cli.specs.Ending.{TellsText};
 ghost use Rattle.gated_cli.specs.Faults.{line_of};
 ghost use Rattle.gated_cli.specs.Program.{Obeys, FailsBy, HelpFails, out_of_memory};
 
@@ -46,7 +46,7 @@ pub fn program<F: Files + GateFiles + AllocGlobal, S: AsStr, R: Read, W: Write, 
     ensures refused { is_refused (map S.text words.now) ≡ true → result ≡ 2 }
     ensures untouched { result ≡ 2 → (input.new ≡ input.old) × (output.new ≡ output.old) }
     ensures told { result ≡ 2 → may_be_refused (map S.text words.now) ≡ false
-        → Tells E.contents errors.old errors.new out_of_memory }
+        → TellsText E.contents errors.old errors.new out_of_memory }
 {
     match command(rt.alloc(), words) {
         Ok(cmd) => run(rt, cmd, input, output, errors),
@@ -54,7 +54,7 @@ pub fn program<F: Files + GateFiles + AllocGlobal, S: AsStr, R: Read, W: Write, 
     }
 }
 
-/// Tells that the words of the command line can't be read, and gives the status.
+/// TellsText that the words of the command line can't be read, and gives the status.
 pub fn unread<E: Write>(alloc: Global, error: &io::Error, errors: &mut Tap<E>) -> u8
     requires { has_failed errors.old ≡ false }
     ensures { result ≡ 2 }
@@ -77,11 +77,11 @@ fn explained<W: Write, E: Write>(
     requires teller { has_failed errors.old ≡ false }
     ensures help { is_help (kind_of usage.now) ≡ true →
         ((result ≡ 0) × (errors.new ≡ errors.old)) ⊎ ((result ≡ 1) × (fault : Fault)
-        × Tells E.contents errors.old errors.new (line_of fault)
+        × TellsText E.contents errors.old errors.new (line_of fault)
         × HelpFails fault output.old output.new) }
     ensures refused { is_help (kind_of usage.now) ≡ false → (result ≡ 2) × (output.new ≡ output.old) }
     ensures memory { kind_of usage.now ≡ ErrorKind.OutOfMemory →
-        Tells E.contents errors.old errors.new out_of_memory }
+        TellsText E.contents errors.old errors.new out_of_memory }
 {
     match usage.kind() {
         ErrorKind::DisplayHelp | ErrorKind::DisplayVersion => ended(
@@ -108,7 +108,7 @@ fn help<W: Write>(alloc: Global, usage: &Usage, output: &mut Tap<W>) -> Result<(
     Ok(())
 }
 
-/// Tells what is wrong with the words.
+/// TellsText what is wrong with the words.
 fn mistake<E: Write>(alloc: Global, usage: &Usage, errors: &mut Tap<E>) -> Result<(), Failed>
     requires { has_failed errors.old ≡ false }
 {
@@ -120,7 +120,7 @@ fn mistake<E: Write>(alloc: Global, usage: &Usage, errors: &mut Tap<E>) -> Resul
 
 fn out_of_memory<E: Write>(errors: &mut Tap<E>) -> Result<(), Failed>
     requires { has_failed errors.old ≡ false }
-    ensures { Tells E.contents errors.old errors.new out_of_memory }
+    ensures { TellsText E.contents errors.old errors.new out_of_memory }
 {
     errors.write_all(b"error: out of memory\n")
 }

@@ -10,7 +10,7 @@ ghost use Rattle.gated_cli.specs.Doing.{Does, Announces, Checks, Delivers, Looks
 ghost use Rattle.gated_cli.specs.Doing.{HasSettings, beside, streams, settings_limit, migrated_text};
 ghost use Rattle.gated_cli.specs.Ending.{EndsBy, AskingEnds, CheckEnds, DeliveryEnds, HistoryEnds, LinesEnd};
 ghost use Rattle.gated_cli.specs.Ending.{MigrationEnds, ReplayEnds, ServingEnds, StatusEnds, IsEarly, IsOfMaking};
-ghost use Rattle.gated_cli.specs.Ending.{Tells};
+ghost use Rattle.gated_cli.specs.Ending.{TellsText};
 ghost use Rattle.gated_cli.specs.Faults.{line_of};
 ghost use Rattle.gated_cli.specs.InMemory.{IsGate};
 ghost use Rattle.gated_cli.specs.OfFile.{ContentOf, DeliveriesOf, HistoryOf, Made, MakesGate, PrintsOf, RepliesTo};
@@ -80,11 +80,11 @@ pub fn run<F: Files + GateFiles + AllocGlobal, R: Read, W: Write, E: Write>(
     ended(perform(rt, cmd, input, output, errors), errors)
 }
 
-/// Tells the fault, if there is one and the errors haven't failed, and gives the status.
+/// TellsText the fault, if there is one and the errors haven't failed, and gives the status.
 pub fn ended<E: Write>(done: Result<(), Fault>, errors: &mut Tap<E>) -> u8
     ensures done { OnOk done ((result ≡ 0) × (errors.new ≡ errors.old)) }
     ensures fault { IfErr done (λ fault. (result ≡ 1)
-        × (has_failed errors.old ≡ false → Tells E.contents errors.old errors.new (line_of fault))) }
+        × (has_failed errors.old ≡ false → TellsText E.contents errors.old errors.new (line_of fault))) }
     ensures silent { has_failed errors.old ≡ true → errors.new ≡ errors.old }
 {
     match done {
@@ -96,10 +96,10 @@ pub fn ended<E: Write>(done: Result<(), Fault>, errors: &mut Tap<E>) -> u8
     }
 }
 
-/// Tells the fault, unless one before it couldn't be told.
+/// TellsText the fault, unless one before it couldn't be told.
 #[tactic(auto, using(crate::proofs::TellLemmas::told_either))]
 fn tell<E: Write>(fault: Fault, errors: &mut Tap<E>)
-    ensures told { has_failed errors.old ≡ false → Tells E.contents errors.old errors.new (line_of fault) }
+    ensures told { has_failed errors.old ≡ false → TellsText E.contents errors.old errors.new (line_of fault) }
     ensures silent { has_failed errors.old ≡ true → errors.new ≡ errors.old }
 {
     if !errors.failed() {

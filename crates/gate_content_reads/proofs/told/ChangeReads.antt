@@ -24,7 +24,7 @@ use Rattle.gate_types.specs.Rising.{In}
 use Rattle.gate_schema.specs.Edits.{need_rows}
 use Rattle.gate_schema.specs.Rows.{NeedRow, Stored, change_key}
 use Rattle.gate_schema.specs.Shown.{needs_it}
-use Rattle.gate_rows.specs.Tells.{Tells, needs_in}
+use Rattle.gate_rows.specs.Tells.{Matches, needs_in}
 use Rattle.gate_book_trait.specs.Reads as content
 use Rattle.gate_book_trait.specs.RowReads as table
 use Rattle.gate_book_trait.proofs.ReadLemmas as read
@@ -162,7 +162,7 @@ needs_known rows n = by_row (find (λ (r : ChangeRow). r.change.number == n) row
     by_row None = refl
     by_row (Some r) = refl
 
-module _ (c : Settings) (x : Content) (b : Stored) (told : Tells b (tables c x)) where
+module _ (c : Settings) (x : Content) (b : Stored) (told : Matches b (tables c x)) where
   -- what is known of a change
   pub change_is : (n : ℕ) → file.known_change b n ≡ known_change x.state n
   change_is n =

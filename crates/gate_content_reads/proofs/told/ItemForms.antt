@@ -21,7 +21,7 @@ use Rattle.gate_types.specs.State.{Item, Queue, State}
 use Rattle.gate_types.specs.Tables.{tables}
 use Rattle.gate_types.specs.Rising.{In}
 use Rattle.gate_schema.specs.Rows.{ItemRow, Stored}
-use Rattle.gate_rows.specs.Tells.{Tells, items_of}
+use Rattle.gate_rows.specs.Tells.{Matches, items_of}
 use Rattle.gate_book_trait.specs.Reads.{queue_named}
 use Rattle.gate_found_rows.specs.Whole.{is_item_row_in_form}
 use Rattle.gate_laws.proofs.Alone.{changes_once, item_changes, same_name_of}
@@ -153,7 +153,7 @@ rows_differ (r ∷ rs) once same =
         let more = times_in r.item.change (changes_of r.queue rs) change in
         omega (arith, most, one, more)
 
-module _ (c : Settings) (x : Content) (b : Stored) (lawful : IsLawfulContent c x) (told : Tells b (tables c x)) where
+module _ (c : Settings) (x : Content) (b : Stored) (lawful : IsLawfulContent c x) (told : Matches b (tables c x)) where
   -- a queue of the content is in form
   form_of : (q : Queue) → In q x.state.queues → QueueForm q
   form_of q m = queue_form q (every (λ (q : Queue). is_queue_in_form q ≡ true) x.state.queues

@@ -7,7 +7,7 @@ use Rattle.gate_types.specs.Once.{Content}
 use Rattle.gate_types.specs.Settings.{Settings}
 use Rattle.gate_types.specs.Tables.{tables}
 use Rattle.gate_schema.specs.Rows.{AreNamed, ItemRow, Stored, item_key}
-use Rattle.gate_rows.specs.Tells.{Tells}
+use Rattle.gate_rows.specs.Tells.{Matches}
 use Rattle.gate_book_trait.specs.Reads as content
 use Rattle.gate_book_trait.specs.declared.rows.QueuedItem.{QueuedItem}
 use Rattle.gate_found_rows.specs.Asked as file
@@ -22,7 +22,7 @@ item_alone : (o : Option ItemRow) →
 item_alone None = refl
 item_alone (Some r) = refl
 
-module _ (c : Settings) (x : Content) (b : Stored) (lawful : IsLawfulContent c x) (told : Tells b (tables c x)) where
+module _ (c : Settings) (x : Content) (b : Stored) (lawful : IsLawfulContent c x) (told : Matches b (tables c x)) where
   -- the item of a serial
   pub item_is : AreNamed b → (serial : ℕ) → file.item_at b serial ≡ content.item_at c x.state serial
   item_is named serial =
@@ -39,7 +39,7 @@ module _ (c : Settings) (x : Content) (b : Stored) (lawful : IsLawfulContent c x
       once : (n : ℕ) → times n (flat_map item_changes x.state.queues) ≤ 1
       once n = let few = changes_once c x.state lawful.lawful.sound n in omega (arith, few)
 
-module _ (c : Settings) (x : Content) (b : Stored) (told : Tells b (tables c x)) where
+module _ (c : Settings) (x : Content) (b : Stored) (told : Matches b (tables c x)) where
   -- the items above a serial whose changes need another
   pub needing_is : (name : List ℕ) (n serial : ℕ) →
       file.items_needing b name n serial ≡ content.items_needing x.state n serial (content.items_in c x.state name)

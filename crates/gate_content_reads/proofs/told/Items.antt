@@ -14,7 +14,7 @@ use Rattle.gate_types.specs.Tables.{tables}
 use Rattle.gate_types.specs.Rising.{In}
 use Rattle.gate_types.proofs.NameLemmas.{same_name_is}
 use Rattle.gate_schema.specs.Rows.{AreNamed, ItemRow, QueueRow, Stored}
-use Rattle.gate_rows.specs.Tells.{Tells, items_of, placed}
+use Rattle.gate_rows.specs.Tells.{Matches, items_of, placed}
 use Rattle.gate_book_trait.specs.Reads.{items_in, queue_named, queued_items}
 use Rattle.gate_book_trait.specs.declared.rows.QueuedItem.{QueuedItem}
 use Rattle.gate_book_trait.proofs.ReadLemmas as read
@@ -94,7 +94,7 @@ names_placed c s name n (q ∷ qs) = by_name (same_name q.name name) (names_plac
     by_name true e = ap (λ m. suc m) e
     by_name false e = e
 
-module _ (c : Settings) (x : Content) (b : Stored) (told : Tells b (tables c x)) where
+module _ (c : Settings) (x : Content) (b : Stored) (told : Matches b (tables c x)) where
   -- the items of a queue, in order
   pub items_are : (name : List ℕ) → items_of name b.items ≡ items_in c x.state name
   items_are name = told.queues_are.items_are name ∙ read.items_are c x name

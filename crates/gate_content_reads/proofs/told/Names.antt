@@ -13,7 +13,7 @@ use Rattle.gate_types.specs.Tables.{tables}
 use Rattle.gate_types.specs.Rising.{In}
 use Rattle.gate_types.proofs.NameLemmas.{same_name_is}
 use Rattle.gate_schema.specs.Rows.{AreNamed, QueueRow, Stored}
-use Rattle.gate_rows.specs.Tells.{Tells}
+use Rattle.gate_rows.specs.Tells.{Matches}
 use Rattle.gate_laws.proofs.Alone.{same_name_of}
 use Rattle.gate_laws.proofs.Members.{filter_none, none_from}
 use Rattle.gate_content_reads.specs.Held.{queue_names}
@@ -65,7 +65,7 @@ count_names {X = X} name_of name (x ∷ xs) = by_name (same_name (name_of x) nam
 
 -- so no two queues have one name
 pub queues_are_named : {c : Settings} {x : Content} {b : Stored} → are_distinct (queue_names c) ≡ true →
-    IsLawfulContent c x → Tells b (tables c x) → AreNamed b
+    IsLawfulContent c x → Matches b (tables c x) → AreNamed b
 queues_are_named {c = c} {x = x} {b = b} differ lawful told name =
     subst (λ n. n ≤ 1) (sym (ap (λ l. length (filter (λ (q : QueueRow). same_name q.name name) l))
     told.queues_are.places ∙ names_placed c x.state name 0 x.state.queues

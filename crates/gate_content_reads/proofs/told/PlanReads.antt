@@ -15,7 +15,7 @@ use Rattle.gate_types.specs.declared.config.Job.{Job}
 use Rattle.gate_types.specs.declared.records.Plan.{Plan}
 use Rattle.gate_schema.specs.Edits.{job_rows}
 use Rattle.gate_schema.specs.Rows.{JobRow, Stored}
-use Rattle.gate_rows.specs.Tells.{Tells, jobs_in}
+use Rattle.gate_rows.specs.Tells.{Matches, jobs_in}
 use Rattle.gate_book_trait.specs.Reads as content
 use Rattle.gate_found_rows.specs.Asked as file
 use Rattle.gate_found_rows.specs.Whole.{ArePlaced, is_job_row_in_form}
@@ -42,7 +42,7 @@ plan_of_jobs p sound = by_jobs p.jobs refl (and_parts _ _ sound).1
     by_jobs [] e some = absurd (false≢true some)
     by_jobs (j ∷ js) e some = λ i. Some (record { serial = p.serial; jobs = sym e i; fast = p.fast })
 
-module _ (c : Settings) (x : Content) (b : Stored) (told : Tells b (tables c x)) where
+module _ (c : Settings) (x : Content) (b : Stored) (told : Matches b (tables c x)) where
   -- the jobs under a serial
   jobs_are : (n : ℕ) → file.jobs_of b n ≡ jobs_in x.state.plans n
   jobs_are n = ap (map (λ (y : JobRow). y.job)) (told.plans_are.jobs_are n) ∙ jobs_of_rows n 0 (jobs_in x.state.plans n)
@@ -51,7 +51,7 @@ module _ (c : Settings) (x : Content) (b : Stored) (told : Tells b (tables c x))
   pub jobs_are_placed : ArePlaced b
   jobs_are_placed n = told.plans_are.jobs_are n ∙ ap (job_rows n 0) (sym (jobs_are n))
 
-module _ (c : Settings) (x : Content) (b : Stored) (lawful : IsLawfulContent c x) (told : Tells b (tables c x)) where
+module _ (c : Settings) (x : Content) (b : Stored) (lawful : IsLawfulContent c x) (told : Matches b (tables c x)) where
   -- the plan under a serial
   pub plan_is : (n : ℕ) → file.plan_at b n ≡ content.plan_at x.state n
   plan_is n =

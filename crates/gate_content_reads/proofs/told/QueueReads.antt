@@ -18,7 +18,7 @@ use Rattle.gate_types.specs.Tables.{QueueRows, numbered_landings, tables}
 use Rattle.gate_types.specs.Keys.{place_of_landing, place_of_report}
 use Rattle.gate_types.specs.Rising.{In}
 use Rattle.gate_schema.specs.Rows.{QueueRow, Stored}
-use Rattle.gate_rows.specs.Tells.{Tells, landings_of, of_queue, placed, reports_of}
+use Rattle.gate_rows.specs.Tells.{Matches, landings_of, of_queue, placed, reports_of}
 use Rattle.gate_book_trait.specs.Reads as content
 use Rattle.gate_book_trait.proofs.ReadLemmas as read
 use Rattle.gate_found_rows.specs.Asked as file
@@ -127,7 +127,7 @@ window_placed c s name n (q ∷ qs) = by_name (same_name q.name name) (window_pl
 abbrev pub reports_in : State → List ℕ → List Report
 reports_in s name = option_map_or (λ (q : Queue). q.reports) (content.queue_named s name) []
 
-module _ (c : Settings) (x : Content) (b : Stored) (told : Tells b (tables c x)) where
+module _ (c : Settings) (x : Content) (b : Stored) (told : Matches b (tables c x)) where
   -- the landings of a queue, numbered
   landing_rows : (name : List ℕ) →
       of_queue (λ q. q.landings) name (tables c x).queues ≡ numbered_landings 0 (content.landings_in x.state name)

@@ -9,7 +9,7 @@ use Rattle.gate_types.specs.Settings.{Settings}
 use Rattle.gate_types.specs.Tables.{tables}
 use Rattle.gate_book_trait.specs.Reads.{items_between}
 use Rattle.gate_schema.specs.Rows.{AreNamed, Stored, build_key}
-use Rattle.gate_rows.specs.Tells.{Tells}
+use Rattle.gate_rows.specs.Tells.{Matches}
 use Rattle.gate_content_reads.specs.Answers.{IsAnsweredBy}
 use Rattle.gate_content_reads.proofs.told.ChangeReads.{approval_is, change_is, ready_is, ready_needing_is}
 use Rattle.gate_content_reads.proofs.told.ItemReads.{item_is, needing_is, queued_is}
@@ -19,7 +19,7 @@ use Rattle.gate_content_reads.proofs.told.QueueReads.{landing_before_is, landing
 
 -- all of them
 pub reads_are_told : {c : Settings} {x : Content} {b : Stored} → IsLawfulContent c x → AreNamed b →
-    Tells b (tables c x) → IsAnsweredBy b c x
+    Matches b (tables c x) → IsAnsweredBy b c x
 reads_are_told {c = c} {x = x} {b = b} lawful named told = record {
   items = items_are c x b told;
   item = item_is c x b lawful told named;

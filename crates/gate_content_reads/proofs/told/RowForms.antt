@@ -18,7 +18,7 @@ use Rattle.gate_types.specs.Settings.{Settings, has_queue}
 use Rattle.gate_types.specs.State.{Queue, State}
 use Rattle.gate_types.specs.Tables.{approval_of, change_row, tables}
 use Rattle.gate_schema.specs.Rows.{QueueRow, Stored}
-use Rattle.gate_rows.specs.Tells.{Tells, placed}
+use Rattle.gate_rows.specs.Tells.{Matches, placed}
 use Rattle.gate_book_trait.proofs.ReadLemmas.{rows_of_queue}
 use Rattle.gate_found_rows.specs.Whole.{is_build_row_in_form, is_change_row_in_form}
 use Rattle.gate_laws.proofs.Members.{all, every, found, from_map}
@@ -69,7 +69,7 @@ build_form c x h =
     (is_drawn_number x.serial && is_change_number x.change && is_revision_number x.revision)
     (nat_le x.after last_number) (nat_le (length x.ahead) most_items) (list_all is_entry_in_form x.ahead) h
 
-module _ (c : Settings) (x : Content) (b : Stored) (lawful : IsLawfulContent c x) (told : Tells b (tables c x)) where
+module _ (c : Settings) (x : Content) (b : Stored) (lawful : IsLawfulContent c x) (told : Matches b (tables c x)) where
   -- the windows of the queues
   pub windows_in_form : AllPass (λ (q : QueueRow). nat_le q.window most_window) b.queues
   windows_in_form =

@@ -8,7 +8,7 @@ use Rattle.gate_types.specs.Once.{Content}
 use Rattle.gate_types.specs.Settings.{Settings}
 use Rattle.gate_types.specs.Tables.{tables}
 use Rattle.gate_schema.specs.Rows.{Stored}
-use Rattle.gate_rows.specs.Tells.{Tells, TellsNeeds}
+use Rattle.gate_rows.specs.Tells.{Matches, TellsNeeds}
 use Rattle.gate_found_rows.specs.Whole.{IsWhole}
 use Rattle.gate_content_reads.proofs.told.ChangeReads.{approvals_of_rows}
 use Rattle.gate_content_reads.proofs.told.ItemForms.{changes_differ, items_are_few, items_in_form}
@@ -16,7 +16,7 @@ use Rattle.gate_content_reads.proofs.told.PlanReads.{jobs_are_placed, jobs_in_fo
 use Rattle.gate_content_reads.proofs.told.RowForms.{builds_in_form, changes_in_form, windows_in_form}
 
 -- all of it
-pub rows_are_whole : {c : Settings} {x : Content} {b : Stored} → IsLawfulContent c x → Tells b (tables c x) → IsWhole b
+pub rows_are_whole : {c : Settings} {x : Content} {b : Stored} → IsLawfulContent c x → Matches b (tables c x) → IsWhole b
 rows_are_whole {c = c} {x = x} {b = b} lawful told = record {
   counters = subst (λ d. are_counters_in_form d ≡ true) (sym told.counters_are) lawful.in_form.state.counters;
   windows = windows_in_form c x b lawful told;
