@@ -16,7 +16,7 @@ use Rattle.sqlite_schema.specs.declared.program.Program.{Program}
 use Rattle.sqlite_tied.proofs.RuleLemmas.{and_true}
 use Rattle.sqlite_tied.specs.Compute.{everything}
 use Rattle.sqlite_trees.specs.Tree.{rowid}
-use Rattle.gate_schema.specs.Rows.{IsFixed, IsReady, Stands, Stored, meta_columns, queue_columns}
+use Rattle.gate_schema.specs.Rows.{IsFixed, IsReady, Stands, Stored, meta_columns, queue_columns, schema_version}
 use Rattle.gate_schema.specs.Schema.{gate_schema, meta_at, queue_at}
 use Rattle.gate_schema.proofs.ChangeLemmas.{changed, listed_changed, numbered_changed, updated_rows}
 use Rattle.gate_schema.proofs.DeleteLemmas.{deleted_ids, leaves_others}
@@ -84,7 +84,7 @@ abbrev pair_columns : List ℕ × List ℕ → Row
 pair_columns p = Words p.0 ∷ Words p.1 ∷ []
 
 abbrev pairs : List ℕ → List (List ℕ × List ℕ)
-pairs text = (codes "format", codes "gate") ∷ (codes "schema", codes "2") ∷ (codes "settings", text) ∷ []
+pairs text = (codes "format", codes "gate") ∷ (codes "schema", schema_version) ∷ (codes "settings", text) ∷ []
 
 abbrev key : List ℕ
 key = codes "settings"

@@ -18,6 +18,7 @@ use Rattle.sqlite_trees.specs.Objects.{catalog_tree}
 use Rattle.sqlite_trees.specs.Tree.{put_row}
 use Rattle.sqlite.proofs.Callers.{runs_as, statement_of}
 use Rattle.gate_schema.specs.Rows.{IsReady, IsFixed, IsListed, IsKeyed, meta_columns, counter_columns, pair_of_words}
+use Rattle.gate_schema.specs.Rows.{schema_version}
 use Rattle.gate_schema.specs.Rows.{queue_columns, word_and_number, QueueRow, Stored, Stands}
 use Rattle.gate_schema.specs.Schema.{gate_schema, meta_at, counter_at, queue_at}
 use Rattle.gate_schema.proofs.RowLemmas.{cast_int, cast_null}
@@ -94,7 +95,7 @@ fills_meta settings old new count bare h =
     let w = runs_as fill_meta_sql params old new gate_schema bare.schema_is (Insert 0 (Values fill_meta_terms 3)) fill_meta_is.0 fill_meta_is.1 count h.0 in
     let e = inserts gate_schema (λ _ _ _. refl) old new bare.schema_is 0 (meta_at 0) refl (statement_of fill_meta_sql (understood gate_schema fill_meta_sql)) params count refl (Values fill_meta_terms 3) w in
     let a = pair_of_words (codes "format") (codes "gate") in
-    let b = pair_of_words (codes "schema") (codes "2") in
+    let b = pair_of_words (codes "schema") schema_version in
     let c = pair_of_words (codes "settings") settings in
     let rows : e.0 ≡ (Null ∷ a) ∷ (Null ∷ b) ∷ (Null ∷ c) ∷ [] = e.1.1 in
     let stored : (k v : List ℕ) → cast_row (meta_at 0) (Null ∷ Words k ∷ Words v ∷ []) ≡ Null ∷ Words k ∷ Words v ∷ [] = λ k v. rw cast_null in
@@ -102,7 +103,7 @@ fills_meta settings old new count bare h =
     e.2.applies.rows ∙ ap (λ rs. edited old.now.trees (edit_of old.now.trees (meta_at 0) [] Chosen 0 rs)) rows
     ∙ ap (λ db. put_all db (numbered Chosen db (cast_row (meta_at 0) (Null ∷ a) ∷ cast_row (meta_at 0) (Null ∷ b) ∷ cast_row (meta_at 0) (Null ∷ c) ∷ []))) bare.empty.0
     ∙ ap (λ r. put_all [] (numbered Chosen [] (r ∷ cast_row (meta_at 0) (Null ∷ b) ∷ cast_row (meta_at 0) (Null ∷ c) ∷ []))) (stored (codes "format") (codes "gate"))
-    ∙ ap (λ r. put_all [] (numbered Chosen [] ((Null ∷ a) ∷ r ∷ cast_row (meta_at 0) (Null ∷ c) ∷ []))) (stored (codes "schema") (codes "2"))
+    ∙ ap (λ r. put_all [] (numbered Chosen [] ((Null ∷ a) ∷ r ∷ cast_row (meta_at 0) (Null ∷ c) ∷ []))) (stored (codes "schema") schema_version)
     ∙ ap (λ r. put_all [] (numbered Chosen [] ((Null ∷ a) ∷ (Null ∷ b) ∷ r ∷ []))) (stored (codes "settings") settings)
     ∙ three a b c in
     let t = e.2.applies.tables in

@@ -7,7 +7,7 @@ use Rattle.std.proofs.lemmas.Slice.Eq.{bytes_eq-Decides}
 use Rattle.sqlite.specs.Order.{Row}
 use Rattle.sqlite.specs.declared.types.Value.TheVariants.{Text as Words}
 use Rattle.sqlite_value.specs.Order.{column}
-use Rattle.gate_schema.specs.Rows.{pair_of_words}
+use Rattle.gate_schema.specs.Rows.{pair_of_words, schema_version}
 use Rattle.gate_types.specs.Adopt.{may_adopt}
 use Rattle.gate_types.specs.Settings.{Settings}
 use Rattle.gate_types.specs.SettingsText.{settings_text}
@@ -94,14 +94,14 @@ found_so (Ok (Some c)) P Q d f h = (h.0, h.1, h.2, h.3, f _ h.0 h.4)
 found_so (Err e) P Q d f h = told_so (Some e) P Q d f h
 
 -- a file of this version and these settings is refused for memory, the disk or its size alone
-pub only_unavailable : (f : OpenFault) (kept : List ℕ) (d : Settings) → MayOpen kept d → IsJudged (Some f) (codes "2") kept d → f ≡ fault.Unavailable
+pub only_unavailable : (f : OpenFault) (kept : List ℕ) (d : Settings) → MayOpen kept d → IsJudged (Some f) schema_version kept d → f ≡ fault.Unavailable
 only_unavailable fault.WrongFile kept d may h = absurd h
 only_unavailable fault.OtherSchema kept d may h = absurd (h refl)
 only_unavailable fault.OtherSettings kept d may h = absurd (h.1 may)
 only_unavailable fault.Unavailable kept d may h = refl
 
 -- one of other settings, for these or for memory, the disk or its size
-pub only_refused : (f : OpenFault) (kept : List ℕ) (d : Settings) → IsJudged (Some f) (codes "2") kept d → (f ≡ fault.OtherSettings) ⊎ (f ≡ fault.Unavailable)
+pub only_refused : (f : OpenFault) (kept : List ℕ) (d : Settings) → IsJudged (Some f) schema_version kept d → (f ≡ fault.OtherSettings) ⊎ (f ≡ fault.Unavailable)
 only_refused fault.WrongFile kept d h = absurd h
 only_refused fault.OtherSchema kept d h = absurd (h refl)
 only_refused fault.OtherSettings kept d h = inl refl
@@ -109,14 +109,14 @@ only_refused fault.Unavailable kept d h = inr refl
 
 -- ---- what is found, by what it is
 
-pub found_same : (o : Option Settings) (version kept : List ℕ) (d : Settings) → o ≡ None → IsFound (Ok o) version kept d → (version ≡ codes "2") × (kept ≡ settings_text d)
+pub found_same : (o : Option Settings) (version kept : List ℕ) (d : Settings) → o ≡ None → IsFound (Ok o) version kept d → (version ≡ schema_version) × (kept ≡ settings_text d)
 found_same o version kept d is found = subst (λ p. IsFound (Ok p) version kept d) is found
 
 pub found_others : (o : Option Settings) (c : Settings) (version kept : List ℕ) (d : Settings) → o ≡ Some c → IsFound (Ok o) version kept d →
-    (version ≡ codes "2") × (kept ≢ settings_text d) × SaysSettings kept c × (may_adopt c d ≡ true)
+    (version ≡ schema_version) × (kept ≢ settings_text d) × SaysSettings kept c × (may_adopt c d ≡ true)
 found_others o c version kept d is found = subst (λ p. IsFound (Ok p) version kept d) is found
 
-pub found_of_same : (o : Option Settings) (Are : List ℕ → List ℕ → Type 0) (d : Settings) → o ≡ None → IsFoundOf (Ok o) Are d → Are (codes "2") (settings_text d)
+pub found_of_same : (o : Option Settings) (Are : List ℕ → List ℕ → Type 0) (d : Settings) → o ≡ None → IsFoundOf (Ok o) Are d → Are schema_version (settings_text d)
 found_of_same o Are d is found = subst (λ p. IsFoundOf (Ok p) Are d) is found
 
 pub found_of_others : (o : Option Settings) (c : Settings) (Are : List ℕ → List ℕ → Type 0) (d : Settings) → o ≡ Some c → IsFoundOf (Ok o) Are d → IsFoundOf (Ok (Some c)) Are d

@@ -11,7 +11,7 @@ use Rattle.gate_types.specs.Adopt.{may_adopt}
 use Rattle.gate_types.specs.Settings.{Settings}
 use Rattle.gate_types.specs.SettingsText.{settings_text}
 use Rattle.gate_kept_settings.specs.Told.{SaysSettings}
-use Rattle.gate_schema.specs.Rows.{IsFixed, pair_of_words}
+use Rattle.gate_schema.specs.Rows.{IsFixed, pair_of_words, schema_version}
 use Rattle.gate_schema.specs.Schema.{meta_at}
 use Rattle.gate_types.specs.declared.open_fault.OpenFault.{OpenFault}
 use Rattle.gate_types.specs.declared.open_fault.OpenFault.TheVariants as fault
@@ -34,10 +34,10 @@ MayOpen kept d = (kept ≡ settings_text d) ⊎ ((c : Settings) × SaysSettings 
 
 -- no fault, or which one, of a file of this version that keeps settings of this text, opened with these
 abbrev pub IsJudged : Option OpenFault → List ℕ → List ℕ → Settings → Type 0
-IsJudged None version kept d = (version ≡ codes "2") × MayOpen kept d
+IsJudged None version kept d = (version ≡ schema_version) × MayOpen kept d
 IsJudged (Some fault.WrongFile) version kept d = ⊥
-IsJudged (Some fault.OtherSchema) version kept d = version ≢ codes "2"
-IsJudged (Some fault.OtherSettings) version kept d = (version ≡ codes "2") × (MayOpen kept d → ⊥)
+IsJudged (Some fault.OtherSchema) version kept d = version ≢ schema_version
+IsJudged (Some fault.OtherSettings) version kept d = (version ≡ schema_version) × (MayOpen kept d → ⊥)
 IsJudged (Some fault.Unavailable) version kept d = ⊤
 
 -- ---- making

@@ -15,7 +15,7 @@ use Rattle.sqlite_trees.specs.Objects.{catalog_tree}
 use Rattle.sqlite_resolve.specs.declared.compiled.Compiled.{Compiled}
 use Rattle.sqlite_resolve.specs.declared.error.CompileError.{CompileError}
 use Rattle.sqlite_value.specs.Order.{column}
-use Rattle.gate_schema.specs.Rows.{pair_of_words}
+use Rattle.gate_schema.specs.Rows.{pair_of_words, schema_version}
 use Rattle.gate_types.specs.Adopt.{may_adopt}
 use Rattle.gate_types.specs.Settings.{Settings}
 use Rattle.gate_types.specs.SettingsText.{settings_text}
@@ -58,11 +58,11 @@ HoldsMeta db version settings =
 -- if it is of our version and keeps them, or some in whose place they may be taken; a fault blames the version, or the
 -- settings, only where they are others, and these not such
 abbrev pub IsTold : Option OpenFault → (List ℕ → List ℕ → Type 0) → Settings → Type 0
-IsTold None Are d = (kept : List ℕ) × MayOpen kept d × Are (codes "2") kept
+IsTold None Are d = (kept : List ℕ) × MayOpen kept d × Are schema_version kept
 IsTold (Some fault.WrongFile) Are d = ⊤
 IsTold (Some fault.OtherSchema) Are d =
-    (version : List ℕ) × (kept : List ℕ) × (version ≢ codes "2") × Are version kept
-IsTold (Some fault.OtherSettings) Are d = (kept : List ℕ) × (MayOpen kept d → ⊥) × Are (codes "2") kept
+    (version : List ℕ) × (kept : List ℕ) × (version ≢ schema_version) × Are version kept
+IsTold (Some fault.OtherSettings) Are d = (kept : List ℕ) × (MayOpen kept d → ⊥) × Are schema_version kept
 IsTold (Some fault.Unavailable) Are d = ⊤
 
 -- a store with these trees is told so: under the schema that they list
@@ -79,16 +79,16 @@ met (Err f) = Some f
 -- what is found of a file of this version that keeps settings of this text: that it keeps these, or others in whose
 -- place they may be taken, or why it isn't opened
 abbrev pub IsFound : Result (Option Settings) OpenFault → List ℕ → List ℕ → Settings → Type 0
-IsFound (Ok None) version kept d = (version ≡ codes "2") × (kept ≡ settings_text d)
+IsFound (Ok None) version kept d = (version ≡ schema_version) × (kept ≡ settings_text d)
 IsFound (Ok (Some c)) version kept d =
-    (version ≡ codes "2") × (kept ≢ settings_text d) × SaysSettings kept c × (may_adopt c d ≡ true)
+    (version ≡ schema_version) × (kept ≢ settings_text d) × SaysSettings kept c × (may_adopt c d ≡ true)
 IsFound (Err f) version kept d = IsJudged (Some f) version kept d
 
 -- and where `Are v k` says of which version it is, and which settings it keeps
 abbrev pub IsFoundOf : Result (Option Settings) OpenFault → (List ℕ → List ℕ → Type 0) → Settings → Type 0
-IsFoundOf (Ok None) Are d = Are (codes "2") (settings_text d)
+IsFoundOf (Ok None) Are d = Are schema_version (settings_text d)
 IsFoundOf (Ok (Some c)) Are d =
-    (kept : List ℕ) × (kept ≢ settings_text d) × SaysSettings kept c × (may_adopt c d ≡ true) × Are (codes "2") kept
+    (kept : List ℕ) × (kept ≢ settings_text d) × SaysSettings kept c × (may_adopt c d ≡ true) × Are schema_version kept
 IsFoundOf (Err f) Are d = IsTold (Some f) Are d
 
 -- what is found of a kept text that is another
@@ -99,7 +99,7 @@ IsMet (Err f) kept d = f ≡ fault.Unavailable
 
 -- it isn't so that the file keeps other settings in whose place these may be taken
 abbrev pub HasNoneToAdopt : Database → Settings → Type 0
-HasNoneToAdopt db d = (kept : List ℕ) (c : Settings) → ShowsMeta db (codes "2") kept → kept ≢ settings_text d →
+HasNoneToAdopt db d = (kept : List ℕ) (c : Settings) → ShowsMeta db schema_version kept → kept ≢ settings_text d →
     SaysSettings kept c → may_adopt c d ≡ true → ⊥
 
 -- there is no `meta` to read: no such table, or none with these columns

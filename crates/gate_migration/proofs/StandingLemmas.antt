@@ -13,7 +13,7 @@ use Rattle.gate_types.specs.Settings.{Settings}
 use Rattle.gate_types.specs.SettingsText.{settings_text}
 use Rattle.gate_types.specs.declared.open_fault.OpenFault.{OpenFault}
 use Rattle.gate_types.specs.declared.open_fault.OpenFault.TheVariants as fault
-use Rattle.gate_schema.specs.Rows.{pair_of_words}
+use Rattle.gate_schema.specs.Rows.{pair_of_words, first_version, schema_version}
 use Rattle.gate_rows.specs.Tells.{StandsFor}
 use Rattle.gate_found_rows.specs.Finds.{Stays}
 use Rattle.gate_found_rows.proofs.StayLemmas.{stays_then}
@@ -57,26 +57,26 @@ standing_so (Err fault.Unavailable) P Q settings f h = tt
 
 -- ---- which version a file is of
 
-two_not_one : codes "2" ≡ codes "1" → ⊥
-two_not_one h = let e : false ≡ true = ap (λ l. bytes_eq l (codes "1")) h in true≢false (sym e)
+two_not_one : schema_version ≡ first_version → ⊥
+two_not_one h = let e : false ≡ true = ap (λ l. bytes_eq l first_version) h in true≢false (sym e)
 
 -- a file of schema 2 isn't of schema 1
-pub not_first : (t : Bool) (kept settings : List ℕ) → t ≡ true → IsStanding (Ok t) (codes "2") kept settings → ⊥
-not_first t kept settings is h = two_not_one (subst (λ t. IsStanding (Ok t) (codes "2") kept settings) is h).0
+pub not_first : (t : Bool) (kept settings : List ℕ) → t ≡ true → IsStanding (Ok t) schema_version kept settings → ⊥
+not_first t kept settings is h = two_not_one (subst (λ t. IsStanding (Ok t) schema_version kept settings) is h).0
 
 -- and the other way round
-pub not_second : (t : Bool) (kept settings : List ℕ) → t ≡ false → IsStanding (Ok t) (codes "1") kept settings → ⊥
-not_second t kept settings is h = two_not_one (sym (subst (λ t. IsStanding (Ok t) (codes "1") kept settings) is h))
+pub not_second : (t : Bool) (kept settings : List ℕ) → t ≡ false → IsStanding (Ok t) first_version kept settings → ⊥
+not_second t kept settings is h = two_not_one (sym (subst (λ t. IsStanding (Ok t) first_version kept settings) is h))
 
 -- a file of schema 1 and of these settings isn't refused
-pub first_fails : (f : OpenFault) (kept settings : List ℕ) → kept ≡ settings → IsStanding (Err f) (codes "1") kept settings → f ≡ fault.Unavailable
+pub first_fails : (f : OpenFault) (kept settings : List ℕ) → kept ≡ settings → IsStanding (Err f) first_version kept settings → f ≡ fault.Unavailable
 first_fails fault.WrongFile kept settings same h = absurd h
 first_fails fault.OtherSchema kept settings same h = absurd (h.0 refl)
 first_fails fault.OtherSettings kept settings same h = absurd (h.1 same)
 first_fails fault.Unavailable kept settings same h = refl
 
 -- nor is one of schema 2
-pub second_fails : (f : OpenFault) (kept settings : List ℕ) → IsStanding (Err f) (codes "2") kept settings → f ≡ fault.Unavailable
+pub second_fails : (f : OpenFault) (kept settings : List ℕ) → IsStanding (Err f) schema_version kept settings → f ≡ fault.Unavailable
 second_fails fault.WrongFile kept settings h = absurd h
 second_fails fault.OtherSchema kept settings h = absurd (h.1 refl)
 second_fails fault.OtherSettings kept settings h = absurd (two_not_one h.0)
@@ -85,7 +85,7 @@ second_fails fault.Unavailable kept settings h = refl
 -- ---- a file of schema 1 with these settings
 
 -- its version and its settings
-first_is : (t : Bool) (version kept settings : List ℕ) → t ≡ true → IsStanding (Ok t) version kept settings → (version ≡ codes "1") × (kept ≡ settings)
+first_is : (t : Bool) (version kept settings : List ℕ) → t ≡ true → IsStanding (Ok t) version kept settings → (version ≡ first_version) × (kept ≡ settings)
 first_is t version kept settings is h = subst (λ u. IsStanding (Ok u) version kept settings) is h
 
 -- where a new name is taken it is refused

@@ -29,7 +29,7 @@ use Rattle.std.specs.Prelude.{◌⊎◌}
 use Rattle.gate_types.specs.Tables.{Tables}
 use Rattle.gate_types.specs.declared.edits.Edit.{Edit}
 use Rattle.gate_schema.specs.Rows as rows
-use Rattle.gate_schema.specs.Rows.{IsFixed, IsKeyed, IsListed, Stored, pair_of_words}
+use Rattle.gate_schema.specs.Rows.{IsFixed, IsKeyed, IsListed, Stored, pair_of_words, first_version, schema_version}
 use Rattle.gate_schema.specs.Schema.{gate_schema, item_fast_text, item_job_text, meta_at, schema_with}
 use Rattle.gate_schema.proofs.ChangeLemmas.{changed, listed_changed, numbered_changed, updated_rows}
 use Rattle.gate_schema.proofs.QueryLemmas.{over_table, passes, shows_few}
@@ -73,7 +73,7 @@ makes_job_table b old new count first h =
     let made = makes_table item_job_text first_schema m.table p.0 p.1 p.2 m.defined (ap lacks_sequence m.is ∙ m.uncounted) old new count first.schema_is h.0 in
     record {
       schema_is = made.schema_is ∙ m.is;
-      rows = rows_stay (codes "1") old.now.trees new.now.trees b made.others first.rows;
+      rows = rows_stay first_version old.now.trees new.now.trees b made.others first.rows;
       jobs = made.empty;
       inside = h.1.mode;
     }
@@ -87,7 +87,7 @@ makes_fast_table b old new count had h =
     let o = made.others in
     record {
       schema_is = made.schema_is ∙ m.is;
-      rows = rows_stay (codes "1") old.now.trees new.now.trees b
+      rows = rows_stay first_version old.now.trees new.now.trees b
           (o.0, (o.1.0, (o.1.1.0, (o.1.1.1.0, (o.1.1.1.1.0, (o.1.1.1.1.1.0, (o.1.1.1.1.1.1.0, (o.1.1.1.1.1.1.1.0, (o.1.1.1.1.1.1.1.1.0, (o.1.1.1.1.1.1.1.1.1.0, tt)))))))))) had.rows;
       jobs = o.1.1.1.1.1.1.1.1.1.1.0 ∙ had.jobs;
       fast = made.empty;
@@ -118,7 +118,7 @@ words_columns p = pair_of_words p.0 p.1
 
 -- what `meta` holds of schema 1
 abbrev pairs : List ℕ → List (List ℕ × List ℕ)
-pairs settings = (codes "format", codes "gate") ∷ (codes "schema", codes "1") ∷ (codes "settings", settings) ∷ []
+pairs settings = (codes "format", codes "gate") ∷ (codes "schema", first_version) ∷ (codes "settings", settings) ∷ []
 
 -- the version is set: a file of schema 2, with no plan
 pub sets_version : (b : Stored) (old new : State) (count : ℕ) → IsWidened b old → ExecutesInside 0 set_version_sql [] old new (Ok count) → IsFilled (without_plans b) new
@@ -131,7 +131,7 @@ sets_version b old new count had h =
     let new_row = renewed (meta_at 0) set_version_terms [] old.now.trees in
     let p : (List ℕ × List ℕ) → Bool = λ x. bytes_eq x.0 (codes "schema") in
     let same : (v : Row) (x : List ℕ × List ℕ) → drop 1 v ≡ words_columns x → test v ≡ bytes_eq x.0 (codes "schema") = λ v x is. behind test v _ _ _ (λ y. rw equal_texts (and_true (bytes_eq x.0 (codes "schema")))) is in
-    let made : (v : Row) (x : List ℕ × List ℕ) → drop 1 v ≡ words_columns x → drop 1 (new_row v) ≡ words_columns (x.0, codes "2") = λ v x is. made_version x old.now.trees v is in
+    let made : (v : Row) (x : List ℕ × List ℕ) → drop 1 v ≡ words_columns x → drop 1 (new_row v) ≡ words_columns (x.0, schema_version) = λ v x is. made_version x old.now.trees v is in
     let few : length (filter (λ (x : List ℕ × List ℕ). bytes_eq x.0 (codes "schema")) (pairs b.settings)) ≤ 1 = omega arith in
     let short : length (filter test (old.now.trees 0)) ≤ 1 =
     subst (λ n. n ≤ 1) (sym (few_found words_columns test (λ x. bytes_eq x.0 (codes "schema")) same (old.now.trees 0) (pairs b.settings) had.rows.meta.columns_are)) few in
@@ -146,8 +146,8 @@ sets_version b old new count had h =
       ready = record { schema_is = e.2.schema_is; inside = h.1.mode };
       stands = record {
         listed = sound_lists gate_schema new e.2.schema_is w.sound;
-        meta = subst (IsFixed (meta_rows (codes "2") b.settings)) (sym left) (record {
-          columns_are = listed_changed words_columns test new_row (λ x. bytes_eq x.0 (codes "schema")) (λ x. (x.0, codes "2")) same made (old.now.trees 0) (pairs b.settings) had.rows.meta.columns_are;
+        meta = subst (IsFixed (meta_rows schema_version b.settings)) (sym left) (record {
+          columns_are = listed_changed words_columns test new_row (λ x. bytes_eq x.0 (codes "schema")) (λ x. (x.0, schema_version)) same made (old.now.trees 0) (pairs b.settings) had.rows.meta.columns_are;
           numbered = numbered_changed test new_row (λ r its. int_cast (rowid r) its) (old.now.trees 0) had.rows.meta.numbered;
         });
         counter = subst (IsFixed (rows.counter_columns b.counters)) (sym (t.1.0 (no 2 refl))) had.rows.counter;
@@ -165,7 +165,7 @@ sets_version b old new count had h =
     }
   where
     made_version : (x : List ℕ × List ℕ) (db : Trees) (v : Row) → drop 1 v ≡ words_columns x
-        → drop 1 (renewed (meta_at 0) set_version_terms [] db v) ≡ words_columns (x.0, codes "2")
+        → drop 1 (renewed (meta_at 0) set_version_terms [] db v) ≡ words_columns (x.0, schema_version)
     made_version x db [] is = absurd cc
     made_version x db (y ∷ rest) is = ap (λ l. drop 1 (renewed (meta_at 0) set_version_terms [] db (y ∷ l))) is
 
@@ -187,7 +187,7 @@ failed_commit old mid new (Err e) opened kept settled inside (inr h) = absurd (t
 pub can_still : (old new : State) (b : Stored) (edits : List Edit) (t : Tables) → new.now ≡ old.now → CanUpgrade old b edits t → CanUpgrade new b edits t
 can_still old new b edits t is can = record {
   schema_is = ap (λ d. d.schema) is ∙ can.schema_is;
-  rows = subst (λ d. HoldsRows (codes "1") d.trees b) (sym is) can.rows;
+  rows = subst (λ d. HoldsRows first_version d.trees b) (sym is) can.rows;
   plans = can.plans;
 }
 

@@ -1,5 +1,5 @@
 -- The plans that a file of schema 1 gets, and what is read of it for them.
-use Rattle.std.specs.Prelude.{◌≡◌, ◌⊎◌, ◌&&◌, ℕ, Bool, true, List, codes, map, MatchResult, Result}
+use Rattle.std.specs.Prelude.{◌≡◌, ◌⊎◌, ◌&&◌, ℕ, Bool, true, List, map, MatchResult, Result}
 use Rattle.std.specs.List.{AllByRecursion}
 use Rattle.sqlite.specs.Effect.{Database}
 use Rattle.sqlite.specs.State.{State as SqlState}
@@ -17,7 +17,7 @@ use Rattle.gate_types.specs.declared.records.Landing.{Landing}
 use Rattle.gate_types.specs.declared.records.Plan.{Plan}
 use Rattle.gate_rows.specs.Tells.{items_of}
 use Rattle.gate_rows.specs.Writes.{LeavesNothing}
-use Rattle.gate_schema.specs.Rows.{Stored}
+use Rattle.gate_schema.specs.Rows.{Stored, first_version}
 use Rattle.gate_queue_queries.specs.First.{HoldsLandings, first_schema}
 use Rattle.gate_found_rows.specs.Finds.{Stays}
 use Rattle.gate_content_reads.specs.Held.{IsShownFor, queue_names}
@@ -75,7 +75,7 @@ Carries old new c x result =
 
 -- it isn't a file of schema 1 with these settings whose new names are free
 abbrev pub HasNoneToMigrate : Database → Settings → Type 0
-HasNoneToMigrate db d = (is_newly_taken db.schema ≡ true) ⊎ (ShowsMeta db (codes "1") (settings_text d) → ⊥)
+HasNoneToMigrate db d = (is_newly_taken db.schema ≡ true) ⊎ (ShowsMeta db first_version (settings_text d) → ⊥)
 
 -- nothing is made of it: what is shown stays, and a crash leaves what it left before
 pub record IsLeft (old new : SqlState) : Type 0 where

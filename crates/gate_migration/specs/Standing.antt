@@ -3,6 +3,7 @@ use Rattle.std.specs.Prelude.{◌≡◌, ◌≢◌, ⊤, if◌then◌else◌, �
 use Rattle.std.specs.List.{list_any}
 use Rattle.sqlite.specs.Schema.{Schema}
 use Rattle.sqlite_catalog.specs.Change.{is_used}
+use Rattle.gate_schema.specs.Rows.{first_version, schema_version}
 use Rattle.gate_types.specs.Settings.{Settings}
 use Rattle.gate_types.specs.SettingsText.{settings_text}
 use Rattle.gate_types.specs.declared.open_fault.OpenFault.{OpenFault}
@@ -13,11 +14,11 @@ use Rattle.gate_migration.specs.declared.migrating.Migrated.TheVariants as migra
 -- a file of this version that keeps these settings, asked with others, is of schema 1 and to be migrated, or of
 -- schema 2 already, or why neither
 abbrev pub IsStanding : Result Bool OpenFault → List ℕ → List ℕ → List ℕ → Type 0
-IsStanding (Ok true) version kept settings = (version ≡ codes "1") × (kept ≡ settings)
-IsStanding (Ok false) version kept settings = version ≡ codes "2"
+IsStanding (Ok true) version kept settings = (version ≡ first_version) × (kept ≡ settings)
+IsStanding (Ok false) version kept settings = version ≡ schema_version
 IsStanding (Err fault.WrongFile) version kept settings = ⊥
-IsStanding (Err fault.OtherSchema) version kept settings = (version ≢ codes "1") × (version ≢ codes "2")
-IsStanding (Err fault.OtherSettings) version kept settings = (version ≡ codes "1") × (kept ≢ settings)
+IsStanding (Err fault.OtherSchema) version kept settings = (version ≢ first_version) × (version ≢ schema_version)
+IsStanding (Err fault.OtherSettings) version kept settings = (version ≡ first_version) × (kept ≢ settings)
 IsStanding (Err fault.Unavailable) version kept settings = ⊤
 
 -- the names of the two tables that schema 2 adds
@@ -32,12 +33,12 @@ is_newly_taken schema = list_any (is_used schema) new_names
 -- names is taken or not
 abbrev pub IsMigrated : Result Migrated OpenFault → Bool → List ℕ → List ℕ → Settings → Type 0
 IsMigrated (Ok migrated.Done) taken version kept d =
-    (version ≡ codes "1") × (taken ≡ false) × (kept ≡ settings_text d)
-IsMigrated (Ok migrated.Already) taken version kept d = version ≡ codes "2"
-IsMigrated (Err fault.WrongFile) taken version kept d = (version ≡ codes "1") × (taken ≡ true)
-IsMigrated (Err fault.OtherSchema) taken version kept d = (version ≢ codes "1") × (version ≢ codes "2")
+    (version ≡ first_version) × (taken ≡ false) × (kept ≡ settings_text d)
+IsMigrated (Ok migrated.Already) taken version kept d = version ≡ schema_version
+IsMigrated (Err fault.WrongFile) taken version kept d = (version ≡ first_version) × (taken ≡ true)
+IsMigrated (Err fault.OtherSchema) taken version kept d = (version ≢ first_version) × (version ≢ schema_version)
 IsMigrated (Err fault.OtherSettings) taken version kept d =
-    (version ≡ codes "1") × (taken ≡ false) × (kept ≢ settings_text d)
+    (version ≡ first_version) × (taken ≡ false) × (kept ≢ settings_text d)
 IsMigrated (Err fault.Unavailable) taken version kept d = ⊤
 
 -- why a file isn't migrated: a name that is taken comes before other settings

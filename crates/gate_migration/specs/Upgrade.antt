@@ -1,5 +1,5 @@
 -- What a file of schema 1 holds, and holds while it becomes one of schema 2.
-use Rattle.std.specs.Prelude.{◌≡◌, true, ℕ, List, [], codes, IsTrue}
+use Rattle.std.specs.Prelude.{◌≡◌, true, ℕ, List, [], IsTrue}
 use Rattle.sqlite.specs.State.{State}
 use Rattle.sqlite.specs.Tree.{Trees}
 use Rattle.sqlite_catalog.specs.Listing.{Lists}
@@ -12,7 +12,7 @@ use Rattle.gate_types.specs.Tables.{Tables, fold_all, tables}
 use Rattle.gate_types.specs.declared.edits.Edit.{Edit}
 use Rattle.gate_schema.specs.Edits.{after_edits}
 use Rattle.gate_schema.specs.Rows as rows
-use Rattle.gate_schema.specs.Rows.{AreNamed, IsFixed, IsKeyed, IsListed, Stands, Stored}
+use Rattle.gate_schema.specs.Rows.{AreNamed, IsFixed, IsKeyed, IsListed, Stands, Stored, first_version}
 use Rattle.gate_schema.specs.Schema.{gate_schema, schema_with}
 use Rattle.gate_rows.specs.Tells.{HaveJobs, Matches}
 use Rattle.gate_queue_queries.specs.First.{first_schema}
@@ -35,7 +35,7 @@ pub record HoldsRows (version : List ℕ) (db : Trees) (b : Stored) : Type 0 whe
 -- a file of schema 1 holds this
 pub record StandsFirst (db : Trees) (b : Stored) : Type 0 where
   pub listed : Lists (db catalog_tree) first_schema
-  pub rows : HoldsRows (codes "1") db b
+  pub rows : HoldsRows first_version db b
 
 -- the same without plans
 abbrev pub without_plans : Stored → Stored
@@ -70,26 +70,26 @@ pub record HasUpgraded (db : Trees) (b : Stored) (edits : List Edit) (t : Tables
 -- outside one: tables of schema 1 hold this
 pub record CanUpgrade (s : State) (b : Stored) (edits : List Edit) (t : Tables) : Type 0 where
   pub schema_is : s.now.schema ≡ first_schema
-  pub rows : HoldsRows (codes "1") s.now.trees b
+  pub rows : HoldsRows first_version s.now.trees b
   pub plans : CanPlan b edits t
 
 -- a file of schema 1 holds this
 pub record IsFirst (b : Stored) (s : State) : Type 0 where
   pub schema_is : s.now.schema ≡ first_schema
-  pub rows : HoldsRows (codes "1") s.now.trees b
+  pub rows : HoldsRows first_version s.now.trees b
   pub inside : IsTrue s.in_transaction
 
 -- the table of jobs is there, with no row
 pub record HasJobTable (b : Stored) (s : State) : Type 0 where
   pub schema_is : s.now.schema ≡ schema_with 11 17
-  pub rows : HoldsRows (codes "1") s.now.trees b
+  pub rows : HoldsRows first_version s.now.trees b
   pub jobs : s.now.trees 26 ≡ []
   pub inside : IsTrue s.in_transaction
 
 -- and so is that of the items that fail fast
 pub record IsWidened (b : Stored) (s : State) : Type 0 where
   pub schema_is : s.now.schema ≡ gate_schema
-  pub rows : HoldsRows (codes "1") s.now.trees b
+  pub rows : HoldsRows first_version s.now.trees b
   pub jobs : s.now.trees 26 ≡ []
   pub fast : s.now.trees 28 ≡ []
   pub inside : IsTrue s.in_transaction

@@ -105,9 +105,16 @@ number_or_null o = or_null (λ n. Int (pos n)) o
 abbrev pub pair_of_words : List ℕ → List ℕ → Row
 pair_of_words key value = Words key ∷ Words value ∷ []
 
+-- the version of these tables, and that of the tables before them
+abbrev pub schema_version : List ℕ
+schema_version = codes "2"
+
+abbrev pub first_version : List ℕ
+first_version = codes "1"
+
 abbrev pub meta_columns : List ℕ → List Row
 meta_columns settings =
-    pair_of_words (codes "format") (codes "gate") ∷ pair_of_words (codes "schema") (codes "2") ∷
+    pair_of_words (codes "format") (codes "gate") ∷ pair_of_words (codes "schema") schema_version ∷
     pair_of_words (codes "settings") settings ∷ []
 
 -- a word and a number, as in `counter`

@@ -1,7 +1,8 @@
-use Rattle.std.proofs.Common.{◌≡◌, ◌∙◌, Bool, ap, codes, inl, inr, refl, subst, sym, true≢false, Err, Ok, Some}
+use Rattle.std.proofs.Common.{◌≡◌, ◌∙◌, Bool, ap, inl, inr, refl, subst, sym, true≢false, Err, Ok, Some}
 use Rattle.sqlite.specs.Held.{state}
 use Rattle.sqlite.specs.State.{HasCleanDisk}
 use Rattle.sqlite.specs.Tree.{Trees}
+use Rattle.gate_schema.specs.Rows.{first_version, schema_version}
 use Rattle.gate_types.specs.SettingsText.{settings_text}
 use Rattle.gate_schema.specs.Schema.{gate_schema}
 use Rattle.gate_queue_queries.specs.First.{first_schema}
@@ -30,7 +31,7 @@ returns-then-taken-clause-done g c clean up x it set =
 pub returns-then-taken-clause-already : goal.returns-then-taken-clause-already
 returns-then-taken-clause-already g c clean up s x it =
     let has : c.args.conn.now.schema ≡ gate_schema = one_schema gate_schema c.args.conn.now.schema _ refl it.stands.listed (c.schema.ensures.live up).0.lists in
-    absurd (not_first c.in-Ok-true.field-0 _ _ c.in-Ok-true.field-0-test (c.in-Ok-true.ensures.judged clean _ _ _ (codes "2") _ has it.stands.meta))
+    absurd (not_first c.in-Ok-true.field-0 _ _ c.in-Ok-true.field-0-test (c.in-Ok-true.ensures.judged clean _ _ _ schema_version _ has it.stands.meta))
 
 pub returns-then-taken-clause-judged : goal.returns-then-taken-clause-judged
 returns-then-taken-clause-judged g c clean tables indexes views version kept has meta =
@@ -75,7 +76,7 @@ returns-in-Ok-true-clause-settled g c clean up x it set =
 pub returns-in-Ok-true-clause-already : goal.returns-in-Ok-true-clause-already
 returns-in-Ok-true-clause-already g c clean up s x it =
     let has : c.args.conn.now.schema ≡ gate_schema = one_schema gate_schema c.args.conn.now.schema _ refl it.stands.listed (c.schema.ensures.live up).0.lists in
-    absurd (not_first c.in-Ok-true.field-0 _ _ c.in-Ok-true.field-0-test (c.in-Ok-true.ensures.judged (c.carry_out.ensures.clean clean) _ _ _ (codes "2") _ has it.stands.meta))
+    absurd (not_first c.in-Ok-true.field-0 _ _ c.in-Ok-true.field-0-test (c.in-Ok-true.ensures.judged (c.carry_out.ensures.clean clean) _ _ _ schema_version _ has it.stands.meta))
 
 pub returns-in-Ok-true-clause-judged : goal.returns-in-Ok-true-clause-judged
 returns-in-Ok-true-clause-judged g c clean tables indexes views version kept has meta =
@@ -110,7 +111,7 @@ returns-in-Ok-false-clause-done g c clean up x it set =
     let mid = state g.S.Store c.standing_in.new.conn in
     let k = c.args.config.now in
     let has : c.args.conn.now.schema ≡ first_schema = one_schema first_schema c.args.conn.now.schema _ refl it.stands.listed (c.schema.ensures.live up).0.lists in
-    absurd (not_second c.in-Ok-false.field-0 _ _ c.in-Ok-false.field-0-test (c.in-Ok-false.ensures.judged clean _ _ _ (codes "1") _ has it.stands.rows.meta))
+    absurd (not_second c.in-Ok-false.field-0 _ _ c.in-Ok-false.field-0-test (c.in-Ok-false.ensures.judged clean _ _ _ first_version _ has it.stands.rows.meta))
 
 pub returns-in-Ok-false-clause-settled : goal.returns-in-Ok-false-clause-settled
 returns-in-Ok-false-clause-settled g c clean up x it set =
@@ -118,7 +119,7 @@ returns-in-Ok-false-clause-settled g c clean up x it set =
     let mid = state g.S.Store c.standing_in.new.conn in
     let k = c.args.config.now in
     let has : c.args.conn.now.schema ≡ first_schema = one_schema first_schema c.args.conn.now.schema _ refl it.stands.listed (c.schema.ensures.live up).0.lists in
-    absurd (not_second c.in-Ok-false.field-0 _ _ c.in-Ok-false.field-0-test (c.in-Ok-false.ensures.judged clean _ _ _ (codes "1") _ has it.stands.rows.meta))
+    absurd (not_second c.in-Ok-false.field-0 _ _ c.in-Ok-false.field-0-test (c.in-Ok-false.ensures.judged clean _ _ _ first_version _ has it.stands.rows.meta))
 
 pub returns-in-Ok-false-clause-already : goal.returns-in-Ok-false-clause-already
 returns-in-Ok-false-clause-already g c clean up s x it =
@@ -161,13 +162,13 @@ returns-clause-done g c clean up x it set =
     let k = c.args.config.now in
     let has : c.args.conn.now.schema ≡ first_schema = one_schema first_schema c.args.conn.now.schema _ refl it.stands.listed (c.schema.ensures.live up).0.lists in
     let text : c.as_str.result.now ≡ settings_text c.args.config.now = c.as_str.ensures.value ∙ c.in-Ok.ensures in
-    let f = first_fails c.in-Err.fault _ _ (it.settings ∙ sym text) (c.in-Err.ensures.judged clean _ _ _ (codes "1") _ has it.stands.rows.meta) in
+    let f = first_fails c.in-Err.fault _ _ (it.settings ∙ sym text) (c.in-Err.ensures.judged clean _ _ _ first_version _ has it.stands.rows.meta) in
     (c.fault_before.ensures ∙ ap (fault_before _) f, c.standing_in.ensures.stays clean)
 
 pub returns-clause-already : goal.returns-clause-already
 returns-clause-already g c clean up s x it =
     let has : c.args.conn.now.schema ≡ gate_schema = one_schema gate_schema c.args.conn.now.schema _ refl it.stands.listed (c.schema.ensures.live up).0.lists in
-    let f = second_fails c.in-Err.fault _ _ (c.in-Err.ensures.judged clean _ _ _ (codes "2") _ has it.stands.meta) in
+    let f = second_fails c.in-Err.fault _ _ (c.in-Err.ensures.judged clean _ _ _ schema_version _ has it.stands.meta) in
     (c.fault_before.ensures ∙ ap (fault_before _) f, record { stays = c.standing_in.ensures.stays clean; crash = c.standing_in.ensures.crash })
 
 pub returns-clause-judged : goal.returns-clause-judged

@@ -1,7 +1,8 @@
-use Rattle.std.proofs.Common.{◌≡◌, ◌∙◌, inl, inr, Some, ap, codes, refl, subst, sym}
+use Rattle.std.proofs.Common.{◌≡◌, ◌∙◌, inl, inr, Some, ap, refl, subst, sym}
 use Rattle.sqlite.specs.Effect.{Database}
 use Rattle.sqlite.specs.Held.{state}
 use Rattle.sqlite.specs.State.{HasCleanDisk}
+use Rattle.gate_schema.specs.Rows.{schema_version}
 use Rattle.gate_types.specs.Adopt.{adopted_content}
 use Rattle.gate_types.specs.SettingsText.{settings_text}
 use Rattle.gate_rows.specs.Tells.{StandsFor}
@@ -44,7 +45,7 @@ returns-in-Ok-None-clause-adopts g c up cs x keeps may clean =
     let old = state g.S.Store c.args.conn in
     let text : c.as_str.result.now ≡ settings_text c.args.config.now = c.as_str.ensures.value ∙ c.in-Ok.ensures.0 in
     let has : c.args.conn.schema ≡ gate_schema = one_schema gate_schema c.args.conn.schema _ refl (keeps.stands.stands).listed (c.schema.ensures.live up).0.lists in
-    let found = found_same _ _ _ _ c.in-Ok-None.field-0-is (c.in-Ok-None.ensures.judged text clean _ _ _ (codes "2") _ has keeps.stands.stands.meta) in
+    let found = found_same _ _ _ _ c.in-Ok-None.field-0-is (c.in-Ok-None.ensures.judged text clean _ _ _ schema_version _ has keeps.stands.stands.meta) in
     let sound = c.show_sound.ensures in
     let own = own_kept c.one_text_a_setting.ensures _ cs c.args.config.now x keeps sound c.settings_are_in_form.ensures found.1 in
     let same = c.in-Ok-None.ensures.same clean in
@@ -61,7 +62,7 @@ returns-in-Ok-None-clause-adopted g c up cs x keeps may clean db left =
     let old = state g.S.Store c.args.conn in
     let text : c.as_str.result.now ≡ settings_text c.args.config.now = c.as_str.ensures.value ∙ c.in-Ok.ensures.0 in
     let has : c.args.conn.schema ≡ gate_schema = one_schema gate_schema c.args.conn.schema _ refl (keeps.stands.stands).listed (c.schema.ensures.live up).0.lists in
-    let found = found_same _ _ _ _ c.in-Ok-None.field-0-is (c.in-Ok-None.ensures.judged text clean _ _ _ (codes "2") _ has keeps.stands.stands.meta) in
+    let found = found_same _ _ _ _ c.in-Ok-None.field-0-is (c.in-Ok-None.ensures.judged text clean _ _ _ schema_version _ has keeps.stands.stands.meta) in
     let sound = c.show_sound.ensures in
     let own = own_kept c.one_text_a_setting.ensures _ cs c.args.config.now x keeps sound c.settings_are_in_form.ensures found.1 in
     let same = c.in-Ok-None.ensures.same clean in
@@ -74,7 +75,7 @@ pub returns-in-Ok-None-clause-refuses : goal.returns-in-Ok-None-clause-refuses
 returns-in-Ok-None-clause-refuses g c up cs x keeps refused clean =
     let text : c.as_str.result.now ≡ settings_text c.args.config.now = c.as_str.ensures.value ∙ c.in-Ok.ensures.0 in
     let has : c.args.conn.schema ≡ gate_schema = one_schema gate_schema c.args.conn.schema _ refl (keeps.stands.stands).listed (c.schema.ensures.live up).0.lists in
-    let found = found_same _ _ _ _ c.in-Ok-None.field-0-is (c.in-Ok-None.ensures.judged text clean _ _ _ (codes "2") _ has keeps.stands.stands.meta) in
+    let found = found_same _ _ _ _ c.in-Ok-None.field-0-is (c.in-Ok-None.ensures.judged text clean _ _ _ schema_version _ has keeps.stands.stands.meta) in
     let sound = c.show_sound.ensures in
     let own = own_kept c.one_text_a_setting.ensures _ cs c.args.config.now x keeps sound c.settings_are_in_form.ensures found.1 in
     own_refused cs c.args.config.now own.0 refused
@@ -119,7 +120,7 @@ returns-in-Ok-adopt-clause-opens g c up x it clean =
     let early : HasCleanDisk mid = c.adopt.ensures.clean clean in
     let text : c.as_str.result.now ≡ settings_text c.args.config.now = c.as_str.ensures.value ∙ c.in-Ok.ensures.0 in
     let has : c.args.conn.schema ≡ gate_schema = one_schema gate_schema c.args.conn.schema _ refl (it.stands).listed (c.schema.ensures.live up).0.lists in
-    let found = found_others _ c.in-Ok-Some.kept _ _ _ c.in-Ok-Some.field-0-is (c.in-Ok-Some.ensures.judged text early _ _ _ (codes "2") _ has it.stands.meta) in
+    let found = found_others _ c.in-Ok-Some.kept _ _ _ c.in-Ok-Some.field-0-is (c.in-Ok-Some.ensures.judged text early _ _ _ schema_version _ has it.stands.meta) in
     absurd (found.1 it.settings)
 
 pub returns-in-Ok-adopt-clause-settled : goal.returns-in-Ok-adopt-clause-settled
@@ -128,7 +129,7 @@ returns-in-Ok-adopt-clause-settled g c up x it clean db left =
     let early : HasCleanDisk mid = c.adopt.ensures.clean clean in
     let text : c.as_str.result.now ≡ settings_text c.args.config.now = c.as_str.ensures.value ∙ c.in-Ok.ensures.0 in
     let has : c.args.conn.schema ≡ gate_schema = one_schema gate_schema c.args.conn.schema _ refl (it.stands).listed (c.schema.ensures.live up).0.lists in
-    let found = found_others _ c.in-Ok-Some.kept _ _ _ c.in-Ok-Some.field-0-is (c.in-Ok-Some.ensures.judged text early _ _ _ (codes "2") _ has it.stands.meta) in
+    let found = found_others _ c.in-Ok-Some.kept _ _ _ c.in-Ok-Some.field-0-is (c.in-Ok-Some.ensures.judged text early _ _ _ schema_version _ has it.stands.meta) in
     absurd (found.1 it.settings)
 
 pub returns-in-Ok-adopt-clause-lasts : goal.returns-in-Ok-adopt-clause-lasts
@@ -145,7 +146,7 @@ returns-in-Ok-adopt-clause-adopts g c up cs x keeps may clean =
     let new = state g.S.Store c.adopt.new.conn in
     let again : c.as_str-in-Ok-Some.result.now ≡ settings_text c.args.config.now = c.as_str-in-Ok-Some.ensures.value ∙ c.in-Ok.ensures.0 in
     let has : c.args.conn.schema ≡ gate_schema = one_schema gate_schema c.args.conn.schema _ refl (keeps.stands.stands).listed (c.schema.ensures.live up).0.lists in
-    let found = found_others _ c.in-Ok-Some.kept _ _ _ c.in-Ok-Some.field-0-is (c.in-Ok-Some.ensures.judged text early _ _ _ (codes "2") _ has keeps.stands.stands.meta) in
+    let found = found_others _ c.in-Ok-Some.kept _ _ _ c.in-Ok-Some.field-0-is (c.in-Ok-Some.ensures.judged text early _ _ _ schema_version _ has keeps.stands.stands.meta) in
     let same = c.in-Ok-Some.ensures.same early in
     let is = same.0.0.now_is in
     let named = kept_is c.one_text_a_setting.ensures _ cs c.args.config.now c.in-Ok-Some.kept x keeps found.2 in
@@ -167,7 +168,7 @@ returns-in-Ok-adopt-clause-adopted g c up cs x keeps may clean db left =
     let new = state g.S.Store c.adopt.new.conn in
     let again : c.as_str-in-Ok-Some.result.now ≡ settings_text c.args.config.now = c.as_str-in-Ok-Some.ensures.value ∙ c.in-Ok.ensures.0 in
     let has : c.args.conn.schema ≡ gate_schema = one_schema gate_schema c.args.conn.schema _ refl (keeps.stands.stands).listed (c.schema.ensures.live up).0.lists in
-    let found = found_others _ c.in-Ok-Some.kept _ _ _ c.in-Ok-Some.field-0-is (c.in-Ok-Some.ensures.judged text early _ _ _ (codes "2") _ has keeps.stands.stands.meta) in
+    let found = found_others _ c.in-Ok-Some.kept _ _ _ c.in-Ok-Some.field-0-is (c.in-Ok-Some.ensures.judged text early _ _ _ schema_version _ has keeps.stands.stands.meta) in
     let same = c.in-Ok-Some.ensures.same early in
     let is = same.0.0.now_is in
     let named = kept_is c.one_text_a_setting.ensures _ cs c.args.config.now c.in-Ok-Some.kept x keeps found.2 in
@@ -184,7 +185,7 @@ returns-in-Ok-adopt-clause-refuses g c up cs x keeps refused clean =
     let early : HasCleanDisk mid = c.adopt.ensures.clean clean in
     let text : c.as_str.result.now ≡ settings_text c.args.config.now = c.as_str.ensures.value ∙ c.in-Ok.ensures.0 in
     let has : c.args.conn.schema ≡ gate_schema = one_schema gate_schema c.args.conn.schema _ refl (keeps.stands.stands).listed (c.schema.ensures.live up).0.lists in
-    let found = found_others _ c.in-Ok-Some.kept _ _ _ c.in-Ok-Some.field-0-is (c.in-Ok-Some.ensures.judged text early _ _ _ (codes "2") _ has keeps.stands.stands.meta) in
+    let found = found_others _ c.in-Ok-Some.kept _ _ _ c.in-Ok-Some.field-0-is (c.in-Ok-Some.ensures.judged text early _ _ _ schema_version _ has keeps.stands.stands.meta) in
     not_found c.one_text_a_setting.ensures _ cs c.args.config.now c.in-Ok-Some.kept x keeps refused found.2 found.3
 
 pub returns-in-Ok-adopt-clause-judged : goal.returns-in-Ok-adopt-clause-judged
@@ -229,7 +230,7 @@ returns-in-Ok-adopt-clause-leaves g c cs x has keeps may clean db left =
     let early : HasCleanDisk mid = c.adopt.ensures.clean clean in
     let text : c.as_str.result.now ≡ settings_text c.args.config.now = c.as_str.ensures.value ∙ c.in-Ok.ensures.0 in
     let again : c.as_str-in-Ok-Some.result.now ≡ settings_text c.args.config.now = c.as_str-in-Ok-Some.ensures.value ∙ c.in-Ok.ensures.0 in
-    let found = found_others _ c.in-Ok-Some.kept _ _ _ c.in-Ok-Some.field-0-is (c.in-Ok-Some.ensures.judged text early _ _ _ (codes "2") _ has keeps.stands.stands.meta) in
+    let found = found_others _ c.in-Ok-Some.kept _ _ _ c.in-Ok-Some.field-0-is (c.in-Ok-Some.ensures.judged text early _ _ _ schema_version _ has keeps.stands.stands.meta) in
     let same = c.in-Ok-Some.ensures.same early in
     let is = same.0.0.now_is in
     let named = kept_is c.one_text_a_setting.ensures _ cs c.args.config.now c.in-Ok-Some.kept x keeps found.2 in
@@ -245,7 +246,7 @@ returns-in-Ok-adopt-clause-quiet g c x has it clean =
     let mid = state g.S.Store c.kept_in.new.conn in
     let early : HasCleanDisk mid = c.adopt.ensures.clean clean in
     let text : c.as_str.result.now ≡ settings_text c.args.config.now = c.as_str.ensures.value ∙ c.in-Ok.ensures.0 in
-    let found = found_others _ c.in-Ok-Some.kept _ _ _ c.in-Ok-Some.field-0-is (c.in-Ok-Some.ensures.judged text early _ _ _ (codes "2") _ has it.stands.meta) in
+    let found = found_others _ c.in-Ok-Some.kept _ _ _ c.in-Ok-Some.field-0-is (c.in-Ok-Some.ensures.judged text early _ _ _ schema_version _ has it.stands.meta) in
     absurd (found.1 it.settings)
 
 pub returns-in-Ok-adopt-clause-refused : goal.returns-in-Ok-adopt-clause-refused
@@ -253,7 +254,7 @@ returns-in-Ok-adopt-clause-refused g c cs x has keeps refused clean =
     let mid = state g.S.Store c.kept_in.new.conn in
     let early : HasCleanDisk mid = c.adopt.ensures.clean clean in
     let text : c.as_str.result.now ≡ settings_text c.args.config.now = c.as_str.ensures.value ∙ c.in-Ok.ensures.0 in
-    let found = found_others _ c.in-Ok-Some.kept _ _ _ c.in-Ok-Some.field-0-is (c.in-Ok-Some.ensures.judged text early _ _ _ (codes "2") _ has keeps.stands.stands.meta) in
+    let found = found_others _ c.in-Ok-Some.kept _ _ _ c.in-Ok-Some.field-0-is (c.in-Ok-Some.ensures.judged text early _ _ _ schema_version _ has keeps.stands.stands.meta) in
     absurd (not_found c.one_text_a_setting.ensures _ cs c.args.config.now c.in-Ok-Some.kept x keeps refused found.2 found.3)
 
 pub returns-in-Ok-Some-clause-quiet : goal.returns-in-Ok-Some-clause-quiet
@@ -261,7 +262,7 @@ returns-in-Ok-Some-clause-quiet g c x has it clean =
     let mid = state g.S.Store c.kept_in.new.conn in
     let early : HasCleanDisk mid = c.adopt.ensures.clean clean in
     let text : c.as_str.result.now ≡ settings_text c.args.config.now = c.as_str.ensures.value ∙ c.in-Ok.ensures.0 in
-    let found = found_others _ c.in-Ok-Some.kept _ _ _ c.in-Ok-Some.field-0-is (c.in-Ok-Some.ensures.judged text early _ _ _ (codes "2") _ has it.stands.meta) in
+    let found = found_others _ c.in-Ok-Some.kept _ _ _ c.in-Ok-Some.field-0-is (c.in-Ok-Some.ensures.judged text early _ _ _ schema_version _ has it.stands.meta) in
     absurd (found.1 it.settings)
 
 pub returns-in-Ok-Some-clause-refused : goal.returns-in-Ok-Some-clause-refused
@@ -269,7 +270,7 @@ returns-in-Ok-Some-clause-refused g c cs x has keeps refused clean =
     let mid = state g.S.Store c.kept_in.new.conn in
     let early : HasCleanDisk mid = c.adopt.ensures.clean clean in
     let text : c.as_str.result.now ≡ settings_text c.args.config.now = c.as_str.ensures.value ∙ c.in-Ok.ensures.0 in
-    let found = found_others _ c.in-Ok-Some.kept _ _ _ c.in-Ok-Some.field-0-is (c.in-Ok-Some.ensures.judged text early _ _ _ (codes "2") _ has keeps.stands.stands.meta) in
+    let found = found_others _ c.in-Ok-Some.kept _ _ _ c.in-Ok-Some.field-0-is (c.in-Ok-Some.ensures.judged text early _ _ _ schema_version _ has keeps.stands.stands.meta) in
     absurd (not_found c.one_text_a_setting.ensures _ cs c.args.config.now c.in-Ok-Some.kept x keeps refused found.2 found.3)
 
 pub returns-in-Ok-Some-clause-none : goal.returns-in-Ok-Some-clause-none
@@ -297,7 +298,7 @@ returns-in-Ok-Some-clause-leaves g c cs x has keeps may clean db left =
     let early : HasCleanDisk mid = c.adopt.ensures.clean clean in
     let text : c.as_str.result.now ≡ settings_text c.args.config.now = c.as_str.ensures.value ∙ c.in-Ok.ensures.0 in
     let again : c.as_str-in-Ok-Some.result.now ≡ settings_text c.args.config.now = c.as_str-in-Ok-Some.ensures.value ∙ c.in-Ok.ensures.0 in
-    let found = found_others _ c.in-Ok-Some.kept _ _ _ c.in-Ok-Some.field-0-is (c.in-Ok-Some.ensures.judged text early _ _ _ (codes "2") _ has keeps.stands.stands.meta) in
+    let found = found_others _ c.in-Ok-Some.kept _ _ _ c.in-Ok-Some.field-0-is (c.in-Ok-Some.ensures.judged text early _ _ _ schema_version _ has keeps.stands.stands.meta) in
     let same = c.in-Ok-Some.ensures.same early in
     let is = same.0.0.now_is in
     let named = kept_is c.one_text_a_setting.ensures _ cs c.args.config.now c.in-Ok-Some.kept x keeps found.2 in
@@ -320,19 +321,19 @@ pub returns-clause-opens : goal.returns-clause-opens
 returns-clause-opens g c up x it clean =
     let text : c.as_str.result.now ≡ settings_text c.args.config.now = c.as_str.ensures.value ∙ c.in-Ok.ensures.0 in
     let has : c.args.conn.schema ≡ gate_schema = one_schema gate_schema c.args.conn.schema _ refl (it.stands).listed (c.schema.ensures.live up).0.lists in
-    only_unavailable c.in-Err.fault _ c.args.config.now (inl it.settings) (c.in-Err.ensures.judged text clean _ _ _ (codes "2") _ has it.stands.meta)
+    only_unavailable c.in-Err.fault _ c.args.config.now (inl it.settings) (c.in-Err.ensures.judged text clean _ _ _ schema_version _ has it.stands.meta)
 
 pub returns-clause-adopts : goal.returns-clause-adopts
 returns-clause-adopts g c up cs x keeps may clean =
     let text : c.as_str.result.now ≡ settings_text c.args.config.now = c.as_str.ensures.value ∙ c.in-Ok.ensures.0 in
     let has : c.args.conn.schema ≡ gate_schema = one_schema gate_schema c.args.conn.schema _ refl (keeps.stands.stands).listed (c.schema.ensures.live up).0.lists in
-    only_unavailable c.in-Err.fault _ c.args.config.now (may_open _ cs c.args.config.now x keeps may) (c.in-Err.ensures.judged text clean _ _ _ (codes "2") _ has keeps.stands.stands.meta)
+    only_unavailable c.in-Err.fault _ c.args.config.now (may_open _ cs c.args.config.now x keeps may) (c.in-Err.ensures.judged text clean _ _ _ schema_version _ has keeps.stands.stands.meta)
 
 pub returns-clause-refuses : goal.returns-clause-refuses
 returns-clause-refuses g c up cs x keeps refused clean =
     let text : c.as_str.result.now ≡ settings_text c.args.config.now = c.as_str.ensures.value ∙ c.in-Ok.ensures.0 in
     let has : c.args.conn.schema ≡ gate_schema = one_schema gate_schema c.args.conn.schema _ refl (keeps.stands.stands).listed (c.schema.ensures.live up).0.lists in
-    only_refused c.in-Err.fault _ c.args.config.now (c.in-Err.ensures.judged text clean _ _ _ (codes "2") _ has keeps.stands.stands.meta)
+    only_refused c.in-Err.fault _ c.args.config.now (c.in-Err.ensures.judged text clean _ _ _ schema_version _ has keeps.stands.stands.meta)
 
 pub returns-clause-judged : goal.returns-clause-judged
 returns-clause-judged g c tables indexes views version kept has meta clean =
