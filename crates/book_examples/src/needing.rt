@@ -1,4 +1,4 @@
-//! Who is ready and needs a change.
+//! The ready changes that need a change.
 use crate::asked::{ready_are, ready_needing_is};
 use crate::counting::counted;
 use crate::scene::{apply, book_of, change_no, put_change, settings};

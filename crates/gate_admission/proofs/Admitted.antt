@@ -1,4 +1,4 @@
--- Who may enter, and the state after some admissions.
+-- The changes that may enter, and the state after some admissions.
 use Rattle.std.proofs.Common.{◌≡◌, ℕ, zero, suc, ◌+◌, ◌≤◌, Bool, true, false, not, ◌&&◌, ◌||◌, cond, Option, Some}
 use Rattle.std.proofs.Common.{None, List, [], ◌∷◌, map, fold, length, refl, sym, ap, ◌∙◌, arith, inl, inr, true≢false}
 use Rattle.std.proofs.Common.{add-one, zero-add, lt-ltb, ◌-◌}

@@ -1,4 +1,4 @@
--- Who is looked at: those whom the edits put, and those who need a change that they put as landed.
+-- The candidates: changes that the edits put, and those that need a change that they put as landed.
 use Rattle.std.proofs.Common.{◌≡◌, ℕ, Bool, true, false, not, ◌&&◌, ◌||◌, cond, Option, Some, None, List, [], ◌∷◌}
 use Rattle.std.proofs.Common.{◌⊎◌, filter, fold, flat_map, refl, sym, ap, ◌∙◌, subst, inl, inr, ⊎_elim, true≢false}
 use Rattle.std.specs.Prelude.{nat_lt, ◌==◌, unwrap_or}

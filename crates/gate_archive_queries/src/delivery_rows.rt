@@ -1,4 +1,4 @@
-//! A row that tells of an accepted delivery.
+//! The row of an accepted delivery.
 ghost use Rattle.std.specs.Prelude.{◌≡◌, IfOk};
 ghost use Rattle.sqlite.specs.Value.{owned};
 ghost use Rattle.sqlite.specs.declared.types.Value.TheVariants.{Blob, Int};
@@ -14,7 +14,7 @@ use gate_types::records::Id;
 use sqlite::Row;
 use sqlite::types::ValueRef;
 
-/// What the feed tells of an accepted delivery: its id, and its canonical text.
+/// What the feed has of an accepted delivery: its id, and its canonical text.
 #[derive(Drop)]
 pub(crate) struct Accepted {
     pub id: Id,

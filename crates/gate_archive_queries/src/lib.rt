@@ -1,5 +1,5 @@
 //! The reads of the past, as queries of the tables: why an item left, its builds, a history from a place on, and the
-//! deliveries that were accepted. Each seeks by an index or a rowid, and reads no row but those that it tells of.
+//! deliveries that were accepted. Each seeks by an index or a rowid, and reads only the rows that it returns.
 //!
 //! ```text
 //! let left = left(&mut conn, serial)?;

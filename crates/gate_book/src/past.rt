@@ -1,4 +1,4 @@
-//! What the tables of a book in memory tell of the past.
+//! What the tables of a book in memory have of the past.
 ghost use Rattle.std.specs.Prelude.{◌≡◌, ◌==◌, find, filter, length, map, Some, None, IfOk, IfSome, IfNone};
 ghost use Rattle.std.specs.List.{AllByRecursion};
 ghost use Rattle.gate_archive.specs.Feed.{behind};

@@ -46,7 +46,7 @@ abbrev revised : State
 revised = after core_alone (start core_alone)
     (opened 101 lib ∷ opened 102 app ∷ approved 101 ∷ approved 102 ∷ delivery.Revision 101 lib 2 [] ∷ approved 101 ∷ [])
 
--- a revision takes the item of the earlier one out of its queue, and wants an approval of its own
+-- a revision takes the item of the earlier one out of its queue, and needs an approval of its own
 pub record ARevisionSupersedes : Type 0 where
   pub replies : replies_to core_alone (start core_alone)
       (opened 101 lib ∷ opened 102 app ∷ approved 101 ∷ approved 102 ∷

@@ -1,4 +1,4 @@
--- Who is ready and needs a change, found along the index of needs.
+-- The ready changes that need a change, found along the index of needs.
 use Rattle.std.proofs.Common.{◌≡◌, ◌≢◌, ℕ, suc, ◌<◌, ◌≤◌, ⊎_elim, Bool, true, false, cond, Option, Some, None, List}
 use Rattle.std.proofs.Common.{[], ◌∷◌, map, refl, sym, ap, subst, ◌∙◌, arith}
 use Rattle.std.specs.Prelude.{◌==◌, find, option_map, option_and_then, unwrap_or, IsSome}

@@ -38,7 +38,7 @@ pub record Indexes (pairs : List Pair) (builds : List Build) : Type 0 where
   pub fit : AllByRecursion IsFit pairs
   pub told : IsIndexOf pairs builds
 
--- all lists rise, the one index is of all builds, and the other tells of each live one
+-- all lists rise, the one index has all builds, and the other each live one
 pub record AreKept (t : BuildTable) : Type 0 where
   pub rows_rise : RisesFrom number_of 0 t.rows.items
   pub live_rise : RisesFrom pair_key 0 t.live.items

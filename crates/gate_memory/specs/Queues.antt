@@ -22,7 +22,7 @@ entry_of i = record { first = i.change; second = i.serial }
 abbrev pub TellsItems : List Pair → List Item → Type 0
 TellsItems entries items = AllByRecursion (λ i. In (entry_of i) entries) items
 
--- all lists rise, and the index tells of each item
+-- all lists rise, and the index has each item
 pub record IsKept (t : QueueTable) : Type 0 where
   pub items_rise : RisesFrom serial_of_item 0 t.items.items
   pub entries_rise : RisesFrom pair_key 0 t.entries.items

@@ -20,7 +20,7 @@ entry_of r = record { first = r.report.serial; second = r.place }
 abbrev pub TellsReports : List Pair → List ReportRow → Type 0
 TellsReports entries rows = AllByRecursion (λ r. In (entry_of r) entries) rows
 
--- both lists rise, and the index tells of each report
+-- both lists rise, and the index has each report
 pub record IsKept (t : ReportTable) : Type 0 where
   pub rows_rise : RisesFrom place_of_report 0 t.rows.items
   pub entries_rise : RisesFrom pair_key 0 t.entries.items

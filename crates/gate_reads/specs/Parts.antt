@@ -1,4 +1,4 @@
--- A queue in parts: some of its items, one behind another, as a book tells of them.
+-- A queue in parts: some of its items, one behind another, as a book returns them.
 use Rattle.std.specs.Prelude.{ℕ, ◌≡◌, if◌then◌else◌, List, [], ◌∷◌, ◌++◌, map, fold, Option, Some, None, All, Contains}
 use Rattle.std.specs.List.Sorted.{IsStrictlyIncreasing}
 use Rattle.gate_types.specs.declared.records.Entry.{Entry}

@@ -49,7 +49,7 @@ fn last_above(items: &[Item], above: u64) -> Option<Serial>
 }
 
 /// The items of a queue above a serial, no more than `most`, with all that is told of them; none where there are none.
-/// A book that isn't trusted might tell of lower ones: it has none above.
+/// A book that isn't trusted might return lower ones: it has none above.
 pub(crate) fn read_part<B: Book>(
     book: &mut B,
     queue: &Name,

@@ -11,7 +11,7 @@ pub mod LeftLemmas
 -- what is read by key is what a visit is to see
 pub mod StandingLemmas
 pub mod SeenLemmas
--- the row that a walk wants
+-- the row that a walk reads
 pub mod WantedLemmas
 -- who needs what has gone
 pub mod NeedingLemmas

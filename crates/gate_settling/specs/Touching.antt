@@ -65,7 +65,7 @@ delivered {c = c} {x = x} {k = k} h = record {
 abbrev pub sees : {c : Settings} → {x : Content} → {k : TouchedItem} → Touching c x k → ItemRow → Seen
 sees {c = c} h r = row_seen c h.after (stale_rows (delivered h)) r
 
--- a walk has made its visits so far, and this is the row that it wants
+-- a walk has made its visits so far, and this is the row that it reads next
 pub record IsUnderWay {c : Settings} {x : Content} {k : TouchedItem} (h : Touching c x k) (w : Walk)
     (row : Option ItemRow) : Type 0 where
   pub visits : List Seen

@@ -1,4 +1,4 @@
-//! What a book tells of the past, from the tables of a file.
+//! What a book has of the past, from the tables of a file.
 ghost use Rattle.std.specs.Prelude.{◌≡◌, find, option_copied};
 ghost use Rattle.gate_types.specs.Names.{same_name};
 

@@ -1,4 +1,4 @@
--- The row that a walk wants next, and where it stops.
+-- The row that a walk reads next, and where it stops.
 use Rattle.std.specs.Prelude.{ℕ, false, ◌&&◌, ◌||◌, ◌==◌, nat_lt, ◌≡◌, if◌then◌else◌, suc, zero, List, [], ◌∷◌, ◌++◌}
 use Rattle.std.specs.Prelude.{length, Option, Some, None, find, map, filter, nat_le}
 use Rattle.std.specs.List.Sorted.{IsStrictlyIncreasing}

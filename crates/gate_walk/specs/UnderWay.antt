@@ -98,7 +98,7 @@ walk_by x [] = record {
 }
 walk_by x (v ∷ vs) = behind_visit (walk_by x vs) v
 
--- what it wants: at first the first row from the touched serial on
+-- what it reads next: at first the first row from the touched serial on
 abbrev pub next_by : Delivered → List Seen → Next
 next_by x [] = from x.item.serial
 next_by x (v ∷ vs) = next_of (walk_by x (v ∷ vs)).carry v.row.serial

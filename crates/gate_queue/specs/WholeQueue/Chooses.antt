@@ -42,7 +42,7 @@ pub record Chooses (items : List ItemRow) (builds : List Build) (window : ℕ) (
   pub first : (ps : List Place) → TellOf ps items jobs → AllPass (live_builds_count builds) ps →
       choice ≡ first_choice builds (within_window window ps)
 
--- the build that a choice tells of
+-- the build of a choice
 abbrev pub build_of_choice : State → Queue → List Place → ℕ × ℕ → Option Build
 build_of_choice s q ps choice =
     let build : Place → Option Build =
