@@ -34,7 +34,7 @@ pub enum Extent {
     Head,
 }
 
-/// In which form something is told.
+/// The type of an answer's content.
 #[derive(Clone, Copy)]
 pub enum Media {
     Json,
