@@ -1,5 +1,6 @@
 //! `take`: a worker asks for a build.
-ghost use Rattle.std.specs.Prelude.{◌≡◌, ◌+◌, ◌∷◌, [], min, Some, IfOk, IfErr};
+ghost use Rattle.std.specs.Prelude.{◌≡◌, ◌+◌, ◌-◌, ◌∷◌, [], min, Some, IfOk, IfErr};
+ghost use Rattle.gate_types.specs.Counters.{last_number};
 ghost use Rattle.gate_types.specs.declared.deliveries.Delivery.TheVariants as delivery;
 ghost use Rattle.gate_types.specs.declared.edits.Edit.TheVariants as edit;
 ghost use Rattle.gate_types.specs.declared.edits.Counter.TheVariants as counter;
@@ -20,7 +21,7 @@ use std::alloc::Global;
 
 /// The number after those that were drawn; the last one again where all were.
 fn number_after(drawn: u64) -> Option<BuildNo>
-    ensures { result ≡ Some (min drawn 999999999999999 + 1) }
+    ensures { result ≡ Some (min drawn (last_number - 1) + 1) }
 {
     BuildNo::new(drawn.min(LAST_NUMBER - 1) + 1)
 }

@@ -1,4 +1,4 @@
-use Rattle.std.proofs.Common.{◌≡◌, ◌∙◌, ◌<◌, ◌+◌, Some, refl, sym, ap, subst, arith}
+use Rattle.std.proofs.Common.{◌≡◌, ◌∙◌, ◌<◌, ◌+◌, ◌-◌, Some, refl, sym, ap, subst, arith}
 use Rattle.std.specs.Prelude.{option_map, unwrap_or, min}
 use Rattle.gate_types.specs.Counters.{Drawn, last_number}
 use Rattle.gate_types.specs.declared.deliveries.Reply.TheVariants as reply
@@ -38,7 +38,7 @@ returns-clause-raw g c trusted x holds lawful =
     let top = c.if-drawn-ge-LAST_NUMBER.false in
     let found : Some b ≡ option_map (with_number c.in-Some.number) (choose s x.state) =
     sym c.in-Some-2.is ∙ c.in_ok-build.ensures.found trusted x at_one lawful in
-    let number : c.in-Some.number ≡ min c.drawn.inside.build 999999999999999 + 1 =
+    let number : c.in-Some.number ≡ min c.drawn.inside.build (last_number - 1) + 1 =
     ap (λ o. unwrap_or o 0) (sym c.in-Some.is ∙ c.number_after.ensures) in
     let next : c.in-Some.number ≡ x.state.counters.build + 1 = omega (arith, drawn, top, number) in
     let chosen = choice s x.state c.in-Some.number b found next in
