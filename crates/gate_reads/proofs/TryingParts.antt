@@ -21,7 +21,7 @@ use Rattle.gate_types.specs.Rising.{In}
 use Rattle.gate_laws.proofs.Members.{all, in_contains}
 use Rattle.gate_book_trait.specs.Reads.{queue_named, items_in, first_items_above}
 use Rattle.gate_reads.specs.NextBuild.{with_number}
-use Rattle.gate_reads.specs.Parts.{last_serial, ahead_behind, AreBehind}
+use Rattle.gate_reads.specs.Parts.{last_serial, ahead_behind, most_at_once, AreBehind}
 use Rattle.gate_reads.proofs.Walking.{IsLeft, place_behind, places_from, left_behind, rows_are, rows_left}
 use Rattle.gate_reads.proofs.RisingRows.{rows_above}
 use Rattle.gate_reads.proofs.Trying.{Tried, is_open, open_places, open_first, with_row, longer_is, first_some}
@@ -35,23 +35,23 @@ fits window left most = window == 0 || nat_le most left
 
 -- how many are asked for, where so many are left
 abbrev pub size : ℕ → ℕ → ℕ
-size window left = if window == 0 then 32 else min left 32
+size window left = if window == 0 then most_at_once else min left most_at_once
 
 size_fits : (window left : ℕ) → fits window left (size window left) ≡ true
 size_fits window left = by_window (window == 0)
   where
-    by_window : (b : Bool) → b || nat_le (cond b 32 (min left 32)) left ≡ true
+    by_window : (b : Bool) → b || nat_le (cond b most_at_once (min left most_at_once)) left ≡ true
     by_window true = refl
-    by_window false = le-leb (min left 32) left (omega arith)
+    by_window false = le-leb (min left most_at_once) left (omega arith)
 
 size_above : (window left : ℕ) → is_open window left ≡ true → nat_lt 0 (size window left) ≡ true
 size_above window left e = by_window (window == 0) e
   where
-    by_window : (b : Bool) → b || nat_lt 0 left ≡ true → nat_lt 0 (cond b 32 (min left 32)) ≡ true
+    by_window : (b : Bool) → b || nat_lt 0 left ≡ true → nat_lt 0 (cond b most_at_once (min left most_at_once)) ≡ true
     by_window true k = refl
     by_window false k =
         let less : 0 < left = ltb-true 0 left k in
-        lt-ltb 0 (min left 32) (omega (arith, less))
+        lt-ltb 0 (min left most_at_once) (omega (arith, less))
 
 pub asked_fits : (window of left most : ℕ) → window ≡ of → most ≡ size window left → fits of left most ≡ true
 asked_fits window of left most e m = (λ k. fits (sym e k) left (m k)) ∙ size_fits window left

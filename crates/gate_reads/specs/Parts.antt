@@ -13,6 +13,10 @@ use Rattle.gate_book_trait.specs.Reads.{builds_of_items}
 use Rattle.gate_reads.specs.declared.due.ToldItem.{ToldItem}
 use Rattle.gate_reads.specs.declared.part.Part.{Part}
 
+-- the most items that are read at once
+abbrev pub most_at_once : ℕ
+most_at_once = 32
+
 -- the serial of the last of some rows; this one where there are none
 abbrev pub last_serial : ℕ → List ItemRow → ℕ
 last_serial n [] = n

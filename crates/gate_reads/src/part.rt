@@ -8,7 +8,7 @@ ghost use Rattle.gate_types.specs.Choice.{builds_for};
 ghost use Rattle.gate_book_trait.specs.Faults.{MayAnswer};
 ghost use Rattle.gate_book_trait.specs.Kept.{OfHeld, OfHeldUnder, IsKept};
 ghost use Rattle.gate_reads.specs.NextBuild.{with_number};
-ghost use Rattle.gate_reads.specs.Parts.{last_serial, ahead_behind, AreBehind, AreTold, TellsPart};
+ghost use Rattle.gate_reads.specs.Parts.{last_serial, ahead_behind, most_at_once, AreBehind, AreTold, TellsPart};
 
 use crate::choosing::push_unless_failing;
 use crate::due::{ToldItem, build_of_item};
@@ -34,7 +34,7 @@ pub(crate) struct Part {
 
 /// How many items are read next, in a queue of this window of which so many are left.
 pub(crate) fn size_of_part(window: u32, left: u32) -> u32
-    ensures { result ≡ (if window == 0 then 32 else min left 32) }
+    ensures { result ≡ (if window == 0 then most_at_once else min left most_at_once) }
 {
     if window == 0 { PART } else { left.min(PART) }
 }
