@@ -54,7 +54,7 @@ pub fn program<F: Files + GateFiles + AllocGlobal, S: AsStr, R: Read, W: Write, 
     }
 }
 
-/// TellsText that the words of the command line can't be read, and gives the status.
+/// Tells that the words of the command line can't be read, and gives the status.
 pub fn unread<E: Write>(alloc: Global, error: &io::Error, errors: &mut Tap<E>) -> u8
     requires { has_failed errors.old ≡ false }
     ensures { result ≡ 2 }
@@ -108,7 +108,7 @@ fn help<W: Write>(alloc: Global, usage: &Usage, output: &mut Tap<W>) -> Result<(
     Ok(())
 }
 
-/// TellsText what is wrong with the words.
+/// Tells what is wrong with the words.
 fn mistake<E: Write>(alloc: Global, usage: &Usage, errors: &mut Tap<E>) -> Result<(), Failed>
     requires { has_failed errors.old ≡ false }
 {

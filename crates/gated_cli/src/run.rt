@@ -80,7 +80,7 @@ pub fn run<F: Files + GateFiles + AllocGlobal, R: Read, W: Write, E: Write>(
     ended(perform(rt, cmd, input, output, errors), errors)
 }
 
-/// TellsText the fault, if there is one and the errors haven't failed, and gives the status.
+/// Tells the fault, if there is one and the errors haven't failed, and gives the status.
 pub fn ended<E: Write>(done: Result<(), Fault>, errors: &mut Tap<E>) -> u8
     ensures done { OnOk done ((result ≡ 0) × (errors.new ≡ errors.old)) }
     ensures fault { IfErr done (λ fault. (result ≡ 1)
@@ -96,7 +96,7 @@ pub fn ended<E: Write>(done: Result<(), Fault>, errors: &mut Tap<E>) -> u8
     }
 }
 
-/// TellsText the fault, unless one before it couldn't be told.
+/// Tells the fault, unless one before it couldn't be told.
 #[tactic(auto, using(crate::proofs::TellLemmas::told_either))]
 fn tell<E: Write>(fault: Fault, errors: &mut Tap<E>)
     ensures told { has_failed errors.old ≡ false → TellsText E.contents errors.old errors.new (line_of fault) }
