@@ -110,7 +110,7 @@ class Client:
         self.lines = lines
         self.folder = folder
         self.answers = []
-        # the lines that some gate was sent: one more than the answers where a kill took the last answer
+        # how many lines were sent: one more than the answers while the last one has none
         self.sent = 0
         self.kills = {"between two deliveries": 0, "answered by then": 0, "taken, and no answer": 0, "not taken": 0}
 
@@ -149,7 +149,7 @@ class Client:
         told = accepted(self.lines, self.answers)
         assert found[: len(told)] == told, f"{len(found)} kept of {len(told)} that were answered"
         more = found[len(told) :]
-        assert len(more) <= self.sent - len(self.answers), f"kept, and never sent: {more}"
+        assert len(more) <= self.sent - len(self.answers), f"kept, neither answered as accepted nor in progress: {more}"
         if more:
             unanswered = json.loads(self.lines[len(self.answers)])["id"]
             assert more[0][0] == bytes.fromhex(unanswered.replace("-", "")), "another delivery was taken"
