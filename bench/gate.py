@@ -2,6 +2,7 @@
 
 gate.py watch RT OUT.json       until the process RT, of rt ci, has ended
 gate.py table RUN.json ..       a table of what these runs did; what a later one did again takes the earlier's place
+gate.py chain RUN.json ..       the longest chain of crates that stand on each other, by the seconds of their proofs
 """
 import collections
 import json
@@ -78,22 +79,32 @@ def watch(pid: str, out: str) -> None:
         json.dump({'minutes': minutes, 'seconds': whole, 'load': beside, 'seen': list(found.values())}, file)
 
 
-def table(files: list[str]) -> None:
-    """Prints a line a crate: seconds of each kind, how many edits were tried, and the most that one process held."""
-    seconds: dict[str, dict[str, float]] = {}
-    edits: dict[str, int] = {}
-    held: dict[str, int] = {}
-    for name in files:
-        with open(name) as file:
-            run = json.load(file)
+class Costs:
+    """What runs cost: of each crate the seconds of each kind, how many edits were tried, and the most that one process
+    held, in MB."""
+
+    def __init__(self, files: list[str]) -> None:
+        self.seconds: dict[str, dict[str, float]] = {}
+        self.edits: dict[str, int] = {}
+        self.held: dict[str, int] = {}
+        for name in files:
+            with open(name) as file:
+                self.add(json.load(file))
+
+    def add(self, run: dict) -> None:
         sums, counts = collections.defaultdict(lambda: collections.Counter()), collections.Counter()
         for crate, kind, taken, most in run['seen']:
             sums[crate][kind] += taken
             counts[crate] += kind == 'edits'
-            held[crate] = max(held.get(crate, 0), most)
+            self.held[crate] = max(self.held.get(crate, 0), most)
         for crate, by_kind in sums.items():
-            seconds.setdefault(crate, {}).update(by_kind)
-            edits[crate] = counts[crate] or edits.get(crate, 0)
+            self.seconds.setdefault(crate, {}).update(by_kind)
+            self.edits[crate] = counts[crate] or self.edits.get(crate, 0)
+
+
+def table(costs: Costs) -> None:
+    """Prints a line a crate: seconds of each kind, how many edits were tried, and the most that one process held."""
+    seconds, edits, held = costs.seconds, costs.edits, costs.held
     print('| crate | ' + ' | '.join(KINDS) + ' | number of edits | an edit | GB held |')
     print('|---' * (len(KINDS) + 4) + '|')
     for crate in sorted(seconds, key=lambda it: -sum(seconds[it].values())):
@@ -106,8 +117,33 @@ def table(files: list[str]) -> None:
     print(f'\n{sum(whole):,.0f} seconds of a processor in all.')
 
 
+def chain(costs: Costs, listed: str) -> None:
+    """Prints the crates of the longest chain, lowest first, with their seconds and the sum so far. Each waits for those
+    below it, so no number of processors proves all crates sooner. `listed` is the text of crates.txt."""
+    lines = (line.partition(':') for line in listed.splitlines() if line and not line.startswith('#'))
+    below = {words[0].split()[0]: words[2].split() for words in lines}
+    ends: dict[str, tuple[float, list[str]]] = {}
+
+    def end_of(crate: str) -> tuple[float, list[str]]:
+        """The longest chain up to this crate."""
+        if crate not in ends:
+            seconds, crates = max((end_of(it) for it in below[crate] if it in below), default=(0.0, []))
+            kinds = costs.seconds.get(crate, {})
+            ends[crate] = seconds + kinds.get('proof', 0.0) + kinds.get('program', 0.0), [*crates, crate]
+        return ends[crate]
+
+    print('| crate | seconds | so far |\n|---|---|---|')
+    before = 0.0
+    for crate in max(map(end_of, below))[1]:
+        print(f'| `{crate}` | {ends[crate][0] - before:.0f} | {ends[crate][0]:.0f} |')
+        before = ends[crate][0]
+
+
 if __name__ == '__main__':
     if sys.argv[1] == 'watch':
         watch(*sys.argv[2:4])
+    elif sys.argv[1] == 'chain':
+        with open(os.path.join(os.path.dirname(__file__), '..', 'crates.txt')) as file:
+            chain(Costs(sys.argv[2:]), file.read())
     else:
-        table(sys.argv[2:])
+        table(Costs(sys.argv[2:]))
