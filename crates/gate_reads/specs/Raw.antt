@@ -8,7 +8,7 @@ use Rattle.gate_types.specs.State.{State, is_queued}
 use Rattle.gate_types.specs.Settle.{settle}
 use Rattle.gate_types.specs.Step.{raw_step, step, accepted, refused, approval_reply}
 use Rattle.gate_types.specs.Once.{Content, is_unavailable}
-use Rattle.gate_walk.specs.Delivery.{is_stale}
+use Rattle.gate_laws.specs.Touch.{is_stale}
 use Rattle.gate_reads.specs.Moves.{Moves}
 use Rattle.gate_reads.specs.Touches.{Touches}
 use Rattle.gate_reads.specs.declared.raw.Raw.{Raw}

@@ -6,8 +6,7 @@ use Rattle.gate_types.specs.declared.records.Verdict.TheVariants as verdict
 use Rattle.gate_types.specs.Settings.{Settings}
 use Rattle.gate_types.specs.State.{State}
 use Rattle.gate_types.specs.Rows.{item_of}
-use Rattle.gate_laws.specs.Touch.{touched_by}
-use Rattle.gate_walk.specs.Delivery.{is_on}
+use Rattle.gate_laws.specs.Touch.{touched_by, is_on}
 use Rattle.gate_book_trait.specs.Reads.{items_in}
 use Rattle.gate_reads.specs.declared.touched.Event.{Event}
 use Rattle.gate_reads.specs.declared.touched.Event.TheVariants as event

@@ -9,7 +9,7 @@ use Rattle.gate_types.specs.Settings.{Settings}
 use Rattle.gate_types.specs.State.{Item, State, is_open, is_queued, is_ready}
 use Rattle.gate_types.specs.Settle.{settle}
 use Rattle.gate_types.specs.Step.{Stepped, raw_approved, accepted, made_ready, approval_reply}
-use Rattle.gate_walk.specs.Delivery.{is_stale}
+use Rattle.gate_laws.specs.Touch.{is_stale}
 use Rattle.gate_reads.specs.Stands.{StandsSo}
 use Rattle.gate_reads.specs.declared.stands.Stand.{Stand}
 use Rattle.gate_reads.specs.declared.stands.Stand.TheVariants as stand

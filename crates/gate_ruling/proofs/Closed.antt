@@ -17,7 +17,7 @@ use Rattle.gate_types.specs.SubmitOrder.{is_submitting}
 use Rattle.gate_types.specs.Step.{Stepped, raw_closed, raw_revision, accepted, refused, leave, revised, has_project}
 use Rattle.gate_types.specs.Step.{is_known_and}
 use Rattle.gate_types.specs.Limits.{most_needs}
-use Rattle.gate_walk.specs.Delivery.{is_stale}
+use Rattle.gate_laws.specs.Touch.{is_stale}
 use Rattle.gate_ruling.specs.Guards.{GoesOn}
 use Rattle.gate_ruling.proofs.Guarded.{open_goes}
 use Rattle.gate_laws.proofs.EachAccepted.{closed_state}

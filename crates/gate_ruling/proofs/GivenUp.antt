@@ -19,13 +19,12 @@ use Rattle.gate_types.specs.Once.{Content}
 use Rattle.gate_types.specs.Tables.{fold_all}
 use Rattle.gate_types.specs.Rising.{In}
 use Rattle.gate_book_trait.specs.declared.rows.QueuedItem.{QueuedItem}
-use Rattle.gate_laws.specs.Touch.{queue_of_change, touched_by}
+use Rattle.gate_laws.specs.Touch.{queue_of_change, touched_by, is_on}
 use Rattle.gate_laws.proofs.Tests.{and_true, not_and_false}
 use Rattle.gate_laws.proofs.Members.{map_same, none_from, none_to}
 use Rattle.gate_laws.proofs.Plans.{plans_all_stay}
 use Rattle.gate_laws.proofs.LeaveIsSound.{leaving}
 use Rattle.gate_laws.proofs.LeaveTouches.{left_same}
-use Rattle.gate_walk.specs.Delivery.{is_on}
 use Rattle.gate_reads.specs.Moves.{tables_by, in_state, Moves}
 use Rattle.gate_reads.specs.Touches.{event_of, Touches}
 use Rattle.gate_reads.specs.declared.touched.Event.TheVariants as event

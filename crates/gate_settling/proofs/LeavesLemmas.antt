@@ -15,7 +15,8 @@ use Rattle.gate_types.specs.Step.{end_build, raw_revision, raw_withdrawn, raw_cl
 use Rattle.gate_types.specs.Rising.{In}
 use Rattle.gate_walk.specs.Rescan.{HasLeft, HasLanded}
 use Rattle.gate_walk.specs.Kinds.{IsIn}
-use Rattle.gate_walk.specs.Delivery.{moved, is_on, is_stale}
+use Rattle.gate_laws.specs.Touch.{is_on, is_stale}
+use Rattle.gate_walk.specs.Delivery.{moved}
 use Rattle.gate_laws.proofs.Members.{any_to, to_right}
 use Rattle.gate_laws.proofs.EachAccepted.{closed_state, new_revision, landed_state, refused_state}
 use Rattle.gate_walk.proofs.EachReply.{OnReply, on_reply, withdrawn_reply, closed_reply, revision_reply, landed_reply}

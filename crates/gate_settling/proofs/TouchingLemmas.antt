@@ -15,8 +15,7 @@ use Rattle.gate_types.specs.Once.{Content}
 use Rattle.gate_types.specs.Forms.{IsLawfulContent}
 use Rattle.gate_types.specs.Tables.{tables, fold_all, Leads}
 use Rattle.gate_types.specs.Rising.{In}
-use Rattle.gate_laws.specs.Touch.{touched_by}
-use Rattle.gate_walk.specs.Delivery.{is_stale}
+use Rattle.gate_laws.specs.Touch.{touched_by, is_stale}
 use Rattle.gate_reads.specs.Moves.{columns_of, row_by, tables_by, swept, in_state, Moves}
 use Rattle.gate_reads.specs.Touches.{IsTouched}
 use Rattle.gate_reads.specs.declared.touched.TouchedItem.{TouchedItem}

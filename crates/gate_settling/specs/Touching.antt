@@ -12,7 +12,7 @@ use Rattle.gate_types.specs.Once.{Content}
 use Rattle.gate_types.specs.Forms.{IsLawfulContent}
 use Rattle.gate_walk.specs.Walk.{Seen, Walk}
 use Rattle.gate_walk.specs.Rescan.{row_seen}
-use Rattle.gate_walk.specs.Delivery.{is_on, is_stale}
+use Rattle.gate_laws.specs.Touch.{is_on, is_stale}
 use Rattle.gate_walk.specs.UnderWay.{Delivered, HasVisited, row_wanted, stale_rows, rows_walked, tables_settled}
 use Rattle.gate_reads.specs.declared.touched.TouchedItem.{TouchedItem}
 use Rattle.gate_reads.specs.Touches.{event_of}

@@ -6,7 +6,7 @@ ghost use Rattle.gate_types.specs.declared.deliveries.Delivery.{Delivery};
 ghost use Rattle.gate_types.specs.declared.deliveries.Reply.{Reply};
 ghost use Rattle.gate_types.specs.declared.edits.Edit.{Edit as EditOf};
 ghost use Rattle.gate_types.specs.Tables.{Leads};
-ghost use Rattle.gate_walk.specs.Delivery.{is_stale};
+ghost use Rattle.gate_laws.specs.Touch.{is_stale};
 ghost use Rattle.gate_book_trait.specs.Kept.{OfHeldUnder, IsKept};
 ghost use Rattle.gate_reads.specs.Moves.{Moves, in_state, swept};
 ghost use Rattle.gate_reads.specs.Touches.{Touches};

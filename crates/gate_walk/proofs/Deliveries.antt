@@ -23,11 +23,11 @@ use Rattle.gate_types.specs.SubmitOrder.{Order, shown_order}
 use Rattle.gate_types.specs.Step.{raw_step, left_queue, leave, revised, shrunk_queue, landed_queue, end_build}
 use Rattle.gate_types.specs.Step.{raw_revision, raw_withdrawn, raw_closed, raw_landed, raw_refused, raw_result}
 use Rattle.gate_types.specs.Lawful.{IsSound}
-use Rattle.gate_laws.specs.Touch.{has_serial, queue_of_change, queue_of_serial, touched_by, settle_touched, settle_one}
+use Rattle.gate_laws.specs.Touch.{has_serial, queue_of_change, queue_of_serial, touched_by, settle_touched, settle_one, is_on}
 use Rattle.gate_walk.specs.Rescan.{live_builds_are_wanted, IsCalm, HasLeft, TakenOut, rows_with, Walks, start, stored}
 use Rattle.gate_walk.specs.Rescan.{ahead_at, fails_at, without_row, rows_from, row_seen}
 use Rattle.gate_walk.specs.Kinds.{IsIn}
-use Rattle.gate_walk.specs.Delivery.{build_ended, item_left, item_landed, moved, is_on, touch_of, out_by}
+use Rattle.gate_walk.specs.Delivery.{build_ended, item_left, item_landed, moved, touch_of, out_by}
 use Rattle.gate_walk.specs.Delivery.{standing_rows, WalksFrom, TouchedQueueIsWalked, AWalkIsEnough}
 use Rattle.gate_queue.specs.Settled.{swept_of}
 use Rattle.gate_laws.proofs.Members.{every, all, to_map, to_right, found, not_found, any_to, all_to, in_contains}

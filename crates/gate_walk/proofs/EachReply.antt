@@ -21,7 +21,7 @@ use Rattle.gate_types.specs.Step.{Stepped, accepted, refused, on_known, leave, r
 use Rattle.gate_types.specs.Step.{build_of, end_build, raw_revision, raw_withdrawn, raw_closed, raw_landed}
 use Rattle.gate_types.specs.Step.{raw_refused, raw_result}
 use Rattle.gate_types.specs.Limits.{most_needs}
-use Rattle.gate_walk.specs.Delivery.{is_stale}
+use Rattle.gate_laws.specs.Touch.{is_stale}
 use Rattle.gate_laws.proofs.EachAccepted.{closed_state, new_revision, landed_state, refused_state}
 
 -- a stale reply, and nothing changed, or another, and this is true

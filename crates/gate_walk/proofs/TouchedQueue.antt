@@ -12,9 +12,9 @@ use Rattle.gate_types.specs.State.{Item, Queue, State, has_change}
 use Rattle.gate_types.specs.SubmitOrder.{Order, shown_order}
 use Rattle.gate_types.specs.Step.{build_of}
 use Rattle.gate_types.specs.Rising.{In}
-use Rattle.gate_laws.specs.Touch.{has_serial, touched_by, queue_of_change, queue_of_serial, queue_of_order}
+use Rattle.gate_laws.specs.Touch.{has_serial, touched_by, queue_of_change, queue_of_serial, queue_of_order, is_on}
 use Rattle.gate_laws.specs.Touch.{queue_of_build}
-use Rattle.gate_walk.specs.Delivery.{is_on, HasTouched}
+use Rattle.gate_walk.specs.Delivery.{HasTouched}
 use Rattle.gate_laws.proofs.Members.{any_from, found, in_split}
 use Rattle.gate_laws.proofs.ShownOrders.{order_from}
 use Rattle.gate_laws.proofs.OrderTouches.{order_queue, order_item}

@@ -8,7 +8,6 @@ use Rattle.gate_types.specs.declared.records.Verdict.TheVariants as verdict
 use Rattle.gate_types.specs.declared.deliveries.Delivery.{Delivery}
 use Rattle.gate_types.specs.declared.deliveries.Delivery.TheVariants as delivery
 use Rattle.gate_types.specs.declared.deliveries.Reply.{Reply}
-use Rattle.gate_types.specs.declared.deliveries.Reply.TheVariants as reply
 use Rattle.gate_types.specs.Settings.{Settings, are_sound}
 use Rattle.gate_types.specs.State.{Item, Queue, State}
 use Rattle.gate_types.specs.Standing.{place_of}
@@ -18,7 +17,7 @@ use Rattle.gate_types.specs.Sweep.{sweep}
 use Rattle.gate_types.specs.Step.{accepted, raw_step, left_queue, landed_queue, shrunk_queue, build_of}
 use Rattle.gate_types.specs.Lawful.{IsLawful}
 use Rattle.gate_types.specs.Rows.{fold_edits}
-use Rattle.gate_laws.specs.Touch.{touched_by, OtherQueuesStay}
+use Rattle.gate_laws.specs.Touch.{touched_by, is_on, is_stale, OtherQueuesStay}
 use Rattle.std.specs.List.Sorted.{IsStrictlyIncreasing}
 use Rattle.gate_types.specs.declared.edits.Edit.{Edit}
 use Rattle.gate_queue.specs.Settled.{swept_of, rows_in}
@@ -41,17 +40,6 @@ moved c (delivery.Take worker) q i = q
 moved c (delivery.Result n e) q i = q
 
 -- ---- the touched item
-
--- an item is that of the delivery
-abbrev pub is_on : State → Delivery → Item → Bool
-is_on s (delivery.Revision n name r message) i = i.change == n
-is_on s (delivery.Approved n r) i = false
-is_on s (delivery.Withdrawn n r) i = i.change == n
-is_on s (delivery.Closed n r) i = i.change == n
-is_on s (delivery.Landed number) i = i.serial == number
-is_on s (delivery.Refused number) i = i.serial == number
-is_on s (delivery.Take worker) i = false
-is_on s (delivery.Result n e) i = option_map_or (λ b. b.serial == i.serial) (build_of s n) false
 
 -- a build of it ended, or it left, or it landed
 pub data Touch : Type 0 where
@@ -125,11 +113,6 @@ pub record IsWalked (c : Settings) (s : State) (d : Delivery) (t : State) (q : Q
   pub visits_settle : VisitsSettle c s t q (moved c d q i) i (touch_of d)
 
 -- ---- the laws
-
--- what was said had been overtaken, and nothing changes
-abbrev pub is_stale : Reply → Bool
-is_stale reply.Stale = true
-is_stale _ = false
 
 -- an accepted delivery on an item of a queue is stale and changes nothing, or that queue's walk settles it
 abbrev pub TouchedQueueIsWalked : Type 0
