@@ -19,7 +19,7 @@ use Rattle.gate_types.specs.Tables.{tables}
 use Rattle.gate_types.proofs.NameLemmas.{same_name_is}
 use Rattle.gate_book_trait.specs.Reads.{queue_named}
 use Rattle.gate_schema.specs.Rows.{AreNamed, QueueReport, QueueRow, Stored}
-use Rattle.gate_rows.specs.Tells.{Matches, reports_of}
+use Rattle.gate_rows.specs.Matches.{Matches, reports_of}
 use Rattle.gate_archive.specs.ItemText as content
 use Rattle.gate_archive.specs.declared.rows.LeftItem.{LeftItem}
 use Rattle.gate_laws.proofs.Alone.{report_serials, same_name_of, serials_once}

@@ -5,7 +5,7 @@ use Rattle.sqlite.specs.State.{HasCleanDisk, State, Survives}
 use Rattle.gate_types.specs.Once.{Content}
 use Rattle.gate_types.specs.Settings.{Settings}
 use Rattle.gate_book_trait.specs.Kept.{IsKept}
-use Rattle.gate_rows.specs.Tells.{StandsFor}
+use Rattle.gate_rows.specs.Matches.{StandsFor}
 use Rattle.gate_found_rows.specs.Finds.{Stays}
 use Rattle.gate_found_rows.specs.Reads.{IsOnlyRead}
 use Rattle.gate_content_reads.specs.Held.{HoldsFor, LeavesFor, ShowsFor}

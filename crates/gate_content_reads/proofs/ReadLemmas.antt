@@ -14,7 +14,7 @@ use Rattle.gate_book_trait.specs.Reads.{Answers}
 use Rattle.gate_book_trait.specs.declared.fault.BookFault.{BookFault}
 use Rattle.gate_book_trait.specs.declared.fault.BookFault.TheVariants as fault
 use Rattle.gate_schema.specs.Rows.{ItemRow, Stored}
-use Rattle.gate_rows.specs.Tells as rows
+use Rattle.gate_rows.specs.Matches as rows
 use Rattle.gate_found_rows.specs.Reads.{Opened, Reads, Shows, Tells}
 use Rattle.gate_found_rows.specs.Whole.{IsWhole, is_build_row_in_form, is_change_row_in_form, is_item_row_in_form}
 use Rattle.gate_found_rows.specs.Whole.{is_job_row_in_form}
@@ -87,7 +87,7 @@ pub reads_so : {T : Type 0} {names : List (List ℕ)} {c : Settings} {x : Conten
 reads_so v old new (Ok found) reads opened clean held told =
     let it = held.shows (opened clean) in
     let b = it.stands.stored in
-    let say = told b it.stands.tells in
+    let say = told b it.stands.matches in
     say.1 found (reads clean b (shown it) say.0)
 reads_so v old new (Err f) reads opened clean held told = blames_none old.is_open refl
   where
@@ -95,7 +95,7 @@ reads_so v old new (Err f) reads opened clean held told = blames_none old.is_ope
     blames_none true is =
         let it = held.shows is in
         let b = it.stands.stored in
-        reads clean b (shown it) (told b it.stands.tells).0
+        reads clean b (shown it) (told b it.stands.matches).0
     blames_none false is = reads clean no_rows (shut is no_rows) no_rows_whole
 
 -- the same where the read names what the rows answer

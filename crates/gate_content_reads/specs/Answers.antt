@@ -7,7 +7,7 @@ use Rattle.gate_types.specs.Step.{build_of}
 use Rattle.gate_types.specs.Tables.{approval_of}
 use Rattle.gate_types.specs.declared.records.Ready.{Ready}
 use Rattle.gate_schema.specs.Rows.{Stored}
-use Rattle.gate_rows.specs.Tells.{items_of}
+use Rattle.gate_rows.specs.Matches.{items_of}
 use Rattle.gate_book_trait.specs.Reads as content
 use Rattle.gate_found_rows.specs.Asked as file
 

@@ -7,7 +7,7 @@ use Rattle.gate_types.specs.Once.{Content}
 use Rattle.gate_types.specs.Settings.{Settings, are_sound}
 use Rattle.gate_types.specs.declared.config.Queue.{Queue}
 use Rattle.gate_schema.specs.Schema.{gate_schema}
-use Rattle.gate_rows.specs.Tells.{StandsFor}
+use Rattle.gate_rows.specs.Matches.{StandsFor}
 
 -- the connection is on the gate's schema, and its tables stand for a content
 pub record IsShownFor (s : State) (c : Settings) (x : Content) : Type 0 where

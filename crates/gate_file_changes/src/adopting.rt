@@ -7,7 +7,7 @@ ghost use Rattle.gate_types.specs.Adopt.{adopted_content};
 ghost use Rattle.gate_types.specs.AdoptedTables.{adopted_window};
 ghost use Rattle.gate_types.specs.Once.{Content};
 ghost use Rattle.gate_types.specs.SettingsText.{settings_text};
-ghost use Rattle.gate_rows.specs.Tells.{StandsFor};
+ghost use Rattle.gate_rows.specs.Matches.{StandsFor};
 ghost use Rattle.gate_rows.specs.Writes.{LeavesNothing};
 ghost use Rattle.gate_schema.specs.Rows.{Stands};
 ghost use Rattle.gate_schema.specs.Schema.{gate_schema};

@@ -17,7 +17,7 @@ use Rattle.gate_types.specs.Tables.{QueueRows}
 use Rattle.gate_types.specs.Rising.{In}
 use Rattle.gate_types.specs.declared.edits.Edit.{Edit}
 use Rattle.gate_schema.specs.Rows.{AreNamed, QueueRow, Stored}
-use Rattle.gate_rows.specs.Tells.{Matches, landings_of}
+use Rattle.gate_rows.specs.Matches.{Matches, landings_of}
 use Rattle.gate_book_trait.proofs.ReadLemmas.{rows_of_queue}
 use Rattle.gate_queue_queries.specs.First.{ShowsFirst, first_schema}
 use Rattle.gate_types.proofs.DistinctLemmas.{names_differ}
@@ -96,10 +96,10 @@ can_upgrade s c x edits sound are can =
       schema_is = can.schema_is;
       rows = can.stands.stands.rows;
       plans = record {
-        named = first_named c x b sound can.queues_are_set can.stands.tells;
+        named = first_named c x b sound can.queues_are_set can.stands.matches;
         known = subst (λ l. are_known (names_in b) l ≡ true) (sym are) (puts_known (names_in b) (first_plans c x));
         planned = tt;
-        tells = can.stands.tells;
+        matches = can.stands.matches;
       };
     }
 

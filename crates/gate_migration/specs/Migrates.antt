@@ -15,7 +15,7 @@ use Rattle.gate_types.specs.declared.edits.Edit.TheVariants as edit
 use Rattle.gate_types.specs.declared.records.Item.{Item as ItemRow}
 use Rattle.gate_types.specs.declared.records.Landing.{Landing}
 use Rattle.gate_types.specs.declared.records.Plan.{Plan}
-use Rattle.gate_rows.specs.Tells.{items_of}
+use Rattle.gate_rows.specs.Matches.{items_of}
 use Rattle.gate_rows.specs.Writes.{LeavesNothing}
 use Rattle.gate_schema.specs.Rows.{Stored, first_version}
 use Rattle.gate_queue_queries.specs.First.{HoldsLandings, first_schema}

@@ -4,7 +4,7 @@ ghost use Rattle.sqlite.specs.Held.{state};
 ghost use Rattle.sqlite.specs.State.{HasCleanDisk, Survives};
 ghost use Rattle.sqlite.specs.Tree.{Trees};
 ghost use Rattle.gate_types.specs.Once.{empty};
-ghost use Rattle.gate_rows.specs.Tells.{StandsFor};
+ghost use Rattle.gate_rows.specs.Matches.{StandsFor};
 ghost use Rattle.gate_schema.specs.Rows.{Stands};
 ghost use Rattle.gate_schema.specs.Schema.{schema_with};
 ghost use Rattle.gate_found_rows.specs.Finds.{Stays};

@@ -7,7 +7,7 @@ ghost use Rattle.sqlite.specs.Tree.{Trees};
 ghost use Rattle.gate_types.specs.Adopt.{may_adopt, adopted_content};
 ghost use Rattle.gate_types.specs.Once.{Content};
 ghost use Rattle.gate_types.specs.Settings.{Settings};
-ghost use Rattle.gate_rows.specs.Tells.{StandsFor};
+ghost use Rattle.gate_rows.specs.Matches.{StandsFor};
 ghost use Rattle.gate_rows.specs.Writes.{LeavesNothing};
 ghost use Rattle.gate_schema.specs.Schema.{gate_schema};
 ghost use Rattle.gate_sql.specs.Handed.{answered, handed};

@@ -24,7 +24,7 @@ use Rattle.gate_types.specs.Rising.{In}
 use Rattle.gate_schema.specs.Edits.{need_rows}
 use Rattle.gate_schema.specs.Rows.{NeedRow, Stored, change_key}
 use Rattle.gate_schema.specs.Shown.{needs_it}
-use Rattle.gate_rows.specs.Tells.{Matches, needs_in}
+use Rattle.gate_rows.specs.Matches.{Matches, needs_in}
 use Rattle.gate_book_trait.specs.Reads as content
 use Rattle.gate_book_trait.specs.RowReads as table
 use Rattle.gate_book_trait.proofs.ReadLemmas as read

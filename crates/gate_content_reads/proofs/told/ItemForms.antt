@@ -21,7 +21,7 @@ use Rattle.gate_types.specs.State.{Item, Queue, State}
 use Rattle.gate_types.specs.Tables.{tables}
 use Rattle.gate_types.specs.Rising.{In}
 use Rattle.gate_schema.specs.Rows.{ItemRow, Stored}
-use Rattle.gate_rows.specs.Tells.{Matches, items_of}
+use Rattle.gate_rows.specs.Matches.{Matches, items_of}
 use Rattle.gate_book_trait.specs.Reads.{queue_named}
 use Rattle.gate_found_rows.specs.Whole.{is_item_row_in_form}
 use Rattle.gate_laws.proofs.Alone.{changes_once, item_changes, same_name_of}

@@ -7,7 +7,7 @@ use Rattle.gate_types.specs.Once.{Content}
 use Rattle.gate_types.specs.Settings.{Settings}
 use Rattle.gate_types.specs.Tables.{tables}
 use Rattle.gate_schema.specs.Rows.{AreNamed, ItemRow, Stored, item_key}
-use Rattle.gate_rows.specs.Tells.{Matches}
+use Rattle.gate_rows.specs.Matches.{Matches}
 use Rattle.gate_book_trait.specs.Reads as content
 use Rattle.gate_book_trait.specs.declared.rows.QueuedItem.{QueuedItem}
 use Rattle.gate_found_rows.specs.Asked as file

@@ -14,7 +14,7 @@ use Rattle.gate_types.specs.Tables.{tables}
 use Rattle.gate_types.specs.Rising.{In}
 use Rattle.gate_types.proofs.NameLemmas.{same_name_is}
 use Rattle.gate_schema.specs.Rows.{AreNamed, ItemRow, QueueRow, Stored}
-use Rattle.gate_rows.specs.Tells.{Matches, items_of, placed}
+use Rattle.gate_rows.specs.Matches.{Matches, items_of, placed}
 use Rattle.gate_book_trait.specs.Reads.{items_in, queue_named, queued_items}
 use Rattle.gate_book_trait.specs.declared.rows.QueuedItem.{QueuedItem}
 use Rattle.gate_book_trait.proofs.ReadLemmas as read

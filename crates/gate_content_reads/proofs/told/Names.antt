@@ -13,7 +13,7 @@ use Rattle.gate_types.specs.Tables.{tables}
 use Rattle.gate_types.specs.Rising.{In}
 use Rattle.gate_types.proofs.NameLemmas.{same_name_is}
 use Rattle.gate_schema.specs.Rows.{AreNamed, QueueRow, Stored}
-use Rattle.gate_rows.specs.Tells.{Matches}
+use Rattle.gate_rows.specs.Matches.{Matches}
 use Rattle.gate_laws.proofs.Alone.{same_name_of}
 use Rattle.gate_laws.proofs.Members.{filter_none, none_from}
 use Rattle.gate_content_reads.specs.Held.{queue_names}

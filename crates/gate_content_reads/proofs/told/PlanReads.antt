@@ -15,7 +15,7 @@ use Rattle.gate_types.specs.declared.config.Job.{Job}
 use Rattle.gate_types.specs.declared.records.Plan.{Plan}
 use Rattle.gate_schema.specs.Edits.{job_rows}
 use Rattle.gate_schema.specs.Rows.{JobRow, Stored}
-use Rattle.gate_rows.specs.Tells.{Matches, jobs_in}
+use Rattle.gate_rows.specs.Matches.{Matches, jobs_in}
 use Rattle.gate_book_trait.specs.Reads as content
 use Rattle.gate_found_rows.specs.Asked as file
 use Rattle.gate_found_rows.specs.Whole.{ArePlaced, is_job_row_in_form}

@@ -18,7 +18,7 @@ use Rattle.gate_types.specs.Tables.{QueueRows, numbered_landings, tables}
 use Rattle.gate_types.specs.Keys.{place_of_landing, place_of_report}
 use Rattle.gate_types.specs.Rising.{In}
 use Rattle.gate_schema.specs.Rows.{QueueRow, Stored}
-use Rattle.gate_rows.specs.Tells.{Matches, landings_of, of_queue, placed, reports_of}
+use Rattle.gate_rows.specs.Matches.{Matches, landings_of, of_queue, placed, reports_of}
 use Rattle.gate_book_trait.specs.Reads as content
 use Rattle.gate_book_trait.proofs.ReadLemmas as read
 use Rattle.gate_found_rows.specs.Asked as file

@@ -9,7 +9,7 @@ use Rattle.gate_types.specs.Settings.{Settings}
 use Rattle.gate_types.specs.Tables.{tables}
 use Rattle.gate_book_trait.specs.Reads.{items_between}
 use Rattle.gate_schema.specs.Rows.{AreNamed, Stored, build_key}
-use Rattle.gate_rows.specs.Tells.{Matches}
+use Rattle.gate_rows.specs.Matches.{Matches}
 use Rattle.gate_content_reads.specs.Answers.{IsAnsweredBy}
 use Rattle.gate_content_reads.proofs.told.ChangeReads.{approval_is, change_is, ready_is, ready_needing_is}
 use Rattle.gate_content_reads.proofs.told.ItemReads.{item_is, needing_is, queued_is}

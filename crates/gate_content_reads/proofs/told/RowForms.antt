@@ -18,7 +18,7 @@ use Rattle.gate_types.specs.Settings.{Settings, has_queue}
 use Rattle.gate_types.specs.State.{Queue, State}
 use Rattle.gate_types.specs.Tables.{approval_of, change_row, tables}
 use Rattle.gate_schema.specs.Rows.{QueueRow, Stored}
-use Rattle.gate_rows.specs.Tells.{Matches, placed}
+use Rattle.gate_rows.specs.Matches.{Matches, placed}
 use Rattle.gate_book_trait.proofs.ReadLemmas.{rows_of_queue}
 use Rattle.gate_found_rows.specs.Whole.{is_build_row_in_form, is_change_row_in_form}
 use Rattle.gate_laws.proofs.Members.{all, every, found, from_map}

@@ -8,7 +8,7 @@ use Rattle.gate_types.specs.Once.{Content}
 use Rattle.gate_types.specs.Settings.{Settings}
 use Rattle.gate_types.specs.Tables.{tables}
 use Rattle.gate_schema.specs.Rows.{Stored}
-use Rattle.gate_rows.specs.Tells.{Matches, TellsNeeds}
+use Rattle.gate_rows.specs.Matches.{Matches, NeedsMatch}
 use Rattle.gate_found_rows.specs.Whole.{IsWhole}
 use Rattle.gate_content_reads.proofs.told.ChangeReads.{approvals_of_rows}
 use Rattle.gate_content_reads.proofs.told.ItemForms.{changes_differ, items_are_few, items_in_form}
@@ -22,7 +22,7 @@ rows_are_whole {c = c} {x = x} {b = b} lawful told = record {
   windows = windows_in_form c x b lawful told;
   changes = changes_in_form c x b lawful told;
   approvals_differ = approvals_of_rows c x b told lawful;
-  needs = subst (TellsNeeds b.needs) (sym told.changes_are) told.needs_are;
+  needs = subst (NeedsMatch b.needs) (sym told.changes_are) told.needs_are;
   items = items_in_form c x b lawful told;
   changes_differ = changes_differ c x b lawful told;
   items_are_few = items_are_few c x b lawful told;

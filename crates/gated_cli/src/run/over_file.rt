@@ -12,7 +12,7 @@ ghost use Rattle.gate_types.specs.Tap.{inside, has_failed, Gave, IsReadOut, Took
 ghost use Rattle.gate_core.specs.Lines.{whole_lines, lines_of, ReadFor};
 ghost use Rattle.gate_found_rows.specs.Finds.{Stays};
 ghost use Rattle.gate_schema.specs.Schema.{schema_with};
-ghost use Rattle.gate_rows.specs.Tells.{StandsFor};
+ghost use Rattle.gate_rows.specs.Matches.{StandsFor};
 ghost use Rattle.gate_file_changes.specs.Applies.{LeavesOrStands};
 ghost use Rattle.gate_content_reads.specs.Held.{HoldsFor, IsShownFor, LeavesFor, ShowsFor, queue_names};
 ghost use Rattle.gate_live.specs.Both.{HoldsBoth};

@@ -2,7 +2,7 @@ use Rattle.std.proofs.Common.{None, Some, arith, subst, sym}
 use Rattle.sqlite.specs.Held.{state}
 use Rattle.sqlite.specs.State.{HasCleanDisk}
 use Rattle.gate_types.specs.Once.{Content}
-use Rattle.gate_rows.specs.Tells.{StandsFor}
+use Rattle.gate_rows.specs.Matches.{StandsFor}
 use Rattle.gate_file_changes.specs.Adopts.{IsKept}
 use Rattle.gate_content_reads.specs.Held.{HoldsFor}
 use Rattle.gate_sql.proofs.AgainLemmas.{one_held, one_stands}

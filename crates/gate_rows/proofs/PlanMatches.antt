@@ -8,13 +8,13 @@ use Rattle.gate_types.specs.declared.edits.Edit.TheVariants as edit
 use Rattle.gate_types.specs.declared.records.Plan.{Plan}
 use Rattle.gate_schema.specs.Edits.{after_edit}
 use Rattle.gate_schema.specs.Rows.{Stored}
-use Rattle.gate_rows.specs.Tells.{FitsBeside, HasJobs, HaveJobs, IsInOrder, Matches}
+use Rattle.gate_rows.specs.Matches.{FitsBeside, HasJobs, HaveJobs, IsInOrder, Matches}
 use Rattle.gate_rows.proofs.PlanLemmas.{no_plan, plans_put}
-use Rattle.gate_rows.proofs.TellsLemmas.{queues_stay}
+use Rattle.gate_rows.proofs.MatchLemmas.{queues_stay}
 
-pub tells_plan : (p : Plan) (b : Stored) (t : Tables) → IsInOrder b → FitsBeside (edit.PutPlan p) b → HaveJobs t.plans → Matches b t
+pub matches_plan : (p : Plan) (b : Stored) (t : Tables) → IsInOrder b → FitsBeside (edit.PutPlan p) b → HaveJobs t.plans → Matches b t
     → Matches (after_edit (edit.PutPlan p) b) (edited_tables t (edit.PutPlan p))
-tells_plan p b t order fits have h = record {
+matches_plan p b t order fits have h = record {
   queues_are = queues_stay (edited_queue (edit.PutPlan p)) (λ q. refl) (λ q. refl) (λ q. refl) (λ q. refl) (λ q. refl) _ _ _ _ _ h.queues_are;
   plans_are = plans_put p b t.plans order.fast (no_plan p.serial b t.plans have fits.1 h.plans_are) h.plans_are;
   counters_are = h.counters_are;

@@ -17,7 +17,7 @@ use Rattle.gate_types.specs.declared.records.Item.{Item}
 use Rattle.gate_types.specs.declared.records.Outcome.{Outcome}
 use Rattle.gate_schema.specs.Edits.{after_edit, with_window}
 use Rattle.gate_schema.specs.Rows.{QueueRow, ItemRow, QueueLanding, QueueReport, Stored, build_key, item_key}
-use Rattle.gate_rows.specs.Tells.{IsInOrder, Matches, TellsQueues, items_of, landings_of, reports_of, of_queue, placed}
+use Rattle.gate_rows.specs.Matches.{IsInOrder, Matches, QueuesMatch, items_of, landings_of, reports_of, of_queue, placed}
 use Rattle.gate_rows.proofs.PutLemmas.{put_is}
 use Rattle.gate_rows.proofs.PlanLemmas.{plans_without}
 
@@ -71,7 +71,7 @@ placed_window f name w names windows n (q ∷ qs) =
 pub queues_stay : (f : QueueRows → QueueRows) → ((q : QueueRows) → (f q).name ≡ q.name) → ((q : QueueRows) → (f q).window ≡ q.window) → ((q : QueueRows) → (f q).items ≡ q.items)
     → ((q : QueueRows) → (f q).landings ≡ q.landings) → ((q : QueueRows) → (f q).reports ≡ q.reports)
     → (queues : List QueueRow) (items : List ItemRow) (landings : List QueueLanding) (reports : List QueueReport) (told : List QueueRows)
-    → TellsQueues queues items landings reports told → TellsQueues queues items landings reports (map f told)
+    → QueuesMatch queues items landings reports told → QueuesMatch queues items landings reports (map f told)
 queues_stay f names windows its lands reps queues items landings reports told h = record {
   places = h.places ∙ sym (placed_same f names windows 0 told);
   items_are = λ name. h.items_are name ∙ sym (of_queue_same (λ q. q.items) f names its name told);
@@ -81,8 +81,8 @@ queues_stay f names windows its lands reps queues items landings reports told h 
 
 -- ---- edits that leave the queues
 
-pub tells_counter : (k : Counter) (n : ℕ) (b : Stored) (t : Tables) → Matches b t → Matches (after_edit (edit.SetCounter k n) b) (edited_tables t (edit.SetCounter k n))
-tells_counter k n b t h = record {
+pub matches_counter : (k : Counter) (n : ℕ) (b : Stored) (t : Tables) → Matches b t → Matches (after_edit (edit.SetCounter k n) b) (edited_tables t (edit.SetCounter k n))
+matches_counter k n b t h = record {
   counters_are = ap (set_counter k n) h.counters_are;
   queues_are = queues_stay (edited_queue (edit.SetCounter k n)) (λ q. refl) (λ q. refl) (λ q. refl) (λ q. refl) (λ q. refl) _ _ _ _ _ h.queues_are;
   changes_are = h.changes_are;
@@ -92,8 +92,8 @@ tells_counter k n b t h = record {
   plans_are = h.plans_are;
 }
 
-pub tells_kept : (k : Kept) (b : Stored) (t : Tables) → Matches b t → Matches (after_edit (edit.Keep k) b) (edited_tables t (edit.Keep k))
-tells_kept k b t h = record {
+pub matches_kept : (k : Kept) (b : Stored) (t : Tables) → Matches b t → Matches (after_edit (edit.Keep k) b) (edited_tables t (edit.Keep k))
+matches_kept k b t h = record {
   queues_are = queues_stay (edited_queue (edit.Keep k)) (λ q. refl) (λ q. refl) (λ q. refl) (λ q. refl) (λ q. refl) _ _ _ _ _ h.queues_are;
   kept_are = ap (λ l. l ++ k ∷ []) h.kept_are;
   plans_are = h.plans_are;
@@ -103,8 +103,8 @@ tells_kept k b t h = record {
   builds_are = h.builds_are;
 }
 
-pub tells_outcome : (n : ℕ) (o : Outcome) (b : Stored) (t : Tables) → Matches b t → Matches (after_edit (edit.SetOutcome n o) b) (edited_tables t (edit.SetOutcome n o))
-tells_outcome n o b t h = record {
+pub matches_outcome : (n : ℕ) (o : Outcome) (b : Stored) (t : Tables) → Matches b t → Matches (after_edit (edit.SetOutcome n o) b) (edited_tables t (edit.SetOutcome n o))
+matches_outcome n o b t h = record {
   queues_are = queues_stay (edited_queue (edit.SetOutcome n o)) (λ q. refl) (λ q. refl) (λ q. refl) (λ q. refl) (λ q. refl) _ _ _ _ _ h.queues_are;
   builds_are = ap (change_build n (with_outcome o)) h.builds_are;
   counters_are = h.counters_are;
@@ -114,8 +114,8 @@ tells_outcome n o b t h = record {
   plans_are = h.plans_are;
 }
 
-pub tells_stop : (n : ℕ) (b : Stored) (t : Tables) → Matches b t → Matches (after_edit (edit.StopBuild n) b) (edited_tables t (edit.StopBuild n))
-tells_stop n b t h = record {
+pub matches_stop : (n : ℕ) (b : Stored) (t : Tables) → Matches b t → Matches (after_edit (edit.StopBuild n) b) (edited_tables t (edit.StopBuild n))
+matches_stop n b t h = record {
   queues_are = queues_stay (edited_queue (edit.StopBuild n)) (λ q. refl) (λ q. refl) (λ q. refl) (λ q. refl) (λ q. refl) _ _ _ _ _ h.queues_are;
   builds_are = ap (change_build n (with_live false)) h.builds_are;
   counters_are = h.counters_are;
@@ -125,8 +125,8 @@ tells_stop n b t h = record {
   plans_are = h.plans_are;
 }
 
-pub tells_build : (x : Build) (b : Stored) (t : Tables) → IsInOrder b → Matches b t → Matches (after_edit (edit.PutBuild x) b) (edited_tables t (edit.PutBuild x))
-tells_build x b t order h = record {
+pub matches_build : (x : Build) (b : Stored) (t : Tables) → IsInOrder b → Matches b t → Matches (after_edit (edit.PutBuild x) b) (edited_tables t (edit.PutBuild x))
+matches_build x b t order h = record {
   queues_are = queues_stay (edited_queue (edit.PutBuild x)) (λ q. refl) (λ q. refl) (λ q. refl) (λ q. refl) (λ q. refl) _ _ _ _ _ h.queues_are;
   builds_are = put_is build_key x b.builds order.builds ∙ ap (put_by (λ c. c.number) x) h.builds_are;
   counters_are = h.counters_are;
@@ -138,8 +138,8 @@ tells_build x b t order h = record {
 
 -- ---- windows, and items taken out
 
-pub tells_window : (name : List ℕ) (w : ℕ) (b : Stored) (t : Tables) → Matches b t → Matches (after_edit (edit.SetWindow name w) b) (edited_tables t (edit.SetWindow name w))
-tells_window name w b t h =
+pub matches_window : (name : List ℕ) (w : ℕ) (b : Stored) (t : Tables) → Matches b t → Matches (after_edit (edit.SetWindow name w) b) (edited_tables t (edit.SetWindow name w))
+matches_window name w b t h =
     let f = edited_queue (edit.SetWindow name w) in
     record {
       queues_are = record {
@@ -169,8 +169,8 @@ items_without name n (y ∷ ys) = go (same_name y.queue name) refl (eqb y.item.s
     go false e true f more = rw (e, f, more)
     go false e false f more = rw (f, e, more)
 
-pub tells_drop : (n : ℕ) (b : Stored) (t : Tables) → Matches b t → Matches (after_edit (edit.DropItem n) b) (edited_tables t (edit.DropItem n))
-tells_drop n b t h =
+pub matches_drop : (n : ℕ) (b : Stored) (t : Tables) → Matches b t → Matches (after_edit (edit.DropItem n) b) (edited_tables t (edit.DropItem n))
+matches_drop n b t h =
     let f = edited_queue (edit.DropItem n) in
     record {
       queues_are = record {

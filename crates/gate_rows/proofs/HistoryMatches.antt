@@ -14,10 +14,10 @@ use Rattle.gate_types.specs.declared.rows.LandingRow.{LandingRow}
 use Rattle.gate_types.specs.declared.rows.ReportRow.{ReportRow}
 use Rattle.gate_schema.specs.Edits.{after_edit}
 use Rattle.gate_schema.specs.Rows.{QueueLanding, QueueReport, Stored}
-use Rattle.gate_rows.specs.Tells.{Fits, Matches, landings_of, reports_of}
-use Rattle.gate_rows.proofs.ItemTells.{like, nothing_added}
+use Rattle.gate_rows.specs.Matches.{Fits, Matches, landings_of, reports_of}
+use Rattle.gate_rows.proofs.ItemMatches.{like, nothing_added}
 use Rattle.gate_rows.proofs.PutLemmas.{put_new}
-use Rattle.gate_rows.proofs.TellsLemmas.{of_queue_changed, of_queue_same, placed_same}
+use Rattle.gate_rows.proofs.MatchLemmas.{of_queue_changed, of_queue_same, placed_same}
 
 module _ {X Y : Type 0} (queue : X → List ℕ) (row : X → Y) (place : Y → ℕ) where
   -- what is told of one queue
@@ -65,9 +65,9 @@ module _ {X Y : Type 0} (queue : X → List ℕ) (row : X → Y) (place : Y → 
           IsPermutation-push_more (of name rows) told (put_by place (row x) told) (row x) same (put_new place (row x) told there)
       go false e = same
 
-pub tells_landing : (name : List ℕ) (n : ℕ) (l : Landing) (b : Stored) (t : Tables) → Fits (edit.PutLanding name n l) b → Matches b t
+pub matches_landing : (name : List ℕ) (n : ℕ) (l : Landing) (b : Stored) (t : Tables) → Fits (edit.PutLanding name n l) b → Matches b t
     → Matches (after_edit (edit.PutLanding name n l) b) (edited_tables t (edit.PutLanding name n l))
-tells_landing name n l b t fits h =
+matches_landing name n l b t fits h =
     let f = edited_queue (edit.PutLanding name n l) in
     let x : QueueLanding = record { queue = name; row = record { place = n; landing = l } } in
     let put : List ℕ → List LandingRow → List LandingRow = λ other rows. cond (same_name name other) (put_by (λ (r : LandingRow). r.place) x.row rows) rows in
@@ -90,9 +90,9 @@ tells_landing name n l b t fits h =
       plans_are = h.plans_are;
     }
 
-pub tells_report : (name : List ℕ) (n : ℕ) (r : Report) (b : Stored) (t : Tables) → Fits (edit.PutReport name n r) b → Matches b t
+pub matches_report : (name : List ℕ) (n : ℕ) (r : Report) (b : Stored) (t : Tables) → Fits (edit.PutReport name n r) b → Matches b t
     → Matches (after_edit (edit.PutReport name n r) b) (edited_tables t (edit.PutReport name n r))
-tells_report name n r b t fits h =
+matches_report name n r b t fits h =
     let f = edited_queue (edit.PutReport name n r) in
     let x : QueueReport = record { queue = name; row = record { place = n; report = r } } in
     let put : List ℕ → List ReportRow → List ReportRow = λ other rows. cond (same_name name other) (put_by (λ (r : ReportRow). r.place) x.row rows) rows in

@@ -17,9 +17,9 @@ use Rattle.gate_types.specs.declared.records.Item.{Item}
 use Rattle.gate_types.proofs.PlainLemmas.{below_or}
 use Rattle.gate_schema.specs.Edits.{after_edit, item_in}
 use Rattle.gate_schema.specs.Rows.{ItemRow, QueueRow, Stored, item_key}
-use Rattle.gate_rows.specs.Tells.{Fits, IsInOrder, IsQueue, Matches, items_of, landings_of, placed, reports_of}
+use Rattle.gate_rows.specs.Matches.{Fits, IsInOrder, IsQueue, Matches, items_of, landings_of, placed, reports_of}
 use Rattle.gate_rows.proofs.PutLemmas.{put_after, put_before, put_first, put_is}
-use Rattle.gate_rows.proofs.TellsLemmas.{of_queue_changed, of_queue_same, placed_same}
+use Rattle.gate_rows.proofs.MatchLemmas.{of_queue_changed, of_queue_same, placed_same}
 
 -- ---- names
 
@@ -125,9 +125,9 @@ alone_filter x (y ∷ ys) alone =
     ap (λ c. cond (not c) (y ∷ rest) rest) (both (eqb (item_key y) (item_key x)) (same_name y.queue x.queue) alone.0)
     ∙ ap (λ l. cond (not (eqb (item_key y) (item_key x))) (y ∷ l) l) (alone_filter x ys alone.1)
 
-pub tells_item : (name : List ℕ) (i : Item) (b : Stored) (t : Tables) → IsInOrder b → Fits (edit.PutItem name i) b → Matches b t
+pub matches_item : (name : List ℕ) (i : Item) (b : Stored) (t : Tables) → IsInOrder b → Fits (edit.PutItem name i) b → Matches b t
     → Matches (after_edit (edit.PutItem name i) b) (edited_tables t (edit.PutItem name i))
-tells_item name i b t order fits h =
+matches_item name i b t order fits h =
     let f = edited_queue (edit.PutItem name i) in
     let x : ItemRow = item_in name i in
     record {

@@ -11,9 +11,9 @@ use Rattle.gate_types.specs.declared.records.Change.{Change}
 use Rattle.gate_types.specs.declared.rows.ChangeRow.{ChangeRow}
 use Rattle.gate_schema.specs.Edits.{after_edit, change_with, need_rows}
 use Rattle.gate_schema.specs.Rows.{NeedRow, Stored, change_key}
-use Rattle.gate_rows.specs.Tells.{IsInOrder, Matches, needs_in}
+use Rattle.gate_rows.specs.Matches.{IsInOrder, Matches, needs_in}
 use Rattle.gate_rows.proofs.PutLemmas.{filter-append, find_put, put_is}
-use Rattle.gate_rows.proofs.TellsLemmas.{queues_stay}
+use Rattle.gate_rows.proofs.MatchLemmas.{queues_stay}
 
 -- ---- needs
 
@@ -44,8 +44,8 @@ needs_of_one k n m (x ∷ xs) =
     ap (λ l. cond (eqb k n) (first ∷ l) l) (needs_of_one k n (suc m) xs)
     ∙ elim (eqb k n) as (λ c. cond c (first ∷ cond c rest []) (cond c rest []) ≡ cond c (first ∷ rest) []) [ true ↦ refl | false ↦ refl ]
 
-pub tells_change : (k : Change) (a : Option ℕ) (b : Stored) (t : Tables) → IsInOrder b → Matches b t → Matches (after_edit (edit.PutChange k a) b) (edited_tables t (edit.PutChange k a))
-tells_change k a b t order h =
+pub matches_change : (k : Change) (a : Option ℕ) (b : Stored) (t : Tables) → IsInOrder b → Matches b t → Matches (after_edit (edit.PutChange k a) b) (edited_tables t (edit.PutChange k a))
+matches_change k a b t order h =
     let x : ChangeRow = change_with k a in
     record {
       queues_are = queues_stay (edited_queue (edit.PutChange k a)) (λ q. refl) (λ q. refl) (λ q. refl) (λ q. refl) (λ q. refl) _ _ _ _ _ h.queues_are;

@@ -61,7 +61,7 @@ is_fast_in plans n = option_map_or (λ (p : Plan). p.fast) (find (λ (p : Plan).
 -- ---- all of it
 
 -- what stands of the queues: each by its place, its items in order, its landings and reports in any order
-pub record TellsQueues (queues : List QueueRow) (items : List ItemRow) (landings : List QueueLanding)
+pub record QueuesMatch (queues : List QueueRow) (items : List ItemRow) (landings : List QueueLanding)
     (reports : List QueueReport) (told : List QueueRows) : Type 0 where
   pub places : queues ≡ placed 0 told
   pub items_are : (name : List ℕ) → items_of name items ≡ of_queue (λ q. q.items) name told
@@ -69,30 +69,30 @@ pub record TellsQueues (queues : List QueueRow) (items : List ItemRow) (landings
   pub reports_are : (name : List ℕ) → IsPermutation (reports_of name reports) (of_queue (λ q. q.reports) name told)
 
 -- the needs of each change, in their order
-abbrev pub TellsNeeds : List NeedRow → List ChangeRow → Type 0
-TellsNeeds needs rows = (n : ℕ) → filter (λ (x : NeedRow). x.change == n) needs ≡ need_rows n 0 (needs_in rows n)
+abbrev pub NeedsMatch : List NeedRow → List ChangeRow → Type 0
+NeedsMatch needs rows = (n : ℕ) → filter (λ (x : NeedRow). x.change == n) needs ≡ need_rows n 0 (needs_in rows n)
 
 -- the jobs of each plan, in their order, and the serials of those that fail fast
-pub record TellsPlans (jobs : List JobRow) (fast : List ℕ) (plans : List Plan) : Type 0 where
+pub record PlansMatch (jobs : List JobRow) (fast : List ℕ) (plans : List Plan) : Type 0 where
   pub jobs_are : (n : ℕ) → filter (λ (x : JobRow). x.serial == n) jobs ≡ job_rows n 0 (jobs_in plans n)
   pub fast_are : (n : ℕ) → list_any (λ m. m == n) fast ≡ is_fast_in plans n
 
 -- the file holds these tables of the gate
 pub record Matches (b : Stored) (t : Tables) : Type 0 where
   pub counters_are : b.counters ≡ t.counters
-  pub queues_are : TellsQueues b.queues b.items b.landings b.reports t.queues
+  pub queues_are : QueuesMatch b.queues b.items b.landings b.reports t.queues
   pub changes_are : b.changes ≡ t.changes
-  pub needs_are : TellsNeeds b.needs t.changes
+  pub needs_are : NeedsMatch b.needs t.changes
   pub builds_are : b.builds ≡ t.builds
   pub kept_are : b.kept ≡ t.kept
-  pub plans_are : TellsPlans b.jobs b.fast t.plans
+  pub plans_are : PlansMatch b.jobs b.fast t.plans
 
 -- the file stands for a content
 pub record StandsFor (db : Trees) (c : Settings) (x : Content) : Type 0 where
   pub stored : Stored
   pub stands : Stands db stored
   pub settings : stored.settings ≡ settings_text c
-  pub tells : Matches stored (tables c x)
+  pub matches : Matches stored (tables c x)
 
 -- ---- what an edit asks
 
