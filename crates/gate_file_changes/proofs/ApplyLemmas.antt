@@ -39,7 +39,7 @@ use Rattle.gate_book_trait.specs.declared.fault.BookFault.{BookFault}
 use Rattle.gate_book_trait.specs.declared.fault.BookFault.TheVariants as fault
 use Rattle.gate_file_changes.specs.Applies.{CanLead, IsLed, LeavesOrStands, OfLawful, Settles, Steps, Turns}
 use Rattle.gate_file_changes.specs.Applies.{are_known, is_among, is_known, names_in}
-use Rattle.gate_content_reads.specs.Held.{HoldsFor, IsShownFor, ShowsFor, StandsForOne, queue_names}
+use Rattle.gate_table_laws.specs.Held.{HoldsFor, IsShownFor, ShowsFor, StandsForOne, queue_names}
 
 -- ---- the names of the queues
 

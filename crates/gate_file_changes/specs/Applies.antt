@@ -16,7 +16,7 @@ use Rattle.gate_schema.specs.Edits.{after_edits}
 use Rattle.gate_schema.specs.Rows.{AreNamed, Changes, IsReady, QueueRow, Stands, Stored}
 use Rattle.gate_schema.specs.Schema.{gate_schema}
 use Rattle.gate_rows.specs.Matches.{HaveJobs, StandsFor, Matches}
-use Rattle.gate_content_reads.specs.Held.{ShowsFor, queue_names}
+use Rattle.gate_table_laws.specs.Held.{ShowsFor, queue_names}
 
 -- ---- the queues that edits name
 

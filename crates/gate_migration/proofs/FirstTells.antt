@@ -24,13 +24,13 @@ use Rattle.gate_types.proofs.DistinctLemmas.{names_differ}
 use Rattle.gate_laws.proofs.Alone.{same_name_of}
 use Rattle.gate_laws.proofs.Members.{all, none_from, to_map}
 use Rattle.gate_laws.proofs.ItemRows.{items_of_rows}
-use Rattle.gate_content_reads.specs.Held.{queue_names}
+use Rattle.gate_table_laws.specs.Held.{queue_names}
 use Rattle.gate_migration.specs.Standing.{is_newly_taken}
 use Rattle.gate_migration.specs.Migrates.{CanMigrate, TellsQueue, TellsState, pair_of_item, pair_of_row, puts}
 use Rattle.gate_migration.specs.Upgrade.{CanUpgrade, tables_before, without_plans}
 use Rattle.gate_migration.proofs.MigrateLemmas.{first_plans, puts_known}
-use Rattle.gate_content_reads.proofs.told.Items.{names_placed}
-use Rattle.gate_content_reads.proofs.told.Names.{count_names, named_once}
+use Rattle.gate_table_laws.proofs.told.Items.{names_placed}
+use Rattle.gate_table_laws.proofs.told.Names.{count_names, named_once}
 use Rattle.gate_file_changes.specs.Applies.{are_known, names_in}
 
 -- where the names differ, a queue is found by its own

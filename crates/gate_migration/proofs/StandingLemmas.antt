@@ -17,7 +17,7 @@ use Rattle.gate_schema.specs.Rows.{pair_of_words, first_version, schema_version}
 use Rattle.gate_rows.specs.Matches.{StandsFor}
 use Rattle.gate_found_rows.specs.Finds.{Stays}
 use Rattle.gate_found_rows.proofs.StayLemmas.{stays_then}
-use Rattle.gate_content_reads.specs.Held.{IsShownFor}
+use Rattle.gate_table_laws.specs.Held.{IsShownFor}
 use Rattle.gate_file_changes.specs.Making.{IsSettled}
 use Rattle.gate_migration.specs.Migrates.{Carries, HasNoneToMigrate}
 use Rattle.gate_migration.specs.Standing.{IsMigrated, IsStanding, fault_before, is_newly_taken}

@@ -11,7 +11,7 @@ ghost use Rattle.gate_rows.specs.Matches.{StandsFor};
 ghost use Rattle.gate_rows.specs.Writes.{LeavesNothing};
 ghost use Rattle.gate_found_rows.specs.Finds.{Stays};
 ghost use Rattle.gate_file_changes.specs.Applies.{LeavesOrStands};
-ghost use Rattle.gate_content_reads.specs.Held.{IsShownFor, queue_names};
+ghost use Rattle.gate_table_laws.specs.Held.{IsShownFor, queue_names};
 ghost use Rattle.gate_migration.specs.Upgrade.{StandsForFirst};
 ghost use Rattle.gate_file_changes.specs.Making.{IsSettled};
 ghost use Rattle.gate_migration.specs.Migrates.{CanMigrate, Carries, HasNoneToMigrate, IsLeft};

@@ -29,9 +29,9 @@ use Rattle.gate_found_rows.specs.Reads.{Opened, Shows}
 use Rattle.gate_found_rows.specs.Whole.{IsWhole}
 use Rattle.gate_types.proofs.DistinctLemmas.{names_differ}
 use Rattle.gate_file_changes.specs.Applies.{is_among}
-use Rattle.gate_content_reads.specs.Held.{HoldsFor}
-use Rattle.gate_content_reads.proofs.ReadLemmas.{told_of, no_rows, shown, shut}
-use Rattle.gate_content_reads.proofs.told.Names.{queues_are_named}
+use Rattle.gate_table_laws.specs.Held.{HoldsFor}
+use Rattle.gate_table_laws.proofs.ReadLemmas.{told_of, no_rows, shown, shut}
+use Rattle.gate_table_laws.proofs.told.Names.{queues_are_named}
 use Rattle.gate_queue_queries.specs.History.{WritesWhole}
 use Rattle.gate_archive_queries.specs.Answers.{IsArchiveOf}
 use Rattle.gate_archive_queries.specs.Asked.{TellsReports, is_left_in_form}

@@ -20,8 +20,8 @@ use Rattle.gate_book_trait.specs.declared.fault.HistoryFault.TheVariants as faul
 use Rattle.gate_rows.specs.Matches.{reports_of}
 use Rattle.gate_queue_queries.specs.History.{OfReports, WritesReports, reports_text}
 use Rattle.gate_file_changes.specs.Applies.{is_among}
-use Rattle.gate_content_reads.specs.Held.{HoldsFor}
-use Rattle.gate_content_reads.proofs.told.QueueReads.{report_rows}
+use Rattle.gate_table_laws.specs.Held.{HoldsFor}
+use Rattle.gate_table_laws.proofs.told.QueueReads.{report_rows}
 
 -- ---- the queue of a name
 

@@ -10,7 +10,7 @@ ghost use Rattle.gate_schema.specs.Schema.{schema_with};
 ghost use Rattle.gate_found_rows.specs.Finds.{Stays};
 ghost use Rattle.gate_found_rows.specs.Reads.{IsShown};
 ghost use Rattle.gate_sql.specs.Handed.{answered, handed};
-ghost use Rattle.gate_content_reads.specs.Held.{HoldsFor};
+ghost use Rattle.gate_table_laws.specs.Held.{HoldsFor};
 ghost use Rattle.gate_sql.specs.Handed.{names_of};
 ghost use Rattle.gate_sql.specs.Refused.{IsRefused};
 ghost use Rattle.gate_file_changes.specs.Making.{IsSettled, first_stored, first_queue_rows};

@@ -11,7 +11,7 @@ ghost use Rattle.gate_rows.specs.Matches.{StandsFor};
 ghost use Rattle.gate_rows.specs.Writes.{LeavesNothing};
 ghost use Rattle.gate_schema.specs.Schema.{gate_schema};
 ghost use Rattle.gate_sql.specs.Handed.{answered, handed};
-ghost use Rattle.gate_content_reads.specs.Held.{HoldsFor};
+ghost use Rattle.gate_table_laws.specs.Held.{HoldsFor};
 ghost use Rattle.gate_sql.specs.Handed.{names_of};
 ghost use Rattle.gate_sql.specs.Refused.{IsRefused};
 ghost use Rattle.gate_file_meta.specs.Opens.{IsJudged, IsMeta, with_meta};

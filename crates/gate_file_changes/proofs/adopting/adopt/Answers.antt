@@ -7,7 +7,7 @@ use Rattle.gate_found_rows.proofs.ReadLemmas.{shown_still}
 use Rattle.gate_schema.specs.Rows.{Stands}
 use Rattle.gate_file_changes.specs.Adopts.{resized, rewritten}
 use Rattle.gate_file_changes.proofs.AdoptLemmas.{stands_adopted}
-use Rattle.gate_content_reads.proofs.told.Whole.{rows_are_whole}
+use Rattle.gate_table_laws.proofs.told.Whole.{rows_are_whole}
 use Rattle.gate_file_changes.proofs.adopting.adopt.Goals as goal
 
 pub returns-in-Ok-write_rows-clause-made : goal.returns-in-Ok-write_rows-clause-made

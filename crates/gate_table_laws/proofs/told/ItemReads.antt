@@ -13,8 +13,8 @@ use Rattle.gate_book_trait.specs.declared.rows.QueuedItem.{QueuedItem}
 use Rattle.gate_found_rows.specs.Asked as file
 use Rattle.gate_laws.proofs.Alone.{changes_once, item_changes, item_serials, serials_once}
 use Rattle.gate_laws.proofs.Counts.{times}
-use Rattle.gate_content_reads.proofs.told.ChangeReads.{needs_are}
-use Rattle.gate_content_reads.proofs.told.Items.{found_once, items_are}
+use Rattle.gate_table_laws.proofs.told.ChangeReads.{needs_are}
+use Rattle.gate_table_laws.proofs.told.Items.{found_once, items_are}
 
 -- the item alone, of an item with its queue's name
 item_alone : (o : Option ItemRow) →

@@ -10,12 +10,12 @@ use Rattle.gate_types.specs.Tables.{tables}
 use Rattle.gate_book_trait.specs.Reads.{items_between}
 use Rattle.gate_schema.specs.Rows.{AreNamed, Stored, build_key}
 use Rattle.gate_rows.specs.Matches.{Matches}
-use Rattle.gate_content_reads.specs.Answers.{IsAnsweredBy}
-use Rattle.gate_content_reads.proofs.told.ChangeReads.{approval_is, change_is, ready_is, ready_needing_is}
-use Rattle.gate_content_reads.proofs.told.ItemReads.{item_is, needing_is, queued_is}
-use Rattle.gate_content_reads.proofs.told.Items.{items_are}
-use Rattle.gate_content_reads.proofs.told.PlanReads.{plan_is}
-use Rattle.gate_content_reads.proofs.told.QueueReads.{landing_before_is, landings_count, reports_are, window_is}
+use Rattle.gate_table_laws.specs.Answers.{IsAnsweredBy}
+use Rattle.gate_table_laws.proofs.told.ChangeReads.{approval_is, change_is, ready_is, ready_needing_is}
+use Rattle.gate_table_laws.proofs.told.ItemReads.{item_is, needing_is, queued_is}
+use Rattle.gate_table_laws.proofs.told.Items.{items_are}
+use Rattle.gate_table_laws.proofs.told.PlanReads.{plan_is}
+use Rattle.gate_table_laws.proofs.told.QueueReads.{landing_before_is, landings_count, reports_are, window_is}
 
 -- all of them
 pub reads_are_told : {c : Settings} {x : Content} {b : Stored} → IsLawfulContent c x → AreNamed b →

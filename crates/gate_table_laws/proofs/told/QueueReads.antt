@@ -24,7 +24,7 @@ use Rattle.gate_book_trait.proofs.ReadLemmas as read
 use Rattle.gate_found_rows.specs.Asked as file
 use Rattle.gate_laws.proofs.Members.{every, filter_none, found}
 use Rattle.gate_laws.proofs.Rising.{Rising, rising}
-use Rattle.gate_content_reads.proofs.told.Lists.{filtered_same, mapped_same, permuted_same, pick, same_greatest}
+use Rattle.gate_table_laws.proofs.told.Lists.{filtered_same, mapped_same, permuted_same, pick, same_greatest}
 
 -- ---- places from 1 on
 

@@ -24,7 +24,7 @@ use Rattle.gate_laws.proofs.Counts.{one_of, one_part, times}
 use Rattle.gate_laws.proofs.Members.{flat_same, found, from_filter, from_flat, from_map, map_map, to_filter}
 use Rattle.gate_laws.proofs.Members.{to_flat, to_map}
 use Rattle.gate_laws.proofs.ItemRows.{items_of_rows}
-use Rattle.gate_content_reads.proofs.told.Lists.{lone_found, same_find}
+use Rattle.gate_table_laws.proofs.told.Lists.{lone_found, same_find}
 
 -- ---- the rows of one queue's items
 

@@ -8,7 +8,7 @@ use Rattle.gate_book_trait.specs.Kept.{IsKept}
 use Rattle.gate_rows.specs.Matches.{StandsFor}
 use Rattle.gate_found_rows.specs.Finds.{Stays}
 use Rattle.gate_found_rows.specs.Reads.{IsOnlyRead}
-use Rattle.gate_content_reads.specs.Held.{HoldsFor, LeavesFor, ShowsFor}
+use Rattle.gate_table_laws.specs.Held.{HoldsFor, LeavesFor, ShowsFor}
 
 -- what stays shows it still
 shows_still : {old new : State} {c : Settings} {x : Content} → Stays old new → ShowsFor old c x → ShowsFor new c x

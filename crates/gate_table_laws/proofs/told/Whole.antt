@@ -10,10 +10,10 @@ use Rattle.gate_types.specs.Tables.{tables}
 use Rattle.gate_schema.specs.Rows.{Stored}
 use Rattle.gate_rows.specs.Matches.{Matches, NeedsMatch}
 use Rattle.gate_found_rows.specs.Whole.{IsWhole}
-use Rattle.gate_content_reads.proofs.told.ChangeReads.{approvals_of_rows}
-use Rattle.gate_content_reads.proofs.told.ItemForms.{changes_differ, items_are_few, items_in_form}
-use Rattle.gate_content_reads.proofs.told.PlanReads.{jobs_are_placed, jobs_in_form}
-use Rattle.gate_content_reads.proofs.told.RowForms.{builds_in_form, changes_in_form, windows_in_form}
+use Rattle.gate_table_laws.proofs.told.ChangeReads.{approvals_of_rows}
+use Rattle.gate_table_laws.proofs.told.ItemForms.{changes_differ, items_are_few, items_in_form}
+use Rattle.gate_table_laws.proofs.told.PlanReads.{jobs_are_placed, jobs_in_form}
+use Rattle.gate_table_laws.proofs.told.RowForms.{builds_in_form, changes_in_form, windows_in_form}
 
 -- all of it
 pub rows_are_whole : {c : Settings} {x : Content} {b : Stored} → IsLawfulContent c x → Matches b (tables c x) → IsWhole b

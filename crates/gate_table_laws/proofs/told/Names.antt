@@ -16,8 +16,8 @@ use Rattle.gate_schema.specs.Rows.{AreNamed, QueueRow, Stored}
 use Rattle.gate_rows.specs.Matches.{Matches}
 use Rattle.gate_laws.proofs.Alone.{same_name_of}
 use Rattle.gate_laws.proofs.Members.{filter_none, none_from}
-use Rattle.gate_content_reads.specs.Held.{queue_names}
-use Rattle.gate_content_reads.proofs.told.Items.{names_placed}
+use Rattle.gate_table_laws.specs.Held.{queue_names}
+use Rattle.gate_table_laws.proofs.told.Items.{names_placed}
 
 -- of names that differ, at most one is a name
 pub named_once : (names : List (List ℕ)) → are_distinct names ≡ true → (name : List ℕ) →

@@ -34,8 +34,8 @@ use Rattle.gate_laws.proofs.Changes.{unknown}
 use Rattle.gate_laws.proofs.Counts.{one_of, times}
 use Rattle.gate_laws.proofs.Members.{all, every, found, from_flat, from_map, not_found, to_flat, to_map}
 use Rattle.gate_laws.proofs.Rising.{Rising, rising}
-use Rattle.gate_content_reads.proofs.told.Lists.{HaveSame, any_filter, pairs_rise, permuted_same, rising_alone}
-use Rattle.gate_content_reads.proofs.told.Lists.{same_rising}
+use Rattle.gate_table_laws.proofs.told.Lists.{HaveSame, any_filter, pairs_rise, permuted_same, rising_alone}
+use Rattle.gate_table_laws.proofs.told.Lists.{same_rising}
 
 -- the number of an approval, and its change's
 abbrev approved : ℕ → ℕ → Ready

@@ -28,7 +28,7 @@ use Rattle.gate_laws.proofs.Alone.{changes_once, item_changes, same_name_of}
 use Rattle.gate_laws.proofs.Counts.{hits, in_times, one_part, times, times_in}
 use Rattle.gate_laws.proofs.Members.{all, all_from, every, found, from_append, from_map, got, to_filter, to_map}
 use Rattle.gate_laws.proofs.ItemRows.{rows_length}
-use Rattle.gate_content_reads.proofs.told.Items.{items_are, keys_are, queue_of_row, row_alone, row_item}
+use Rattle.gate_table_laws.proofs.told.Items.{items_are, keys_are, queue_of_row, row_alone, row_item}
 
 -- ---- what is ahead of an item
 

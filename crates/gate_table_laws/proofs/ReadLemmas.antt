@@ -19,11 +19,11 @@ use Rattle.gate_found_rows.specs.Reads.{Opened, Reads, Shows, Tells}
 use Rattle.gate_found_rows.specs.Whole.{IsWhole, is_build_row_in_form, is_change_row_in_form, is_item_row_in_form}
 use Rattle.gate_found_rows.specs.Whole.{is_job_row_in_form}
 use Rattle.gate_types.proofs.DistinctLemmas.{names_differ}
-use Rattle.gate_content_reads.specs.Answers.{IsAnsweredBy}
-use Rattle.gate_content_reads.specs.Held.{HoldsFor, IsShownFor}
-use Rattle.gate_content_reads.proofs.told.Names.{queues_are_named}
-use Rattle.gate_content_reads.proofs.told.Reads.{reads_are_told}
-use Rattle.gate_content_reads.proofs.told.Whole.{rows_are_whole}
+use Rattle.gate_table_laws.specs.Answers.{IsAnsweredBy}
+use Rattle.gate_table_laws.specs.Held.{HoldsFor, IsShownFor}
+use Rattle.gate_table_laws.proofs.told.Names.{queues_are_named}
+use Rattle.gate_table_laws.proofs.told.Reads.{reads_are_told}
+use Rattle.gate_table_laws.proofs.told.Whole.{rows_are_whole}
 
 -- ---- a store that is shut
 

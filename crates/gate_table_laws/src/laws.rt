@@ -6,7 +6,7 @@ ghost use Rattle.gate_types.specs.Tables.{tables};
 ghost use Rattle.gate_schema.specs.Rows.{AreNamed, Stored};
 ghost use Rattle.gate_rows.specs.Matches.{Matches};
 ghost use Rattle.gate_found_rows.specs.Whole.{IsWhole};
-ghost use Rattle.gate_content_reads.specs.Answers.{IsAnsweredBy};
+ghost use Rattle.gate_table_laws.specs.Answers.{IsAnsweredBy};
 
 /// Where the file holds the tables of a lawful content, its rows have the form of a gate's.
 pub fn the_rows_are_whole()
