@@ -33,7 +33,7 @@ use Rattle.gate_types.specs.Rows.{numbered}
 use Rattle.gate_types.specs.declared.records.Report.{Report}
 use Rattle.gate_types.specs.declared.rows.ReportRow.{ReportRow}
 use Rattle.gate_book_trait.specs.Text.{first_line, last_line}
-use Rattle.gate_rows.specs.Tells.{reports_of}
+use Rattle.gate_rows.specs.Matches.{reports_of}
 use Rattle.gate_schema.specs.Rows.{QueueReport, Stored, report_columns}
 use Rattle.gate_schema.specs.Schema.{gate_schema}
 use Rattle.gate_schema.proofs.QueryLemmas.{kept_is, over_table, passes}

@@ -19,7 +19,7 @@ use Rattle.gate_types.specs.Tables.{tables}
 use Rattle.gate_types.proofs.NameLemmas.{same_name_is}
 use Rattle.gate_book_trait.specs.Reads.{queue_named}
 use Rattle.gate_schema.specs.Rows.{AreNamed, QueueReport, QueueRow, Stored}
-use Rattle.gate_rows.specs.Tells.{Matches, reports_of}
+use Rattle.gate_rows.specs.Matches.{Matches, reports_of}
 use Rattle.gate_archive.specs.ItemText as content
 use Rattle.gate_archive.specs.declared.rows.LeftItem.{LeftItem}
 use Rattle.gate_laws.proofs.Alone.{report_serials, same_name_of, serials_once}
@@ -27,9 +27,9 @@ use Rattle.gate_laws.proofs.Counts.{one_of, one_part, times}
 use Rattle.gate_laws.proofs.FewRows.{rows_are_few}
 use Rattle.gate_laws.proofs.Members.{all, all_from, every, found, from_filter, from_flat, from_map, to_filter}
 use Rattle.gate_laws.proofs.Members.{to_flat, to_map}
-use Rattle.gate_content_reads.proofs.told.Items.{names_placed}
-use Rattle.gate_content_reads.proofs.told.Lists.{lone_found, permuted_same, same_find}
-use Rattle.gate_content_reads.proofs.told.QueueReads.{report_rows, reports_in}
+use Rattle.gate_table_laws.proofs.told.Items.{names_placed}
+use Rattle.gate_table_laws.proofs.told.Lists.{lone_found, permuted_same, same_find}
+use Rattle.gate_table_laws.proofs.told.QueueReads.{report_rows, reports_in}
 use Rattle.gate_archive_queries.specs.Answers.{IsArchiveOf}
 use Rattle.gate_archive_queries.specs.Asked as file
 use Rattle.gate_archive_queries.specs.HistoryFrom.{HoldsReports, text_from}

@@ -9,7 +9,7 @@ use Rattle.gate_types.specs.declared.records.Report.{Report}
 use Rattle.gate_book_trait.specs.Text.{first_line, last_line}
 use Rattle.gate_book_trait.specs.declared.fault.HistoryFault.{HistoryFault}
 use Rattle.gate_book_trait.specs.declared.fault.HistoryFault.TheVariants as fault
-use Rattle.gate_rows.specs.Tells.{reports_of}
+use Rattle.gate_rows.specs.Matches.{reports_of}
 use Rattle.gate_schema.specs.Rows.{Stored}
 use Rattle.gate_types.specs.Counters.{last_number}
 use Rattle.gate_types.specs.Limits.{most_listed}

@@ -4,7 +4,7 @@ ghost use Rattle.gate_types.specs.Once.{Content};
 ghost use Rattle.gate_types.specs.Settings.{Settings};
 ghost use Rattle.gate_types.specs.Tables.{tables};
 ghost use Rattle.gate_schema.specs.Rows.{AreNamed, Stored};
-ghost use Rattle.gate_rows.specs.Tells.{Matches};
+ghost use Rattle.gate_rows.specs.Matches.{Matches};
 ghost use Rattle.gate_archive_queries.specs.Answers.{IsArchiveOf};
 
 /// Where the file holds the tables of a lawful content, and no two queues have one name, each read of the past of the

@@ -22,7 +22,7 @@ use Rattle.sqlite_value.proofs.OrderLemmas.{value_cmp-Int}
 use Rattle.sqlite_value.specs.Keys.{ascending}
 use Rattle.sqlite_value.specs.declared.keys.Key.{Key}
 use Rattle.gate_book_trait.specs.Reads.{items_between}
-use Rattle.gate_rows.specs.Tells.{items_of}
+use Rattle.gate_rows.specs.Matches.{items_of}
 use Rattle.gate_types.specs.Names.{same_name}
 use Rattle.gate_types.specs.declared.records.Item.{Item}
 use Rattle.gate_schema.specs.Rows.{IsKeyed, ItemRow, Stored, item_key, item_row}

@@ -12,7 +12,7 @@ use Rattle.sqlite_keyed.proofs.ListLemmas.{ascending-filter, ascending_weaker, m
 use Rattle.sqlite_tied.proofs.RuleLemmas.{and_true}
 use Rattle.gate_types.specs.declared.records.Item.{Item}
 use Rattle.gate_book_trait.specs.Reads.{items_between}
-use Rattle.gate_rows.specs.Tells.{items_of}
+use Rattle.gate_rows.specs.Matches.{items_of}
 use Rattle.gate_schema.specs.Rows.{Stored, bit, build_key, build_row, item_row}
 use Rattle.gate_schema.specs.Shown.{build_shown}
 use Rattle.gate_schema.proofs.Statements.{key_is, no_limit}

@@ -20,7 +20,7 @@ use Rattle.gate_types.specs.Forms.{is_change_number, is_drawn_number, is_revisio
 use Rattle.gate_types.specs.Names.{is_name, same_name}
 use Rattle.gate_types.specs.declared.records.Item.{Item}
 use Rattle.gate_book_trait.specs.Reads.{items_between}
-use Rattle.gate_rows.specs.Tells.{items_of}
+use Rattle.gate_rows.specs.Matches.{items_of}
 use Rattle.gate_schema.specs.Rows.{ItemRow, JobRow, Stored, fast_key, fast_row, item_key, item_row, job_columns}
 use Rattle.gate_schema.proofs.ValueLemmas.{equal_numbers}
 use Rattle.gate_found_rows.specs.Asked.{jobs_of, plan_with, plans_between}

@@ -6,7 +6,7 @@ use Rattle.gate_types.specs.declared.config.Job.{Job}
 use Rattle.gate_types.specs.declared.records.Item.{Item}
 use Rattle.gate_types.specs.declared.records.Plan.{Plan}
 use Rattle.gate_book_trait.specs.Reads.{items_between}
-use Rattle.gate_rows.specs.Tells.{items_of}
+use Rattle.gate_rows.specs.Matches.{items_of}
 use Rattle.gate_schema.specs.Rows.{JobRow, Stored}
 
 -- ---- what is read

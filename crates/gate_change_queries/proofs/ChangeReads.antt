@@ -17,7 +17,7 @@ use Rattle.sqlite_trees.specs.Tree.{IsAscending}
 use Rattle.gate_types.specs.Forms.{is_change_in_form, is_change_number}
 use Rattle.gate_types.specs.declared.records.Change.{Change}
 use Rattle.gate_types.specs.declared.rows.ChangeRow.{ChangeRow}
-use Rattle.gate_rows.specs.Tells.{needs_in}
+use Rattle.gate_rows.specs.Matches.{needs_in}
 use Rattle.gate_schema.specs.Edits.{need_rows}
 use Rattle.gate_schema.specs.Rows.{NeedRow, Stored, change_key, change_row, need_columns}
 use Rattle.gate_schema.proofs.QueryLemmas.{passes}

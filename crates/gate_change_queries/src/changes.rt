@@ -6,7 +6,7 @@ ghost use Rattle.gate_types.specs.Forms.{is_change_in_form, is_change_number};
 ghost use Rattle.gate_types.specs.declared.records.Change.{Change as ChangeOf};
 ghost use Rattle.gate_types.specs.declared.rows.ChangeRow.{ChangeRow};
 ghost use Rattle.gate_book_trait.specs.Reads.{Answers};
-ghost use Rattle.gate_rows.specs.Tells.{needs_in};
+ghost use Rattle.gate_rows.specs.Matches.{needs_in};
 ghost use Rattle.gate_found_rows.specs.Asked.{approval_of, known_change};
 ghost use Rattle.gate_found_rows.specs.Reads.{IsOnlyRead, Opened, Tells};
 ghost use Rattle.gate_found_rows.specs.Shown.{approval_shown, change_shown, number_shown};

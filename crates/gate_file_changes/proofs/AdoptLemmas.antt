@@ -18,7 +18,7 @@ use Rattle.gate_types.specs.Tables.{QueueRows, tables}
 use Rattle.gate_types.specs.declared.config.Queue.{Queue as QueueSetting}
 use Rattle.gate_types.proofs.AdoptedLemmas.{tables_adopted}
 use Rattle.gate_types.proofs.NameLemmas.{same_name_is}
-use Rattle.gate_rows.specs.Tells.{StandsFor, Matches, of_queue, placed}
+use Rattle.gate_rows.specs.Matches.{StandsFor, Matches, of_queue, placed}
 use Rattle.gate_schema.specs.Rows.{QueueRow, Stands, Stored}
 use Rattle.gate_file_changes.specs.Adopts.{CanAdopt, resized, rewritten, window_in}
 use Rattle.gate_file_changes.specs.Making.{first_queue_rows}
@@ -170,9 +170,9 @@ none_gone c d x its may name any =
     (sym (all_named (λ (q : QueueSetting). q.name) (λ n. has_queue d.queues n) c.queues) ∙ all)
     (ap (λ ms. list_any (λ m. same_name m name) ms) (sym (told_names c x its)) ∙ sym (any_named (λ (q : QueueRows). q.name) name (tables c x).queues) ∙ any)
 
-pub tells_adopted : (c d : Settings) (x : Content) (b : Stored) → HasItsQueues c x → may_adopt c d ≡ true → Matches b (tables c x) →
+pub matches_adopted : (c d : Settings) (x : Content) (b : Stored) → HasItsQueues c x → may_adopt c d ≡ true → Matches b (tables c x) →
     Matches (rewritten (settings_text d) (map (resized c b.queues) d.queues) b) (tables d (adopted_content c d x))
-tells_adopted c d x b its may h =
+matches_adopted c d x b its may h =
     let told = (tables c x).queues in
     let there = none_gone c d x its may in
     let are = h.queues_are in
@@ -200,7 +200,7 @@ stands_adopted old new c d x text can is stands =
       stored = rewritten (settings_text d) (map (resized c b.queues) d.queues) b;
       stands = subst (λ t. Stands new (rewritten t (map (resized c b.queues) d.queues) b)) is stands;
       settings = refl;
-      tells = tells_adopted c d x b can.lawful.lawful.sound.queues_are_set can.may can.stands.tells;
+      matches = matches_adopted c d x b can.lawful.lawful.sound.queues_are_set can.may can.stands.matches;
     }
 
 -- ---- one queue more

@@ -16,7 +16,8 @@ use Rattle.sqlite_schema.specs.declared.program.Program.{Program}
 use Rattle.sqlite_tied.proofs.RuleLemmas.{and_true}
 use Rattle.sqlite_tied.specs.Compute.{everything}
 use Rattle.sqlite_trees.specs.Tree.{rowid}
-use Rattle.gate_schema.specs.Rows.{IsFixed, IsReady, Stands, Stored, meta_columns, queue_columns, schema_version}
+use Rattle.gate_schema.specs.Rows.{IsFixed, IsReady, Stands, Stored, meta_columns, pair_of_words, queue_columns}
+use Rattle.gate_schema.specs.Rows.{schema_version}
 use Rattle.gate_schema.specs.Schema.{gate_schema, meta_at, queue_at}
 use Rattle.gate_schema.proofs.ChangeLemmas.{changed, listed_changed, numbered_changed, updated_rows}
 use Rattle.gate_schema.proofs.DeleteLemmas.{deleted_ids, leaves_others}
@@ -80,11 +81,13 @@ set_settings_is = (refl, (refl, refl))
 with_text : (db : Trees) (b : Stored) (text : List ℕ) → Others 0 db b → IsFixed (meta_columns text) (db 0) → Stands db (with_settings text b)
 with_text db b text o h = record { listed = o.listed; meta = h; counter = o.counter refl; queue = o.queue refl; change = o.change refl; need = o.need refl; item = o.item refl; build = o.build refl; landing = o.landing refl; report = o.report refl; delivery = o.delivery refl; job = o.job refl; fast = o.fast refl }
 
-abbrev pair_columns : List ℕ × List ℕ → Row
-pair_columns p = Words p.0 ∷ Words p.1 ∷ []
+-- a key and its value, as a row of `meta`
+abbrev pub pair_columns : List ℕ × List ℕ → Row
+pair_columns p = pair_of_words p.0 p.1
 
-abbrev pairs : List ℕ → List (List ℕ × List ℕ)
-pairs text = (codes "format", codes "gate") ∷ (codes "schema", schema_version) ∷ (codes "settings", text) ∷ []
+-- each key of `meta` and its value, of this version of the tables
+abbrev pub meta_pairs : List ℕ → List ℕ → List (List ℕ × List ℕ)
+meta_pairs version text = (codes "format", codes "gate") ∷ (codes "schema", version) ∷ (codes "settings", text) ∷ []
 
 abbrev key : List ℕ
 key = codes "settings"
@@ -94,10 +97,10 @@ made_text : (text : List ℕ) (x : List ℕ × List ℕ) (db : Trees) (v : Row) 
 made_text text x db [] is = absurd cc
 made_text text x db (y ∷ rest) is = ap (λ l. drop 1 (renewed (meta_at 0) set_settings_terms (Words key ∷ Words text ∷ []) db (y ∷ l))) is
 
-one_of : (text : List ℕ) → length (filter (λ x. bytes_eq x.0 key) (pairs text)) ≤ 1
+one_of : (text : List ℕ) → length (filter (λ x. bytes_eq x.0 key) (meta_pairs schema_version text)) ≤ 1
 one_of text = omega arith
 
-text_is : (old text : List ℕ) → map pair_columns (changed (λ x. bytes_eq x.0 key) (λ x. (x.0, text)) (pairs old)) ≡ meta_columns text
+text_is : (old text : List ℕ) → map pair_columns (changed (λ x. bytes_eq x.0 key) (λ x. (x.0, text)) (meta_pairs schema_version old)) ≡ meta_columns text
 text_is old text = refl
 
 pub sets_settings : (text : List ℕ) (old new : State) (count : ℕ) → IsReady old → ExecutesInside 0 set_settings_sql (Words key ∷ Words text ∷ []) old new (Ok count)
@@ -114,8 +117,8 @@ sets_settings text old new count ready h =
     let made : (v : Row) (x : List ℕ × List ℕ) → drop 1 v ≡ pair_columns x → drop 1 (new_row v) ≡ pair_columns (x.0, text) = λ v x is. made_text text x old.now.trees v is in (
       record { schema_is = e.2.schema_is; inside = h.1.mode },
       λ b stands.
-          let few : length (filter (λ x. bytes_eq x.0 key) (pairs b.settings)) ≤ 1 = one_of b.settings in
-          let short : length (filter test (old.now.trees 0)) ≤ 1 = subst (λ n. n ≤ 1) (sym (few_found pair_columns test (λ x. bytes_eq x.0 key) same (old.now.trees 0) (pairs b.settings) stands.meta.columns_are)) few in
+          let few : length (filter (λ x. bytes_eq x.0 key) (meta_pairs schema_version b.settings)) ≤ 1 = one_of b.settings in
+          let short : length (filter test (old.now.trees 0)) ≤ 1 = subst (λ n. n ≤ 1) (sym (few_found pair_columns test (λ x. bytes_eq x.0 key) same (old.now.trees 0) (meta_pairs schema_version b.settings) stands.meta.columns_are)) few in
           let rows : e.0 ≡ map (out (meta_at 0) set_settings_terms params old.now.trees) (filter test (old.now.trees 0)) =
           shows_few 0 (key_is 1 ∷ []) (col 1 0 ∷ set_settings_terms) [] no_limit db params e.0 short (e.1.answer Null) in
           let left : new.now.trees 0 ≡ changed test new_row (old.now.trees 0) =
@@ -123,7 +126,7 @@ sets_settings text old new count ready h =
           ∙ updated_rows test new_row (old.now.trees 0) stands.meta.numbered (λ r its. int_cast (rowid r) its) short in
           with_text new.now.trees b text (others_stay old new _ 0 b e.2 refl refl stands)
           (subst (IsFixed (meta_columns text)) (sym left) (record {
-            columns_are = listed_changed pair_columns test new_row (λ x. bytes_eq x.0 key) (λ x. (x.0, text)) same made (old.now.trees 0) (pairs b.settings) stands.meta.columns_are ∙ text_is b.settings text;
+            columns_are = listed_changed pair_columns test new_row (λ x. bytes_eq x.0 key) (λ x. (x.0, text)) same made (old.now.trees 0) (meta_pairs schema_version b.settings) stands.meta.columns_are ∙ text_is b.settings text;
             numbered = numbered_changed test new_row (λ r its. int_cast (rowid r) its) (old.now.trees 0) stands.meta.numbered;
           })),
     )

@@ -29,8 +29,8 @@ use Rattle.gate_types.specs.declared.edits.Edit.TheVariants as edit
 use Rattle.gate_types.specs.declared.records.Plan.{Plan}
 use Rattle.gate_schema.specs.Edits.{after_edit, after_edits, with_window}
 use Rattle.gate_schema.specs.Rows.{AreNamed, Changes, QueueRow, Stands, Stored}
-use Rattle.gate_rows.specs.Tells.{FitsBeside, HaveJobs, IsInOrder, IsTold, NamesQueue, StandsFor, Matches, placed}
-use Rattle.gate_rows.proofs.PlanTells.{jobs_stay}
+use Rattle.gate_rows.specs.Matches.{FitsBeside, HaveJobs, IsInOrder, IsTold, NamesQueue, StandsFor, Matches, placed}
+use Rattle.gate_rows.proofs.PlanMatches.{jobs_stay}
 use Rattle.gate_rows.proofs.ThenLemmas.{changes_same, changes_then}
 use Rattle.gate_rows.proofs.UniqueLemmas.{are_named}
 use Rattle.gate_found_rows.specs.Finds.{Stays}
@@ -39,7 +39,7 @@ use Rattle.gate_book_trait.specs.declared.fault.BookFault.{BookFault}
 use Rattle.gate_book_trait.specs.declared.fault.BookFault.TheVariants as fault
 use Rattle.gate_file_changes.specs.Applies.{CanLead, IsLed, LeavesOrStands, OfLawful, Settles, Steps, Turns}
 use Rattle.gate_file_changes.specs.Applies.{are_known, is_among, is_known, names_in}
-use Rattle.gate_content_reads.specs.Held.{HoldsFor, IsShownFor, ShowsFor, StandsForOne, queue_names}
+use Rattle.gate_table_laws.specs.Held.{HoldsFor, IsShownFor, ShowsFor, StandsForOne, queue_names}
 
 -- ---- the names of the queues
 
@@ -126,12 +126,12 @@ steps_more law first old new edits i e within is steps change beside =
       planned = λ b t named stands have.
           subst (λ (u : Tables). HaveJobs u.plans) (folded t)
           (jobs_stay e (after_edits (take i edits) b) (fold_all t (take i edits)) (fits b named stands) (steps.planned b t named stands have));
-      told = λ b t named stands known have tells.
+      told = λ b t named stands known have matches.
           let c = after_edits (take i edits) b in
           let parts = and_parts _ _ (sym (list_all_more (is_known (names_in b)) edits i e within) ∙ known) in
           let mine : is_known (names_in c) e ≡ true = ap (λ names. is_known names e) (edits_keep_names (take i edits) b) ∙ ap (is_known (names_in b)) is ∙ parts.1 in
           let held = steps.changes.stands b named stands in
-          let next = law e c (fold_all t (take i edits)) (stands_in_order old c held) (names_queue e c mine, fits b named stands) (steps.planned b t named stands have) (steps.told b t named stands parts.0 have tells) in
+          let next = law e c (fold_all t (take i edits)) (stands_in_order old c held) (names_queue e c mine, fits b named stands) (steps.planned b t named stands have) (steps.told b t named stands parts.0 have matches) in
           subst (Matches (after_edits (take (i + 1) edits) b)) (folded t) (subst (λ d. Matches d (edited_tables (fold_all t (take i edits)) e)) (after b) next);
     }
 
@@ -150,13 +150,13 @@ steps_turn old new edits steps = record {
       let b = can.stands.stored in
       let named = are_named old.now.trees b can.sound can.stands.stands in
       let names : names_in b ≡ queue_names c =
-      ap (map (λ (q : QueueRow). q.name)) can.stands.tells.queues_are.places ∙ placed_names 0 (tables c x).queues ∙ map-map _ _ x.state.queues ∙ can.led.queues_are_set in
+      ap (map (λ (q : QueueRow). q.name)) can.stands.matches.queues_are.places ∙ placed_names 0 (tables c x).queues ∙ map-map _ _ x.state.queues ∙ can.led.queues_are_set in
       let known : are_known (names_in b) edits ≡ true = ap (λ n. are_known n edits) names ∙ can.led.known in
       record {
         stored = after_edits edits b;
         stands = steps.changes.stands b named can.stands.stands;
         settings = edits_keep_settings edits b ∙ can.stands.settings;
-        tells = subst (Matches (after_edits edits b)) can.led.leads (steps.told b (tables c x) named can.stands.stands known can.led.planned can.stands.tells);
+        matches = subst (Matches (after_edits edits b)) can.led.leads (steps.told b (tables c x) named can.stands.stands known can.led.planned can.stands.matches);
       };
 }
 

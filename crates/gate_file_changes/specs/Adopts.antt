@@ -8,7 +8,7 @@ use Rattle.gate_types.specs.Names.{same_name}
 use Rattle.gate_types.specs.Once.{Content}
 use Rattle.gate_types.specs.Settings.{Settings, are_sound}
 use Rattle.gate_types.specs.declared.config.Queue.{Queue as QueueSetting}
-use Rattle.gate_rows.specs.Tells.{StandsFor}
+use Rattle.gate_rows.specs.Matches.{StandsFor}
 use Rattle.gate_schema.specs.Rows.{QueueRow, Stored}
 use Rattle.gate_file_changes.specs.Making.{first_queue_rows}
 

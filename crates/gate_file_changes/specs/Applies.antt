@@ -15,8 +15,8 @@ use Rattle.gate_types.specs.declared.edits.Edit.TheVariants as edit
 use Rattle.gate_schema.specs.Edits.{after_edits}
 use Rattle.gate_schema.specs.Rows.{AreNamed, Changes, IsReady, QueueRow, Stands, Stored}
 use Rattle.gate_schema.specs.Schema.{gate_schema}
-use Rattle.gate_rows.specs.Tells.{HaveJobs, StandsFor, Matches}
-use Rattle.gate_content_reads.specs.Held.{ShowsFor, queue_names}
+use Rattle.gate_rows.specs.Matches.{HaveJobs, StandsFor, Matches}
+use Rattle.gate_table_laws.specs.Held.{ShowsFor, queue_names}
 
 -- ---- the queues that edits name
 

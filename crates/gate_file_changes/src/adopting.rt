@@ -7,14 +7,14 @@ ghost use Rattle.gate_types.specs.Adopt.{adopted_content};
 ghost use Rattle.gate_types.specs.AdoptedTables.{adopted_window};
 ghost use Rattle.gate_types.specs.Once.{Content};
 ghost use Rattle.gate_types.specs.SettingsText.{settings_text};
-ghost use Rattle.gate_rows.specs.Tells.{StandsFor};
+ghost use Rattle.gate_rows.specs.Matches.{StandsFor};
 ghost use Rattle.gate_rows.specs.Writes.{LeavesNothing};
 ghost use Rattle.gate_schema.specs.Rows.{Stands};
 ghost use Rattle.gate_schema.specs.Schema.{gate_schema};
 ghost use Rattle.gate_found_rows.specs.Finds.{Stays};
 ghost use Rattle.gate_found_rows.specs.Reads.{IsOnlyRead, IsShown, Shows, Tells};
 ghost use Rattle.gate_file_changes.specs.Adopts.{CanAdopt, resized, rewritten, with_settings};
-ghost use Rattle.gate_content_reads.specs.Held.{IsShownFor};
+ghost use Rattle.gate_table_laws.specs.Held.{IsShownFor};
 ghost use Rattle.gate_file_changes.specs.Making.{IsFilled, IsInside, IsSettled, KeepsInside, Turns, with_rows};
 
 use crate::filling::add_queues;

@@ -7,12 +7,12 @@ ghost use Rattle.gate_types.specs.Once.{Content};
 ghost use Rattle.gate_types.specs.Settings.{Settings};
 ghost use Rattle.gate_schema.specs.Rows.{IsReady};
 ghost use Rattle.gate_schema.specs.Schema.{gate_schema};
-ghost use Rattle.gate_rows.specs.Tells.{StandsFor};
+ghost use Rattle.gate_rows.specs.Matches.{StandsFor};
 ghost use Rattle.gate_rows.specs.Writes.{Keeps, LeavesNothing};
 ghost use Rattle.gate_found_rows.specs.Finds.{Stays};
 ghost use Rattle.gate_file_changes.specs.Applies.{CanLead, LeavesOrStands, OfLawful, OfLed, Settles, Steps, Turns};
 ghost use Rattle.gate_file_changes.specs.Applies.{are_known, is_among, is_known};
-ghost use Rattle.gate_content_reads.specs.Held.{IsShownFor, ShowsFor};
+ghost use Rattle.gate_table_laws.specs.Held.{IsShownFor, ShowsFor};
 
 use gate_book_trait::BookFault;
 use gate_found_rows::fault::book_fault;

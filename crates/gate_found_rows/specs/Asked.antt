@@ -18,7 +18,7 @@ use Rattle.gate_book_trait.specs.Reads.{items_between}
 use Rattle.gate_book_trait.specs.declared.rows.QueuedItem.{QueuedItem}
 use Rattle.gate_schema.specs.Rows.{ItemRow, JobRow, QueueRow, Stored, build_key, change_key, item_key}
 use Rattle.gate_schema.specs.Shown.{needs_it}
-use Rattle.gate_rows.specs.Tells.{items_of, landings_of, reports_of}
+use Rattle.gate_rows.specs.Matches.{items_of, landings_of, reports_of}
 
 -- ---- items
 

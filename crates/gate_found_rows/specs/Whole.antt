@@ -11,7 +11,7 @@ use Rattle.gate_types.specs.declared.records.Ready.{Ready}
 use Rattle.gate_types.specs.declared.rows.ChangeRow.{ChangeRow}
 use Rattle.gate_schema.specs.Edits.{job_rows}
 use Rattle.gate_schema.specs.Rows.{ItemRow, JobRow, QueueRow, Stored}
-use Rattle.gate_rows.specs.Tells.{TellsNeeds, items_of}
+use Rattle.gate_rows.specs.Matches.{NeedsMatch, items_of}
 use Rattle.gate_found_rows.specs.Asked.{jobs_of, ready_rows}
 use Rattle.gate_types.specs.Limits.{most_items, most_window}
 use Rattle.gate_types.specs.Counters.{last_number}
@@ -53,7 +53,7 @@ pub record IsWhole (b : Stored) : Type 0 where
   pub windows : AllPass (λ (q : QueueRow). nat_le q.window most_window) b.queues
   pub changes : AllPass is_change_row_in_form b.changes
   pub approvals_differ : AllPairs (λ (r s : Ready). r.approval ≢ s.approval) (ready_rows b.changes)
-  pub needs : TellsNeeds b.needs b.changes
+  pub needs : NeedsMatch b.needs b.changes
   pub items : AllPass is_item_row_in_form b.items
   pub changes_differ : AllPairs (λ (r s : ItemRow). r.item.change ≢ s.item.change) b.items
   pub items_are_few : (name : List ℕ) → length (items_of name b.items) ≤ most_items

@@ -56,7 +56,8 @@ known_is bytes text (Ok t) a known h k =
     subst (λ o. Tells (told.Answer a) (told.Answer (answer_known o))) (sym k)
     (subst (λ b. Tells (told.Answer b) (told.Answer (Said (bytes t)))) (sym h) refl)
 known_is bytes text (Err e) a known h (inl u) =
-    subst (λ b. Tells (told.Answer b) (told.Answer (answer_known (option_map text known)))) (sym (h ∙ ap Refused u)) refl
+    subst (λ b. Tells (told.Answer b) (told.Answer (answer_known (option_map text known)))) (sym (h ∙ ap Refused u))
+    refl
 known_is bytes text (Err e) a known h (inr v) =
     subst (λ k. Tells (told.Answer a) (told.Answer (answer_known (option_map text k)))) (sym v.1)
     (subst (λ b. Tells (told.Answer b) (told.Answer (Refused refusal.UnknownChange))) (sym (h ∙ ap Refused v.0)) refl)

@@ -51,7 +51,8 @@ fits_cond false a b h k = k
 
 fits_in : (fields : List Pair) → FitsBody (length_in fields)
 fits_in [] = tt
-fits_in (f ∷ []) = fits_cond (are_digits f.1) (length_within (digits_value 10 f.1)) body.Bad (fits_within (digits_value 10 f.1)) tt
+fits_in (f ∷ []) = fits_cond (are_digits f.1) (length_within (digits_value 10 f.1)) body.Bad
+    (fits_within (digits_value 10 f.1)) tt
 fits_in (f ∷ g ∷ more) = tt
 
 fits_unless : (encodings lengths : List Pair) → FitsBody (length_unless encodings lengths)
@@ -69,7 +70,11 @@ bounded_cond true a b h k = h
 bounded_cond false a b h k = k
 
 bounded_by_post : (h : RequestHead) (d : Door) → IsBounded (by_post h d)
-bounded_by_post h d = bounded_cond _ (posted_of d (length_of (map name_and_value h.fields))) (refused fault.NotPost (extent_of h.method)) (bounded_post d (length_of (map name_and_value h.fields)) (fits_unless (named_of (codes "transfer-encoding") (map name_and_value h.fields)) (named_of (codes "content-length") (map name_and_value h.fields)))) tt
+bounded_by_post h d = bounded_cond _ (posted_of d (length_of (map name_and_value h.fields)))
+    (refused fault.NotPost (extent_of h.method))
+    (bounded_post d (length_of (map name_and_value h.fields))
+    (fits_unless (named_of (codes "transfer-encoding") (map name_and_value h.fields))
+    (named_of (codes "content-length") (map name_and_value h.fields)))) tt
 
 bounded_by_get : (h : RequestHead) (d : Option Decided) → IsBoundedIf d → IsBounded (by_get h d)
 bounded_by_get h None k = tt
@@ -97,5 +102,6 @@ bounded_of (Some h) = bounded_route h (path_of h.target) (route_of (path_of h.ta
 pub bounded : (head : List ℕ) (found : Option RequestHead) → IsBounded (decided head found)
 bounded head found = bounded_cond _ (refused fault.HeadTooLarge extent.Whole) (decided_of found) tt (bounded_of found)
 
-pub posted_within : (head : List ℕ) (found : Option RequestHead) (d : Door) (n : ℕ) → posted d n ≡ decided head found → n ≤ most_bytes
+pub posted_within : (head : List ℕ) (found : Option RequestHead) (d : Door) (n : ℕ) → posted d n ≡ decided head found
+    → n ≤ most_bytes
 posted_within head found d n e = subst IsBounded (sym e) (bounded head found)

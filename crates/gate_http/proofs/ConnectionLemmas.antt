@@ -65,7 +65,8 @@ more_calls leaves m n old mid new g h after (first, left) (next, later) = (
     calls = first.calls ++ next.calls;
     few = omega (arith, first.few, next.few, length-append first.calls next.calls);
     stands = next.stands ∙ ap (λ x. gate_after x next.calls) first.stands
-        ∙ ap (λ x. record g { content = x }) (sym (fold-append (next_content g.settings) g.content first.calls next.calls));
+        ∙ ap (λ x. record g { content = x })
+        (sym (fold-append (next_content g.settings) g.content first.calls next.calls));
   },
   leaves_more_calls leaves old mid new g h first.calls next.calls first.stands left later,
 )
@@ -152,7 +153,8 @@ module _ {B : Type 0} (trusted : B → Type 0) (holds : B → Settings → Conte
       done_once old new (way_of ok.0) served Wrote ok.2
   called_once Read Wrote Broke Begun old new (Err fault.Write) ok write read memory store =
       let w = write refl in done_once old new (way_of w.0) w.2 Broke w.3
-  called_once Read Wrote Broke Begun old new (Err fault.Read) ok write read memory store = uncalled 1 old new (read refl)
+  called_once Read Wrote Broke Begun old new (Err fault.Read) ok write read memory store =
+      uncalled 1 old new (read refl)
   called_once Read Wrote Broke Begun old new (Err fault.NoMemory) ok write read memory store =
       uncalled 1 old new (memory refl)
   called_once Read Wrote Broke Begun old new (Err fault.Store) ok write read memory store =

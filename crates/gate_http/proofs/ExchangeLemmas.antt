@@ -109,7 +109,8 @@ read_refused from left head f x h decides =
     read_head_alone from left head (refused f x) (refusal f x) h decides (λ rest. (refl, refl))
 
 -- what needs no body goes its way whatever follows
-alone_by : (w : Wanted) (rest : List ℕ) → (way_on rest (read_by w) ≡ way_on [] (read_by w)) × (body_on rest (read_by w) ≡ [])
+alone_by : (w : Wanted) (rest : List ℕ) → (way_on rest (read_by w) ≡ way_on [] (read_by w))
+    × (body_on rest (read_by w) ≡ [])
 alone_by (wanted.Ask q) rest = (refl, refl)
 alone_by (wanted.Lines s) rest = (refl, refl)
 
@@ -129,7 +130,8 @@ read_posted from mid left head body d n h decides b =
     let first : take n rest ≡ body = subst (λ m. take m rest ≡ body) b.ends (take-append_seam body k.0) in
     let enough : n ≤ length rest = omega (arith, length-append body k.0, b.ends) in
     let asked : way_on rest (posted d n) ≡ question (delivery d body) =
-    ap (λ t. cond t (refusal fault.Cut extent.Whole) (question (delivery d (take n rest)))) (le-ltb (length rest) n enough)
+    ap (λ t. cond t (refusal fault.Cut extent.Whole) (question (delivery d (take n rest))))
+    (le-ltb (length rest) n enough)
     ∙ ap (λ x. question (delivery d x)) first in
     subst (Reads from left) asked (read_whole from left head rest (posted d n)
     (subst (IsKnown from) (append_assoc head body k.0) k.1) (h.begins rest) decides
@@ -143,7 +145,8 @@ read_cut from mid left head body d n h decides b =
     let read = Consumes-trans from mid left head body h.read b.read in
     let all : take n body ≡ body = take_all n body (omega (arith, b.ends.0)) in
     let asked : way_on body (posted d n) ≡ refusal fault.Cut extent.Whole =
-    ap (λ t. cond t (refusal fault.Cut extent.Whole) (question (delivery d (take n body)))) (lt-ltb (length body) n b.ends.0) in
+    ap (λ t. cond t (refusal fault.Cut extent.Whole) (question (delivery d (take n body))))
+    (lt-ltb (length body) n b.ends.0) in
     subst (Reads from left) asked (read_whole from left head body (posted d n)
     (known_end from left (head ++ body) read b.ends.1) (h.begins body) decides
     (subst (λ x. Consumes from left (head ++ x)) (sym all) read))
@@ -155,7 +158,8 @@ pub body_waits : (from mid left : Option (List ℕ)) (head body : List ℕ) (d :
 body_waits from mid left head body d n h (found, finds, p) short took =
     let e = h.begins body in
     let asked : way_on body (posted d n) ≡ refusal fault.Cut extent.Whole =
-    ap (λ t. cond t (refusal fault.Cut extent.Whole) (question (delivery d (take n body)))) (lt-ltb (length body) n short) in
+    ap (λ t. cond t (refusal fault.Cut extent.Whole) (question (delivery d (take n body))))
+    (lt-ltb (length body) n short) in
     record {
       front = record { input = head ++ body; found = found; finds = subst (λ x. FindsIn x found) (sym e) finds };
       read = Consumes-trans from mid left head body h.read took;

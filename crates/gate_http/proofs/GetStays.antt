@@ -69,8 +69,10 @@ module _ {B : Type 0} (trusted : B → Type 0) (holds : B → Settings → Conte
       (after ≡ g) × (text : List ℕ) × Takes text × Answers form.Content g w served text after)
 
   -- by one text
-  of_one : (old new : Gate B) (w : Way) (served : Served) (Takes : List ℕ → Type 0) → Keeps w → (text : List ℕ) → Takes text
-      → Goes trusted holds old new (λ g after. Answers form.Content g w served text after) → Stays old new w served Takes
+  of_one : (old new : Gate B) (w : Way) (served : Served) (Takes : List ℕ → Type 0) → Keeps w → (text : List ℕ)
+      → Takes text
+      → Goes trusted holds old new (λ g after. Answers form.Content g w served text after)
+      → Stays old new w served Takes
   of_one old new w served Takes keeps text takes it = record {
     settings = it.settings;
     trusted_before = it.trusted_before;
@@ -81,7 +83,8 @@ module _ {B : Type 0} (trusted : B → Type 0) (holds : B → Settings → Conte
   -- any request
   pub serves_stays : (old new : Gate B) (w : Way) (served : Served) (Takes : List ℕ → Type 0) → Keeps w
       → ServesAs trusted holds leaves form.Content old new w served Takes → Stays old new w served Takes
-  serves_stays old new silence served Takes keeps (text, takes, s) = of_one old new silence served Takes keeps text takes s.answers
+  serves_stays old new silence served Takes keeps (text, takes, s) =
+      of_one old new silence served Takes keeps text takes s.answers
   serves_stays old new (refusal f x) served Takes keeps (text, takes, s) =
       of_one old new (refusal f x) served Takes keeps text takes s.answers
   serves_stays old new (question asked) served Takes keeps (text, takes, s) =

@@ -15,14 +15,16 @@ use Rattle.gate_http.proofs.RequestLemmas.{reads_on}
 -- what is read at a path that a head can hold is what a GET of it asks for
 pub got_read : (path before : List ℕ) (r : Option Route) (read : Result Wanted HttpFault) → length path ≤ 8175
     → is_target path ≡ true → before ≡ path_of path → r ≡ route_of before
-    → read_or (extent_of (get_head path).method) read ≡ reading (get_head path) before r → read_or extent.Whole read ≡ got path
+    → read_or (extent_of (get_head path).method) read ≡ reading (get_head path) before r
+    → read_or extent.Whole read ≡ got path
 got_read path before r read short fits cuts routed reads =
     let h = get_head path in
     let asked = decided_of (Some h) in
     let at : on_route h before r ≡ asked =
     ap (on_route h before) routed ∙ ap (λ p. on_route h p (route_of p)) cuts in
     let small : got path ≡ cond (is_target path) asked (refused fault.BadRequest extent.Whole) =
-    ap (λ t. cond t (refused fault.HeadTooLarge extent.Whole) (cond (is_target path) asked (refused fault.BadRequest extent.Whole)))
+    ap (λ t. cond t (refused fault.HeadTooLarge extent.Whole)
+    (cond (is_target path) asked (refused fault.BadRequest extent.Whole)))
     (le-ltb 8175 (length path) short) in
     let good : cond (is_target path) asked (refused fault.BadRequest extent.Whole) ≡ asked =
     ap (λ t. cond t asked (refused fault.BadRequest extent.Whole)) fits in

@@ -49,7 +49,8 @@ lines_fields (f ∷ fields) =
     )
 
 lines_section : (fields : List Field) (last : LineEnd) → length fields + 1 ≤ lines (print_section fields last)
-lines_section fields last = omega (arith, lines_fields fields, lines_append (flat_map print_field fields) (print_end last), line_end last)
+lines_section fields last =
+    omega (arith, lines_fields fields, lines_append (flat_map print_field fields) (print_end last), line_end last)
 
 lines_request : (h : RequestHead) → length h.fields + 2 ≤ lines (print_request h)
 unfolding print_request
@@ -65,7 +66,8 @@ lines_request h =
 
 pub few_lines : (head : List ℕ) (h : RequestHead) (rest : List ℕ) → FewLinesFit head h rest
 few_lines head h rest = λ reads few.
-    let all : lines head ≡ lines (print_request h) + lines rest = ap lines reads.1 ∙ lines_append (print_request h) rest in
+    let all : lines head ≡ lines (print_request h) + lines rest = ap lines reads.1
+    ∙ lines_append (print_request h) rest in
     omega (arith, all, lines_request h)
 
 -- an input that is answered by nothing is empty
@@ -83,7 +85,8 @@ silent_short : (t : Bool) (found : Option RequestHead) → way_from (cond t cut 
 silent_short true found e = cc
 silent_short false found e = cc
 
-silent_front : (input : List ℕ) (h : Option (List ℕ)) (found : Option RequestHead) → way_from (front_with input h) found ≡ silence → input ≡ []
+silent_front : (input : List ℕ) (h : Option (List ℕ)) (found : Option RequestHead)
+    → way_from (front_with input h) found ≡ silence → input ≡ []
 silent_front [] h found e = refl
 silent_front (b ∷ bs) None found e = absurd (silent_short (ltb (length (b ∷ bs)) head_limit) found e)
 silent_front (b ∷ bs) (Some head) found e = absurd (silent_on (drop (length head) (b ∷ bs)) (decided head found) e)

@@ -80,7 +80,8 @@ found_answers form g after wanted served Takes (Some t) at e h stays = (
 module _ {B : Type 0} (trusted : B → Type 0) (holds : B → Settings → Content → Type 0)
     (leaves : B → Settings → List Content → Type 0) where
   -- a gate that was handed a call
-  after_call : (c : Settings) (gate : Gate B) (left leaving : List Content → Type 0) (g : Gated) (id : Id) (d : Delivery)
+  after_call : (c : Settings) (gate : Gate B) (left leaving : List Content → Type 0) (g : Gated) (id : Id)
+      (d : Delivery)
       (a : Answer) → gate.config ≡ c → g.settings ≡ c
       → Answered c g.content (call id d (is_unavailable a)) a (GateHolds holds gate) left leaving
       → (after : Gated) × IsOver holds gate after
@@ -96,7 +97,8 @@ module _ {B : Type 0} (trusted : B → Type 0) (holds : B → Settings → Conte
               (subst (λ s. IsLawfulContent c (next_content s g.content k)) (sym e) h.lawful);
         },
         (
-          subst (λ s. a ≡ answer_of s g.content k) (sym e) h.answer ∙ by_mark g.settings g.content id d (is_unavailable a),
+          subst (λ s. a ≡ answer_of s g.content k) (sym e) h.answer
+              ∙ by_mark g.settings g.content id d (is_unavailable a),
           refl,
         ),
       )
@@ -152,7 +154,8 @@ module _ {B : Type 0} (trusted : B → Type 0) (holds : B → Settings → Conte
 
   -- a call that was answered `unavailable` by a gate that did nothing
   survives : (c : Settings) (x : Content) (r : Result (Id × Delivery) Refusal) (left : List Content → Type 0)
-      → ((ys : List Content) (y : Content) → left ys → left (ys ++ y ∷ [])) → CrashLeaves c x (call_read true r) left left
+      → ((ys : List Content) (y : Content) → left ys → left (ys ++ y ∷ []))
+      → CrashLeaves c x (call_read true r) left left
   survives c x (Ok d) left more = record {
     acted = λ e. absurd (true≢false (sym e));
     stood = λ e. absurd (true≢false e);

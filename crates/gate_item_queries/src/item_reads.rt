@@ -4,7 +4,7 @@ ghost use Rattle.sqlite.specs.Held.{state};
 ghost use Rattle.sqlite.specs.Value.{owned};
 ghost use Rattle.sqlite.specs.declared.types.Value.TheVariants.{Int};
 ghost use Rattle.gate_book_trait.specs.Reads.{first_above, first_items_above, last_below};
-ghost use Rattle.gate_rows.specs.Tells.{items_of};
+ghost use Rattle.gate_rows.specs.Matches.{items_of};
 ghost use Rattle.gate_found_rows.specs.Asked.{item_at, items_needing, queued_of};
 ghost use Rattle.gate_found_rows.specs.Reads.{IsOnlyRead, Opened, Tells};
 

@@ -12,8 +12,8 @@ use Rattle.gate_kept_settings.proofs.FormLemmas.{said_is_good, same}
 use Rattle.gate_kept_settings.proofs.SettingsData.{settings_found}
 
 -- settings that are said, and whose text it is, are told
-pub tells : (text : List ℕ) (c : Settings) → said_by text ≡ Some c → text ≡ settings_text c → SaysSettings text c
-tells text c e is = let (sound, in_form) = said_is_good text c e in record { sound = sound; in_form = in_form; is = is }
+pub says_settings : (text : List ℕ) (c : Settings) → said_by text ≡ Some c → text ≡ settings_text c → SaysSettings text c
+says_settings text c e is = let (sound, in_form) = said_is_good text c e in record { sound = sound; in_form = in_form; is = is }
 
 -- a text tells what it says
 pub told_is : (text : List ℕ) (c d : Settings) → SaysSettings text c → said_by text ≡ Some d → d ≡ c

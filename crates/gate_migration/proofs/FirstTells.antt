@@ -17,20 +17,20 @@ use Rattle.gate_types.specs.Tables.{QueueRows}
 use Rattle.gate_types.specs.Rising.{In}
 use Rattle.gate_types.specs.declared.edits.Edit.{Edit}
 use Rattle.gate_schema.specs.Rows.{AreNamed, QueueRow, Stored}
-use Rattle.gate_rows.specs.Tells.{Matches, landings_of}
+use Rattle.gate_rows.specs.Matches.{Matches, landings_of}
 use Rattle.gate_book_trait.proofs.ReadLemmas.{rows_of_queue}
 use Rattle.gate_queue_queries.specs.First.{ShowsFirst, first_schema}
 use Rattle.gate_types.proofs.DistinctLemmas.{names_differ}
 use Rattle.gate_laws.proofs.Alone.{same_name_of}
 use Rattle.gate_laws.proofs.Members.{all, none_from, to_map}
 use Rattle.gate_laws.proofs.ItemRows.{items_of_rows}
-use Rattle.gate_content_reads.specs.Held.{queue_names}
+use Rattle.gate_table_laws.specs.Held.{queue_names}
 use Rattle.gate_migration.specs.Standing.{is_newly_taken}
 use Rattle.gate_migration.specs.Migrates.{CanMigrate, TellsQueue, TellsState, pair_of_item, pair_of_row, puts}
 use Rattle.gate_migration.specs.Upgrade.{CanUpgrade, tables_before, without_plans}
 use Rattle.gate_migration.proofs.MigrateLemmas.{first_plans, puts_known}
-use Rattle.gate_content_reads.proofs.told.Items.{names_placed}
-use Rattle.gate_content_reads.proofs.told.Names.{count_names, named_once}
+use Rattle.gate_table_laws.proofs.told.Items.{names_placed}
+use Rattle.gate_table_laws.proofs.told.Names.{count_names, named_once}
 use Rattle.gate_file_changes.specs.Applies.{are_known, names_in}
 
 -- where the names differ, a queue is found by its own
@@ -96,10 +96,10 @@ can_upgrade s c x edits sound are can =
       schema_is = can.schema_is;
       rows = can.stands.stands.rows;
       plans = record {
-        named = first_named c x b sound can.queues_are_set can.stands.tells;
+        named = first_named c x b sound can.queues_are_set can.stands.matches;
         known = subst (λ l. are_known (names_in b) l ≡ true) (sym are) (puts_known (names_in b) (first_plans c x));
         planned = tt;
-        tells = can.stands.tells;
+        matches = can.stands.matches;
       };
     }
 

@@ -12,7 +12,7 @@ use Rattle.gate_types.specs.declared.edits.Edit.TheVariants as edit
 use Rattle.gate_types.specs.declared.records.Plan.{Plan}
 use Rattle.gate_schema.specs.Edits.{after_edits}
 use Rattle.gate_schema.specs.Rows.{Stored}
-use Rattle.gate_rows.specs.Tells.{StandsFor, Matches}
+use Rattle.gate_rows.specs.Matches.{StandsFor, Matches}
 use Rattle.gate_file_changes.specs.Applies.{are_known}
 use Rattle.gate_migration.specs.Migrates.{puts}
 use Rattle.gate_migration.specs.Upgrade.{HasUpgraded, tables_before, without_plans}
@@ -47,5 +47,5 @@ stands_for_migrated db c x b settings h = record {
   stored = after_edits (puts (first_plans c x)) (without_plans b);
   stands = h.stands;
   settings = edits_keep_settings (puts (first_plans c x)) (without_plans b) ∙ settings;
-  tells = subst (Matches (after_edits (puts (first_plans c x)) (without_plans b))) (plans_fold (tables_before c x) (first_plans c x)) h.tells;
+  matches = subst (Matches (after_edits (puts (first_plans c x)) (without_plans b))) (plans_fold (tables_before c x) (first_plans c x)) h.matches;
 }

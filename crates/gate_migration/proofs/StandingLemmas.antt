@@ -14,10 +14,10 @@ use Rattle.gate_types.specs.SettingsText.{settings_text}
 use Rattle.gate_types.specs.declared.open_fault.OpenFault.{OpenFault}
 use Rattle.gate_types.specs.declared.open_fault.OpenFault.TheVariants as fault
 use Rattle.gate_schema.specs.Rows.{pair_of_words, first_version, schema_version}
-use Rattle.gate_rows.specs.Tells.{StandsFor}
+use Rattle.gate_rows.specs.Matches.{StandsFor}
 use Rattle.gate_found_rows.specs.Finds.{Stays}
 use Rattle.gate_found_rows.proofs.StayLemmas.{stays_then}
-use Rattle.gate_content_reads.specs.Held.{IsShownFor}
+use Rattle.gate_table_laws.specs.Held.{IsShownFor}
 use Rattle.gate_file_changes.specs.Making.{IsSettled}
 use Rattle.gate_migration.specs.Migrates.{Carries, HasNoneToMigrate}
 use Rattle.gate_migration.specs.Standing.{IsMigrated, IsStanding, fault_before, is_newly_taken}
@@ -57,16 +57,16 @@ standing_so (Err fault.Unavailable) P Q settings f h = tt
 
 -- ---- which version a file is of
 
-two_not_one : schema_version ≡ first_version → ⊥
-two_not_one h = let e : false ≡ true = ap (λ l. bytes_eq l first_version) h in true≢false (sym e)
+versions_differ : schema_version ≡ first_version → ⊥
+versions_differ h = let e : false ≡ true = ap (λ l. bytes_eq l first_version) h in true≢false (sym e)
 
 -- a file of schema 2 isn't of schema 1
 pub not_first : (t : Bool) (kept settings : List ℕ) → t ≡ true → IsStanding (Ok t) schema_version kept settings → ⊥
-not_first t kept settings is h = two_not_one (subst (λ t. IsStanding (Ok t) schema_version kept settings) is h).0
+not_first t kept settings is h = versions_differ (subst (λ t. IsStanding (Ok t) schema_version kept settings) is h).0
 
 -- and the other way round
 pub not_second : (t : Bool) (kept settings : List ℕ) → t ≡ false → IsStanding (Ok t) first_version kept settings → ⊥
-not_second t kept settings is h = two_not_one (sym (subst (λ t. IsStanding (Ok t) first_version kept settings) is h))
+not_second t kept settings is h = versions_differ (sym (subst (λ t. IsStanding (Ok t) first_version kept settings) is h))
 
 -- a file of schema 1 and of these settings isn't refused
 pub first_fails : (f : OpenFault) (kept settings : List ℕ) → kept ≡ settings → IsStanding (Err f) first_version kept settings → f ≡ fault.Unavailable
@@ -79,7 +79,7 @@ first_fails fault.Unavailable kept settings same h = refl
 pub second_fails : (f : OpenFault) (kept settings : List ℕ) → IsStanding (Err f) schema_version kept settings → f ≡ fault.Unavailable
 second_fails fault.WrongFile kept settings h = absurd h
 second_fails fault.OtherSchema kept settings h = absurd (h.1 refl)
-second_fails fault.OtherSettings kept settings h = absurd (two_not_one h.0)
+second_fails fault.OtherSettings kept settings h = absurd (versions_differ h.0)
 second_fails fault.Unavailable kept settings h = refl
 
 -- ---- a file of schema 1 with these settings

@@ -29,7 +29,7 @@ use Rattle.std.specs.Prelude.{◌⊎◌}
 use Rattle.gate_types.specs.Tables.{Tables}
 use Rattle.gate_types.specs.declared.edits.Edit.{Edit}
 use Rattle.gate_schema.specs.Rows as rows
-use Rattle.gate_schema.specs.Rows.{IsFixed, IsKeyed, IsListed, Stored, pair_of_words, first_version, schema_version}
+use Rattle.gate_schema.specs.Rows.{IsFixed, IsKeyed, IsListed, Stored, first_version, schema_version}
 use Rattle.gate_schema.specs.Schema.{gate_schema, item_fast_text, item_job_text, meta_at, schema_with}
 use Rattle.gate_schema.proofs.ChangeLemmas.{changed, listed_changed, numbered_changed, updated_rows}
 use Rattle.gate_schema.proofs.QueryLemmas.{over_table, passes, shows_few}
@@ -43,6 +43,7 @@ use Rattle.gate_queue_queries.specs.First.{first_schema}
 use Rattle.gate_file_changes.specs.Making.{IsFilled}
 use Rattle.gate_file_meta.specs.Reading.{meta_rows}
 use Rattle.gate_migration.specs.Upgrade.{CanUpgrade, HasJobTable, HoldsRows, IsFirst, IsWidened, without_plans}
+use Rattle.gate_file_changes.proofs.AdoptTables.{meta_pairs, pair_columns}
 use Rattle.gate_file_changes.proofs.BareLemmas.{plain_parts}
 use Rattle.gate_file_changes.proofs.FillLemmas.{none_keyed, none_listed, sound_lists}
 use Rattle.gate_file_changes.proofs.MakeLemmas.{makes_table}
@@ -113,13 +114,6 @@ set_version_is : Is set_version_sql (Update 0 (record { lets = []; body = set_ve
 unfolding understood everything
 set_version_is = (refl, (refl, refl))
 
-abbrev words_columns : List ℕ × List ℕ → Row
-words_columns p = pair_of_words p.0 p.1
-
--- what `meta` holds of schema 1
-abbrev pairs : List ℕ → List (List ℕ × List ℕ)
-pairs settings = (codes "format", codes "gate") ∷ (codes "schema", first_version) ∷ (codes "settings", settings) ∷ []
-
 -- the version is set: a file of schema 2, with no plan
 pub sets_version : (b : Stored) (old new : State) (count : ℕ) → IsWidened b old → ExecutesInside 0 set_version_sql [] old new (Ok count) → IsFilled (without_plans b) new
 sets_version b old new count had h =
@@ -130,11 +124,11 @@ sets_version b old new count had h =
     let test = passes of_version [] in
     let new_row = renewed (meta_at 0) set_version_terms [] old.now.trees in
     let p : (List ℕ × List ℕ) → Bool = λ x. bytes_eq x.0 (codes "schema") in
-    let same : (v : Row) (x : List ℕ × List ℕ) → drop 1 v ≡ words_columns x → test v ≡ bytes_eq x.0 (codes "schema") = λ v x is. behind test v _ _ _ (λ y. rw equal_texts (and_true (bytes_eq x.0 (codes "schema")))) is in
-    let made : (v : Row) (x : List ℕ × List ℕ) → drop 1 v ≡ words_columns x → drop 1 (new_row v) ≡ words_columns (x.0, schema_version) = λ v x is. made_version x old.now.trees v is in
-    let few : length (filter (λ (x : List ℕ × List ℕ). bytes_eq x.0 (codes "schema")) (pairs b.settings)) ≤ 1 = omega arith in
+    let same : (v : Row) (x : List ℕ × List ℕ) → drop 1 v ≡ pair_columns x → test v ≡ bytes_eq x.0 (codes "schema") = λ v x is. behind test v _ _ _ (λ y. rw equal_texts (and_true (bytes_eq x.0 (codes "schema")))) is in
+    let made : (v : Row) (x : List ℕ × List ℕ) → drop 1 v ≡ pair_columns x → drop 1 (new_row v) ≡ pair_columns (x.0, schema_version) = λ v x is. made_version x old.now.trees v is in
+    let few : length (filter (λ (x : List ℕ × List ℕ). bytes_eq x.0 (codes "schema")) (meta_pairs first_version b.settings)) ≤ 1 = omega arith in
     let short : length (filter test (old.now.trees 0)) ≤ 1 =
-    subst (λ n. n ≤ 1) (sym (few_found words_columns test (λ x. bytes_eq x.0 (codes "schema")) same (old.now.trees 0) (pairs b.settings) had.rows.meta.columns_are)) few in
+    subst (λ n. n ≤ 1) (sym (few_found pair_columns test (λ x. bytes_eq x.0 (codes "schema")) same (old.now.trees 0) (meta_pairs first_version b.settings) had.rows.meta.columns_are)) few in
     let rs : e.0 ≡ map (out (meta_at 0) set_version_terms [] old.now.trees) (filter test (old.now.trees 0)) =
     shows_few 0 of_version (col 1 0 ∷ set_version_terms) [] no_limit db [] e.0 short (e.1.answer Null) in
     let left : new.now.trees 0 ≡ changed test new_row (old.now.trees 0) =
@@ -147,7 +141,7 @@ sets_version b old new count had h =
       stands = record {
         listed = sound_lists gate_schema new e.2.schema_is w.sound;
         meta = subst (IsFixed (meta_rows schema_version b.settings)) (sym left) (record {
-          columns_are = listed_changed words_columns test new_row (λ x. bytes_eq x.0 (codes "schema")) (λ x. (x.0, schema_version)) same made (old.now.trees 0) (pairs b.settings) had.rows.meta.columns_are;
+          columns_are = listed_changed pair_columns test new_row (λ x. bytes_eq x.0 (codes "schema")) (λ x. (x.0, schema_version)) same made (old.now.trees 0) (meta_pairs first_version b.settings) had.rows.meta.columns_are;
           numbered = numbered_changed test new_row (λ r its. int_cast (rowid r) its) (old.now.trees 0) had.rows.meta.numbered;
         });
         counter = subst (IsFixed (rows.counter_columns b.counters)) (sym (t.1.0 (no 2 refl))) had.rows.counter;
@@ -164,8 +158,8 @@ sets_version b old new count had h =
       };
     }
   where
-    made_version : (x : List ℕ × List ℕ) (db : Trees) (v : Row) → drop 1 v ≡ words_columns x
-        → drop 1 (renewed (meta_at 0) set_version_terms [] db v) ≡ words_columns (x.0, schema_version)
+    made_version : (x : List ℕ × List ℕ) (db : Trees) (v : Row) → drop 1 v ≡ pair_columns x
+        → drop 1 (renewed (meta_at 0) set_version_terms [] db v) ≡ pair_columns (x.0, schema_version)
     made_version x db [] is = absurd cc
     made_version x db (y ∷ rest) is = ap (λ l. drop 1 (renewed (meta_at 0) set_version_terms [] db (y ∷ l))) is
 

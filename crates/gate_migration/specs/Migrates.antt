@@ -15,12 +15,12 @@ use Rattle.gate_types.specs.declared.edits.Edit.TheVariants as edit
 use Rattle.gate_types.specs.declared.records.Item.{Item as ItemRow}
 use Rattle.gate_types.specs.declared.records.Landing.{Landing}
 use Rattle.gate_types.specs.declared.records.Plan.{Plan}
-use Rattle.gate_rows.specs.Tells.{items_of}
+use Rattle.gate_rows.specs.Matches.{items_of}
 use Rattle.gate_rows.specs.Writes.{LeavesNothing}
 use Rattle.gate_schema.specs.Rows.{Stored, first_version}
 use Rattle.gate_queue_queries.specs.First.{HoldsLandings, first_schema}
 use Rattle.gate_found_rows.specs.Finds.{Stays}
-use Rattle.gate_content_reads.specs.Held.{IsShownFor, queue_names}
+use Rattle.gate_table_laws.specs.Held.{IsShownFor, queue_names}
 use Rattle.gate_migration.specs.Standing.{is_newly_taken}
 use Rattle.gate_file_meta.specs.Reading.{ShowsMeta}
 use Rattle.gate_migration.specs.Upgrade.{StandsForFirst}

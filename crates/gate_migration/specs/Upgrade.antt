@@ -14,7 +14,7 @@ use Rattle.gate_schema.specs.Edits.{after_edits}
 use Rattle.gate_schema.specs.Rows as rows
 use Rattle.gate_schema.specs.Rows.{AreNamed, IsFixed, IsKeyed, IsListed, Stands, Stored, first_version}
 use Rattle.gate_schema.specs.Schema.{gate_schema, schema_with}
-use Rattle.gate_rows.specs.Tells.{HaveJobs, Matches}
+use Rattle.gate_rows.specs.Matches.{HaveJobs, Matches}
 use Rattle.gate_queue_queries.specs.First.{first_schema}
 use Rattle.gate_file_changes.specs.Applies.{are_known, names_in}
 use Rattle.gate_file_meta.specs.Reading.{meta_rows}
@@ -51,21 +51,21 @@ pub record StandsForFirst (db : Trees) (c : Settings) (x : Content) : Type 0 whe
   pub stored : Stored
   pub stands : StandsFirst db stored
   pub settings : stored.settings ≡ settings_text c
-  pub tells : Matches (without_plans stored) (tables_before c x)
+  pub matches : Matches (without_plans stored) (tables_before c x)
 
 -- ---- within the transaction
 
--- what the tables hold tells tables whose plans have jobs, and edits of its queues are made of them
+-- what the tables hold matches tables whose plans have jobs, and edits of its queues are made of them
 pub record CanPlan (b : Stored) (edits : List Edit) (t : Tables) : Type 0 where
   pub named : AreNamed b
   pub known : are_known (names_in b) edits ≡ true
   pub planned : HaveJobs t.plans
-  pub tells : Matches (without_plans b) t
+  pub matches : Matches (without_plans b) t
 
--- tables of schema 2 hold and tell what the edits leave
+-- tables of schema 2 hold and match what the edits leave
 pub record HasUpgraded (db : Trees) (b : Stored) (edits : List Edit) (t : Tables) : Type 0 where
   pub stands : Stands db (after_edits edits (without_plans b))
-  pub tells : Matches (after_edits edits (without_plans b)) (fold_all t edits)
+  pub matches : Matches (after_edits edits (without_plans b)) (fold_all t edits)
 
 -- outside one: tables of schema 1 hold this
 pub record CanUpgrade (s : State) (b : Stored) (edits : List Edit) (t : Tables) : Type 0 where

@@ -32,7 +32,7 @@ use Rattle.gate_types.specs.declared.records.Item.{Item}
 use Rattle.gate_types.specs.declared.records.Landing.{Landing}
 use Rattle.gate_types.specs.declared.rows.ChangeRow.{ChangeRow}
 use Rattle.gate_types.specs.declared.rows.LandingRow.{LandingRow}
-use Rattle.gate_rows.specs.Tells.{items_of, landings_of}
+use Rattle.gate_rows.specs.Matches.{items_of, landings_of}
 use Rattle.gate_schema.specs.Rows.{ItemRow, QueueLanding, Stored, change_key, change_row, item_key, item_row}
 use Rattle.gate_schema.specs.Rows.{landing_columns}
 use Rattle.gate_schema.proofs.QueryLemmas.{kept_is, over_table, passes}

@@ -19,7 +19,7 @@ use Rattle.sqlite_tied.proofs.RuleLemmas.{and_true}
 use Rattle.gate_types.specs.Names.{same_name}
 use Rattle.gate_types.specs.declared.rows.LandingRow.{LandingRow}
 use Rattle.gate_types.specs.declared.rows.ReportRow.{ReportRow}
-use Rattle.gate_rows.specs.Tells.{items_of, landings_of, reports_of}
+use Rattle.gate_rows.specs.Matches.{items_of, landings_of, reports_of}
 use Rattle.gate_schema.specs.Rows.{QueueLanding, QueueReport, QueueRow, Stored, item_row, landing_columns}
 use Rattle.gate_schema.specs.Rows.{queue_columns, report_columns}
 use Rattle.gate_schema.proofs.QueryLemmas.{passes}

@@ -7,7 +7,7 @@ use Rattle.sqlite.specs.declared.types.Value.TheVariants.{Int, Text as Words}
 use Rattle.gate_types.specs.Tables.{numbered_landings}
 use Rattle.gate_types.specs.declared.records.Landing.{Landing}
 use Rattle.gate_types.specs.declared.rows.ChangeRow.{ChangeRow}
-use Rattle.gate_rows.specs.Tells.{landings_of}
+use Rattle.gate_rows.specs.Matches.{landings_of}
 use Rattle.gate_schema.specs.Rows.{IsKeyed, IsListed, Stored, change_key, change_row, item_key, item_row}
 use Rattle.gate_schema.specs.Rows.{landing_columns}
 use Rattle.gate_schema.specs.Schema.{schema_with}

@@ -16,7 +16,7 @@ use Rattle.gate_types.specs.declared.tap.Tap.{Tap}
 use Rattle.gate_book_trait.specs.Text.{IsWritten, LeavesTap, first_line, last_line}
 use Rattle.gate_book_trait.specs.declared.fault.HistoryFault.{HistoryFault}
 use Rattle.gate_book_trait.specs.declared.fault.HistoryFault.TheVariants as fault
-use Rattle.gate_rows.specs.Tells.{reports_of}
+use Rattle.gate_rows.specs.Matches.{reports_of}
 use Rattle.gate_schema.specs.Rows.{Stored, number_or_null}
 use Rattle.gate_found_rows.specs.Reads.{IsShown}
 

@@ -4,7 +4,7 @@ ghost use Rattle.sqlite.specs.Held.{state};
 ghost use Rattle.sqlite.specs.State.{HasCleanDisk};
 ghost use Rattle.gate_types.specs.declared.records.Item.{Item};
 ghost use Rattle.gate_types.specs.declared.records.Landing.{Landing};
-ghost use Rattle.gate_rows.specs.Tells.{items_of};
+ghost use Rattle.gate_rows.specs.Matches.{items_of};
 ghost use Rattle.gate_schema.specs.Rows.{Stored};
 ghost use Rattle.gate_queue_queries.specs.First.{HoldsLandings, IsFirstOf, IsProjectOf, pair_shown};
 ghost use Rattle.gate_found_rows.specs.Reads.{IsOnlyRead};

@@ -3,7 +3,7 @@ ghost use Rattle.std.specs.Prelude.{◌≡◌, ℕ, nat_le, List, length, map, s
 ghost use Rattle.std.specs.List.{AllPass};
 ghost use Rattle.sqlite.specs.Held.{state};
 ghost use Rattle.gate_book_trait.specs.Reads.{Answers};
-ghost use Rattle.gate_rows.specs.Tells.{items_of};
+ghost use Rattle.gate_rows.specs.Matches.{items_of};
 ghost use Rattle.gate_found_rows.specs.Asked.{landing_before, last_landing, last_report, window_of};
 ghost use Rattle.gate_found_rows.specs.Reads.{IsOnlyRead, Opened, Tells};
 ghost use Rattle.gate_found_rows.specs.Shown.{number_shown};

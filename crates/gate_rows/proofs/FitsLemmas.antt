@@ -33,7 +33,7 @@ use Rattle.gate_schema.proofs.ReportTable.{add_report_is, add_report_sql, add_re
 use Rattle.gate_schema.proofs.RowLemmas.{cast_int, cast_null, cast_or_null}
 use Rattle.gate_schema.proofs.ValueLemmas.{value_cmp-pos}
 use Rattle.gate_schema.proofs.WriteLemmas.{inserts}
-use Rattle.gate_rows.specs.Tells.{IsFree}
+use Rattle.gate_rows.specs.Matches.{IsFree}
 use Rattle.gate_rows.proofs.UniqueLemmas.{job_place_free, landing_place_free, report_place_free}
 
 -- ---- items

@@ -2,12 +2,12 @@ pub mod ThenLemmas
 mod AheadLemmas
 mod PutLemmas
 mod PlanLemmas
-mod TellsLemmas
-mod ItemTells
+mod MatchLemmas
+mod ItemMatches
 pub mod UniqueLemmas
 mod FitsLemmas
-mod HistoryTells
-mod ChangeTells
-pub mod PlanTells
-mod EveryTells
+mod HistoryMatches
+mod ChangeMatches
+pub mod PlanMatches
+mod EveryEdit
 mod RanLemmas

@@ -12,7 +12,7 @@ use Rattle.gate_types.specs.declared.config.Job.{Job}
 use Rattle.gate_types.specs.declared.records.Plan.{Plan}
 use Rattle.gate_schema.specs.Edits.{add_plan, drop_plan, job_rows}
 use Rattle.gate_schema.specs.Rows.{JobRow, Stored, fast_key}
-use Rattle.gate_rows.specs.Tells.{HaveJobs, IsFree, TellsPlans, is_fast_in, jobs_in}
+use Rattle.gate_rows.specs.Matches.{HaveJobs, IsFree, PlansMatch, is_fast_in, jobs_in}
 use Rattle.gate_rows.proofs.PutLemmas.{filter-append, find_put, put_is}
 
 -- ---- rows of a key, and of those that are left without one
@@ -85,8 +85,8 @@ there_without k n fast =
     any_is_found (λ m. eqb m n) (filter (λ y. not (eqb y k)) fast) ∙ ap is_some (found_without (λ m. m) k n fast)
     ∙ elim (eqb k n) as (λ c. is_some (cond c None (find (λ m. eqb m n) fast)) ≡ cond c false (there n fast)) [ true ↦ refl | false ↦ sym (any_is_found (λ m. eqb m n) fast) ]
 
-pub plans_without : (k : ℕ) (b : Stored) (plans : List Plan) → TellsPlans b.jobs b.fast plans
-    → TellsPlans (drop_plan k b).jobs (drop_plan k b).fast (filter (λ (p : Plan). not (eqb p.serial k)) plans)
+pub plans_without : (k : ℕ) (b : Stored) (plans : List Plan) → PlansMatch b.jobs b.fast plans
+    → PlansMatch (drop_plan k b).jobs (drop_plan k b).fast (filter (λ (p : Plan). not (eqb p.serial k)) plans)
 plans_without k b plans h = record {
   jobs_are = λ n.
       those_without (λ (x : JobRow). x.serial) k n b.jobs ∙ ap (λ l. cond (eqb k n) [] l) (h.jobs_are n)
@@ -133,7 +133,7 @@ none_found k (q ∷ qs) have none = go (eqb q.serial k) none (none_found k qs ha
     go true none more = let some = have.0 in let empty = ap length none in absurd (omega arith)
     go false none more = more none
 
-pub no_plan : (k : ℕ) (b : Stored) (plans : List Plan) → HaveJobs plans → IsFree k 0 b → TellsPlans b.jobs b.fast plans → find (λ (q : Plan). eqb q.serial k) plans ≡ None
+pub no_plan : (k : ℕ) (b : Stored) (plans : List Plan) → HaveJobs plans → IsFree k 0 b → PlansMatch b.jobs b.fast plans → find (λ (q : Plan). eqb q.serial k) plans ≡ None
 no_plan k b plans have free h =
     none_found k plans have (none_at_all k (jobs_in plans k)
     (subst (AllByRecursion (λ (y : JobRow). eqb y.place 0 ≡ false)) (h.jobs_are k) (none_first k b.jobs free)))
@@ -146,8 +146,8 @@ there_put k n fast order =
     ap (there n) (put_is fast_key k fast order) ∙ any_is_found (λ m. eqb m n) (put_by fast_key k fast) ∙ ap is_some (find_put fast_key n k fast)
     ∙ elim (eqb k n) as (λ c. is_some (cond c (Some k) (find (λ m. eqb m n) fast)) ≡ cond c true (there n fast)) [ true ↦ refl | false ↦ sym (any_is_found (λ m. eqb m n) fast) ]
 
-pub plans_put : (p : Plan) (b : Stored) (plans : List Plan) → IsKeyedBy (λ y. pos (fast_key y)) b.fast → find (λ (q : Plan). eqb q.serial p.serial) plans ≡ None → TellsPlans b.jobs b.fast plans
-    → TellsPlans (add_plan p b).jobs (add_plan p b).fast (put_by plan_key p plans)
+pub plans_put : (p : Plan) (b : Stored) (plans : List Plan) → IsKeyedBy (λ y. pos (fast_key y)) b.fast → find (λ (q : Plan). eqb q.serial p.serial) plans ≡ None → PlansMatch b.jobs b.fast plans
+    → PlansMatch (add_plan p b).jobs (add_plan p b).fast (put_by plan_key p plans)
 plans_put p b plans order none h = let k = p.serial in record {
   jobs_are = λ n.
       filter-append (λ (y : JobRow). eqb y.serial n) b.jobs (job_rows k 0 p.jobs)

@@ -28,7 +28,7 @@ use Rattle.gate_schema.specs.Schema.{gate_schema, item_job_at, landing_at, queue
 use Rattle.gate_schema.proofs.DeleteLemmas.{is_its}
 use Rattle.gate_schema.proofs.RowLemmas.{behind}
 use Rattle.gate_schema.proofs.ValueLemmas.{equal_numbers, equal_texts}
-use Rattle.gate_rows.proofs.ItemTells.{like}
+use Rattle.gate_rows.proofs.ItemMatches.{like}
 
 -- ---- rows of which no two clash
 

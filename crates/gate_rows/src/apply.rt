@@ -2,7 +2,7 @@
 ghost use Rattle.std.specs.Prelude.{◌≡◌};
 ghost use Rattle.sqlite.specs.Held.{state};
 ghost use Rattle.gate_schema.specs.Edits as edits;
-ghost use Rattle.gate_rows.specs.Tells.{FitsBeside};
+ghost use Rattle.gate_rows.specs.Matches.{FitsBeside};
 ghost use Rattle.gate_rows.specs.Writes.{Found, Keeps, LeavesNothing, Makes};
 
 use crate::builds::{put_build, set_outcome, stop_build};

@@ -5,7 +5,7 @@ ghost use Rattle.sqlite.specs.Held.{state};
 ghost use Rattle.gate_types.specs.declared.edits.Edit.TheVariants as edit;
 ghost use Rattle.gate_schema.specs.Edits as edits;
 ghost use Rattle.gate_schema.specs.Rows.{ItemRow};
-ghost use Rattle.gate_rows.specs.Tells.{FitsBeside};
+ghost use Rattle.gate_rows.specs.Matches.{FitsBeside};
 ghost use Rattle.gate_rows.specs.Writes.{Found, FoundIf, Keeps, LeavesNothing, Makes, MakesAs};
 
 use crate::statement::run;

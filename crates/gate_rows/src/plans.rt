@@ -3,7 +3,7 @@ ghost use Rattle.std.specs.Prelude.{◌≡◌, ◌<◌, ◌^◌, ◌∷◌, [], 
 ghost use Rattle.sqlite.specs.Held.{state};
 ghost use Rattle.gate_types.specs.declared.edits.Edit.TheVariants as edit;
 ghost use Rattle.gate_schema.specs.Edits as edits;
-ghost use Rattle.gate_rows.specs.Tells.{FitsBeside, IsFree};
+ghost use Rattle.gate_rows.specs.Matches.{FitsBeside, IsFree};
 ghost use Rattle.gate_rows.specs.Writes.{Found, Keeps, LeavesNothing, Makes};
 
 use crate::items::drop_item;

@@ -105,10 +105,11 @@ number_or_null o = or_null (λ n. Int (pos n)) o
 abbrev pub pair_of_words : List ℕ → List ℕ → Row
 pair_of_words key value = Words key ∷ Words value ∷ []
 
--- the version of these tables, and that of the tables before them
+-- the version of these tables
 abbrev pub schema_version : List ℕ
 schema_version = codes "2"
 
+-- the version of the tables before them, which had no plans
 abbrev pub first_version : List ℕ
 first_version = codes "1"
 

@@ -4,8 +4,8 @@ use Rattle.sqlite.specs.State.{State}
 use Rattle.sqlite.specs.Tree.{Trees}
 use Rattle.gate_types.specs.Once.{Content}
 use Rattle.gate_types.specs.Settings.{Settings}
-use Rattle.gate_rows.specs.Tells.{StandsFor}
-use Rattle.gate_content_reads.specs.Held.{HoldsFor, HoldsForOne, StandsForOne}
+use Rattle.gate_rows.specs.Matches.{StandsFor}
+use Rattle.gate_table_laws.specs.Held.{HoldsFor, HoldsForOne, StandsForOne}
 
 -- where each content that the tables stand for is held
 pub one_held : (db : Trees) (s : State) (names : List (List ℕ)) (c : Settings) → ((x : Content) → StandsFor db c x → HoldsFor s names c x) → (xs : List Content) → StandsForOne db c xs → HoldsForOne s names c xs

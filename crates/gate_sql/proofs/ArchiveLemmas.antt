@@ -24,14 +24,14 @@ use Rattle.gate_archive.specs.Writes.{OfQueueFrom, WritesFeed, WritesHistoryFrom
 use Rattle.gate_archive.specs.declared.fault.FeedFault.{FeedFault}
 use Rattle.gate_archive.specs.declared.fault.FeedFault.TheVariants as feed
 use Rattle.gate_schema.specs.Rows.{Stored}
-use Rattle.gate_rows.specs.Tells as rows
+use Rattle.gate_rows.specs.Matches as rows
 use Rattle.gate_found_rows.specs.Reads.{Opened, Shows}
 use Rattle.gate_found_rows.specs.Whole.{IsWhole}
 use Rattle.gate_types.proofs.DistinctLemmas.{names_differ}
 use Rattle.gate_file_changes.specs.Applies.{is_among}
-use Rattle.gate_content_reads.specs.Held.{HoldsFor}
-use Rattle.gate_content_reads.proofs.ReadLemmas.{told_of, no_rows, shown, shut}
-use Rattle.gate_content_reads.proofs.told.Names.{queues_are_named}
+use Rattle.gate_table_laws.specs.Held.{HoldsFor}
+use Rattle.gate_table_laws.proofs.ReadLemmas.{told_of, no_rows, shown, shut}
+use Rattle.gate_table_laws.proofs.told.Names.{queues_are_named}
 use Rattle.gate_queue_queries.specs.History.{WritesWhole}
 use Rattle.gate_archive_queries.specs.Answers.{IsArchiveOf}
 use Rattle.gate_archive_queries.specs.Asked.{TellsReports, is_left_in_form}
@@ -52,7 +52,7 @@ pub reports_are : {T : Type 0} {names : List (List ℕ)} {c : Settings} {x : Con
 reports_are v old new (Ok found) tells opened clean held told =
     let it = held.shows (opened clean) in
     let b = it.stands.stored in
-    let say = told b it.stands.tells in
+    let say = told b it.stands.matches in
     tells clean b (shown it) say.0 ∙ say.1
 reports_are v old new (Err f) tells opened clean held told = blames_none old.is_open refl
   where
@@ -60,7 +60,7 @@ reports_are v old new (Err f) tells opened clean held told = blames_none old.is_
     blames_none true is =
         let it = held.shows is in
         let b = it.stands.stored in
-        tells clean b (shown it) (told b it.stands.tells).0
+        tells clean b (shown it) (told b it.stands.matches).0
     blames_none false is = tells clean no_rows (shut is no_rows) (λ k d below. absurd (omega (arith, below)))
 
 -- ---- the history of a queue from a place on
@@ -95,8 +95,8 @@ module _ {c : Settings} {x : Content} {s : State} {names : List (List ℕ)} (hol
   of_queue Takes up written =
       let it = holds.shows up in
       let b = it.stands.stored in
-      let past = archive_of holds.sound lawful it.stands.tells in
-      let whole = (told_of holds.sound lawful it.stands.tells).0 in
+      let past = archive_of holds.sound lawful it.stands.matches in
+      let whole = (told_of holds.sound lawful it.stands.matches).0 in
       let same = (found_among names name n known).1 in
       let reports = subst (λ m. HoldsReports b m there.0.reports) (sym same) (past.reports name there.0 there.1) in
       record {
@@ -127,7 +127,7 @@ feed_so {x = x} {s = s} {W = W} holds after most front held old new result writt
     so : (r : Result ℕ FeedFault) → IsTrue s.is_open → ((b : Stored) → Shows s b → WritesFeed b.kept after most front held old new r) → WritesFeed x.kept after most front held old new r
     so r up written =
         let it = holds.shows up in
-        subst (λ kept. WritesFeed kept after most front held old new r) it.stands.tells.kept_are (written it.stands.stored (shown it))
+        subst (λ kept. WritesFeed kept after most front held old new r) it.stands.matches.kept_are (written it.stands.stored (shown it))
 
     by_result : (r : Result ℕ FeedFault) → ((b : Stored) → Shows s b → WritesFeed b.kept after most front held old new r)
         → MatchResult r (λ _. IsTrue s.is_open) (λ f. f ≢ feed.Unavailable → IsTrue s.is_open) → WritesFeed x.kept after most front held old new r

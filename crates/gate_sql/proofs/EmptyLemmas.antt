@@ -12,7 +12,7 @@ use Rattle.gate_types.specs.SettingsText.{settings_text}
 use Rattle.gate_types.specs.State.{empty_queue, start}
 use Rattle.gate_types.specs.Tables.{QueueRows, queue_rows as rows_of, tables}
 use Rattle.gate_types.specs.declared.config.Queue.{Queue}
-use Rattle.gate_rows.specs.Tells.{StandsFor, Matches, of_queue, placed}
+use Rattle.gate_rows.specs.Matches.{StandsFor, Matches, of_queue, placed}
 use Rattle.gate_schema.specs.Rows.{Stands}
 use Rattle.gate_file_changes.specs.Making.{first_stored, queue_row, first_queue_rows}
 
@@ -33,8 +33,8 @@ none_of list c none name (q ∷ qs) =
     [ true ↦ none q | false ↦ none_of list c none name qs ]
 
 -- the first rows tell of no change, item, landing, report and build
-pub tells_empty : (c : Settings) → Matches (first_stored (settings_text c) (first_queue_rows 0 c.queues)) (tables c (empty c))
-tells_empty c = record {
+pub matches_empty : (c : Settings) → Matches (first_stored (settings_text c) (first_queue_rows 0 c.queues)) (tables c (empty c))
+matches_empty c = record {
   counters_are = refl;
   queues_are = record {
     places = first_places c 0 c.queues;
@@ -55,5 +55,5 @@ stands_for_empty db c text queues is are stands = record {
   stored = first_stored (settings_text c) (first_queue_rows 0 c.queues);
   stands = subst (λ qs. Stands db (first_stored (settings_text c) (first_queue_rows 0 qs))) are (subst (λ t. Stands db (first_stored t (first_queue_rows 0 queues))) is stands);
   settings = refl;
-  tells = tells_empty c;
+  matches = matches_empty c;
 }

@@ -17,11 +17,11 @@ use Rattle.gate_book_trait.specs.Reads.{queue_named}
 use Rattle.gate_book_trait.specs.Writes.{OfQueue, WritesHistory}
 use Rattle.gate_book_trait.specs.declared.fault.HistoryFault.{HistoryFault}
 use Rattle.gate_book_trait.specs.declared.fault.HistoryFault.TheVariants as fault
-use Rattle.gate_rows.specs.Tells.{reports_of}
+use Rattle.gate_rows.specs.Matches.{reports_of}
 use Rattle.gate_queue_queries.specs.History.{OfReports, WritesReports, reports_text}
 use Rattle.gate_file_changes.specs.Applies.{is_among}
-use Rattle.gate_content_reads.specs.Held.{HoldsFor}
-use Rattle.gate_content_reads.proofs.told.QueueReads.{report_rows}
+use Rattle.gate_table_laws.specs.Held.{HoldsFor}
+use Rattle.gate_table_laws.proofs.told.QueueReads.{report_rows}
 
 -- ---- the queue of a name
 
@@ -79,8 +79,8 @@ module _ {c : Settings} {x : Content} {s : State} {names : List (List ℕ)} (hol
         let b = shown.stands.stored in
         let rows : IsPermutation (reports_of name b.reports) (numbered 0 there.0.reports) =
         subst (λ l. IsPermutation (reports_of name b.reports) l)
-        (report_rows c x b shown.stands.tells name ∙ ap (λ o. numbered 0 (option_map_or (λ (q : Queue). q.reports) o [])) there.1)
-        (shown.stands.tells.queues_are.reports_are name) in
+        (report_rows c x b shown.stands.matches name ∙ ap (λ o. numbered 0 (option_map_or (λ (q : Queue). q.reports) o [])) there.1)
+        (shown.stands.matches.queues_are.reports_are name) in
         record {
           queue = there.0;
           named = there.1;

@@ -21,9 +21,9 @@ use Rattle.gate_file_meta.specs.Reading.{HasNoneToAdopt, IsFoundOf, IsTold, IsTo
 told : (db : Trees) (c d : Settings) (x : Content) (keeps : IsKept db c x) → SaysSettings keeps.stands.stored.settings c
 told db c d x keeps = record { sound = keeps.sound; in_form = keeps.in_form; is = keeps.stands.settings }
 
--- settings that the kept text tells are those that are kept
+-- settings that the kept text says are those that are kept
 pub kept_is : OneTextASetting → (db : Trees) (c d k : Settings) (x : Content) (keeps : IsKept db c x) → SaysSettings keeps.stands.stored.settings k → k ≡ c
-kept_is law db c d k x keeps tells = law keeps.stands.stored.settings k c tells (told db c d x keeps)
+kept_is law db c d k x keeps says = law keeps.stands.stored.settings k c says (told db c d x keeps)
 
 -- where these may be taken in their place, the kept text may be opened
 pub may_open : (db : Trees) (c d : Settings) (x : Content) (keeps : IsKept db c x) → may_adopt c d ≡ true → MayOpen keeps.stands.stored.settings d
@@ -47,7 +47,7 @@ can_adopt old new c d k x is same keeps may =
 
 -- settings in whose place these may not be taken aren't found as some in whose place they may
 pub not_found : OneTextASetting → (db : Trees) (c d k : Settings) (x : Content) (keeps : IsKept db c x) → may_adopt c d ≡ false → SaysSettings keeps.stands.stored.settings k → may_adopt k d ≡ true → ⊥
-not_found law db c d k x keeps refused tells may = true≢false (sym may ∙ ap (λ s. may_adopt s d) (kept_is law db c d k x keeps tells) ∙ refused)
+not_found law db c d k x keeps refused says may = true≢false (sym may ∙ ap (λ s. may_adopt s d) (kept_is law db c d k x keeps says) ∙ refused)
 
 -- where other settings are found, there are some to adopt
 pub some_to_adopt : (db : Database) (d k : Settings) → IsFoundOf (Ok (Some k)) (ShowsMeta db) d → HasNoneToAdopt db d → ⊥

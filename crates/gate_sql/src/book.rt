@@ -1,7 +1,7 @@
 //! A gate's book over the tables of a file.
 ghost use Rattle.std.specs.Prelude.{◌≡◌, map, IfOk, string_bytes};
 ghost use Rattle.gate_types.specs.SettingsText.{settings_text};
-ghost use Rattle.gate_content_reads.specs.Held.{queue_names};
+ghost use Rattle.gate_table_laws.specs.Held.{queue_names};
 
 use gate_types::config::{Config, Queue};
 use gate_types::names::{Name, NoMemory};

@@ -4,7 +4,7 @@ ghost use Rattle.sqlite_catalog.specs.Listing.{Lists};
 ghost use Rattle.gate_schema.specs.Schema.{schema_with};
 ghost use Rattle.gate_file_meta.specs.Reading.{HasNoMeta};
 
-pub use gate_content_reads::laws::{every_read_is_told, the_rows_are_whole};
+pub use gate_table_laws::laws::{every_read_is_told, the_rows_are_whole};
 
 /// A file that lists no object has no table, index or view.
 pub fn a_file_that_lists_nothing_is_empty()

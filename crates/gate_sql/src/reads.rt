@@ -15,7 +15,7 @@ impl<S: Alter> Book for SqlBook<S> {
     ghost use Rattle.std.specs.Prelude.{⊤};
     ghost use Rattle.sqlite.specs.Held.{state};
     ghost use Rattle.sqlite.specs.State.{HasCleanDisk};
-    ghost use Rattle.gate_content_reads.specs.Held.{HoldsFor, LeavesFor, one_more};
+    ghost use Rattle.gate_table_laws.specs.Held.{HoldsFor, LeavesFor, one_more};
 
     ghost Holds = { λ book c x. HoldsFor (state S.Store book.conn) book.queues.items c x };
 

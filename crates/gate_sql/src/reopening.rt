@@ -8,9 +8,9 @@ ghost use Rattle.sqlite_trees.specs.View.{IsClean};
 ghost use Rattle.gate_types.specs.Adopt.{may_adopt, adopted_content};
 ghost use Rattle.gate_types.specs.Once.{Content};
 ghost use Rattle.gate_types.specs.Settings.{Settings};
-ghost use Rattle.gate_rows.specs.Tells.{StandsFor};
+ghost use Rattle.gate_rows.specs.Matches.{StandsFor};
 ghost use Rattle.gate_file_changes.specs.Adopts.{IsKept};
-ghost use Rattle.gate_content_reads.specs.Held.{HoldsFor, HoldsForOne, StandsForOne};
+ghost use Rattle.gate_table_laws.specs.Held.{HoldsFor, HoldsForOne, StandsForOne};
 ghost use Rattle.gate_sql.specs.Handed.{names_of};
 ghost use Rattle.gate_file_meta.specs.Reading.{IsToldOf};
 

@@ -65,10 +65,10 @@ first_more builds b count list n l = by_count (nat_lt count most_listed) refl
         let full : most_listed ≤ count = ltb-false count most_listed e in
         l ∙ ap text (sym (take-append-le most_listed builds (b ∷ []) (omega (arith, n, full))))
 
-pub tells_more : (r new : Running) (builds : List Build) (b : Build) → OfBuilds r builds →
+pub of_one_more : (r new : Running) (builds : List Build) (b : Build) → OfBuilds r builds →
     string_bytes new.list ≡ listed_with r.count (string_bytes r.list) (running_piece b []) →
     new.count ≡ r.count + 1 → OfBuilds new (builds ++ b ∷ [])
-tells_more r new builds b h l n = record {
+of_one_more r new builds b h l n = record {
   list = l ∙ first_more builds b r.count (string_bytes r.list) h.count h.list;
   count = n ∙ ap (λ m. m + 1) h.count ∙ sym (length-append builds (b ∷ []));
 }
@@ -81,7 +81,7 @@ pub record Along (c : Settings) (s : State) (q : Queue) (above : ℕ) (before : 
   pub rest : List Item
   pub done : List Build
   pub behind : IsLeft c s q above items rest
-  pub tells : OfBuilds r done
+  pub is_of : OfBuilds r done
   pub left : done ++ flat_map (λ i. running_of s i.serial) rest ≡ before ++ running_in s q
 
 pub along_front : (c : Settings) (s : State) (q : Queue) (before : List Build) (r : Running) →
@@ -91,7 +91,7 @@ along_front c s q before r l t = record {
   rest = q.items;
   done = before;
   behind = l;
-  tells = t;
+  is_of = t;
   left = refl;
 }
 
@@ -101,7 +101,7 @@ along_end c s q above before r h e =
     subst (OfBuilds r) (sym (append-nil h.done)
     ∙ ap (λ is. h.done ++ flat_map (λ (i : Item). running_of s i.serial) is)
     (sym (end_along c s q above h.items h.rest h.behind e))
-    ∙ h.left) h.tells
+    ∙ h.left) h.is_of
 
 pub along_next : (c : Settings) (s : State) (q : Queue) (above : ℕ) (before : List Build) (r new : Running)
     (row : ItemRow) (serial : ℕ) (builds : List Build) → Along c s q above before r →
@@ -117,7 +117,7 @@ along_next c s q above before r new row serial builds h e es eb f =
       done = h.done ++ running_among builds;
       behind = subst (λ m. IsLeft c s q m (next_ahead s.builds (place_behind c s q h.items n.item)) n.after)
           (sym es) n.left;
-      tells = f h.done h.tells;
+      is_of = f h.done h.is_of;
       left = append_assoc h.done (running_among builds) (flat_map (λ (i : Item). running_of s i.serial) n.after)
           ∙ ap (λ bs. h.done ++ bs) (ap (λ bs. bs ++ flat_map (λ (i : Item). running_of s i.serial) n.after) own
           ∙ sym (flat_map-cons (λ (i : Item). running_of s i.serial) n.item n.after)
@@ -130,7 +130,7 @@ along_next c s q above before r new row serial builds h e es eb f =
 -- the builds of the queues before this one were told
 pub record Before (s : State) (k : ℕ) (r : Running) : Type 0 where
   pub done : List Build
-  pub tells : OfBuilds r done
+  pub is_of : OfBuilds r done
   pub left : done ++ flat_map (running_in s) (drop k s.queues) ≡ running_builds s
 
 pub before_next : {c : Settings} {s : State} {k : ℕ} {name : List ℕ} → (there : IsThere c s k name) →
@@ -140,7 +140,7 @@ before_next {s = s} {k = k} there r new h f =
     let step : k + 1 ≡ suc k = omega arith in
     record {
       done = h.done ++ running_in s there.queue;
-      tells = f h.done h.tells;
+      is_of = f h.done h.is_of;
       left = ap (λ m. (h.done ++ running_in s there.queue) ++ flat_map (running_in s) (drop m s.queues)) step
           ∙ append_assoc h.done (running_in s there.queue) (flat_map (running_in s) (drop (suc k) s.queues))
           ∙ ap (λ bs. h.done ++ bs) (sym (flat_map-cons (running_in s) there.queue (drop (suc k) s.queues))
@@ -150,7 +150,7 @@ before_next {s = s} {k = k} there r new h f =
 
 pub before_end : (s : State) (k : ℕ) (r : Running) → Before s k r → drop k s.queues ≡ [] → OfBuilds r (running_builds s)
 before_end s k r h e =
-    subst (OfBuilds r) (sym (append-nil h.done) ∙ ap (λ qs. h.done ++ flat_map (running_in s) qs) (sym e) ∙ h.left) h.tells
+    subst (OfBuilds r) (sym (append-nil h.done) ∙ ap (λ qs. h.done ++ flat_map (running_in s) qs) (sym e) ∙ h.left) h.is_of
 
 -- the text
 pub running_is : (s : State) (r : Running) (text : List ℕ) → OfBuilds r (running_builds s) →

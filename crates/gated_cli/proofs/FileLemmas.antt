@@ -16,9 +16,9 @@ use Rattle.gate_core.specs.declared.fault.ReplayFault.{ReplayFault}
 use Rattle.gate_core.specs.declared.fault.ReplayFault.TheVariants as replay
 use Rattle.gate_live.specs.Both.{HoldsBoth}
 use Rattle.gate_live.specs.declared.live_book.LiveBook.{LiveBook}
-use Rattle.gate_rows.specs.Tells.{StandsFor}
+use Rattle.gate_rows.specs.Matches.{StandsFor}
 use Rattle.gate_file_changes.specs.Adopts.{IsKept}
-use Rattle.gate_content_reads.specs.Held.{LeavesFor, ShowsFor}
+use Rattle.gate_table_laws.specs.Held.{LeavesFor, ShowsFor}
 use Rattle.gated_cli.specs.Doing.{Announces, Delivers, Streams}
 use Rattle.gated_cli.specs.Ending.{AnnouncementIsCut, DeliveryEnds, DeliveryIsCut, DeliveryStops, IsOfFile}
 use Rattle.gated_cli.specs.Ending.{IsOfMaking, IsOfServing, ServingEnds}

@@ -10,8 +10,8 @@ use Rattle.gate_types.specs.Settings.{Settings}
 use Rattle.gate_types.specs.State.{Queue}
 use Rattle.gate_types.specs.Gated.{Gated}
 use Rattle.gate_schema.specs.Schema.{schema_with}
-use Rattle.gate_rows.specs.Tells.{StandsFor}
-use Rattle.gate_content_reads.specs.Held.{IsShownFor, ShowsFor, queue_names}
+use Rattle.gate_rows.specs.Matches.{StandsFor}
+use Rattle.gate_table_laws.specs.Held.{IsShownFor, ShowsFor, queue_names}
 use Rattle.gate_migration.specs.Migrates.{IsLeft}
 use Rattle.gate_migration.specs.Upgrade.{StandsForFirst}
 use Rattle.gate_migration.specs.declared.migrating.Migrated.{Migrated}

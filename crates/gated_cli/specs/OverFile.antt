@@ -7,9 +7,9 @@ use Rattle.gate_types.specs.Forms.{IsLawfulContent}
 use Rattle.gate_types.specs.Once.{Call, Content}
 use Rattle.gate_types.specs.Settings.{Settings, are_sound}
 use Rattle.gate_types.specs.Gated.{Gated}
-use Rattle.gate_rows.specs.Tells.{StandsFor}
+use Rattle.gate_rows.specs.Matches.{StandsFor}
 use Rattle.gate_file_changes.specs.Adopts.{IsKept}
-use Rattle.gate_content_reads.specs.Held.{LeavesFor, ShowsFor}
+use Rattle.gate_table_laws.specs.Held.{LeavesFor, ShowsFor}
 use Rattle.gate_types.specs.declared.open_fault.OpenFault.{OpenFault}
 use Rattle.gate_types.specs.declared.open_fault.OpenFault.TheVariants as open_fault
 use Rattle.gate_core.specs.Left.{left_after}

@@ -1,7 +1,7 @@
 use Rattle.std.proofs.Common.{sym, ◌∙◌, true≢false}
 use Rattle.std.proofs.lemmas.Result.{err_from_is_err_and}
 use Rattle.std.proofs.lemmas.Slice.Eq.{bytes_eq-Decides}
-use Rattle.gate_kept_settings.proofs.ToldLemmas.{tells, told_is, told_unless, told_text}
+use Rattle.gate_kept_settings.proofs.ToldLemmas.{says_settings, told_is, told_unless, told_text}
 use Rattle.gate_kept_settings.proofs.read_text.Goals as goal
 
 pub returns-in_err-config-clause-told : goal.returns-in_err-config-clause-told
@@ -12,7 +12,7 @@ returns-in_err-config-clause-told c = λ s h.
 pub returns-then-eq-clause-exact : goal.returns-then-eq-clause-exact
 returns-then-eq-clause-exact c =
     let same = (bytes_eq-Decides c.as_bytes.result.now c.args.text.now).0 (sym c.eq.ensures ∙ c.if-eq.true) in
-    tells c.args.text.now c.in_ok-config.config c.in_ok-config.ensures (sym same ∙ c.as_bytes.ensures.value ∙ c.in_ok-written.ensures)
+    says_settings c.args.text.now c.in_ok-config.config c.in_ok-config.ensures (sym same ∙ c.as_bytes.ensures.value ∙ c.in_ok-written.ensures)
 
 pub returns-then-eq-clause-told : goal.returns-then-eq-clause-told
 returns-then-eq-clause-told c = λ s h. told_is c.args.text.now s c.in_ok-config.config h c.in_ok-config.ensures

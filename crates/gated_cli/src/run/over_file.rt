@@ -12,9 +12,9 @@ ghost use Rattle.gate_types.specs.Tap.{inside, has_failed, Gave, IsReadOut, Took
 ghost use Rattle.gate_core.specs.Lines.{whole_lines, lines_of, ReadFor};
 ghost use Rattle.gate_found_rows.specs.Finds.{Stays};
 ghost use Rattle.gate_schema.specs.Schema.{schema_with};
-ghost use Rattle.gate_rows.specs.Tells.{StandsFor};
+ghost use Rattle.gate_rows.specs.Matches.{StandsFor};
 ghost use Rattle.gate_file_changes.specs.Applies.{LeavesOrStands};
-ghost use Rattle.gate_content_reads.specs.Held.{HoldsFor, IsShownFor, LeavesFor, ShowsFor, queue_names};
+ghost use Rattle.gate_table_laws.specs.Held.{HoldsFor, IsShownFor, LeavesFor, ShowsFor, queue_names};
 ghost use Rattle.gate_live.specs.Both.{HoldsBoth};
 ghost use Rattle.gate_migration.specs.Migrates.{HasNoneToMigrate, IsLeft};
 ghost use Rattle.gate_sql.specs.Refused.{IsRefused};

@@ -7,7 +7,7 @@ use Rattle.gate_found_rows.proofs.ReadLemmas.{shown_still}
 use Rattle.gate_schema.specs.Rows.{Stands}
 use Rattle.gate_file_changes.specs.Adopts.{resized, rewritten}
 use Rattle.gate_file_changes.proofs.AdoptLemmas.{stands_adopted}
-use Rattle.gate_content_reads.proofs.told.Whole.{rows_are_whole}
+use Rattle.gate_table_laws.proofs.told.Whole.{rows_are_whole}
 use Rattle.gate_file_changes.proofs.adopting.adopt.Goals as goal
 
 pub returns-in-Ok-write_rows-clause-made : goal.returns-in-Ok-write_rows-clause-made
@@ -18,7 +18,7 @@ returns-in-Ok-write_rows-clause-made g c clean text x has can =
     let b = can.stands.stored in
     let early : HasCleanDisk mid = c.write_rows.ensures.clean clean in
     let shows : Shows old b = λ up. record { schema_is = has; stands = can.stands.stands } in
-    let whole = rows_are_whole can.lawful can.stands.tells in
+    let whole = rows_are_whole can.lawful can.stands.matches in
     let queues : c.in-Ok.queues ≡ map (resized c.args.held.now b.queues) c.args.config.now.queues =
     c.in-Ok.ensures.found early b shows whole ∙ ap (λ qs. map (resized c.args.held.now b.queues) qs) (c.as_slice.ensures ∙ ap (λ (s : Settings). s.queues) c.config.view_is) in
     let still : Shows mid b = shown_still old mid b (c.resized_queues.ensures.only_reads.stays early) shows in
@@ -36,7 +36,7 @@ returns-in-Ok-write_rows-clause-crash g c clean text x has can db left =
     let b = can.stands.stored in
     let early : HasCleanDisk mid = c.write_rows.ensures.clean clean in
     let shows : Shows old b = λ up. record { schema_is = has; stands = can.stands.stands } in
-    let whole = rows_are_whole can.lawful can.stands.tells in
+    let whole = rows_are_whole can.lawful can.stands.matches in
     let queues : c.in-Ok.queues ≡ map (resized c.args.held.now b.queues) c.args.config.now.queues =
     c.in-Ok.ensures.found early b shows whole ∙ ap (λ qs. map (resized c.args.held.now b.queues) qs) (c.as_slice.ensures ∙ ap (λ (s : Settings). s.queues) c.config.view_is) in
     let still : Shows mid b = shown_still old mid b (c.resized_queues.ensures.only_reads.stays early) shows in
@@ -53,7 +53,7 @@ returns-clause-crash g c clean text x has can db left =
     let b = can.stands.stored in
     let early : HasCleanDisk mid = c.write_rows.ensures.clean clean in
     let shows : Shows old b = λ up. record { schema_is = has; stands = can.stands.stands } in
-    let whole = rows_are_whole can.lawful can.stands.tells in
+    let whole = rows_are_whole can.lawful can.stands.matches in
     let queues : c.in-Ok.queues ≡ map (resized c.args.held.now b.queues) c.args.config.now.queues =
     c.in-Ok.ensures.found early b shows whole ∙ ap (λ qs. map (resized c.args.held.now b.queues) qs) (c.as_slice.ensures ∙ ap (λ (s : Settings). s.queues) c.config.view_is) in
     let still : Shows mid b = shown_still old mid b (c.resized_queues.ensures.only_reads.stays early) shows in

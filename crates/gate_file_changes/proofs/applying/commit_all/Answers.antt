@@ -4,8 +4,8 @@ use Rattle.std.proofs.lemmas.Result.{on_ok_weaker}
 use Rattle.sqlite.specs.Effect.{Database}
 use Rattle.sqlite.specs.Held.{state}
 use Rattle.sqlite.specs.State.{HasCleanDisk, Survives}
-use Rattle.gate_rows.specs.Tells.{StandsFor}
-use Rattle.gate_content_reads.specs.Held.{IsShownFor}
+use Rattle.gate_rows.specs.Matches.{StandsFor}
+use Rattle.gate_table_laws.specs.Held.{IsShownFor}
 use Rattle.gate_file_changes.proofs.ApplyLemmas.{survives_commit}
 use Rattle.gate_file_changes.proofs.applying.commit_all.Goals as goal
 

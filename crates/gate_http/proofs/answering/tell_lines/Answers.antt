@@ -20,7 +20,8 @@ returns-in-Err-Missing-clause-write g c =
     written_front (Recalled g.G.Respond.recalls c.args.form c.args.gate.now wanted Takes c.show_stream.new.self)
     (Answered 404) (Takes (fault_in c.args.form (missing_of wanted) extent.Whole)) c.refuse.result
     (λ served e takes. missing e (c.in-Err-Missing.ensures.missing (ap Err c.in-Err-Missing.field-0-is)) takes)
-    (rw (rw c.in-Err-Missing.field-0-is at c.in-Err-Missing.ensures.stops, c.missing_of.ensures) at c.refuse.ensures.err)
+    (rw (rw c.in-Err-Missing.field-0-is at c.in-Err-Missing.ensures.stops, c.missing_of.ensures) at
+    c.refuse.ensures.err)
 
 pub returns-in-Err-Unavailable-clause-write : goal.returns-in-Err-Unavailable-clause-write
 returns-in-Err-Unavailable-clause-write g c =
@@ -28,15 +29,18 @@ returns-in-Err-Unavailable-clause-write g c =
     let Takes = TookFront g.W.Write.contents c.args.writer.now c.tell.new.writer in
     written_front (Recalled g.G.Respond.recalls c.args.form c.args.gate.now wanted Takes c.show_stream.new.self)
     (Answered 503) (Takes (failure_in c.args.form)) c.tell.result
-    (λ served e takes. failed e (c.in-Err-Unavailable.ensures.unavailable (ap Err c.in-Err-Unavailable.field-0-is)) takes)
+    (λ served e takes. failed e (c.in-Err-Unavailable.ensures.unavailable (ap Err c.in-Err-Unavailable.field-0-is))
+    takes)
     (rw (rw c.in-Err-Unavailable.field-0-is at c.in-Err-Unavailable.ensures.stops) at c.tell.ensures.err)
 
 pub returns-in-Err-Broken-clause-store : goal.returns-in-Err-Broken-clause-store
 returns-in-Err-Broken-clause-store g c = λ _.
-    rw (c.as_bytes.ensures.value, c.front_of.ensures) at (c.in-Err-Broken.ensures.broken (ap Err c.in-Err-Broken.field-0-is))
+    rw (c.as_bytes.ensures.value, c.front_of.ensures) at
+    (c.in-Err-Broken.ensures.broken (ap Err c.in-Err-Broken.field-0-is))
 
 pub returns-in-Err-Write-clause-write : goal.returns-in-Err-Write-clause-write
 returns-in-Err-Write-clause-write g c = λ _. (
   Answered 200,
-  recited refl (rw (c.as_bytes.ensures.value, c.front_of.ensures) at (c.in-Err-Write.ensures.write (ap Err c.in-Err-Write.field-0-is))),
+  recited refl (rw (c.as_bytes.ensures.value, c.front_of.ensures) at
+      (c.in-Err-Write.ensures.write (ap Err c.in-Err-Write.field-0-is))),
 )

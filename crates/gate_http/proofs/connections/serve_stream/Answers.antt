@@ -4,4 +4,7 @@ use Rattle.gate_http.proofs.connections.serve_stream.Goals as goal
 
 pub returns-in_err-reader : goal.returns-in_err-reader
 returns-in_err-reader g c =
-    record { gate = uncalled g.B.Book.IsTrusted g.B.Book.Holds g.B.Book.LeavesOneOf 1 c.args.gate.now c.args.gate.now refl }
+    record {
+      gate =
+          uncalled g.B.Book.IsTrusted g.B.Book.Holds g.B.Book.LeavesOneOf 1 c.args.gate.now c.args.gate.now refl;
+    }

@@ -17,10 +17,12 @@ pub returns-clause-sent : goal.returns-clause-sent
 returns-clause-sent g c =
     let held = g.W.Write.contents in
     rw c.and.ensures (rw c.new-writer.ensures.value at (sent_whole held _ _
-    (λ r s P Q. serves_weaker g.B.Book.IsTrusted g.B.Book.Holds g.B.Book.LeavesOneOf form.Response (way_of r) c.args.gate.now
+    (λ r s P Q. serves_weaker g.B.Book.IsTrusted g.B.Book.Holds g.B.Book.LeavesOneOf form.Response
+    (way_of r) c.args.gate.now
     c.serve_one-served.new.gate s P Q)
     (writer_contents held (inside c.new-writer.result)) (writer_contents held (inside c.serve_one-served.new.writer))
-    c.send-sent.new.writer c.into_parts.result.0 c.serve_one-served.result c.send-sent.result c.serve_one-served.ensures.ok
+    c.send-sent.new.writer c.into_parts.result.0 c.serve_one-served.result c.send-sent.result
+    c.serve_one-served.ensures.ok
     (rw c.into_inner-writer.ensures at c.send-sent.ensures.bytes) c.send-sent.ensures.ok c.into_parts.ensures.inner))
 
 pub returns-clause-store : goal.returns-clause-store

@@ -38,15 +38,19 @@ returns-in-Ok-Part-clause-write g c =
 
 pub returns-in-Ok-TooMuch-clause-ok : goal.returns-in-Ok-TooMuch-clause-ok
 returns-in-Ok-TooMuch-clause-ok g c =
-    refused_read g.G.Respond.responds g.G.Respond.recalls form.Response _ _ c.args.gate.now fault.HeadTooLarge extent.Whole
+    refused_read g.G.Respond.responds g.G.Respond.recalls form.Response _ _ c.args.gate.now fault.HeadTooLarge
+    extent.Whole
     (Took g.W.Write.contents c.args.writer.now c.refuse-in-Ok-TooMuch.new.writer) c.refuse-in-Ok-TooMuch.result
-    (read_too_much _ _ _ (rw c.in-Ok-TooMuch.field-0-is at c.in-Ok-TooMuch.ensures.ok)) c.refuse-in-Ok-TooMuch.ensures.ok
+    (read_too_much _ _ _ (rw c.in-Ok-TooMuch.field-0-is at c.in-Ok-TooMuch.ensures.ok))
+    c.refuse-in-Ok-TooMuch.ensures.ok
 
 pub returns-in-Ok-TooMuch-clause-write : goal.returns-in-Ok-TooMuch-clause-write
 returns-in-Ok-TooMuch-clause-write g c =
-    refused_begun g.G.Respond.responds g.G.Respond.recalls form.Response _ _ c.args.gate.now fault.HeadTooLarge extent.Whole
+    refused_begun g.G.Respond.responds g.G.Respond.recalls form.Response _ _ c.args.gate.now fault.HeadTooLarge
+    extent.Whole
     (TookFront g.W.Write.contents c.args.writer.now c.refuse-in-Ok-TooMuch.new.writer) c.refuse-in-Ok-TooMuch.result
-    (read_too_much _ _ _ (rw c.in-Ok-TooMuch.field-0-is at c.in-Ok-TooMuch.ensures.ok)) c.refuse-in-Ok-TooMuch.ensures.err
+    (read_too_much _ _ _ (rw c.in-Ok-TooMuch.field-0-is at c.in-Ok-TooMuch.ensures.ok))
+    c.refuse-in-Ok-TooMuch.ensures.err
 
 pub read_body-requires-clause-room : goal.read_body-requires-clause-room
 read_body-requires-clause-room g c =
@@ -56,17 +60,21 @@ read_body-requires-clause-room g c =
 
 pub returns-in-Refuse-clause-ok : goal.returns-in-Refuse-clause-ok
 returns-in-Refuse-clause-ok g c =
-    refused_read g.G.Respond.responds g.G.Respond.recalls form.Response _ _ c.args.gate.now c.in-Refuse.fault c.in-Refuse.extent
+    refused_read g.G.Respond.responds g.G.Respond.recalls form.Response _ _ c.args.gate.now c.in-Refuse.fault
+    c.in-Refuse.extent
     (Took g.W.Write.contents c.args.writer.now c.refuse-in-Refuse.new.writer) c.refuse-in-Refuse.result
     (read_refused _ _ _ c.in-Refuse.fault c.in-Refuse.extent
-    (rw c.in-Ok-Whole.field-0-is at c.in-Ok-Whole.ensures.ok) (rw c.as_slice.ensures.value at c.in-Refuse.ensures)) c.refuse-in-Refuse.ensures.ok
+    (rw c.in-Ok-Whole.field-0-is at c.in-Ok-Whole.ensures.ok) (rw c.as_slice.ensures.value at c.in-Refuse.ensures))
+    c.refuse-in-Refuse.ensures.ok
 
 pub returns-in-Refuse-clause-write : goal.returns-in-Refuse-clause-write
 returns-in-Refuse-clause-write g c =
-    refused_begun g.G.Respond.responds g.G.Respond.recalls form.Response _ _ c.args.gate.now c.in-Refuse.fault c.in-Refuse.extent
+    refused_begun g.G.Respond.responds g.G.Respond.recalls form.Response _ _ c.args.gate.now c.in-Refuse.fault
+    c.in-Refuse.extent
     (TookFront g.W.Write.contents c.args.writer.now c.refuse-in-Refuse.new.writer) c.refuse-in-Refuse.result
     (read_refused _ _ _ c.in-Refuse.fault c.in-Refuse.extent
-    (rw c.in-Ok-Whole.field-0-is at c.in-Ok-Whole.ensures.ok) (rw c.as_slice.ensures.value at c.in-Refuse.ensures)) c.refuse-in-Refuse.ensures.err
+    (rw c.in-Ok-Whole.field-0-is at c.in-Ok-Whole.ensures.ok) (rw c.as_slice.ensures.value at c.in-Refuse.ensures))
+    c.refuse-in-Refuse.ensures.err
 
 pub returns-in-Ok-true-clause-ok : goal.returns-in-Ok-true-clause-ok
 returns-in-Ok-true-clause-ok g c =
@@ -97,14 +105,16 @@ returns-in-Ok-false-clause-ok g c =
     refused_read g.G.Respond.responds g.G.Respond.recalls form.Response _ _ c.args.gate.now fault.Cut extent.Whole
     (Took g.W.Write.contents c.args.writer.now c.refuse-in-Ok-false.new.writer) c.refuse-in-Ok-false.result
     (read_cut _ _ _ _ _ c.in-Post.door c.in-Post.n (rw c.in-Ok-Whole.field-0-is at c.in-Ok-Whole.ensures.ok)
-    (rw c.as_slice.ensures.value at c.in-Post.ensures) (rw c.in-Ok-false.field-0-test at c.in-Ok-false.ensures.ok)) c.refuse-in-Ok-false.ensures.ok
+    (rw c.as_slice.ensures.value at c.in-Post.ensures) (rw c.in-Ok-false.field-0-test at c.in-Ok-false.ensures.ok))
+    c.refuse-in-Ok-false.ensures.ok
 
 pub returns-in-Ok-false-clause-write : goal.returns-in-Ok-false-clause-write
 returns-in-Ok-false-clause-write g c =
     refused_begun g.G.Respond.responds g.G.Respond.recalls form.Response _ _ c.args.gate.now fault.Cut extent.Whole
     (TookFront g.W.Write.contents c.args.writer.now c.refuse-in-Ok-false.new.writer) c.refuse-in-Ok-false.result
     (read_cut _ _ _ _ _ c.in-Post.door c.in-Post.n (rw c.in-Ok-Whole.field-0-is at c.in-Ok-Whole.ensures.ok)
-    (rw c.as_slice.ensures.value at c.in-Post.ensures) (rw c.in-Ok-false.field-0-test at c.in-Ok-false.ensures.ok)) c.refuse-in-Ok-false.ensures.err
+    (rw c.as_slice.ensures.value at c.in-Post.ensures) (rw c.in-Ok-false.field-0-test at c.in-Ok-false.ensures.ok))
+    c.refuse-in-Ok-false.ensures.err
 
 pub returns-in-Err-read_body-clause-read : goal.returns-in-Err-read_body-clause-read
 returns-in-Err-read_body-clause-read g c = λ _. (
@@ -119,19 +129,22 @@ pub returns-in-Read-clause-ok : goal.returns-in-Read-clause-ok
 returns-in-Read-clause-ok g c =
     comes_read g.G.Respond.responds g.G.Respond.recalls form.Response _ _ (way_on [] (read_by c.in-Read.wanted))
     c.args.gate.now c.answer_wanted.new.gate (Took g.W.Write.contents c.args.writer.now c.answer_wanted.new.writer)
-    c.answer_wanted.result (read_wanted _ _ _ c.in-Read.wanted (rw c.in-Ok-Whole.field-0-is at c.in-Ok-Whole.ensures.ok) (rw c.as_slice.ensures.value at c.in-Read.ensures))
+    c.answer_wanted.result (read_wanted _ _ _ c.in-Read.wanted (rw c.in-Ok-Whole.field-0-is at c.in-Ok-Whole.ensures.ok)
+    (rw c.as_slice.ensures.value at c.in-Read.ensures))
     c.answer_wanted.ensures.ok
 
 pub returns-in-Read-clause-write : goal.returns-in-Read-clause-write
 returns-in-Read-clause-write g c = λ failed.
     comes_begun g.G.Respond.responds g.G.Respond.recalls form.Response _ _ (way_on [] (read_by c.in-Read.wanted))
     c.args.gate.now c.answer_wanted.new.gate (TookFront g.W.Write.contents c.args.writer.now c.answer_wanted.new.writer)
-    (read_wanted _ _ _ c.in-Read.wanted (rw c.in-Ok-Whole.field-0-is at c.in-Ok-Whole.ensures.ok) (rw c.as_slice.ensures.value at c.in-Read.ensures))
+    (read_wanted _ _ _ c.in-Read.wanted (rw c.in-Ok-Whole.field-0-is at c.in-Ok-Whole.ensures.ok)
+    (rw c.as_slice.ensures.value at c.in-Read.ensures))
     (c.answer_wanted.ensures.write failed)
 
 pub returns-in-Read-clause-store : goal.returns-in-Read-clause-store
 returns-in-Read-clause-store g c = λ broken.
     read_as _ _ (way_on [] (read_by c.in-Read.wanted)) (λ w. Broke g.G.Respond.recalls form.Response w c.args.gate.now
     (TookFront g.W.Write.contents c.args.writer.now c.answer_wanted.new.writer) c.answer_wanted.new.gate)
-    (read_wanted _ _ _ c.in-Read.wanted (rw c.in-Ok-Whole.field-0-is at c.in-Ok-Whole.ensures.ok) (rw c.as_slice.ensures.value at c.in-Read.ensures))
+    (read_wanted _ _ _ c.in-Read.wanted (rw c.in-Ok-Whole.field-0-is at c.in-Ok-Whole.ensures.ok)
+    (rw c.as_slice.ensures.value at c.in-Read.ensures))
     (c.answer_wanted.ensures.store broken)

@@ -6,4 +6,5 @@ use Rattle.gate_http.specs.Parts.{ShowsNamed}
 use Rattle.gate_http.proofs.fields.find_named.Given as goal
 
 abbrev pub invariant-loop-header : goal.invariant-loop-header
-invariant-loop-header l = ShowsNamed l.head l.found (named l.name (map (header_bytes l.head) (take l.header-index l.headers)))
+invariant-loop-header l =
+    ShowsNamed l.head l.found (named l.name (map (header_bytes l.head) (take l.header-index l.headers)))

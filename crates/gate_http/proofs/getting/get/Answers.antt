@@ -13,5 +13,6 @@ returns-in-Ok-Ok-clause-write g c = λ failed.
     let Takes = TookFront g.W.Write.contents c.args.writer.now c.refuse.new.writer in
     subst (λ d. (served : Served) × Comes g.G.Respond.responds g.G.Respond.recalls form.Content (way_on [] d)
     c.args.gate.now Takes c.args.gate.now served) c.in-Err.ensures
-    (refused_front g.G.Respond.responds g.G.Respond.recalls form.Content c.args.gate.now c.in-Err.fault extent.Whole Takes
+    (refused_front g.G.Respond.responds g.G.Respond.recalls form.Content c.args.gate.now c.in-Err.fault extent.Whole
+    Takes
     c.refuse.result c.refuse.ensures.err failed)

@@ -19,7 +19,20 @@ one_field =
 pub returns : goal.returns
 unfolding matchit_on_literals httparse_on_literals routes with_route route_of front_of head_from
 returns c = (
-  ([], (record { method = search rules; target = search rules; target_text = search rules; minor = search rules; fields = one_field }, refl), search rules),
+  (
+    [],
+    (
+      record {
+        method = search rules;
+        target = search rules;
+        target_text = search rules;
+        minor = search rules;
+        fields = one_field;
+      },
+      refl,
+    ),
+    search rules,
+  ),
   refl,
   refl,
   refl,

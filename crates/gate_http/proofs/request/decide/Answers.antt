@@ -5,7 +5,8 @@ use Rattle.gate_http.proofs.request.decide.Goals as goal
 
 pub returns-then-line_ends-gt-LINES : goal.returns-then-line_ends-gt-LINES
 returns-then-line_ends-gt-LINES c =
-    let f = finds c.args.head.now (λ spans h. IsRequestAt c.args.head.now c.parse-found.new.headers spans h) c.parse-found.result c.parse-found.ensures.found c.parse-found.ensures.none in
+    let f = finds c.args.head.now (λ spans h. IsRequestAt c.args.head.now c.parse-found.new.headers spans h)
+    c.parse-found.result c.parse-found.ensures.found c.parse-found.ensures.none in
     (f.0, f.1, sym (decided_many c.args.head.now f.0 (omega arith)))
 
 pub returns-in-Some : goal.returns-in-Some

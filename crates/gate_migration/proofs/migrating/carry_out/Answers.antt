@@ -19,7 +19,7 @@ returns-in-Ok-upgrade_if_open-clause-done g c clean up x can =
     let sound : are_sound k ≡ true = c.show_sound.ensures in
     let stays = c.first_plans.ensures.only_reads.stays early in
     let b = can.stands.stored in
-    let found = c.in-Ok.ensures.found early b x.state (λ _. first_shown old k x can) (tells_state k x b sound can.queues_are_set can.stands.tells) in
+    let found = c.in-Ok.ensures.found early b x.state (λ _. first_shown old k x can) (tells_state k x b sound can.queues_are_set can.stands.matches) in
     let are : c.deref.result.now ≡ puts (first_plans k x) = c.deref.ensures.value ∙ found in
     let there : IsTrue mid.is_open → CanUpgrade mid b c.deref.result.now (tables_before k x) =
     λ open_still. can_still old mid b c.deref.result.now (tables_before k x) (stays.now_is open_still) (can_upgrade old k x c.deref.result.now sound are can) in
@@ -38,7 +38,7 @@ returns-clause-done g c clean up x can =
     let sound : are_sound k ≡ true = c.show_sound.ensures in
     let stays = c.first_plans.ensures.only_reads.stays early in
     let b = can.stands.stored in
-    let found = c.in-Ok.ensures.found early b x.state (λ _. first_shown old k x can) (tells_state k x b sound can.queues_are_set can.stands.tells) in
+    let found = c.in-Ok.ensures.found early b x.state (λ _. first_shown old k x can) (tells_state k x b sound can.queues_are_set can.stands.matches) in
     let are : c.deref.result.now ≡ puts (first_plans k x) = c.deref.ensures.value ∙ found in
     let there : IsTrue mid.is_open → CanUpgrade mid b c.deref.result.now (tables_before k x) =
     λ open_still. can_still old mid b c.deref.result.now (tables_before k x) (stays.now_is open_still) (can_upgrade old k x c.deref.result.now sound are can) in
@@ -53,7 +53,7 @@ returns-in-Ok-upgrade_if_open-clause-crash g c clean up x can db may =
     let sound : are_sound k ≡ true = c.show_sound.ensures in
     let stays = c.first_plans.ensures.only_reads.stays early in
     let b = can.stands.stored in
-    let found = c.in-Ok.ensures.found early b x.state (λ _. first_shown old k x can) (tells_state k x b sound can.queues_are_set can.stands.tells) in
+    let found = c.in-Ok.ensures.found early b x.state (λ _. first_shown old k x can) (tells_state k x b sound can.queues_are_set can.stands.matches) in
     let are : c.deref.result.now ≡ puts (first_plans k x) = c.deref.ensures.value ∙ found in
     let there : IsTrue mid.is_open → CanUpgrade mid b c.deref.result.now (tables_before k x) =
     λ open_still. can_still old mid b c.deref.result.now (tables_before k x) (stays.now_is open_still) (can_upgrade old k x c.deref.result.now sound are can) in
@@ -72,7 +72,7 @@ returns-clause-crash g c clean up x can db may =
     let sound : are_sound k ≡ true = c.show_sound.ensures in
     let stays = c.first_plans.ensures.only_reads.stays early in
     let b = can.stands.stored in
-    let found = c.in-Ok.ensures.found early b x.state (λ _. first_shown old k x can) (tells_state k x b sound can.queues_are_set can.stands.tells) in
+    let found = c.in-Ok.ensures.found early b x.state (λ _. first_shown old k x can) (tells_state k x b sound can.queues_are_set can.stands.matches) in
     let are : c.deref.result.now ≡ puts (first_plans k x) = c.deref.ensures.value ∙ found in
     let there : IsTrue mid.is_open → CanUpgrade mid b c.deref.result.now (tables_before k x) =
     λ open_still. can_still old mid b c.deref.result.now (tables_before k x) (stays.now_is open_still) (can_upgrade old k x c.deref.result.now sound are can) in

@@ -44,7 +44,7 @@ returns-clause-found g c clean b s shows are q name tells =
     let shows3 = first_still s0 s3 b (three.stays clean3) shows in
     let items : c.in_ok-items.items.items ≡ map (λ p. pair_shown p.0 p.1) (map pair_of_item q.items) =
     c.in_ok-items.ensures.found clean1 b shows ∙ sym (map-map (λ p. pair_shown p.0 p.1) pair_of_row _)
-    ∙ ap (map (λ p. pair_shown p.0 p.1)) (subst (λ n. map pair_of_row (Rattle.gate_rows.specs.Tells.items_of n b.items) ≡ map pair_of_item q.items) name tells.items) in
+    ∙ ap (map (λ p. pair_shown p.0 p.1)) (subst (λ n. map pair_of_row (Rattle.gate_rows.specs.Matches.items_of n b.items) ≡ map pair_of_item q.items) name tells.items) in
     let landings : c.in_ok-landings.landings.items ≡ map (λ p. pair_shown p.0 p.1) (map pair_of_landing q.landings) =
     c.in_ok-landings.ensures.found clean3 b shows2 q.landings (subst (λ n. HoldsLandings b n q.landings) name tells.landings) ∙ sym (map-map (λ p. pair_shown p.0 p.1) pair_of_landing _) in
     let one = c.in_ok-push_plans.ensures.found clean2 b s shows1 are (map pair_of_item q.items) (c.deref.ensures.value ∙ items) in

@@ -15,7 +15,7 @@ returns-clause-made g c clean b t first can =
       steps.changes.ready,
       record {
         stands = steps.changes.stands (without_plans b) can.named filled.stands;
-        tells = steps.told (without_plans b) t can.named filled.stands can.known can.planned can.tells;
+        matches = steps.told (without_plans b) t can.named filled.stands can.known can.planned can.matches;
       },
     ))
     (c.apply_all.ensures.steps clean filled.ready)

@@ -1,7 +1,7 @@
 use Rattle.std.proofs.Common.{◌∷◌, [], ◌∙◌, ap, length}
 use Rattle.sqlite.specs.Held.{state}
 use Rattle.gate_schema.specs.Schema.{gate_schema}
-use Rattle.gate_rows.specs.Tells.{items_of}
+use Rattle.gate_rows.specs.Matches.{items_of}
 use Rattle.gate_queue_queries.proofs.CountReads.{counted_is}
 use Rattle.gate_queue_queries.proofs.QueueReads.{count_found}
 use Rattle.gate_queue_queries.proofs.QueueTexts.{count_asks}

@@ -3,7 +3,7 @@ use Rattle.sqlite.specs.State.{HasCleanDisk, KeepsCommit, Survives}
 use Rattle.sqlite.specs.Held.{state}
 use Rattle.gate_schema.specs.Rows.{AreNamed, Changes, IsReady, Stands, Stored}
 use Rattle.gate_schema.specs.Edits.{job_rows, add_jobs}
-use Rattle.gate_rows.specs.Tells.{IsFree}
+use Rattle.gate_rows.specs.Matches.{IsFree}
 use Rattle.gate_rows.proofs.plans.add_jobs.Given as goal
 
 abbrev pub invariant-loop-index : goal.invariant-loop-index

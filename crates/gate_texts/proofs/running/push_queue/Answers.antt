@@ -28,7 +28,7 @@ along-preserved g c = record {
       along_next config s q c.along.above before c.along.running c.push_builds.new.running row c.get-above.result
       c.as_slice.result.now (c.along.invariant.told first config x holds lawful q named before told) some
       c.get-above.ensures.value (c.as_slice.ensures ∙ c.in_ok-builds.ensures.found trusted config x found lawful)
-      (λ done tells. c.in_ok-push_builds.ensures done tells);
+      (λ done is_of. c.in_ok-push_builds.ensures done is_of);
 }
 
 pub returns-clause-found : goal.returns-clause-found

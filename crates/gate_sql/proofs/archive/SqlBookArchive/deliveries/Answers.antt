@@ -1,6 +1,6 @@
 use Rattle.std.proofs.Common.{refl}
 use Rattle.sqlite.specs.Held.{state}
-use Rattle.gate_content_reads.proofs.KeptLemmas.{kept_by}
+use Rattle.gate_table_laws.proofs.KeptLemmas.{kept_by}
 use Rattle.gate_sql.proofs.ArchiveLemmas.{feed_so}
 use Rattle.gate_sql.proofs.archive.SqlBookArchive.deliveries.Goals as goal
 

@@ -1,6 +1,6 @@
 use Rattle.std.proofs.Common.{◌∙◌, ap, option_copied, refl, sym}
 use Rattle.sqlite.specs.Held.{state}
-use Rattle.gate_content_reads.proofs.KeptLemmas.{kept_by}
+use Rattle.gate_table_laws.proofs.KeptLemmas.{kept_by}
 use Rattle.gate_sql.proofs.ArchiveLemmas.{history_so, none_among}
 use Rattle.gate_sql.proofs.HistoryLemmas.{no_queue}
 use Rattle.gate_sql.proofs.archive.SqlBookArchive.history_from.Goals as goal

@@ -1,6 +1,6 @@
 use Rattle.std.proofs.Common.{refl}
 use Rattle.sqlite.specs.Held.{state}
-use Rattle.gate_content_reads.proofs.KeptLemmas.{kept_by}
+use Rattle.gate_table_laws.proofs.KeptLemmas.{kept_by}
 use Rattle.gate_sql.proofs.ArchiveLemmas.{archive_of, reports_are}
 use Rattle.gate_sql.proofs.archive.SqlBookArchive.left.Goals as goal
 

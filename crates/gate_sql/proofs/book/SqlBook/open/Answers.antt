@@ -5,10 +5,10 @@ use Rattle.sqlite.specs.State.{HasCleanDisk}
 use Rattle.gate_schema.specs.Rows.{schema_version}
 use Rattle.gate_types.specs.Adopt.{adopted_content}
 use Rattle.gate_types.specs.SettingsText.{settings_text}
-use Rattle.gate_rows.specs.Tells.{StandsFor}
+use Rattle.gate_rows.specs.Matches.{StandsFor}
 use Rattle.gate_schema.specs.Schema.{gate_schema}
 use Rattle.gate_found_rows.proofs.StayLemmas.{stays_then}
-use Rattle.gate_content_reads.specs.Held.{IsShownFor}
+use Rattle.gate_table_laws.specs.Held.{IsShownFor}
 use Rattle.gate_file_meta.specs.Reading.{HoldsMeta, ShowsMeta}
 use Rattle.gate_file_meta.proofs.JudgeLemmas.{found_of_others, found_of_same, found_others, found_same, only_refused}
 use Rattle.gate_file_meta.proofs.JudgeLemmas.{only_unavailable, told_so}

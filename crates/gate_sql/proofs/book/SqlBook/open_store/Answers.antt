@@ -2,9 +2,9 @@ use Rattle.std.proofs.Common.{None, Some, arith, subst, sym}
 use Rattle.sqlite.specs.Held.{state}
 use Rattle.sqlite.specs.State.{HasCleanDisk}
 use Rattle.gate_types.specs.Once.{Content}
-use Rattle.gate_rows.specs.Tells.{StandsFor}
+use Rattle.gate_rows.specs.Matches.{StandsFor}
 use Rattle.gate_file_changes.specs.Adopts.{IsKept}
-use Rattle.gate_content_reads.specs.Held.{HoldsFor}
+use Rattle.gate_table_laws.specs.Held.{HoldsFor}
 use Rattle.gate_sql.proofs.AgainLemmas.{one_held, one_stands}
 use Rattle.gate_sql.proofs.OpenLemmas.{told_of}
 use Rattle.gate_sql.proofs.book.SqlBook.open_store.Goals as goal

@@ -1,7 +1,7 @@
 use Rattle.std.proofs.Common.{refl}
 use Rattle.sqlite.specs.Held.{state}
-use Rattle.gate_content_reads.proofs.KeptLemmas.{kept_by}
-use Rattle.gate_content_reads.proofs.ReadLemmas.{reads_are, told_of}
+use Rattle.gate_table_laws.proofs.KeptLemmas.{kept_by}
+use Rattle.gate_table_laws.proofs.ReadLemmas.{reads_are, told_of}
 use Rattle.gate_sql.proofs.reads.SqlBookBook.builds_between.Goals as goal
 
 pub returns-clause-found : goal.returns-clause-found

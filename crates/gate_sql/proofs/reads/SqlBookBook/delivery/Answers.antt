@@ -1,8 +1,8 @@
 use Rattle.std.proofs.Common.{ap, refl}
 use Rattle.gate_types.specs.Once.{kept_for}
 use Rattle.sqlite.specs.Held.{state}
-use Rattle.gate_content_reads.proofs.KeptLemmas.{kept_by}
-use Rattle.gate_content_reads.proofs.ReadLemmas.{reads_are, told_of}
+use Rattle.gate_table_laws.proofs.KeptLemmas.{kept_by}
+use Rattle.gate_table_laws.proofs.ReadLemmas.{reads_are, told_of}
 use Rattle.gate_sql.proofs.reads.SqlBookBook.delivery.Goals as goal
 
 pub returns-clause-found : goal.returns-clause-found

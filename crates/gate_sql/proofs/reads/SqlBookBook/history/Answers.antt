@@ -1,7 +1,7 @@
 use Rattle.std.proofs.Common.{◌∙◌, refl, sym}
 use Rattle.sqlite.specs.Held.{state}
 use Rattle.gate_sql.proofs.HistoryLemmas.{history_so, no_queue}
-use Rattle.gate_content_reads.proofs.KeptLemmas.{kept_by}
+use Rattle.gate_table_laws.proofs.KeptLemmas.{kept_by}
 use Rattle.gate_sql.proofs.reads.SqlBookBook.history.Goals as goal
 
 pub returns-then-not-is_among-clause-found : goal.returns-then-not-is_among-clause-found

@@ -9,7 +9,7 @@ use Rattle.gate_core.specs.Held.{CutOver, ReplayedOver}
 use Rattle.gate_core.specs.Left.{LeavesBy}
 use Rattle.gate_core.specs.Replies.{calls_of_lines}
 use Rattle.gate_sql.specs.Refused.{IsRefused}
-use Rattle.gate_content_reads.specs.Held.{HoldsFor, LeavesFor}
+use Rattle.gate_table_laws.specs.Held.{HoldsFor, LeavesFor}
 use Rattle.gate_live.specs.Both.{HoldsBoth}
 use Rattle.gate_file_meta.specs.Opens.{IsJudged}
 use Rattle.gated_cli.specs.OverFile.{BreaksOver, GoesOver, LeavesAfter, RepliesOver}

@@ -1,6 +1,6 @@
 use Rattle.std.proofs.Common.{subst, sym}
 use Rattle.sqlite.specs.Held.{state}
-use Rattle.gate_content_reads.specs.Held.{HoldsFor, LeavesFor}
+use Rattle.gate_table_laws.specs.Held.{HoldsFor, LeavesFor}
 use Rattle.gated_cli.proofs.run.over_file.filled.Goals as goal
 
 pub returns-clause-holds : goal.returns-clause-holds

@@ -4,7 +4,7 @@ use Rattle.sqlite.specs.Held.{state}
 use Rattle.sqlite.specs.State.{HasCleanDisk, State}
 use Rattle.gate_types.specs.Gated.{Gated}
 use Rattle.gate_sql.specs.Refused.{IsRefused}
-use Rattle.gate_content_reads.specs.Held.{HoldsFor, LeavesFor}
+use Rattle.gate_table_laws.specs.Held.{HoldsFor, LeavesFor}
 use Rattle.gate_file_meta.specs.Opens.{IsJudged}
 use Rattle.gated_cli.specs.OverFile.{GoesOver, LeavesAfter}
 use Rattle.gated_cli.specs.Showing.{WritesHistory}

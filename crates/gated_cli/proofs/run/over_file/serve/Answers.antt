@@ -4,7 +4,7 @@ use Rattle.sqlite.specs.Held.{state}
 use Rattle.sqlite.specs.State.{HasCleanDisk}
 use Rattle.gate_http.specs.Connections.{CalledOver}
 use Rattle.gate_sql.specs.Refused.{IsRefused}
-use Rattle.gate_content_reads.specs.Held.{HoldsFor, LeavesFor}
+use Rattle.gate_table_laws.specs.Held.{HoldsFor, LeavesFor}
 use Rattle.gate_file_meta.specs.Opens.{IsJudged}
 use Rattle.gated_cli.specs.OverFile.{GoesOver, ServesOver}
 use Rattle.gated_cli.proofs.FileLemmas.{goes_over_live, leaves_called, no_file_fault, opened_leaves, opens_to}

@@ -1,5 +1,0 @@
-use Rattle.gate_content_reads.proofs.told.Reads.{reads_are_told}
-use Rattle.gate_content_reads.proofs.laws.every_read_is_told.Goals as goal
-
-pub returns : goal.returns
-returns c = λ settings content rows. reads_are_told
