@@ -22,7 +22,7 @@ use Rattle.gate_walk.specs.Walk.{Seen, Carry, Walk, behind_visit, fails, verdict
 use Rattle.gate_walk.specs.Next.{Next, from, need, stop, next_of, wanted}
 use Rattle.gate_walk.specs.Rescan.{start, stored, rows_with, row_seen, settled_to}
 use Rattle.gate_walk.specs.Delivery.{build_ended, moved, is_on, is_stale, touch_of, begins, standing_rows}
-use Rattle.gate_queue.specs.Settled.{swept_of, rows_in}
+use Rattle.gate_queue_rules.specs.Settled.{swept_of, rows_in}
 use Rattle.gate_walk.specs.TakenOut.{out_of}
 use Rattle.gate_walk.specs.Views.{next_of_code}
 
