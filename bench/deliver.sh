@@ -7,8 +7,8 @@ set -eu
 if [ $# -eq 0 ]; then
     set -- 1000:10 10000:10
 fi
-scratch "$top/bench/deliver/noted" gate_types gate_laws gate_config gate_queue gate_walk gate_wire gate_book_trait gate_memory \
-    gate_book gate_reads gate_settling gate_admission gate_ruling gate_texts gate_core
+scratch "$top/bench/deliver/noted" gate_types gate_laws gate_config gate_queue_rules gate_walk gate_wire \
+    gate_book_trait gate_memory gate_book gate_reads gate_settling gate_admission gate_ruling gate_texts gate_core
 run_timed
 noted=$work/crates/timed/out/timed
 cc -O2 -Wall -o "$work/written" "$top/bench/deliver/written.c" -lsqlite3

@@ -3,6 +3,6 @@
 # head, in the middle and at the end, and after a landing.
 set -eu
 . "$(dirname "$0")/scratch.sh"
-scratch "$top/bench/walk/timed" gate_types gate_laws gate_queue gate_walk
+scratch "$top/bench/walk/timed" gate_types gate_laws gate_queue_rules gate_walk
 run_timed
 python3 "$top/bench/walk/times.py" "$work/told"

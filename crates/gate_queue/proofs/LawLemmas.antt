@@ -1,5 +1,5 @@
 -- The laws of a rebase and a sweep, proved.
-use Rattle.std.proofs.Common.{◌≡◌, ℕ, suc, Bool, true, false, not, ◌&&◌, ◌||◌, cond, List, [], ◌∷◌, ◌++◌, map, refl}
+use Rattle.std.proofs.Common.{◌≡◌, ℕ, Bool, true, false, not, ◌&&◌, ◌||◌, cond, List, [], ◌∷◌, ◌++◌, map, refl}
 use Rattle.std.proofs.Common.{sym, ap, ◌∙◌, true≢false}
 use Rattle.std.specs.List.{All, AllPass, list_any}
 use Rattle.std.proofs.lemmas.List.Elements.{All-cons, All-nil, All-head, All-tail}
@@ -12,16 +12,14 @@ use Rattle.gate_types.specs.Slot.{is_blocked, is_cut, slot_of, raw_slot_of}
 use Rattle.gate_types.specs.Standing.{is_failing, places, all_places, places_after, place_of, with_ahead, next_ahead}
 use Rattle.gate_types.specs.Rebase.{rebase, stays_live}
 use Rattle.gate_types.specs.Sweep.{judged, judged_after, judge, next_staying, goes}
-use Rattle.gate_types.specs.Rising.{RisesFrom}
 use Rattle.gate_queue.specs.Laws.{RebaseKeepsMarks, SlotsTellFailing, WhatGoesStandsInNoLine}
-use Rattle.gate_queue.proofs.Ordered.{Tells, rises, ahead_rise}
+use Rattle.gate_queue_rules.proofs.Ordered.{Tells, rises, ahead_rise, items_rise}
 use Rattle.gate_laws.proofs.Members.{all}
 use Rattle.gate_laws.proofs.Stays.{Among, among_next, goes_failing}
 use Rattle.gate_laws.proofs.Cuts.{failed_cut}
 use Rattle.gate_laws.proofs.AfterRebase.{all_places_rebased}
-use Rattle.gate_laws.proofs.LiveBuildsCount.{place_serial}
-use Rattle.gate_queue.proofs.Keeps.{passes_at, all_alike, slot_kept, rebase_passes}
-use Rattle.gate_queue.proofs.Settled.{goes_tells}
+use Rattle.gate_queue_rules.proofs.Keeps.{passes_at, all_alike, slot_kept, rebase_passes}
+use Rattle.gate_queue_rules.proofs.Settled.{goes_tells}
 
 -- ---- a rebase
 
@@ -65,10 +63,6 @@ none_goes bs ahead staying (p ∷ ps) leaves a h t =
         stays : (l : Bool) → (l ≡ true → false ≡ true) → l ≡ false
         stays true e = absurd (true≢false (sym (e refl)))
         stays false e = refl
-
-pub items_rise : (c : Settings) (s : State) (q : Queue) (is : List Item) (n : ℕ) → RisesFrom (λ i. i.serial) n is → RisesFrom place_serial n (map (place_of c s q) is)
-items_rise c s q [] n r = tt
-items_rise c s q (i ∷ is) n r = (r.0, items_rise c s q is (suc i.serial) r.1)
 
 pub what_goes_stands_in_no_line : WhatGoesStandsInNoLine
 what_goes_stands_in_no_line c s q r =

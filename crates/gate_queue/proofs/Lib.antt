@@ -1,9 +1,3 @@
-pub mod Ordered
-pub mod Cut
-pub mod Folds
-pub mod Keeps
-pub mod Builds
-pub mod Settled
 pub mod LawLemmas
 pub mod OneByOne
 pub mod WholeQueue

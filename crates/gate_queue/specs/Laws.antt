@@ -15,7 +15,7 @@ use Rattle.gate_types.specs.Standing.{is_failing, places, all_places}
 use Rattle.gate_types.specs.Rebase.{rebase}
 use Rattle.gate_types.specs.Window.{Bounds}
 use Rattle.gate_types.specs.Sweep.{Judged, judged, goes, next_window, report_on}
-use Rattle.gate_queue.specs.Settled.{verdicts, swept_builds, staying_places}
+use Rattle.gate_queue_rules.specs.Settled.{verdicts, swept_builds, staying_places}
 
 -- a rebase changes what is ahead of no item, no slot, no failing mark, and cuts no other item
 pub record RebaseKeepsMarks : Type 0 where

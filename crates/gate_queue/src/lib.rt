@@ -1,25 +1,17 @@
-//! The rules of one queue of a speculative merge gate: what a job has come to (`slot_among`), how many items may be
-//! tested at once (`grow`, `shrink`), whether an item is cut (`is_cut`), why it goes (`verdict_of`), and the edits of an
-//! item (`push_item`) and of the window (`push_window`). Nothing is stored here, and nothing is kept between two calls.
-//!
-//! The program goes through a queue row by row, as `gate_walk` and `gate_reads` do, and applies these rules to each row.
-//! `whole_queue` applies them to a queue whose items and builds are all in memory. The program doesn't call it.
+//! The rules of one queue, which this crate hands out from `gate_queue_rules`; laws of these rules (`laws`); and
+//! `whole_queue`, which applies the rules to a queue whose items and builds are all in memory. The program calls none
+//! of the two: it goes through a queue row by row, as `gate_walk` and `gate_reads` do, with the rules themselves.
 //!
 //! ```text
-//! let slot = slot_among(alloc, &builds, &job)?;
-//! let verdict = verdict_of(met, failed);
 //! let window = shrink(window, floor, rule);
+//! let edits = whole_queue::settle(alloc, &items, &builds, &facts)?;
 //! ```
 #![tactic(auto)]
 
-mod edits;
 pub mod laws;
-mod outcomes;
-mod verdict;
 pub mod whole_queue;
-mod window;
 
-pub use edits::{push_item, push_window, reports_behind};
-pub use outcomes::{is_failed, is_finished, slot_among, slot_where};
-pub use verdict::{Marks, is_cut, verdict_of};
-pub use window::{grow, shrink, window_behind};
+pub use gate_queue_rules::{
+    Marks, grow, is_cut, is_failed, is_finished, push_item, push_window, reports_behind, shrink,
+    slot_among, slot_where, verdict_of, window_behind,
+};

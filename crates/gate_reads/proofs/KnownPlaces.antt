@@ -26,7 +26,7 @@ use Rattle.gate_laws.proofs.Members.{contains_in, found, from_flat, to_flat}
 use Rattle.gate_laws.proofs.Places.{item_of_place}
 use Rattle.gate_book_trait.specs.Reads.{queue_named, landings_in, landings_before, live_builds}
 use Rattle.gate_reads.specs.NextBuild.{with_number}
-use Rattle.gate_queue.specs.Outcomes.{slot_among}
+use Rattle.gate_queue_rules.specs.Outcomes.{slot_among}
 use Rattle.gate_reads.specs.Parts.{IsTold}
 use Rattle.gate_reads.specs.Places.{IsBehind, are_met_among, build_on}
 use Rattle.gate_reads.specs.declared.due.ToldItem.{ToldItem}

@@ -21,7 +21,7 @@ use Rattle.gate_laws.proofs.Members.{every}
 use Rattle.gate_laws.proofs.LiveBuildsCount.{live_builds_count}
 use Rattle.gate_laws.proofs.Cuts.{uncut, finished_is, waiting_cut}
 use Rattle.gate_book_trait.specs.Reads.{live_builds}
-use Rattle.gate_queue.specs.Outcomes.{outcomes_among, slot_among}
+use Rattle.gate_queue_rules.specs.Outcomes.{outcomes_among, slot_among}
 
 -- whether a build is a live one of an item
 abbrev is_own : Place → Build → Bool

@@ -15,7 +15,7 @@ ghost use Rattle.gate_reads.specs.Places.{IsBehind, are_met_among, build_on};
 use crate::jobs::first_waiting;
 use crate::known::needs_of;
 use gate_book_trait::{Book, BookFault};
-use gate_queue::is_cut;
+use gate_queue_rules::is_cut;
 use gate_types::config::{Config, Job};
 use gate_types::names::Name;
 use gate_types::numbers::{BuildNo, ChangeNo};

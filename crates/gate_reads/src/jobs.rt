@@ -2,9 +2,9 @@
 ghost use Rattle.std.specs.Prelude.{◌≡◌, find, option_copied, IfOk};
 ghost use Rattle.std.specs.List.{list_all};
 ghost use Rattle.gate_types.specs.Slot.{is_waiting_slot, is_finished, is_running};
-ghost use Rattle.gate_queue.specs.Outcomes.{slot_among};
+ghost use Rattle.gate_queue_rules.specs.Outcomes.{slot_among};
 
-use gate_queue::{is_finished, slot_among};
+use gate_queue_rules::{is_finished, slot_among};
 use gate_types::config::Job;
 use gate_types::names::NoMemory;
 use gate_types::records::{Build, Outcome, Slot};

@@ -3,7 +3,7 @@ ghost use Rattle.std.specs.Prelude.{◌≡◌, option_copied};
 ghost use Rattle.gate_reads.specs.Windows as rules;
 
 use crate::touched::Event;
-use gate_queue::{grow, shrink};
+use gate_queue_rules::{grow, shrink};
 use gate_types::config::{Queue, WindowRule};
 use gate_types::records::Verdict;
 

@@ -38,7 +38,7 @@ use Rattle.gate_ruling.proofs.Folded.{shown, shown_after, by_parts, leave_it, mo
 use Rattle.gate_ruling.proofs.Few.{few_reports}
 use Rattle.gate_ruling.proofs.Stored.{Stored, stored}
 use Rattle.gate_ruling.proofs.Stopped.{stopped}
-use Rattle.gate_queue.proofs.Folds.{put_last}
+use Rattle.gate_queue_rules.proofs.Folds.{put_last}
 
 -- ---- lists
 

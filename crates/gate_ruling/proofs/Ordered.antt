@@ -37,7 +37,7 @@ use Rattle.gate_laws.proofs.RecordedChange.{known_number}
 use Rattle.gate_reads.specs.Moves.{Columns, in_state, Moves}
 use Rattle.gate_reads.specs.Touches.{Touches}
 use Rattle.gate_reads.specs.declared.touched.Event.TheVariants as event
-use Rattle.gate_queue.specs.Edits.{window_edits}
+use Rattle.gate_queue_rules.specs.Edits.{window_edits}
 use Rattle.gate_ruling.specs.Guards.{HasOrder}
 use Rattle.gate_ruling.specs.Landing.{landing_of, landing_edits}
 use Rattle.gate_reads.specs.Windows.{bounds_named}

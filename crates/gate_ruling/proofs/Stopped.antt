@@ -23,7 +23,7 @@ use Rattle.gate_laws.proofs.EndedBuild.{one_build}
 use Rattle.gate_laws.proofs.LeaveIsSound.{leaving}
 use Rattle.gate_ruling.specs.Leaving.{stop_of}
 use Rattle.gate_ruling.proofs.Stored.{Stored}
-use Rattle.gate_queue.proofs.Builds.{or_assoc, or_false}
+use Rattle.gate_queue_rules.proofs.Builds.{or_assoc, or_false}
 
 -- ---- builds stopped one after another
 

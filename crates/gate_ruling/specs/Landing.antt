@@ -4,7 +4,7 @@ use Rattle.gate_types.specs.declared.records.Item.{Item as ItemRow}
 use Rattle.gate_types.specs.declared.records.Landing.{Landing}
 use Rattle.gate_types.specs.declared.edits.Edit.{Edit}
 use Rattle.gate_types.specs.declared.edits.Edit.TheVariants as edit
-use Rattle.gate_queue.specs.Edits.{window_edits}
+use Rattle.gate_queue_rules.specs.Edits.{window_edits}
 use Rattle.gate_book_trait.specs.declared.rows.QueuedItem.{QueuedItem}
 
 -- the landing of a row's item

@@ -1,6 +1,6 @@
 //! Edits, one after another.
 ghost use Rattle.std.specs.Prelude.{◌≡◌, ◌++◌, IfOk};
-ghost use Rattle.gate_queue.specs.Edits.{window_edits};
+ghost use Rattle.gate_queue_rules.specs.Edits.{window_edits};
 
 use gate_types::edits::Edit;
 use gate_types::lists::with_one;

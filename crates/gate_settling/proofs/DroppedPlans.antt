@@ -19,7 +19,7 @@ use Rattle.gate_types.specs.Sweep.{without_plans}
 use Rattle.gate_types.specs.Window.{Bounds}
 use Rattle.gate_types.specs.Rows.{edited_items}
 use Rattle.gate_types.specs.Tables.{edited_plans}
-use Rattle.gate_queue.specs.Edits.{window_behind}
+use Rattle.gate_queue_rules.specs.Edits.{window_behind}
 use Rattle.gate_walk.specs.Walk.{Seen, Carry, Walk, is_same_row, row_by, row_edits, verdict_by, stopped_by}
 use Rattle.gate_walk.specs.Walk.{window_edits_by, visit_edits}
 use Rattle.gate_walk.specs.UnderWay.{Delivered, rows_seen, stale_rows, walk_by, next_by, row_wanted, AreWanted}

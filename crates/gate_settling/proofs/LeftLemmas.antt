@@ -34,7 +34,7 @@ use Rattle.gate_reads.specs.declared.touched.Event.{Event}
 use Rattle.gate_reads.specs.declared.touched.Event.TheVariants as event
 use Rattle.gate_laws.proofs.Members.{every, map_map, from_append, to_left, to_right, none_to}
 use Rattle.gate_laws.proofs.Parts.{ItemsRise}
-use Rattle.gate_queue.proofs.Ordered.{AllBelow, rises}
+use Rattle.gate_queue_rules.proofs.Ordered.{AllBelow, rises}
 use Rattle.gate_walk.proofs.Parting.{rise_at}
 use Rattle.gate_types.specs.Once.{Content}
 use Rattle.gate_types.specs.Rising.{RisesFrom, In}

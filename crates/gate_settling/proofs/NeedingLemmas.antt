@@ -13,7 +13,7 @@ use Rattle.gate_types.proofs.PlainLemmas.{and_false, filter_twice}
 use Rattle.gate_walk.specs.Walk.{Seen, Walk, behind_visit, verdict_by}
 use Rattle.gate_book_trait.specs.Reads.{first_above, items_needing}
 use Rattle.gate_laws.proofs.Members.{from_filter, filter_same, found}
-use Rattle.gate_queue.proofs.Ordered.{row_serial}
+use Rattle.gate_queue_rules.proofs.Ordered.{row_serial}
 use Rattle.gate_settling.specs.Rows.{is_needing, first_needing_any, needing_any, merged, joined_behind, AreKept}
 use Rattle.gate_settling.proofs.ListLemmas.{or_false, find_same, find_kept}
 use Rattle.gate_settling.proofs.WantedLemmas.{low_in}

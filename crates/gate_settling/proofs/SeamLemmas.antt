@@ -24,7 +24,7 @@ use Rattle.gate_types.specs.Tables.{edited_tables, fold_all, Leads}
 use Rattle.gate_types.specs.Rising.{In}
 use Rattle.gate_types.proofs.NameLemmas.{same_name_is}
 use Rattle.gate_laws.specs.Touch.{has_serial, rebase_one, settle_one}
-use Rattle.gate_queue.specs.Settled.{swept_of, rows_in}
+use Rattle.gate_queue_rules.specs.Settled.{swept_of, rows_in}
 use Rattle.gate_walk.specs.Rescan.{rows_with}
 use Rattle.gate_reads.specs.Moves.{Columns, row_by, tables_by, columns_of, swept, in_state, Moves}
 use Rattle.gate_laws.proofs.Members.{map_map}

@@ -25,8 +25,8 @@ use Rattle.gate_types.specs.Tables.{edited_plans}
 use Rattle.gate_types.specs.Rising.{In}
 use Rattle.gate_types.proofs.NameLemmas.{same_name_is}
 use Rattle.gate_laws.specs.Touch.{has_serial, touched_by, rebase_one, settle_one, settle_touched}
-use Rattle.gate_queue.specs.Settled.{swept_of, rows_in}
-use Rattle.gate_queue.specs.Edits.{window_behind}
+use Rattle.gate_queue_rules.specs.Settled.{swept_of, rows_in}
+use Rattle.gate_queue_rules.specs.Edits.{window_behind}
 use Rattle.gate_walk.specs.Walk.{Seen, Carry, Walk, is_same_row, row_by as row_of_visit, row_edits, verdict_by}
 use Rattle.gate_walk.specs.Walk.{stopped_by, window_edits_by, visit_edits}
 use Rattle.gate_walk.specs.Rescan.{rows_with}

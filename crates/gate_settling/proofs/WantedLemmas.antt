@@ -25,8 +25,7 @@ use Rattle.gate_laws.proofs.Members.{every, from_map, found, any_map}
 use Rattle.gate_laws.proofs.Parts.{ItemsRise}
 use Rattle.gate_laws.proofs.Tests.{not_and_false}
 use Rattle.gate_book_trait.proofs.Finding.{find_map}
-use Rattle.gate_queue.proofs.Ordered.{row_serial, rises}
-use Rattle.gate_queue.proofs.LawLemmas.{items_rise}
+use Rattle.gate_queue_rules.proofs.Ordered.{row_serial, rises, items_rise}
 use Rattle.gate_walk.proofs.Visits.{stored_rise}
 use Rattle.gate_settling.specs.Touching.{Touching, delivered, sees, IsUnderWay}
 use Rattle.gate_settling.specs.Rows.{is_out, need_now, needs_known, first_behind, is_needing, row_for, IsFrom, IsAbove}

@@ -12,7 +12,7 @@ use Rattle.gate_types.specs.History.{verdict_word}
 use Rattle.gate_types.specs.declared.records.Verdict.{Verdict}
 use Rattle.gate_book_trait.specs.declared.rows.QueuedItem.{QueuedItem}
 use Rattle.gate_book_trait.specs.Reads.{live_builds}
-use Rattle.gate_queue.specs.Outcomes.{slot_among}
+use Rattle.gate_queue_rules.specs.Outcomes.{slot_among}
 use Rattle.gate_archive.specs.OrNull.{or_null}
 use Rattle.gate_archive.specs.ItemText.{told_of, jobs_piece, place_at}
 use Rattle.gate_texts.specs.Ahead.{is_blocked_by_key}

@@ -6,7 +6,7 @@ use Rattle.gate_types.specs.declared.records.Item.{Item as ItemRow}
 use Rattle.gate_types.specs.Columns.{right, left, row, number_or_dash}
 use Rattle.gate_types.specs.Slot.{cut_slot}
 use Rattle.gate_types.specs.Status.{slot_word}
-use Rattle.gate_queue.specs.Outcomes.{slot_among}
+use Rattle.gate_queue_rules.specs.Outcomes.{slot_among}
 
 -- as `unit=success`, by the live builds of the item, and whether it is cut
 abbrev pub job_column : Bool → List Build → Job → List ℕ

@@ -11,7 +11,7 @@ use crate::lines::slot_word;
 use crate::values::{in_quotes, push_entry};
 use gate_archive::{Archive, BuildSummary, LeftItem};
 use gate_book_trait::{Book, BookFault, QueuedItem, plan_of};
-use gate_queue::{is_cut, slot_among, slot_where};
+use gate_queue_rules::{is_cut, slot_among, slot_where};
 use gate_types::config::{Config, Job};
 use gate_types::limits::MOST_LISTED;
 use gate_types::names::{Name, NoMemory, Text};

@@ -4,7 +4,7 @@ ghost use Rattle.gate_types.specs.Columns.{right, left, number_or_dash};
 ghost use Rattle.gate_types.specs.Status.{slot_word};
 ghost use Rattle.gate_texts.specs.Lines as line;
 
-use gate_queue::{slot_among, slot_where};
+use gate_queue_rules::{slot_among, slot_where};
 use gate_types::config::Job;
 use gate_types::names::NoMemory;
 use gate_types::numbers::{ChangeNo, Serial};

@@ -11,7 +11,7 @@ ghost use Rattle.gate_reads.specs.Places.{IsBehind};
 
 use crate::lines::{item_line, queue_line, waiting_line};
 use gate_book_trait::{Book, BookFault, plan_of};
-use gate_queue::is_cut;
+use gate_queue_rules::is_cut;
 use gate_reads::{are_met_among, needs_of, push_unless_failing};
 use gate_types::config::Config;
 use gate_types::names::{Name, Text};

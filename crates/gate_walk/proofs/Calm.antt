@@ -32,8 +32,8 @@ use Rattle.gate_laws.proofs.ContentForms.{is_none}
 use Rattle.gate_laws.proofs.LiveBuildsCount.{place_serial}
 use Rattle.gate_laws.proofs.RecordedChange.{open_unlanded}
 use Rattle.gate_walk.proofs.Once.{Once, once, once_left, once_right}
-use Rattle.gate_queue.proofs.Ordered.{rises}
-use Rattle.gate_queue.proofs.Builds.{or_false}
+use Rattle.gate_queue_rules.proofs.Ordered.{rises}
+use Rattle.gate_queue_rules.proofs.Builds.{or_false}
 use Rattle.gate_walk.proofs.Slots.{is_live_of, wanted_all_count, wanted_all_ended}
 use Rattle.gate_walk.proofs.Resets.{Quiet, NotLanded}
 use Rattle.gate_walk.proofs.Moved.{Elsewhere, Others, IsOther}

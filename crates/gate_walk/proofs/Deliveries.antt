@@ -29,7 +29,7 @@ use Rattle.gate_walk.specs.Rescan.{ahead_at, fails_at, without_row, rows_from, r
 use Rattle.gate_walk.specs.Kinds.{IsIn}
 use Rattle.gate_walk.specs.Delivery.{build_ended, item_left, item_landed, moved, touch_of, out_by}
 use Rattle.gate_walk.specs.Delivery.{standing_rows, WalksFrom, TouchedQueueIsWalked, AWalkIsEnough}
-use Rattle.gate_queue.specs.Settled.{swept_of}
+use Rattle.gate_queue_rules.specs.Settled.{swept_of}
 use Rattle.gate_laws.proofs.Members.{every, all, to_map, to_right, found, not_found, any_to, all_to, in_contains}
 use Rattle.gate_laws.proofs.Parts.{ItemsRise}
 use Rattle.gate_types.proofs.DistinctLemmas.{names_differ}
@@ -56,8 +56,7 @@ use Rattle.gate_walk.proofs.Touching.{around, walk_after_build, walk_after_leavi
 use Rattle.gate_walk.proofs.Leaving.{items_leave}
 use Rattle.gate_types.specs.Rows.{fold_edits}
 use Rattle.gate_types.specs.Rising.{In}
-use Rattle.gate_queue.proofs.Ordered.{rises}
-use Rattle.gate_queue.proofs.LawLemmas.{items_rise}
+use Rattle.gate_queue_rules.proofs.Ordered.{rises, items_rise}
 use Rattle.gate_walk.proofs.Visits.{stored_rise, standing_rise, seen_increase, visited_is_walked}
 use Rattle.gate_walk.proofs.Swept.{only_named, settled_within}
 

@@ -24,7 +24,7 @@ use Rattle.gate_types.specs.Rising.{RisesFrom, In}
 use Rattle.std.proofs.lemmas.List.Sums.{sum_by-cons}
 use Rattle.gate_laws.proofs.Members.{to_filter}
 use Rattle.gate_laws.proofs.EndedBuild.{ended, ended_serial}
-use Rattle.gate_queue.proofs.Ordered.{build_number}
+use Rattle.gate_queue_rules.proofs.Ordered.{build_number}
 use Rattle.gate_walk.proofs.Slots.{is_live_of, all_count, count_all}
 use Rattle.gate_walk.proofs.Moved.{Elsewhere}
 

@@ -15,7 +15,7 @@ use Rattle.gate_types.specs.Slot.{are_met_by}
 use Rattle.gate_types.specs.Standing.{is_failing, with_ahead, next_ahead, places_after, ahead_of}
 use Rattle.gate_types.specs.Sweep.{verdict_of, judge, next_staying}
 use Rattle.gate_types.specs.Rows.{row_of}
-use Rattle.gate_queue.specs.Edits.{next_reports, window_behind}
+use Rattle.gate_queue_rules.specs.Edits.{next_reports, window_behind}
 use Rattle.gate_walk.specs.Walk.{Seen, Carry, is_fine, is_gone, fails, verdict_by, visit_edits, carried, walk_from}
 use Rattle.gate_walk.proofs.Slots.{all_count, outcomes_live}
 use Rattle.gate_walk.proofs.Steps.{seen, Known, Sees, known_skipped, blocked_seen, met_seen, fails_seen, verdict_seen}

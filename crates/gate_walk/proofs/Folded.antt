@@ -25,18 +25,18 @@ use Rattle.gate_types.specs.Window.{Bounds}
 use Rattle.gate_types.specs.Rows.{numbered, row_of, fold_edits, edited_items, edited_builds, edited_reports}
 use Rattle.gate_types.specs.Rows.{edited_window}
 use Rattle.gate_types.specs.Rising.{RisesFrom}
-use Rattle.gate_queue.specs.Edits.{stops, stop_edits, item_edits, edits_at, next_reports, window_behind}
-use Rattle.gate_queue.specs.Settled.{verdicts, settled_rows}
+use Rattle.gate_queue_rules.specs.Edits.{stops, stop_edits, item_edits, edits_at, next_reports, window_behind}
+use Rattle.gate_queue_rules.specs.Settled.{verdicts, settled_rows}
 use Rattle.gate_walk.specs.Walk.{Seen, Carry, asks_for, carried, is_same_row, row_edits, visit_edits, walk_edits}
 use Rattle.gate_walk.specs.Walk.{window_edits_by}
-use Rattle.gate_queue.proofs.Ordered.{AllBelow, GoWith, Tells, row_serial, build_number, places_rise}
-use Rattle.gate_queue.proofs.Ordered.{ahead_rise, ahead_with}
-use Rattle.gate_queue.proofs.Folds.{fold_parts, edits_along, stops_leave, window_own, window_same, reports_fold}
-use Rattle.gate_queue.proofs.Folds.{items_own, below_kept, below_more, kept, kept_cons}
+use Rattle.gate_queue_rules.proofs.Ordered.{AllBelow, GoWith, Tells, row_serial, build_number, places_rise}
+use Rattle.gate_queue_rules.proofs.Ordered.{ahead_rise, ahead_with}
+use Rattle.gate_queue_rules.proofs.Folds.{fold_parts, edits_along, stops_leave, window_own, window_same, reports_fold}
+use Rattle.gate_queue_rules.proofs.Folds.{items_own, below_kept, below_more, kept, kept_cons}
 use Rattle.gate_laws.proofs.Stays.{stayers}
 use Rattle.gate_laws.proofs.Touches.{name_itself}
-use Rattle.gate_queue.proofs.Builds.{builds_fold}
-use Rattle.gate_queue.proofs.Settled.{goes_tells, edits_make, settles}
+use Rattle.gate_queue_rules.proofs.Builds.{builds_fold}
+use Rattle.gate_queue_rules.proofs.Settled.{goes_tells, edits_make, settles}
 use Rattle.gate_walk.proofs.Steps.{edits_for}
 use Rattle.gate_walk.proofs.Resets.{Right, asked}
 

@@ -8,7 +8,7 @@ use Rattle.gate_types.specs.Rising.{RisesFrom}
 use Rattle.gate_types.specs.declared.edits.Edit.{Edit}
 use Rattle.gate_walk.specs.Walk.{Seen, Carry, visit_edits, carried, asks_for, walk_edits, walk_from}
 use Rattle.gate_walk.specs.Next.{untold, VisitsGoOn}
-use Rattle.gate_queue.proofs.Ordered.{AllBelow, rises}
+use Rattle.gate_queue_rules.proofs.Ordered.{AllBelow, rises}
 use Rattle.gate_walk.specs.Rescan.{row_seen}
 use Rattle.gate_walk.proofs.Visits.{seen_from}
 use Rattle.gate_walk.proofs.NextRows.{seen_serial, test_of, wanted_is, below_push, below_up}

@@ -17,8 +17,8 @@ use Rattle.gate_types.specs.Slot.{are_met_by, is_running, is_cut, raw_slot_of, i
 use Rattle.gate_types.specs.Standing.{is_failing, with_ahead, next_ahead, places_after}
 use Rattle.gate_types.specs.Sweep.{verdict_of, has_failed, judge, next_staying}
 use Rattle.gate_types.specs.Rows.{row_of}
-use Rattle.gate_queue.specs.Edits.{next_reports, window_behind}
-use Rattle.gate_queue.specs.Outcomes.{slot_among}
+use Rattle.gate_queue_rules.specs.Edits.{next_reports, window_behind}
+use Rattle.gate_queue_rules.specs.Outcomes.{slot_among}
 use Rattle.gate_walk.specs.Walk.{is_blocked_by, Seen, Mark, Carry, is_gone, needs_gone, still_counting, fails}
 use Rattle.gate_walk.specs.Walk.{verdict_by, row_by, row_edits, window_edits_by, visit_edits, carried, cuts, is_over}
 use Rattle.gate_walk.proofs.Slots.{live_of}

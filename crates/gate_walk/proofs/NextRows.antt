@@ -10,7 +10,7 @@ use Rattle.gate_types.specs.declared.edits.Edit.{Edit}
 use Rattle.gate_walk.specs.Walk.{Seen, SeenNeed, Carry, needs_gone, fails, visit_edits, carried, asks_for, walk_edits}
 use Rattle.gate_walk.specs.Rescan.{start}
 use Rattle.gate_walk.specs.Next.{go, need, stop, next_of, wanted, visits_from, VisitsAreTheWalk, WalkStops}
-use Rattle.gate_queue.proofs.Ordered.{AllBelow, rises}
+use Rattle.gate_queue_rules.proofs.Ordered.{AllBelow, rises}
 use Rattle.gate_laws.proofs.Tests.{and_true}
 
 abbrev pub seen_serial : Seen → ℕ

@@ -12,10 +12,10 @@ use Rattle.gate_types.specs.Line.{Place}
 use Rattle.gate_types.specs.Standing.{is_failing, with_ahead, next_ahead, places_after}
 use Rattle.gate_types.specs.Rows.{Rows, row_of, numbered, fold_edits}
 use Rattle.gate_types.specs.Rising.{RisesFrom}
-use Rattle.gate_queue.specs.Settled.{settled_rows}
+use Rattle.gate_queue_rules.specs.Settled.{settled_rows}
 use Rattle.gate_walk.specs.Walk.{Seen, Carry, asks_for, carried, visit_edits, walk_from}
 use Rattle.gate_walk.specs.Rescan.{settled_to}
-use Rattle.gate_queue.proofs.Ordered.{GoWith, row_serial, build_number, ahead_rise, ahead_with}
+use Rattle.gate_queue_rules.proofs.Ordered.{GoWith, row_serial, build_number, ahead_rise, ahead_with}
 use Rattle.gate_walk.proofs.Slots.{all_count}
 use Rattle.gate_walk.proofs.Steps.{Known}
 use Rattle.gate_walk.proofs.Resets.{Right, asked, rows_seen, last_serial, none_parts, Quiet, visits, same, NotLanded}

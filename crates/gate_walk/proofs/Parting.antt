@@ -6,7 +6,7 @@ use Rattle.std.proofs.lemmas.Bool.{lt-ltb, le-ltb, le-leb, lt-leb, ltb-true, ltb
 use Rattle.std.proofs.lemmas.List.Elements.{filter-append}
 use Rattle.gate_types.specs.Rising.{RisesFrom, In}
 use Rattle.gate_laws.proofs.Rising.{Rising}
-use Rattle.gate_queue.proofs.Ordered.{AllBelow}
+use Rattle.gate_queue_rules.proofs.Ordered.{AllBelow}
 
 none_some : {Y : Type 0} (z : Y) → None ≡ Some z → ⊥
 none_some z q = cc

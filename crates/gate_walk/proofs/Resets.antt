@@ -20,7 +20,7 @@ use Rattle.gate_types.specs.Slot.{are_met_by, counts, is_running, is_cut}
 use Rattle.gate_types.specs.Standing.{is_failing, with_ahead, next_ahead, places_after}
 use Rattle.gate_types.specs.Sweep.{verdict_of, has_failed, judge, next_staying}
 use Rattle.gate_types.specs.Rows.{row_of}
-use Rattle.gate_queue.specs.Edits.{stops, next_reports, window_behind}
+use Rattle.gate_queue_rules.specs.Edits.{stops, next_reports, window_behind}
 use Rattle.gate_walk.specs.Walk.{Seen, Mark, Carry, fails, verdict_by, window_edits_by, visit_edits, carried, asks_for}
 use Rattle.gate_walk.proofs.Slots.{is_live_of, live_of, all_count, all_ended, EndedIfCut, Lost, counts_no_more}
 use Rattle.gate_walk.proofs.Slots.{none_counts}

@@ -13,7 +13,7 @@ use Rattle.gate_types.specs.Names.{same_name}
 use Rattle.gate_types.specs.State.{Item, has_change}
 use Rattle.gate_types.specs.Line.{Place, same_entries, line, ran_on, landings_below, landed_entry, item_entry}
 use Rattle.gate_types.specs.Slot.{is_blocked, is_running, counts, is_cut, is_wanted, outcomes_of}
-use Rattle.gate_queue.specs.Outcomes.{outcomes_among}
+use Rattle.gate_queue_rules.specs.Outcomes.{outcomes_among}
 
 -- a live build of the item
 abbrev pub is_live_of : Place → Build → Bool

@@ -13,15 +13,15 @@ use Rattle.gate_types.specs.Line.{Place}
 use Rattle.gate_types.specs.Sweep.{judge, judged_after, next_staying, verdict_of, goes}
 use Rattle.gate_types.specs.Rows.{numbered, row_of, fold_edits, edited_items, edited_builds, edited_reports}
 use Rattle.gate_types.specs.Rising.{RisesFrom}
-use Rattle.gate_queue.specs.Edits.{next_reports, window_behind}
+use Rattle.gate_queue_rules.specs.Edits.{next_reports, window_behind}
 use Rattle.gate_walk.specs.Rescan.{settled_to}
 use Rattle.gate_walk.specs.Walk.{Seen, Carry, asks_for, carried, visit_edits, window_edits_by}
-use Rattle.gate_queue.proofs.Ordered.{AllBelow, GoWith, Tells, row_serial, build_number}
-use Rattle.gate_queue.proofs.Folds.{fold_parts, below_kept, below_more, kept, kept_cons, reports_fold}
+use Rattle.gate_queue_rules.proofs.Ordered.{AllBelow, GoWith, Tells, row_serial, build_number}
+use Rattle.gate_queue_rules.proofs.Folds.{fold_parts, below_kept, below_more, kept, kept_cons, reports_fold}
 use Rattle.gate_laws.proofs.Stays.{stayers}
 use Rattle.gate_laws.proofs.LiveBuildsCount.{place_serial}
-use Rattle.gate_queue.proofs.Builds.{builds_fold}
-use Rattle.gate_queue.proofs.Settled.{goes_tells}
+use Rattle.gate_queue_rules.proofs.Builds.{builds_fold}
+use Rattle.gate_queue_rules.proofs.Settled.{goes_tells}
 use Rattle.gate_walk.proofs.Resets.{Right, asked}
 use Rattle.gate_walk.proofs.Folded.{told, asked_step, items_row, window_aside, window_told, part_told}
 

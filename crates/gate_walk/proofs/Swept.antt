@@ -20,16 +20,15 @@ use Rattle.gate_types.specs.Rows.{rows_of}
 use Rattle.gate_types.specs.Rising.{In}
 use Rattle.gate_types.proofs.NameLemmas.{same_name_is}
 use Rattle.gate_laws.specs.Touch.{queues_named, rebase_one, settle_one}
-use Rattle.gate_queue.specs.Settled.{rebased, verdicts, settled_rows, rows_in, swept_of}
+use Rattle.gate_queue_rules.specs.Settled.{rebased, verdicts, settled_rows, rows_in, swept_of}
 use Rattle.gate_laws.proofs.Members.{to_map, none_from, filter_none}
 use Rattle.gate_laws.proofs.Alone.{same_name_of}
 use Rattle.gate_laws.proofs.AfterRebase.{judged_rebased}
 use Rattle.gate_laws.proofs.Swept.{items_left, staying_items, staying_not}
 use Rattle.gate_laws.proofs.Plans.{plan_stays, replanned}
-use Rattle.gate_queue.proofs.Ordered.{Tells, rises, ahead_rise}
+use Rattle.gate_queue_rules.proofs.Ordered.{Tells, rises, ahead_rise, items_rise}
 use Rattle.gate_laws.proofs.Stays.{stayers}
-use Rattle.gate_queue.proofs.Settled.{goes_tells, verdicts_rebased}
-use Rattle.gate_queue.proofs.LawLemmas.{items_rise}
+use Rattle.gate_queue_rules.proofs.Settled.{goes_tells, verdicts_rebased}
 
 -- ---- the queue of a name
 

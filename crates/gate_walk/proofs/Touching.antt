@@ -29,7 +29,7 @@ use Rattle.std.proofs.lemmas.List.Elements.{All-contains}
 use Rattle.gate_laws.proofs.Rising.{increasing}
 use Rattle.gate_laws.proofs.LiveBuildsCount.{place_serial}
 use Rattle.gate_laws.proofs.Places.{ahead_end}
-use Rattle.gate_queue.proofs.Ordered.{GoWith, row_serial, build_number, rises}
+use Rattle.gate_queue_rules.proofs.Ordered.{GoWith, row_serial, build_number, rises}
 use Rattle.gate_walk.proofs.Parting.{rising_from}
 use Rattle.gate_walk.proofs.Resets.{rows_seen, Quiet, visits, same, last_serial, first_last}
 use Rattle.gate_walk.proofs.Passes.{cast, landed_place, Behind}

@@ -26,7 +26,7 @@ use Rattle.gate_walk.specs.UnderWay.{row_wanted, AreWanted, HasVisited, IsBehind
 use Rattle.gate_walk.specs.UnderWay.{Ends, Visits}
 use Rattle.gate_laws.proofs.Members.{found}
 use Rattle.gate_laws.proofs.LiveBuildsCount.{place_serial}
-use Rattle.gate_queue.proofs.Ordered.{row_serial, rises}
+use Rattle.gate_queue_rules.proofs.Ordered.{row_serial, rises}
 use Rattle.gate_walk.proofs.Parting.{none_under, all_onward, under, onward, cut, under_at, under_behind, rise_at}
 use Rattle.gate_walk.proofs.Parting.{low_at, onward_onward, onward_many, found_first, none_found, find_in, AllFail}
 use Rattle.gate_walk.proofs.Parting.{all_fail, parts_at}

@@ -21,7 +21,7 @@ use Rattle.gate_walk.specs.Delivery.{Touch, build_ended, item_left, item_landed,
 use Rattle.std.specs.List.Sorted.{IsStrictlyIncreasing}
 use Rattle.gate_laws.proofs.Rising.{increasing}
 use Rattle.gate_laws.proofs.LiveBuildsCount.{place_serial}
-use Rattle.gate_queue.proofs.Ordered.{AllBelow, row_serial, ahead_rise}
+use Rattle.gate_queue_rules.proofs.Ordered.{AllBelow, row_serial, ahead_rise}
 use Rattle.gate_walk.proofs.Parting.{rising_from}
 use Rattle.gate_walk.proofs.NextRows.{seen_serial, passed, below_push, below_up, visits_walk}
 

@@ -20,7 +20,7 @@ use Rattle.gate_types.specs.Rows.{fold_edits}
 use Rattle.gate_laws.specs.Touch.{touched_by, is_on, is_stale, OtherQueuesStay}
 use Rattle.std.specs.List.Sorted.{IsStrictlyIncreasing}
 use Rattle.gate_types.specs.declared.edits.Edit.{Edit}
-use Rattle.gate_queue.specs.Settled.{swept_of, rows_in}
+use Rattle.gate_queue_rules.specs.Settled.{swept_of, rows_in}
 use Rattle.gate_walk.specs.Walk.{Seen, Carry, visit_edits, carried, walk_from}
 use Rattle.gate_walk.specs.Next.{next_of, visits_from}
 use Rattle.gate_walk.specs.Rescan.{TakenOut, Walks, start, stored, without_row, rows_from, rows_with, row_seen}

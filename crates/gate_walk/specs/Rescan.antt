@@ -20,7 +20,7 @@ use Rattle.gate_types.specs.Sweep.{judged, judged_after, goes, next_window, repo
 use Rattle.gate_types.specs.Step.{end_build}
 use Rattle.gate_types.specs.Lawful.{IsSound}
 use Rattle.gate_types.specs.Rows.{Rows, item_rows, row_of, numbered, fold_edits}
-use Rattle.gate_queue.specs.Settled.{settled_rows}
+use Rattle.gate_queue_rules.specs.Settled.{settled_rows}
 use Rattle.gate_walk.specs.Walk.{SeenNeed, Seen, Carry, walk_from}
 
 -- each live build of the item is wanted: it counts, and isn't still running for a cut item

@@ -23,7 +23,7 @@ use Rattle.gate_walk.specs.Next.{Next, from, need, stop, next_of, wanted}
 use Rattle.gate_walk.specs.Rescan.{start, stored, rows_with, row_seen, settled_to}
 use Rattle.gate_laws.specs.Touch.{is_on, is_stale}
 use Rattle.gate_walk.specs.Delivery.{build_ended, moved, touch_of, begins, standing_rows}
-use Rattle.gate_queue.specs.Settled.{swept_of, rows_in}
+use Rattle.gate_queue_rules.specs.Settled.{swept_of, rows_in}
 use Rattle.gate_walk.specs.TakenOut.{out_of}
 use Rattle.gate_walk.specs.Views.{next_of_code}
 

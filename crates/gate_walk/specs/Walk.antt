@@ -13,8 +13,8 @@ use Rattle.gate_types.specs.declared.records.Verdict.TheVariants as verdict
 use Rattle.gate_types.specs.declared.edits.Edit.{Edit}
 use Rattle.gate_types.specs.declared.edits.Edit.TheVariants as edit
 use Rattle.gate_types.specs.Slot.{is_running, is_failed_slot, is_finished}
-use Rattle.gate_queue.specs.Outcomes.{slot_among}
-use Rattle.gate_queue.specs.Edits.{item_edits, next_reports, window_behind, window_edits}
+use Rattle.gate_queue_rules.specs.Outcomes.{slot_among}
+use Rattle.gate_queue_rules.specs.Edits.{item_edits, next_reports, window_behind, window_edits}
 
 -- a need of an item; where an item of this change stands in the queue, whether its row says that it is failing
 pub record SeenNeed : Type 0 where

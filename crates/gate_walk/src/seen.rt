@@ -2,10 +2,10 @@
 ghost use Rattle.std.specs.Prelude.{◌≡◌, ◌||◌, IfOk};
 ghost use Rattle.std.specs.List.{list_all};
 ghost use Rattle.gate_types.specs.Slot as rules;
-ghost use Rattle.gate_queue.specs.Outcomes.{slot_among};
+ghost use Rattle.gate_queue_rules.specs.Outcomes.{slot_among};
 ghost use Rattle.gate_walk.specs.Walk as walk;
 
-use gate_queue::{Marks, is_cut, is_failed, is_finished, slot_among, verdict_of};
+use gate_queue_rules::{Marks, is_cut, is_failed, is_finished, slot_among, verdict_of};
 use gate_types::config::Job;
 use gate_types::names::NoMemory;
 use gate_types::numbers::ChangeNo;

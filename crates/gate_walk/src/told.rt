@@ -3,7 +3,7 @@ ghost use Rattle.std.specs.Prelude.{◌≡◌, ◌<◌, ◌+◌, ◌^◌, ◌++�
 ghost use Rattle.gate_types.specs.Slot as rules;
 ghost use Rattle.gate_walk.specs.Walk as walk;
 
-use gate_queue::{push_item, push_window, window_behind};
+use gate_queue_rules::{push_item, push_window, window_behind};
 use gate_types::config::WindowRule;
 use gate_types::edits::Edit;
 use gate_types::names::{Name, NoMemory};

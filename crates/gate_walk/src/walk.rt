@@ -11,7 +11,7 @@ ghost use Rattle.gate_types.specs.Counters.{last_number};
 
 use crate::seen::{Mark, SeenNeed, judge};
 use crate::told::{Beside, edits_of_visit};
-use gate_queue::{reports_behind, window_behind};
+use gate_queue_rules::{reports_behind, window_behind};
 use gate_types::config::{Job, Queue, WindowRule};
 use gate_types::edits::Edit;
 use gate_types::names::{Name, NoMemory};

@@ -15,8 +15,7 @@ use Rattle.gate_types.specs.Standing.{places, place_of}
 use Rattle.gate_types.specs.Choice.{build_for, builds_for}
 use Rattle.gate_types.specs.Rising.{RisesFrom}
 use Rattle.gate_queue.specs.WholeQueue.Chooses.{first_choice, build_of_choice, FirstChoiceIsGiven}
-use Rattle.gate_queue.proofs.Ordered.{rises, ahead_rise}
-use Rattle.gate_queue.proofs.LawLemmas.{items_rise}
+use Rattle.gate_queue_rules.proofs.Ordered.{rises, ahead_rise, items_rise}
 use Rattle.gate_laws.proofs.LiveBuildsCount.{place_serial}
 
 get_drop : {X : Type 0} (xs : List X) (n : ℕ) → slice_get (drop n xs) 0 ≡ slice_get xs n

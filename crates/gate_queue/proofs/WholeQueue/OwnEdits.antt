@@ -22,8 +22,8 @@ use Rattle.gate_types.specs.Rows.{row_of, item_of}
 use Rattle.gate_queue.specs.declared.whole_queue.facts.ItemFacts.{ItemFacts}
 use Rattle.gate_queue.specs.WholeQueue.Facts.{places_by}
 use Rattle.gate_queue.specs.WholeQueue.Settles.{has_item, has_build, is_own}
-use Rattle.gate_queue.specs.Edits.{stops, stop_edits, item_edits, edits_at, edits_after, next_reports, window_edits}
-use Rattle.gate_queue.specs.Edits.{window_after, edits_of_queue}
+use Rattle.gate_queue_rules.specs.Edits.{stops, stop_edits, item_edits, edits_at, edits_after, next_reports}
+use Rattle.gate_queue_rules.specs.Edits.{window_edits, window_after, edits_of_queue}
 use Rattle.gate_laws.proofs.Touches.{name_itself}
 
 -- this edit is own

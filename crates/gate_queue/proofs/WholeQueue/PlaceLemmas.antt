@@ -17,9 +17,9 @@ use Rattle.gate_types.specs.Slot.{is_blocked, are_met_by, has_failure, is_cut, r
 use Rattle.gate_types.specs.Standing.{with_ahead, next_ahead}
 use Rattle.gate_types.specs.Sweep.{verdict_of, has_failed, judge, next_staying}
 use Rattle.gate_types.specs.Rows.{item_of}
-use Rattle.gate_queue.specs.Edits.{edits_at, edits_after, next_reports, window_behind, window_after}
-use Rattle.gate_queue.proofs.Ordered.{GoWith}
-use Rattle.gate_queue.proofs.Folds.{window_same}
+use Rattle.gate_queue_rules.specs.Edits.{edits_at, edits_after, next_reports, window_behind, window_after}
+use Rattle.gate_queue_rules.proofs.Ordered.{GoWith}
+use Rattle.gate_queue_rules.proofs.Folds.{window_same}
 use Rattle.gate_queue.specs.declared.whole_queue.facts.ItemFacts.{ItemFacts}
 use Rattle.gate_laws.proofs.Tests.{and_true}
 use Rattle.gate_laws.proofs.Cuts.{finished_is}

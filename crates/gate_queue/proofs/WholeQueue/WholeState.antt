@@ -8,14 +8,13 @@ use Rattle.std.proofs.lemmas.List.Elements.{All-head, All-tail, All-from_recursi
 use Rattle.std.proofs.lemmas.List.Folds.{list_any-append}
 use Rattle.std.proofs.lemmas.List.Concat.{flat_map-cons}
 use Rattle.std.proofs.lemmas.Grind.{flat_map-append}
-use Rattle.gate_queue.specs.Settled.{rebased, verdicts, swept_rows, swept_of}
+use Rattle.gate_queue_rules.specs.Settled.{rebased, verdicts, swept_rows, swept_of}
 use Rattle.gate_laws.specs.Touch.{has_serial}
 use Rattle.gate_queue.specs.WholeQueue.ByItself.{picked, is_picked_rightly, is_planned_apart}
 use Rattle.gate_queue.specs.WholeQueue.ByItself.{EachQueueIsSettledByItself}
-use Rattle.gate_queue.proofs.Ordered.{Tells, rises, ahead_rise}
-use Rattle.gate_queue.proofs.Keeps.{rows_alike}
-use Rattle.gate_queue.proofs.Settled.{goes_tells, verdicts_rebased}
-use Rattle.gate_queue.proofs.LawLemmas.{items_rise}
+use Rattle.gate_queue_rules.proofs.Ordered.{Tells, rises, ahead_rise, items_rise}
+use Rattle.gate_queue_rules.proofs.Keeps.{rows_alike}
+use Rattle.gate_queue_rules.proofs.Settled.{goes_tells, verdicts_rebased}
 use Rattle.gate_types.specs.declared.config.Job.{Job}
 use Rattle.gate_types.specs.declared.records.Build.{Build}
 use Rattle.gate_types.specs.declared.records.Plan.{Plan}

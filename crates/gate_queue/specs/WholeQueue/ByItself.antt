@@ -12,7 +12,7 @@ use Rattle.gate_types.specs.Window.{bounds_of}
 use Rattle.gate_types.specs.Sweep.{sweep}
 use Rattle.gate_laws.specs.Touch.{has_serial}
 use Rattle.gate_types.specs.Rows.{Rows}
-use Rattle.gate_queue.specs.Settled.{settled_rows, swept_of, rows_in}
+use Rattle.gate_queue_rules.specs.Settled.{settled_rows, swept_of, rows_in}
 
 -- the builds of some numbers
 abbrev pub picked : (ℕ → Bool) → List Build → List Build

@@ -14,7 +14,7 @@ use Rattle.gate_types.specs.Line.{Place}
 use Rattle.gate_types.specs.declared.rows.ReportRow.{ReportRow}
 use Rattle.gate_types.specs.Rows.{Rows}
 use Rattle.gate_laws.specs.Script.{core, unit, docs}
-use Rattle.gate_queue.specs.Settled.{settled_rows}
+use Rattle.gate_queue_rules.specs.Settled.{settled_rows}
 
 -- a change at its first revision under a serial
 abbrev item : ℕ → ℕ → Item

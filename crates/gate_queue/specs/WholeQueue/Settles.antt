@@ -10,7 +10,7 @@ use Rattle.gate_types.specs.Names.{same_name}
 use Rattle.gate_types.specs.State.{Queue}
 use Rattle.gate_types.specs.Window.{bounds_by}
 use Rattle.gate_types.specs.Rows.{Rows, item_of, numbered, fold_edits}
-use Rattle.gate_queue.specs.Settled.{settled_rows}
+use Rattle.gate_queue_rules.specs.Settled.{settled_rows}
 use Rattle.gate_queue.specs.declared.whole_queue.facts.Facts.{Facts}
 use Rattle.gate_queue.specs.WholeQueue.Facts.{places_by}
 

@@ -9,7 +9,7 @@ use Rattle.gate_types.specs.Window.{bounds_by}
 use Rattle.gate_types.specs.Sweep.{verdict_of, judge, next_staying}
 use Rattle.gate_queue.specs.declared.whole_queue.facts.Facts.{Facts}
 use Rattle.gate_queue.specs.declared.whole_queue.settling.Pass.{Pass}
-use Rattle.gate_queue.specs.Edits.{edits_at, next_reports, window_behind, edits_of_queue}
+use Rattle.gate_queue_rules.specs.Edits.{edits_at, next_reports, window_behind, edits_of_queue}
 use Rattle.gate_queue.specs.WholeQueue.Facts.{places_by}
 
 -- the item of a place is added to each part of the pass

@@ -3,13 +3,13 @@ ghost use Rattle.std.specs.Prelude.{◌≡◌, ◌<◌, ◌+◌, ◌-◌, ◌^�
 ghost use Rattle.gate_types.specs.Slot as rules;
 ghost use Rattle.gate_types.specs.Standing.{is_failing};
 ghost use Rattle.gate_types.specs.Sweep as sweep;
-ghost use Rattle.gate_queue.specs.Edits as edits_of;
+ghost use Rattle.gate_queue_rules.specs.Edits as edits_of;
 ghost use Rattle.gate_queue.specs.WholeQueue.Facts.{place_of};
 
-use crate::edits::push_item;
 use crate::whole_queue::context::{BareItem, ItemContext};
 use crate::whole_queue::judge::{Ruling, judge};
 use crate::whole_queue::line::ran_on_line;
+use gate_queue_rules::push_item;
 use gate_types::edits::Edit;
 use gate_types::names::{Name, NoMemory};
 use gate_types::numbers::Serial;

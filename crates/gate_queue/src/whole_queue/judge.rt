@@ -5,9 +5,9 @@ ghost use Rattle.gate_types.specs.Standing.{is_failing};
 ghost use Rattle.gate_types.specs.Sweep as sweep;
 ghost use Rattle.gate_queue.specs.WholeQueue.Facts.{place_of};
 
-use crate::verdict::{Marks, is_cut, verdict_of};
 use crate::whole_queue::context::{BareItem, ItemContext, are_met_by};
 use crate::whole_queue::slots::marks_of;
+use gate_queue_rules::{Marks, is_cut, verdict_of};
 use gate_types::names::NoMemory;
 use gate_types::records::{Build, Verdict};
 use std::alloc::Global;

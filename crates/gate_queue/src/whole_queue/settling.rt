@@ -6,12 +6,11 @@ ghost use Rattle.gate_queue.specs.WholeQueue.Shared.{are_below};
 ghost use Rattle.gate_queue.specs.WholeQueue.Visits.{Visits, edits_by};
 ghost use Rattle.gate_queue.specs.WholeQueue.Settles.{Settles};
 
-use crate::edits::{push_window, reports_behind};
 use crate::whole_queue::context::{BareItem, ItemContext};
 use crate::whole_queue::edits::push_edits;
 use crate::whole_queue::facts::{Facts, ItemFacts};
 use crate::whole_queue::shared::shared_with;
-use crate::window::window_behind;
+use gate_queue_rules::{push_window, reports_behind, window_behind};
 use gate_types::edits::Edit;
 use gate_types::names::NoMemory;
 use gate_types::records::{Build, Item};

@@ -4,10 +4,9 @@ ghost use Rattle.std.specs.List.{list_all};
 ghost use Rattle.gate_types.specs.Slot as rules;
 ghost use Rattle.gate_queue.specs.WholeQueue.Facts.{place_of};
 
-use crate::outcomes::{is_failed, is_finished, slot_of_outcomes};
-use crate::verdict::Marks;
 use crate::whole_queue::context::ItemContext;
 use crate::whole_queue::line::ran_on_line;
+use gate_queue_rules::{Marks, is_failed, is_finished, slot_of_outcomes};
 use gate_types::config::Job;
 use gate_types::names::{NoMemory, same_name};
 use gate_types::records::{Build, Outcome, Slot};

@@ -1,7 +1,7 @@
 use Rattle.std.proofs.Common.{◌∙◌, ◌+◌, sym, ap, Some}
 use Rattle.std.specs.Prelude.{option_copied, option_map}
 use Rattle.gate_types.specs.Choice.{build_for}
-use Rattle.gate_queue.proofs.Cut.{when_unblocked}
+use Rattle.gate_queue_rules.proofs.Cut.{when_unblocked}
 use Rattle.gate_reads.specs.NextBuild.{with_number}
 use Rattle.gate_reads.proofs.KnownPlaces.{none_cut, none_waits, first_is, built_is}
 use Rattle.gate_reads.proofs.OwnBuilds.{blocked_none}

@@ -3,7 +3,7 @@ use Rattle.std.specs.Prelude.{find}
 use Rattle.gate_types.specs.declared.config.Job.{Job}
 use Rattle.gate_types.specs.Slot.{is_waiting_slot}
 use Rattle.gate_book_trait.proofs.Finding.{find_rest}
-use Rattle.gate_queue.specs.Outcomes.{slot_among}
+use Rattle.gate_queue_rules.specs.Outcomes.{slot_among}
 use Rattle.gate_reads.proofs.jobs.first_waiting.Goals as goal
 
 pub returns-then-is_waiting : goal.returns-then-is_waiting

@@ -1,7 +1,7 @@
 use Rattle.std.proofs.Common.{◌≡◌, take}
 use Rattle.std.specs.List.{list_all}
 use Rattle.gate_types.specs.Slot.{is_finished}
-use Rattle.gate_queue.specs.Outcomes.{slot_among}
+use Rattle.gate_queue_rules.specs.Outcomes.{slot_among}
 use Rattle.gate_reads.proofs.jobs.have_ended.Given as goal
 
 abbrev pub invariant-loop-job : goal.invariant-loop-job

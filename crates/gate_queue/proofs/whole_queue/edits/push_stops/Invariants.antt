@@ -1,6 +1,6 @@
 use Rattle.std.proofs.Common.{◌≡◌, ◌++◌, take}
 use Rattle.gate_queue.specs.WholeQueue.Facts.{place_of}
-use Rattle.gate_queue.specs.Edits.{stop_edits}
+use Rattle.gate_queue_rules.specs.Edits.{stop_edits}
 use Rattle.gate_queue.proofs.whole_queue.edits.push_stops.Given as goal
 
 abbrev pub invariant-loop-build : goal.invariant-loop-build

@@ -2,7 +2,7 @@ use Rattle.std.proofs.Common.{◌≡◌, false, not, cond, Some, None, sym, ap, 
 use Rattle.gate_types.specs.declared.records.Verdict.TheVariants as verdict
 use Rattle.gate_types.specs.Slot.{is_blocked}
 use Rattle.gate_queue.specs.WholeQueue.Facts.{place_of}
-use Rattle.gate_queue.proofs.Cut.{when_unblocked}
+use Rattle.gate_queue_rules.proofs.Cut.{when_unblocked}
 use Rattle.gate_queue.proofs.WholeQueue.PlaceLemmas.{verdict_told}
 use Rattle.gate_queue.proofs.whole_queue.judge.judge.Goals as goal
 

@@ -2,7 +2,7 @@ use Rattle.std.proofs.Common.{◌≡◌, ◌≤◌, ◌+◌, ◌∷◌, drop, ge
 use Rattle.gate_types.specs.Window.{bounds_by}
 use Rattle.gate_types.specs.Sweep.{verdict_of}
 use Rattle.gate_queue.specs.WholeQueue.Facts.{places_by, place_by, place_behind}
-use Rattle.gate_queue.specs.Edits.{next_reports}
+use Rattle.gate_queue_rules.specs.Edits.{next_reports}
 use Rattle.gate_queue.proofs.WholeQueue.PlaceLemmas.{places-drop, edits_after_more, window_after_more, next_reports-le}
 use Rattle.gate_queue.proofs.whole_queue.settling.edits_for.Goals as goal
 

@@ -3,7 +3,7 @@ use Rattle.std.specs.Prelude.{nat_lt}
 use Rattle.std.specs.List.{list_all}
 use Rattle.gate_types.specs.Window.{bounds_by}
 use Rattle.gate_queue.specs.WholeQueue.Facts.{places_by}
-use Rattle.gate_queue.specs.Edits.{edits_after, window_after}
+use Rattle.gate_queue_rules.specs.Edits.{edits_after, window_after}
 use Rattle.gate_queue.proofs.whole_queue.settling.edits_for.Given as goal
 
 abbrev pub invariant-loop-index : goal.invariant-loop-index

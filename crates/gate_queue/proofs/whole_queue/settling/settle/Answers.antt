@@ -5,9 +5,9 @@ use Rattle.gate_types.specs.declared.edits.Edit.{Edit}
 use Rattle.gate_types.specs.Rows.{fold_edits, item_of}
 use Rattle.gate_queue.specs.WholeQueue.Facts.{places_by}
 use Rattle.gate_queue.specs.WholeQueue.Settles.{stored_rows, is_own}
-use Rattle.gate_queue.proofs.Ordered.{rises, row_serial, build_number}
+use Rattle.gate_queue_rules.proofs.Ordered.{rises, row_serial, build_number}
 use Rattle.gate_queue.proofs.WholeQueue.PlaceLemmas.{go_with}
-use Rattle.gate_queue.proofs.Settled.{settles}
+use Rattle.gate_queue_rules.proofs.Settled.{settles}
 use Rattle.gate_queue.proofs.WholeQueue.OwnEdits.{own_edits}
 use Rattle.gate_queue.proofs.whole_queue.settling.settle.Goals as goal
 

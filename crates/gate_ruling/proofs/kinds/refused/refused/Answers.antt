@@ -7,7 +7,7 @@ use Rattle.gate_types.specs.Names.{same_name}
 use Rattle.gate_types.specs.Settings.{are_sound}
 use Rattle.gate_types.specs.State.{change_queue}
 use Rattle.gate_types.specs.Step.{leave, shrunk_queue}
-use Rattle.gate_queue.specs.Edits.{window_edits}
+use Rattle.gate_queue_rules.specs.Edits.{window_edits}
 use Rattle.gate_reads.specs.Moves.{Moves}
 use Rattle.gate_reads.specs.Touches.{Touches}
 use Rattle.gate_reads.specs.Windows.{bounds_if, window_now}

@@ -2,7 +2,7 @@ use Rattle.std.proofs.Common.{if◌then◌else◌, is_some, [], ◌∷◌, ◌++
 use Rattle.gate_types.specs.Window.{bounds_by}
 use Rattle.gate_types.specs.Standing.{is_failing}
 use Rattle.gate_types.specs.Sweep.{verdict_of}
-use Rattle.gate_queue.specs.Edits.{edits_at, window_behind, next_reports}
+use Rattle.gate_queue_rules.specs.Edits.{edits_at, window_behind, next_reports}
 use Rattle.gate_queue.proofs.WholeQueue.PlaceLemmas.{place_is}
 use Rattle.gate_queue.proofs.whole_queue.settling.Pass.visit.Goals as goal
 

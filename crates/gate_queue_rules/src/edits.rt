@@ -1,6 +1,6 @@
 //! The edits of an item that stays or goes, and of the window.
 ghost use Rattle.std.specs.Prelude.{◌≡◌, ◌<◌, ◌≤◌, ◌+◌, ◌^◌, ◌++◌, OnOk};
-ghost use Rattle.gate_queue.specs.Edits as edits_of;
+ghost use Rattle.gate_queue_rules.specs.Edits as edits_of;
 
 use gate_types::edits::Edit;
 use gate_types::names::{Name, NoMemory};

@@ -2,7 +2,7 @@
 ghost use Rattle.std.specs.Prelude.{◌≡◌, if◌then◌else◌, count_by, IfOk};
 ghost use Rattle.std.specs.List.{list_any};
 ghost use Rattle.gate_types.specs.Slot as rules;
-ghost use Rattle.gate_queue.specs.Outcomes.{outcomes_among, slot_among};
+ghost use Rattle.gate_queue_rules.specs.Outcomes.{outcomes_among, slot_among};
 
 use gate_types::config::Job;
 use gate_types::limits::MOST_TRIES;

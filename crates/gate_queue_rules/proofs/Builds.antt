@@ -19,9 +19,9 @@ use Rattle.gate_types.specs.Rebase.{with_live, stays_live}
 use Rattle.gate_types.specs.Sweep.{judge, judged_after, verdict_of, next_staying, goes, without_runs}
 use Rattle.gate_types.specs.Rows.{row_of, edited_builds, change_build}
 use Rattle.gate_types.specs.Rising.{RisesFrom}
-use Rattle.gate_queue.specs.Edits.{stops, stop_edits, item_edits, edits_at, next_reports}
-use Rattle.gate_queue.proofs.Ordered.{build_number}
-use Rattle.gate_queue.proofs.Folds.{edits_along}
+use Rattle.gate_queue_rules.specs.Edits.{stops, stop_edits, item_edits, edits_at, next_reports}
+use Rattle.gate_queue_rules.proofs.Ordered.{build_number}
+use Rattle.gate_queue_rules.proofs.Folds.{edits_along}
 use Rattle.gate_laws.proofs.LiveBuildsCount.{place_serial}
 
 abbrev stopped : Build → Build

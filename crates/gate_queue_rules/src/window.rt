@@ -1,7 +1,7 @@
 //! How many items of a queue may be tested at once.
 ghost use Rattle.std.specs.Prelude.{◌≡◌, ◌/◌};
 ghost use Rattle.gate_types.specs.Window as rules;
-ghost use Rattle.gate_queue.specs.Edits as edits_of;
+ghost use Rattle.gate_queue_rules.specs.Edits as edits_of;
 
 use gate_types::config::{Pace, WindowRule};
 use gate_types::limits::MOST_WINDOW;

@@ -8,9 +8,10 @@ use Rattle.std.proofs.lemmas.List.{get_or-map}
 use Rattle.std.proofs.lemmas.Bool.{cases_lt}
 use Rattle.gate_types.specs.declared.records.Item.{Item as ItemRow}
 use Rattle.gate_types.specs.declared.records.Build.{Build}
-use Rattle.gate_types.specs.State.{Item}
+use Rattle.gate_types.specs.Settings.{Settings}
+use Rattle.gate_types.specs.State.{Item, Queue, State}
 use Rattle.gate_types.specs.Line.{Place}
-use Rattle.gate_types.specs.Standing.{places_after, with_ahead, next_ahead}
+use Rattle.gate_types.specs.Standing.{place_of, places_after, with_ahead, next_ahead}
 use Rattle.gate_types.specs.Sweep.{Judged}
 use Rattle.gate_types.specs.Rising.{RisesFrom}
 use Rattle.std.specs.List.{AllByRecursion as Each}
@@ -68,6 +69,12 @@ places_rise n (i ∷ is) (p ∷ ps) g r =
   where
     ap_rise : (m n : ℕ) (js : List ItemRow) → m ≡ n → RisesFrom row_serial m js → RisesFrom row_serial n js
     ap_rise m n js e h = subst (λ k. RisesFrom row_serial k js) e h
+
+-- and with the items of a queue of the state
+pub items_rise : (c : Settings) (s : State) (q : Queue) (is : List Item) (n : ℕ) → RisesFrom (λ i. i.serial) n is
+    → RisesFrom place_serial n (map (place_of c s q) is)
+items_rise c s q [] n r = tt
+items_rise c s q (i ∷ is) n r = (r.0, items_rise c s q is (suc i.serial) r.1)
 
 -- what is ahead doesn't change the order
 pub ahead_rise : (bs : List Build) (n : ℕ) (ahead : List Item) (ps : List Place) → RisesFrom place_serial n ps → RisesFrom place_serial n (places_after bs ahead ps)

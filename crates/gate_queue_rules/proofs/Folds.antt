@@ -22,8 +22,9 @@ use Rattle.gate_types.specs.declared.rows.ReportRow.{ReportRow}
 use Rattle.gate_types.specs.Rows.{Rows, row_of, numbered, edited, edited_items, edited_builds, edited_reports}
 use Rattle.gate_types.specs.Rows.{edited_window, fold_edits}
 use Rattle.gate_types.specs.Rising.{RisesFrom}
-use Rattle.gate_queue.specs.Edits.{stops, stop_edits, item_edits, edits_at, edits_after, next_reports, window_behind}
-use Rattle.gate_queue.proofs.Ordered.{AllBelow, GoWith, Tells, row_serial}
+use Rattle.gate_queue_rules.specs.Edits.{stops, stop_edits, item_edits, edits_at, edits_after, next_reports}
+use Rattle.gate_queue_rules.specs.Edits.{window_behind}
+use Rattle.gate_queue_rules.proofs.Ordered.{AllBelow, GoWith, Tells, row_serial}
 use Rattle.gate_laws.proofs.Stays.{stayers}
 use Rattle.gate_laws.proofs.Touches.{name_itself}
 

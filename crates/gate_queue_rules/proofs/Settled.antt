@@ -20,19 +20,20 @@ use Rattle.gate_types.specs.Sweep.{without_runs}
 use Rattle.gate_types.specs.Rows.{numbered, row_of, fold_edits, edited_items, edited_builds, edited_reports}
 use Rattle.gate_types.specs.Rows.{edited_window}
 use Rattle.gate_types.specs.Rising.{RisesFrom}
-use Rattle.gate_queue.specs.Edits.{edits_after, window_edits, edits_of_queue}
-use Rattle.gate_queue.specs.Settled.{rebased, verdicts, swept_rows, settled_rows}
-use Rattle.gate_queue.proofs.Ordered.{GoWith, Tells, row_serial, build_number, places_rise, ahead_rise}
-use Rattle.gate_queue.proofs.Ordered.{ahead_with}
-use Rattle.gate_queue.proofs.Folds.{fold_parts, edits_along, along, window_fold, reports_fold, items_fold, reports_of}
-use Rattle.gate_queue.proofs.Builds.{builds_fold}
+use Rattle.gate_queue_rules.specs.Edits.{edits_after, window_edits, edits_of_queue}
+use Rattle.gate_queue_rules.specs.Settled.{rebased, verdicts, swept_rows, settled_rows}
+use Rattle.gate_queue_rules.proofs.Ordered.{GoWith, Tells, row_serial, build_number, places_rise, ahead_rise}
+use Rattle.gate_queue_rules.proofs.Ordered.{ahead_with}
+use Rattle.gate_queue_rules.proofs.Folds.{fold_parts, edits_along, along, window_fold, reports_fold, items_fold}
+use Rattle.gate_queue_rules.proofs.Folds.{reports_of}
+use Rattle.gate_queue_rules.proofs.Builds.{builds_fold}
 use Rattle.gate_laws.proofs.Members.{from_filter}
 use Rattle.gate_laws.proofs.Keeps.{keeps}
 use Rattle.gate_laws.proofs.Stays.{stayers, places_stay}
 use Rattle.gate_laws.proofs.LiveBuildsCount.{place_serial}
 use Rattle.gate_laws.proofs.Touches.{name_itself}
-use Rattle.gate_queue.proofs.Keeps.{PassesAll, all_alike, places_kept, verdicts_kept, rebase_passes, rows_alike}
-use Rattle.gate_queue.proofs.Keeps.{rows_stay}
+use Rattle.gate_queue_rules.proofs.Keeps.{PassesAll, all_alike, places_kept, verdicts_kept, rebase_passes, rows_alike}
+use Rattle.gate_queue_rules.proofs.Keeps.{rows_stay}
 
 -- an item of another serial isn't told of
 goes_none : (bs : List Build) (n m : ℕ) (staying : List Item) (ps : List Place) → n < m → RisesFrom place_serial m ps → goes (judged_after bs staying ps) n ≡ false

@@ -1,0 +1,3 @@
+pub mod Outcomes
+pub mod Edits
+pub mod Settled
