@@ -9,13 +9,14 @@ use Rattle.gate_types.specs.declared.records.Build.{Build}
 use Rattle.gate_types.specs.declared.records.Item.{Item as ItemRow}
 use Rattle.gate_types.specs.declared.deliveries.Delivery.TheVariants as delivery
 use Rattle.gate_types.specs.declared.deliveries.Ending.{Ending}
+use Rattle.gate_types.specs.declared.deliveries.Refusal.TheVariants as refusal
 use Rattle.gate_types.specs.declared.deliveries.Reply.TheVariants as reply
 use Rattle.gate_types.specs.declared.edits.Edit.TheVariants as edit
 use Rattle.gate_types.specs.Settings.{Settings, are_sound}
 use Rattle.gate_types.specs.State.{Item, Queue, State}
 use Rattle.gate_types.specs.Standing.{places}
 use Rattle.gate_types.specs.Slot.{is_running}
-use Rattle.gate_types.specs.Step.{build_of, end_build, outcome_of_ending, raw_result, accepted}
+use Rattle.gate_types.specs.Step.{build_of, end_build, outcome_of_ending, raw_result, accepted, refused}
 use Rattle.gate_types.specs.Rows.{item_of, row_of, item_rows}
 use Rattle.gate_types.specs.Once.{Content}
 use Rattle.gate_types.specs.Lawful.{IsSound, is_sound_build}
@@ -120,6 +121,14 @@ ended_moves x n e =
       counters = refl;
       kept = refl;
     })
+
+pub unknown_raw : (s : State) (n : ℕ) (e : Ending) → build_of s n ≡ None →
+    raw_result s n e ≡ refused refusal.UnknownBuild
+unknown_raw s n e none = rw none refl
+
+pub late_raw : (s : State) (n : ℕ) (e : Ending) (b : Build) → build_of s n ≡ Some b →
+    b.live && is_running b.outcome ≡ false → raw_result s n e ≡ accepted reply.Stale s
+late_raw s n e b known late = rw (known, late) refl
 
 pub ended_raw : (s : State) (n : ℕ) (e : Ending) (b : Build) → build_of s n ≡ Some b →
     b.live && is_running b.outcome ≡ true → raw_result s n e ≡ accepted reply.Noted (end_build e n s)

@@ -13,6 +13,7 @@ pub mod GivenUp
 pub mod Missing
 -- the lines that kinds begin with
 pub mod Guarded
+pub mod Latest
 -- the kinds
 pub mod Withdrawn
 pub mod Closed

@@ -30,3 +30,12 @@ pub(crate) fn put_anew(edits: Vec<Edit>, change: Change) -> Result<Vec<Edit>, No
     })?;
     Ok(edits)
 }
+
+/// The same of a known change at another stage. Apart, so that no early return of a caller has to end parts of it.
+pub(crate) fn put_at(edits: Vec<Edit>, known: Change, stage: Stage) -> Result<Vec<Edit>, NoMemory>
+    ensures { IfOk result (λ all. (x : Content) (t : State) →
+        IsStrictlyIncreasing (map (λ k. k.number) t.changes) → Moves x edits.items t →
+        Moves x all.items (put_change (record known { stage = stage }) (without_ready known.number t))) }
+{
+    put_anew(edits, Change { stage, ..known })
+}

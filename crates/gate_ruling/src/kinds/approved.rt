@@ -36,11 +36,12 @@ fn made_ready(alloc: Global, known: Change, approval: u64) -> Result<Vec<Edit>, 
         change: known,
         approval: Some(approval),
     };
+    let edits = with_one(Vec::new(alloc), change)?;
     let counter = Edit::SetCounter {
         counter: Counter::Approval,
         drawn: approval,
     };
-    with_one(with_one(Vec::new(alloc), change)?, counter)
+    with_one(edits, counter)
 }
 
 /// An open change that waits nowhere becomes ready; where it stands once all is settled is the reply.

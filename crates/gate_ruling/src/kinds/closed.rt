@@ -6,7 +6,7 @@ ghost use Rattle.gate_book_trait.specs.Faults.{MayAnswer};
 ghost use Rattle.gate_book_trait.specs.Kept.{OfHeldUnder, IsKept};
 ghost use Rattle.gate_reads.specs.Raw.{IsRaw};
 
-use crate::changing::{is_open, put_anew};
+use crate::changing::{is_open, put_at};
 use crate::guards::latest;
 use crate::leaving::{Left, give_up_place};
 use gate_book_trait::{Book, BookFault};
@@ -14,7 +14,7 @@ use gate_reads::{Moved, PendingReply, Raw, is_submitting, stand_of};
 use gate_types::config::Config;
 use gate_types::deliveries::{Refusal, Reply};
 use gate_types::numbers::{ChangeNo, Revision};
-use gate_types::records::{Change, Stage, Verdict};
+use gate_types::records::{Stage, Verdict};
 use std::alloc::Global;
 
 /// An item is removed from its queue; of a change that is none this is recorded.
@@ -54,13 +54,7 @@ pub(crate) fn closed<B: Book>(
     let stand = stand_of(alloc, book, config, change)?;
     let left = give_up_place(alloc, book, config, stand, Verdict::Closed)?;
     let reply = removed_or_recorded(&left);
-    let edits = put_anew(
-        left.edits,
-        Change {
-            stage: Stage::Closed,
-            ..known
-        },
-    )?;
+    let edits = put_at(left.edits, known, Stage::Closed)?;
     Ok(Raw::Moved(Moved {
         reply: PendingReply::Now(reply),
         edits,

@@ -9,7 +9,7 @@ ghost use Rattle.gate_reads.specs.Raw.{IsRaw};
 ghost use Rattle.gate_ruling.specs.Landing.{landing_edits};
 ghost use Rattle.gate_ruling.specs.Faults.{MayRule};
 
-use crate::changing::put_anew;
+use crate::changing::put_at;
 use crate::edits::with_window;
 use crate::guards::ordered;
 use crate::leaving::{leaving, touched};
@@ -94,27 +94,22 @@ pub(crate) fn landed<B: Book>(
         Ok(queued) => queued,
         Err(raw) => return Ok(raw),
     };
-    let Some(known) = change_of(book, &queued)? else {
-        return Err(BookFault::Damaged);
-    };
     let Some(window) = book.window(&queued.queue)? else {
         return Err(BookFault::Damaged);
     };
     let landings = book.landing_count(&queued.queue)?;
-    let plan = landed_plan(alloc, book, &queued)?;
     let place = landings.saturating_add(1);
     let edits = leaving(alloc, book, config, &queued, Verdict::Landed(place))?;
     let settings = config.queue(queued.queue.as_str());
     let resized = window_now(Event::Landed, settings, window);
     let edits = with_landing(edits, &queued, place, window, resized)?;
+    // What is read is put at once, so that few of the early returns have to end it.
+    let plan = landed_plan(alloc, book, &queued)?;
     let edits = with_one(edits, Edit::PutPlan(plan))?;
-    let edits = put_anew(
-        edits,
-        Change {
-            stage: Stage::Landed,
-            ..known
-        },
-    )?;
+    let Some(known) = change_of(book, &queued)? else {
+        return Err(BookFault::Damaged);
+    };
+    let edits = put_at(edits, known, Stage::Landed)?;
     Ok(Raw::Moved(Moved {
         reply: PendingReply::Now(Reply::Landed(place)),
         edits,

@@ -1,20 +1,25 @@
 //! `result`: a build has ended.
-ghost use Rattle.std.specs.Prelude.{◌≡◌, ◌&&◌, IfOk, IfErr};
+ghost use Rattle.std.specs.Prelude.{◌≡◌, ◌&&◌, ◌∷◌, [], Some, IfOk, IfErr};
 ghost use Rattle.gate_types.specs.Slot.{is_running};
+ghost use Rattle.gate_types.specs.Step.{outcome_of_ending};
 ghost use Rattle.gate_types.specs.declared.deliveries.Delivery.TheVariants as delivery;
+ghost use Rattle.gate_types.specs.declared.edits.Edit.TheVariants as edit;
 ghost use Rattle.gate_book_trait.specs.Faults.{MayAnswer};
 ghost use Rattle.gate_book_trait.specs.Kept.{OfHeldUnder, IsKept};
 ghost use Rattle.gate_reads.specs.Raw.{IsRaw};
+ghost use Rattle.gate_reads.specs.declared.touched.Event.TheVariants as event;
 ghost use Rattle.gate_ruling.specs.Faults.{MayRule};
 
+use crate::leaving::Left;
 use gate_book_trait::{Book, BookFault};
 use gate_reads::{Event, Moved, PendingReply, Raw, TouchedItem, is_running};
 use gate_types::config::Config;
 use gate_types::deliveries::{Ending, Refusal, Reply};
 use gate_types::edits::Edit;
 use gate_types::lists::with_one;
+use gate_types::names::NoMemory;
 use gate_types::numbers::BuildNo;
-use gate_types::records::Build;
+use gate_types::records::{Build, Item};
 use std::alloc::Global;
 
 /// Whether a build runs and its outcome still counts.
@@ -22,6 +27,34 @@ fn is_under_way(build: &Build) -> bool
     ensures { result ≡ (build.now.live && is_running build.now.outcome) }
 {
     build.live && is_running(build)
+}
+
+/// The edit that notes how a build ended, and its item, which that befell.
+fn noted(
+    alloc: Global,
+    known: Build,
+    item: Item,
+    build: BuildNo,
+    ending: Ending,
+) -> Result<Left, NoMemory>
+    ensures edits { IfOk result (λ left. left.edits.items ≡
+        edit.SetOutcome build (outcome_of_ending ending) ∷ []) }
+    ensures touched { IfOk result (λ left. left.touched ≡
+        Some (record { queue = known.queue; item = item; event = event.Ended build ending })) }
+{
+    let outcome = Edit::SetOutcome {
+        build,
+        outcome: ending.into(),
+    };
+    let edits = with_one(Vec::new(alloc), outcome)?;
+    Ok(Left {
+        edits,
+        touched: Some(TouchedItem {
+            queue: known.queue,
+            item,
+            event: Event::Ended { build, ending },
+        }),
+    })
 }
 
 /// The outcome of a live running build is noted; any other result comes too late.
@@ -49,17 +82,10 @@ pub(crate) fn result<B: Book>(
     let Some(item) = book.item(known.serial)? else {
         return Err(BookFault::Damaged);
     };
-    let outcome = Edit::SetOutcome {
-        build,
-        outcome: ending.into(),
-    };
+    let left = noted(alloc, known, item, build, ending)?;
     Ok(Raw::Moved(Moved {
         reply: PendingReply::Now(Reply::Noted),
-        edits: with_one(Vec::new(alloc), outcome)?,
-        touched: Some(TouchedItem {
-            queue: known.queue,
-            item,
-            event: Event::Ended { build, ending },
-        }),
+        edits: left.edits,
+        touched: left.touched,
     }))
 }

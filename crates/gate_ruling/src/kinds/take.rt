@@ -32,11 +32,12 @@ fn started(alloc: Global, build: &Build) -> Result<Vec<Edit>, NoMemory>
         edit.SetCounter counter.Build build.now.number ∷ []) }
 {
     let started = Edit::PutBuild(build.copy()?);
+    let edits = with_one(Vec::new(alloc), started)?;
     let counter = Edit::SetCounter {
         counter: Counter::Build,
         drawn: build.number.get(),
     };
-    with_one(with_one(Vec::new(alloc), started)?, counter)
+    with_one(edits, counter)
 }
 
 /// The next build starts, if a job waits for one.

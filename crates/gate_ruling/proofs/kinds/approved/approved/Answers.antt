@@ -4,6 +4,7 @@ use Rattle.gate_types.specs.declared.deliveries.Delivery.TheVariants as delivery
 use Rattle.gate_types.specs.State.{is_open}
 use Rattle.gate_types.specs.Settle.{settle}
 use Rattle.gate_types.specs.Step.{made_ready, approval_reply, settled_step}
+use Rattle.gate_book_trait.proofs.KeptLemmas.{then}
 use Rattle.gate_reads.specs.Moves.{Moves}
 use Rattle.gate_ruling.specs.Guards.{IsLatest}
 use Rattle.gate_ruling.proofs.Guarded.{unless_closed, past_or_closed, closed_stale}
@@ -93,3 +94,19 @@ returns-then-not-is_nowhere-clause-raw g c trusted x holds lawful =
     already_raw s x.state n r k latest.1 opens
     (somewhere s x.state n c.in_ok-stand_of.field-0 (c.in_ok-stand_of.ensures.found trusted x at_one lawful)
     (sym c.is_nowhere.ensures ∙ c.if-not-is_nowhere.true))
+
+pub returns-in_err-stand_of-clause-kept : goal.returns-in_err-stand_of-clause-kept
+returns-in_err-stand_of-clause-kept g c = then c.in_ok-known.ensures.kept c.in_err-stand_of.ensures.kept
+
+pub returns-then-not-is_nowhere-clause-kept : goal.returns-then-not-is_nowhere-clause-kept
+returns-then-not-is_nowhere-clause-kept g c = then c.in_ok-known.ensures.kept c.in_ok-stand_of.ensures.kept
+
+pub returns-in_err-drawn-clause-kept : goal.returns-in_err-drawn-clause-kept
+returns-in_err-drawn-clause-kept g c =
+    let two = then c.in_ok-known.ensures.kept c.in_ok-stand_of.ensures.kept in
+    then two c.in_err-drawn.ensures.kept
+
+pub returns-clause-kept : goal.returns-clause-kept
+returns-clause-kept g c =
+    let two = then c.in_ok-known.ensures.kept c.in_ok-stand_of.ensures.kept in
+    then two c.in_ok-drawn.ensures.kept

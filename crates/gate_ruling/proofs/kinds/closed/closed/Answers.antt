@@ -6,6 +6,7 @@ use Rattle.gate_types.specs.declared.records.Verdict.TheVariants as verdict
 use Rattle.gate_types.specs.State.{is_open, is_queued}
 use Rattle.gate_types.specs.SubmitOrder.{is_submitting}
 use Rattle.gate_types.specs.Step.{leave, refused, settled_step, step}
+use Rattle.gate_book_trait.proofs.KeptLemmas.{then}
 use Rattle.gate_reads.specs.Moves.{Moves}
 use Rattle.gate_reads.specs.Touches.{Touches}
 use Rattle.gate_ruling.specs.Guards.{IsLatest}
@@ -82,3 +83,32 @@ returns-then-branch-clause-raw g c trusted x holds lawful =
     let refuses : step s x.state (delivery.Closed n r) ≡ refused refusal.Submitting =
     ap (settled_step s) (shown_raw s x.state n r k latest.1 opens shown) in
     search rules
+
+pub returns-in_err-is_submitting-clause-kept : goal.returns-in_err-is_submitting-clause-kept
+returns-in_err-is_submitting-clause-kept g c = then c.in_ok-known.ensures.kept c.in_err-is_submitting.ensures.kept
+
+pub returns-then-branch-clause-kept : goal.returns-then-branch-clause-kept
+returns-then-branch-clause-kept g c = then c.in_ok-known.ensures.kept c.in_ok-is_submitting.ensures.kept
+
+pub returns-in_err-stand-clause-kept : goal.returns-in_err-stand-clause-kept
+returns-in_err-stand-clause-kept g c =
+    let two = then c.in_ok-known.ensures.kept c.in_ok-is_submitting.ensures.kept in
+    then two c.in_err-stand.ensures.kept
+
+pub returns-in_err-left-clause-kept : goal.returns-in_err-left-clause-kept
+returns-in_err-left-clause-kept g c =
+    let two = then c.in_ok-known.ensures.kept c.in_ok-is_submitting.ensures.kept in
+    let three = then two c.in_ok-stand.ensures.kept in
+    then three c.in_err-left.ensures.kept
+
+pub returns-in_err-edits-clause-kept : goal.returns-in_err-edits-clause-kept
+returns-in_err-edits-clause-kept g c =
+    let two = then c.in_ok-known.ensures.kept c.in_ok-is_submitting.ensures.kept in
+    let three = then two c.in_ok-stand.ensures.kept in
+    then three c.in_ok-left.ensures.kept
+
+pub returns-clause-kept : goal.returns-clause-kept
+returns-clause-kept g c =
+    let two = then c.in_ok-known.ensures.kept c.in_ok-is_submitting.ensures.kept in
+    let three = then two c.in_ok-stand.ensures.kept in
+    then three c.in_ok-left.ensures.kept

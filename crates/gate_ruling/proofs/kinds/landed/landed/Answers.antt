@@ -10,6 +10,7 @@ use Rattle.gate_types.specs.Settings.{are_sound}
 use Rattle.gate_types.specs.State.{change_queue, put_plan, known_change}
 use Rattle.gate_types.specs.Rows.{item_of}
 use Rattle.gate_types.specs.Step.{leave, landed_queue, landed_plan}
+use Rattle.gate_book_trait.proofs.KeptLemmas.{then}
 use Rattle.gate_reads.specs.Moves.{Moves}
 use Rattle.gate_reads.specs.Touches.{Touches}
 use Rattle.gate_reads.specs.Windows.{bounds_if, window_now}
@@ -28,28 +29,28 @@ returns-clause-raw g c trusted x holds lawful =
     let s = c.args.config.now in
     let number = c.args.order in
     let k = c.in-Ok.queued in
-    let known = c.in-Some.known in
+    let known = c.in-Some-2.known in
     let d = delivery.Landed number in
     let settings : are_sound s ≡ true = search rules in
     let sound = lawful.lawful.sound in
-    let five = c.in_ok-edits.ensures.kept.trusted_before trusted in
+    let five = c.in_ok-known.ensures.kept.trusted_before trusted in
     let four = c.in_ok-plan.ensures.kept.trusted_before five in
-    let three = c.in_ok-landings.ensures.kept.trusted_before four in
-    let two = c.in_ok-window.ensures.kept.trusted_before three in
-    let one = c.in_ok-known.ensures.kept.trusted_before two in
+    let three = c.in_ok-edits.ensures.kept.trusted_before four in
+    let two = c.in_ok-landings.ensures.kept.trusted_before three in
+    let one = c.in_ok-window.ensures.kept.trusted_before two in
     let at_one = c.in_ok-queued.ensures.kept.holds_on one _ x holds in
-    let at_two = c.in_ok-known.ensures.kept.holds_on two _ x at_one in
-    let at_three = c.in_ok-window.ensures.kept.holds_on three _ x at_two in
-    let at_four = c.in_ok-landings.ensures.kept.holds_on four _ x at_three in
+    let at_two = c.in_ok-window.ensures.kept.holds_on two _ x at_one in
+    let at_three = c.in_ok-landings.ensures.kept.holds_on three _ x at_two in
+    let at_four = c.in_ok-edits.ensures.kept.holds_on four _ x at_three in
     let at_five = c.in_ok-plan.ensures.kept.holds_on five _ x at_four in
     let o = subst (IsOrdered s x number) c.in-Ok.is (c.in_ok-queued.ensures.ordered one x holds lawful) in
     let h = stored s x.state k.queue k.item o.row.stored in
     let is : known_change x.state k.item.change ≡ Some known =
-    sym (c.in_ok-known.ensures.found two s x at_one lawful) ∙ c.in-Some.is in
-    let before : c.in-Some-2.window ≡ h.queue.window =
-    same_Some c.in-Some-2.window h.queue.window
-    (sym c.in-Some-2.is ∙ c.in_ok-window.ensures.found three s x at_two lawful ∙ window_stored h) in
-    let count = c.in_ok-landings.ensures.found four s x at_three lawful ∙ landings_stored h in
+    sym (c.in_ok-known.ensures.found trusted s x at_five lawful) ∙ c.in-Some-2.is in
+    let before : c.in-Some.window ≡ h.queue.window =
+    same_Some c.in-Some.window h.queue.window
+    (sym c.in-Some.is ∙ c.in_ok-window.ensures.found two s x at_one lawful ∙ window_stored h) in
+    let count = c.in_ok-landings.ensures.found three s x at_two lawful ∙ landings_stored h in
     let few = few_landings s x lawful h.queue h.there in
     let plus = c.saturating_add-place.ensures in
     let place = c.saturating_add-place.result in
@@ -62,7 +63,7 @@ returns-clause-raw g c trusted x holds lawful =
     ∙ ap (λ z. c.in_ok-edits.edits.items ++ landing_edits k place z c.window_now-resized.result) before in
     let landing = subst (λ es. Moves x es u) (sym edits)
     (moves_on x t u c.in_ok-edits.edits.items (landing_edits k place h.queue.window c.window_now-resized.result)
-    (c.in_ok-edits.ensures.moves trusted x at_five lawful o.row.stored)
+    (c.in_ok-edits.ensures.moves four x at_three lawful o.row.stored)
     (lands s x k settings sound h place c.window_now-resized.result at window)) in
     let plan = landed_plan x.state k.item.serial in
     let planned = c.in_ok-edits-3.ensures
@@ -85,28 +86,103 @@ pub returns-in_default-clause-undamaged : goal.returns-in_default-clause-undamag
 returns-in_default-clause-undamaged g c trusted x holds lawful =
     let s = c.args.config.now in
     let k = c.in-Ok.queued in
-    let before = c.in_ok-known.ensures.kept.trusted_before trusted in
-    let held = c.in_ok-queued.ensures.kept.holds_on before _ x holds in
-    let o = subst (IsOrdered s x c.args.order) c.in-Ok.is (c.in_ok-queued.ensures.ordered before x holds lawful) in
+    let one = c.in_ok-window.ensures.kept.trusted_before trusted in
+    let at_one = c.in_ok-queued.ensures.kept.holds_on one _ x holds in
+    let o = subst (IsOrdered s x c.args.order) c.in-Ok.is (c.in_ok-queued.ensures.ordered one x holds lawful) in
     let h = stored s x.state k.queue k.item o.row.stored in
-    absurd (change_there s x.state k.queue k.item lawful.lawful.sound h
-    (sym (c.in_ok-known.ensures.found trusted s x held lawful) ∙ c.in_default.is))
+    absurd (window_there s x.state k.queue k.item h
+    (sym (c.in_ok-window.ensures.found trusted s x at_one lawful) ∙ c.in_default.is))
 
 pub returns-in_default-2-clause-undamaged : goal.returns-in_default-2-clause-undamaged
 returns-in_default-2-clause-undamaged g c trusted x holds lawful =
     let s = c.args.config.now in
     let k = c.in-Ok.queued in
-    let two = c.in_ok-window.ensures.kept.trusted_before trusted in
-    let one = c.in_ok-known.ensures.kept.trusted_before two in
+    let five = c.in_ok-known.ensures.kept.trusted_before trusted in
+    let four = c.in_ok-plan.ensures.kept.trusted_before five in
+    let three = c.in_ok-edits.ensures.kept.trusted_before four in
+    let two = c.in_ok-landings.ensures.kept.trusted_before three in
+    let one = c.in_ok-window.ensures.kept.trusted_before two in
     let at_one = c.in_ok-queued.ensures.kept.holds_on one _ x holds in
-    let at_two = c.in_ok-known.ensures.kept.holds_on two _ x at_one in
+    let at_two = c.in_ok-window.ensures.kept.holds_on two _ x at_one in
+    let at_three = c.in_ok-landings.ensures.kept.holds_on three _ x at_two in
+    let at_four = c.in_ok-edits.ensures.kept.holds_on four _ x at_three in
+    let at_five = c.in_ok-plan.ensures.kept.holds_on five _ x at_four in
     let o = subst (IsOrdered s x c.args.order) c.in-Ok.is (c.in_ok-queued.ensures.ordered one x holds lawful) in
     let h = stored s x.state k.queue k.item o.row.stored in
-    absurd (window_there s x.state k.queue k.item h
-    (sym (c.in_ok-window.ensures.found trusted s x at_two lawful) ∙ c.in_default-2.is))
+    absurd (change_there s x.state k.queue k.item lawful.lawful.sound h
+    (sym (c.in_ok-known.ensures.found trusted s x at_five lawful) ∙ c.in_default-2.is))
 
 pub returns-in-Err-clause-raw : goal.returns-in-Err-clause-raw
 returns-in-Err-clause-raw g c trusted x holds lawful =
     let s = c.args.config.now in
     subst (IsOrdered s x c.args.order) c.in-Err.is (c.in_ok-queued.ensures.ordered trusted x holds lawful)
     (landing s x.state) (delivery.Landed c.args.order) refl
+
+pub returns-in_err-window-clause-kept : goal.returns-in_err-window-clause-kept
+returns-in_err-window-clause-kept g c = then c.in_ok-queued.ensures.kept c.in_err-window.ensures.kept
+
+pub returns-in_default-clause-kept : goal.returns-in_default-clause-kept
+returns-in_default-clause-kept g c = then c.in_ok-queued.ensures.kept c.in_ok-window.ensures.kept
+
+pub returns-in_err-landings-clause-kept : goal.returns-in_err-landings-clause-kept
+returns-in_err-landings-clause-kept g c =
+    let two = then c.in_ok-queued.ensures.kept c.in_ok-window.ensures.kept in
+    then two c.in_err-landings.ensures.kept
+
+pub returns-in_err-edits-clause-kept : goal.returns-in_err-edits-clause-kept
+returns-in_err-edits-clause-kept g c =
+    let two = then c.in_ok-queued.ensures.kept c.in_ok-window.ensures.kept in
+    let three = then two c.in_ok-landings.ensures.kept in
+    then three c.in_err-edits.ensures.kept
+
+pub returns-in_err-edits-2-clause-kept : goal.returns-in_err-edits-2-clause-kept
+returns-in_err-edits-2-clause-kept g c =
+    let two = then c.in_ok-queued.ensures.kept c.in_ok-window.ensures.kept in
+    let three = then two c.in_ok-landings.ensures.kept in
+    then three c.in_ok-edits.ensures.kept
+
+pub returns-in_err-plan-clause-kept : goal.returns-in_err-plan-clause-kept
+returns-in_err-plan-clause-kept g c =
+    let two = then c.in_ok-queued.ensures.kept c.in_ok-window.ensures.kept in
+    let three = then two c.in_ok-landings.ensures.kept in
+    let four = then three c.in_ok-edits.ensures.kept in
+    then four c.in_err-plan.ensures.kept
+
+pub returns-in_err-edits-3-clause-kept : goal.returns-in_err-edits-3-clause-kept
+returns-in_err-edits-3-clause-kept g c =
+    let two = then c.in_ok-queued.ensures.kept c.in_ok-window.ensures.kept in
+    let three = then two c.in_ok-landings.ensures.kept in
+    let four = then three c.in_ok-edits.ensures.kept in
+    then four c.in_ok-plan.ensures.kept
+
+pub returns-in_err-known-clause-kept : goal.returns-in_err-known-clause-kept
+returns-in_err-known-clause-kept g c =
+    let two = then c.in_ok-queued.ensures.kept c.in_ok-window.ensures.kept in
+    let three = then two c.in_ok-landings.ensures.kept in
+    let four = then three c.in_ok-edits.ensures.kept in
+    let five = then four c.in_ok-plan.ensures.kept in
+    then five c.in_err-known.ensures.kept
+
+pub returns-in_default-2-clause-kept : goal.returns-in_default-2-clause-kept
+returns-in_default-2-clause-kept g c =
+    let two = then c.in_ok-queued.ensures.kept c.in_ok-window.ensures.kept in
+    let three = then two c.in_ok-landings.ensures.kept in
+    let four = then three c.in_ok-edits.ensures.kept in
+    let five = then four c.in_ok-plan.ensures.kept in
+    then five c.in_ok-known.ensures.kept
+
+pub returns-in_err-edits-4-clause-kept : goal.returns-in_err-edits-4-clause-kept
+returns-in_err-edits-4-clause-kept g c =
+    let two = then c.in_ok-queued.ensures.kept c.in_ok-window.ensures.kept in
+    let three = then two c.in_ok-landings.ensures.kept in
+    let four = then three c.in_ok-edits.ensures.kept in
+    let five = then four c.in_ok-plan.ensures.kept in
+    then five c.in_ok-known.ensures.kept
+
+pub returns-clause-kept : goal.returns-clause-kept
+returns-clause-kept g c =
+    let two = then c.in_ok-queued.ensures.kept c.in_ok-window.ensures.kept in
+    let three = then two c.in_ok-landings.ensures.kept in
+    let four = then three c.in_ok-edits.ensures.kept in
+    let five = then four c.in_ok-plan.ensures.kept in
+    then five c.in_ok-known.ensures.kept

@@ -8,6 +8,7 @@ use Rattle.gate_types.specs.Settings.{are_sound}
 use Rattle.gate_types.specs.State.{change_queue}
 use Rattle.gate_types.specs.Step.{leave, shrunk_queue}
 use Rattle.gate_queue_rules.specs.Edits.{window_edits}
+use Rattle.gate_book_trait.proofs.KeptLemmas.{then}
 use Rattle.gate_reads.specs.Moves.{Moves}
 use Rattle.gate_reads.specs.Touches.{Touches}
 use Rattle.gate_reads.specs.Windows.{bounds_if, window_now}
@@ -71,3 +72,22 @@ returns-in-Err-clause-raw g c trusted x holds lawful =
     let s = c.args.config.now in
     subst (IsOrdered s x c.args.order) c.in-Err.is (c.in_ok-queued.ensures.ordered trusted x holds lawful)
     (refusing s x.state) (delivery.Refused c.args.order) refl
+
+pub returns-in_err-window-clause-kept : goal.returns-in_err-window-clause-kept
+returns-in_err-window-clause-kept g c = then c.in_ok-queued.ensures.kept c.in_err-window.ensures.kept
+
+pub returns-in_default-clause-kept : goal.returns-in_default-clause-kept
+returns-in_default-clause-kept g c = then c.in_ok-queued.ensures.kept c.in_ok-window.ensures.kept
+
+pub returns-in_err-edits-clause-kept : goal.returns-in_err-edits-clause-kept
+returns-in_err-edits-clause-kept g c =
+    let two = then c.in_ok-queued.ensures.kept c.in_ok-window.ensures.kept in
+    then two c.in_err-edits.ensures.kept
+
+pub returns-in_err-with_window-clause-kept : goal.returns-in_err-with_window-clause-kept
+returns-in_err-with_window-clause-kept g c =
+    let two = then c.in_ok-queued.ensures.kept c.in_ok-window.ensures.kept in
+    then two c.in_ok-edits.ensures.kept
+
+pub returns-clause-kept : goal.returns-clause-kept
+returns-clause-kept g c = then (then c.in_ok-queued.ensures.kept c.in_ok-window.ensures.kept) c.in_ok-edits.ensures.kept

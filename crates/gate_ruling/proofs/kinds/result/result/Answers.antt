@@ -1,11 +1,13 @@
-use Rattle.std.proofs.Common.{◌≡◌, ◌∙◌, ◌++◌, ◌∷◌, [], ◌&&◌, Some, None, true, refl, sym, subst, rules}
-use Rattle.gate_types.specs.declared.edits.Edit.TheVariants as edit
+use Rattle.std.proofs.Common.{◌≡◌, ◌∙◌, ◌&&◌, Some, None, true, refl, sym, ap, subst, rules}
+use Rattle.gate_types.specs.declared.deliveries.Delivery.TheVariants as delivery
 use Rattle.gate_types.specs.Settings.{are_sound}
 use Rattle.gate_types.specs.Slot.{is_running}
-use Rattle.gate_types.specs.Step.{build_of, end_build}
+use Rattle.gate_types.specs.Step.{build_of, end_build, settled_step}
 use Rattle.gate_book_trait.specs.Reads.{item_at}
+use Rattle.gate_book_trait.proofs.KeptLemmas.{then}
 use Rattle.gate_reads.specs.Moves.{Moves}
-use Rattle.gate_ruling.proofs.Ended.{ended_raw, ended_touches, ended_moves}
+use Rattle.gate_reads.specs.Touches.{Touches}
+use Rattle.gate_ruling.proofs.Ended.{unknown_raw, late_raw, ended_raw, ended_touches, ended_moves}
 use Rattle.gate_ruling.proofs.Missing.{item_there}
 use Rattle.gate_ruling.proofs.kinds.result.result.Goals as goal
 
@@ -23,14 +25,13 @@ returns-clause-raw g c trusted x holds lawful =
     let item : item_at s x.state b.serial ≡ Some c.in-Some-2.item =
     sym (c.in_ok-item.ensures.found trusted s x held lawful) ∙ c.in-Some-2.is in
     let runs : b.live && is_running b.outcome ≡ true = sym c.is_under_way.ensures ∙ c.if-not-is_under_way.false in
-    let edits = c.in_ok-with_one.ensures
-    ∙ (λ i. c.new.ensures.items i ++ edit.SetOutcome n (c.into.ensures i) ∷ []) in
     record {
       after = end_build e n x.state;
       accepted = ended_raw x.state n e b known runs;
       acts = refl;
-      touches = ended_touches s x.state n e b c.in-Some-2.item settings lawful.lawful.sound known item;
-      moves = subst (λ es. Moves x es (end_build e n x.state)) (sym edits) (ended_moves x n e);
+      touches = subst (Touches s x.state (delivery.Result n e)) (sym c.in_ok-left.ensures.touched)
+          (ended_touches s x.state n e b c.in-Some-2.item settings lawful.lawful.sound known item);
+      moves = subst (λ es. Moves x es (end_build e n x.state)) (sym c.in_ok-left.ensures.edits) (ended_moves x n e);
       unplaced = tt;
     }
 
@@ -46,3 +47,27 @@ returns-in_default-2-clause-undamaged g c trusted x holds lawful =
     ∙ c.in_default-2.is in
     let runs : b.live && is_running b.outcome ≡ true = sym c.is_under_way.ensures ∙ c.if-not-is_under_way.false in
     absurd (item_there s x.state c.args.build b lawful.lawful.sound known runs none)
+
+pub returns-in_err-item-clause-kept : goal.returns-in_err-item-clause-kept
+returns-in_err-item-clause-kept g c = then c.in_ok-known.ensures.kept c.in_err-item.ensures.kept
+
+pub returns-in_default-2-clause-kept : goal.returns-in_default-2-clause-kept
+returns-in_default-2-clause-kept g c = then c.in_ok-known.ensures.kept c.in_ok-item.ensures.kept
+
+pub returns-in_err-left-clause-kept : goal.returns-in_err-left-clause-kept
+returns-in_err-left-clause-kept g c = then c.in_ok-known.ensures.kept c.in_ok-item.ensures.kept
+
+pub returns-clause-kept : goal.returns-clause-kept
+returns-clause-kept g c = then c.in_ok-known.ensures.kept c.in_ok-item.ensures.kept
+
+pub returns-in_default-clause-raw : goal.returns-in_default-clause-raw
+returns-in_default-clause-raw g c trusted x holds lawful =
+    let s = c.args.config.now in
+    let none = sym (c.in_ok-known.ensures.found trusted s x holds lawful) ∙ c.in_default.is in
+    (ap (settled_step s) (unknown_raw x.state c.args.build c.args.ending none), refl)
+
+pub returns-then-not-is_under_way-clause-raw : goal.returns-then-not-is_under_way-clause-raw
+returns-then-not-is_under_way-clause-raw g c trusted x holds lawful =
+    let known = sym (c.in_ok-known.ensures.found trusted c.args.config.now x holds lawful) ∙ c.in-Some.is in
+    late_raw x.state c.args.build c.args.ending c.in-Some.known known
+    (sym c.is_under_way.ensures ∙ c.if-not-is_under_way.true)

@@ -12,6 +12,7 @@ use Rattle.gate_types.specs.State.{known_change, is_landed}
 use Rattle.gate_types.specs.SubmitOrder.{is_submitting}
 use Rattle.gate_types.specs.Step.{leave, revised, has_project, is_known_and}
 use Rattle.gate_types.specs.Limits.{most_needs}
+use Rattle.gate_book_trait.proofs.KeptLemmas.{then}
 use Rattle.gate_reads.specs.Touches.{Touches}
 use Rattle.gate_ruling.proofs.GivenUp.{given_up}
 use Rattle.gate_ruling.proofs.Closed.{revision_raw}
@@ -73,3 +74,41 @@ returns-clause-raw g c trusted x holds lawful =
           (c.in_ok-left.ensures.moves trusted x at_three lawful n so);
       unplaced = tt;
     }
+
+pub returns-in_err-is_submitting-clause-kept : goal.returns-in_err-is_submitting-clause-kept
+returns-in_err-is_submitting-clause-kept g c = then c.in_ok-known.ensures.kept c.in_err-is_submitting.ensures.kept
+
+pub returns-in_err-stand-clause-kept : goal.returns-in_err-stand-clause-kept
+returns-in_err-stand-clause-kept g c =
+    let two = then c.in_ok-known.ensures.kept c.in_ok-is_submitting.ensures.kept in
+    then two c.in_err-stand.ensures.kept
+
+pub returns-in_err-left-clause-kept : goal.returns-in_err-left-clause-kept
+returns-in_err-left-clause-kept g c =
+    let two = then c.in_ok-known.ensures.kept c.in_ok-is_submitting.ensures.kept in
+    let three = then two c.in_ok-stand.ensures.kept in
+    then three c.in_err-left.ensures.kept
+
+pub returns-then-branch-clause-kept : goal.returns-then-branch-clause-kept
+returns-then-branch-clause-kept g c = then c.in_ok-known.ensures.kept c.in_ok-is_submitting.ensures.kept
+
+pub returns-in-Err-TooManyNeeds-clause-kept : goal.returns-in-Err-TooManyNeeds-clause-kept
+returns-in-Err-TooManyNeeds-clause-kept g c = then c.in_ok-known.ensures.kept c.in_ok-is_submitting.ensures.kept
+
+pub returns-in_err-copy-clause-kept : goal.returns-in_err-copy-clause-kept
+returns-in_err-copy-clause-kept g c =
+    let two = then c.in_ok-known.ensures.kept c.in_ok-is_submitting.ensures.kept in
+    let three = then two c.in_ok-stand.ensures.kept in
+    then three c.in_ok-left.ensures.kept
+
+pub returns-in_err-edits-clause-kept : goal.returns-in_err-edits-clause-kept
+returns-in_err-edits-clause-kept g c =
+    let two = then c.in_ok-known.ensures.kept c.in_ok-is_submitting.ensures.kept in
+    let three = then two c.in_ok-stand.ensures.kept in
+    then three c.in_ok-left.ensures.kept
+
+pub returns-clause-kept : goal.returns-clause-kept
+returns-clause-kept g c =
+    let two = then c.in_ok-known.ensures.kept c.in_ok-is_submitting.ensures.kept in
+    let three = then two c.in_ok-stand.ensures.kept in
+    then three c.in_ok-left.ensures.kept

@@ -6,6 +6,7 @@ use Rattle.gate_types.specs.declared.records.Verdict.TheVariants as verdict
 use Rattle.gate_types.specs.Admit.{without_ready}
 use Rattle.gate_types.specs.SubmitOrder.{is_submitting}
 use Rattle.gate_types.specs.Step.{leave, refused, settled_step, step}
+use Rattle.gate_book_trait.proofs.KeptLemmas.{then}
 use Rattle.gate_reads.specs.Moves.{Moves}
 use Rattle.gate_reads.specs.Touches.{Touches}
 use Rattle.gate_reads.specs.Stands.{StandsSo}
@@ -108,3 +109,30 @@ returns-in-Nowhere-clause-raw g c trusted x holds lawful =
     sym (c.in_ok-is_submitting.ensures.found two x at_one lawful) ∙ c.if-branch.false in
     let so = subst (StandsSo s x.state n) c.in-Nowhere.is (c.in_ok-queued.ensures.found trusted x at_two lawful) in
     nowhere_raw s x.state n r c.in-Ok.known latest.1 free so.0 so.1
+
+pub returns-in_err-is_submitting-clause-kept : goal.returns-in_err-is_submitting-clause-kept
+returns-in_err-is_submitting-clause-kept g c = then c.in_ok-known.ensures.kept c.in_err-is_submitting.ensures.kept
+
+pub returns-then-branch-clause-kept : goal.returns-then-branch-clause-kept
+returns-then-branch-clause-kept g c = then c.in_ok-known.ensures.kept c.in_ok-is_submitting.ensures.kept
+
+pub returns-in_err-queued-clause-kept : goal.returns-in_err-queued-clause-kept
+returns-in_err-queued-clause-kept g c =
+    let two = then c.in_ok-known.ensures.kept c.in_ok-is_submitting.ensures.kept in
+    then two c.in_err-queued.ensures.kept
+
+pub returns-in-Nowhere-clause-kept : goal.returns-in-Nowhere-clause-kept
+returns-in-Nowhere-clause-kept g c =
+    let two = then c.in_ok-known.ensures.kept c.in_ok-is_submitting.ensures.kept in
+    then two c.in_ok-queued.ensures.kept
+
+pub returns-in_ok-edits-in-Queued-clause-kept : goal.returns-in_ok-edits-in-Queued-clause-kept
+returns-in_ok-edits-in-Queued-clause-kept g c =
+    let two = then c.in_ok-known.ensures.kept c.in_ok-is_submitting.ensures.kept in
+    let three = then two c.in_ok-queued.ensures.kept in
+    then three c.in_ok-edits-in-Queued.ensures.kept
+
+pub returns-in_ok-put_anew-in-Ready-clause-kept : goal.returns-in_ok-put_anew-in-Ready-clause-kept
+returns-in_ok-put_anew-in-Ready-clause-kept g c =
+    let two = then c.in_ok-known.ensures.kept c.in_ok-is_submitting.ensures.kept in
+    then two c.in_ok-queued.ensures.kept
