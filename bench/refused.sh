@@ -12,7 +12,7 @@ scratch "$top/bench/refused" gate_types gate_laws gate_config gate_kept_settings
     gate_book_trait gate_archive gate_memory gate_book gate_reads gate_settling gate_admission gate_ruling gate_texts gate_core gate_schema \
     gate_rows gate_found_rows gate_item_queries gate_build_queries gate_change_queries gate_queue_queries \
     gate_table_laws gate_archive_queries gate_file_changes gate_file_meta gate_migration gate_sql gate_http
-cp "$top/crates/worked_examples/src/stored/first_schema.rt" "$work/crates/timed/src"
+cp "$top/crates/worked_tests/src/stored/first_schema.rt" "$work/crates/timed/src"
 cp "$top/HANDLES" "$work"
 last=$(python3 -B "$top/bench/refused/sweep.py" last)
 

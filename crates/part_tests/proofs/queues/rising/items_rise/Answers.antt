@@ -1,7 +1,7 @@
 use Rattle.std.proofs.Common.{◌≡◌, ◌∙◌, sym, ap, arith}
 use Rattle.gate_types.specs.declared.records.Item.{Item}
 use Rattle.gate_queue_rules.proofs.Ordered.{rise_more}
-use Rattle.part_examples.proofs.queues.rising.items_rise.Goals as goal
+use Rattle.part_tests.proofs.queues.rising.items_rise.Goals as goal
 
 pub loop-index-preserved : goal.loop-index-preserved
 loop-index-preserved c =
