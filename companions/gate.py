@@ -1,4 +1,4 @@
-"""The one client of a gate: questions, deliveries, and ids. docs/FORMATS.md has what is sent and answered.
+"""The one client of a gate: questions and deliveries. docs/FORMATS.md has what is sent and answered.
 
 A proxy stands before the gate, and what the proxy says is no answer of the gate: nothing follows from it but that the
 gate has to be asked again.
@@ -78,14 +78,6 @@ def no_answer(question: str, status: int, content: bytes) -> NoAnswer:
     """What came from a server that isn't the gate. A 404 of its own says that it doesn't know the path."""
     hint = ". Is the address in companions.toml right?" if status == 404 else ""
     return NoAnswer(f"{question}: status {status}, {content[:100]!r}{hint}", status)
-
-
-def id_of(first: str, *stands_for: object) -> str:
-    """The id of what is told once: by all that it stands for, and by the gate's first accepted delivery.
-
-    Without the latter a kept reply of another file could be taken for an act.
-    """
-    return str(uuid.uuid5(uuid.UUID(first), json.dumps([str(it) for it in stands_for])))
 
 
 def say(part: str, what: str) -> None:

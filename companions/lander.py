@@ -12,7 +12,8 @@ from collections.abc import Callable
 from concurrent.futures import Future, ThreadPoolExecutor
 from typing import Any
 
-from companions.gate import Gate, NoAnswer, Order, id_of, say
+from companions.gate import Gate, NoAnswer, Order, say
+from companions.ids import id_of
 from companions.landings import Branches, Landing
 from companions.outbox import Notes
 from companions.repository import LANDING, REVISION, GitFault, Repository

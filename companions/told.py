@@ -11,7 +11,8 @@ from collections.abc import Callable, Iterable, Iterator
 from contextlib import contextmanager
 
 from companions.forges import Place
-from companions.gate import Delivery, id_of
+from companions.gate import Delivery
+from companions.ids import id_of
 from companions.outbox import Kept, Outbox
 from companions.requests import NO_REVISION, Request, Revision, Telling, Told
 

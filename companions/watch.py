@@ -14,7 +14,8 @@ from typing import Any
 
 from companions import figures
 from companions.figures import QueueFigures
-from companions.gate import Gate, NoAnswer, QueueStatus, Status, id_of, say
+from companions.gate import Gate, NoAnswer, QueueStatus, Status, say
+from companions.ids import id_of
 from companions.outbox import Notes
 from companions.settings import Settings
 from companions.starting import start

@@ -20,7 +20,8 @@ from pathlib import Path
 from typing import Any, NoReturn
 
 from companions import job, settings
-from companions.gate import Answer, Delivery, Gate, NoAnswer, id_of, say
+from companions.gate import Answer, Delivery, Gate, NoAnswer, say
+from companions.ids import id_of
 from companions.outbox import Notes
 from companions.repository import GitFault
 from companions.settings import Settings, SettingsFault

@@ -11,7 +11,8 @@ from typing import Any
 from unittest import mock
 
 from companions import settings
-from companions.gate import Answer, Gate, NoAnswer, Order, QueueStatus, Status, id_of
+from companions.gate import Answer, Gate, NoAnswer, Order, QueueStatus, Status
+from companions.ids import id_of
 from companions.outbox import Kept, Notes, Outbox
 from companions.settings import Account, SettingsFault
 from companions.tests.standin import StandIn

@@ -9,7 +9,8 @@ from pathlib import Path
 from typing import Any
 from unittest import mock
 
-from companions.gate import Answer, NoAnswer, Order, QueueStatus, Status, id_of
+from companions.gate import Answer, NoAnswer, Order, QueueStatus, Status
+from companions.ids import id_of
 from companions.lander import Again, Lander, QueueLander, QueueStops
 from companions.outbox import Notes
 from companions.repository import GitFault, Repository

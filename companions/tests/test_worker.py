@@ -6,7 +6,7 @@ from typing import Any
 from unittest import mock
 
 from companions import worker
-from companions.gate import id_of
+from companions.ids import id_of
 from companions.tests.worker_case import IDLE, Said, WorkerCase
 
 

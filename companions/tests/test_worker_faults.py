@@ -10,7 +10,7 @@ from typing import Any
 from unittest import mock
 
 from companions import job, worker
-from companions.gate import id_of
+from companions.ids import id_of
 from companions.outbox import Notes
 from companions.repository import GitFault
 from companions.tests.test_job import runs

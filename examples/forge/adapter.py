@@ -27,7 +27,8 @@ from pathlib import Path
 sys.path.insert(0, str(Path(__file__).resolve().parents[2]))
 
 from companions import settings as settings_file  # noqa: E402
-from companions.gate import Answer, Gate, NoAnswer, id_of  # noqa: E402
+from companions.gate import Answer, Gate, NoAnswer  # noqa: E402
+from companions.ids import id_of  # noqa: E402
 from companions.outbox import Kept, Outbox  # noqa: E402
 
 # `key` is there for what can be told once only, a revision. Each approval is an object of its own, by its place. The id

@@ -10,7 +10,7 @@ from functools import cached_property
 from typing import Any
 
 from companions.forges import FAILURE, PENDING, SUCCESS, Place
-from companions.gate import id_of
+from companions.ids import id_of
 from companions.requests import standing
 from companions.tests.day.checks import Checks
 from companions.tests.day.forge_developers import Cast, ForgeDevelopers, Proposal
