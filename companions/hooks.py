@@ -9,6 +9,7 @@ from pathlib import Path
 from companions.forges import LARGEST, Forge, Place
 from companions.gate import say
 from companions.outbox import Notes
+from companions.tables import add
 
 # A place that is noted again is looked at again: whoever has looked at it takes away the row that he has seen.
 TABLES = """
@@ -26,7 +27,7 @@ class Hints:
 
     def __init__(self, file: Path) -> None:
         self.tables = Notes(file).tables
-        self.tables.executescript(TABLES)
+        add(self.tables, TABLES)
         self.lock = threading.Lock()
 
     def put(self, place: Place) -> None:

@@ -2,7 +2,6 @@
 from __future__ import annotations
 
 import json
-import sqlite3
 import time
 from collections.abc import Callable
 from dataclasses import dataclass
@@ -10,6 +9,7 @@ from pathlib import Path
 from typing import Any
 
 from companions.gate import Answer, Delivery, Gate
+from companions.tables import opened
 
 TABLES = """
 CREATE TABLE IF NOT EXISTS delivery(place INTEGER PRIMARY KEY AUTOINCREMENT, lane TEXT NOT NULL,
@@ -26,11 +26,7 @@ class Notes:
     """A part's notes, by name, in a file that a crash leaves before or after each change."""
 
     def __init__(self, file: Path) -> None:
-        file.parent.mkdir(parents=True, exist_ok=True)
-        self.tables = sqlite3.connect(file, isolation_level=None, check_same_thread=False, timeout=60)
-        self.tables.execute("PRAGMA journal_mode=WAL")
-        self.tables.execute("PRAGMA synchronous=FULL")
-        self.tables.executescript(TABLES)
+        self.tables = opened(file, TABLES)
 
     def get(self, name: str) -> Any:
         row = self.tables.execute("SELECT said FROM note WHERE name = ?", (name,)).fetchone()

@@ -2,13 +2,14 @@
 from __future__ import annotations
 
 from collections.abc import Iterator, Mapping
-from contextlib import contextmanager
+from contextlib import AbstractContextManager
 from dataclasses import dataclass, field
 from typing import Any
 
 from companions.gate import Gate, NoAnswer, QueueStatus, expected
 from companions.outbox import Notes
 from companions.people_seen import Item, Report, Seen, Subject
+from companions.tables import at_once
 
 # The most reports that one answer has, and the most items of a queue.
 PAGE, FULL = 1000, 1000
@@ -104,16 +105,9 @@ class Observer:
                 self.notes.drop(name)
             self.notes.drop(f"last {queue}")
 
-    @contextmanager
-    def step(self) -> Iterator[None]:
+    def step(self) -> AbstractContextManager[None]:
         """All that is noted within is noted at once."""
-        self.notes.tables.execute("BEGIN IMMEDIATE")
-        try:
-            yield
-        except BaseException:
-            self.notes.tables.execute("ROLLBACK")
-            raise
-        self.notes.tables.execute("COMMIT")
+        return at_once(self.notes.tables)
 
     def report(self, change: int) -> Report | None:
         noted = self.notes.get(f"report {change}")

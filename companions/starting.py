@@ -9,6 +9,7 @@ from typing import IO
 
 from companions.gate import say
 from companions.settings import Settings, SettingsFault, read
+from companions.tables import OtherVersion
 
 
 def alone(folder: Path) -> IO[str] | None:
@@ -38,8 +39,8 @@ def hold_of(part: str, folder: Path) -> IO[str] | None:
 def start(part: str, words: list[str], run: Callable[[Settings], int]) -> int:
     """Runs a part under the settings of the file that the words name, and gives the status of its process.
 
-    It is 2 where the words name no file, 1 where the settings are wrong or the part has no folder of its own, else what
-    `run` gives.
+    It is 2 where the words name no file, 1 where the settings are wrong, the part has no folder of its own or a later
+    version's, else what `run` gives.
     """
     if len(words) != 1:
         print(f"usage: python3 -m companions.{part} companions.toml", file=sys.stderr)
@@ -53,4 +54,8 @@ def start(part: str, words: list[str], run: Callable[[Settings], int]) -> int:
     if hold is None:
         return 1
     with hold:
-        return run(settings)
+        try:
+            return run(settings)
+        except OtherVersion as fault:
+            say(part, f"stops: {fault}")
+            return 1

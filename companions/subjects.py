@@ -4,6 +4,7 @@ from __future__ import annotations
 from companions.forges import Place
 from companions.people_seen import Subject
 from companions.requests import Request, State
+from companions.tables import add
 from companions.told import Changes
 
 # `change` is that of the request's branch, or the last one that it had where its branch isn't gated. A request is over
@@ -20,7 +21,7 @@ class Subjects:
 
     def __init__(self, changes: Changes) -> None:
         self.changes, self.tables = changes, changes.tables
-        self.tables.executescript(TABLES)
+        add(self.tables, TABLES)
 
     def see(self, so: Request, change: int, is_gated: bool) -> None:
         """Notes how a request is now. Call it within a step."""

@@ -7,14 +7,15 @@ from __future__ import annotations
 
 import bisect
 import json
-from collections.abc import Callable, Iterable, Iterator
-from contextlib import contextmanager
+from collections.abc import Callable, Iterable
+from contextlib import AbstractContextManager
 
 from companions.forges import Place
 from companions.gate import Delivery
 from companions.ids import id_of
 from companions.outbox import Kept, Outbox
 from companions.requests import NO_REVISION, Request, Revision, Telling, Told
+from companions.tables import add, at_once
 
 # A change has a row once its request is known or named. `told` says whether the gate's present file was told of it.
 # A vote has the change and the revision at which it was first seen, and those that it was told of, once it was.
@@ -45,18 +46,11 @@ class Changes:
 
     def __init__(self, outbox: Outbox) -> None:
         self.outbox, self.tables = outbox, outbox.tables
-        self.tables.executescript(TABLES)
+        add(self.tables, TABLES)
 
-    @contextmanager
-    def step(self) -> Iterator[None]:
+    def step(self) -> AbstractContextManager[None]:
         """All that is written within is written at once."""
-        self.tables.execute("BEGIN IMMEDIATE")
-        try:
-            yield
-        except BaseException:
-            self.tables.execute("ROLLBACK")
-            raise
-        self.tables.execute("COMMIT")
+        return at_once(self.tables)
 
     def number(self, place: Place, branch: str) -> int:
         """The number of a request's change at a branch, which may be new."""

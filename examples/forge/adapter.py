@@ -30,6 +30,7 @@ from companions import settings as settings_file  # noqa: E402
 from companions.gate import Answer, Gate, NoAnswer  # noqa: E402
 from companions.ids import id_of  # noqa: E402
 from companions.outbox import Kept, Outbox  # noqa: E402
+from companions.tables import add  # noqa: E402
 
 # `key` is there for what can be told once only, a revision. Each approval is an object of its own, by its place. The id
 # is chosen when the gate is asked for the first time, since it depends on the gate's file.
@@ -60,7 +61,7 @@ class Adapter:
         self.pause = settings.pause
         self.outbox = Outbox(settings.folder / "adapter" / "told.db")
         self.tables = self.outbox.tables
-        self.tables.executescript(TABLE)
+        add(self.tables, TABLE)
         self.sending = open(settings.folder / "adapter" / "sending", "w", encoding="ascii")
 
     def note_revision(self, folder: Path, change: int, revision: int) -> None:
