@@ -13,6 +13,8 @@ import threading
 import time
 from collections.abc import Callable
 
+from companions.compared import Moment
+from companions.comparisons import Comparisons
 from companions.forges import Forge, ForgeFault, Place
 from companions.gate import Answer, Gate, NoAnswer, say
 from companions.gate_file import GateFile
@@ -48,6 +50,7 @@ class Adapter:
         self.gate = Gate(settings.url, settings.account("forge"), part="adapter")
         self.file = GateFile(self.outbox, self.gate, self.is_other, self.is_earlier)
         self.looks = Looks(settings, settings.adapter, forge, self.gate, self.subjects)
+        self.comparisons = Comparisons(self.changes, (it.forge for it in settings.projects.values()), settings.folder)
         manner = Manner(forge.mark, settings.adapter.logs, settings.adapter.quiet)
         self.people = People(self.gate, Notes(file.with_name("people.db")), forge, self.changes.place, manner)
         self.look, self.look_at = settings.adapter.look, 0.0
@@ -60,8 +63,9 @@ class Adapter:
     def once(self, now: float) -> None:
         """One round. Without an answer of the gate all stays as it is."""
         try:
-            if not self.file.is_known or now >= self.compare_at:
+            if not self.file.is_known or now >= min(self.compare_at, self.look_at):
                 self.file.ask()
+            self.comparisons.leave()
             if now >= self.compare_at:
                 self.compare_at = now + (self.compare if self.hint_at_all() else REST * self.settings.pause)
             self.follow(now)
@@ -76,20 +80,26 @@ class Adapter:
 
     def hint_at_all(self) -> bool:
         """Hints at each request that is open at the forge, or that the gate has for open."""
-        told = True
-        for repository in dict.fromkeys(it.forge for it in self.settings.projects.values()):
-            told = self.attempt(repository, lambda it=repository: self.hint_at(it)) and told
-        return told
+        faults = [self.attempt(it, lambda it=it: self.hint_at(it)) for it in self.comparisons.repositories]
+        return not any(faults)
 
     def hint_at(self, repository: str) -> None:
-        for number in sorted({*self.forge.open_requests(repository), *self.changes.still_open(repository)}):
+        """Hints at each request of a repository: its comparison has begun."""
+        began = Moment.now()
+        numbers = {*self.forge.open_requests(repository), *self.changes.still_open(repository)}
+        for number in sorted(numbers):
             self.hints.put(Place(repository, number))
+        self.comparisons.begin(repository, began, numbers)
 
     def send(self) -> None:
-        """Sends what may be sent by now."""
-        if self.outbox.is_due():
-            self.file.ask()
-            self.outbox.send(self.gate, self.answered, self.settings.pause)
+        """Sends what may be sent by now. What is kept is left word of before, and what was answered behind."""
+        try:
+            if self.outbox.is_due():
+                self.file.ask()
+                self.comparisons.leave()
+                self.outbox.send(self.gate, self.answered, self.settings.pause, self.comparisons.leave)
+        finally:
+            self.comparisons.leave()
 
     def follow(self, now: float) -> None:
         """Looks at the requests that were hinted at. Where these are many, that takes long: so what a look has kept is
@@ -102,12 +112,15 @@ class Adapter:
             if self.rests.get(name, 0.0) > now or place in done:
                 continue
             done.add(place)
-            if self.attempt(name, lambda it=place: self.looks.look(it)):
+            fault = self.attempt(name, lambda it=place: self.looks.look(it))
+            if fault is None:
+                self.comparisons.looked(place)
                 self.rests.pop(name, None)
                 self.hints.drop(row)
                 self.send()
                 faults = 0
             else:
+                self.comparisons.failed(place, not isinstance(fault, ForgeFault))
                 self.rests[name] = now + REST * self.settings.pause
                 faults += 1
             news = self.hints.all(last)
@@ -117,22 +130,22 @@ class Adapter:
         for change, kind in self.people.look(self.subjects.all(), time.time()).items():
             self.subjects.written(change, kind)
 
-    def attempt(self, name: str, task: Callable[[], None]) -> bool:
-        """Whether nothing went wrong. What did is told, once while it stays the same; the gate's silence is raised."""
+    def attempt(self, name: str, task: Callable[[], None]) -> Exception | None:
+        """What went wrong, if anything did: it is told, once while it stays the same. The gate's silence is raised."""
         try:
             task()
         except NoAnswer:
             raise
-        except Again:
-            return False
+        except Again as fault:
+            return fault
         except ForgeFault as fault:
             self.trouble(name, f"{name}: {fault}")
-            return False
+            return fault
         except Exception as fault:  # pylint: disable=broad-except
             self.trouble(name, f"{name}: {type(fault).__name__}: {fault}")
-            return False
+            return fault
         self.trouble(name, None)
-        return True
+        return None
 
     def trouble(self, name: str, said: str | None) -> None:
         """Tells of a trouble once, until it is another one or over."""
@@ -153,11 +166,14 @@ class Adapter:
 
     def is_other(self) -> None:
         """The gate has another file."""
+        self.comparisons.forget()
         self.changes.forget()
         self.compare_at = 0.0
 
     def is_earlier(self) -> None:
         """The gate was restored. What the branches have by now is noted before anything is told again."""
+        self.comparisons.forget()
+        self.compare_at = 0.0
         self.looks.note_all_landings()
         known = self.changes.replies_known(self.gate.knows)
         with self.changes.step():

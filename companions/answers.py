@@ -1,6 +1,6 @@
 """What the lander answers the adapter and the watch, in a small file of the folder that they share.
 
-`lander/answers.json` says of each queue why it is stopped, which refs aren't the commits that were approved, so that the
+`lander/answers.json` says of each queue why it is stopped, and since when a comparison is waited for; which refs aren't the commits that were approved, so that the
 adapter sets them right, and why orders were answered `refused`, for the comments on their requests.
 """
 from __future__ import annotations
@@ -11,6 +11,8 @@ import threading
 from dataclasses import asdict, dataclass, field
 from pathlib import Path
 from typing import Any
+
+from companions.compared import Moment
 
 # So many of each list are kept, the newest ones: people who are told later than that look at the lander's log.
 MOST = 200
@@ -34,10 +36,14 @@ class Refusal:
 
 @dataclass(frozen=True)
 class Said:
-    """All that a lander has answered. A queue that isn't stopped has none in the place of a text."""
+    """All that a lander has answered. A queue that isn't stopped has none in the place of a text.
+
+    `since` has the queues that wait for a comparison of their repositories which began after a moment.
+    """
     stopped: dict[str, str | None] = field(default_factory=dict)
     wrong: tuple[Wrong, ...] = ()
     refused: tuple[Refusal, ...] = ()
+    since: dict[str, Moment] = field(default_factory=dict)
 
     def why_refused(self, change: int, revision: int) -> str | None:
         """Why the last order of a revision was refused, if the lander said so."""
@@ -63,7 +69,9 @@ def said_of(table: dict[str, Any]) -> Said:
                for queue, it in table["queues"].items()}
     wrong = tuple(Wrong(int(it["change"]), int(it["revision"]), str(it["project"])) for it in table["wrong"])
     refused = tuple(Refusal(int(it["change"]), int(it["revision"]), str(it["why"])) for it in table["refused"])
-    return Said(stopped, wrong, refused)
+    since = {str(queue): Moment(str(it["since"]["boot"]), float(it["since"]["uptime"]))
+             for queue, it in table["queues"].items() if it.get("since") is not None}
+    return Said(stopped, wrong, refused, since)
 
 
 class Answers:
@@ -76,13 +84,14 @@ class Answers:
     def __init__(self, folder: Path) -> None:
         self.file, self.lock = file_in(folder), threading.Lock()
         said = read(self.file)
-        self.stopped, self.wrong, self.refused = dict(said.stopped), list(said.wrong), list(said.refused)
+        self.queues = {queue: (why, said.since.get(queue)) for queue, why in said.stopped.items()}
+        self.wrong, self.refused = list(said.wrong), list(said.refused)
 
-    def stop(self, queue: str, why: str | None) -> None:
-        """A queue is stopped for a cause, or goes on."""
+    def stop(self, queue: str, why: str | None, since: Moment | None = None) -> None:
+        """A queue is stopped for a cause, or goes on. It may wait for a comparison since a moment."""
         with self.lock:
-            if queue not in self.stopped or self.stopped[queue] != why:
-                self.stopped[queue] = why
+            if self.queues.get(queue) != (why, since):
+                self.queues[queue] = why, since
                 self.write()
 
     def is_wrong(self, change: int, revision: int, project: str) -> None:
@@ -110,7 +119,8 @@ class Answers:
 
     def write(self) -> None:
         """Writes beside and renames: so nobody ever reads a half of it."""
-        table = {"queues": {queue: {"stopped": why} for queue, why in self.stopped.items()},
+        table = {"queues": {queue: {"stopped": why, "since": since and asdict(since)}
+                            for queue, (why, since) in self.queues.items()},
                  "wrong": [asdict(it) for it in self.wrong], "refused": [asdict(it) for it in self.refused]}
         self.file.parent.mkdir(parents=True, exist_ok=True)
         new = self.file.with_name(self.file.name + ".new")

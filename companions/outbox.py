@@ -64,6 +64,7 @@ class Outbox(Notes):
     def __init__(self, file: Path) -> None:
         super().__init__(file)
         self.later: dict[str, float] = {}
+        self.shown: dict[str, str] = {}
 
     def keep(self, delivery: Kept) -> None:
         """Keeps a delivery; one that is kept already, by its id, stays where it is."""
@@ -83,11 +84,16 @@ class Outbox(Notes):
                                    " delivery GROUP BY lane) ON place = first ORDER BY place")
         return [Kept(lane, id, door, json.loads(said)) for lane, id, door, said in rows]
 
-    def send(self, gate: Gate, told: Callable[[Kept, Answer], None], pause: float = 1.0) -> bool:
+    def submitting(self) -> list[Kept]:
+        """The first deliveries of those lanes that wait for the answer to an order, as far as the gate has said so."""
+        return [it for it in self.firsts() if self.shown.get(it.lane) == it.id] if self.shown else []
+
+    def send(self, gate: Gate, told: Callable[[Kept, Answer], None], pause: float = 1.0,
+             waits: Callable[[], None] = lambda: None) -> bool:
         """Sends what may be sent by now, and says whether nothing is left.
 
         A lane whose order is shown is tried again after a pause. Without an answer all stay as they are: `NoAnswer`.
-        `told` is called with each final answer, before the delivery goes.
+        `told` is called with each final answer, before the delivery goes, and `waits` where an order is shown.
         """
         moved = True
         while moved:
@@ -98,8 +104,11 @@ class Outbox(Notes):
                 answer = gate.post(first.door, {"id": first.id, **first.said})
                 if answer.code == SUBMITTING:
                     self.later[first.lane] = time.monotonic() + pause
+                    self.shown[first.lane] = first.id
+                    waits()
                     continue
                 self.later.pop(first.lane, None)
+                self.shown.pop(first.lane, None)
                 told(first, answer)
                 self.tables.execute("DELETE FROM delivery WHERE id = ?", (first.id,))
                 moved = True

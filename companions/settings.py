@@ -10,6 +10,10 @@ from pathlib import Path
 from typing import Any
 
 
+# How old a comparison of the adapter may be, by which something lands, and how often what the forge refuses is tried.
+BLIND, TRIES = 900.0, 5
+
+
 class SettingsFault(Exception):
     """A fault of the settings, told with the file and the member that has it."""
 
@@ -50,7 +54,7 @@ class Adapter:
 
     `approvers` are the persons whose approvals count, or none where all do who may write to the repository. People are
     told by a look at the gate every `look`, and of mere progress every `quiet`; `logs` is the address of a build's log,
-    with `{build}` in it.
+    with `{build}` in it. Nothing lands by a comparison that is older than `blind`.
     """
     form: str
     url: str
@@ -65,11 +69,15 @@ class Adapter:
     look: float
     quiet: float
     logs: str | None
+    blind: float = BLIND
 
 
 @dataclass(frozen=True)
 class Settings:
-    """All that the file says. Times are in seconds."""
+    """All that the file says. Times are in seconds.
+
+    `has_adapter`: the lander lands only what an adapter has compared. `tries` is how often it tries what is refused.
+    """
     url: str
     accounts: dict[str, Account]
     folder: Path
@@ -80,6 +88,13 @@ class Settings:
     stands: float
     author: str
     adapter: Adapter | None = None
+    has_adapter: bool = True
+    tries: int = TRIES
+
+    @property
+    def blind(self) -> float:
+        """How old a comparison may be, also of an adapter that isn't set up here."""
+        return self.adapter.blind if self.adapter is not None else BLIND
 
     def account(self, role: str) -> Account | None:
         """The account of a role, or none where the gate is asked without."""
@@ -96,7 +111,7 @@ class Settings:
 
 ROLES = ("forge", "worker", "people", "standby")
 FORMS = ("gitea", "github", "gitlab")
-KINDS = {str: "a text", int: "a whole number", float: "a number", dict: "a table", list: "an array of tables"}
+KINDS = {str: "a text", bool: "true or false", int: "a whole number", float: "a number", dict: "a table", list: "an array of tables"}
 
 
 class Reader:
@@ -151,6 +166,12 @@ class Reader:
             raise self.fault(member, "isn't above 0")
         return value
 
+    def count(self, member: str, default: int) -> int:
+        value: int = self.get(member, int, default)
+        if value < 1:
+            raise self.fault(member, "isn't above 0")
+        return value
+
     def inner(self, member: str) -> Reader:
         return Reader(self.file, f"{self.where}{member}.", self.get(member, dict, {}))
 
@@ -179,7 +200,7 @@ def read(file: Path) -> Settings:
         url=gate.address("url"), accounts=accounts_of(gate), folder=Path(top.text("folder")), projects=projects_of(top),
         pause=gate.seconds("pause", 1.0), look=worker.seconds("look", 10.0), grace=watch.seconds("grace", 300.0),
         stands=watch.seconds("stands", 3600.0), author=lander.text("author", "gate <gate@localhost>"),
-        adapter=adapter_of(top))
+        adapter=adapter_of(top), has_adapter=lander.get("adapter", bool, True), tries=lander.count("tries", TRIES))
     for it in (top, gate, lander, worker, watch):
         it.end()
     return settings
@@ -196,10 +217,14 @@ def adapter_of(top: Reader) -> Adapter | None:
     host, _, port = listen.rpartition(":")
     if not host or not (port.isascii() and port.isdigit()) or int(port) > 65535:
         raise table.fault("listen", "isn't a host and a port, as 127.0.0.1:8090")
+    compare = table.seconds("compare", 300.0)
     adapter = Adapter(form, table.address("url"), table.address("web"), table.text("token"), table.text("secret"),
-                      table.text("base"), host, int(port), table.names("approvers"), table.seconds("compare", 300.0),
+                      table.text("base"), host, int(port), table.names("approvers"), compare,
                       table.seconds("look", 5.0), table.seconds("quiet", 60.0),
-                      table.address("logs") if "logs" in table.table else None)
+                      table.address("logs") if "logs" in table.table else None,
+                      table.seconds("blind", max(BLIND, 3 * compare)))
+    if adapter.blind <= compare:
+        raise table.fault("blind", "isn't above adapter.compare")
     if adapter.logs is not None and "{build}" not in adapter.logs:
         raise table.fault("logs", "has no {build}")
     table.end()

@@ -7,7 +7,8 @@ from __future__ import annotations
 
 import bisect
 import json
-from collections.abc import Callable, Iterable
+from collections import Counter
+from collections.abc import Callable, Container, Iterable
 from contextlib import AbstractContextManager
 
 from companions.forges import Place
@@ -221,6 +222,12 @@ class Changes:
     def waits(self, change: int) -> bool:
         """Whether deliveries of a change are kept that the gate hasn't answered."""
         return self.tables.execute("SELECT 1 FROM delivery WHERE lane = ?", (str(change),)).fetchone() is not None
+
+    def waiting(self, but: Container[int]) -> dict[str, int]:
+        """How many changes of each repository have deliveries that wait, but for some."""
+        rows = self.tables.execute("SELECT repository, number FROM change WHERE number IN"
+                                   " (SELECT CAST(lane AS INTEGER) FROM delivery)").fetchall()
+        return Counter(repository for repository, number in rows if number not in but)
 
     def still_open(self, repository: str) -> list[int]:
         """The requests of a repository that have a change which was neither closed nor has landed."""

@@ -8,6 +8,7 @@ import unittest
 from pathlib import Path
 
 from companions.answers import MOST, Answers, Refusal, Said, Wrong, file_in, read
+from companions.compared import Moment
 
 
 class Written(unittest.TestCase):
@@ -23,7 +24,8 @@ class Written(unittest.TestCase):
         self.answers.is_wrong(7, 2, "lib")
         self.answers.refuse(8, 1, "it was withdrawn")
         self.assertEqual(json.loads(self.file.read_text("utf-8")), {
-            "queues": {"core": {"stopped": "the gate has another file"}, "web": {"stopped": None}},
+            "queues": {"core": {"stopped": "the gate has another file", "since": None},
+                       "web": {"stopped": None, "since": None}},
             "wrong": [{"change": 7, "revision": 2, "project": "lib"}],
             "refused": [{"change": 8, "revision": 1, "why": "it was withdrawn"}]})
 
@@ -49,6 +51,14 @@ class Written(unittest.TestCase):
         again = Answers(self.folder)
         again.is_wrong(7, 2, "lib")
         self.assertEqual(read(self.file), Said({"core": "because"}, (Wrong(7, 2, "lib"),), (Refusal(8, 1, "a"),)))
+
+    def test_a_comparison_is_waited_for(self) -> None:
+        self.answers.stop("core", "waits", Moment("a boot", 12.5))
+        self.assertEqual(read(self.file).since, {"core": Moment("a boot", 12.5)})
+        Answers(self.folder).stop("web", None)
+        self.assertEqual(read(self.file).since, {"core": Moment("a boot", 12.5)})
+        self.answers.stop("core", None)
+        self.assertEqual(read(self.file).since, {})
 
     def test_the_newest_stay(self) -> None:
         for change in range(1, MOST + 3):

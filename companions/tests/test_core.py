@@ -71,6 +71,7 @@ class Settings(Case):
         known = self.read(WHOLE)
         self.assertEqual((known.url, known.pause, known.look, known.grace, known.stands, known.author),
                          ("https://gate.example", 1.0, 10.0, 300.0, 3600.0, "gate <gate@localhost>"))
+        self.assertEqual((known.has_adapter, known.tries, known.blind), (True, 5, 900.0))
         self.assertEqual((known.account("worker"), known.account("forge")), (Account("w", "secret"), None))
         self.assertEqual({it.name: it.branch for it in known.projects_of("core")}, {"lib": "main", "app": "trunk"})
         self.assertEqual((known.limit_of("core", "unit"), known.limit_of("core", "docs")), (3600.0, None))
@@ -98,6 +99,9 @@ class Settings(Case):
                 ("[gate]", "[watch]\ngrace = -1\n[gate]", "watch.grace: isn't above 0"),
                 ("[gate]", "[worker]\nlook = 'x'\n[gate]", "worker.look: isn't a number"),
                 ("[gate]", "[lander]\nauthors = 'x'\n[gate]", "lander.authors: isn't known"),
+                ("[gate]", "[lander]\nadapter = 1\n[gate]", "lander.adapter: isn't true or false"),
+                ("[gate]", "[lander]\ntries = 0\n[gate]", "lander.tries: isn't above 0"),
+                ("[gate]", "[lander]\ntries = 1.5\n[gate]", "lander.tries: isn't a whole number"),
                 ("[gate]", "project = 1\n[gate]", "no TOML"),
                 ("[gate]", "[gate", "no TOML")):
             with self.subTest(told):
@@ -123,11 +127,14 @@ class Settings(Case):
                 ('["ada"]', '["ada"]\nlisten = "8090"', "adapter.listen: isn't a host and a port"),
                 ('["ada"]', '["ada"]\nlisten = "localhost:99999"', "adapter.listen: isn't a host and a port"),
                 ('["ada"]', '["ada"]\ncompare = 0', "adapter.compare: isn't above 0"),
+                ('["ada"]', '["ada"]\nblind = 300', "adapter.blind: isn't above adapter.compare"),
                 ('["ada"]', '["ada"]\nlogs = "https://logs"', "adapter.logs: has no {build}"),
                 ('["ada"]', '["ada"]\npoll = 1', "adapter.poll: isn't known")):
             with self.subTest(told), self.assertRaisesRegex(SettingsFault, f"companions.toml: {told}"):
                 self.read(WHOLE + ADAPTER.replace(old, new, 1))
         self.assertIsNone(self.read(WHOLE + ADAPTER.replace("approvers", "# approvers")).adapter.approvers)
+        self.assertEqual([self.read(WHOLE + ADAPTER + it).blind for it in ("", "blind = 400\n", "compare = 400\n")],
+                         [900.0, 400.0, 1200.0])
 
     def test_a_branch_of_a_forge_s_repository_is_one_project_s(self) -> None:
         named = WHOLE.replace('name = "lib"', 'name = "lib"\nforge = "acme/lib"')

@@ -1,0 +1,80 @@
+"""How far the adapter has compared each repository, and what it leaves for the lander by that."""
+from __future__ import annotations
+
+from collections.abc import Iterable
+from dataclasses import asdict
+from pathlib import Path
+
+from companions import compared
+from companions.compared import Compared, Moment, Repository
+from companions.forges import Place
+from companions.told import Changes
+
+# Why the order of a change is to be refused: by the kind of its delivery that waits for the order's answer, or since
+# nobody could look at its request.
+SUBMITTING = {"revision": "a new revision of it was pushed", "withdrawn": "its approval was taken back",
+              "closed": "its request was closed"}
+UNSEEN = "the adapter can't look at its request"
+
+
+class Comparisons:
+    """A comparison of a repository is whole once each request of its list was looked at.
+
+    A request at which nobody can look, as its author may bring about, doesn't hold up its repository: the comparison is
+    whole without it, and orders of its changes are refused. It is such a one where the fault is its own, or the forge
+    couldn't tell of it in two comparisons in a row.
+    """
+
+    def __init__(self, changes: Changes, repositories: Iterable[str], folder: Path) -> None:
+        self.changes, self.outbox, self.repositories = changes, changes.outbox, list(dict.fromkeys(repositories))
+        self.file, self.left = compared.file_in(folder), Compared(None, None, {}, {})
+        self.at_work: dict[str, tuple[Moment, set[int]]] = {}
+        self.overdue: set[Place] = set()
+        self.unseen: set[Place] = set()
+
+    def begin(self, repository: str, began: Moment, numbers: Iterable[int]) -> None:
+        """A comparison is begun: its moment is before that of the list."""
+        _, missed = self.at_work.get(repository, (began, set()))
+        self.overdue = {it for it in self.overdue if it.repository != repository}
+        self.overdue |= {Place(repository, it) for it in missed}
+        self.at_work[repository] = began, set(numbers)
+        self.go_on(repository, None)
+
+    def looked(self, place: Place) -> None:
+        """A request was looked at, and what has to be told of it is kept."""
+        self.overdue.discard(place)
+        self.unseen.discard(place)
+        self.go_on(place.repository, place.number)
+
+    def failed(self, place: Place, is_its_own: bool) -> None:
+        """A request couldn't be looked at, for a fault of its own or of the forge."""
+        if is_its_own or place in self.overdue:
+            self.unseen.add(place)
+            self.go_on(place.repository, place.number)
+
+    def go_on(self, repository: str, number: int | None) -> None:
+        """Notes that a comparison doesn't need this request any more, and that it is whole if it needs none."""
+        began, numbers = self.at_work.get(repository, (None, set()))
+        numbers.discard(number)
+        if began is not None and not numbers:
+            del self.at_work[repository]
+            self.outbox.put("compared", {**(self.outbox.get("compared") or {}), repository: asdict(began)})
+
+    def forget(self) -> None:
+        """The gate was restored, or has another file: what was compared before says nothing any more."""
+        self.at_work.clear()
+        self.outbox.put("compared", {})
+
+    def leave(self) -> None:
+        """Leaves for the lander what is so by now."""
+        noted, began = self.outbox.get("file"), self.outbox.get("compared") or {}
+        submitting = {int(it.lane): SUBMITTING.get(it.said["kind"]) for it in self.outbox.submitting()}
+        waiting = self.changes.waiting(submitting)
+        repositories = {it: Repository(waiting.get(it, 0), Moment(**began[it]) if it in began else None)
+                        for it in self.repositories}
+        unseen = {change: UNSEEN for place in self.unseen for change in self.changes.of_request(place).values()}
+        refuse = unseen | {change: why for change, why in submitting.items() if why is not None}
+        now = Compared(noted["first"] if noted else None, self.outbox.get("last"), repositories, refuse)
+        if now != self.left:
+            compared.write(self.file, now)
+            self.left = now
