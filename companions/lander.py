@@ -12,6 +12,8 @@ from collections.abc import Callable
 from concurrent.futures import Future, ThreadPoolExecutor
 from typing import Any
 
+from companions.answers import Answers
+from companions.compared import Comparison, Waits
 from companions.gate import Gate, NoAnswer, Order, say
 from companions.ids import id_of
 from companions.landings import Branches, Landing
@@ -36,12 +38,13 @@ class Again(Exception):
 class QueueLander:
     """Lands what is ordered of one queue."""
 
-    def __init__(self, queue: str, settings: Settings, gate: Gate, notes: Notes) -> None:
-        self.queue, self.settings, self.gate, self.notes = queue, settings, gate, notes
+    def __init__(self, queue: str, settings: Settings, gate: Gate, notes: Notes, answers: Answers) -> None:
+        self.queue, self.settings, self.gate, self.notes, self.answers = queue, settings, gate, notes, answers
         projects = settings.projects_of(queue)
         self.repositories = {it.name: Repository(it.repository, settings.folder / "lander" / it.name, settings.author)
                              for it in projects}
         self.branches = Branches(queue, self.repositories, projects)
+        self.compared = Comparison(queue, settings, gate, notes)
         # The gate's first accepted delivery, and how many landings of the queue the gate has; none before a look.
         self.first: str | None = None
         self.told = 0
@@ -131,6 +134,10 @@ class QueueLander:
         if merged is None:
             self.refuse(order, f"it can't be merged into {project.branch}")
             return
+        why = self.compared.why_refused(order, self.first)
+        if why is not None:
+            self.refuse(order, why)
+            return
         self.confirm(order)
         note = LANDING.format(queue=self.queue, place=place)
         if not repository.push({branch: (head, merged), note: (None, merged)}):
@@ -153,6 +160,7 @@ class QueueLander:
         say("lander", f"{self.queue}: landed change {order.change}, revision {order.revision}, as {place}")
 
     def refuse(self, order: Order, why: str) -> None:
+        self.answers.refuse(order.change, order.revision, why)
         said = self.answer(order, "refused")
         say("lander", f"{self.queue}: refused change {order.change}, revision {order.revision}: {why}: {said}")
 
@@ -186,7 +194,8 @@ class Lander:
         self.gate = Gate(settings.url, settings.account("forge"), part="lander")
         notes = Notes(settings.folder / "lander" / "notes.db")
         queues = dict.fromkeys(it.queue for it in settings.projects.values())
-        self.queues = {it: QueueLander(it, settings, self.gate, notes) for it in queues}
+        self.answers = Answers(settings.folder)
+        self.queues = {it: QueueLander(it, settings, self.gate, notes, self.answers) for it in queues}
         self.at_work: dict[str, Future[None]] = {}
         self.said: dict[str, str] = {}
         self.rests: dict[str, float] = {}
@@ -202,8 +211,11 @@ class Lander:
         for it in self.queues.values():
             if not it.has_begun:
                 self.start(it.queue, it.begin)
-        for order in self.gate.until(self.gate.orders, self.settings.pause):
+        orders = self.gate.until(self.gate.orders, self.settings.pause)
+        for order in orders:
             self.take(order)
+        for queue in self.queues.keys() - {it.queue for it in orders}:
+            self.go_on(queue)
 
     def take(self, order: Order) -> None:
         queue = self.queues.get(order.queue)
@@ -225,11 +237,21 @@ class Lander:
         except Again:
             return
         except Exception as fault:  # pylint: disable=broad-except
-            is_known = isinstance(fault, (QueueStops, GitFault, NoAnswer, OSError))
-            self.tell(queue, str(fault) if is_known else f"{type(fault).__name__}: {fault}")
+            is_known = isinstance(fault, (QueueStops, Waits, GitFault, NoAnswer, OSError))
+            why = str(fault) if is_known else f"{type(fault).__name__}: {fault}"
+            self.tell(queue, why)
+            if not isinstance(fault, NoAnswer):
+                self.answers.stop(queue, why, fault.since if isinstance(fault, Waits) else None)
             self.rests[queue] = time.monotonic() + REST * self.settings.pause
         else:
             self.said.pop(queue, None)
+            self.answers.stop(queue, None)
+
+    def go_on(self, queue: str) -> None:
+        """A queue without an order isn't stopped, unless it hasn't begun."""
+        running = self.at_work.get(queue)
+        if self.queues[queue].has_begun and (running is None or running.done()):
+            self.answers.stop(queue, None)
 
     def tell(self, queue: str, what: str) -> None:
         if self.said.get(queue) != what:

@@ -10,7 +10,10 @@ import unittest
 from pathlib import Path
 from typing import Any
 
+from companions import compared
+from companions.compared import Compared, Repository
 from companions.gate import Answer, NoAnswer
+from companions.ids import revision_id
 from companions.settings import Project, Settings
 
 TOP = Path(__file__).resolve().parents[2]
@@ -42,7 +45,9 @@ class GateOfAScene:
         return Answer({"reply": "recorded"})
 
     def told(self) -> list[tuple[str, int, int]]:
-        return [(it["kind"], it["change"], it["revision"]) for it in self.taken.values()]
+        """What it was told, but for the delivery with which its file begins."""
+        return [(it["kind"], it["change"], it["revision"]) for it in self.taken.values()
+                if it["change"] != adapter.BEGINNING]
 
 
 class AdapterTest(unittest.TestCase):
@@ -52,7 +57,7 @@ class AdapterTest(unittest.TestCase):
         self.folder = Path(temporary.name)
         self.repository = self.folder / "lib.git"
         subprocess.run(["git", "init", "--quiet", "--bare", str(self.repository)], check=True)
-        projects = {"lib": Project("lib", "core", str(self.repository), "main", {})}
+        projects = {"lib": Project("lib", "core", str(self.repository), "main", {}, "lib")}
         folder = self.folder / "companions"
         self.settings = Settings("http://localhost", {}, folder, projects, 0.01, 1, 1, 1, "gate <g@localhost>")
         self.gate = GateOfAScene()
@@ -71,10 +76,16 @@ class AdapterTest(unittest.TestCase):
         return subprocess.run(["git", "-C", str(self.repository), *who, *words], input=given, check=True,
                               capture_output=True, text=True).stdout.strip()
 
-    def push(self, change: int, revision: int) -> None:
+    def push(self, change: int, revision: int, message: str = "") -> str:
         """A revision stands in the repository, and no hook has told."""
-        commit = self.git("commit-tree", self.git("mktree"), "-m", f"Change {change}")
+        commit = self.git("commit-tree", self.git("mktree"), "-m", f"Change {change}\n\n{message}")
         self.git("update-ref", f"refs/changes/{change}/{revision}", commit)
+        return commit
+
+    def left(self) -> Compared:
+        it = compared.read(compared.file_in(self.settings.folder))
+        assert it is not None
+        return it
 
     def land(self, change: int, revision: int) -> None:
         """The lander notes a landing."""
@@ -107,6 +118,57 @@ class AdapterTest(unittest.TestCase):
         self.adapter = self.start()
         self.assertTrue(self.send())
         self.assertEqual(self.gate.told(), [("revision", 7, 1), ("approved", 7, 1)])
+
+    def test_a_revision_is_its_commit_and_what_it_needs(self) -> None:
+        commits = [self.push(7, 1), self.push(8, 1, "Depends-On: https://forge/c/7\r\nDEPENDS-ON:https://forge/c/12 \n"
+                                                    " Depends-On: https://forge/c/13\nDepends-On: https://forge/c/7")]
+        self.adapter.look()
+        self.send()
+        first, *others = self.gate.taken
+        self.assertEqual(others, [revision_id(first, 7, 1, commits[0], ()),
+                                  revision_id(first, 8, 1, commits[1], (7, 12))])
+        self.assertEqual([set(it) for it in self.gate.taken.values()],
+                         3 * [{"id", "kind", "change", "project", "revision", "message"}])
+
+    def test_a_revision_that_somebody_has_moved_is_set_right(self) -> None:
+        commit = self.push(7, 1)
+        self.adapter.look()
+        self.push(7, 1, "Another one")
+        self.git("update-ref", "refs/changes/7/2", commit)
+        with contextlib.redirect_stdout(io.StringIO()) as said:
+            self.adapter.look()
+        self.assertEqual(self.git("rev-parse", "refs/changes/7/1"), commit)
+        self.assertRegex(said.getvalue(), rf"^refs/changes/7/1 of lib was [0-9a-f]+: set right to {commit}\n$")
+        self.git("update-ref", "-d", "refs/changes/7/1")
+        with contextlib.redirect_stdout(io.StringIO()):
+            self.adapter.look()
+        self.assertEqual(self.git("rev-parse", "refs/changes/7/1"), commit)
+
+    def test_leaves_word_for_the_lander(self) -> None:
+        self.push(7, 1)
+        self.gate.silent = True
+        self.adapter.look()
+        with self.assertRaises(NoAnswer):
+            self.send()
+        self.assertEqual((self.left().first, self.left().repositories["lib"].waiting), (None, 1))
+        self.gate.silent = False
+        self.send()
+        first, last = self.gate.taken
+        self.assertEqual((self.left().first, self.left().last, self.left().refuse), (first, last, {}))
+        self.assertEqual(self.left().repositories["lib"].waiting, 0)
+        self.assertIsNotNone(self.left().repositories["lib"].began)
+        self.gate.shown = {7}
+        self.adapter.note("closed", 7, 1)
+        self.send()
+        self.assertEqual((self.left().refuse, self.left().repositories["lib"].waiting),
+                         ({7: "its request was closed"}, 0))
+        self.gate.shown = set()
+        self.adapter.tell_again()
+        self.assertEqual((self.left().last, self.left().refuse, self.left().repositories["lib"]),
+                         (None, {}, Repository(1, None)))
+        self.adapter.look()
+        self.send()
+        self.assertEqual((self.left().last, self.left().repositories["lib"].waiting), (list(self.gate.taken)[-1], 0))
 
     def test_gives_each_approval_an_id_of_its_own(self) -> None:
         self.push(7, 1)

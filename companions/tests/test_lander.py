@@ -9,6 +9,7 @@ from pathlib import Path
 from typing import Any
 from unittest import mock
 
+from companions.answers import Answers
 from companions.gate import Answer, NoAnswer, Order, QueueStatus, Status
 from companions.ids import id_of
 from companions.lander import Again, Lander, QueueLander, QueueStops
@@ -70,7 +71,8 @@ class LanderTest(unittest.TestCase):
             self.git(name, "init", "--quiet", "--bare", "--initial-branch=main", str(self.folder / name))
             self.commit(name, "main", {"file": "one"}, [])
         projects = {it: Project(it, "core", str(self.folder / it), "main", {}) for it in ("lib", "app")}
-        self.settings = Settings("http://localhost", {}, self.folder / "companions", projects, 1, 1, 1, 1, "gate <g@l>")
+        self.settings = Settings("http://localhost", {}, self.folder / "companions", projects, 1, 1, 1, 1, "gate <g@l>",
+                                 has_adapter=False)
         self.gate = GateOfAScene()
         self.lander = self.start()
 
@@ -78,7 +80,8 @@ class LanderTest(unittest.TestCase):
         """A lander, started anew."""
         notes = Notes(self.settings.folder / "lander" / "notes.db")
         self.addCleanup(notes.tables.close)
-        lander = QueueLander("core", self.settings, self.gate, notes)  # type: ignore[arg-type]
+        answers = Answers(self.settings.folder)
+        lander = QueueLander("core", self.settings, self.gate, notes, answers)  # type: ignore[arg-type]
         lander.begin()
         return lander
 

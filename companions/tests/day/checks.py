@@ -10,7 +10,7 @@ from typing import Any
 
 from companions.gate import NoAnswer
 from companions.tests.day.developers import Developers
-from companions.tests.day.layout import TOOL
+from companions.tests.day.layout import BEGINNING, TOOL
 from companions.tests.day.parts import Differs
 from companions.tests.day.stage import Stage
 
@@ -181,7 +181,8 @@ class Checks:
         """Nothing was acted on twice: each id is there once, and so is each landing, and all that was said."""
         told = self.deliveries()
         yield from self.twice(told)
-        accepted = Counter((it["kind"], it["change"], it["revision"]) for it in told if "change" in it)
+        accepted = Counter((it["kind"], it["change"], it["revision"]) for it in told
+                           if it.get("change", BEGINNING) != BEGINNING)
         said = Counter(self.developers.said)
         landed = {it.change: it.revision for it in self.all()}
         for it in sorted(accepted | said):

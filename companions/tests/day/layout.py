@@ -11,6 +11,8 @@ TOP = Path(__file__).resolve().parents[3]
 ADAPTER = TOP / "examples" / "forge" / "adapter.py"
 SERVICE = TOP / "companions" / "service"
 PASSWORD = "day-and-night"
+# The change with which the adapter of bare repositories begins a gate's file.
+BEGINNING = 999999999
 
 
 @dataclass(frozen=True)
