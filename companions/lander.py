@@ -18,9 +18,10 @@ from companions.gate import Gate, NoAnswer, Order, say
 from companions.ids import id_of
 from companions.landings import Branches, Landing
 from companions.outbox import Notes
-from companions.repository import LANDING, REVISION, GitFault, Repository
+from companions.repository import LANDING, REVISION, Declined, GitFault, Repository
 from companions.settings import Settings
 from companions.starting import start
+from companions.tries import Tries
 
 
 # How long a queue rests whose trouble was told, as a multiple of `gate.pause`.
@@ -44,7 +45,7 @@ class QueueLander:
         self.repositories = {it.name: Repository(it.repository, settings.folder / "lander" / it.name, settings.author)
                              for it in projects}
         self.branches = Branches(queue, self.repositories, projects)
-        self.compared = Comparison(queue, settings, gate, notes)
+        self.compared, self.tries = Comparison(queue, settings, gate, notes), Tries(queue, settings.tries, notes)
         # The gate's first accepted delivery, and how many landings of the queue the gate has; none before a look.
         self.first: str | None = None
         self.told = 0
@@ -140,8 +141,14 @@ class QueueLander:
             return
         self.confirm(order)
         note = LANDING.format(queue=self.queue, place=place)
-        if not repository.push({branch: (head, merged), note: (None, merged)}):
+        try:
+            is_pushed = repository.push({branch: (head, merged), note: (None, merged)})
+        except Declined as fault:
+            self.refuse(order, self.tries.declined(order, fault))
+            return
+        if not is_pushed:
             raise GitFault(f"{project.branch} of {project.name} has moved while it was to be pushed to")
+        self.tries.landed()
         self.branches.moved(order.project, merged)
         self.tell(order, place)
 

@@ -2,6 +2,7 @@
 from __future__ import annotations
 
 import os
+import re
 import shutil
 import subprocess
 from pathlib import Path
@@ -15,9 +16,30 @@ REVISION = "refs/changes/{change}/{revision}"
 # How long a command of git may take, in seconds: one that hangs holds up its queue.
 PATIENCE = 900
 
+# So much is kept of what a server says.
+WORDS = 2000
+
 
 class GitFault(Exception):
     """Git failed for a cause that isn't in what is merged: a network, a disk, a missing name."""
+
+
+class Declined(GitFault):
+    """The server refuses what is pushed, by a hook or a rule. `words` are its own, and the same for the same cause."""
+
+    def __init__(self, said: str, words: str) -> None:
+        super().__init__(said)
+        self.words = words
+
+
+def words_of(listed: str, said: str) -> str | None:
+    """The words with which a server declines a push, given what git lists and says of it; none where it doesn't."""
+    causes = re.findall(r"^!\t.*\[remote rejected\] \((.*)\)$", listed, re.MULTILINE)
+    if not causes:
+        return None
+    remote = (line.removeprefix("remote:").strip() for line in said.splitlines() if line.startswith("remote:"))
+    words = [*(it for it in remote if it), *dict.fromkeys(it for it in causes if it != "atomic push failure")]
+    return "; ".join(words)[:WORDS]
 
 
 class Repository:
@@ -160,4 +182,6 @@ class Repository:
         said = ran.stdout.strip()
         for name, (_, new) in updates.items():
             said = said.replace(f"{new}:{name}", name)
-        raise GitFault(f"git push {self.address}: {said} {ran.stderr.strip()}")
+        said = f"git push {self.address}: {said} {ran.stderr.strip()}"
+        words = words_of(ran.stdout, ran.stderr)
+        raise GitFault(said) if words is None else Declined(said, words)
