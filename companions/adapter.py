@@ -13,6 +13,7 @@ import threading
 import time
 from collections.abc import Callable
 
+from companions import answers
 from companions.compared import Moment
 from companions.comparisons import Comparisons
 from companions.forges import Forge, ForgeFault, Place
@@ -52,7 +53,8 @@ class Adapter:
         self.looks = Looks(settings, settings.adapter, forge, self.gate, self.subjects)
         self.comparisons = Comparisons(self.changes, (it.forge for it in settings.projects.values()), settings.folder)
         manner = Manner(forge.mark, settings.adapter.logs, settings.adapter.quiet)
-        self.people = People(self.gate, Notes(file.with_name("people.db")), forge, self.changes.place, manner)
+        self.people = People(self.gate, Notes(file.with_name("people.db")), forge, self.changes.place, manner,
+                             lambda: answers.read(answers.file_in(settings.folder)))
         self.look, self.look_at = settings.adapter.look, 0.0
         for it in self.looks.repositories.values():
             it.unlock()

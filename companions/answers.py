@@ -7,6 +7,7 @@ from __future__ import annotations
 
 import json
 import os
+import re
 import threading
 from dataclasses import asdict, dataclass, field
 from pathlib import Path
@@ -16,6 +17,8 @@ from companions.compared import Moment
 
 # So many of each list are kept, the newest ones: people who are told later than that look at the lander's log.
 MOST = 200
+# So much of a text is told.
+LONGEST = 4000
 
 
 @dataclass(frozen=True)
@@ -74,6 +77,11 @@ def said_of(table: dict[str, Any]) -> Said:
     return Said(stopped, wrong, refused, since)
 
 
+def public(text: str) -> str:
+    """A text as anybody may read it: git's words have addresses, which may have a password in them."""
+    return re.sub(r"(?<=://)[^/@\s]*@", "", text)[:LONGEST]
+
+
 class Answers:
     """The lander's side. Each of its queues may answer at any time, from a thread of its own.
 
@@ -89,6 +97,7 @@ class Answers:
 
     def stop(self, queue: str, why: str | None, since: Moment | None = None) -> None:
         """A queue is stopped for a cause, or goes on. It may wait for a comparison since a moment."""
+        why = None if why is None else public(why)
         with self.lock:
             if self.queues.get(queue) != (why, since):
                 self.queues[queue] = why, since
@@ -114,7 +123,7 @@ class Answers:
         """The order of a revision is about to be answered `refused`."""
         with self.lock:
             others = [it for it in self.refused if (it.change, it.revision) != (change, revision)]
-            self.refused = [*others, Refusal(change, revision, why)][-MOST:]
+            self.refused = [*others, Refusal(change, revision, public(why))][-MOST:]
             self.write()
 
     def write(self) -> None:

@@ -17,12 +17,16 @@ OF_QUEUES = (
     ("oldest_seconds", "For how long the first item of the queue has been its first, 0 where there is none."),
     ("landed", "Landings of the queue."),
     ("window", "Items from the front that may get builds, 0 for all of them."),
+    ("lander_stopped", "Whether the lander doesn't land what the queue has for it."),
 )
 
 
 @dataclass(frozen=True)
 class QueueFigures:
-    """What is told of one queue. A queue's name has no character that a label would have to escape."""
+    """What is told of one queue. A queue's name has no character that a label would have to escape.
+
+    `lander_stopped` is none where no lander says so in this folder.
+    """
     queue: str
     items: int
     waiting: int
@@ -30,13 +34,14 @@ class QueueFigures:
     oldest_seconds: int
     landed: int
     window: int
+    lander_stopped: int | None = None
 
 
 def text_of(queues: list[QueueFigures] | None, lost: int) -> str:
     """The text of all figures. Where the gate doesn't answer there are no queues, and no number of them is told."""
     blocks = [block("up", "gauge", "Whether the gate answers.", [f" {0 if queues is None else 1}"])]
     for name, says in OF_QUEUES:
-        rows = [f'{{queue="{it.queue}"}} {getattr(it, name)}' for it in queues or ()]
+        rows = [f'{{queue="{it.queue}"}} {getattr(it, name)}' for it in queues or () if getattr(it, name) is not None]
         blocks.append(block(name, "gauge", says, rows))
     blocks.append(block("builds_lost_total", "counter", "Builds that the watch has reported as lost.", [f" {lost}"]))
     return "".join(blocks)

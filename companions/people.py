@@ -6,14 +6,15 @@ once, and how far it is now and then, since forges bound how much may be written
 from __future__ import annotations
 
 from collections.abc import Callable, Sequence
-from dataclasses import dataclass
+from dataclasses import dataclass, replace
 from typing import Protocol
 
+from companions.answers import Said
 from companions.forges import FAILURE, PENDING, SUCCESS, ForgeFault, Place
 from companions.gate import Gate, NoAnswer, say
 from companions.outbox import Notes
 from companions.people_gate import Later, Observer
-from companions.people_seen import Subject, Text, Words, cut
+from companions.people_seen import Seen, Subject, Text, Words, cut
 from companions.people_texts import comment_of, text_of
 from companions.requests import State
 
@@ -60,13 +61,13 @@ class Write:
 class People:
     """Tells people. Its notes have what was written, and of the gate how each change left its queue last.
 
-    `places` has the request of a change, of all that the adapter knows.
+    `places` has the request of a change, of all that the adapter knows, and `lander` what the lander has answered.
     """
 
     def __init__(self, gate: Gate, notes: Notes, forge: Writer, places: Callable[[int], Place | None],
-                 manner: Manner = Manner()) -> None:
+                 manner: Manner = Manner(), lander: Callable[[], Said] = Said) -> None:
         self.observer = Observer(gate, notes)
-        self.notes, self.forge, self.places, self.manner = notes, forge, places, manner
+        self.notes, self.forge, self.places, self.manner, self.lander = notes, forge, places, manner, lander
         self.rests: dict[str, float] = {}
         self.times: list[float] = []
         self.troubles: set[str] = set()
@@ -101,13 +102,13 @@ class People:
     def texts(self, subjects: Sequence[Subject]) -> tuple[list[tuple[Subject, Text]], set[Subject]]:
         """The text of each request that has one, and the requests about which only the next look can tell."""
         self.observer.ask_anew({it.change: it for it in subjects})
-        view = self.observer.view(self.manner.questions)
+        view, said = self.observer.view(self.manner.questions), self.lander()
         told: list[tuple[Subject, Text]] = []
         unclear: set[Subject] = set()
         for subject in subjects:
             words = Words(self.places, self.manner.mark, self.manner.logs, subject.place.repository)
             try:
-                text = text_of(subject, self.observer.seen(subject, view), words)
+                text = text_of(subject, with_lander(subject, self.observer.seen(subject, view), said), words)
             except Later:
                 unclear.add(subject)
                 continue
@@ -223,3 +224,9 @@ class People:
         if name not in self.troubles:
             say(PART, what)
         self.troubles.add(name)
+
+
+def with_lander(subject: Subject, seen: Seen, said: Said) -> Seen:
+    """What is seen of a change, with what the lander has answered about it and its queue."""
+    stopped = said.stopped.get(seen.item.queue) if seen.item is not None else None
+    return replace(seen, stopped=stopped, refused=said.why_refused(subject.change, subject.revision))

@@ -66,7 +66,8 @@ class Seen:
 
     `known` is its answer about the change, if it was asked, `builds` those of its item, and `voting` the jobs of it
     that vote, where they are known. By `circle`, a part of its needs, it needs itself; those of `failing` neither have
-    landed nor do they stand and are `ok`.
+    landed nor do they stand and are `ok`. The lander says why it has `stopped` its queue, if it has, and why it has
+    `refused` its last order, if that was of this revision.
     """
     item: Item | None = None
     known: Mapping[str, Any] | None = None
@@ -75,6 +76,8 @@ class Seen:
     voting: frozenset[str] | None = None
     circle: frozenset[int] = frozenset()
     failing: frozenset[int] = frozenset()
+    stopped: str | None = None
+    refused: str | None = None
 
 
 @dataclass(frozen=True)

@@ -9,7 +9,7 @@ from typing import Any
 
 from companions.forges import FAILURE, PENDING, SUCCESS
 from companions.people_seen import (
-    Item, Report, Seen, Subject, Text, Words, failures_of, listed, marked_jobs, plain, short_jobs)
+    Item, Report, Seen, Subject, Text, Words, cut, failures_of, listed, marked_jobs, plain, short_jobs)
 from companions.requests import State
 
 # The kinds of texts behind which nothing more comes, unless the request is opened again.
@@ -174,6 +174,11 @@ def queued(item: Item, seen: Seen, words: Words) -> Text:
         return blocked(item, seen, words)
     if item.how == "failing":
         return failing(item, seen, words)
+    if item.lands and seen.stopped is not None:
+        return Text("stopped", PENDING, f"Tests passed, but nothing lands in {item.queue} for now",
+                    (f"**Its tests have passed, but nothing lands in {where} for now.** The lander says:",
+                     block(seen.stopped.splitlines()),
+                     "It lands by itself once that is over. If that takes long, tell who runs the gate."))
     if item.lands:
         return Text("landing", PENDING, f"Tests passed, being landed in {item.queue}",
                     (f"**Its tests have passed, and it is being landed in {where}.**",
@@ -222,10 +227,7 @@ def left(subject: Subject, report: Report, seen: Seen, words: Words) -> Text | N
     if report.verdict == "failed":
         return failed(report, seen, words)
     if report.verdict == "refused":
-        return Text("refused", FAILURE, "Couldn't be landed. Mend conflicts and push, or have it approved again",
-                    (f"{head}: its tests passed, but it couldn't be landed.**",
-                     "If it conflicts with its branch, mend that, push, and have the new commit approved. If it"
-                     " doesn't, have it approved again as it is."))
+        return not_landed(head, seen.refused)
     if report.verdict == "needs":
         needs = seen.known["needs"] if seen.known is not None else ()
         names = [words.request(it["change"]) for it in needs if it["state"] != "landed"]
@@ -237,6 +239,19 @@ def left(subject: Subject, report: Report, seen: Seen, words: Words) -> Text | N
         return closed(subject)
     return Text("withdrawn", PENDING, "Waits for approval: the earlier one was taken back",
                 (f"{head}: its approval was taken back.**", "To land it, have it approved again."))
+
+
+def not_landed(head: str, why: str | None) -> Text:
+    """Of a change whose order the lander has refused, which says why where it is one of the companions."""
+    said = f"{head}: its tests passed, but it couldn't be landed.**"
+    if why is None:
+        return Text("refused", FAILURE, "Couldn't be landed. Mend conflicts and push, or have it approved again",
+                    (said, "If it conflicts with its branch, mend that, push, and have the new commit approved. If it"
+                           " doesn't, have it approved again as it is."))
+    return Text("refused", FAILURE, cut(f"Couldn't be landed: {plain(why)}", 120),
+                (f"{said} The lander says:", block(why.splitlines()),
+                 "If that is the commit's fault, mend it, push, and have the new commit approved. If it isn't, have it"
+                 " approved again as it is."))
 
 
 def failed(report: Report, seen: Seen, words: Words) -> Text:

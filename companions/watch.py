@@ -12,7 +12,8 @@ from collections.abc import Iterator
 from contextlib import contextmanager
 from typing import Any
 
-from companions import figures
+from companions import answers, figures
+from companions.answers import Said
 from companions.figures import QueueFigures
 from companions.gate import Gate, NoAnswer, QueueStatus, Status, say
 from companions.ids import id_of
@@ -53,7 +54,8 @@ class Watch:
             waiting = self.waiting_by_queue(status)
             self.note(status, running, now)
             late = [it for it in running if self.is_late(it, now)]
-            told = [self.figures_of(it, waiting, running, now) for it in status.queues]
+            said = answers.read(answers.file_in(self.settings.folder))
+            told = [self.figures_of(it, waiting, running, now, said) for it in status.queues]
         if told is None:
             self.first_is_asked = False
             self.queue_of.clear()
@@ -163,13 +165,15 @@ class Watch:
         say(PART, f"build {number}, {build['job']} of change {change} at revision {revision}, ran beyond its limit:"
                   f" reported as lost: {answer.reply or answer.code}")
 
-    def figures_of(self, queue: QueueStatus, waiting: Counter[str], running: list[Build], now: float) -> QueueFigures:
+    def figures_of(self, queue: QueueStatus, waiting: Counter[str], running: list[Build], now: float, said: Said
+                   ) -> QueueFigures:
+        stopped = said.stopped[queue.name] is not None if queue.name in said.stopped else None
         first = self.noted["firsts"].get(queue.name)
         stood = 0 if first is None else max(0, int(now - first["since"]))
         return QueueFigures(
             queue=queue.name, items=len(queue.items), waiting=waiting[queue.name],
             running=sum(it["queue"] == queue.name for it in running), oldest_seconds=stood, landed=queue.landed,
-            window=queue.window)
+            window=queue.window, lander_stopped=None if stopped is None else int(stopped))
 
 
 def none_seen(first: str | None) -> dict[str, Any]:

@@ -92,6 +92,11 @@ CASES: dict[str, tuple[Subject, Seen]] = {
     "tested, and isn't the first": (
         subject(), Seen(item(AHEAD, "5 101 1 4 ok unit=success docs=failure"), voting=UNIT)),
     "being landed": (subject(), Seen(item(FAILS, "5 101 1 - ok unit=success docs=failure"))),
+    "being landed, and the queue is stopped": (
+        subject(), Seen(item(FAILS, "5 101 1 - ok unit=success docs=failure"),
+                        stopped="main of lib is at a1, and the last landing left b2\n\x1btake back what was pushed")),
+    "tested, and the queue is stopped": (
+        subject(), Seen(item(AHEAD, "5 101 1 4 ok unit=success docs=failure"), stopped="because")),
     "blocked by one": (subject(), Seen(item(FAILS, "5 101 1 - blocked unit=waiting"), failing=frozenset({102}))),
     "blocked by two": (subject(), Seen(item(FAILS, "5 101 1 - blocked unit=waiting"), failing=frozenset({100, 102}))),
     "blocked by who knows": (subject(), Seen(item(FAILS, "5 101 1 - blocked unit=waiting"))),
@@ -107,6 +112,10 @@ CASES: dict[str, tuple[Subject, Seen]] = {
     "failed by three jobs": (subject(), Seen(builds=FAILED + DOCS + LOST, report=report("failed"))),
     "failed by who knows what": (subject(), Seen(report=report("failed"))),
     "refused by the lander": (subject(), Seen(report=report("refused"))),
+    "refused by the lander, which says why": (
+        subject(), Seen(report=report("refused"), refused="the forge declines it: no landing on Sundays")),
+    "refused by the lander, which says much": (
+        subject(), Seen(report=report("refused"), refused="the forge declines it:\n" + 20 * "no landing on Sundays\n")),
     "left with a need": (subject(), Seen(
         known=known((102, "open", None, None), (100, "landed", None, None)), report=report("needs"))),
     "left with a need that landed since": (

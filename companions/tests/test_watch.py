@@ -13,6 +13,7 @@ import uuid
 from pathlib import Path
 from typing import Any
 
+from companions.answers import Answers
 from companions.figures import QueueFigures, text_of
 from companions.settings import Account, Job, Project, Settings
 from companions.watch import Watch
@@ -46,6 +47,9 @@ gated_landed{queue="web.2"} 7
 # TYPE gated_window gauge
 gated_window{queue="core"} 20
 gated_window{queue="web.2"} 3
+# HELP gated_lander_stopped Whether the lander doesn't land what the queue has for it.
+# TYPE gated_lander_stopped gauge
+gated_lander_stopped{queue="core"} 1
 # HELP gated_builds_lost_total Builds that the watch has reported as lost.
 # TYPE gated_builds_lost_total counter
 gated_builds_lost_total 5
@@ -163,7 +167,8 @@ class WatchTest(unittest.TestCase):
         self.watch.notes.tables.close()
 
     def test_figures_are_a_text_of_prometheus(self) -> None:
-        core = QueueFigures("core", items=3, waiting=1, running=4, oldest_seconds=75, landed=12, window=20)
+        core = QueueFigures("core", items=3, waiting=1, running=4, oldest_seconds=75, landed=12, window=20,
+                            lander_stopped=1)
         web = QueueFigures("web.2", items=0, waiting=2, running=0, oldest_seconds=0, landed=7, window=3)
         self.assertEqual(text_of([core, web], 5), FIGURES)
         self.assertEqual(text_of(None, 5), SILENT)
@@ -181,6 +186,16 @@ class WatchTest(unittest.TestCase):
                   'window{queue="core"}': "4", 'window{queue="web"}': "3", "builds_lost_total": "0", "up": "1"}
         self.assertEqual({it: self.figure(f"gated_{it}") for it in wanted}, wanted)
         self.assertEqual([it.name for it in self.file.parent.glob("gated*")], ["gated.prom"])
+
+    def test_a_lander_that_has_stopped_a_queue_is_shown(self) -> None:
+        figure = 'gated_lander_stopped{queue="core"}'
+        self.look(1000.0)
+        self.assertIsNone(self.figure(figure))
+        lander = Answers(self.settings.folder)
+        for why, shown in (("somebody pushed past the gate", "1"), (None, "0")):
+            lander.stop("core", why)
+            self.look(1000.0)
+            self.assertEqual(self.figure(figure), shown)
 
     def test_a_gate_that_does_not_answer_has_no_figures(self) -> None:
         self.gate.items = [" 7 101 1 - ok unit=running"]
