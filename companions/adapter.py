@@ -14,6 +14,7 @@ import time
 from collections.abc import Callable
 
 from companions import answers
+from companions.answers import Wrong
 from companions.compared import Moment
 from companions.comparisons import Comparisons
 from companions.forges import Forge, ForgeFault, Place
@@ -25,6 +26,7 @@ from companions.hooks import Hints, Hooks, serve
 from companions.looks import Again, Looks, names_of
 from companions.outbox import Kept, Notes, Outbox
 from companions.people import Manner, People
+from companions.repository import Declined, GitFault
 from companions.settings import Settings
 from companions.starting import start
 from companions.subjects import Subjects
@@ -59,6 +61,7 @@ class Adapter:
         for it in self.looks.repositories.values():
             it.unlock()
         self.compare_at = 0.0
+        self.righted: dict[Wrong, float] = {}
         self.rests: dict[str, float] = {}
         self.troubles: dict[str, str] = {}
 
@@ -70,6 +73,7 @@ class Adapter:
             self.comparisons.leave()
             if now >= self.compare_at:
                 self.compare_at = now + (self.compare if self.hint_at_all() else REST * self.settings.pause)
+            self.answer_lander(now)
             self.follow(now)
             self.send()
             self.trouble("gate", None)
@@ -93,6 +97,18 @@ class Adapter:
             self.hints.put(Place(repository, number))
         self.comparisons.begin(repository, began, numbers)
 
+    def answer_lander(self, now: float) -> None:
+        """Does what the lander waits for: sets refs right, and compares where it has seen that the gate was restored."""
+        said = answers.read(answers.file_in(self.settings.folder))
+        due = [it for it in said.wrong if self.righted.get(it, 0.0) <= now]
+        faults = {it: self.attempt(f"{it.project} {it.name}", lambda it=it: self.looks.set_right(it)) for it in due}
+        self.righted = {it: now + self.look if it in faults else self.righted[it] for it in said.wrong}
+        self.comparisons.answer(said.wrong, {it for it, fault in faults.items() if not is_of_network(fault)})
+        for queue, since in said.since.items():
+            for name in dict.fromkeys(it.forge for it in self.settings.projects_of(queue)):
+                if self.comparisons.is_late(name, since):
+                    self.attempt(name, lambda it=name: self.hint_at(it))
+
     def send(self) -> None:
         """Sends what may be sent by now. What is kept is left word of before, and what was answered behind."""
         try:
@@ -100,12 +116,16 @@ class Adapter:
                 self.file.ask()
                 self.comparisons.leave()
                 self.outbox.send(self.gate, self.answered, self.settings.pause, self.comparisons.leave)
+                if not self.file.is_known:
+                    self.file.ask()
         finally:
             self.comparisons.leave()
 
     def follow(self, now: float) -> None:
         """Looks at the requests that were hinted at. Where these are many, that takes long: so what a look has kept is
         sent before the next one, and a hook that comes meanwhile is followed next, unless its request had its look."""
+        if self.changes.first() is None:
+            self.send()
         faults, waiting, done = 0, self.hints.all(), set[Place]()
         last = waiting[-1][0] if waiting else 0
         while waiting and faults < FAULTS:
@@ -160,9 +180,13 @@ class Adapter:
     def answered(self, delivery: Kept, answer: Answer) -> None:
         """Notes an answer, and says it."""
         self.changes.answered(delivery.id, answer.reply, answer.code)
-        self.people.ask_again(delivery.said["change"])
-        self.file.accepted(delivery, answer)
         said = delivery.said
+        self.people.ask_again(said["change"])
+        place = self.changes.place(said["change"])
+        if self.changes.first() is None and place is not None:
+            # It may be the first delivery of the gate's file, which is told alone and then once more.
+            self.hints.put(place)
+        self.file.accepted(delivery, answer)
         heard = answer.reply or f"refused: {answer.code} {answer.said.get('error')}"
         say("adapter", f"change {said['change']}, revision {said['revision']}: {said['kind']}: {heard}")
 
@@ -186,6 +210,11 @@ class Adapter:
             came.clear()
             self.once(time.monotonic())
             came.wait(self.settings.pause)
+
+
+def is_of_network(fault: Exception | None) -> bool:
+    """Whether nothing is known but that git has failed, as where a server is away."""
+    return isinstance(fault, GitFault) and not isinstance(fault, Declined)
 
 
 def run(settings: Settings) -> int:

@@ -28,6 +28,11 @@ class Wrong:
     revision: int
     project: str
 
+    @property
+    def name(self) -> str:
+        """By what an adapter answers it."""
+        return f"{self.change}/{self.revision}"
+
 
 @dataclass(frozen=True)
 class Refusal:

@@ -10,7 +10,7 @@ import json
 import os
 import time
 from collections.abc import Mapping
-from dataclasses import asdict, dataclass
+from dataclasses import asdict, dataclass, field
 from pathlib import Path
 from typing import Any
 
@@ -50,11 +50,13 @@ class Repository:
 @dataclass(frozen=True)
 class Compared:
     """All that an adapter leaves: the ids of the gate's first delivery and of the last one that the gate has accepted
-    from here; the repositories by their names at the forge; the changes whose orders are to be refused, and why."""
+    from here; the repositories by their names at the forge; the changes whose orders are to be refused, and why; and how
+    often it has set right each revision whose ref the lander finds to be wrong, by CHANGE/REVISION."""
     first: str | None
     last: str | None
     repositories: Mapping[str, Repository]
     refuse: Mapping[int, str]
+    answered: Mapping[str, int] = field(default_factory=dict)
 
 
 def file_in(folder: Path) -> Path:
@@ -64,7 +66,8 @@ def file_in(folder: Path) -> Path:
 
 def write(file: Path, it: Compared) -> None:
     """Writes beside and renames: so nobody ever reads a half of it."""
-    table = {"first": it.first, "last": it.last, "refuse": {str(change): why for change, why in it.refuse.items()},
+    table = {"first": it.first, "last": it.last, "answered": dict(it.answered),
+             "refuse": {str(change): why for change, why in it.refuse.items()},
              "repositories": {name: {"waiting": one.waiting, "began": one.began and asdict(one.began)}
                               for name, one in it.repositories.items()}}
     file.parent.mkdir(parents=True, exist_ok=True)
@@ -87,7 +90,9 @@ def compared_of(table: dict[str, Any]) -> Compared:
                               Moment(str(it["began"]["boot"]), float(it["began"]["uptime"])))
         for name, it in table["repositories"].items()}
     first, last = (it if it is None else str(it) for it in (table["first"], table["last"]))
-    return Compared(first, last, repositories, {int(change): str(why) for change, why in table["refuse"].items()})
+    answered = {str(name): int(times) for name, times in table.get("answered", {}).items()}
+    return Compared(first, last, repositories, {int(change): str(why) for change, why in table["refuse"].items()},
+                    answered)
 
 
 @dataclass(frozen=True)

@@ -1,11 +1,12 @@
 """How far the adapter has compared each repository, and what it leaves for the lander by that."""
 from __future__ import annotations
 
-from collections.abc import Iterable
+from collections.abc import Container, Iterable
 from dataclasses import asdict
 from pathlib import Path
 
 from companions import compared
+from companions.answers import Wrong
 from companions.compared import Compared, Moment, Repository
 from companions.forges import Place
 from companions.told import Changes
@@ -31,6 +32,7 @@ class Comparisons:
         self.at_work: dict[str, tuple[Moment, set[int]]] = {}
         self.overdue: set[Place] = set()
         self.unseen: set[Place] = set()
+        self.answered: dict[str, int] = {}
 
     def begin(self, repository: str, began: Moment, numbers: Iterable[int]) -> None:
         """A comparison is begun: its moment is before that of the list."""
@@ -60,6 +62,16 @@ class Comparisons:
             del self.at_work[repository]
             self.outbox.put("compared", {**(self.outbox.get("compared") or {}), repository: asdict(began)})
 
+    def is_late(self, repository: str, since: Moment) -> bool:
+        """Whether a comparison is wanted that began after this moment, and none is at work."""
+        noted = (self.outbox.get("compared") or {}).get(repository)
+        began = [self.at_work[repository][0]] if repository in self.at_work else [Moment(**noted)] if noted else []
+        return not any(it.boot == since.boot and it.uptime > since.uptime for it in began)
+
+    def answer(self, listed: Iterable[Wrong], done: Container[Wrong]) -> None:
+        """The adapter has looked once more at some of the refs that the lander finds to be wrong."""
+        self.answered = {it.name: self.answered.get(it.name, 0) + (it in done) for it in listed}
+
     def forget(self) -> None:
         """The gate was restored, or has another file: what was compared before says nothing any more."""
         self.at_work.clear()
@@ -74,7 +86,7 @@ class Comparisons:
                         for it in self.repositories}
         unseen = {change: UNSEEN for place in self.unseen for change in self.changes.of_request(place).values()}
         refuse = unseen | {change: why for change, why in submitting.items() if why is not None}
-        now = Compared(noted["first"] if noted else None, self.outbox.get("last"), repositories, refuse)
+        now = Compared(noted["first"] if noted else None, self.outbox.get("last"), repositories, refuse, self.answered)
         if now != self.left:
             compared.write(self.file, now)
             self.left = now

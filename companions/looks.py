@@ -6,6 +6,7 @@ import time
 from collections.abc import Callable
 from dataclasses import dataclass, replace
 
+from companions.answers import Wrong
 from companions.forges import Forge, Place
 from companions.gate import Gate, say
 from companions.landings import Landing
@@ -85,6 +86,9 @@ class Looks:
         may_approve = self.may_approve(so)
         decided = self.decide(so, self.changes.told(change), project,
                               lambda known: tellings(so, known, needs.changes, may_approve))
+        if self.changes.first() is None:
+            # Ids are made of the first delivery's, so that one is told alone.
+            decided = replace(decided, steps=[it for it in decided.steps if it.kind == "revision"])
         told, seen = decided.told, first_seen(so, decided.told, needs.changes)
         self.be_sure(so, seen)
         for it in decided.steps:
@@ -223,15 +227,31 @@ class Looks:
         """
         if not HASH.fullmatch(so.head):
             raise Trouble(f"the forge's head of it is no commit: {so.head[:80]!r}")
-        repository, name = self.repositories[project.name], REVISION.format(change=change, revision=revision)
-        if repository.commit(so.head) is None:
-            head = self.forge.head_ref(so.number)
+        self.name(project, so.number, so.head, REVISION.format(change=change, revision=revision))
+
+    def name(self, project: Project, request: int, commit: str, name: str) -> str | None:
+        """Has a request's commit named in its repository, and gives what was named so before."""
+        repository = self.repositories[project.name]
+        if repository.commit(commit) is None:
+            head = self.forge.head_ref(request)
             repository.git("fetch", "--quiet", "--no-tags", repository.address, f"+{head}:{head}")
-            if repository.commit(so.head) is None:
-                raise Trouble(f"{head} of {repository.address} doesn't have {so.head} yet")
+            if repository.commit(commit) is None:
+                raise Trouble(f"{head} of {repository.address} doesn't have {commit} yet")
         there = repository.ask(name).get(name)
-        if there != so.head and not repository.push({name: (there, so.head)}):
+        if there != commit and not repository.push({name: (there, commit)}):
             raise Again
+        return there
+
+    def set_right(self, wrong: Wrong) -> None:
+        """A revision's ref is the commit that the gate was told, whoever has moved it since."""
+        place, told = self.changes.place(wrong.change), self.changes.revision(wrong.change, wrong.revision)
+        project = next((it for it in self.projects.values() if it.name == wrong.project), None)
+        if place is None or told is None or project is None or project.forge != place.repository:
+            raise Trouble(f"revision {wrong.revision} of change {wrong.change} of {wrong.project} wasn't told from here")
+        name = REVISION.format(change=wrong.change, revision=wrong.revision)
+        there = self.name(project, place.number, told, name)
+        if there != told:
+            say("adapter", f"{name} of {wrong.project} was {there or 'gone'}: set right to {told}, which was told")
 
     def needs(self, so: Request) -> Needs:
         return needs_of(so, self.adapter.web, self.asked, self.change_of)

@@ -62,7 +62,8 @@ class Told:
     `closed`: the change was closed behind the last of its revisions. `landed`: the gate or the branch has its landing.
     `ordered`: the gate shows its order, so the lander may be at it. `approvals` are the votes that were told, each with
     its revision, and `withdrawals` those of them that were taken back. `seen` are all votes that were seen, each with
-    the revision at which that was first.
+    the revision at which that was first. `again`: the last revision was told under an id that isn't made of its commit,
+    by which nobody can check that commit, so it is told once more as the next one.
     """
     change: int
     revisions: tuple[Revision, ...] = ()
@@ -72,6 +73,7 @@ class Told:
     approvals: dict[str, int] = field(default_factory=dict)
     withdrawals: frozenset[str] = frozenset()
     seen: dict[str, int] = field(default_factory=dict)
+    again: bool = False
 
 
 @dataclass(frozen=True)
@@ -111,7 +113,7 @@ def closing(told: Told, why: str) -> list[Telling]:
 def revision_of(so: Request, told: Told, needs: tuple[int, ...]) -> int:
     """The revision that an open request is at: the last that was told, or the next one."""
     last = len(told.revisions)
-    is_new = not last or told.closed or told.revisions[-1] != Revision(so.head, needs)
+    is_new = not last or told.closed or told.again or told.revisions[-1] != Revision(so.head, needs)
     return last + 1 if is_new else last
 
 

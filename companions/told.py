@@ -8,12 +8,12 @@ from __future__ import annotations
 import bisect
 import json
 from collections import Counter
-from collections.abc import Callable, Container, Iterable
+from collections.abc import Callable, Container, Iterable, Sequence
 from contextlib import AbstractContextManager
 
 from companions.forges import Place
 from companions.gate import Delivery
-from companions.ids import id_of
+from companions.ids import id_of, revision_id
 from companions.outbox import Kept, Outbox
 from companions.requests import NO_REVISION, Request, Revision, Telling, Told
 from companions.tables import add, at_once
@@ -40,6 +40,11 @@ CREATE TABLE IF NOT EXISTS remark(change INTEGER, kind TEXT, place INTEGER, text
 
 # Refusals that say that the gate doesn't have what the delivery is about: told again once it does, they may be taken.
 LACKING = ("E5", "E6", "E7")
+
+
+def is_of(said: Delivery, revision: int) -> bool:
+    """Whether a delivery tells this revision."""
+    return said["kind"] == "revision" and said["revision"] == revision
 
 
 class Changes:
@@ -73,7 +78,8 @@ class Changes:
         """What was told of a change."""
         repository, request, closed, landed = self.tables.execute(
             "SELECT repository, request, closed, landed FROM change WHERE number = ?", (change,)).fetchone()
-        revisions = self.tables.execute("SELECT hash, needs FROM revision WHERE change = ? ORDER BY number", (change,))
+        rows = self.tables.execute("SELECT hash, needs FROM revision WHERE change = ? ORDER BY number", (change,))
+        revisions = tuple(Revision(commit, tuple(json.loads(needs))) for commit, needs in rows)
         approvals, seen, withdrawals = {}, {}, set()
         for row in self.tables.execute("SELECT object, change, revision, told_change, told_revision, taken_back"
                                        " FROM vote WHERE repository = ? AND request = ?", (repository, request)):
@@ -84,8 +90,28 @@ class Changes:
                 approvals[name] = told_revision if told_at == change else NO_REVISION
             if taken_back:
                 withdrawals.add(name)
-        return Told(change, tuple(Revision(commit, tuple(json.loads(needs))) for commit, needs in revisions),
-                    bool(closed), bool(landed), False, approvals, frozenset(withdrawals), seen)
+        return Told(change, revisions, bool(closed), bool(landed), False, approvals, frozenset(withdrawals), seen,
+                    self.is_unsure(change, revisions))
+
+    def revision(self, change: int, revision: int) -> str | None:
+        """The commit of a revision that was told."""
+        row = self.tables.execute("SELECT hash FROM revision WHERE change = ? AND number = ?",
+                                  (change, revision)).fetchone()
+        return None if row is None else str(row[0])
+
+    def is_unsure(self, change: int, revisions: Sequence[Revision]) -> bool:
+        """Whether the last revision was told under an id that isn't made of its commit. So was the first delivery of the
+        gate's file, by whose id the others are made."""
+        first, last = self.first(), len(revisions)
+        rows = self.tables.execute("SELECT id, said FROM telling WHERE change = ? ORDER BY place DESC", (change,))
+        told = next((id for id, said in rows if is_of(json.loads(said), last)), None)
+        return first is not None and told is not None and told != revision_id(
+            first, change, last, revisions[-1].commit, revisions[-1].needs)
+
+    def first(self) -> str | None:
+        """The id of the first delivery that the gate has accepted, as far as that is known."""
+        file = self.outbox.get("file")
+        return file["first"] if file else None
 
     def see(self, so: Request, change: int | None, seen: dict[str, int]) -> None:
         """Notes votes with the revision of a change at which they are first seen; without a change they are of none."""

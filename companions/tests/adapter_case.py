@@ -8,6 +8,7 @@ import json
 import shutil
 import tempfile
 import unittest
+import uuid
 from collections.abc import Iterator, Mapping
 from dataclasses import replace
 from pathlib import Path
@@ -60,7 +61,8 @@ class Gate:
         self.changes: dict[int, dict[str, Any]] = {}
         self.items: list[str] = []
         self.reports: list[str] = []
-        self.accepted: dict[str, tuple[dict[str, Any], dict[str, Any]]] = {}
+        # Somebody has told its first delivery.
+        self.accepted: dict[str, tuple[dict[str, Any], dict[str, Any]]] = {str(uuid.uuid4()): ({}, {})}
         self.orders: list[dict[str, Any]] = []
         self.is_away = False
         self.projects, self.base = {"lib", "old"}, "https://forge/c/"

@@ -53,14 +53,14 @@ class Case(unittest.TestCase):
 class Form(Case):
     def test_the_form(self) -> None:
         write(self.file, Compared(FIRST, None, {"acme/lib": Repository(2, Moment("a boot", 12.5)),
-                                                "acme/app": Repository(0, None)}, {103: "it was closed"}))
+                                                "acme/app": Repository(0, None)}, {103: "it was closed"}, {"7/1": 2}))
         self.assertEqual(json.loads(self.file.read_text("utf-8")), {
-            "first": FIRST, "last": None, "refuse": {"103": "it was closed"},
+            "first": FIRST, "last": None, "refuse": {"103": "it was closed"}, "answered": {"7/1": 2},
             "repositories": {"acme/lib": {"waiting": 2, "began": {"boot": "a boot", "uptime": 12.5}},
                              "acme/app": {"waiting": 0, "began": None}}})
 
     def test_it_is_read_as_it_was_written(self) -> None:
-        self.leave(refuse={103: "it was closed"}, repositories=self.repository("acme/app", Repository(3, None)))
+        self.leave(refuse={103: "it was closed"}, answered={"7/1": 2}, repositories=self.repository("acme/app", Repository(3, None)))
         self.assertEqual(read(self.file), self.left)
 
     def test_what_has_no_such_form_is_none(self) -> None:

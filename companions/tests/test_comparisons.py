@@ -1,7 +1,6 @@
 """What the adapter leaves for the lander, while it compares and tells."""
 from __future__ import annotations
 
-import json
 from collections.abc import Iterator
 from typing import Any
 
@@ -171,7 +170,7 @@ class Left(Leaving):
         self.adapter.once(1.0)
         left = read(self.file)
         assert left is not None
-        self.assertEqual((left.first, left.last, self.lib().began), (None, None, None))
+        self.assertEqual((left.first, left.last, self.lib().began), (next(iter(self.gate.accepted)), None, None))
 
 
 class Restored(Leaving):
@@ -188,10 +187,11 @@ class Restored(Leaving):
 
     def lose(self, deliveries: int) -> None:
         """The gate forgets its last deliveries; the others are told to it again."""
-        kept = list(self.gate.accepted.items())[:-deliveries]
+        first, *kept = list(self.gate.accepted.items())[:-deliveries]
         self.gate.__init__()  # type: ignore[misc]
+        self.gate.accepted = dict([first])
         for identity, (said, _) in kept:
-            self.gate.take({"id": identity, **json.loads(json.dumps(said))})
+            self.gate.take({"id": identity, **said})
 
     def why(self) -> str | None:
         return self.lander.why_refused(Order("core", 1, "lib", 1, 1), next(iter(self.gate.accepted)))

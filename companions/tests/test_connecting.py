@@ -1,12 +1,15 @@
 """The settings that docs/CONNECTING.md shows and lists are those that are read."""
 from __future__ import annotations
 
+import json
 import re
 import tempfile
 import unittest
 import unittest.mock
+import uuid
 from pathlib import Path
 
+from companions.ids import revision_id
 from companions.settings import ROLES, Reader, Settings, SettingsFault, read
 
 PAGE = Path(__file__).resolve().parents[2] / "docs" / "CONNECTING.md"
@@ -64,6 +67,15 @@ class PageTest(unittest.TestCase):
     def test_what_is_read_is_listed_and_what_is_listed_is_read(self) -> None:
         found = members_read(example().replace("[adapter]\n", LOGS) + ACCOUNTS)
         self.assertEqual(sorted(listed()), sorted(found - TABLES))
+
+    def test_the_example_of_an_id_is_the_function_s(self) -> None:
+        page = PAGE.read_text(encoding="utf-8")
+        first = re.findall(r"^  `(\S+)` as the first delivery's id,$", page, re.MULTILINE)[0]
+        array = re.findall(r'^      (\["revision", .*\])$', page, re.MULTILINE)[0]
+        told = re.findall(r"^  gives `(\S+)`\.", page, re.MULTILINE)[0]
+        _, change, revision, commit, *needs = json.loads(array)
+        self.assertEqual(revision_id(first, int(change), int(revision), commit, map(int, needs)), told)
+        self.assertEqual(str(uuid.uuid5(uuid.UUID(first), array)), told)
 
     def test_what_must_be_there_has_no_default(self) -> None:
         rows = re.findall(r"^\| (`.*?) \|.*\| must be there \|$", members(), re.MULTILINE)

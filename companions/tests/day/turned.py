@@ -63,10 +63,11 @@ class FreshHooks(hooks.Hooks):
 
 
 class FreshChanges(Changes):
-    """Draws a fresh id for each delivery."""
+    """Draws a fresh id for each delivery but revisions, which would be told once more and again."""
 
     def send_later(self, change: int, telling: Telling, said: Delivery) -> None:
-        super().send_later(change, replace(telling, stands_for=(*telling.stands_for, str(uuid.uuid4()))), said)
+        fresh = () if telling.kind == "revision" else (str(uuid.uuid4()),)
+        super().send_later(change, replace(telling, stands_for=(*telling.stands_for, *fresh)), said)
 
 
 class Believing:
