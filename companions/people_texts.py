@@ -182,7 +182,7 @@ def queued(item: Item, seen: Seen, words: Words) -> Text:
     if item.lands:
         return Text("landing", PENDING, f"Tests passed, being landed in {item.queue}",
                     (f"**Its tests have passed, and it is being landed in {where}.**",
-                     "A commit that you push now comes too late for it."))
+                     "A commit that you push now may come too late for it."))
     if not slots & {"running", "waiting"}:
         return Text("tested", PENDING, f"Tests passed, waits for those before it, {at} {item.queue}",
                     (f"**Its tests have passed, and it waits for those before it, {at} {where}{behind}.**", jobs,

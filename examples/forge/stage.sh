@@ -27,11 +27,20 @@ stop() {
   unset "running[$1]"
 }
 
+# A job is a group of its own, so it goes on when its worker is killed: the worker ends it once it is started again.
+stop_jobs() {
+  python3 -c 'import sys
+from companions.job import kill_marked
+for folder in sys.argv[1:]:
+    kill_marked("GATED_WORKER=" + folder.rstrip("/"))' "$FORGE"/companions/worker/*/
+}
+
 finish() {
   local status=$? part
   for part in "${!running[@]}"; do
     stop "$part"
   done
+  stop_jobs
   [ "$status" -eq 0 ] && rm -rf "$FORGE" || echo "what was left lies in $FORGE" >&2
 }
 trap finish EXIT
@@ -57,8 +66,11 @@ start_gate() {
   : >"$FORGE/gate.log"
   start gate "$GATED" serve "$FORGE_SETTINGS" "$FORGE/day.gate" --port "$port" --count 1000000000
   await grep -q '^listening' "$FORGE/gate.log"
-  sed -n 's/^listening 127.0.0.1://p' "$FORGE/gate.log" >"$GATE_PORT"
-  companions_settings >"$FORGE/companions.toml"
+  sed -n 's/^listening 127.0.0.1://p' "$FORGE/gate.log" >"$GATE_PORT.new"
+  mv "$GATE_PORT.new" "$GATE_PORT"
+  # Written beside and renamed: a worker that is started just now must not read half of it.
+  companions_settings >"$FORGE/companions.toml.new"
+  mv "$FORGE/companions.toml.new" "$FORGE/companions.toml"
 }
 
 # The companions' settings, by those of the gate: each job is the script of its name in its project.

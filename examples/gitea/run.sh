@@ -114,7 +114,8 @@ await grep -q 'hooks come in' "$FORGE/adapter.log"
 # Each is awaited, since the adapter numbers changes in the order in which it looks at them.
 push acme/lib 1 'Add two' two=2
 at_forge twice open acme/lib main 'Add two' ''
-await has_said 1 1 'revision: recorded'
+# It is the first that the gate's file is told, so it is told once more.
+await has_said 1 2 'revision: recorded'
 propose acme/app 1 'Use two' use=two 'Depends-On: https://forge.example/acme/lib/pulls/1'
 await has_said 2 1 'revision: recorded'
 propose acme/site 1 'Show two' page=Two 'See there.\n\nDepends-On: acme/lib#1'
@@ -186,7 +187,7 @@ at_forge retarget acme/lib 6 next
 await has_said 9 1 'closed: recorded'
 
 # Change 6 is closed while its order is shown. Until the lander has answered that, the gate takes no closing of it, and
-# a change of another queue is told nevertheless.
+# a change of another queue is told nevertheless. The lander refuses the order then.
 stop lander
 at_forge approve acme/lib 3 ann
 await has_order 6
@@ -197,10 +198,10 @@ at_forge approve acme/site 3 cy
 await has_said 10 1 'approved: queued'
 is_kept 6 closed || fail "the order of change 6 was answered"
 start_lander
-await has_said 6 1 'closed: stale'
+await has_said 6 1 'closed: recorded'
 await is_quiet
 
-check_queue core '1 2 4 6 8' '4 failed 7 failed'
+check_queue core '1 2 4 8' '4 failed 6 refused 7 failed'
 check_queue web '3 10' ''
 for project in acme/lib acme/app; do
   check_branch "$project" core
@@ -208,7 +209,7 @@ for project in acme/lib acme/app; do
 done
 check_branch acme/site web
 check_trees acme/site web
-[ "$(grep -c 'revision: recorded$' "$FORGE/adapter.log")" -eq 11 ] || fail "not eleven revisions were told"
+[ "$(grep -c 'revision: recorded$' "$FORGE/adapter.log")" -eq 12 ] || fail "not twelve revisions were told"
 [ "$(grep -c 'change 4, .*: approved: queued$' "$FORGE/adapter.log")" -eq 2 ] || fail "a doubled hook approved twice"
 await shows_what_is_expected
 cat "$FORGE/shown"

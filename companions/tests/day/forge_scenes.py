@@ -14,6 +14,14 @@ from companions.tests.day.stage import WORKERS
 class ForgeScene(ForgeCourse):
     """What scenes with a forge are made of. Hooks are sent by the scene itself."""
 
+    def begin(self) -> None:
+        """The first request that a new file is told is told once more: all others begin at their first revision."""
+        super().begin()
+        change = Proposal(190, "app", {"uses/2": "once"}, lands=None)
+        self.developers.open(change)
+        self.tell()
+        self.await_gate(change, lambda said: said["revision"] == 2)
+
     def tell(self) -> None:
         """The hooks of what was done are sent, and the adapter has looked at what they are about."""
         hooks = self.stage.forge.hooks

@@ -27,6 +27,13 @@ def wait_for(what: str, is_so: Callable[[], object], pause: float = 0.1) -> None
         time.sleep(pause)
 
 
+def put(file: Path, text: str) -> None:
+    """Writes beside and renames: a part that is started just then must not read half of it."""
+    new = file.with_name(file.name + ".new")
+    new.write_text(text, encoding="utf-8")
+    os.replace(new, file)
+
+
 class Part:
     """A program that is started as a process group of its own. What it prints is added to its log."""
 

@@ -11,9 +11,10 @@ import time
 from pathlib import Path
 
 from companions.gate import Gate, NoAnswer
+from companions.job import kill_marked
 from companions.tests.day import layout
 from companions.tests.day.layout import ADAPTER, APP, LIB, SITE, Project
-from companions.tests.day.parts import Differs, Part, run, wait_for
+from companions.tests.day.parts import Differs, Part, put, run, wait_for
 
 WORKERS = ("w1", "w2", "w3")
 COMPANIONS = ("lander", *WORKERS, "watch", "adapter")
@@ -118,7 +119,7 @@ class Stage:
         self.projects.append(project)
         for name, (where, more) in self.companions().items():
             text = layout.companions_settings(self.folder, self.proxy, self.projects, where, more)
-            (self.folder / name).write_text(text, encoding="utf-8")
+            put(self.folder / name, text)
 
     def hooks(self) -> dict[str, str]:
         """The hooks of a repository, by their names."""
@@ -132,7 +133,7 @@ class Stage:
         return next(it for it in self.projects if it.name == name)
 
     def write_gate_settings(self) -> None:
-        self.settings.write_text(layout.gate_settings(self.projects), encoding="utf-8")
+        put(self.settings, layout.gate_settings(self.projects))
 
     def gated(self, command: str, file: Path, *words: str, given: str | None = None) -> str:
         return run([str(program()), command, str(self.settings), str(file), *words], self.environment, given)
@@ -177,9 +178,11 @@ class Stage:
             self.parts[name].kill()
 
     def end(self) -> None:
-        """Kills all that runs."""
+        """Kills all that runs, jobs of workers among it, which are groups of their own."""
         for part in self.parts.values():
             part.kill()
+        for name in WORKERS:
+            kill_marked(f"GATED_WORKER={self.folder / 'companions' / 'worker' / name}")
 
     def note(self, what: str) -> None:
         """A line for whoever reads what a day left."""
