@@ -12,12 +12,15 @@ from companions.gate import Gate, say
 from companions.landings import Landing
 from companions.needs import Needs, message, need_lines, needs_of
 from companions.repository import REVISION, GitFault, Repository
-from companions.requests import NO_REVISION, Request, State, Telling, Told, closing, first_seen, tellings, uncounted
+from companions.requests import (NO_REVISION, Request, State, Telling, Told, closing, first_seen, set_aside, tellings,
+                                 uncounted)
 from companions.settings import Adapter, Project, Settings
 from companions.subjects import Subjects
-from companions.told import Changes
+from companions.told import AHEAD, Changes
 
 HASH = re.compile(r"[0-9a-f]{40}|[0-9a-f]{64}")
+COMMITTED = re.compile(r"^committer .*> ([0-9]{1,20}) [+-][0-9]{4}$", re.MULTILINE)
+DAY = 86400
 
 
 class Again(Exception):
@@ -89,19 +92,23 @@ class Looks:
         if self.changes.first() is None:
             # Ids are made of the first delivery's, so that one is told alone.
             decided = replace(decided, steps=[it for it in decided.steps if it.kind == "revision"])
+        revision = next((it.revision for it in decided.steps if it.kind == "revision"), None)
+        is_ahead = revision is not None and self.is_ahead(so, project)
+        if is_ahead:
+            decided = replace(decided, steps=set_aside(decided.told, so.head))
         told, seen = decided.told, first_seen(so, decided.told, needs.changes)
         self.be_sure(so, seen)
-        for it in decided.steps:
-            if it.kind == "revision":
-                self.hold(so, project, change, it.revision)
+        if revision is not None and not is_ahead:
+            self.name(project, so.number, so.head, REVISION.format(change=change, revision=revision))
         more = {"project": project.name, "message": message(so, needs.changes, self.adapter.base)}
         with self.changes.step():
-            if told.revisions or decided.steps:
+            if told.revisions or decided.steps or is_ahead:
                 self.changes.see(so, change, seen)
                 self.subjects.see(so, change, True)
             self.write(so, decided, more, needs.changes)
             self.changes.remark(change, "need", needs.remarks)
             self.changes.remark(change, "vote", uncounted(so, told, needs.changes, may_approve))
+            self.changes.remark(change, AHEAD, [so.head] if is_ahead else [])
 
     def may_approve(self, so: Request) -> frozenset[str]:
         """The persons whose votes on a request count: those whom the settings name, or who may write to its repository.
@@ -220,23 +227,29 @@ class Looks:
             if again is None or replace(again, votes=()) != replace(so, votes=()):
                 raise Again
 
-    def hold(self, so: Request, project: Project, change: int, revision: int) -> None:
-        """Names a revision's commit, which could be pushed over at any time, by a ref that stays.
-
-        A ref of this name that has another commit is of a revision that was chosen and never told.
-        """
+    def is_ahead(self, so: Request, project: Project) -> bool:
+        """Whether a head is dated more than a day ahead. A landing has the later date of what it merges, so all landings
+        behind it would be dated so."""
         if not HASH.fullmatch(so.head):
             raise Trouble(f"the forge's head of it is no commit: {so.head[:80]!r}")
-        self.name(project, so.number, so.head, REVISION.format(change=change, revision=revision))
+        content = self.fetched(project, so.number, so.head).git("cat-file", "commit", so.head)
+        dates = COMMITTED.findall(content.partition("\n\n")[0])
+        return len(dates) == 1 and int(dates[0]) > time.time() + DAY
 
-    def name(self, project: Project, request: int, commit: str, name: str) -> str | None:
-        """Has a request's commit named in its repository, and gives what was named so before."""
+    def fetched(self, project: Project, request: int, commit: str) -> Repository:
+        """The mirror of a request's repository, in which its commit is by now."""
         repository = self.repositories[project.name]
         if repository.commit(commit) is None:
             head = self.forge.head_ref(request)
             repository.git("fetch", "--quiet", "--no-tags", repository.address, f"+{head}:{head}")
             if repository.commit(commit) is None:
                 raise Trouble(f"{head} of {repository.address} doesn't have {commit} yet")
+        return repository
+
+    def name(self, project: Project, request: int, commit: str, name: str) -> str | None:
+        """Names a request's commit, which could be pushed over at any time, by a ref that stays, and gives what was named
+        so before: the commit of a revision that was chosen and never told, or what somebody has pushed there."""
+        repository = self.fetched(project, request, commit)
         there = repository.ask(name).get(name)
         if there != commit and not repository.push({name: (there, commit)}):
             raise Again

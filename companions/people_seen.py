@@ -18,8 +18,8 @@ class Subject:
     """A change whose request's people are told.
 
     `commits` are those of its revisions, from the first. `lines` are those of its text that name no request, `votes`
-    say why approvals of it don't count, `refused` is the gate's code where it didn't take the last revision, and
-    `is_gated` whether its target branch is a project's.
+    say why approvals of it don't count, `refused` is the gate's code where it didn't take the last revision, or `ahead`
+    where it isn't told of it, and `is_gated` whether its target branch is a project's.
     """
     change: int
     place: Place

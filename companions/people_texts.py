@@ -16,6 +16,8 @@ from companions.requests import State
 ENDS = ("landed", "closed")
 
 REFUSALS = {"E13": ("it needs over 32 requests", "Name at most 32 in its `Depends-On` lines."),
+            "ahead": ("it is dated more than a day ahead", "Set the clock right, make the commit anew by"
+                      " `git commit --amend --no-edit`, and push it."),
             "E7": ("it has no such project", "Tell who runs the gate."),
             "E8": ("it knows the change under another project", "Tell who runs the gate.")}
 

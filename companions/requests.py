@@ -110,6 +110,14 @@ def closing(told: Told, why: str) -> list[Telling]:
     return [Telling("closed", last, (why,))] if last and not told.closed and not told.landed else []
 
 
+def set_aside(told: Told, why: str) -> list[Telling]:
+    """The withdrawal of what still stands of the last revision, where a later commit is there and isn't told."""
+    last = len(told.revisions)
+    at_gate = tuple(sorted({name for name, at in told.approvals.items() if at == last} - told.withdrawals))
+    is_over = not last or told.closed or told.landed
+    return [] if is_over or not at_gate else [Telling("withdrawn", last, (*at_gate, why), at_gate)]
+
+
 def revision_of(so: Request, told: Told, needs: tuple[int, ...]) -> int:
     """The revision that an open request is at: the last that was told, or the next one."""
     last = len(told.revisions)

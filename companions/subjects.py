@@ -5,7 +5,7 @@ from companions.forges import Place
 from companions.people_seen import Subject
 from companions.requests import Request, State
 from companions.tables import add
-from companions.told import Changes
+from companions.told import AHEAD, Changes
 
 # `change` is that of the request's branch, or the last one that it had where its branch isn't gated. A request is over
 # once it isn't open and nothing more can be told of it: people aren't told of it again until it is looked at again.
@@ -38,11 +38,13 @@ class Subjects:
     def subject(self, place: Place, state: State, head: str, change: int, is_gated: bool) -> Subject:
         told = self.changes.told(change)
         commits = [it.commit for it in told.revisions]
-        if told.landed and commits[-1] != head:
-            # What is pushed behind a landing is no revision, and its status says so.
+        is_ahead = bool(self.changes.remarks(change, AHEAD))
+        if is_ahead or told.landed and commits[-1] != head:
+            # What is pushed behind a landing, or is dated ahead, is no revision, and its status says so.
             commits.append(head)
         return Subject(change, place, tuple(commits), state, tuple(self.changes.remarks(change, "need")),
-                       tuple(self.changes.remarks(change, "vote")), self.changes.refused(change), is_gated)
+                       tuple(self.changes.remarks(change, "vote")),
+                       "ahead" if is_ahead else self.changes.refused(change), is_gated)
 
     def written(self, change: int, kind: str) -> None:
         """All that there is to say of a change by now is written: a request that isn't open may be over by that."""

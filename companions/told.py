@@ -38,6 +38,9 @@ CREATE TABLE IF NOT EXISTS remark(change INTEGER, kind TEXT, place INTEGER, text
     PRIMARY KEY(change, kind, place));
 """
 
+# The kind of the remark on a request whose head isn't told, since it is dated ahead.
+AHEAD = "ahead"
+
 # Refusals that say that the gate doesn't have what the delivery is about: told again once it does, they may be taken.
 LACKING = ("E5", "E6", "E7")
 
@@ -184,7 +187,7 @@ class Changes:
     def remark(self, change: int, kind: str, lines: Iterable[str]) -> None:
         """Puts lines of a kind that are to be told on the change's request in the place of those that were.
 
-        A `need` names no request, and a `vote` is one that doesn't approve it.
+        A `need` names no request, a `vote` is one that doesn't approve it, and `AHEAD` has a head that isn't told.
         """
         self.tables.execute("DELETE FROM remark WHERE change = ? AND kind = ?", (change, kind))
         self.tables.executemany("INSERT INTO remark VALUES (?, ?, ?, ?)",

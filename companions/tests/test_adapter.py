@@ -4,8 +4,10 @@ from __future__ import annotations
 import contextlib
 import importlib.util
 import io
+import re
 import subprocess
 import tempfile
+import time
 import unittest
 from pathlib import Path
 from typing import Any
@@ -129,6 +131,17 @@ class AdapterTest(unittest.TestCase):
                                   revision_id(first, 8, 1, commits[1], (7, 12))])
         self.assertEqual([set(it) for it in self.gate.taken.values()],
                          3 * [{"id", "kind", "change", "project", "revision", "message"}])
+
+    def test_a_revision_that_is_dated_ahead_is_not_told(self) -> None:
+        text = self.git("cat-file", "commit", self.push(7, 1))
+        text = re.sub(r"^(committer .*> )\d+", rf"\g<1>{int(time.time()) + 90000}", text, flags=re.MULTILINE)
+        self.git("update-ref", "refs/changes/7/1", self.git("hash-object", "-t", "commit", "-w", "--stdin", given=text))
+        with contextlib.redirect_stdout(io.StringIO()) as said:
+            self.adapter.look()
+            self.adapter.look()
+        self.assertEqual(said.getvalue(),
+                         "gate: refs/changes/7/1 isn't told, since it is dated more than a day ahead\n")
+        self.assertEqual((self.send(), self.gate.told()), (True, []))
 
     def test_a_revision_that_somebody_has_moved_is_set_right(self) -> None:
         commit = self.push(7, 1)

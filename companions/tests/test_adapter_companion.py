@@ -2,7 +2,10 @@
 from __future__ import annotations
 
 import copy
+import re
+import time
 from dataclasses import replace
+from unittest import mock
 
 from companions.forges import Place
 from companions.landings import Landing
@@ -106,6 +109,47 @@ class Requests(Case):
         self.assertEqual(self.look(place), [])
         self.be(12, 1, said, replace(said, object="comment 2"))
         self.assertEqual(self.look(place), ["approved 1 2"])
+
+
+class Dates(Case):
+    """A landing has the later date of what it merges, so a commit of 2090 would date all landings behind it."""
+
+    def dated(self, ahead: int, head: int = 0) -> str:
+        """One of the commits, made anew so many seconds ahead of the clock."""
+        text = self.origin.git("cat-file", "commit", self.commits[head])
+        text = re.sub(r"^(committer .*> )\d+", rf"\g<1>{int(time.time()) + ahead}", text, flags=re.MULTILINE)
+        return self.origin.git("hash-object", "-t", "commit", "-w", "--stdin", given=text + "\n")
+
+    def test_one_that_is_dated_more_than_a_day_ahead_is_not_told_and_its_request_says_so(self) -> None:
+        head = self.dated(86400 + 600)
+        self.be(12, head, Vote("review 1", "ada", True, head))
+        self.assertEqual(self.tell()[0], f"acme/lib {head}: failure: The gate didn't take this commit: it is dated more"
+                                         " than a day ahead")
+        self.assertEqual((self.standin.deliveries(), self.origin.git("for-each-ref", "refs/changes")), ([], ""))
+        self.be(12, 1)
+        self.assertEqual(self.tell()[0], f"acme/lib {self.commits[1]}: pending: Waits for approval")
+
+    def test_one_that_is_dated_a_day_ahead_at_most_is_told(self) -> None:
+        self.be(12, self.dated(86400 - 600))
+        self.assertEqual(self.look(), ["revision 1 1"])
+
+    def test_a_date_beyond_all_is_ahead_too(self) -> None:
+        self.be(12, self.dated(10 ** 12))
+        self.assertEqual(self.look(), [])
+
+    def test_one_behind_an_approved_revision_takes_that_one_out_of_its_queue(self) -> None:
+        place = self.be(12, 0, self.approve(1))
+        self.look()
+        head = self.dated(10 ** 9, 1)
+        self.be(12, head, self.approve(1), Vote("review 2", "bob", True, head))
+        self.assertEqual((self.look(place), self.look()), (["withdrawn 1 1"], []))
+        self.gate.reports = ["1 1 1 withdrawn -"]
+        self.assertEqual(self.tell()[0], f"acme/lib {head}: failure: The gate didn't take this commit: it is dated more"
+                                         " than a day ahead")
+        # Once the clock is so far, or the commit is made anew, it is told, and the approval of it counts.
+        with mock.patch("companions.looks.time.time", return_value=time.time() + 10 ** 9):
+            self.assertEqual(self.look(), ["revision 1 2", "approved 1 2"])
+        self.assertEqual(self.adapter.changes.remarks(1, "ahead"), [])
 
 
 class Closings(Case):

@@ -58,6 +58,9 @@ CASES: dict[str, tuple[Subject, Seen]] = {
     "refused for its needs": (subject(refused="E13"), Seen()),
     "refused for its project": (subject(refused="E7"), Seen()),
     "refused for its other project": (subject(refused="E8"), Seen()),
+    "not told, as it is dated ahead": (subject(refused="ahead"), Seen()),
+    "not told, as it is dated ahead, and the earlier one was withdrawn": (
+        subject(OLD, NEW, refused="ahead"), Seen(report=report("withdrawn"))),
     "refused for whatever": (subject(refused="E14"), Seen()),
     "refused, and the earlier revision is queued": (
         subject(OLD, NEW, refused="E13"), Seen(item("5 101 1 - ok unit=running"))),

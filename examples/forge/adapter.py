@@ -70,7 +70,7 @@ class Adapter:
     def __init__(self, settings: settings_file.Settings) -> None:
         self.repositories = {Path(it.repository).resolve(): it.name for it in settings.projects.values()}
         self.names = {it.name: it.forge for it in settings.projects.values()}
-        self.file, self.left = compared.file_in(settings.folder), None
+        self.file, self.left, self.ahead = compared.file_in(settings.folder), None, set[str]()
         self.gate = Gate(settings.url, settings.account("forge"), timeout=10, part="adapter")
         self.pause = settings.pause
         self.outbox = Outbox(settings.folder / "adapter" / "told.db")
@@ -79,10 +79,15 @@ class Adapter:
         self.sending = open(settings.folder / "adapter" / "sending", "w", encoding="ascii")
 
     def note_revision(self, folder: Path, change: int, revision: int) -> None:
-        """Notes a revision, once."""
+        """Notes a revision, once. All landings behind it would be dated as it is, so none that is dated ahead."""
         key, name = f"revision {change} {revision}", f"refs/changes/{change}/{revision}"
         if self.tables.execute("SELECT 1 FROM told WHERE key = ?", (key,)).fetchone() is None:
-            commit, _, message = git(folder, "log", "-1", "--format=%H%n%B", name).partition("\n")
+            commit, date, message = git(folder, "log", "-1", "--format=%H%n%ct%n%B", name).split("\n", 2)
+            if int(date) > time.time() + 86400:
+                if commit not in self.ahead:
+                    print(f"gate: {name} isn't told, since it is dated more than a day ahead", flush=True)
+                self.ahead.add(commit)
+                return
             said = {"kind": "revision", "change": change, "project": self.repositories[folder], "revision": revision,
                     "message": message, "commit": commit}
             self.tables.execute("INSERT OR IGNORE INTO told(key, said) VALUES (?, ?)", (key, json.dumps(said)))
