@@ -13,12 +13,15 @@ from concurrent.futures import Future, ThreadPoolExecutor
 from typing import Any
 
 from companions.answers import Answers
+from companions.branches import Branches
+from companions.checks import Again, Evidence, QueueStops, Refused, Revisions
 from companions.compared import Comparison, Waits
 from companions.gate import Gate, NoAnswer, Order, say
 from companions.ids import id_of
-from companions.landings import Branches, Landing
+from companions.landings import Landed, Note, note_name
+from companions.merging import Merge
 from companions.outbox import Notes
-from companions.repository import LANDING, REVISION, Declined, GitFault, Repository
+from companions.repository import REVISION, Declined, GitFault, Repository, untested
 from companions.settings import Settings
 from companions.starting import start
 from companions.tries import Tries
@@ -26,14 +29,6 @@ from companions.tries import Tries
 
 # How long a queue rests whose trouble was told, as a multiple of `gate.pause`.
 REST = 5
-
-
-class QueueStops(Exception):
-    """Nothing may be merged into a queue's branches until somebody has looked."""
-
-
-class Again(Exception):
-    """The order isn't shown any more: look at the orders again."""
 
 
 class QueueLander:
@@ -44,7 +39,8 @@ class QueueLander:
         projects = settings.projects_of(queue)
         self.repositories = {it.name: Repository(it.repository, settings.folder / "lander" / it.name, settings.author)
                              for it in projects}
-        self.branches = Branches(queue, self.repositories, projects)
+        self.branches = Branches(queue, self.repositories, projects, notes)
+        self.revisions, self.evidence = Revisions(queue, settings, gate, answers), Evidence(queue, gate)
         self.compared, self.tries = Comparison(queue, settings, gate, notes), Tries(queue, settings.tries, notes)
         # The gate's first accepted delivery, and how many landings of the queue the gate has; none before a look.
         self.first: str | None = None
@@ -80,7 +76,10 @@ class QueueLander:
         if self.told < self.branches.noted:
             self.tell_what_stands(order)
         else:
-            self.land(order)
+            try:
+                self.land(order)
+            except Refused as fault:
+                self.refuse(order, str(fault))
 
     def is_known(self) -> bool:
         """Whether the gate is still the one that took this lander's last delivery: a restored one may have lost it."""
@@ -95,11 +94,10 @@ class QueueLander:
         if self.first is None or self.queue not in landed:
             raise QueueStops("the gate's settings don't have the queue, or its file is new and has accepted nothing")
         self.told = landed[self.queue]
-        if self.branches.noted:
-            noted = self.branches.at(self.branches.noted)
-            if noted.first != self.first:
-                raise QueueStops(f"the gate has another file: the first delivery of this one is {self.first}, and the"
-                                 f" branches were landed by that of {noted.first}")
+        file = self.branches.file()
+        if file not in (None, self.first):
+            raise QueueStops(f"the gate has another file: the first delivery of this one is {self.first}, and the"
+                             f" branches were landed by that of {file}")
         if self.told > self.branches.noted:
             raise QueueStops(f"the gate has {self.told} landings, and the branches have {self.branches.noted}")
         if self.told < self.branches.noted:
@@ -120,37 +118,48 @@ class QueueLander:
         self.refuse(order, f"the branches have change {landing.change} next")
 
     def land(self, order: Order) -> None:
+        """Lands an order, if all is right outside the gate too. `Refused` where it is for this change to wait."""
         project, repository = self.settings.projects[order.project], self.repositories[order.project]
         branch, name = f"refs/heads/{project.branch}", REVISION.format(change=order.change, revision=order.revision)
-        there = repository.ask(branch, name)
-        head, place = self.branches.heads[order.project], self.branches.noted + 1
-        if there.get(branch) != head:
-            raise QueueStops(f"{project.branch} of {project.name} is at {there.get(branch)}, and the last landing left"
-                             f" {head}: take back what was pushed past the gate")
-        if name not in there:
-            raise QueueStops(f"{project.repository} has no {name}")
-        landing = Landing(str(self.first), self.queue, order.order, order.change, order.revision)
-        subject = repository.message(there[name]).partition("\n")[0]
-        merged = repository.merge(head, there[name], landing.message(subject))
-        if merged is None:
-            self.refuse(order, f"it can't be merged into {project.branch}")
-            return
+        place, note = self.branches.noted + 1, note_name(self.queue, self.branches.noted + 1)
+        there = repository.ask(branch, name, note)
+        self.revisions.check(order, str(self.first), there.get(name))
+        landed = self.merged(order, place, there[name])
+        proofs = self.evidence.check(order, landed.commit) if project.evidence else None
+        made = self.branches.made(order.project, landed.commit, note, Note(self.first, order.order, proofs).text)
+        past = self.branches.past()
+        if past is not None:
+            raise QueueStops(past)
         why = self.compared.why_refused(order, self.first)
         if why is not None:
-            self.refuse(order, why)
-            return
+            raise Refused(why)
         self.confirm(order)
-        note = LANDING.format(queue=self.queue, place=place)
+        self.push(order, {branch: (landed.parent, landed.commit), note: (there.get(note), made)})
+        self.branches.moved(landed, made, str(self.first))
+        self.tell(order, place)
+
+    def merged(self, order: Order, place: int, commit: str) -> Landed:
+        """The landing commit of an order, on the head that the last landing left."""
+        project, repository = self.settings.projects[order.project], self.repositories[order.project]
+        head = self.branches.heads[order.project]
+        what = Merge(self.queue, place, order.change, order.revision, repository.parent(head),
+                     repository.parent(commit), self.branches.others(order.project), self.settings.author)
+        merged = repository.merge(what)
+        if merged is None:
+            raise Refused(f"it can't be merged into {project.branch}")
+        return Landed(place, order.project, merged, head, order.change, order.revision)
+
+    def push(self, order: Order, updates: dict[str, tuple[str | None, str | None]]) -> None:
+        """Pushes a landing and its note, both or none."""
+        project = self.settings.projects[order.project]
         try:
-            is_pushed = repository.push({branch: (head, merged), note: (None, merged)})
+            is_pushed = self.repositories[order.project].push(updates)
         except Declined as fault:
-            self.refuse(order, self.tries.declined(order, fault))
-            return
+            raise Refused(self.tries.declined(order, fault)) from fault
         if not is_pushed:
             raise GitFault(f"{project.branch} of {project.name} has moved while it was to be pushed to")
         self.tries.landed()
-        self.branches.moved(order.project, merged)
-        self.tell(order, place)
+        self.evidence.landed()
 
     def confirm(self, order: Order) -> None:
         """Right before an act: the gate that is there by now shows this very order."""
@@ -168,6 +177,7 @@ class QueueLander:
 
     def refuse(self, order: Order, why: str) -> None:
         self.answers.refuse(order.change, order.revision, why)
+        self.answers.is_right(order.change, order.revision)
         said = self.answer(order, "refused")
         say("lander", f"{self.queue}: refused change {order.change}, revision {order.revision}: {why}: {said}")
 
@@ -267,6 +277,9 @@ class Lander:
 
 
 def run(settings: Settings) -> int:
+    said = untested()
+    if said is not None:
+        say("lander", said)
     Lander(settings).run()
     return 0
 

@@ -9,7 +9,7 @@ from dataclasses import dataclass, replace
 from companions.answers import Wrong
 from companions.forges import Forge, Place
 from companions.gate import Gate, say
-from companions.landings import Landing
+from companions.landings import Branch, first_name
 from companions.needs import Needs, message, need_lines, needs_of
 from companions.repository import REVISION, GitFault, Repository
 from companions.requests import (NO_REVISION, Request, State, Telling, Told, closing, first_seen, set_aside, tellings,
@@ -189,30 +189,21 @@ class Looks:
     def note_landings(self, project: Project) -> None:
         """Notes what a project's branch has landed by the gate's present file, since the branch was read last."""
         repository, branch = self.repositories[project.name], f"refs/heads/{project.branch}"
-        outbox, name = self.changes.outbox, f"read {project.name}"
-        file, noted, head = outbox.get("file"), outbox.get(name), repository.ask(branch).get(branch)
+        outbox, name, first = self.changes.outbox, f"read {project.name}", first_name(project.queue)
+        asked = repository.ask(branch, first)
+        file, noted, head = outbox.get("file"), outbox.get(name), asked.get(branch)
         if file is None or file["first"] is None or head is None:
             return
+        # Their places don't matter here.
+        line = Branch(project.name, repository, project.queue, head, asked.get(first) and repository.commit(asked[first]),
+                      lambda: None, file["first"])
         is_known = noted and noted["first"] == file["first"] and repository.commit(noted["head"]) is not None
-        landed = self.landings(project, file["first"], f"{noted['head']}..{head}" if is_known else head)
+        above = line.up(noted["head"]) if is_known else None
+        landed = above if above is not None else line.down().landings
         with self.changes.step():
-            for change in landed:
-                self.changes.land(change)
+            for it in landed:
+                self.changes.land(it.change)
             outbox.put(name, {"first": file["first"], "head": head})
-
-    def landings(self, project: Project, first: str, commits: str) -> set[int]:
-        """The changes that these commits of a branch have landed, by the gate's file that began with this delivery."""
-        log = self.repositories[project.name].git("log", "--first-parent", f"--grep=^Gate-File: {first}$",
-                                                  "--format=%B%x00", commits)
-        found = set()
-        for text in filter(str.strip, log.split("\0")):
-            try:
-                landing = Landing.read(text)
-            except GitFault:
-                continue
-            if (landing.first, landing.queue) == (first, project.queue):
-                found.add(landing.change)
-        return found
 
     def note_all_landings(self) -> None:
         """Notes what all branches have, before a gate that was restored is told anything."""

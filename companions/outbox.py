@@ -18,6 +18,9 @@ CREATE INDEX IF NOT EXISTS delivery_lane ON delivery(lane, place);
 CREATE TABLE IF NOT EXISTS note(name TEXT PRIMARY KEY, said TEXT NOT NULL);
 """
 
+# So many notes are written at once.
+MANY = 400
+
 # The order is shown to the forge: the lander answers it, and then the gate takes this delivery.
 SUBMITTING = "E9"
 
@@ -34,6 +37,19 @@ class Notes:
 
     def put(self, name: str, said: Any) -> None:
         self.tables.execute("INSERT OR REPLACE INTO note VALUES (?, ?)", (name, json.dumps(said)))
+
+    def put_all(self, said: dict[str, Any]) -> None:
+        """Notes all of this, or as many as fit at once of very many."""
+        rows = list(said.items())
+        for at in range(0, len(rows), MANY):
+            some = [it for name, value in rows[at:at + MANY] for it in (name, json.dumps(value))]
+            self.tables.execute(f"INSERT OR REPLACE INTO note VALUES {', '.join(['(?, ?)'] * (len(some) // 2))}", some)
+
+    def all(self, beginning: str) -> dict[str, Any]:
+        """The notes whose names begin so, in the order of their names."""
+        rows = self.tables.execute("SELECT name, said FROM note WHERE name >= ? AND name < ? ORDER BY name",
+                                   (beginning, beginning + "\U0010ffff"))
+        return {name: json.loads(said) for name, said in rows}
 
     def drop(self, name: str) -> None:
         self.tables.execute("DELETE FROM note WHERE name = ?", (name,))

@@ -1,11 +1,19 @@
-"""Git, as lander and workers use it: a mirror of a project's repository, and merges in it without a work tree."""
+"""Git, as lander and workers use it: a mirror of a project's repository, and merges in it without a work tree.
+
+What git makes here depends on the commits alone, on whichever machine: nobody's settings of git have a say, except where
+a repository is fetched from or pushed to.
+"""
 from __future__ import annotations
 
 import os
 import re
 import shutil
 import subprocess
+from collections.abc import Mapping
+from dataclasses import dataclass
 from pathlib import Path
+
+from companions.merging import Merge, Parent, parent_of
 
 # Where the companions find things in a repository. A landing's place has six digits, so that no name is the beginning
 # of another one: `find` asks a server by such beginnings.
@@ -15,6 +23,34 @@ REVISION = "refs/changes/{change}/{revision}"
 
 # How long a command of git may take, in seconds: one that hangs holds up its queue.
 PATIENCE = 900
+# So many commits of a branch are read at once.
+PAGE = 1000
+
+# The versions of git with which the merges were tested, and the least one that can do them.
+TESTED = ("2.39",)
+LEAST = (2, 38)
+
+# What talks to a forge goes by the user's settings, which have the proxy and the credentials.
+AFAR = ("fetch", "push", "ls-remote")
+# Whatever could change a merge, a commit's reading or a tree on disk, by name: renames, drivers, line ends, attributes,
+# hooks. What the mirror's own file says counts for less.
+OPTIONS = {
+    "core.attributesFile": "/dev/null", "core.excludesFile": "/dev/null", "core.hooksPath": "/dev/null",
+    "core.autocrlf": "false", "core.eol": "lf", "core.safecrlf": "false", "core.symlinks": "true",
+    "core.fileMode": "true", "core.ignoreCase": "false", "core.protectHFS": "false", "core.protectNTFS": "true",
+    "core.precomposeUnicode": "false", "core.sparseCheckout": "false", "core.fsmonitor": "false",
+    "core.bigFileThreshold": "512m", "core.quotePath": "false", "core.useReplaceRefs": "false",
+    "diff.algorithm": "histogram", "diff.renames": "true", "diff.renameLimit": "7000",
+    "merge.renames": "true", "merge.directoryRenames": "conflict", "merge.renameLimit": "7000",
+    "merge.renormalize": "false", "merge.default": "text", "merge.conflictStyle": "merge", "merge.verbosity": "0",
+    "i18n.commitEncoding": "UTF-8", "i18n.logOutputEncoding": "UTF-8", "log.showSignature": "false",
+    "log.mailmap": "false", "submodule.recurse": "false", "safe.directory": "*", "gc.auto": "0"}
+OWN = [word for name, value in OPTIONS.items() for word in ("-c", f"{name}={value}")]
+# Later versions of git would read attributes from the tree of a mirror's HEAD: no attribute counts in a merge.
+NO_ATTRIBUTES = {"GIT_ATTR_SOURCE": "4b825dc642cb6eb9a060e54bf8d69288fbee4904"}
+# A mirror's own settings. What else git reads in it stays away: attributes, grafts.
+CONFIG = "[core]\n\trepositoryformatversion = 0\n\tfilemode = true\n\tbare = true\n"
+STRAY = ("info/attributes", "info/grafts", "info/sparse-checkout", "config.worktree")
 
 # So much is kept of what a server says.
 WORDS = 2000
@@ -42,21 +78,72 @@ def words_of(listed: str, said: str) -> str | None:
     return "; ".join(words)[:WORDS]
 
 
-class Repository:
-    """A bare mirror, in a folder of its own, of the repository at an address. Only what is asked for is fetched."""
+@dataclass(frozen=True)
+class Merged:
+    """What a merge came to: a tree, or none and the files that conflict. Without a common past there are no files."""
+    tree: str | None
+    files: tuple[str, ...] = ()
 
-    def __init__(self, address: str, mirror: Path, author: str) -> None:
-        self.address, self.mirror = address, mirror
-        name, _, mail = author.partition(" <")
-        who = {"NAME": name, "EMAIL": mail.rstrip(">")}
-        self.environment = {**os.environ, "GIT_TERMINAL_PROMPT": "0", "LC_ALL": "C",
-                            **{f"GIT_{role}_{it}": who[it] for role in ("AUTHOR", "COMMITTER") for it in who}}
+
+@dataclass(frozen=True)
+class Commit:
+    """A commit of a branch."""
+    hash: str
+    parents: tuple[str, ...]
+    message: str
+
+
+def own_environment() -> dict[str, str]:
+    """What git gets here: nothing of anybody's settings."""
+    plain = {name: value for name, value in os.environ.items() if not name.startswith("GIT_")}
+    return {**plain, "LC_ALL": "C", "GIT_CONFIG_NOSYSTEM": "1", "GIT_CONFIG_GLOBAL": "/dev/null",
+            "GIT_ATTR_NOSYSTEM": "1", "GIT_NO_REPLACE_OBJECTS": "1", "GIT_TERMINAL_PROMPT": "0"}
+
+
+def version() -> str:
+    """The version of git, as `2.39`."""
+    said = subprocess.run(["git", "--version"], capture_output=True, text=True, check=False).stdout
+    found = re.match(r"git version (\d+\.\d+)", said)
+    if found is None:
+        raise GitFault(f"git --version: {said.strip()[:80]!r}")
+    return found[1]
+
+
+def untested() -> str | None:
+    """What is to be said of the version of git, or none; `GitFault` where it can't merge so."""
+    found = version()
+    if tuple(map(int, found.split("."))) < LEAST:
+        raise GitFault(f"git {found} is too old: it has to be {TESTED[-1]}")
+    return None if found in TESTED else (f"git {found} wasn't tested, only {', '.join(TESTED)}: lander and workers have"
+                                         " to have the same one")
+
+
+class Repository:
+    """A bare mirror, in a folder of its own, of the repository at an address. Only what is asked for is fetched.
+
+    `more` is what git has in its environment besides.
+    """
+
+    def __init__(self, address: str, mirror: Path, author: str, more: Mapping[str, str] | None = None) -> None:
+        self.address, self.mirror, self.author = address, mirror, author
+        self.afar = {**os.environ, "GIT_TERMINAL_PROMPT": "0", "LC_ALL": "C", **(more or {})}
+        self.own = {**own_environment(), **(more or {})}
 
     def unlock(self) -> None:
-        """Takes away the locks that a killed git has left. Nobody else may use the mirror."""
+        """Takes away the locks that a killed git has left, and what would turn merges. Nobody else may use the mirror."""
         for lock in [*self.mirror.glob("*.lock"), *self.mirror.glob("refs/**/*.lock"),
                      *self.mirror.glob("worktrees/*/*.lock")]:
             lock.unlink(missing_ok=True)
+        if self.mirror.exists():
+            self.tidy()
+
+    def tidy(self) -> None:
+        """A mirror has no settings, attributes or grafts of its own, as a template or a job may have put there."""
+        config = self.mirror / "config"
+        if not config.exists() or config.read_bytes() != CONFIG.encode():
+            config.write_bytes(CONFIG.encode())
+        for it in STRAY:
+            (self.mirror / it).unlink(missing_ok=True)
 
     def git(self, *words: str, given: str | None = None) -> str:
         """What a command of git prints, or `GitFault`."""
@@ -65,46 +152,66 @@ class Repository:
             raise GitFault(f"git {' '.join(words)}: {ran.stderr.strip() or ran.returncode}")
         return ran.stdout.strip()
 
-    def run(self, *words: str, given: str | None = None) -> subprocess.CompletedProcess[str]:
+    def run(self, *words: str, given: str | None = None, more: Mapping[str, str] | None = None
+            ) -> subprocess.CompletedProcess[str]:
+        """Runs a command of git: one that talks to a forge by the user's settings, any other by none."""
+        self.begin()
+        is_afar = words[0] in AFAR
+        command = ["git", *([] if is_afar else OWN), "-C", str(self.mirror), *words]
+        ran = self.start(command, self.afar if is_afar else {**self.own, **(more or {})},
+                         None if given is None else given.encode())
+        return subprocess.CompletedProcess(ran.args, ran.returncode, ran.stdout.decode("utf-8", "replace"),
+                                           ran.stderr.decode("utf-8", "replace"))
+
+    def start(self, command: list[str], environment: Mapping[str, str], given: bytes | None
+              ) -> subprocess.CompletedProcess[bytes]:
+        try:
+            return subprocess.run(command, input=given, capture_output=True, env=environment, check=False,
+                                  timeout=PATIENCE)
+        except subprocess.TimeoutExpired as fault:
+            words = " ".join(it for it in command[1:] if it not in OWN)
+            raise GitFault(f"git {words}: no end within {PATIENCE} seconds") from fault
+
+    def begin(self) -> None:
+        """Makes the mirror where there is none."""
         if not self.mirror.exists():
             self.make()
-        try:
-            return subprocess.run(["git", "-C", str(self.mirror), *words], input=given, capture_output=True, text=True,
-                                  errors="replace", env=self.environment, check=False, timeout=PATIENCE)
-        except subprocess.TimeoutExpired as fault:
-            raise GitFault(f"git {' '.join(words)}: no end within {PATIENCE} seconds") from fault
 
     def make(self) -> None:
         """Makes the mirror under another name first, so that a crash leaves no half of one."""
         new = self.mirror.with_name(f"{self.mirror.name}.new")
         shutil.rmtree(new, ignore_errors=True)
         new.parent.mkdir(parents=True, exist_ok=True)
-        ran = subprocess.run(["git", "init", "--quiet", "--bare", str(new)], capture_output=True, text=True,
-                             env=self.environment, check=False)
+        ran = self.start(["git", *OWN, "init", "--quiet", "--bare", "--template=", str(new)], self.own, None)
         if ran.returncode != 0:
-            raise GitFault(f"git init {new}: {ran.stderr.strip()}")
+            raise GitFault(f"git init {new}: {ran.stderr.decode('utf-8', 'replace').strip()}")
         new.rename(self.mirror)
+        self.tidy()
 
     def listed(self, *patterns: str) -> dict[str, str]:
-        """The commits of the names there that match these, as `refs/landings/core/*`; they needn't be here.
+        """The objects of the names there that match these from their beginnings, as `refs/landings/core/*`; they needn't
+        be here.
 
         The server sends all names that it has, whatever is asked for: `ask` and `find` cost the same however many
-        there are.
+        there are. It also takes a pattern for the end of a name.
         """
         listed = self.git("ls-remote", "--refs", self.address, *patterns)
-        return {name: commit for commit, _, name in (line.partition("\t") for line in listed.splitlines())}
+        pairs = (line.partition("\t") for line in listed.splitlines())
+        return {name: it for it, _, name in pairs
+                if any(name == pattern or pattern[-1] == "*" and name.startswith(pattern[:-1]) for pattern in patterns)}
 
-    def ask(self, *names: str) -> dict[str, str]:
+    def ask(self, *names: str, keep: bool = False) -> dict[str, str]:
         """What those of these exact names that are there stand for by now. A branch has to be there.
 
-        The commits are here then too, and no name is but those of branches.
+        Their objects are here then too. Of the names only those of branches stay here, unless all are to be kept.
         """
         branches = [it for it in names if it.startswith("refs/heads/")]
         others = [it for it in names if it not in branches]
         self.git("fetch", "--quiet", "--no-tags", "--prune", self.address, *(f"+{it}:{it}" for it in branches),
                  *(f"+{it}*:{it}*" for it in others))
         found = self.here(*names)
-        self.drop(*(it for it in found if it not in branches))
+        if not keep:
+            self.drop(*(it for it in found if it not in branches))
         return found
 
     def drop(self, *names: str) -> None:
@@ -118,7 +225,7 @@ class Repository:
             self.git("fetch", "--quiet", "--no-tags", self.address, *(f"+{it}:{it}" for it in names))
 
     def find(self, *names: str) -> dict[str, str]:
-        """Fetches those of these exact names that are there and not here yet, and gives the commits of all now here.
+        """Fetches those of these exact names that are there and not here yet, and gives the objects of all now here.
 
         The names have to stay what they are. A fetch tells the server what it asks for, so it costs the same however
         many names are there; and a pattern that matches nothing is no fault, as a name would be.
@@ -131,57 +238,95 @@ class Repository:
         return self.here(*names)
 
     def here(self, *names: str) -> dict[str, str]:
-        """The commits of those of these exact names that are here."""
+        """The objects of those of these exact names that are here."""
         listed = self.git("for-each-ref", "--format=%(objectname) %(refname)", *names) if names else ""
         pairs = (line.partition(" ") for line in listed.splitlines())
-        return {name: commit for commit, _, name in pairs if name in names}
+        return {name: it for it, _, name in pairs if name in names}
 
     def commit(self, name: str) -> str | None:
-        """The commit of a name here, if there is one."""
+        """The commit of a name or an object here, if there is one."""
         ran = self.run("rev-parse", "--quiet", "--verify", f"{name}^{{commit}}")
         return ran.stdout.strip() if ran.returncode == 0 else None
 
     def names(self, pattern: str) -> dict[str, str]:
-        """The names here below a pattern, as `refs/landings/core`, with their commits."""
+        """The names here below a pattern, as `refs/landings/core`, with their objects."""
         listed = self.git("for-each-ref", "--format=%(objectname) %(refname)", pattern)
-        return {name: commit for commit, _, name in (line.partition(" ") for line in listed.splitlines())}
+        return {name: it for it, _, name in (line.partition(" ") for line in listed.splitlines())}
+
+    def content(self, it: str, kind: str = "commit") -> bytes:
+        """The content of an object."""
+        self.begin()
+        ran = self.start(["git", *OWN, "-C", str(self.mirror), "cat-file", kind, it], self.own, None)
+        if ran.returncode != 0:
+            raise GitFault(f"git cat-file {kind} {it}: {ran.stderr.decode('utf-8', 'replace').strip()}")
+        return ran.stdout
+
+    def parent(self, commit: str) -> Parent:
+        """What a merge reads of a commit."""
+        return parent_of(commit, self.content(commit))
 
     def message(self, commit: str) -> str:
-        return self.git("log", "-1", "--format=%B", commit)
+        return self.content(commit).partition(b"\n\n")[2].decode("utf-8", "replace")
 
     def tree(self, commit: str) -> str:
         return self.git("rev-parse", f"{commit}^{{tree}}")
 
-    def merge(self, onto: str, commit: str, message: str) -> str | None:
-        """The merge of a commit onto another, or none where they conflict or have no common past."""
-        ran = self.run("merge-tree", "--write-tree", "--no-messages", onto, commit)
+    def line(self, tip: str, *without: str) -> list[Commit]:
+        """The commits of a branch by their first parents, the last one first, without those that others have in their
+        past: one page of them."""
+        ran = self.git("log", "-z", "--first-parent", f"--max-count={PAGE}", "--format=%H%x00%P%x00%B", tip,
+                       *(f"^{it}" for it in without), "--")
+        words = ran.split("\0")
+        return [Commit(words[at], tuple(words[at + 1].split()), words[at + 2]) for at in range(0, len(words) - 2, 3)]
+
+    def merge_trees(self, onto: str, commit: str) -> Merged:
+        """The tree of a merge of a commit onto another, or none where they conflict or have no common past."""
+        self.begin()
+        self.tidy()
+        ran = self.run("merge-tree", "--write-tree", "--no-messages", "--name-only", "-z", onto, commit,
+                       more=NO_ATTRIBUTES)
+        tree, *files = ran.stdout.split("\0")
         # A name that isn't there has the status 1 too, but no tree.
-        if ran.returncode == 1 and ran.stdout or "unrelated histories" in ran.stderr:
-            return None
+        if ran.returncode == 1 and tree:
+            return Merged(None, tuple(dict.fromkeys(it for it in files if it)))
+        if "unrelated histories" in ran.stderr:
+            return Merged(None)
         if ran.returncode != 0:
             raise GitFault(f"git merge-tree {onto} {commit}: {ran.stderr.strip()}")
-        tree = ran.stdout.split()[0]
-        return self.git("commit-tree", tree, "-p", onto, "-p", commit, "-F", "-", given=message)
+        return Merged(tree)
 
-    def push(self, updates: dict[str, tuple[str | None, str]]) -> bool:
-        """Sets names there, all or none: of each what it was, if it was there, and what it becomes.
+    def merge(self, what: Merge) -> str | None:
+        """The landing commit of a merge, or none where it can't be merged."""
+        tree = self.merge_trees(what.onto.hash, what.commit.hash).tree
+        return None if tree is None else self.write("commit", what.content(tree))
+
+    def write(self, kind: str, content: bytes) -> str:
+        """Writes an object, and gives its hash."""
+        ran = self.start(["git", *OWN, "-C", str(self.mirror), "hash-object", "-t", kind, "-w", "--stdin"], self.own,
+                         content)
+        if ran.returncode != 0:
+            raise GitFault(f"git hash-object: {ran.stderr.decode('utf-8', 'replace').strip()}")
+        return ran.stdout.decode().strip()
+
+    def push(self, updates: Mapping[str, tuple[str | None, str | None]]) -> bool:
+        """Sets names there, all or none: of each what it was, if it was there, and what it becomes, if it stays.
 
         False where one of them isn't what it was; `GitFault` where the forge declines them, or it isn't known what came
         of it.
         """
         leases = [f"--force-with-lease={name}:{old or ''}" for name, (old, _) in updates.items()]
-        news = [f"{new}:{name}" for name, (_, new) in updates.items()]
+        news = [f"{new or ''}:{name}" for name, (_, new) in updates.items()]
         ran = self.run("push", "--quiet", "--porcelain", "--atomic", *leases, self.address, *news)
         if ran.returncode == 0:
             for name, (_, new) in updates.items():
-                self.git("update-ref", name, new)
+                self.git("update-ref", *([name, new] if new else ["-d", name]))
             return True
         if any("stale info" in line or "fetch first" in line for line in ran.stdout.splitlines()):
             return False
-        # Without the commits, of which each try of a landing has another: so a trouble that stays is told once.
+        # Without the commits, of which each try of a landing may have another: so a trouble that stays is told once.
         said = ran.stdout.strip()
         for name, (_, new) in updates.items():
-            said = said.replace(f"{new}:{name}", name)
+            said = said.replace(f"{new or ''}:{name}", name)
         said = f"git push {self.address}: {said} {ran.stderr.strip()}"
         words = words_of(ran.stdout, ran.stderr)
         raise GitFault(said) if words is None else Declined(said, words)

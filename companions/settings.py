@@ -37,7 +37,8 @@ class Job:
 class Project:
     """A project of the gate's settings: where its repository is, and which branch of it is gated.
 
-    `forge` is the repository's name at the forge, as `owner/name`.
+    `forge` is the repository's name at the forge, as `owner/name`. Without `evidence` the lander doesn't ask whether the
+    workers tested the very commits that it lands.
     """
     name: str
     queue: str
@@ -45,6 +46,7 @@ class Project:
     branch: str
     jobs: dict[str, Job] = field(default_factory=dict)
     forge: str = ""
+    evidence: bool = True
 
 
 @dataclass(frozen=True)
@@ -111,7 +113,8 @@ class Settings:
 
 ROLES = ("forge", "worker", "people", "standby")
 FORMS = ("gitea", "github", "gitlab")
-KINDS = {str: "a text", bool: "true or false", int: "a whole number", float: "a number", dict: "a table", list: "an array of tables"}
+KINDS = {str: "a text", bool: "true or false", int: "a whole number", float: "a number", dict: "a table",
+         list: "an array of tables"}
 
 
 class Reader:
@@ -247,7 +250,7 @@ def projects_of(top: Reader) -> dict[str, Project]:
     for it in top.each("project"):
         name = it.text("name")
         project = Project(name, it.text("queue"), it.text("repository"), it.text("branch", "main"), jobs_of(it),
-                          it.text("forge", name))
+                          it.text("forge", name), it.get("evidence", bool, True))
         if project.name in projects:
             raise it.fault("name", f"{project.name} stands twice")
         if (project.repository, project.branch) in branches:

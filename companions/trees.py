@@ -1,7 +1,7 @@
 """The trees of a build: of each project of its queue what will be there once the changes ahead and its own landed.
 
-They are made by the merges that the lander makes, in the same order on the same heads, so that what is tested is what
-lands. docs/CONNECTING.md ("Trees") has what a build names.
+They are made by the merges that the lander makes, in the same order on the same heads, so that the commit that is tested
+is the one that lands. docs/CONNECTING.md ("Trees") has what a build names.
 """
 from __future__ import annotations
 
@@ -9,17 +9,18 @@ import os
 import shutil
 import time
 import urllib.parse
-from collections.abc import Callable
+from collections.abc import Callable, Mapping
 from dataclasses import dataclass, field
 from pathlib import Path
 from typing import Any
 
+from companions.gate import NoAnswer
+from companions.landings import Branch, Line, author_of, first_name, in_order, lines_of, places_of, text_of
+from companions.merging import Merge
 from companions.outbox import Notes
-from companions.repository import FIRST_HEADS, LANDING, REVISION, GitFault, Repository
+from companions.repository import REVISION, GitFault, Repository
 from companions.settings import Project, Settings, SettingsFault
 
-# So many landings are asked for at once, at most.
-MANY = 200
 # So many revisions' names are kept in a mirror.
 KEPT = 500
 
@@ -63,32 +64,39 @@ class Made:
     commits: dict[str, str]
     trees: dict[str, str]
 
+    @property
+    def commit(self) -> str:
+        """The landing commit of the change that is built."""
+        return self.commits[self.project]
+
 
 class Conflict(Exception):
     """A change can't be merged: it is at fault, not the machine."""
 
 
 class UnknownChange(Exception):
-    """No repository in the settings has a change's revision."""
+    """The gate or the settings don't know a change, or its repository doesn't have the revision."""
 
 
 @dataclass
 class Past:
-    """What was found of a queue's landings: all up to a place, and each project's last commit by then.
-
-    A project without a commit wasn't noted by the lander yet.
-    """
-    place: int
-    heads: dict[str, str | None]
+    """What was found of a queue's landings: all up to a place, each project's last commit by then as far as it is known,
+    and which projects have a landing."""
+    place: int = 0
+    heads: dict[str, str] = field(default_factory=dict)
+    landed: set[str] = field(default_factory=set)
 
 
 @dataclass
 class Found:
-    """What a look at the repositories found of what a build needs, and what it lacks."""
+    """What a look found of what a build needs: of each change its project and commit; and what it lacks.
+
+    What is lacking is waited for. What is unknown is, for a while, since somebody may be about to tell it.
+    """
     past: Past
     homes: dict[tuple[int, int], tuple[str, str]] = field(default_factory=dict)
     lacking: list[str] = field(default_factory=list)
-    unknown: list[tuple[int, int]] = field(default_factory=list)
+    unknown: list[str] = field(default_factory=list)
 
 
 Wait = Callable[[str], None]
@@ -97,15 +105,16 @@ Wait = Callable[[str], None]
 class Trees:
     """Makes trees, one build's at a time, from mirrors that one worker has for itself."""
 
-    def __init__(self, settings: Settings, folder: Path, notes: Notes, mark: str) -> None:
-        self.settings, self.notes, self.folder = settings, notes, folder / "trees"
+    def __init__(self, settings: Settings, folder: Path, notes: Notes, mark: str,
+                 project_of: Callable[[int], str | None]) -> None:
+        """`project_of` asks the gate for a change's project."""
+        self.settings, self.notes, self.folder, self.project_of = settings, notes, folder / "trees", project_of
         self.repositories: dict[str, Repository] = {}
+        self.projects: dict[int, str] = {}
+        name, _, value = mark.partition("=")
         for project in settings.projects.values():
             mirror = folder / "mirrors" / urllib.parse.quote(project.name, safe="")
-            repository = Repository(project.repository, mirror, settings.author)
-            name, _, value = mark.partition("=")
-            repository.environment[name] = value
-            self.repositories[project.name] = repository
+            self.repositories[project.name] = Repository(project.repository, mirror, settings.author, {name: value})
             for other in settings.projects_of(project.queue):
                 if other.name.startswith(f"{project.name}/"):
                     raise SettingsFault(f"the tree of project {other.name} would stand in that of {project.name}: give "
@@ -144,23 +153,27 @@ class Trees:
         return Made(self.folder / name, found.homes[build.changes[-1]][0], commits, trees)
 
     def merge(self, build: Build, found: Found) -> dict[str, str]:
-        """Each project's commit, once the build's changes are merged in their order."""
-        commits = {project: head for project, head in found.past.heads.items() if head is not None}
-        for change, revision in build.changes:
+        """Each project's commit, once the build's changes are merged in their order: their landing commits."""
+        commits, known = dict(found.past.heads), set(found.past.landed)
+        for place, (change, revision) in enumerate(build.changes, build.after + 1):
             project, commit = found.homes[change, revision]
-            message = f"Merge change {change}, revision {revision}, for a build"
-            merged = self.repositories[project].merge(commits[project], commit, message)
+            repository = self.repositories[project]
+            others = {name: commits[name] for name in known if name != project}
+            what = Merge(build.queue, place, change, revision, repository.parent(commits[project]),
+                         repository.parent(commit), others, self.settings.author)
+            merged = repository.merge(what)
             if merged is None:
                 whose = "its own" if change == build.change else "ahead"
                 raise Conflict(f"change {change}, revision {revision} ({whose}) can't be merged into {project}")
             commits[project] = merged
+            known.add(project)
         return commits
 
     def gather(self, build: Build, wait: Wait, patience: float) -> Found:
         """Fetches what a build needs, and waits for what isn't there.
 
-        The lander's notes may be late, and a repository may be away: both are waited for as long as the build is
-        wanted, since builds that are lost for an outage would count against their changes.
+        Landings may be late, and a repository may be away: both are waited for as long as the build is wanted, since
+        builds that are lost for an outage would count against their changes.
         """
         if not self.settings.projects_of(build.queue):
             raise UnknownChange(f"no project of the queue {build.queue} is in companions.toml: add each by [[project]]")
@@ -168,97 +181,134 @@ class Trees:
         while True:
             try:
                 found = self.look(build)
-            except GitFault as fault:
+            except (GitFault, NoAnswer) as fault:
                 wait(str(fault))
                 continue
             if not found.lacking and not found.unknown:
-                if found.past.place == build.after:
-                    return found
-                continue
+                return found
             if found.unknown and time.monotonic() - begin >= patience:
-                unknown = found.unknown[0]
-                raise UnknownChange(f"no repository of the queue {build.queue} has {revision_name(unknown)}: add the "
-                                    f"[[project]] of change {unknown[0]} to companions.toml, if it isn't there")
-            lacking = [revision_name(it) for it in found.unknown] + found.lacking
-            wait(f"waits for {', '.join(lacking[:3])}{' and more' if len(lacking) > 3 else ''} in the repositories of "
-                 f"the queue {build.queue} in companions.toml")
+                raise UnknownChange(found.unknown[0])
+            lacking = found.unknown + found.lacking
+            wait(f"waits: {', '.join(lacking[:3])}{' and more' if len(lacking) > 3 else ''}")
 
     def look(self, build: Build) -> Found:
-        """Asks each project's repository, by exact names, for what isn't known of the landings and changes."""
+        """Asks each project's repository, by exact names, for what a build needs.
+
+        Whoever may push could have moved a revision's name meanwhile, and it may be right again: so it is asked for at
+        each look, in the repository of the project that the gate names and in no other one.
+        """
+        found, wanted = Found(Past()), self.homes(build)
+        past = self.noted(build.queue, build.after)
         projects = self.settings.projects_of(build.queue)
-        past = self.past(build.queue, build.after, projects)
-        found = Found(past)
-        revisions = {revision_name(it): it for it in build.changes}
-        places = {LANDING.format(queue=build.queue, place=it): it
-                  for it in range(past.place + 1, min(build.after, past.place + MANY) + 1)}
-        first = FIRST_HEADS.format(queue=build.queue)
-        landings: dict[int, tuple[str, str]] = {}
-        for ask in (Repository.here, Repository.find):
-            for project in projects:
-                wanted = [it for it in revisions if revisions[it] not in found.homes]
-                wanted += [it for it in places if places[it] not in landings]
-                wanted += [first] if past.heads[project.name] is None else []
-                for name, commit in (ask(self.repositories[project.name], *wanted) if wanted else {}).items():
-                    if name in revisions:
-                        found.homes[revisions[name]] = project.name, commit
-                    elif name in places:
-                        landings[places[name]] = project.name, commit
-                    else:
-                        past.heads[project.name] = commit
-        self.advance(build.queue, past, landings)
-        found.unknown = [it for it in build.changes if it not in found.homes]
-        found.lacking = [name for name, place in places.items() if place not in landings]
-        found.lacking += [f"{first} of {name}" for name, head in past.heads.items() if head is None]
+        is_known = past is not None and past.place == build.after and all(it.name in past.heads for it in projects)
+        asked: dict[str, dict[str, str]] = {}
+        for project in projects:
+            names = [revision_name(it) for it, name in wanted.items() if name == project.name]
+            names += [] if is_known else [f"refs/heads/{project.branch}", first_name(build.queue)]
+            asked[project.name] = self.repositories[project.name].ask(*names, keep=True) if names else {}
+        for it, name in wanted.items():
+            if name not in asked:
+                found.unknown.append(f"the gate has change {it[0]} in project {name}: add its [[project]] with the queue"
+                                     f" {build.queue} to companions.toml" if name else
+                                     f"the gate doesn't know change {it[0]}")
+            elif revision_name(it) in asked[name]:
+                found.homes[it] = name, asked[name][revision_name(it)]
+            else:
+                found.unknown.append(f"{self.repositories[name].address} has no {revision_name(it)}")
+                self.projects.pop(it[0], None)
+        found.past = past if past is not None and is_known else self.read(build, past, asked, found)
         return found
 
-    def past(self, queue: str, after: int, projects: list[Project]) -> Past:
-        """What is known of a queue's landings, none of them above `after`.
+    def homes(self, build: Build) -> dict[tuple[int, int], str | None]:
+        """The projects of a build's changes, as the gate names them: it is asked once a change."""
+        for change, _ in build.changes:
+            if change not in self.projects:
+                project = self.project_of(change)
+                if project is not None:
+                    self.projects[change] = project
+        return {it: self.projects.get(it[0]) for it in build.changes}
 
-        All landings are listed where nothing is known of one of the projects, or where what is known is too new, since
-        a restored gate comes from behind. Otherwise what was noted is enough, and what is asked for doesn't grow with
-        what has landed.
-        """
+    def noted(self, queue: str, after: int) -> Past | None:
+        """What is noted of a queue's landings, unless it is too new, since a restored gate comes from behind."""
         noted = self.notes.get(f"past {queue}")
-        if noted is None or noted["place"] > after or any(it.name not in noted["heads"] for it in projects):
-            return self.listed(queue, after, projects)
-        return Past(noted["place"], {it.name: noted["heads"][it.name] for it in projects})
+        if noted is None or "landed" not in noted or noted["place"] > after:
+            return None
+        return Past(noted["place"], noted["heads"], set(noted["landed"]))
 
-    def listed(self, queue: str, after: int, projects: list[Project]) -> Past:
-        landings: dict[int, tuple[str, str]] = {}
-        past = Past(0, {})
-        for project in projects:
-            names = self.repositories[project.name].listed(f"refs/landings/{queue}/*")
-            past.heads[project.name] = names.get(FIRST_HEADS.format(queue=queue))
-            for name, commit in names.items():
-                place = int(name.rpartition("/")[2])
-                if 0 < place <= after:
-                    landings[place] = project.name, commit
-        names_of: dict[str, str] = {it.name: FIRST_HEADS.format(queue=queue) for it in projects if past.heads[it.name]}
-        while past.place + 1 in landings:
-            past.place += 1
-            project_name, past.heads[project_name] = landings[past.place]
-            names_of[project_name] = LANDING.format(queue=queue, place=past.place)
-        for name, landing in names_of.items():
-            self.repositories[name].fetch(landing)
-        self.keep(queue, past)
+    def read(self, build: Build, past: Past | None, asked: Mapping[str, Mapping[str, str]], found: Found) -> Past:
+        """Reads the landings up to `after` from the branches, which nobody but the lander moves, and notes them."""
+        queue, branches = build.queue, []
+        for project in self.settings.projects_of(queue):
+            repository, first = self.repositories[project.name], asked[project.name].get(first_name(queue))
+            self.compare_author(repository, first, found)
+            branches.append(Branch(project.name, repository, queue, asked[project.name][f"refs/heads/{project.branch}"],
+                                   first and repository.commit(first), self.places(repository, queue)))
+        lines = self.later(branches, past)
+        if past is None or lines is None:
+            past, lines = Past(), lines_of(branches, build.after)
+        landings = [it for it in in_order(lines.values()) if past.place < it.place <= build.after]
+        for branch in branches:
+            base = base_of(branch, lines[branch.project])
+            if branch.project not in past.heads and base is not None:
+                past.heads[branch.project] = base
+        for it in landings:
+            if it.place == past.place + 1:
+                past.place, past.heads[it.project] = it.place, it.commit
+                past.landed.add(it.project)
+        missing = set(range(past.place + 1, build.after + 1)) - {it.place for it in landings}
+        found.lacking += [f"no branch of the queue {queue} has its landing {place}" for place in sorted(missing)[:3]]
+        if past.place < build.after and not missing:
+            found.lacking.append(f"the branches of the queue {queue} have a landing twice behind {past.place}")
+        found.lacking += [f"the branch of {it.project} isn't at its first note, {first_name(queue)}"
+                          for it in branches if it.project not in past.heads]
+        self.notes.put(f"past {queue}", {"place": past.place, "heads": past.heads, "landed": sorted(past.landed)})
         return past
 
-    def advance(self, queue: str, past: Past, landings: dict[int, tuple[str, str]]) -> None:
-        """Takes the landings that were found, as far as none is missing, into what is known."""
-        before = self.notes.get(f"past {queue}")
-        while past.place + 1 in landings:
-            past.place += 1
-            project, past.heads[project] = landings[past.place]
-        if before != {"place": past.place, "heads": past.heads}:
-            self.keep(queue, past)
+    def later(self, branches: list[Branch], past: Past | None) -> dict[str, Line] | None:
+        """What the branches have above what is noted; none where that isn't in them."""
+        lines = {}
+        for branch in branches if past is not None else ():
+            head = past.heads.get(branch.project) if past is not None else None
+            above = branch.up(head) if head is not None else branch.down().landings
+            if above is None:
+                return None
+            lines[branch.project] = Line(head or (above[0].parent if above else None), above)
+        return lines
 
-    def keep(self, queue: str, past: Past) -> None:
-        """Notes what is known of a queue's landings, and forgets the names before: the last one has their commits."""
-        self.notes.put(f"past {queue}", {"place": past.place, "heads": past.heads})
-        for project, head in past.heads.items():
-            names = self.repositories[project].names(f"refs/landings/{queue}")
-            last = LANDING.format(queue=queue, place=past.place)
-            self.repositories[project].drop(*(it for it, commit in names.items() if commit != head and it <= last))
+    def places(self, repository: Repository, queue: str) -> Callable[[], Mapping[str, int]]:
+        """The places of landings in the form of an earlier version: they are asked for where there is one."""
+        found: dict[str, int] = {}
+
+        def ask() -> Mapping[str, int]:
+            if not found:
+                found.update(places_of(repository.listed(f"refs/landings/{queue}/*"), queue))
+            return found
+        return ask
+
+    def compare_author(self, repository: Repository, first: str | None, found: Found) -> None:
+        """Whoever merges with another author makes other commits."""
+        differs = self.differs(repository, first)
+        if differs is not None:
+            found.lacking.append(differs)
+
+    def differs(self, repository: Repository, first: str | None) -> str | None:
+        """What to say where the lander has another author than the settings, by a first note's object."""
+        author = None if first is None else author_of(text_of(repository, first))
+        if author in (None, self.settings.author):
+            return None
+        return f"lander.author is {self.settings.author} here, and {author} where the lander runs: make them the same"
+
+    def other_author(self) -> str | None:
+        """What to say where a lander has another author than the settings. A repository that is away says nothing."""
+        for project in self.settings.projects.values():
+            repository, name = self.repositories[project.name], first_name(project.queue)
+            try:
+                differs = self.differs(repository, repository.ask(name).get(name))
+            except GitFault:
+                continue
+            if differs is not None:
+                return differs
+        return None
 
     def forget(self, build: Build) -> None:
         """Drops the revisions' names from a mirror that has too many: what is built again is fetched again."""
@@ -267,6 +317,16 @@ class Trees:
             names = self.repositories[project.name].names("refs/changes")
             if len(names) > KEPT:
                 self.repositories[project.name].drop(*(it for it in names if it not in used))
+
+
+def base_of(branch: Branch, line: Line) -> str | None:
+    """What a project without a landing is for a build: what its first landing will be merged onto.
+
+    That is the first note's commit if the branch is still there, since others than the lander may push notes.
+    """
+    if line.landings:
+        return line.landings[0].parent
+    return branch.first if branch.first == branch.tip else None
 
 
 def remove_all(folder: Path) -> None:

@@ -2,7 +2,8 @@
 
 It may be killed at any moment: the id of a take is on disk before it is sent, and what a job came to before it is told.
 The gate may be away, and may have another file when it is back, under whose numbers other builds are meant. So the
-worker sends its take again right before each result: a gate that gives the same reply means the same build.
+worker sends its take again right before each result: a gate that gives the same reply means the same build. A success
+is of the landing commit that was tested, by its id: for another build of the same number it says nothing.
 
 Logs are kept, one a build: an operator decides how long.
 """
@@ -20,10 +21,10 @@ from pathlib import Path
 from typing import Any, NoReturn
 
 from companions import job, settings
-from companions.gate import Answer, Delivery, Gate, NoAnswer, say
-from companions.ids import id_of
+from companions.gate import Answer, Delivery, Gate, NoAnswer, expected, say
+from companions.ids import id_of, success_id
 from companions.outbox import Notes
-from companions.repository import GitFault
+from companions.repository import GitFault, untested
 from companions.settings import Settings, SettingsFault
 from companions.starting import alone
 from companions.trees import Build, Conflict, Made, Trees, UnknownChange, build_of
@@ -37,6 +38,8 @@ Reply = dict[str, Any]
 MACHINE = (OSError, sqlite3.Error, GitFault)
 # A worker that loses one build after another rests longer each time, up to so many looks.
 LONGEST_REST = 64
+# So often a worker looks whether the lander has its author, as a multiple of `worker.look`.
+AUTHOR = 30
 
 
 class Unwanted(Exception):
@@ -79,13 +82,23 @@ class Worker:
         self.mark = f"GATED_WORKER={self.folder}"
         self.notes = Notes(self.folder / "notes.db")
         self.gate = Gate(known.url, known.account("worker"), part=self.part)
-        self.trees = Trees(known, self.folder, self.notes, self.mark)
+        self.trees = Trees(known, self.folder, self.notes, self.mark, self.project_of)
         self.losses = 0
+        self.said, self.author_at = "", 0.0
 
     def say(self, what: str) -> None:
         say(self.part, what)
 
+    def project_of(self, change: int) -> str | None:
+        """The project of a change, by the gate."""
+        said = self.gate.change(change)
+        with expected(f"/changes/{change}"):
+            return None if said is None else str(said["project"])
+
     def run(self) -> NoReturn:
+        said = untested()
+        if said is not None:
+            self.say(said)
         while True:
             try:
                 self.begin()
@@ -109,7 +122,8 @@ class Worker:
             self.say(f"{build}: lost, since the worker was stopped meanwhile")
             tell_if_possible(self.log_of(held["take"], build), "ended: lost, since the worker was stopped meanwhile")
             self.note(held["take"], held["reply"], "lost", None, None)
-        self.carry_on(held["take"], self.report(held["take"], held["reply"], held.get("outcome", "lost")))
+        result = held.get("outcome", "lost"), held.get("commit")
+        self.carry_on(held["take"], self.report(held["take"], held["reply"], *result))
 
     def stop_leftovers(self) -> None:
         group = self.notes.get("group")
@@ -124,6 +138,9 @@ class Worker:
         A refusal spends no id, so one id does until there is a build.
         """
         held = self.notes.get("held")
+        if held is None and self.has_other_author():
+            time.sleep(max(self.settings.pause, self.settings.look))
+            return
         if held is None:
             held = {"take": str(uuid.uuid4())}
             self.notes.put("held", held)
@@ -138,6 +155,18 @@ class Worker:
             self.notes.drop("held")
             time.sleep(max(self.settings.pause, self.settings.look))
 
+    def has_other_author(self) -> bool:
+        """Whether the lander merges with another author: then nothing that is tested here could land."""
+        if time.monotonic() < self.author_at:
+            return False
+        said = self.trees.other_author()
+        if said is None:
+            self.author_at = time.monotonic() + AUTHOR * self.settings.look
+        elif said != self.said:
+            self.say(f"takes nothing: {said}")
+        self.said = said or ""
+        return said is not None
+
     def take(self, take: str) -> Answer:
         return self.gate.post("worker", {"id": take, "kind": "take", "worker": self.name})
 
@@ -148,9 +177,9 @@ class Worker:
             build = build_of(reply)
             self.say(str(build))
             try:
-                outcome = self.build(take, reply, build)
+                outcome, commit = self.build(take, reply, build)
                 lost = outcome == "lost"
-                reply = self.report(take, reply, outcome) if outcome is not None else self.let_go(build)
+                reply = self.report(take, reply, outcome, commit) if outcome is not None else self.let_go(build)
             finally:
                 self.job_ended()
             self.losses = self.losses + 1 if lost else 0
@@ -168,8 +197,9 @@ class Worker:
         except (OSError, GitFault) as fault:
             self.say(f"its trees can't be removed: {fault}")
 
-    def build(self, take: str, reply: Reply, build: Build) -> str | None:
-        """The outcome of a build, which is noted; none if it isn't wanted any more."""
+    def build(self, take: str, reply: Reply, build: Build) -> tuple[str | None, str | None]:
+        """The outcome of a build, which is noted, and the commit that was tested; no outcome if it isn't wanted any
+        more."""
         begin = time.monotonic()
         log = self.log_of(take, build)
         made: Made | None = None
@@ -180,7 +210,7 @@ class Worker:
             outcome, why = self.run_job(build, made, take, log, look)
         except Unwanted:
             tell_if_possible(log, "ended: not wanted any more")
-            return None
+            return None, None
         except Conflict as fault:
             outcome, why = "failure", str(fault)
         except (*MACHINE, UnknownChange) as fault:
@@ -189,7 +219,7 @@ class Worker:
         tell_if_possible(log, f"ended: {outcome}, {why}, after {seconds} s")
         self.say(f"build {build.number}: {outcome}, {why}")
         self.note(take, reply, outcome, made, seconds)
-        return outcome
+        return outcome, made.commit if made else None
 
     def log_of(self, take: str, build: Build) -> Path:
         """A build's log: a number may come again from another file of the gate, with another take."""
@@ -228,23 +258,24 @@ class Worker:
 
         A loss may be told without, so that a full disk doesn't keep the build from other workers.
         """
+        commit = made.commit if made else None
         record = {"take": take, **{it: reply[it] for it in ("build", "queue", "change", "revision", "job")},
-                  "project": made.project if made else None, "outcome": outcome,
+                  "project": made.project if made else None, "outcome": outcome, "commit": commit,
                   "trees": made.trees if made else {}, "seconds": seconds}
         try:
             with (self.folder / "builds.jsonl").open("a", encoding="utf-8") as records:
                 records.write(json.dumps(record) + "\n")
                 records.flush()
                 os.fsync(records.fileno())
-            self.notes.put("held", {"take": take, "reply": reply, "outcome": outcome})
+            self.notes.put("held", {"take": take, "reply": reply, "outcome": outcome, "commit": commit})
         except MACHINE as fault:
             if outcome != "lost":
                 raise
             self.say(f"the loss can't be noted: {fault}")
 
-    def report(self, take: str, reply: Reply, outcome: str) -> Reply | None:
+    def report(self, take: str, reply: Reply, outcome: str, commit: str | None) -> Reply | None:
         """Tells how a build ended, unless the gate means another one by the take: then that is given."""
-        told, answer = self.gate.until(lambda: self.exchange(take, reply, outcome), self.settings.pause)
+        told, answer = self.gate.until(lambda: self.exchange(take, reply, outcome, commit), self.settings.pause)
         if told:
             self.say(f"build {reply['build']}: {outcome} was told, and answered {answer.reply or answer.code}")
         else:
@@ -254,7 +285,7 @@ class Worker:
         self.notes.drop("held")
         return None
 
-    def exchange(self, take: str, reply: Reply, outcome: str) -> tuple[bool, Answer]:
+    def exchange(self, take: str, reply: Reply, outcome: str, commit: str | None) -> tuple[bool, Answer]:
         """Sends the take again, and the result only if its reply is the same: whether it was sent, and the last answer.
 
         Both are sent again where one has no answer.
@@ -262,7 +293,7 @@ class Worker:
         again = self.take(take)
         if again.said != reply:
             return False, again
-        return True, self.gate.post("worker", result_of(take, reply, outcome))
+        return True, self.gate.post("worker", result_of(take, reply, outcome, commit))
 
     def rest(self) -> None:
         """Rests after a loss, so that a broken machine doesn't take and lose what others could build."""
@@ -283,11 +314,14 @@ class Waiting:
         self.look.check()
 
 
-def result_of(take: str, reply: Reply, outcome: str) -> Delivery:
-    """The result of a build, under an id that stands for all that it says."""
-    number = reply["build"]
-    return {"id": id_of(take, "result", number, reply["change"], reply["revision"], outcome), "kind": "result",
-            "build": number, "outcome": outcome}
+def result_of(take: str, reply: Reply, outcome: str, commit: str | None) -> Delivery:
+    """The result of a build, under an id that stands for all that it says; a success's also for the commit."""
+    number, change, revision = reply["build"], reply["change"], reply["revision"]
+    if outcome == "success" and commit is not None:
+        identity = success_id(number, reply["queue"], change, revision, reply["job"], commit)
+    else:
+        identity = id_of(take, "result", number, change, revision, outcome)
+    return {"id": identity, "kind": "result", "build": number, "outcome": outcome}
 
 
 def tell(log: Path, line: str) -> None:

@@ -11,6 +11,18 @@ WHO = {f"GIT_{role}_{it}": value for role in ("AUTHOR", "COMMITTER")
        for it, value in (("NAME", "test"), ("EMAIL", "test@localhost"), ("DATE", "2024-01-01T00:00:00Z"))}
 
 
+def message_of(queue: str, place: int, change: int) -> str:
+    """What a landing commit says."""
+    return (f"Land change {change}: A commit\n\nGate-Queue: {queue}\nGate-Place: {place}\nGate-Change: {change}\n"
+            "Gate-Revision: 1\n")
+
+
+def earlier_message(first: str, queue: str, order: int, change: int) -> str:
+    """What one of an earlier version says."""
+    return (f"Land change {change}: A commit\n\nGate-File: {first}\nGate-Queue: {queue}\nGate-Order: {order}\n"
+            f"Gate-Change: {change}\nGate-Revision: 1\n")
+
+
 class Origin:
     """A project's repository in the forge."""
 
@@ -31,6 +43,15 @@ class Origin:
             entries[name] = f"100644 blob {self.git('hash-object', '-w', '--stdin', given=text)}"
         tree = self.git("mktree", given="".join(f"{kind}\t{name}\n" for name, kind in sorted(entries.items())))
         return self.git("commit-tree", tree, "-m", "A commit", *(word for it in parents for word in ("-p", it)))
+
+    def land(self, queue: str, place: int, files: dict[str, str], message: str | None = None) -> str:
+        """A landing on `main`, with its note: a change that adds these files is merged."""
+        head = self.git("rev-parse", "main")
+        own, message = self.commit(files, head), message or message_of(queue, place, 900 + place)
+        landed = self.git("commit-tree", self.tree(own), "-p", head, "-p", own, "-F", "-", given=message)
+        self.name("refs/heads/main", landed)
+        self.landing(queue, place, landed)
+        return landed
 
     def name(self, name: str, commit: str) -> None:
         self.git("update-ref", name, commit)

@@ -17,6 +17,7 @@ from companions.compared import Compared, Repository
 from companions.gate import Answer, NoAnswer
 from companions.ids import revision_id
 from companions.settings import Project, Settings
+from companions.tests.forge import message_of
 
 TOP = Path(__file__).resolve().parents[2]
 SPEC = importlib.util.spec_from_file_location("forge_adapter", TOP / "examples" / "forge" / "adapter.py")
@@ -90,10 +91,10 @@ class AdapterTest(unittest.TestCase):
         return it
 
     def land(self, change: int, revision: int) -> None:
-        """The lander notes a landing."""
-        message = f"Land change {change}\n\nGate-Change: {change}\nGate-Revision: {revision}\n"
+        """The lander has landed a change on the branch."""
+        message = message_of("core", 1, change).replace("Revision: 1", f"Revision: {revision}")
         commit = self.git("commit-tree", f"refs/changes/{change}/{revision}^{{tree}}", "-m", message)
-        self.git("update-ref", f"refs/landings/core/{change:06d}", commit)
+        self.git("update-ref", "refs/heads/main", commit)
 
     def approve(self, change: int, revision: int = 1) -> None:
         self.adapter.note("approved", change, revision)

@@ -8,9 +8,10 @@ from dataclasses import replace
 from unittest import mock
 
 from companions.forges import Place
-from companions.landings import Landing
+from companions.repository import Repository
 from companions.requests import State, Vote
 from companions.tests.adapter_case import Case
+from companions.tests.forge import earlier_message, message_of
 
 
 class Requests(Case):
@@ -185,11 +186,7 @@ class Closings(Case):
     def test_what_the_branch_has_is_not_closed_whatever_the_gate_says(self) -> None:
         place = self.be(12, 0, self.approve(1))
         self.look()
-        first = self.adapter.gate.first()
-        landing = Landing(str(first), "core", 1, 1, 1)
-        merge = self.origin.git("commit-tree", self.origin.tree(self.commits[0]), "-p", self.base, "-p",
-                                self.commits[0], "-m", landing.message("Title"))
-        self.origin.name("refs/heads/main", merge)
+        self.origin.land("core", 1, {"own": "1"}, message_of("core", 1, 1))
         self.be(12, 1, state=State.MERGED)
         self.assertEqual((self.look(place), self.look()), ([], []))
         self.assertTrue(self.adapter.changes.told(1).landed)
@@ -291,27 +288,41 @@ class Troubles(Case):
 
 
 class Branches(Case):
-    def merge(self, change: int, onto: str) -> str:
-        """A landing of a change, as the lander pushes it."""
-        message = Landing(str(self.adapter.gate.first()), "core", change, change, 1).message("Title")
-        commit = self.origin.git("commit-tree", self.origin.tree(onto), "-p", onto, "-m", message)
-        self.origin.name("refs/heads/main", commit)
-        return commit
+    def close(self, *numbers: int) -> list[str]:
+        """These requests are closed; what is told."""
+        for number in numbers:
+            self.be(number, 0, state=State.CLOSED)
+        return self.look()
 
     def test_a_branch_is_read_on_from_where_it_was_read(self) -> None:
         for number in (12, 13, 14):
             self.be(number, 0)
         self.look()
-        read, landings = [], self.adapter.looks.landings
-        self.adapter.looks.landings = lambda *it: read.append(it[2]) or landings(*it)
-        one = self.merge(1, self.base)
-        self.be(12, 0, state=State.CLOSED)
-        self.assertEqual(self.look(), [])
-        two = self.merge(2, one)
-        self.be(13, 0, state=State.CLOSED)
-        self.be(14, 0, state=State.CLOSED)
-        self.assertEqual(self.look(), ["closed 3 1"])
-        self.assertEqual(read, [one, f"{one}..{two}", f"{two}..{two}"])
+        read: list[tuple[str, ...]] = []
+        with mock.patch.object(Repository, "line", autospec=True, side_effect=lambda of, *it, line=Repository.line: (
+                read.append(it) or line(of, *it))):
+            one = self.origin.land("core", 1, {"own": "1"}, message_of("core", 1, 1))
+            self.assertEqual(self.close(12), [])
+            two = self.origin.land("core", 2, {"own": "2"}, message_of("core", 2, 2))
+            self.assertEqual(self.close(13, 14), ["closed 3 1"])
+        self.assertEqual(read, [(one,), (two, one)])
+
+    def test_landings_of_both_forms_and_of_this_file_are_read(self) -> None:
+        first = str(self.adapter.gate.first())
+        for number in (12, 13, 14):
+            self.be(number, 0)
+        self.look()
+        first = str(self.adapter.gate.first())
+        self.origin.land("core", 1, {"own": "0"}, earlier_message("0c000000-0000-4000-8000-000000000001", "core", 1, 3))
+        self.origin.land("core", 1, {"own": "1"}, earlier_message(first, "core", 1, 1))
+        self.origin.land("core", 2, {"own": "2"}, message_of("core", 2, 2))
+        self.assertEqual(self.close(12, 13, 14), ["closed 3 1"])
+
+    def test_what_another_file_has_landed_is_below_the_first_note(self) -> None:
+        self.be(12, 0)
+        self.look()
+        self.origin.first("core", self.origin.land("core", 7, {"own": "1"}, message_of("core", 7, 1)))
+        self.assertEqual(self.close(12), ["closed 1 1"])
 
 
 class People(Case):

@@ -16,7 +16,7 @@ from companions.lander import QueueLander
 from companions.outbox import Notes
 from companions.settings import Project, Settings
 from companions.tests.forge import Origin
-from companions.tests.test_lander import FIRST, GateOfAScene
+from companions.tests.lander_case import FIRST, GateOfAScene
 
 LAST = "0b000000-0000-4000-8000-000000000007"
 OWN = "0b000000-0000-4000-8000-000000000008"

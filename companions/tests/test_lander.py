@@ -2,150 +2,44 @@
 from __future__ import annotations
 
 import dataclasses
-import subprocess
-import tempfile
 import unittest
-from pathlib import Path
-from typing import Any
 from unittest import mock
 
-from companions.answers import Answers
-from companions.gate import Answer, NoAnswer, Order, QueueStatus, Status
-from companions.ids import id_of
-from companions.lander import Again, Lander, QueueLander, QueueStops
-from companions.outbox import Notes
+from companions.checks import Again, QueueStops
+from companions.gate import NoAnswer
+from companions.ids import id_of, success_id
+from companions.lander import Lander
 from companions.repository import GitFault, Repository
-from companions.settings import Project, Settings
-
-FIRST = "0b000000-0000-4000-8000-000000000001"
+from companions.tests.lander_case import FIRST, LanderCase
 
 
-class GateOfAScene:
-    """Shows orders, takes what is told of them, and can lose what it took."""
-
-    def __init__(self) -> None:
-        self.file = FIRST
-        self.shown: list[Order] = []
-        self.landed: list[Order] = []
-        self.taken: dict[str, dict[str, Any]] = {}
-        self.told: list[dict[str, Any]] = []
-        self.changes: dict[int, dict[str, Any]] = {}
-        self.silent = False
-
-    def orders(self) -> list[Order]:
-        return list(self.shown)
-
-    def first(self) -> str | None:
-        return self.file
-
-    def knows(self, delivery: str) -> bool:
-        return delivery in self.taken
-
-    def change(self, number: int) -> dict[str, Any] | None:
-        return self.changes.get(number)
-
-    def status(self) -> Status:
-        return Status([QueueStatus("core", 4, len(self.landed), [])], [])
-
-    def post(self, door: str, delivery: dict[str, Any]) -> Answer:
-        self.told.append(delivery)
-        if self.silent:
-            raise NoAnswer("silent")
-        order = next((it for it in self.shown if it.order == delivery["order"]), None)
-        if order is None:
-            return Answer({"code": "E10", "error": "no-order"})
-        self.shown.remove(order)
-        if delivery["kind"] == "landed":
-            self.landed.append(order)
-        said = {"n": len(self.landed), "reply": "landed"} if delivery["kind"] == "landed" else {"reply": "removed"}
-        self.taken[delivery["id"]] = said
-        return Answer(said)
-
-
-class LanderTest(unittest.TestCase):
-    def setUp(self) -> None:
-        folder = tempfile.TemporaryDirectory()
-        self.addCleanup(folder.cleanup)
-        self.folder = Path(folder.name)
-        for name in ("lib", "app"):
-            self.git(name, "init", "--quiet", "--bare", "--initial-branch=main", str(self.folder / name))
-            self.commit(name, "main", {"file": "one"}, [])
-        projects = {it: Project(it, "core", str(self.folder / it), "main", {}) for it in ("lib", "app")}
-        self.settings = Settings("http://localhost", {}, self.folder / "companions", projects, 1, 1, 1, 1, "gate <g@l>",
-                                 has_adapter=False)
-        self.gate = GateOfAScene()
-        self.lander = self.start()
-
-    def start(self) -> QueueLander:
-        """A lander, started anew."""
-        notes = Notes(self.settings.folder / "lander" / "notes.db")
-        self.addCleanup(notes.tables.close)
-        answers = Answers(self.settings.folder)
-        lander = QueueLander("core", self.settings, self.gate, notes, answers)  # type: ignore[arg-type]
-        lander.begin()
-        return lander
-
-    def git(self, name: str, *words: str) -> str:
-        where = [] if words[0] == "init" else ["-C", str(self.folder / name)]
-        who = ["-c", "user.name=ann", "-c", "user.email=ann@localhost"]
-        return subprocess.run(["git", *where, *who, *words], check=True, capture_output=True, text=True).stdout.strip()
-
-    def commit(self, name: str, ref: str, files: dict[str, str], onto: list[str]) -> str:
-        """A commit of these files alone, at a name."""
-        entries = []
-        for file, text in sorted(files.items()):
-            blob = subprocess.run(["git", "-C", str(self.folder / name), "hash-object", "-w", "--stdin"], input=text,
-                                  check=True, capture_output=True, text=True).stdout.strip()
-            entries.append(f"100644 blob {blob}\t{file}\n")
-        tree = subprocess.run(["git", "-C", str(self.folder / name), "mktree"], input="".join(entries), check=True,
-                              capture_output=True, text=True).stdout.strip()
-        parents = [word for it in onto for word in ("-p", it)]
-        made = self.git(name, "commit-tree", tree, *parents, "-m", f"Make {ref}")
-        self.git(name, "update-ref", ref if ref.startswith("refs/") else f"refs/heads/{ref}", made)
-        return made
-
-    def change(self, number: int, name: str = "lib", text: str | None = None) -> None:
-        """Revision 1 of a change adds a file, or turns the one that is there, from the first commit of the branch."""
-        files = {"file": "one", f"file-{number}": "new"} if text is None else {"file": text}
-        self.commit(name, f"refs/changes/{number}/1", files, [self.git(name, "rev-list", "--max-parents=0", "main")])
-
-    def order(self, order: int, change: int, name: str = "lib") -> Order:
-        """The gate shows this order alone."""
-        self.gate.shown = [Order("core", order, name, change, 1)]
-        return self.gate.shown[0]
-
-    def land(self, order: int, change: int, name: str = "lib") -> None:
-        self.change(change, name)
-        self.lander.carry_out(self.order(order, change, name))
-
-    def head(self, name: str = "lib") -> str:
-        return self.git(name, "rev-parse", "main")
-
-    def notes(self) -> dict[str, str]:
-        """Each note, and the subject of its commit."""
-        found = {}
-        for name in ("lib", "app"):
-            listed = self.git(name, "for-each-ref", "--format=%(refname) %(subject)", "refs/landings")
-            found.update({f"{name} {line.split()[0][14:]}": line.partition(" ")[2] for line in listed.splitlines()})
-        return found
-
+class LanderTest(LanderCase):
     def test_an_order_is_landed(self) -> None:
         self.land(3, 101)
         told = id_of(FIRST, "landed", "core", 3, 101, 1)
         self.assertEqual(self.gate.told, [{"id": told, "kind": "landed", "order": 3}])
         self.assertEqual(self.git("lib", "log", "-1", "--format=%B", "main"),
-                         f"Land change 101: Make refs/changes/101/1\n\nGate-File: {FIRST}\nGate-Queue: core\n"
-                         "Gate-Order: 3\nGate-Change: 101\nGate-Revision: 1")
+                         "Land change 101: Make refs/changes/101/1\n\nGate-Queue: core\nGate-Place: 1\n"
+                         "Gate-Change: 101\nGate-Revision: 1")
         self.assertEqual(self.git("lib", "show", "main:file-101"), "new")
-        self.assertEqual(self.git("lib", "rev-parse", "refs/landings/core/000001"), self.head())
+
+    def test_a_note_has_what_is_no_function_of_what_is_merged(self) -> None:
+        self.land(3, 101)
+        identity = success_id(43, "core", 101, 1, "unit", self.head())
+        tag = self.git("lib", "cat-file", "tag", "refs/landings/core/000001")
+        self.assertRegex(tag, rf"\Aobject {self.head()}\ntype commit\ntag core/000001\ntagger gate <g@l> \d+ \+0000\n\n"
+                              rf"Gate-File: {FIRST}\nGate-Order: 3\nGate-Evidence: asked\n"
+                              rf"Gate-Job: unit 43 {identity}\Z")
+        first = self.git("app", "cat-file", "tag", "refs/landings/core/000000")
+        self.assertRegex(first, rf"\Aobject {self.head('app')}\n(.*\n)*\nGate-Author: gate <g@l>\nGate-Git: \d+\.\d+\Z")
 
     def test_places_are_counted_over_the_projects_of_a_queue(self) -> None:
         self.land(1, 101)
         self.land(2, 102, "app")
         self.assertEqual(self.notes(), {
-            "lib core/000000": "Make main", "app core/000000": "Make main",
-            "lib core/000001": "Land change 101: Make refs/changes/101/1",
-            "app core/000002": "Land change 102: Make refs/changes/102/1"})
+            "lib core/000000": self.root("lib"), "app core/000000": self.root("app"),
+            "lib core/000001": self.head("lib"), "app core/000002": self.head("app")})
+        self.assertIn(f"\nGate-With: lib {self.head('lib')}", self.git("app", "log", "-1", "--format=%B", "main"))
 
     def test_what_conflicts_is_refused(self) -> None:
         self.change(101, text="two")
@@ -185,16 +79,10 @@ class LanderTest(unittest.TestCase):
     def test_an_order_that_became_another_changes_is_not_told(self) -> None:
         self.change(101)
         order = self.order(1, 101)
-        self.order(1, 102)
+        self.order(1, 102, is_tested=False)
         with self.assertRaises(Again):
             self.lander.carry_out(order)
-        self.assertEqual((self.gate.told, self.notes()["lib core/000000"]), ([], "Make main"))
-
-    def lose(self, landings: int) -> None:
-        """The gate is restored as it was some landings ago."""
-        for _ in range(landings):
-            self.gate.landed.pop()
-            self.gate.taken.popitem()
+        self.assertEqual((self.gate.told, self.head()), ([], self.root("lib")))
 
     def test_a_restored_gate_is_told_what_the_branches_have(self) -> None:
         for order, change in enumerate((101, 102, 103), 1):
@@ -214,6 +102,7 @@ class LanderTest(unittest.TestCase):
         head = self.head()
         self.lose(1)
         self.change(103)
+        del self.gate.changes[102]
         with self.assertRaisesRegex(QueueStops, "tell that revision and its approval again"):
             self.lander.carry_out(self.order(2, 103))
         for state, said in (({"revision": 1, "state": "open"}, "approve that revision again"),
@@ -279,11 +168,9 @@ class LanderTest(unittest.TestCase):
         every.turn()
         self.assertEqual((self.gate.told, every.said), ([], {}))
 
-    def test_an_unknown_project_and_a_missing_revision_are_told(self) -> None:
+    def test_an_unknown_project_is_told(self) -> None:
         with self.assertRaisesRegex(QueueStops, "is of project site, which the settings don't have"):
-            self.lander.carry_out(self.order(1, 101, "site"))
-        with self.assertRaisesRegex(QueueStops, "has no refs/changes/101/1"):
-            self.lander.carry_out(self.order(1, 101))
+            self.lander.carry_out(self.order(1, 101, "site", is_tested=False))
         self.assertEqual(self.gate.told, [])
 
 

@@ -6,7 +6,8 @@ import unittest
 from pathlib import Path
 from unittest import mock
 
-from companions.repository import GitFault, Repository
+from companions.merging import Merge
+from companions.repository import GitFault, Merged, Repository
 from companions.tests.forge import Origin
 
 LANDING = "refs/landings/core/000001"
@@ -32,29 +33,48 @@ class Git(unittest.TestCase):
         self.repository.fetch(name)
         return commit
 
+    def merge(self, ours: str, theirs: str) -> str | None:
+        return self.repository.merge(Merge("core", 1, 2, 1, self.repository.parent(ours),
+                                           self.repository.parent(theirs), {}, "gate <gate@localhost>"))
+
     def test_a_merge_has_both_parents_and_both_contents(self) -> None:
         ours = self.change("refs/changes/1/1", {"a": "1"}, self.head)
         theirs = self.change("refs/changes/2/1", {"b": "1"}, self.head)
-        merged = self.repository.merge(ours, theirs, "Land it\n\nGate-Order: 7\n")
+        merged = self.merge(ours, theirs)
         assert merged is not None
-        shown = self.repository.git("show", "--no-patch", "--format=%P|%an|%ce|%B", merged)
-        self.assertEqual(shown, f"{ours} {theirs}|gate|gate@localhost|Land it\n\nGate-Order: 7")
+        shown = self.repository.git("show", "--no-patch", "--format=%P|%an|%ce|%s", merged)
+        self.assertEqual(shown, f"{ours} {theirs}|gate|gate@localhost|Land change 2: A commit")
         self.assertEqual(self.repository.git("ls-tree", "--name-only", merged).split(), ["a", "b", "text"])
-        self.assertEqual(self.repository.message(merged).strip(), "Land it\n\nGate-Order: 7")
+        self.assertEqual(self.repository.git("fsck", "--strict", merged), "")
 
-    def test_a_conflict_is_none_and_a_missing_commit_a_fault(self) -> None:
-        ours = self.change("refs/changes/1/1", {"text": "1\n"}, self.head)
-        theirs = self.change("refs/changes/2/1", {"text": "2\n"}, self.head)
-        self.assertIsNone(self.repository.merge(ours, theirs, "x"))
-        self.assertIsNone(self.repository.merge(ours, self.change("refs/changes/3/1", {"c": "1"}), "x"))
+    def test_a_conflict_names_its_files_and_a_missing_commit_is_a_fault(self) -> None:
+        ours = self.change("refs/changes/1/1", {"text": "1\n", "t\u00e4xt": "1"}, self.head)
+        theirs = self.change("refs/changes/2/1", {"text": "2\n", "t\u00e4xt": "2"}, self.head)
+        self.assertEqual(self.repository.merge_trees(ours, theirs), Merged(None, ("text", "t\u00e4xt")))
+        self.assertIsNone(self.merge(ours, theirs))
+        alone = self.change("refs/changes/3/1", {"c": "1"})
+        self.assertEqual(self.repository.merge_trees(ours, alone), Merged(None))
         with self.assertRaises(GitFault):
-            self.repository.merge(ours, "0" * 39 + "1", "x")
+            self.repository.merge_trees(ours, "0" * 39 + "1")
 
     def test_a_push_names_what_was_there(self) -> None:
         new = self.change("refs/changes/1/1", {"a": "1"}, self.head)
         self.assertTrue(self.repository.push({"refs/heads/main": (self.head, new), LANDING: (None, new)}))
         self.assertEqual(self.names(), {"refs/heads/main": new, "refs/landings/core/000001": new})
         self.assertEqual(self.repository.commit("refs/landings/core/000001"), new)
+
+    def test_a_push_takes_names_away(self) -> None:
+        self.origin.name("refs/landings/core/000009", self.head)
+        self.origin.name("refs/landings/core/000001/x", self.head)
+        self.assertTrue(self.repository.push({"refs/landings/core/000009": (self.head, None),
+                                              "refs/landings/core/000001/x": (self.head, None)}))
+        self.assertEqual(self.names(), {"refs/heads/main": self.head})
+
+    def test_only_names_that_begin_so_are_listed(self) -> None:
+        for name in ("refs/heads/refs/landings/core/000009", "refs/tags/refs/landings/core/000009",
+                     "refs/landings/core/000001"):
+            self.origin.name(name, self.head)
+        self.assertEqual(self.names(), {"refs/heads/main": self.head, "refs/landings/core/000001": self.head})
 
     def test_a_push_past_it_has_all_refused(self) -> None:
         past = self.origin.commit({"past": "1"}, self.head)

@@ -15,7 +15,7 @@ from companions.lander import Lander
 from companions.settings import Project, Settings
 from companions.tests.adapter_case import Case
 from companions.tests.forge import Origin
-from companions.tests.test_lander import GateOfAScene
+from companions.tests.lander_case import GateOfAScene
 
 
 class Stopped(unittest.TestCase):
@@ -66,7 +66,7 @@ class Stopped(unittest.TestCase):
     def test_a_queue_whose_order_is_gone_is_not_stopped(self) -> None:
         self.turn()
         self.gate.shown = [Order("core", 3, "lib", 8, 1)]
-        self.assertRegex(self.turn()["core"] or "", "has no refs/changes/8/1")
+        self.assertRegex(self.turn()["core"] or "", "refs/changes/8/1 of lib is gone")
         self.gate.shown = []
         self.assertIsNone(self.turn()["core"])
 

@@ -5,11 +5,13 @@ import unittest
 from pathlib import Path
 from unittest import mock
 
-from companions import trees
+from companions import landings, repository, trees
+from companions.landings import first_text, tag
+from companions.merging import Merge
 from companions.outbox import Notes
 from companions.repository import GitFault, Repository
 from companions.settings import Project, Settings, SettingsFault
-from companions.tests.forge import Origin
+from companions.tests.forge import Origin, earlier_message
 from companions.trees import Build, Conflict, Made, Trees, UnknownChange
 
 MARK = "GATED_WORKER=test"
@@ -41,7 +43,9 @@ class TreesCase(unittest.TestCase):
         self.folder = Path(temporary.name)
         self.origins = {it: Origin(self.folder / f"{it}.git") for it in ("lib", "app", "site")}
         self.heads = {name: it.commit({"name": name, "text": "0\n"}) for name, it in self.origins.items()}
+        self.homes: dict[int, str | None] = {}
         for name, origin in self.origins.items():
+            origin.name("refs/heads/main", self.heads[name])
             origin.first("web" if name == "site" else "core", self.heads[name])
         self.projects = [Project(it, "web" if it == "site" else "core", str(self.folder / f"{it}.git"), "main")
                          for it in ("lib", "app", "site")]
@@ -50,17 +54,19 @@ class TreesCase(unittest.TestCase):
     def start(self) -> Trees:
         """A worker's trees, as after a start."""
         folder = self.folder / "worker"
-        return Trees(settings_of(self.folder, self.projects), folder, Notes(folder / "notes.db"), MARK)
+        notes = Notes(folder / "notes.db")
+        self.addCleanup(notes.tables.close)
+        return Trees(settings_of(self.folder, self.projects), folder, notes, MARK, lambda it: self.homes.get(it))
 
     def change(self, project: str, number: int, files: dict[str, str], onto: str | None = None) -> str:
         commit = self.origins[project].commit(files, onto or self.heads[project])
         self.origins[project].revision(number, 1, commit)
+        self.homes[number] = project
         return commit
 
     def land(self, project: str, place: int, files: dict[str, str]) -> str:
         """A landing on the project's head, which is then its head."""
-        self.heads[project] = self.origins[project].commit(files, self.heads[project])
-        self.origins[project].landing("core", place, self.heads[project])
+        self.heads[project] = self.origins[project].land("core", place, files)
         return self.heads[project]
 
     def make(self, what: Build) -> Made:
@@ -88,6 +94,25 @@ class Making(TreesCase):
         made = self.make(build(103, 1))
         landed = self.origins["lib"].git("merge-tree", "--write-tree", self.heads["lib"], own)
         self.assertEqual(made.trees, {"lib": landed, "app": self.origins["app"].tree(self.heads["app"])})
+        lander = Repository(str(self.origins["lib"].folder), self.folder / "lander", "gate <gate@localhost>")
+        lander.fetch("refs/heads/main", "refs/changes/103/1")
+        what = Merge("core", 2, 103, 1, lander.parent(self.heads["lib"]), lander.parent(own), {},
+                     "gate <gate@localhost>")
+        self.assertEqual(made.commit, lander.merge(what))
+
+    def test_a_commit_behind_a_change_of_another_project_is_another_one(self) -> None:
+        """Else a success of `app` alone would stand for one behind a change of `lib`."""
+        self.change("lib", 104, {"ahead": "1"})
+        self.change("app", 103, {"own": "1"})
+        alone = self.make(build(103, 1)) if self.land("lib", 1, {"text": "1\n"}) else None
+        behind = self.make(build(103, 0, [(104, 1)]))
+        assert alone is not None
+        self.assertEqual(alone.trees["app"], behind.trees["app"])
+        self.assertNotEqual(alone.commit, behind.commit)
+        message = self.trees.repositories["app"].message(behind.commit)
+        self.assertEqual(message.splitlines()[2:], [
+            "Gate-Queue: core", "Gate-Place: 2", "Gate-Change: 103", "Gate-Revision: 1",
+            f"Gate-With: lib {behind.commits['lib']}"])
 
     def test_each_project_begins_at_its_last_landing_up_to_after(self) -> None:
         self.change("lib", 103, {"own": "1"})
@@ -112,6 +137,7 @@ class Making(TreesCase):
 
     def test_a_change_without_a_common_past_is_a_conflict(self) -> None:
         self.origins["lib"].revision(103, 1, self.origins["lib"].commit({"own": "1"}))
+        self.homes[103] = "lib"
         with self.assertRaises(Conflict):
             self.make(build(103, 0))
 
@@ -121,6 +147,7 @@ class Making(TreesCase):
         self.trees = self.start()
         self.change("lib", 103, {"own": "1"})
         self.change("site", 104, {"own": "2"})
+        self.homes.update({103: "acme/lib", 104: "acme"})
         self.assertEqual(self.texts(self.make(build(103, 0)), "acme/lib")["own"], "1")
         self.assertEqual(self.texts(self.make(build(104, 0, queue="web")), "acme")["own"], "2")
 
@@ -138,35 +165,76 @@ class Waiting(TreesCase):
 
         def wait(what: str) -> None:
             waited.append(what)
+            self.assertLess(len(waited), 3)
             if len(waited) == 1:
-                self.heads["lib"] = self.origins["lib"].commit({"text": "3\n"}, self.heads["lib"])
-                self.origins["lib"].landing("core", 3, self.heads["lib"])
+                self.land("lib", 3, {"text": "3\n"})
             else:
                 self.land("app", 2, {"text": "2\n"})
 
         made = self.trees.make(build(103, 3), "tree", wait, 0.0)
-        self.assertIn("waits for refs/landings/core/000002, refs/landings/core/000003 in", waited[0])
-        self.assertIn("waits for refs/landings/core/000002 in", waited[1])
+        self.assertEqual(waited, [
+            "waits: no branch of the queue core has its landing 2, no branch of the queue core has its landing 3",
+            "waits: no branch of the queue core has its landing 2"])
         self.assertEqual((self.texts(made, "lib")["text"], self.texts(made, "app")["text"]), ("3\n", "2\n"))
 
     def test_it_waits_for_a_projects_first_head(self) -> None:
         self.change("lib", 103, {"own": "1"})
         self.origins["app"].git("update-ref", "-d", "refs/landings/core/000000")
-        with self.assertRaisesRegex(Waited, "refs/landings/core/000000 of app"):
+        said = "waits: the branch of app isn't at its first note, refs/landings/core/000000"
+        with self.assertRaisesRegex(Waited, said):
+            self.make(build(103, 0))
+        self.origins["app"].first("core", self.origins["app"].commit({"of": "somebody"}))
+        with self.assertRaisesRegex(Waited, said):
             self.make(build(103, 0))
         self.origins["app"].first("core", self.heads["app"])
         self.assertEqual(self.texts(self.make(build(103, 0)), "app")["name"], "app")
 
-    def test_a_change_of_no_repository_is_unknown_after_a_while(self) -> None:
-        with self.assertRaisesRegex(UnknownChange, "queue core has refs/changes/103/1: add the .* of change 103"):
-            self.trees.make(build(103, 0), "tree", no_wait, 0.0)
-        with self.assertRaisesRegex(Waited, "waits for refs/changes/103/1 in"):
-            self.trees.make(build(103, 0), "tree", no_wait, 60.0)
+    def test_a_projects_first_landing_tells_what_it_was_before(self) -> None:
+        """A build that was given out before it is looked at behind it, and whatever the first note is by then."""
+        self.change("lib", 103, {"own": "1"})
+        self.land("app", 1, {"text": "1\n"})
+        self.origins["app"].git("update-ref", "-d", "refs/landings/core/000000")
+        self.assertEqual(self.texts(self.make(build(103, 0)), "app")["text"], "0\n")
 
-    def test_a_change_of_another_queues_project_is_unknown(self) -> None:
-        self.change("site", 103, {"own": "1"})
-        with self.assertRaises(UnknownChange):
-            self.make(build(103, 0))
+    def test_another_author_is_waited_for(self) -> None:
+        self.change("lib", 103, {"own": "1"})
+        for author, is_right in (("other <other@localhost>", False), ("gate <gate@localhost>", True)):
+            content = tag(self.heads["lib"], "core/000000", "g <g@l>", 0, first_text(author, "2.39")).decode()
+            note = self.origins["lib"].git("hash-object", "-t", "tag", "-w", "--stdin", given=content)
+            self.origins["lib"].first("core", note)
+            said = ("lander.author is gate <gate@localhost> here, and other <other@localhost> where the lander runs:"
+                    " make them the same")
+            self.assertEqual(self.trees.other_author(), None if is_right else said)
+            if is_right:
+                self.make(build(103, 0))
+            else:
+                with self.assertRaisesRegex(Waited, said):
+                    self.make(build(103, 0))
+
+    def test_a_change_is_unknown_after_a_while(self) -> None:
+        for project, said in ((None, "the gate doesn't know change 103"), ("lib", "lib.git has no refs/changes/103/1"),
+                              ("site", "the gate has change 103 in project site: add its .* with the queue core")):
+            self.homes[103] = project
+            self.trees = self.start()
+            with self.assertRaisesRegex(UnknownChange, said):
+                self.trees.make(build(103, 0), "tree", no_wait, 0.0)
+            with self.assertRaisesRegex(Waited, f"waits: .*{said}"):
+                self.trees.make(build(103, 0), "tree", no_wait, 60.0)
+
+    def test_a_revision_is_of_the_project_that_the_gate_names(self) -> None:
+        """The same name is pushed in another project, before the worker looks and behind it."""
+        self.change("lib", 103, {"own": "1"})
+        self.origins["app"].revision(103, 1, self.origins["app"].commit({"own": "2"}, self.heads["app"]))
+        made = self.make(build(103, 0))
+        self.assertEqual((made.project, self.texts(made, "lib")["own"]), ("lib", "1"))
+        self.assertNotIn("own", self.texts(made, "app"))
+
+    def test_a_revision_that_was_moved_is_fetched_anew(self) -> None:
+        own = self.change("lib", 103, {"own": "1"})
+        self.change("lib", 103, {"own": "of somebody"})
+        self.assertEqual(self.texts(self.make(build(103, 0)), "lib")["own"], "of somebody")
+        self.origins["lib"].revision(103, 1, own)
+        self.assertEqual(self.texts(self.make(build(103, 0)), "lib")["own"], "1")
 
     def test_a_queue_without_a_project_is_told(self) -> None:
         with self.assertRaisesRegex(UnknownChange, "no project of the queue docs is in companions.toml"):
@@ -200,30 +268,48 @@ class Past(TreesCase):
             self.land("lib", 3, {"text": "3\n"})
             self.assertEqual(self.texts(self.make(build(103, 3)), "lib")["text"], "3\n")
 
-    def test_nothing_is_asked_for_that_is_here(self) -> None:
+    def test_only_revisions_are_asked_for_where_the_landings_are_here(self) -> None:
         self.change("lib", 103, {"own": "1"})
-        self.change("app", 104, {"own": "1"})
+        self.change("lib", 104, {"another": "1"})
         self.make(build(103, 0, [(104, 1)]))
-        for origin in self.origins.values():
-            origin.folder.rename(origin.folder.with_suffix(".away"))
+        self.origins["app"].folder.rename(self.origins["app"].folder.with_suffix(".away"))
         self.make(build(104, 0, [(103, 1)]))
 
-    def test_many_unseen_landings_are_found_in_parts(self) -> None:
+    def test_many_unseen_landings_are_found(self) -> None:
         self.change("lib", 103, {"own": "1"})
         self.make(build(103, 0))
         for place in range(1, 8):
             self.land("app" if place % 2 else "lib", place, {"text": f"{place}\n"})
-        with mock.patch.object(trees, "MANY", 3):
-            made = self.make(build(103, 7))
-        self.assertEqual((self.texts(made, "lib")["text"], self.texts(made, "app")["text"]), ("6\n", "7\n"))
+        for page in (2, 1000):
+            with mock.patch.object(repository, "PAGE", page), mock.patch.object(landings, "PAGE", page):
+                self.trees.notes.drop("past core")
+                made = self.make(build(103, 7))
+                self.assertEqual((self.texts(made, "lib")["text"], self.texts(made, "app")["text"]), ("6\n", "7\n"))
 
-    def test_mirrors_keep_no_names_of_what_is_past(self) -> None:
+    def test_a_forged_note_is_none_of_the_lander(self) -> None:
+        """A note in another name's tail, a note with trailers that no branch has, a first note that was moved up."""
         self.change("lib", 103, {"own": "1"})
-        for place in range(1, 6):
-            self.land("lib", place, {"text": f"{place}\n"})
-            self.make(build(103, place))
-        self.assertEqual(list(self.trees.repositories["lib"].names("refs/landings")), ["refs/landings/core/000005"])
-        self.assertEqual(list(self.trees.repositories["app"].names("refs/landings")), ["refs/landings/core/000000"])
+        landed = self.land("lib", 1, {"text": "1\n"})
+        origin = self.origins["lib"]
+        forged = origin.commit({"text": "forged\n"}, landed)
+        origin.name("refs/heads/refs/landings/core/000002", forged)
+        origin.landing("core", 2, forged)
+        origin.first("core", landed)
+        self.assertEqual(self.texts(self.make(build(103, 1)), "lib")["text"], "1\n")
+        with self.assertRaisesRegex(Waited, "no branch of the queue core has its landing 2"):
+            self.make(build(103, 2))
+        self.trees.notes.drop("past core")
+        self.assertEqual(self.texts(self.make(build(103, 1)), "lib")["text"], "1\n")
+
+    def test_landings_of_an_earlier_version_are_found_by_their_notes(self) -> None:
+        self.change("lib", 103, {"own": "1"})
+        first = "0b000000-0000-4000-8000-000000000001"
+        self.origins["lib"].land("core", 1, {"text": "1\n"}, earlier_message(first, "core", 4, 101))
+        self.origins["app"].land("core", 2, {"text": "2\n"}, earlier_message(first, "core", 5, 102))
+        self.origins["lib"].land("core", 3, {"text": "3\n"})
+        for after, lib, app in ((0, "0\n", "0\n"), (1, "1\n", "0\n"), (2, "1\n", "2\n"), (3, "3\n", "2\n")):
+            made = self.make(build(103, after))
+            self.assertEqual((self.texts(made, "lib")["text"], self.texts(made, "app")["text"]), (lib, app))
 
     def test_mirrors_keep_so_many_revisions(self) -> None:
         for number in (101, 102, 103):

@@ -14,7 +14,7 @@ from companions.outbox import Notes
 from companions.repository import Declined, GitFault, Repository, words_of
 from companions.settings import Project, Settings
 from companions.tests.forge import Origin
-from companions.tests.test_lander import GateOfAScene
+from companions.tests.lander_case import GateOfAScene
 from companions.tries import Tries
 
 ATOMIC = "!\tHEAD:refs/landings/core/000001\t[remote rejected] (atomic push failure)\n"

@@ -6,7 +6,9 @@ from typing import Any
 from unittest import mock
 
 from companions import worker
-from companions.ids import id_of
+from companions.gate import Answer
+from companions.ids import id_of, success_id
+from companions.landings import first_text, tag
 from companions.tests.worker_case import IDLE, Said, WorkerCase
 
 
@@ -15,14 +17,15 @@ class Turn(WorkerCase):
         self.worker.turn()
         [result] = self.gate.results
         take = next(iter(self.gate.taken))
-        self.assertEqual(result, {"id": id_of(take, "result", 7, 103, 1, "success"), "kind": "result", "build": 7,
+        commit = "da409481c2e2bf731f2464401e247ddd94cd67ac"
+        self.assertEqual(result, {"id": success_id(7, "core", 103, 1, "unit", commit), "kind": "result", "build": 7,
                                   "outcome": "success"})
         [record] = self.records()
         tree = self.origin.tree("refs/changes/103/1")
         self.assertEqual({**record, "seconds": 0}, {
             "take": take, "build": 7, "queue": "core", "change": 103, "revision": 1, "job": "unit", "project": "lib",
-            "outcome": "success", "trees": {"lib": tree}, "seconds": 0})
-        self.assertRegex(self.log(), rf"(?s)^build 7: change 103, .*lib: commit \w+, tree {tree}\n.*\n0\n"
+            "outcome": "success", "commit": commit, "trees": {"lib": tree}, "seconds": 0})
+        self.assertRegex(self.log(), rf"(?s)^build 7: change 103, .*lib: commit {commit}, tree {tree}\n.*\n0\n"
                                      r"ended: success, exit status 0, after ")
         self.assertIsNone(self.held())
         self.assertEqual(list((self.folder / "state/worker/w1").glob("trees/*")), [])
@@ -135,8 +138,7 @@ class Result(WorkerCase):
         self.gate.before = before
         self.worker.turn()
         self.assertEqual([(it["change"], it["outcome"]) for it in self.records()], [(103, "success"), (104, "success")])
-        take = self.standin.deliveries()[0]["id"]
-        self.assertEqual([it["id"] for it in self.gate.results], [id_of(take, "result", 7, 104, 1, "success")])
+        self.assertEqual([it["id"] for it in self.gate.results], [self.success(104)])
 
     def test_a_gate_that_has_no_build_gets_none(self) -> None:
         self.gate.before = lambda kind, said: IDLE if len(self.kinds()) == 2 else None
@@ -156,8 +158,7 @@ class Result(WorkerCase):
 
         self.gate.before = before
         self.worker.turn()
-        take = self.standin.deliveries()[0]["id"]
-        self.assertEqual([it["id"] for it in self.gate.results], [id_of(take, "result", 7, 104, 1, "success")])
+        self.assertEqual([it["id"] for it in self.gate.results], [self.success(104)])
 
     def test_its_outcome_and_record_are_on_disk_before_it_is_sent(self) -> None:
         noted: list[Any] = []
@@ -170,6 +171,52 @@ class Result(WorkerCase):
         self.gate.before = before
         self.worker.turn()
         self.assertEqual(noted, [("success", ["success"])])
+
+
+class Evidence(WorkerCase):
+    def test_a_success_is_of_the_commit_and_of_no_take(self) -> None:
+        """The same build, taken by another worker at another time, has the same id."""
+        self.worker.turn()
+        self.gate.taken.clear()
+        self.gate.left = [self.reply(7, 103)]
+        self.worker.turn()
+        self.assertEqual(len({it["id"] for it in self.gate.results}), 1)
+        self.gate.left = [self.reply(7, 103, ahead=[[102, 1]])]
+        self.origin.revision(102, 1, self.origin.commit({"other": "1"}, self.head))
+        self.gate.taken.clear()
+        self.worker.turn()
+        self.assertEqual(len({it["id"] for it in self.gate.results}), 2)
+
+    def test_a_failure_and_a_loss_are_of_the_take(self) -> None:
+        self.worker = self.start("false")
+        self.worker.turn()
+        [take] = self.gate.taken
+        self.assertEqual([it["id"] for it in self.gate.results], [id_of(take, "result", 7, 103, 1, "failure")])
+
+    def test_a_success_after_a_crash_has_the_same_id(self) -> None:
+        post = self.worker.gate.post
+
+        def post_or_die(door: str, said: dict[str, Any]) -> Answer:
+            if said["kind"] == "result":
+                raise SystemExit
+            return post(door, said)
+
+        with mock.patch.object(self.worker.gate, "post", post_or_die), self.assertRaises(SystemExit):
+            self.worker.turn()
+        self.start()
+        self.assertEqual([it["id"] for it in self.gate.results], [self.success(103)])
+
+    def test_a_worker_with_another_author_takes_nothing(self) -> None:
+        content = tag(self.head, "core/000000", "g <g@l>", 0, first_text("other <other@localhost>", "2.39")).decode()
+        self.origin.first("core", self.origin.git("hash-object", "-t", "tag", "-w", "--stdin", given=content))
+        self.worker.turn()
+        self.worker.turn()
+        self.assertEqual(self.kinds(), [])
+        self.assertEqual(self.errors.getvalue(), "worker w1: takes nothing: lander.author is gate <gate@localhost> here,"
+                         " and other <other@localhost> where the lander runs: make them the same\n")
+        self.origin.first("core", self.head)
+        self.worker.turn()
+        self.assertEqual(self.outcomes(), [(7, "success")])
 
 
 class Main(WorkerCase):

@@ -10,7 +10,6 @@ from typing import Any
 from unittest import mock
 
 from companions import job, worker
-from companions.ids import id_of
 from companions.outbox import Notes
 from companions.repository import GitFault
 from companions.tests.test_job import runs
@@ -74,16 +73,15 @@ class Wanted(WorkerCase):
         self.gate.left = [self.reply(7, 103, after=1)]
         self.turn_with(live=False)
         self.assertEqual((self.kinds(), self.held()), (["take"], None))
-        self.assertIn("build 7: waits for refs/landings/core/000001 in", self.errors.getvalue())
+        self.assertIn("build 7: waits: no branch of the queue core has its landing 1", self.errors.getvalue())
 
 
 class Lost(WorkerCase):
-    def test_what_no_repository_has_is_lost_and_told(self) -> None:
+    def test_what_its_repository_lacks_is_lost_and_told(self) -> None:
         self.gate.left = [self.reply(7, 109)]
         self.worker.turn()
         self.assertEqual(self.outcomes(), [(7, "lost")])
-        self.assertRegex(self.errors.getvalue(), "build 7: lost, no repository of the queue core has "
-                         "refs/changes/109/1: add the ..project.. of change 109 to companions.toml")
+        self.assertIn(f"build 7: lost, {self.origin.folder} has no refs/changes/109/1\n", self.errors.getvalue())
 
     def test_a_job_that_the_settings_lack_is_lost_and_told(self) -> None:
         self.gate.left = [self.reply(7, 103, job="docs")]
@@ -155,8 +153,7 @@ class Restart(WorkerCase):
         self.put(take="70000000-0000-4000-8000-000000000001", reply=self.reply(7, 104), outcome="success")
         self.start("true")
         self.assertEqual([(it["change"], it["outcome"]) for it in self.records()], [(103, "success")])
-        self.assertEqual([it["id"] for it in self.gate.results],
-                         [id_of("70000000-0000-4000-8000-000000000001", "result", 7, 103, 1, "success")])
+        self.assertEqual([it["id"] for it in self.gate.results], [self.success(103)])
 
 
 class Killed(WorkerCase):

@@ -12,6 +12,7 @@ from pathlib import Path
 from typing import Any
 
 from companions import settings
+from companions.ids import success_id
 from companions.outbox import Notes
 from companions.tests.forge import Origin
 from companions.tests.standin import StandIn
@@ -31,6 +32,8 @@ class PretendGate:
         self.before: Callable[[str, dict[str, Any]], Said] = lambda kind, said: None
 
     def answer(self, method: str, path: str, body: bytes) -> Said:
+        if method == "GET" and path.startswith("/changes/"):
+            return 200, {"project": "lib"}
         if method == "GET":
             shown = self.shown.get(int(path.rpartition("/")[2]))
             return (200, shown) if shown else (404, {"code": "E11", "error": "unknown-build"})
@@ -66,6 +69,7 @@ class WorkerCase(unittest.TestCase):
         self.folder = Path(temporary.name)
         self.origin = Origin(self.folder / "lib.git")
         self.head = self.origin.commit({"text": "0\n"})
+        self.origin.name("refs/heads/main", self.head)
         self.origin.first("core", self.head)
         for change in (103, 104):
             self.origin.revision(change, 1, self.origin.commit({"own": f"{change}"}, self.head))
@@ -114,6 +118,11 @@ class WorkerCase(unittest.TestCase):
     def records(self) -> list[dict[str, Any]]:
         file = self.folder / "state/worker/w1/builds.jsonl"
         return [json.loads(line) for line in file.read_text().splitlines()] if file.exists() else []
+
+    def success(self, change: int) -> str:
+        """The id of the success of build 7, of a change, by the commit that its record has."""
+        [commit] = {it["commit"] for it in self.records() if it["change"] == change}
+        return success_id(7, "core", change, 1, "unit", commit)
 
     def log(self) -> str:
         [log] = (self.folder / "state/worker/w1/logs").glob("*-7.log")

@@ -69,6 +69,7 @@ class Adapter:
 
     def __init__(self, settings: settings_file.Settings) -> None:
         self.repositories = {Path(it.repository).resolve(): it.name for it in settings.projects.values()}
+        self.branches = {Path(it.repository).resolve(): it.branch for it in settings.projects.values()}
         self.names = {it.name: it.forge for it in settings.projects.values()}
         self.file, self.left, self.ahead = compared.file_in(settings.folder), None, set[str]()
         self.gate = Gate(settings.url, settings.account("forge"), timeout=10, part="adapter")
@@ -155,10 +156,10 @@ class Adapter:
         return first
 
     def landed(self) -> dict[int, int]:
-        """The changes that the branches have, each at its revision, by the notes of the landings."""
-        words = ("for-each-ref", "--format=%(contents)", "refs/landings")
-        notes = "".join(git(folder, *words) for folder in self.repositories)
-        return {int(change): int(revision) for change, revision in LANDED.findall(notes)}
+        """The changes that the branches have, each at its revision, by the messages of the landings."""
+        words = ("log", "--first-parent", "--grep=^Gate-Change: ", "--format=%B")
+        said = "".join(git(folder, *words, f"--branches={branch}") for folder, branch in self.branches.items())
+        return {int(change): int(revision) for change, revision in LANDED.findall(said)}
 
     def drop_what_is_late(self) -> None:
         """What has landed can't be closed, withdrawn or revised any more.

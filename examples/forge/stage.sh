@@ -114,8 +114,9 @@ has_landed() {
 # The landings of a project as git has them: place, commit, change and revision. The note of the first head is none.
 landings_of() {
   local repository=$FORGE/repos/$1.git place commit
-  git -C "$repository" for-each-ref --format='%(refname:lstrip=3) %(objectname)' "refs/landings/$2" |
-    while read -r place commit; do
+  git -C "$repository" for-each-ref --format='%(refname:lstrip=3)' "refs/landings/$2" |
+    while read -r place; do
+      commit=$(git -C "$repository" rev-parse "refs/landings/$2/$place^{commit}")
       [ "$place" = 000000 ] || echo "$((10#$place)) $commit $(git -C "$repository" log -1 --format=%B "$commit" |
         sed -n 's/^Gate-Change: //p; s/^Gate-Revision: //p' | paste -s -d ,)"
     done

@@ -60,9 +60,9 @@ class Checks:
 
     def notes(self, project: str, queue: str) -> dict[int, str]:
         """The notes of a project's repository: commits by place."""
-        form = "--format=%(refname:lstrip=3) %(objectname)"
+        form = "--format=%(refname:lstrip=3) %(objectname) %(*objectname)"
         listed = self.stage.git(project, "for-each-ref", form, f"refs/landings/{queue}")
-        return {int(place): commit for place, commit in (line.split() for line in listed.splitlines())}
+        return {int(words[0]): words[-1] for words in (line.split() for line in listed.splitlines())}
 
     def landings_of(self, queue: str) -> list[Landed]:
         """The landings of a queue, in order of place; a place may be there twice."""

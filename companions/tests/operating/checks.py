@@ -13,7 +13,7 @@ GATE_FILE = Path("/var/lib/gated/gate.db")
 PATHS = ("forge", "orders", "worker", "builds/1", "status", "running", "history/core", "changes/301", "items/1",
          "deliveries")
 PEOPLE = {"status", "running", "history/core", "changes/301", "items/1"}
-MAY = {"forge": {"forge", "orders", "builds/1", "deliveries"} | PEOPLE, "worker": {"worker", "builds/1"},
+MAY = {"forge": {"forge", "orders", "builds/1", "deliveries"} | PEOPLE, "worker": {"worker", "builds/1", "changes/301"},
        "watch": {"worker", "builds/1", "deliveries"} | PEOPLE, "standby": {"deliveries"} | PEOPLE}
 
 
