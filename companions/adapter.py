@@ -56,7 +56,7 @@ class Adapter:
         self.comparisons = Comparisons(self.changes, (it.forge for it in settings.projects.values()), settings.folder)
         manner = Manner(forge.mark, settings.adapter.logs, settings.adapter.quiet)
         self.people = People(self.gate, Notes(file.with_name("people.db")), forge, self.changes.place, manner,
-                             lambda: answers.read(answers.file_in(settings.folder)))
+                             lambda: answers.read(answers.file_in(settings.folder)), self.looks.jobs)
         self.look, self.look_at = settings.adapter.look, 0.0
         for it in self.looks.repositories.values():
             it.unlock()

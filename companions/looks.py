@@ -257,6 +257,11 @@ class Looks:
         if there != told:
             say("adapter", f"{name} of {wrong.project} was {there or 'gone'}: set right to {told}, which was told")
 
+    def jobs(self, change: int) -> frozenset[str] | None:
+        """The jobs of a change's project that workers know; none where these settings have no jobs of it."""
+        project = self.projects.get(self.changes.home(change) or ("", ""))
+        return frozenset(project.jobs) if project is not None and project.jobs else None
+
     def needs(self, so: Request) -> Needs:
         return needs_of(so, self.adapter.web, self.asked, self.change_of)
 

@@ -61,13 +61,16 @@ class Write:
 class People:
     """Tells people. Its notes have what was written, and of the gate how each change left its queue last.
 
-    `places` has the request of a change, of all that the adapter knows, and `lander` what the lander has answered.
+    `places` has the request of a change, of all that the adapter knows, `lander` what the lander has answered, and
+    `jobs` those of a change's project that workers know, if they are known here.
     """
 
     def __init__(self, gate: Gate, notes: Notes, forge: Writer, places: Callable[[int], Place | None],
-                 manner: Manner = Manner(), lander: Callable[[], Said] = Said) -> None:
+                 manner: Manner = Manner(), lander: Callable[[], Said] = Said,
+                 jobs: Callable[[int], frozenset[str] | None] = lambda change: None) -> None:
         self.observer = Observer(gate, notes)
-        self.notes, self.forge, self.places, self.manner, self.lander = notes, forge, places, manner, lander
+        self.notes, self.forge, self.places, self.manner = notes, forge, places, manner
+        self.lander, self.jobs = lander, jobs
         self.rests: dict[str, float] = {}
         self.times: list[float] = []
         self.troubles: set[str] = set()
@@ -108,7 +111,7 @@ class People:
         for subject in subjects:
             words = Words(self.places, self.manner.mark, self.manner.logs, subject.place.repository)
             try:
-                text = text_of(subject, with_lander(subject, self.observer.seen(subject, view), said), words)
+                text = text_of(subject, self.with_others(subject, self.observer.seen(subject, view), said), words)
             except Later:
                 unclear.add(subject)
                 continue
@@ -117,6 +120,12 @@ class People:
             elif subject.state is State.OPEN:
                 unclear.add(subject)
         return told, unclear
+
+    def with_others(self, subject: Subject, seen: Seen, said: Said) -> Seen:
+        """What is seen of a change at the gate, with what the lander has answered and which jobs workers know."""
+        stopped = said.stopped.get(seen.item.queue) if seen.item is not None else None
+        return replace(seen, stopped=stopped, refused=said.why_refused(subject.change, subject.revision),
+                       jobs=self.jobs(subject.change))
 
     def statuses(self, told: Sequence[tuple[Subject, Text]], unclear: set[Subject]) -> list[Write]:
         """The status of each newest commit, and of an earlier one that has landed, where it isn't written yet. A commit
@@ -225,8 +234,3 @@ class People:
             say(PART, what)
         self.troubles.add(name)
 
-
-def with_lander(subject: Subject, seen: Seen, said: Said) -> Seen:
-    """What is seen of a change, with what the lander has answered about it and its queue."""
-    stopped = said.stopped.get(seen.item.queue) if seen.item is not None else None
-    return replace(seen, stopped=stopped, refused=said.why_refused(subject.change, subject.revision))

@@ -67,7 +67,8 @@ class Seen:
     `known` is its answer about the change, if it was asked, `builds` those of its item, and `voting` the jobs of it
     that vote, where they are known. By `circle`, a part of its needs, it needs itself; those of `failing` neither have
     landed nor do they stand and are `ok`. The lander says why it has `stopped` its queue, if it has, and why it has
-    `refused` its last order, if that was of this revision.
+    `refused` its last order, if that was of this revision. `jobs` are those of its project that workers know, if they
+    are known here.
     """
     item: Item | None = None
     known: Mapping[str, Any] | None = None
@@ -78,6 +79,7 @@ class Seen:
     failing: frozenset[int] = frozenset()
     stopped: str | None = None
     refused: str | None = None
+    jobs: frozenset[str] | None = None
 
 
 @dataclass(frozen=True)
@@ -145,21 +147,27 @@ def marked_jobs(item: Item, voting: frozenset[str] | None) -> str:
 
 @dataclass(frozen=True)
 class Failure:
-    """A job that failed: by a build, or by three that were lost."""
+    """A job that failed: by a build, or by three that were lost, as where no worker knows the job."""
     job: str
     builds: tuple[int, ...]
     is_lost: bool
+    is_unknown: bool = False
 
     def line(self, words: Words) -> str:
         numbers = ", ".join(words.build(it) for it in self.builds)
-        return f"`{self.job}` {'was lost each time, its workers being gone' if self.is_lost else 'failed'}: {numbers}"
+        how = ("is known to no worker" if self.is_unknown else
+               "was lost each time, its workers being gone" if self.is_lost else "failed")
+        return f"`{self.job}` {how}: {numbers}"
 
     def __str__(self) -> str:
+        if self.is_unknown:
+            return f"no worker knows job {self.job}"
         return f"{self.job} {'was lost' if self.is_lost else 'failed'} (build {self.builds[-1]})"
 
 
-def failures_of(builds: Iterable[Mapping[str, Any]]) -> list[Failure]:
-    """The jobs that failed by the builds that count: docs/RULES.md ("What an item is tested on") has the rule."""
+def failures_of(builds: Iterable[Mapping[str, Any]], jobs: frozenset[str] | None = None) -> list[Failure]:
+    """The jobs that failed by the builds that count: docs/RULES.md ("What an item is tested on") has the rule. `jobs`
+    are those that workers know, if they are known: they report builds of others as lost."""
     of_job: dict[str, dict[str, list[int]]] = {}
     for it in builds:
         if it["live"]:
@@ -168,5 +176,7 @@ def failures_of(builds: Iterable[Mapping[str, Any]]) -> list[Failure]:
     for job, by in of_job.items():
         lost = by.get("lost", [])
         if "success" not in by and ("failure" in by or len(lost) >= 3):
-            found.append(Failure(job, tuple(by.get("failure") or lost), "failure" not in by))
+            is_lost = "failure" not in by
+            found.append(Failure(job, tuple(by.get("failure") or lost), is_lost,
+                                 is_lost and jobs is not None and job not in jobs))
     return found

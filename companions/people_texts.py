@@ -214,7 +214,7 @@ def blocked(item: Item, seen: Seen, words: Words) -> Text:
 def failing(item: Item, seen: Seen, words: Words) -> Text:
     at = f"at place {item.place} of {item.items} in"
     failed = [job for job, slot in item.slots if slot == "failure" and (seen.voting is None or job in seen.voting)]
-    found = [it for it in failures_of(seen.builds) if it.job in failed]
+    found = [it for it in failures_of(seen.builds, seen.jobs) if it.job in failed]
     told = "\n".join(f"- {it.line(words)}" for it in found) or f"{marked_jobs(item, seen.voting)}."
     then = ("If one that it was tested on leaves without landing, it is tested anew. Else it leaves the queue."
             if item.ahead is not None else "It leaves the queue once its other jobs have ended.")
@@ -258,16 +258,22 @@ def not_landed(head: str, why: str | None) -> Text:
 
 def failed(report: Report, seen: Seen, words: Words) -> Text:
     """Where it isn't known which jobs vote, all that failed are named."""
-    found = [it for it in failures_of(seen.builds) if seen.voting is None or it.job in seen.voting]
-    head = f"**Left `{report.queue}`: its tests failed.**"
+    found = [it for it in failures_of(seen.builds, seen.jobs) if seen.voting is None or it.job in seen.voting]
+    lacks = [it.job for it in found if it.is_unknown]
+    only = f"no worker knows its job {listed([f'`{it}`' for it in lacks])}"
+    head = f"**Left `{report.queue}`: {only if lacks and len(lacks) == len(found) else 'its tests failed'}.**"
     parts = [head, *(["\n".join(f"- {it.line(words)}" for it in found)] if found else [])]
     if seen.voting is None and len(found) > 1:
         parts.append("A job that doesn't vote may be among these.")
+    said = listed([str(it) for it in found])
+    if lacks:
+        parts.append("Tell who runs the workers: a job of the gate's settings isn't in theirs.")
     if found and all(it.is_lost for it in found):
-        status = f"{listed([str(it) for it in found])}. Have it approved again"
-        parts.append("Have it approved again. If that happens again, tell who runs the workers.")
+        status = f"{said}. {'Tell who runs the workers' if lacks else 'Have it approved again'}"
+        parts.append("Have it approved again once they have it." if lacks else
+                     "Have it approved again. If that happens again, tell who runs the workers.")
     else:
-        status = f"{listed([str(it) for it in found]) or 'Failed'}. Mend it and push, or have it approved again"
+        status = f"{said or 'Failed'}. Mend it and push, or have it approved again"
         parts.append("Mend it, push, and have the new commit approved. If it failed by chance, have it approved again"
                      " as it is.")
     return Text("failed", FAILURE, status, tuple(parts))

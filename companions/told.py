@@ -204,6 +204,11 @@ class Changes:
         row = self.tables.execute("SELECT repository, request FROM change WHERE number = ?", (change,)).fetchone()
         return None if row is None else Place(*row)
 
+    def home(self, change: int) -> tuple[str, str] | None:
+        """The repository and the branch of a change."""
+        row = self.tables.execute("SELECT repository, branch FROM change WHERE number = ?", (change,)).fetchone()
+        return None if row is None else (row[0], row[1])
+
     def replies(self) -> int:
         """The number of replies by now."""
         return self.outbox.get("replies") or 0

@@ -55,7 +55,8 @@ NEVER = 1e9
 
 class Gate:
     """What a gate answers, as far as an adapter sees it: changes, their approvals, orders, and kept replies. Its queue
-    is told by a test: `items` are the lines of the status, and `reports` those of the history, without their places."""
+    is told by a test: `items` are the lines of the status, `reports` those of the history, without their places, and
+    `built` the builds of each item."""
 
     def __init__(self) -> None:
         self.changes: dict[int, dict[str, Any]] = {}
@@ -64,6 +65,7 @@ class Gate:
         # Somebody has told its first delivery.
         self.accepted: dict[str, tuple[dict[str, Any], dict[str, Any]]] = {str(uuid.uuid4()): ({}, {})}
         self.orders: list[dict[str, Any]] = []
+        self.built: list[dict[str, Any]] = []
         self.is_away = False
         self.projects, self.base = {"lib", "old"}, "https://forge/c/"
 
@@ -78,6 +80,8 @@ class Gate:
             return self.deliveries(path.removeprefix("/deliveries").strip("/"))
         if path == "/status":
             return 200, "\n".join(["queue core window 3 landed 0", *self.items, "end", ""])
+        if path.startswith("/items/"):
+            return 200, {"change": 1, "jobs": None, "builds": self.built}
         if path.startswith("/history/core/"):
             rows = [f"{place} {it}" for place, it in enumerate(self.reports, 1)]
             return 200, "\n".join(["history core", *rows[int(path.rpartition("/")[2]) - 1:], f"end {len(rows)}", ""])

@@ -112,6 +112,12 @@ CASES: dict[str, tuple[Subject, Seen]] = {
     "failed where votes are known": (subject(), Seen(builds=FAILED + DOCS, report=report("failed"), voting=UNIT)),
     "failed where votes aren't known": (subject(), Seen(builds=FAILED + DOCS, report=report("failed"))),
     "failed by losses": (subject(), Seen(builds=LOST, report=report("failed"))),
+    "failed by a job that no worker knows": (
+        subject(), Seen(builds=LOST, report=report("failed"), jobs=frozenset({"unit"}))),
+    "failed by a job that no worker knows, and by another": (
+        subject(), Seen(builds=FAILED + LOST, report=report("failed"), jobs=frozenset({"unit"}))),
+    "failing by a job that no worker knows": (
+        subject(), Seen(item("5 101 1 - failing e2e=failure unit=running"), builds=LOST, jobs=frozenset({"unit"}))),
     "failed by three jobs": (subject(), Seen(builds=FAILED + DOCS + LOST, report=report("failed"))),
     "failed by who knows what": (subject(), Seen(report=report("failed"))),
     "refused by the lander": (subject(), Seen(report=report("refused"))),

@@ -5,6 +5,7 @@ import contextlib
 import io
 import tempfile
 import unittest
+from dataclasses import replace
 from pathlib import Path
 from unittest import mock
 
@@ -12,7 +13,7 @@ from companions import answers
 from companions.answers import Answers
 from companions.gate import Order
 from companions.lander import Lander
-from companions.settings import Project, Settings
+from companions.settings import Job, Project, Settings
 from companions.tests.adapter_case import Case
 from companions.tests.forge import Origin
 from companions.tests.lander_case import GateOfAScene
@@ -106,6 +107,15 @@ class Told(Case):
         self.assertEqual(self.tell()[0], f"acme/lib {self.commits[0]}: failure: Couldn't be landed: the forge declines"
                                          " it: no landing on Sundays")
         self.assertIn("    the forge declines it: no landing on Sundays", self.forge.comments[1][1].splitlines())
+
+    def test_a_job_that_no_worker_knows_is_named(self) -> None:
+        projects = self.adapter.looks.projects
+        projects["acme/lib", "main"] = replace(projects["acme/lib", "main"], jobs={"unit": Job("unit", "true", 1.0)})
+        self.gate.built = [{"build": it, "job": "lint", "live": True, "outcome": "lost"} for it in (3, 4, 5)]
+        self.gate.reports = ["1 1 1 failed -"]
+        self.gate.changes[1]["order"] = None
+        self.assertEqual(self.tell()[0], f"acme/lib {self.commits[0]}: failure: no worker knows job lint. Tell who runs"
+                                         " the workers")
 
 
 if __name__ == "__main__":
