@@ -16,6 +16,7 @@ from companions.answers import Answers
 from companions.branches import Branches
 from companions.checks import Again, Evidence, QueueStops, Refused, Revisions
 from companions.compared import Comparison, Waits
+from companions.conflicts import cause_of
 from companions.gate import Gate, NoAnswer, Order, say
 from companions.ids import id_of
 from companions.landings import Landed, Note, note_name
@@ -146,7 +147,8 @@ class QueueLander:
                      repository.parent(commit), self.branches.others(order.project), self.settings.author)
         merged = repository.merge(what)
         if merged is None:
-            raise Refused(f"it can't be merged into {project.branch}")
+            cause = cause_of(repository, head, commit, [])
+            raise Refused(f"it can't be merged into {project.branch}: {cause}")
         return Landed(place, order.project, merged, head, order.change, order.revision)
 
     def push(self, order: Order, updates: dict[str, tuple[str | None, str | None]]) -> None:

@@ -14,6 +14,7 @@ from dataclasses import dataclass, field
 from pathlib import Path
 from typing import Any
 
+from companions.conflicts import Conflict, cause_of
 from companions.gate import NoAnswer
 from companions.landings import Branch, Line, author_of, first_name, in_order, lines_of, places_of, text_of
 from companions.merging import Merge
@@ -68,10 +69,6 @@ class Made:
     def commit(self) -> str:
         """The landing commit of the change that is built."""
         return self.commits[self.project]
-
-
-class Conflict(Exception):
-    """A change can't be merged: it is at fault, not the machine."""
 
 
 class UnknownChange(Exception):
@@ -155,6 +152,7 @@ class Trees:
     def merge(self, build: Build, found: Found) -> dict[str, str]:
         """Each project's commit, once the build's changes are merged in their order: their landing commits."""
         commits, known = dict(found.past.heads), set(found.past.landed)
+        ahead: dict[str, list[tuple[int, str]]] = {}
         for place, (change, revision) in enumerate(build.changes, build.after + 1):
             project, commit = found.homes[change, revision]
             repository = self.repositories[project]
@@ -163,8 +161,9 @@ class Trees:
                          repository.parent(commit), others, self.settings.author)
             merged = repository.merge(what)
             if merged is None:
-                whose = "its own" if change == build.change else "ahead"
-                raise Conflict(f"change {change}, revision {revision} ({whose}) can't be merged into {project}")
+                cause = cause_of(repository, commits[project], commit, ahead.get(project, []))
+                raise Conflict((change, revision), project, change == build.change, cause)
+            ahead.setdefault(project, []).append((change, merged))
             commits[project] = merged
             known.add(project)
         return commits

@@ -21,13 +21,14 @@ from pathlib import Path
 from typing import Any, NoReturn
 
 from companions import job, settings
+from companions.conflicts import Conflict
 from companions.gate import Answer, Delivery, Gate, NoAnswer, expected, say
 from companions.ids import id_of, success_id
 from companions.outbox import Notes
 from companions.repository import GitFault, untested
 from companions.settings import Settings, SettingsFault
 from companions.starting import alone
-from companions.trees import Build, Conflict, Made, Trees, UnknownChange, build_of
+from companions.trees import Build, Made, Trees, UnknownChange, build_of
 
 USAGE = "usage: python3 -m companions.worker companions.toml NAME"
 NAME = re.compile(r"[A-Za-z0-9][A-Za-z0-9._-]{0,63}")

@@ -10,12 +10,13 @@ from pathlib import Path
 from typing import Any
 
 from companions.answers import Answers
+from companions.conflicts import Conflict
 from companions.gate import Answer, NoAnswer, Order, QueueStatus, Status
 from companions.ids import revision_id, success_id
 from companions.lander import QueueLander
 from companions.outbox import Notes
 from companions.settings import Project, Settings
-from companions.trees import Build, Conflict, Trees
+from companions.trees import Build, Trees
 
 FIRST = "0b000000-0000-4000-8000-000000000001"
 

@@ -6,13 +6,14 @@ from pathlib import Path
 from unittest import mock
 
 from companions import landings, repository, trees
+from companions.conflicts import Conflict
 from companions.landings import first_text, tag
 from companions.merging import Merge
 from companions.outbox import Notes
 from companions.repository import GitFault, Repository
 from companions.settings import Project, Settings, SettingsFault
 from companions.tests.forge import Origin, earlier_message
-from companions.trees import Build, Conflict, Made, Trees, UnknownChange
+from companions.trees import Build, Made, Trees, UnknownChange
 
 MARK = "GATED_WORKER=test"
 
@@ -130,15 +131,42 @@ class Making(TreesCase):
         self.change("lib", 104, {"text": "104\n"})
         self.change("lib", 103, {"text": "103\n"})
         self.change("app", 102, {"own": "1"})
-        with self.assertRaisesRegex(Conflict, "change 103, revision 1 .its own. can't be merged into lib"):
-            self.make(build(103, 0, [(104, 1)]))
-        with self.assertRaisesRegex(Conflict, "change 103, revision 1 .ahead."):
-            self.make(build(102, 0, [(104, 1), (103, 1)]))
+        for told, made in (("change 103, revision 1 (its own)", build(103, 0, [(104, 1)])),
+                           ("change 103, revision 1 (ahead)", build(102, 0, [(104, 1), (103, 1)]))):
+            with self.assertRaises(Conflict) as raised:
+                self.make(made)
+            self.assertEqual(str(raised.exception),
+                             f"{told} can't be merged into lib: it conflicts with change 104 in text")
+
+    def test_a_conflict_names_the_files_and_the_change_that_touched_them_last(self) -> None:
+        files = [f"text {it}" for it in range(5)]
+        self.change("lib", 103, {it: "103\n" for it in files})
+        self.change("lib", 104, {files[4]: "104\n"})
+        self.change("lib", 105, {"elsewhere": "105\n"})
+        self.change("lib", 106, {"elsewhere": "106\n"})
+        self.land("lib", 1, {it: "1\n" for it in files[:4]})
+        for ahead, other, named in (([(104, 1), (105, 1)], 104, "text 0, text 1, text 2 and 2 more"),
+                                    ([(105, 1)], 901, "text 0, text 1, text 2 and 1 more"),
+                                    ([], 901, "text 0, text 1, text 2 and 1 more")):
+            with self.subTest(ahead), self.assertRaises(Conflict) as raised:
+                self.make(build(103, 1, ahead))
+            self.assertEqual(str(raised.exception), f"change 103, revision 1 (its own) can't be merged into lib: it"
+                                                    f" conflicts with change {other} in {named}")
 
     def test_a_change_without_a_common_past_is_a_conflict(self) -> None:
         self.origins["lib"].revision(103, 1, self.origins["lib"].commit({"own": "1"}))
         self.homes[103] = "lib"
-        with self.assertRaises(Conflict):
+        with self.assertRaisesRegex(Conflict, "into lib: it has no common past with the branch$"):
+            self.make(build(103, 0))
+
+    def test_what_conflicts_with_no_change_conflicts_with_the_branch(self) -> None:
+        """As with what was there before the gate."""
+        origin = self.origins["lib"]
+        self.change("lib", 103, {"text": "103\n"})
+        past = origin.commit({"text": "past\n"}, origin.git("rev-parse", "main"))
+        origin.name("refs/heads/main", past)
+        origin.first("core", past)
+        with self.assertRaisesRegex(Conflict, "into lib: it conflicts with the branch in text$"):
             self.make(build(103, 0))
 
     def test_a_path_name_has_a_folder_of_its_own(self) -> None:
