@@ -17,6 +17,7 @@ from companions import answers
 from companions.answers import Wrong
 from companions.compared import Moment
 from companions.comparisons import Comparisons
+from companions.failures import Failures
 from companions.forges import Forge, ForgeFault, Place
 from companions.gate import Answer, Gate, NoAnswer, say
 from companions.gate_file import GateFile
@@ -26,6 +27,7 @@ from companions.hooks import Hints, Hooks, serve
 from companions.looks import Again, Looks, names_of
 from companions.outbox import Kept, Notes, Outbox
 from companions.people import Manner, People
+from companions.people_others import KnownByOthers
 from companions.repository import Declined, GitFault
 from companions.settings import Settings
 from companions.starting import start
@@ -55,11 +57,14 @@ class Adapter:
         self.looks = Looks(settings, settings.adapter, forge, self.gate, self.subjects)
         self.comparisons = Comparisons(self.changes, (it.forge for it in settings.projects.values()), settings.folder)
         manner = Manner(forge.mark, settings.adapter.logs, settings.adapter.quiet)
-        self.people = People(self.gate, Notes(file.with_name("people.db")), forge, self.changes.place, manner,
-                             lambda: answers.read(answers.file_in(settings.folder)), self.looks.jobs)
+        notes = Notes(file.with_name("people.db"))
+        failures = Failures(settings, self.gate, notes)
+        self.people = People(self.gate, notes, forge, self.changes.place, manner,
+                             KnownByOthers(settings.folder, self.looks.jobs, failures))
         self.look, self.look_at = settings.adapter.look, 0.0
         for it in self.looks.repositories.values():
             it.unlock()
+        failures.begin()
         self.compare_at = 0.0
         self.righted: dict[Wrong, float] = {}
         self.rests: dict[str, float] = {}

@@ -6,10 +6,9 @@ once, and how far it is now and then, since forges bound how much may be written
 from __future__ import annotations
 
 from collections.abc import Callable, Sequence
-from dataclasses import dataclass, replace
+from dataclasses import dataclass
 from typing import Protocol
 
-from companions.answers import Said
 from companions.forges import FAILURE, PENDING, SUCCESS, ForgeFault, Place
 from companions.gate import Gate, NoAnswer, say
 from companions.outbox import Notes
@@ -19,6 +18,11 @@ from companions.people_texts import comment_of, text_of
 from companions.requests import State
 
 PART = "people"
+
+
+# A look at the others begins: what is seen of a change at the gate is given back with what they know of it.
+Others = Callable[[], Callable[[Subject, Seen], Seen]]
+NO_OTHERS: Others = lambda: lambda subject, seen: seen
 
 
 class Writer(Protocol):
@@ -61,16 +65,14 @@ class Write:
 class People:
     """Tells people. Its notes have what was written, and of the gate how each change left its queue last.
 
-    `places` has the request of a change, of all that the adapter knows, `lander` what the lander has answered, and
-    `jobs` those of a change's project that workers know, if they are known here.
+    `places` has the request of a change, of all that the adapter knows, and `others` says what others than the gate know
+    of it.
     """
 
     def __init__(self, gate: Gate, notes: Notes, forge: Writer, places: Callable[[int], Place | None],
-                 manner: Manner = Manner(), lander: Callable[[], Said] = Said,
-                 jobs: Callable[[int], frozenset[str] | None] = lambda change: None) -> None:
+                 manner: Manner = Manner(), others: Others = NO_OTHERS) -> None:
         self.observer = Observer(gate, notes)
-        self.notes, self.forge, self.places, self.manner = notes, forge, places, manner
-        self.lander, self.jobs = lander, jobs
+        self.notes, self.forge, self.places, self.manner, self.others = notes, forge, places, manner, others
         self.rests: dict[str, float] = {}
         self.times: list[float] = []
         self.troubles: set[str] = set()
@@ -105,13 +107,13 @@ class People:
     def texts(self, subjects: Sequence[Subject]) -> tuple[list[tuple[Subject, Text]], set[Subject]]:
         """The text of each request that has one, and the requests about which only the next look can tell."""
         self.observer.ask_anew({it.change: it for it in subjects})
-        view, said = self.observer.view(self.manner.questions), self.lander()
+        view, others = self.observer.view(self.manner.questions), self.others()
         told: list[tuple[Subject, Text]] = []
         unclear: set[Subject] = set()
         for subject in subjects:
             words = Words(self.places, self.manner.mark, self.manner.logs, subject.place.repository)
             try:
-                text = text_of(subject, self.with_others(subject, self.observer.seen(subject, view), said), words)
+                text = text_of(subject, others(subject, self.observer.seen(subject, view)), words)
             except Later:
                 unclear.add(subject)
                 continue
@@ -120,12 +122,6 @@ class People:
             elif subject.state is State.OPEN:
                 unclear.add(subject)
         return told, unclear
-
-    def with_others(self, subject: Subject, seen: Seen, said: Said) -> Seen:
-        """What is seen of a change at the gate, with what the lander has answered and which jobs workers know."""
-        stopped = said.stopped.get(seen.item.queue) if seen.item is not None else None
-        return replace(seen, stopped=stopped, refused=said.why_refused(subject.change, subject.revision),
-                       jobs=self.jobs(subject.change))
 
     def statuses(self, told: Sequence[tuple[Subject, Text]], unclear: set[Subject]) -> list[Write]:
         """The status of each newest commit, and of an earlier one that has landed, where it isn't written yet. A commit

@@ -101,7 +101,7 @@ class Observer:
             for name in self.notes.names("report "):
                 if self.notes.get(name)[0] == queue:
                     self.notes.drop(name)
-            for name in self.notes.names("voting "):
+            for name in [*self.notes.names("voting "), *self.notes.names("merge ")]:
                 self.notes.drop(name)
             self.notes.drop(f"last {queue}")
 

@@ -1,10 +1,12 @@
 """What the gate says of a change, in the form in which people are told of it, and the words for it."""
 from __future__ import annotations
 
+import re
 from collections.abc import Callable, Iterable, Mapping, Sequence
 from dataclasses import dataclass
 from typing import Any
 
+from companions.conflicts import Cause
 from companions.forges import Place
 from companions.requests import State
 
@@ -68,7 +70,7 @@ class Seen:
     that vote, where they are known. By `circle`, a part of its needs, it needs itself; those of `failing` neither have
     landed nor do they stand and are `ok`. The lander says why it has `stopped` its queue, if it has, and why it has
     `refused` its last order, if that was of this revision. `jobs` are those of its project that workers know, if they
-    are known here.
+    are known here, and `cause` is why it can't be merged, where that is why it failed.
     """
     item: Item | None = None
     known: Mapping[str, Any] | None = None
@@ -80,6 +82,7 @@ class Seen:
     stopped: str | None = None
     refused: str | None = None
     jobs: frozenset[str] | None = None
+    cause: Cause | None = None
 
 
 @dataclass(frozen=True)
@@ -95,6 +98,14 @@ class Words:
         if place is None:
             return f"change {change}"
         return f"{'' if place.repository == self.repository else place.repository}{self.mark}{place.number}"
+
+    def plain(self, text: str) -> str:
+        """A text of the lander, with requests in the place of their changes."""
+        return re.sub(r"\bchange ([1-9][0-9]{0,8})\b", lambda it: self.request(int(it[1])), text)
+
+    def conflict(self, cause: Cause) -> str:
+        """What a change conflicts with."""
+        return "its branch" if cause.other is None else self.request(cause.other)
 
     def build(self, number: int) -> str:
         return f"[build {number}]({self.logs.replace('{build}', str(number))})" if self.logs else f"build {number}"

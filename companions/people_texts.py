@@ -7,6 +7,7 @@ from __future__ import annotations
 from collections.abc import Mapping, Sequence
 from typing import Any
 
+from companions.conflicts import Cause
 from companions.forges import FAILURE, PENDING, SUCCESS
 from companions.people_seen import (
     Item, Report, Seen, Subject, Text, Words, cut, failures_of, listed, marked_jobs, plain, short_jobs)
@@ -179,7 +180,7 @@ def queued(item: Item, seen: Seen, words: Words) -> Text:
     if item.lands and seen.stopped is not None:
         return Text("stopped", PENDING, f"Tests passed, but nothing lands in {item.queue} for now",
                     (f"**Its tests have passed, but nothing lands in {where} for now.** The lander says:",
-                     block(seen.stopped.splitlines()),
+                     block(words.plain(seen.stopped).splitlines()),
                      "It lands by itself once that is over. If that takes long, tell who runs the gate."))
     if item.lands:
         return Text("landing", PENDING, f"Tests passed, being landed in {item.queue}",
@@ -218,9 +219,27 @@ def failing(item: Item, seen: Seen, words: Words) -> Text:
     told = "\n".join(f"- {it.line(words)}" for it in found) or f"{marked_jobs(item, seen.voting)}."
     then = ("If one that it was tested on leaves without landing, it is tested anew. Else it leaves the queue."
             if item.ahead is not None else "It leaves the queue once its other jobs have ended.")
+    then += " You can mend it and push now: then it has to be approved again."
+    if seen.cause is not None:
+        why = f"{unmerged(seen.cause, words)}"
+        return Text("failing", PENDING, cut(f"Failing {at} {item.queue}: {why}", 120),
+                    (f"**Failing {at} `{item.queue}`: it can't be merged.**", *conflict(seen.cause, words), then))
     return Text("failing", PENDING, f"Failing {at} {item.queue}: {listed(failed)} failed",
-                (f"**Failing {at} `{item.queue}`: {listed([f'`{it}`' for it in failed])} failed.**", told,
-                 f"{then} You can mend it and push now: then it has to be approved again."))
+                (f"**Failing {at} `{item.queue}`: {listed([f'`{it}`' for it in failed])} failed.**", told, then))
+
+
+def unmerged(cause: Cause, words: Words) -> str:
+    """Why a change can't be merged, for a status."""
+    if not cause.files:
+        return "no common past with its branch"
+    return f"conflicts with {words.conflict(cause)} in {listed([cut(plain(it), 40) for it in cause.files])}"
+
+
+def conflict(cause: Cause, words: Words) -> tuple[str, ...]:
+    """Why a change can't be merged, for a comment."""
+    if not cause.files:
+        return ("It has no common past with its branch.",)
+    return f"It conflicts with {words.conflict(cause)} in:", block(cause.files)
 
 
 def left(subject: Subject, report: Report, seen: Seen, words: Words) -> Text | None:
@@ -229,7 +248,7 @@ def left(subject: Subject, report: Report, seen: Seen, words: Words) -> Text | N
     if report.verdict == "failed":
         return failed(report, seen, words)
     if report.verdict == "refused":
-        return not_landed(head, seen.refused)
+        return not_landed(head, seen.refused and words.plain(seen.refused))
     if report.verdict == "needs":
         needs = seen.known["needs"] if seen.known is not None else ()
         names = [words.request(it["change"]) for it in needs if it["state"] != "landed"]
@@ -258,6 +277,12 @@ def not_landed(head: str, why: str | None) -> Text:
 
 def failed(report: Report, seen: Seen, words: Words) -> Text:
     """Where it isn't known which jobs vote, all that failed are named."""
+    if seen.cause is not None:
+        return Text("failed", FAILURE, cut(f"Can't be merged: {unmerged(seen.cause, words)}. Mend it and push", 120),
+                    (f"**Left `{report.queue}`: it can't be merged.**", *conflict(seen.cause, words),
+                     "Mend that: rebase it, or merge its branch into it once the other one has landed. Then push, and"
+                     " have the new commit approved." if seen.cause.files else
+                     "Begin it anew from its branch, push, and have the new commit approved."))
     found = [it for it in failures_of(seen.builds, seen.jobs) if seen.voting is None or it.job in seen.voting]
     lacks = [it.job for it in found if it.is_unknown]
     only = f"no worker knows its job {listed([f'`{it}`' for it in lacks])}"

@@ -56,7 +56,7 @@ NEVER = 1e9
 class Gate:
     """What a gate answers, as far as an adapter sees it: changes, their approvals, orders, and kept replies. Its queue
     is told by a test: `items` are the lines of the status, `reports` those of the history, without their places, and
-    `built` the builds of each item."""
+    `built` the builds of each item, whose order is its change; `builds` are the answers about builds."""
 
     def __init__(self) -> None:
         self.changes: dict[int, dict[str, Any]] = {}
@@ -66,6 +66,7 @@ class Gate:
         self.accepted: dict[str, tuple[dict[str, Any], dict[str, Any]]] = {str(uuid.uuid4()): ({}, {})}
         self.orders: list[dict[str, Any]] = []
         self.built: list[dict[str, Any]] = []
+        self.builds: dict[int, dict[str, Any]] = {}
         self.is_away = False
         self.projects, self.base = {"lib", "old"}, "https://forge/c/"
 
@@ -81,7 +82,9 @@ class Gate:
         if path == "/status":
             return 200, "\n".join(["queue core window 3 landed 0", *self.items, "end", ""])
         if path.startswith("/items/"):
-            return 200, {"change": 1, "jobs": None, "builds": self.built}
+            return 200, {"change": int(path.rpartition("/")[2]), "jobs": None, "builds": self.built}
+        if path.startswith("/builds/"):
+            return 200, self.builds[int(path.rpartition("/")[2])]
         if path.startswith("/history/core/"):
             rows = [f"{place} {it}" for place, it in enumerate(self.reports, 1)]
             return 200, "\n".join(["history core", *rows[int(path.rpartition("/")[2]) - 1:], f"end {len(rows)}", ""])
@@ -122,6 +125,7 @@ class Gate:
             return {"code": "E9", "error": "submitting"}
         if kind == "revision":
             self.changes[change] = {"revision": revision, "state": "open", "order": None, "approval": None,
+                                    "project": said["project"],
                                     "queue": "core", "full": False, "needs": self.needs(said["message"])}
         elif kind == "approved":
             self.changes[change]["order"] = 1

@@ -5,6 +5,7 @@ import unittest
 from pathlib import Path
 from typing import Any
 
+from companions.conflicts import Cause
 from companions.forges import Place
 from companions.gate import status_of
 from companions.people_gate import circle_of, items_of
@@ -111,6 +112,17 @@ CASES: dict[str, tuple[Subject, Seen]] = {
     "failed": (subject(), Seen(builds=FAILED, report=report("failed"))),
     "failed where votes are known": (subject(), Seen(builds=FAILED + DOCS, report=report("failed"), voting=UNIT)),
     "failed where votes aren't known": (subject(), Seen(builds=FAILED + DOCS, report=report("failed"))),
+    "failed, as it conflicts with another": (
+        subject(), Seen(builds=FAILED, report=report("failed"), cause=Cause(("a.txt", "b/<c>", "d"), 102))),
+    "failed, as it conflicts with its branch": (
+        subject(), Seen(builds=FAILED, report=report("failed"), cause=Cause(("x" * 200,)))),
+    "failed, as it has no common past": (subject(), Seen(builds=FAILED, report=report("failed"), cause=Cause(()))),
+    "failing, as it conflicts with another": (
+        subject(), Seen(item(AHEAD, "5 101 1 4 failing unit=failure docs=running"), builds=FAILED,
+                        cause=Cause(("a.txt",), 100))),
+    "refused by the lander, as it conflicts with another": (
+        subject(), Seen(report=report("refused"),
+                        refused="it can't be merged into main: it conflicts with change 102 in a.txt")),
     "failed by losses": (subject(), Seen(builds=LOST, report=report("failed"))),
     "failed by a job that no worker knows": (
         subject(), Seen(builds=LOST, report=report("failed"), jobs=frozenset({"unit"}))),

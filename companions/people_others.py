@@ -1,0 +1,35 @@
+"""What is known of a change beside what the gate says: by the lander, by the settings, and by merges."""
+from __future__ import annotations
+
+from collections.abc import Callable
+from dataclasses import replace
+from pathlib import Path
+
+from companions import answers
+from companions.answers import Said
+from companions.failures import Failures
+from companions.people_seen import Seen, Subject
+
+
+class KnownByOthers:
+    """What the lander in this folder has answered, which jobs workers know, and why a failed change can't be merged.
+
+    `jobs` are those of a change's project that workers know, if they are known here.
+    """
+
+    def __init__(self, folder: Path, jobs: Callable[[int], frozenset[str] | None], failures: Failures) -> None:
+        self.file, self.jobs, self.failures = answers.file_in(folder), jobs, failures
+
+    def __call__(self) -> Callable[[Subject, Seen], Seen]:
+        """A look begins, behind the one at the gate: whatever the lander tells the gate it has answered before."""
+        said = answers.read(self.file)
+        self.failures.look()
+        return lambda subject, seen: self.known(subject, seen, said)
+
+    def known(self, subject: Subject, seen: Seen, said: Said) -> Seen:
+        item, report = seen.item, seen.report
+        order = item.order if item is not None else report.order if report is not None else None
+        cause = self.failures.cause(subject.change, order, seen.builds) if order is not None and seen.builds else None
+        return replace(seen, stopped=said.stopped.get(item.queue) if item is not None else None,
+                       refused=said.why_refused(subject.change, subject.revision), jobs=self.jobs(subject.change),
+                       cause=cause)
