@@ -132,8 +132,8 @@ class Branches:
                      for place, row in own.items()}
             self.note([Landed(place, *row[:5]) for place, row in own.items() if row[5] != right[place]], right, {})
             wanted = {note_name(self.queue, place): note for place, note in right.items()}
-            self.push(project.name, {it: (there[it], None) for it in there
-                                     if it not in wanted and it != first_name(self.queue)})
+            self.take_away(project.name, {it: there[it] for it in there
+                                          if it not in wanted and it != first_name(self.queue)})
             self.push(project.name, {it: (there.get(it), note) for it, note in wanted.items() if there.get(it) != note})
             self.set_first_right(project.name, there.get(first_name(self.queue)))
 
@@ -170,7 +170,14 @@ class Branches:
                   is_told=known["note"] is not None and known.get("text") == text)
         self.notes.put(name, {"commit": known["commit"], "note": note, "text": text})
 
-    def push(self, project: str, updates: Mapping[str, tuple[str | None, str | None]], is_told: bool = True) -> None:
+    def take_away(self, project: str, strays: Mapping[str, str]) -> None:
+        """Takes away names that nobody but the lander may give, and that it didn't."""
+        for name, there in strays.items():
+            self.repositories[project].take_away(name, there)
+        if strays:
+            say("lander", f"{self.queue}: taken away in {project}, as no landing of the branch: {cut(sorted(strays))}")
+
+    def push(self, project: str, updates: Mapping[str, tuple[str | None, str]], is_told: bool = True) -> None:
         names = sorted(updates)
         for at in range(0, len(names), MANY):
             if not self.repositories[project].push({it: updates[it] for it in names[at:at + MANY]}):

@@ -124,6 +124,8 @@ class QueueLander:
         branch, name = f"refs/heads/{project.branch}", REVISION.format(change=order.change, revision=order.revision)
         place, note = self.branches.noted + 1, note_name(self.queue, self.branches.noted + 1)
         there = repository.ask(branch, name, note)
+        if there[branch] != self.branches.heads[order.project]:
+            raise QueueStops(self.branches.past() or f"{project.branch} of {project.name} moves to and fro")
         self.revisions.check(order, str(self.first), there.get(name))
         landed = self.merged(order, place, there[name])
         proofs = self.evidence.check(order, landed.commit) if project.evidence else None
@@ -151,7 +153,7 @@ class QueueLander:
             raise Refused(f"it can't be merged into {project.branch}: {cause}")
         return Landed(place, order.project, merged, head, order.change, order.revision)
 
-    def push(self, order: Order, updates: dict[str, tuple[str | None, str | None]]) -> None:
+    def push(self, order: Order, updates: dict[str, tuple[str | None, str]]) -> None:
         """Pushes a landing and its note, both or none."""
         project = self.settings.projects[order.project]
         try:

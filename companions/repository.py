@@ -23,6 +23,8 @@ REVISION = "refs/changes/{change}/{revision}"
 
 # How long a command of git may take, in seconds: one that hangs holds up its queue.
 PATIENCE = 900
+# Where names stand that are about to be pushed.
+OUT = "refs/out/"
 # So many commits of a branch are read at once.
 PAGE = 1000
 
@@ -308,25 +310,39 @@ class Repository:
             raise GitFault(f"git hash-object: {ran.stderr.decode('utf-8', 'replace').strip()}")
         return ran.stdout.decode().strip()
 
-    def push(self, updates: Mapping[str, tuple[str | None, str | None]]) -> bool:
-        """Sets names there, all or none: of each what it was, if it was there, and what it becomes, if it stays.
+    def push(self, updates: Mapping[str, tuple[str | None, str]]) -> bool:
+        """Sets names there, all or none: of each what it was, if it was there, and what it becomes.
 
         False where one of them isn't what it was; `GitFault` where the forge declines them, or it isn't known what came
-        of it.
+        of it. They are pushed by a pattern: git takes a name alone for the end of another one that is there too, as
+        for that of a tag `refs/landings/core/000002`.
         """
+        names = {f"{OUT}{name.removeprefix('refs/')}": name for name in updates}
+        self.drop(*self.names(OUT.rstrip("/")))
+        self.git("update-ref", "--stdin", given="".join(f"create {it} {updates[name][1]}\n" for it, name in names.items()))
         leases = [f"--force-with-lease={name}:{old or ''}" for name, (old, _) in updates.items()]
-        news = [f"{new or ''}:{name}" for name, (_, new) in updates.items()]
-        ran = self.run("push", "--quiet", "--porcelain", "--atomic", *leases, self.address, *news)
+        is_done = self.pushed(leases, f"{OUT}*:refs/*", names)
+        self.drop(*names)
+        if is_done:
+            self.git("update-ref", "--stdin", given="".join(f"update {name} {new}\n" for name, (_, new) in updates.items()))
+        return is_done
+
+    def take_away(self, name: str, there: str) -> bool:
+        """Takes a name away there. False where it isn't what it was."""
+        is_done = self.pushed(["--prune", f"--force-with-lease={name}:{there}"], f"{OUT}none/{name}*:{name}*", {})
+        self.drop(*(it for it in self.here(name)))
+        return is_done
+
+    def pushed(self, options: list[str], what: str, names: Mapping[str, str]) -> bool:
+        """Whether a push was done; false where something there isn't what it was."""
+        ran = self.run("push", "--quiet", "--porcelain", "--atomic", "--no-follow-tags", *options, self.address, what)
         if ran.returncode == 0:
-            for name, (_, new) in updates.items():
-                self.git("update-ref", *([name, new] if new else ["-d", name]))
             return True
         if any("stale info" in line or "fetch first" in line for line in ran.stdout.splitlines()):
             return False
-        # Without the commits, of which each try of a landing may have another: so a trouble that stays is told once.
         said = ran.stdout.strip()
-        for name, (_, new) in updates.items():
-            said = said.replace(f"{new or ''}:{name}", name)
+        for it, name in names.items():
+            said = said.replace(f"{it}:{name}", name)
         said = f"git push {self.address}: {said} {ran.stderr.strip()}"
         words = words_of(ran.stdout, ran.stderr)
         raise GitFault(said) if words is None else Declined(said, words)

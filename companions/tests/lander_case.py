@@ -172,7 +172,7 @@ class LanderCase(unittest.TestCase):
     def places(self) -> int:
         """How many landings the branches have."""
         return sum(self.git(it, "log", "--first-parent", "--format=%B", "main").count("\nGate-Change: ")
-                   for it in ("lib", "app"))
+                   for it in self.settings.projects)
 
     def land(self, order: int, change: int, name: str = "lib") -> None:
         self.change(change, name)

@@ -63,12 +63,25 @@ class Git(unittest.TestCase):
         self.assertEqual(self.names(), {"refs/heads/main": new, "refs/landings/core/000001": new})
         self.assertEqual(self.repository.commit("refs/landings/core/000001"), new)
 
-    def test_a_push_takes_names_away(self) -> None:
+    def test_names_are_taken_away(self) -> None:
         self.origin.name("refs/landings/core/000009", self.head)
         self.origin.name("refs/landings/core/000001/x", self.head)
-        self.assertTrue(self.repository.push({"refs/landings/core/000009": (self.head, None),
-                                              "refs/landings/core/000001/x": (self.head, None)}))
+        self.origin.name("refs/tags/refs/landings/core/000009", self.head)
+        self.assertTrue(self.repository.take_away("refs/landings/core/000009", self.head))
+        self.assertFalse(self.repository.take_away("refs/landings/core/000001/x", "1" * 40))
+        self.assertTrue(self.repository.take_away("refs/landings/core/000001/x", self.head))
         self.assertEqual(self.names(), {"refs/heads/main": self.head})
+        self.assertEqual(self.origin.git("for-each-ref", "--format=%(refname)"),
+                         "refs/heads/main\nrefs/tags/refs/landings/core/000009")
+
+    def test_a_push_is_to_these_very_names(self) -> None:
+        """Others end like them: git alone would take these for what is meant, or for as many more."""
+        for name in ("refs/heads/refs/heads/main", f"refs/tags/{LANDING}", f"refs/heads/{LANDING}"):
+            self.origin.name(name, self.head)
+        new = self.change("refs/changes/1/1", {"a": "1"}, self.head)
+        self.assertTrue(self.repository.push({"refs/heads/main": (self.head, new), LANDING: (None, new)}))
+        self.assertEqual(self.names(), {"refs/heads/main": new, LANDING: new})
+        self.assertEqual(self.origin.git("rev-parse", f"refs/tags/{LANDING}"), self.head)
 
     def test_only_names_that_begin_so_are_listed(self) -> None:
         for name in ("refs/heads/refs/landings/core/000009", "refs/tags/refs/landings/core/000009",

@@ -157,8 +157,10 @@ class Adapter:
 
     def landed(self) -> dict[int, int]:
         """The changes that the branches have, each at its revision, by the messages of the landings."""
-        words = ("log", "--first-parent", "--grep=^Gate-Change: ", "--format=%B")
-        said = "".join(git(folder, *words, f"--branches={branch}") for folder, branch in self.branches.items())
+        said = ""
+        for folder, branch in self.branches.items():
+            heads = git(folder, "for-each-ref", "--format=%(objectname)", f"refs/heads/{branch}").split()
+            said += git(folder, "log", "--first-parent", "--grep=^Gate-Change: ", "--format=%B", *heads) if heads else ""
         return {int(change): int(revision) for change, revision in LANDED.findall(said)}
 
     def drop_what_is_late(self) -> None:
