@@ -6,6 +6,7 @@ import io
 import subprocess
 import tempfile
 import unittest
+import uuid
 from pathlib import Path
 from typing import Any
 
@@ -36,7 +37,13 @@ class GateOfAScene:
         self.changes: dict[int, dict[str, Any]] = {}
         # Of each order its builds, as the gate shows them.
         self.builds: dict[int, list[dict[str, Any]]] = {}
+        # What it has accepted, in order, as its log has it.
+        self.log: list[dict[str, Any]] = []
         self.silent = False
+
+    def accept(self, identity: str, said: dict[str, Any], reply: dict[str, Any]) -> None:
+        self.taken[identity] = reply
+        self.log.append({"id": uuid.UUID(identity).hex, **said})
 
     def orders(self) -> list[Order]:
         return list(self.shown)
@@ -75,7 +82,7 @@ class GateOfAScene:
         if delivery["kind"] == "landed":
             self.landed.append(order)
         said = {"n": len(self.landed), "reply": "landed"} if delivery["kind"] == "landed" else {"reply": "removed"}
-        self.taken[delivery["id"]] = said
+        self.accept(delivery["id"], delivery, said)
         return Answer(said)
 
 
@@ -146,7 +153,8 @@ class LanderCase(unittest.TestCase):
 
     def tell(self, number: int, name: str, commit: str, needs: tuple[int, ...] = ()) -> None:
         """The gate is told of revision 1 of a change."""
-        self.gate.taken[revision_id(self.gate.file, number, 1, commit, needs)] = {"reply": "recorded"}
+        self.gate.accept(revision_id(self.gate.file, number, 1, commit, needs),
+                         {"kind": "revision", "change": number, "revision": 1}, {"reply": "recorded"})
         self.gate.changes[number] = {"revision": 1, "project": name, "state": "open", "order": number, "approval": None,
                                      "needs": [{"change": it} for it in needs]}
 
@@ -165,7 +173,8 @@ class LanderCase(unittest.TestCase):
             commit = self.trees.make(build, "tree", no_wait, 60.0).commit
         except Conflict:
             return None
-        self.gate.taken[success_id(order + 40, "core", change, 1, "unit", commit)] = {"reply": "noted"}
+        self.gate.accept(success_id(order + 40, "core", change, 1, "unit", commit),
+                         {"kind": "result", "build": order + 40, "outcome": "success"}, {"reply": "noted"})
         self.gate.builds[order] = [{"build": order + 40, "job": "unit", "live": True, "outcome": "success"}]
         return commit
 
