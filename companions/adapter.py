@@ -103,7 +103,7 @@ class Adapter:
         self.comparisons.begin(repository, began, numbers)
 
     def answer_lander(self, now: float) -> None:
-        """Does what the lander waits for: sets refs right, and compares where it has seen that the gate was restored."""
+        """Does what the lander waits for: sets refs right, and compares where it saw that the gate was restored."""
         said = answers.read(answers.file_in(self.settings.folder))
         due = [it for it in said.wrong if self.righted.get(it, 0.0) <= now]
         faults = {it: self.attempt(f"{it.project} {it.name}", lambda it=it: self.looks.set_right(it)) for it in due}

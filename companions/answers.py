@@ -1,7 +1,8 @@
 """What the lander answers the adapter and the watch, in a small file of the folder that they share.
 
-`lander/answers.json` says of each queue why it is stopped, and since when a comparison is waited for; which refs aren't the commits that were approved, so that the
-adapter sets them right, and why orders were answered `refused`, for the comments on their requests.
+`lander/answers.json` says of each queue why it is stopped, and since when a comparison is waited for; which refs aren't
+the commits that were approved, so that the adapter sets them right; and why orders were answered `refused`, for the
+comments on their requests.
 """
 from __future__ import annotations
 

@@ -1,7 +1,7 @@
 """The branches and notes of a queue's projects, as its lander knows them and keeps them.
 
-What was found whole is noted, so that a start reads what came since and no history. A note that isn't the lander's own is
-set right from the branches, which nobody else may push to: whoever may push a note could stop a queue by it otherwise.
+What was found whole is noted, so that a start reads what came since and no history. A note that isn't the lander's own
+is set right from the branches, which nobody else may push to: whoever may push a note could stop a queue by it else.
 """
 from __future__ import annotations
 
@@ -186,7 +186,7 @@ class Branches:
             say("lander", f"{self.queue}: set right in {project}, by the branch: {cut(names)}")
 
     def past(self) -> str | None:
-        """What was pushed past the gate, asked of all projects at once; none where each is as its last landing left it."""
+        """What was pushed past the gate, asked of all projects at once; none where each is as its landings left it."""
         with ThreadPoolExecutor(max_workers=len(self.projects)) as pool:
             tips = dict(pool.map(self.now, self.projects))
         for it in self.projects:

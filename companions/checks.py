@@ -1,5 +1,5 @@
-"""What a lander checks of an order before it pushes, all of it outside the gate: that the revision is the commit that was
-told, and that each voting job has passed on the very commit that would land.
+"""What a lander checks of an order before it pushes, all of it outside the gate: that the revision is the commit that
+was told, and that each voting job has passed on the very commit that would land.
 
 Both are asked of the gate by ids, as each delivery's id is derived from the hash that it is of. The gate says whether
 an id is spent by how it refuses another delivery under it: one that no gate takes.
@@ -102,8 +102,8 @@ class Evidence:
             return proofs
         why = f"what was tested isn't the commit that would land, {commit}: {', '.join(missing)}"
         if self.refused not in (None, order.order):
-            raise QueueStops(f"change {order.change}: {why}. The order before it was refused for the same, so lander and"
-                             " workers differ: compare lander.author and the versions of git, and start the lander"
+            raise QueueStops(f"change {order.change}: {why}. The order before it was refused for the same, so lander"
+                             " and workers differ: compare lander.author and the versions of git, and start the lander"
                              " again")
         self.refused = order.order
         raise Refused(why)

@@ -50,8 +50,8 @@ class Repository:
 @dataclass(frozen=True)
 class Compared:
     """All that an adapter leaves: the ids of the gate's first delivery and of the last one that the gate has accepted
-    from here; the repositories by their names at the forge; the changes whose orders are to be refused, and why; and how
-    often it has set right each revision whose ref the lander finds to be wrong, by CHANGE/REVISION."""
+    from here; the repositories by their names at the forge; the changes whose orders are to be refused, and why; and
+    how often it has set right each revision whose ref the lander finds to be wrong, by CHANGE/REVISION."""
     first: str | None
     last: str | None
     repositories: Mapping[str, Repository]

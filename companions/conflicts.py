@@ -44,7 +44,7 @@ def plain(name: str) -> str:
 
 
 def cause_of(repository: Repository, onto: str, commit: str, ahead: Sequence[tuple[int, str]]) -> Cause:
-    """Why a commit can't be merged onto another, given the changes that were merged last, with their landing commits."""
+    """Why a commit can't be merged onto another, given the changes that were merged last and their landing commits."""
     merged: Merged = repository.merge_trees(onto, commit)
     files = tuple(merged.files[:KEPT])
     if not files:

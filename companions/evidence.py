@@ -22,7 +22,8 @@ from typing import Any
 
 from companions.gate import Gate, NoAnswer, expected, say
 from companions.ids import revision_id, success_id
-from companions.landings import Branch, Landed, Landing, Note, first_name, in_order, lines_of, note_name, places_of, text_of
+from companions.landings import (Branch, Landed, Landing, Note, first_name, in_order, lines_of, note_name, places_of,
+                                 text_of)
 from companions.merging import Merge
 from companions.repository import REVISION, GitFault, Repository
 from companions.settings import Settings, SettingsFault, read
@@ -47,7 +48,8 @@ class Found:
     def __str__(self) -> str:
         shown = ", ".join(f"{job} by build {build}" for job, build in self.jobs.items())
         said = f"DIFFERS: {'; '.join(self.differs)}" if self.differs else self.remark or f"holds: {shown}"
-        return f"{self.place} {self.project}: change {self.change}, revision {self.revision}, {self.commit[:12]}: {said}"
+        return (f"{self.place} {self.project}: change {self.change}, revision {self.revision}, {self.commit[:12]}:"
+                f" {said}")
 
 
 @dataclass(frozen=True)
@@ -103,8 +105,9 @@ class Evidence:
                                    lambda notes=notes: places_of(notes, self.queue)))
         landings = in_order(lines_of(branches).values())
         if [it.place for it in landings] != list(range(1, len(landings) + 1)):
-            raise GitFault(f"the branches of {self.queue} have landings at the places"
-                           f" {', '.join(str(it.place) for it in landings)[:200]}: they have to be 1 to {len(landings)}")
+            places = ", ".join(str(it.place) for it in landings)[:200]
+            raise GitFault(f"the branches of {self.queue} have landings at the places {places}: they have to be 1 to"
+                           f" {len(landings)}")
         self.log, self.orders = Log.of(self.gate), self.read_history()
         return landings
 
@@ -130,10 +133,9 @@ class Evidence:
                 others = {name: head for name, head in heads.items() if name != it.project}
                 found.append(self.check_one(it, heads.get(it.project), others))
             heads[it.project] = it.commit
-        found += [Found(place, "none", *self.orders[place][1:], "no commit",
-                        differs=["the gate has this landing, and no branch does"])
-                  for place in self.orders if place > len(landings) and place >= start and (end is None or place <= end)]
-        return found
+        lacking = [it for it in self.orders if max(start, len(landings) + 1) <= it and (end is None or it <= end)]
+        return found + [Found(it, "none", *self.orders[it][1:], "no commit",
+                              differs=["the gate has this landing, and no branch does"]) for it in lacking]
 
     def check_one(self, it: Landed, before: str | None, others: Mapping[str, str]) -> Found:
         found = Found(it.place, it.project, it.change, it.revision, it.commit)

@@ -150,8 +150,8 @@ class Branch:
                 places = self.places()
                 place = 0 if places is None else places.get(commit.hash)
             if place is None:
-                raise GitFault(f"no note of {self.queue} is at {commit.hash}, a landing in {self.project} in the form of"
-                               " an earlier version: set the note of its place to it")
+                raise GitFault(f"no note of {self.queue} is at {commit.hash}, a landing in {self.project} in the form"
+                               " of an earlier version: set the note of its place to it")
             found.landings.append(Landed(place, self.project, commit.hash, commit.parents[0], it.change, it.revision))
         return found
 

@@ -195,8 +195,8 @@ class Looks:
         if file is None or file["first"] is None or head is None:
             return
         # Their places don't matter here.
-        line = Branch(project.name, repository, project.queue, head, asked.get(first) and repository.commit(asked[first]),
-                      lambda: None, file["first"])
+        below = asked.get(first) and repository.commit(asked[first])
+        line = Branch(project.name, repository, project.queue, head, below, lambda: None, file["first"])
         is_known = noted and noted["first"] == file["first"] and repository.commit(noted["head"]) is not None
         above = line.up(noted["head"]) if is_known else None
         landed = above if above is not None else line.down().landings
@@ -219,8 +219,8 @@ class Looks:
                 raise Again
 
     def is_ahead(self, so: Request, project: Project) -> bool:
-        """Whether a head is dated more than a day ahead. A landing has the later date of what it merges, so all landings
-        behind it would be dated so."""
+        """Whether a head is dated more than a day ahead. A landing has the later date of what it merges, so all
+        landings behind it would be dated so."""
         if not HASH.fullmatch(so.head):
             raise Trouble(f"the forge's head of it is no commit: {so.head[:80]!r}")
         content = self.fetched(project, so.number, so.head).git("cat-file", "commit", so.head)
@@ -238,8 +238,8 @@ class Looks:
         return repository
 
     def name(self, project: Project, request: int, commit: str, name: str) -> str | None:
-        """Names a request's commit, which could be pushed over at any time, by a ref that stays, and gives what was named
-        so before: the commit of a revision that was chosen and never told, or what somebody has pushed there."""
+        """Names a request's commit, which could be pushed over at any time, by a ref that stays, and gives what was
+        named so before: the commit of a revision that was chosen and never told, or what somebody has pushed there."""
         repository = self.fetched(project, request, commit)
         there = repository.ask(name).get(name)
         if there != commit and not repository.push({name: (there, commit)}):
@@ -251,7 +251,7 @@ class Looks:
         place, told = self.changes.place(wrong.change), self.changes.revision(wrong.change, wrong.revision)
         project = next((it for it in self.projects.values() if it.name == wrong.project), None)
         if place is None or told is None or project is None or project.forge != place.repository:
-            raise Trouble(f"revision {wrong.revision} of change {wrong.change} of {wrong.project} wasn't told from here")
+            raise Trouble(f"revision {wrong.revision} of change {wrong.change} of {wrong.project} wasn't told here")
         name = REVISION.format(change=wrong.change, revision=wrong.revision)
         there = self.name(project, place.number, told, name)
         if there != told:

@@ -65,8 +65,8 @@ class Write:
 class People:
     """Tells people. Its notes have what was written, and of the gate how each change left its queue last.
 
-    `places` has the request of a change, of all that the adapter knows, and `others` says what others than the gate know
-    of it.
+    `places` has the request of a change, of all that the adapter knows, and `others` says what others than the gate
+    know of it.
     """
 
     def __init__(self, gate: Gate, notes: Notes, forge: Writer, places: Callable[[int], Place | None],

@@ -1,7 +1,7 @@
 """Git, as lander and workers use it: a mirror of a project's repository, and merges in it without a work tree.
 
-What git makes here depends on the commits alone, on whichever machine: nobody's settings of git have a say, except where
-a repository is fetched from or pushed to.
+What git makes here depends on the commits alone, on whichever machine: nobody's settings of git have a say, but where a
+repository is fetched from or pushed to.
 """
 from __future__ import annotations
 
@@ -132,7 +132,7 @@ class Repository:
         self.own = {**own_environment(), **(more or {})}
 
     def unlock(self) -> None:
-        """Takes away the locks that a killed git has left, and what would turn merges. Nobody else may use the mirror."""
+        """Takes away locks that a killed git has left, and what would turn merges. Nobody else may use the mirror."""
         for lock in [*self.mirror.glob("*.lock"), *self.mirror.glob("refs/**/*.lock"),
                      *self.mirror.glob("worktrees/*/*.lock")]:
             lock.unlink(missing_ok=True)
@@ -191,8 +191,8 @@ class Repository:
         self.tidy()
 
     def listed(self, *patterns: str) -> dict[str, str]:
-        """The objects of the names there that match these from their beginnings, as `refs/landings/core/*`; they needn't
-        be here.
+        """The objects of the names there that match these from their beginnings, as `refs/landings/core/*`. They
+        needn't be here.
 
         The server sends all names that it has, whatever is asked for: `ask` and `find` cost the same however many
         there are. It also takes a pattern for the end of a name.
@@ -220,6 +220,10 @@ class Repository:
         """Forgets names here."""
         if names:
             self.git("update-ref", "--stdin", given="".join(f"delete {it}\n" for it in names))
+
+    def set(self, names: Mapping[str, str]) -> None:
+        """Sets names here."""
+        self.git("update-ref", "--stdin", given="".join(f"update {name} {it}\n" for name, it in names.items()))
 
     def fetch(self, *names: str) -> None:
         """Fetches names, which have to be there, to the same names here."""
@@ -319,12 +323,12 @@ class Repository:
         """
         names = {f"{OUT}{name.removeprefix('refs/')}": name for name in updates}
         self.drop(*self.names(OUT.rstrip("/")))
-        self.git("update-ref", "--stdin", given="".join(f"create {it} {updates[name][1]}\n" for it, name in names.items()))
+        self.set({it: updates[name][1] for it, name in names.items()})
         leases = [f"--force-with-lease={name}:{old or ''}" for name, (old, _) in updates.items()]
         is_done = self.pushed(leases, f"{OUT}*:refs/*", names)
         self.drop(*names)
         if is_done:
-            self.git("update-ref", "--stdin", given="".join(f"update {name} {new}\n" for name, (_, new) in updates.items()))
+            self.set({name: new for name, (_, new) in updates.items()})
         return is_done
 
     def take_away(self, name: str, there: str) -> bool:

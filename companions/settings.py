@@ -4,6 +4,7 @@ docs/CONNECTING.md ("The settings of the companions") has its members.
 """
 from __future__ import annotations
 
+import re
 import tomllib
 from dataclasses import dataclass, field
 from pathlib import Path
@@ -37,8 +38,8 @@ class Job:
 class Project:
     """A project of the gate's settings: where its repository is, and which branch of it is gated.
 
-    `forge` is the repository's name at the forge, as `owner/name`. Without `evidence` the lander doesn't ask whether the
-    workers tested the very commits that it lands.
+    `forge` is the repository's name at the forge, as `owner/name`. Without `evidence` the lander doesn't ask whether
+    the workers tested the very commits that it lands.
     """
     name: str
     queue: str
@@ -111,6 +112,7 @@ class Settings:
         return max((it.jobs[job].limit for it in self.projects_of(queue) if job in it.jobs), default=None)
 
 
+AUTHOR = re.compile(r"[^<>\x00-\x20\x7f](?:[^<>\x00-\x1f\x7f]*[^<>\x00-\x20\x7f])? <[^<>\x00-\x20\x7f]+>")
 ROLES = ("forge", "worker", "people", "standby")
 FORMS = ("gitea", "github", "gitlab")
 KINDS = {str: "a text", bool: "true or false", int: "a whole number", float: "a number", dict: "a table",
@@ -202,11 +204,19 @@ def read(file: Path) -> Settings:
     settings = Settings(
         url=gate.address("url"), accounts=accounts_of(gate), folder=Path(top.text("folder")), projects=projects_of(top),
         pause=gate.seconds("pause", 1.0), look=worker.seconds("look", 10.0), grace=watch.seconds("grace", 300.0),
-        stands=watch.seconds("stands", 3600.0), author=lander.text("author", "gate <gate@localhost>"),
+        stands=watch.seconds("stands", 3600.0), author=author_of(lander),
         adapter=adapter_of(top), has_adapter=lander.get("adapter", bool, True), tries=lander.count("tries", TRIES))
     for it in (top, gate, lander, worker, watch):
         it.end()
     return settings
+
+
+def author_of(lander: Reader) -> str:
+    """The author of the landing commits, as git writes it."""
+    author = lander.text("author", "gate <gate@localhost>")
+    if not AUTHOR.fullmatch(author):
+        raise lander.fault("author", "isn't NAME <ADDRESS>")
+    return author
 
 
 def adapter_of(top: Reader) -> Adapter | None:

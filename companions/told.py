@@ -103,8 +103,8 @@ class Changes:
         return None if row is None else str(row[0])
 
     def is_unsure(self, change: int, revisions: Sequence[Revision]) -> bool:
-        """Whether the last revision was told under an id that isn't made of its commit. So was the first delivery of the
-        gate's file, by whose id the others are made."""
+        """Whether the last revision was told under an id that isn't made of its commit. So was the first delivery of
+        the gate's file, by whose id the others are made."""
         first, last = self.first(), len(revisions)
         rows = self.tables.execute("SELECT id, said FROM telling WHERE change = ? ORDER BY place DESC", (change,))
         told = next((id for id, said in rows if is_of(json.loads(said), last)), None)

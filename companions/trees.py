@@ -1,7 +1,7 @@
 """The trees of a build: of each project of its queue what will be there once the changes ahead and its own landed.
 
-They are made by the merges that the lander makes, in the same order on the same heads, so that the commit that is tested
-is the one that lands. docs/CONNECTING.md ("Trees") has what a build names.
+They are made by the merges that the lander makes, in the same order on the same heads, so that the very commit that is
+tested lands. docs/CONNECTING.md ("Trees") has what a build names.
 """
 from __future__ import annotations
 
@@ -77,8 +77,8 @@ class UnknownChange(Exception):
 
 @dataclass
 class Past:
-    """What was found of a queue's landings: all up to a place, each project's last commit by then as far as it is known,
-    and which projects have a landing."""
+    """What was found of a queue's landings: all up to a place, each project's last commit by then, as far as that is
+    known, and which projects have a landing."""
     place: int = 0
     heads: dict[str, str] = field(default_factory=dict)
     landed: set[str] = field(default_factory=set)
@@ -207,8 +207,8 @@ class Trees:
             asked[project.name] = self.repositories[project.name].ask(*names, keep=True) if names else {}
         for it, name in wanted.items():
             if name not in asked:
-                found.unknown.append(f"the gate has change {it[0]} in project {name}: add its [[project]] with the queue"
-                                     f" {build.queue} to companions.toml" if name else
+                found.unknown.append(f"the gate has change {it[0]} in project {name}: add its [[project]] with the"
+                                     f" queue {build.queue} to companions.toml" if name else
                                      f"the gate doesn't know change {it[0]}")
             elif revision_name(it) in asked[name]:
                 found.homes[it] = name, asked[name][revision_name(it)]

@@ -1,4 +1,4 @@
-"""What the tests of the lander share: real repositories, a gate that says what a scene has it say, and a worker's trees."""
+"""What the tests of the lander share: repositories, a gate that says what a scene has it say, and a worker's trees."""
 from __future__ import annotations
 
 import contextlib
@@ -62,8 +62,9 @@ class GateOfAScene:
         if order is None:
             return None
         jobs = [{"job": "unit", "slot": "success", "voting": True}, {"job": "docs", "slot": "failure", "voting": False}]
-        return {"builds": self.builds.get(order.order, []), "change": order.change, "jobs": jobs if self.is_strict else [],
-                "order": order.order, "queue": order.queue, "revision": order.revision, "verdict": None}
+        return {"builds": self.builds.get(order.order, []), "change": order.change, "order": order.order,
+                "jobs": jobs if self.is_strict else [], "queue": order.queue, "revision": order.revision,
+                "verdict": None}
 
     def status(self) -> Status:
         return Status([QueueStatus("core", 4, len(self.landed), [])], [])

@@ -262,8 +262,8 @@ class Upgrade(NotesCase):
 
     def test_a_landing_whose_note_is_gone_is_named(self) -> None:
         self.git("app", "update-ref", "-d", NOTE.format(2))
-        with self.assertRaisesRegex(GitFault, "no note of core is at [0-9a-f]{40}, a landing in app in the form of an earlier"
-                                              " version: set the note of its place to it"):
+        with self.assertRaisesRegex(GitFault, "no note of core is at [0-9a-f]{40}, a landing in app in the form of an"
+                                              " earlier version: set the note of its place to it"):
             self.start()
 
     def test_another_file_is_known_by_a_commit_of_an_earlier_version(self) -> None:

@@ -177,8 +177,8 @@ class Proven(LanderCase):
         self.order(1, 101, is_tested=False)
         self.refused(1, 101)
         self.order(2, 102, is_tested=False)
-        with self.assertRaisesRegex(QueueStops, "^change 102: what was tested isn't the commit .* The order before it was"
-                                                " refused for the same, so lander and workers differ: compare"
+        with self.assertRaisesRegex(QueueStops, "^change 102: what was tested isn't the commit .* The order before it"
+                                                " was refused for the same, so lander and workers differ: compare"
                                                 " lander.author and the versions of git, and start the lander again$"):
             self.lander.carry_out(self.gate.shown[0])
         self.assertEqual(len(self.gate.told), 1)
@@ -237,8 +237,8 @@ class Heads(LanderCase):
         order = self.order(2, 102, "app")
         kept = self.head()
         past = self.commit("lib", "main", {"file": "past the gate"}, [kept])
-        with self.assertRaisesRegex(QueueStops, f"^main of lib is at {past}, and the last landing left {kept}: take back"
-                                                " what was pushed past the gate$"):
+        with self.assertRaisesRegex(QueueStops, f"^main of lib is at {past}, and the last landing left {kept}: take"
+                                                " back what was pushed past the gate$"):
             self.lander.carry_out(order)
         self.assertEqual((len(self.gate.landed), self.head("app")), (1, self.root("app")))
         self.git("lib", "update-ref", "refs/heads/main", kept)

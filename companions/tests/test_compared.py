@@ -60,7 +60,8 @@ class Form(Case):
                              "acme/app": {"waiting": 0, "began": None}}})
 
     def test_it_is_read_as_it_was_written(self) -> None:
-        self.leave(refuse={103: "it was closed"}, answered={"7/1": 2}, repositories=self.repository("acme/app", Repository(3, None)))
+        self.leave(refuse={103: "it was closed"}, answered={"7/1": 2},
+                   repositories=self.repository("acme/app", Repository(3, None)))
         self.assertEqual(read(self.file), self.left)
 
     def test_what_has_no_such_form_is_none(self) -> None:

@@ -49,7 +49,8 @@ class EvidenceTest(LanderCase):
             self.land(order, change, name)
         self.file = self.folder / "companions.toml"
         self.file.write_text(f'folder = "{self.settings.folder}"\n[gate]\nurl = "http://localhost"\n' + "".join(
-            f'[[project]]\nname = "{it}"\nqueue = "core"\nrepository = "{self.folder}/{it}"\n' for it in ("lib", "app")))
+            f'[[project]]\nname = "{it}"\nqueue = "core"\nrepository = "{self.folder}/{it}"\n'
+            for it in ("lib", "app")))
 
     def run_it(self, *words: str) -> tuple[int, str]:
         """The status and what is printed."""
@@ -142,7 +143,8 @@ core: 3 of 3 landings hold; which jobs they had is the lander's word
                 lambda: self.git("lib", "update-ref", "refs/changes/103/1", self.root("lib")),
                 f"refs/changes/103/1 is at {self.root('lib')}, and {merged} has landed"),
             "a revision that wasn't told": (lambda: self.gate.log.__setitem__(
-                slice(None), [it for it in log if it.get("change") != 103]), f"the gate wasn't told {merged} as revision 1"),
+                slice(None), [it for it in log if it.get("change") != 103]),
+                f"the gate wasn't told {merged} as revision 1"),
             "a note that is gone": (lambda: self.git("lib", "update-ref", "-d", NOTE.format(3)),
                                     "its note, refs/landings/core/000003, is gone"),
             "a note that was moved": (lambda: self.git("lib", "update-ref", NOTE.format(3), right + "^"),
@@ -176,8 +178,8 @@ core: 3 of 3 landings hold; which jobs they had is the lander's word
         self.git("app", "update-ref", "refs/heads/main", "main^")
         with contextlib.redirect_stderr(io.StringIO()) as errors:
             self.assertEqual(self.run_it(), (1, ""))
-        self.assertEqual(errors.getvalue(), "evidence: the branches of core have landings at the places 1, 3: they have to"
-                                            " be 1 to 2\n")
+        self.assertEqual(errors.getvalue(), "evidence: the branches of core have landings at the places 1, 3: they have"
+                                            " to be 1 to 2\n")
 
     def test_landings_without_evidence_are_said_to_be_such(self) -> None:
         projects = dict(self.settings.projects)
@@ -187,10 +189,9 @@ core: 3 of 3 landings hold; which jobs they had is the lander's word
         self.change(104, "app")
         self.lander.carry_out(self.order(4, 104, "app", is_tested=False))
         status, printed = self.run_it("4")
-        self.assertEqual((status, printed), (0, f"""\
-core 4 app: change 104, revision 1, {self.head('app')[:12]}: its project has evidence = false, so its tests weren't asked for
-core: 1 of 1 landings hold; which jobs they had is the lander's word
-"""))
+        self.assertEqual((status, printed), (0, (
+            f"core 4 app: change 104, revision 1, {self.head('app')[:12]}: its project has evidence = false, so its tests"
+            " weren't asked for\ncore: 1 of 1 landings hold; which jobs they had is the lander's word\n")))
 
     def test_landings_of_an_earlier_version_are_said_to_be_such(self) -> None:
         for name in ("lib", "app"):
@@ -203,7 +204,8 @@ core: 1 of 1 landings hold; which jobs they had is the lander's word
         self.gate.landed = [self.order(4, 104, is_tested=False)]
         status, printed = self.run_it()
         self.assertEqual((status, printed.splitlines()[0]), (
-            0, f"core 1 lib: change 104, revision 1, {landed[:12]}: of an earlier version, whose landings show no tests"))
+            0, f"core 1 lib: change 104, revision 1, {landed[:12]}: of an earlier version, whose landings show no"
+               " tests"))
 
     def test_a_note_that_was_made_anew_has_no_jobs(self) -> None:
         self.git("lib", "update-ref", "-d", NOTE.format(3))

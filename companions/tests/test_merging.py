@@ -1,4 +1,4 @@
-"""The landing commit is a function of what is merged: a table of cases, with the hashes that they have on any machine."""
+"""The landing commit is a function of what is merged: a table of cases, with the hashes that they have anywhere."""
 from __future__ import annotations
 
 import os
@@ -34,8 +34,8 @@ class Reading(unittest.TestCase):
             self.assertEqual(parent_of("h", commit_of(committer)).seconds, seconds, committer)
 
     def test_a_subject_is_the_first_line_that_is_not_blank(self) -> None:
-        for message, subject in ((b"Make it\n\nGate-Queue: x\n", "Make it"), (b"", ""), (b"\n \t\n  Make it \n", "Make it"),
-                                 (b"Make\tit\r\n", "Make it"), (b"M\xc3\xa4ke", "M\u00e4ke"), (b"M\xe4ke", "M\ufffdke"),
+        for message, subject in ((b"Make it\n\nGate-Queue: x\n", "Make it"), (b"", ""),
+                                 (b"\n \t\n  Make it \n", "Make it"), (b"Make\tit\r\n", "Make it"), (b"M\xc3\xa4ke", "M\u00e4ke"), (b"M\xe4ke", "M\ufffdke"),
                                  (b"a\rGate-Place: 9", "a Gate-Place: 9"), ("a\u2028b".encode(), "a\u2028b"),
                                  (b"x" * 500, "x" * 200), (b"x" * 199 + b" y", "x" * 199), (b"\x00\x1b[1m", "[1m")):
             self.assertEqual(subject_of(message), subject)
@@ -129,7 +129,8 @@ class Table(unittest.TestCase):
             "the same lines": (ours, self.commit({"text": "eins\n2\n3\n4\n5\n6\n7\n"}), {}),
             "attributes of the tree": (self.commit({"text": "one\n", ".gitattributes": "text merge=union\n"}),
                                        self.commit({"text": "eins\n", ".gitattributes": "text merge=union\n"}), {}),
-            "line ends": (self.commit({"crlf": "a\r\nb\r\n"}), self.commit({".gitattributes": "* text=auto eol=crlf\n"}), {}),
+            "line ends": (self.commit({"crlf": "a\r\nb\r\n"}),
+                          self.commit({".gitattributes": "* text=auto eol=crlf\n"}), {}),
         }
 
     HASHES: dict[str, str | None] = {

@@ -161,7 +161,7 @@ class Refs(Case):
         self.round()
         self.assertEqual(self.ref("refs/changes/7/1"), self.commits[3])
         self.assertEqual(self.answered(), {"7/1": 1, "1/2": 1, "1/1": 1})
-        self.assertIn("adapter: lib 7/1: Trouble: revision 1 of change 7 of lib wasn't told from here", self.lines())
+        self.assertIn("adapter: lib 7/1: Trouble: revision 1 of change 7 of lib wasn't told here", self.lines())
 
     def test_a_repository_that_is_away_is_no_answer(self) -> None:
         self.lander.is_wrong(1, 1, "lib")

@@ -56,7 +56,8 @@ class Stopped(unittest.TestCase):
         past = self.origin.commit({"file": "past the gate"}, self.base)
         self.origin.name("refs/heads/main", past)
         self.gate.shown = [Order("core", 3, "lib", 7, 1)]
-        why = f"main of lib is at {past}, and the last landing left {self.base}: take back what was pushed past the gate"
+        why = (f"main of lib is at {past}, and the last landing left {self.base}: take back what was pushed past the"
+               " gate")
         self.assertEqual(self.turn()["core"], why)
         self.assertEqual(self.turn()["core"], why)
         self.assertEqual(self.said.getvalue().count(f"lander: core: {why}\n"), 1)

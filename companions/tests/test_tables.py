@@ -46,7 +46,7 @@ CREATE INDEX request_over ON request(is_over);
 CREATE TABLE hint(row INTEGER PRIMARY KEY AUTOINCREMENT, repository TEXT, request INTEGER,
     UNIQUE(repository, request));
 INSERT INTO delivery VALUES (3, '7', 'two', 'forge', '{"kind": "approved"}');
-INSERT INTO note VALUES ('file', '{"first": "one", "ids": "one"}');
+INSERT INTO note VALUES ('file', '{"first": "70000000-0000-4000-8000-000000000001", "ids": null}');
 INSERT INTO change VALUES (7, 'acme/lib', 12, 'main', 0, 0, 1);
 INSERT INTO revision VALUES (7, 1, 'aaaa', '[3]');
 INSERT INTO vote VALUES ('acme/lib', 12, 'review 1', 7, 1, 7, 1, 0);
@@ -82,9 +82,10 @@ class Versions(Case):
         changes = Changes(outbox)
         subject, = Subjects(changes).all()
         self.assertEqual(outbox.firsts(), [Kept("7", "two", "forge", {"kind": "approved"})])
-        self.assertEqual(outbox.get("file"), {"first": "one", "ids": "one"})
+        self.assertEqual(outbox.get("file"), {"first": "70000000-0000-4000-8000-000000000001", "ids": None})
+        # Its id isn't made of its commit, so it is told again.
         self.assertEqual(changes.told(7), Told(7, (Revision("aaaa", (3,)),), approvals={"review 1": 1},
-                                               seen={"review 1": 1}))
+                                               seen={"review 1": 1}, again=True))
         self.assertEqual((changes.message(7), changes.remarks(7, "need")),
                          ("Title", ["Depends-On: https://forge.example/x"]))
         self.assertEqual((subject.change, subject.place, subject.commits, subject.state),

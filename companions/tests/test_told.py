@@ -74,7 +74,7 @@ class Tables(Case):
         self.assertEqual(self.changes.still_open("acme/lib"), [])
 
     def test_all_that_was_told_outlives_a_restart(self) -> None:
-        self.keep("revision", 1, A, needs=(3,))
+        self.keep("revision", 1, A, "3", needs=(3,))
         self.keep("approved", 1, "review 1", votes=("review 1",), needs=(3,))
         self.keep("withdrawn", 1, "review 1", votes=("review 1",), needs=(3,))
         self.open()

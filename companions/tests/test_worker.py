@@ -212,8 +212,8 @@ class Evidence(WorkerCase):
         self.worker.turn()
         self.worker.turn()
         self.assertEqual(self.kinds(), [])
-        self.assertEqual(self.errors.getvalue(), "worker w1: takes nothing: lander.author is gate <gate@localhost> here,"
-                         " and other <other@localhost> where the lander runs: make them the same\n")
+        self.assertEqual(self.errors.getvalue(), "worker w1: takes nothing: lander.author is gate <gate@localhost>"
+                         " here, and other <other@localhost> where the lander runs: make them the same\n")
         self.origin.first("core", self.head)
         self.worker.turn()
         self.assertEqual(self.outcomes(), [(7, "success")])

@@ -160,7 +160,8 @@ class Adapter:
         said = ""
         for folder, branch in self.branches.items():
             heads = git(folder, "for-each-ref", "--format=%(objectname)", f"refs/heads/{branch}").split()
-            said += git(folder, "log", "--first-parent", "--grep=^Gate-Change: ", "--format=%B", *heads) if heads else ""
+            if heads:
+                said += git(folder, "log", "--first-parent", "--grep=^Gate-Change: ", "--format=%B", *heads)
         return {int(change): int(revision) for change, revision in LANDED.findall(said)}
 
     def drop_what_is_late(self) -> None:

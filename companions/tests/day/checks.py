@@ -3,6 +3,8 @@ from __future__ import annotations
 
 import json
 import re
+import subprocess
+import sys
 from collections import Counter
 from collections.abc import Callable, Iterator
 from dataclasses import dataclass
@@ -53,7 +55,7 @@ class Checks:
 
     def each(self) -> list[Callable[[], Iterator[str]]]:
         return [self.check_places, self.check_branches, self.check_once, self.check_determined, self.check_trees,
-                self.check_gate, self.check_deliveries, self.check_changes, self.check_quiet]
+                self.check_gate, self.check_deliveries, self.check_changes, self.check_quiet, self.check_evidence]
 
     def projects_of(self, queue: str) -> list[str]:
         return [it.name for it in self.stage.projects if it.queue == queue]
@@ -204,6 +206,20 @@ class Checks:
                 yield f"change {number} {'landed' if number in landed else 'did not land'}"
         if {253, 254} <= landed:
             yield "both of two changes landed that conflict"
+
+    def check_evidence(self) -> Iterator[str]:
+        """Whoever checks the landings afterwards, by the companion that does so, accepts them all."""
+        if self.stage.turned is not None:
+            return
+        copy, around = self.stage.folder / "evidence.gate", self.stage.environment
+        run([str(SERVICE / "backup"), str(self.stage.file), str(copy)],
+            {**around, "GATED_SETTINGS": str(self.stage.settings), "HOME": str(self.stage.folder)})
+        for queue in self.queues:
+            words = [sys.executable, "-m", "companions.evidence", str(self.stage.folder / "companions.toml"), queue,
+                     "--file", str(copy)]
+            ran = subprocess.run(words, capture_output=True, text=True, env=around, check=False)
+            if ran.returncode != 0 or f" {len(self.landings[queue])} landings hold" not in ran.stdout:
+                yield f"evidence of {queue} ended with {ran.returncode}: {ran.stdout[-1000:]}{ran.stderr[-1000:]}"
 
     def check_quiet(self) -> Iterator[str]:
         """Nothing is left to be done."""

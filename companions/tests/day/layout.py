@@ -140,10 +140,11 @@ def gate_settings(projects: list[Project]) -> str:
     return text
 
 
-def companions_settings(folder: Path, port: int, projects: list[Project], where: str, more: str = "") -> str:
+def companions_settings(folder: Path, port: int, projects: list[Project], where: str, more: str = "",
+                        evidence: bool = True) -> str:
     """The companions' file; `where` stands before the folder of the repositories in their addresses.
 
-    `more` are tables of a day of another kind.
+    `more` are tables of a day of another kind. Without `evidence` the lander doesn't ask what was tested.
     """
     text = f'folder = "{folder}/companions"\n[gate]\nurl = "https://127.0.0.1:{port}"\npause = {pace()}\n'
     for role, user in USERS.items():
@@ -151,7 +152,8 @@ def companions_settings(folder: Path, port: int, projects: list[Project], where:
     text += f'[worker]\nlook = 1.0\n[watch]\ngrace = 3.0\nstands = 20.0\n{more}'
     for project in projects:
         text += (f'[[project]]\nname = "{project.name}"\nqueue = "{project.queue}"\nbranch = "{project.branch}"\n'
-                 f'repository = "{where}{folder}/repos/{project.home}.git"\nforge = "acme/{project.home}"\n')
+                 f'repository = "{where}{folder}/repos/{project.home}.git"\nforge = "acme/{project.home}"\n'
+                 f'evidence = {str(evidence).lower()}\n')
         for job, _ in project.jobs:
             text += f'[[project.job]]\nname = "{job}"\ncommand = "sh {folder}/job {job}"\nlimit = {12 + 10 * pace()}\n'
     return text

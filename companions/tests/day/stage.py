@@ -118,7 +118,9 @@ class Stage:
         layout.make_repository(self.folder, project, self.environment, self.hooks())
         self.projects.append(project)
         for name, (where, more) in self.companions().items():
-            text = layout.companions_settings(self.folder, self.proxy, self.projects, where, more)
+            # A lander that asks what was tested lands nothing of what that wrong worker tells.
+            text = layout.companions_settings(self.folder, self.proxy, self.projects, where, more,
+                                              self.turned != "worker-keeps")
             put(self.folder / name, text)
 
     def hooks(self) -> dict[str, str]:

@@ -16,11 +16,12 @@ from companions.outbox import Kept, Outbox
 from companions.requests import Request, Telling
 from companions.settings import read
 from companions.told import Changes
-from companions.trees import Build
+from companions.trees import Build, Made
 
 
 class CarelessLander(lander.QueueLander):
-    """Merges whatever is ordered onto whatever the branch has, and asks nobody whether the gate is the same one."""
+    """Merges whatever is ordered onto whatever the branch has, and asks nobody whether the gate is the same one, what
+    was tested, or what the adapter has compared."""
 
     def carry_out(self, order: Order) -> None:
         project, repository = self.settings.projects[order.project], self.repositories[order.project]
@@ -28,6 +29,8 @@ class CarelessLander(lander.QueueLander):
         self.branches.look()
         self.branches.heads[order.project] = repository.ask(branch)[branch]
         self.first, self.told = self.gate.first(), self.branches.noted
+        self.evidence.check = lambda *_: ()  # type: ignore[method-assign]
+        self.compared.why_refused = lambda *_: None  # type: ignore[method-assign]
         self.land(order)
 
     def tell(self, order: Order, place: int) -> None:
@@ -37,16 +40,15 @@ class CarelessLander(lander.QueueLander):
 class KeepingWorker(worker.Worker):
     """Holds on to its build: it neither looks whether the gate still means it, nor sends its take again."""
 
-    def exchange(self, take: str, reply: worker.Reply, outcome: str) -> tuple[bool, Answer]:
-        return True, self.gate.post("worker", worker.result_of(take, reply, outcome))
+    def exchange(self, take: str, reply: worker.Reply, outcome: str, commit: str | None) -> tuple[bool, Answer]:
+        return True, self.gate.post("worker", worker.result_of(take, reply, outcome, commit))
 
 
 class HastyWorker(worker.Worker):
-    """Reports before the trees are made."""
+    """Reports once the trees are made, and runs nothing on them."""
 
-    def build(self, take: str, reply: worker.Reply, build: Build) -> str | None:
-        self.note(take, reply, "success", None, 0.0)
-        return "success"
+    def run_job(self, build: Build, made: Made, take: str, log: Path, look: worker.Look) -> tuple[str, str]:
+        return "success", "in haste"
 
 
 class FreshHooks(hooks.Hooks):
