@@ -181,6 +181,7 @@ class AdapterTest(unittest.TestCase):
         self.assertEqual((self.left().last, self.left().refuse, self.left().repositories["lib"]),
                          (None, {}, Repository(1, None)))
         self.adapter.look()
+        self.adapter.outbox.later.clear()
         self.send()
         self.assertEqual((self.left().last, self.left().repositories["lib"].waiting), (list(self.gate.taken)[-1], 0))
 

@@ -1,6 +1,7 @@
 """The settings that docs/CONNECTING.md shows and lists are those that are read."""
 from __future__ import annotations
 
+import hashlib
 import json
 import re
 import tempfile
@@ -9,7 +10,8 @@ import unittest.mock
 import uuid
 from pathlib import Path
 
-from companions.ids import revision_id
+from companions.ids import revision_id, success_id
+from companions.merging import Merge, Parent
 from companions.settings import ROLES, Reader, Settings, SettingsFault, read
 
 PAGE = Path(__file__).resolve().parents[2] / "docs" / "CONNECTING.md"
@@ -76,6 +78,28 @@ class PageTest(unittest.TestCase):
         _, change, revision, commit, *needs = json.loads(array)
         self.assertEqual(revision_id(first, int(change), int(revision), commit, map(int, needs)), told)
         self.assertEqual(str(uuid.uuid5(uuid.UUID(first), array)), told)
+
+    def test_the_example_of_a_success_is_the_function_s(self) -> None:
+        page = PAGE.read_text(encoding="utf-8")
+        space, said = re.findall(r"name space is always `(\S+)`,.*?\n\n      (\[\"success\", .*?\])\n\n  gives `\S+`", page,
+                                 re.DOTALL)[0]
+        told = re.findall(r"^  gives `(\S+)`\. Failures", page, re.MULTILINE)[0]
+        _, build, queue, change, revision, job, commit = json.loads(said)
+        self.assertEqual(success_id(int(build), queue, int(change), int(revision), job, commit), told)
+        self.assertEqual(str(uuid.uuid5(uuid.UUID(space), said)), told)
+        self.assertIn(f"\n`{commit}`.\n", page)
+
+    def test_the_example_of_a_landing_commit_is_the_function_s(self) -> None:
+        text, commit = re.findall(r"queue:\n\n(    tree .*?)\n\nThis is the whole content.*?`([0-9a-f]{40})`",
+                                  PAGE.read_text(encoding="utf-8"), re.DOTALL)[0]
+        content = (re.sub("^    ", "", text, flags=re.MULTILINE) + "\n").encode()
+        has = dict(line.split(" ", 1) for line in content.decode().split("\n\n")[0].splitlines()[:2])
+        onto = Parent(has["parent"], 1764500000, "")
+        other = re.findall(rb"^parent (.*)$", content, re.MULTILINE)[1].decode()
+        what = Merge("core", 4, 103, 2, onto, Parent(other, 1764480000, "Use three"),
+                     {"lib": content.decode().split()[-1]}, "gate <gate@localhost>")
+        self.assertEqual(what.content(has["tree"]), content)
+        self.assertEqual(hashlib.sha1(b"commit %d\0" % len(content) + content).hexdigest(), commit)
 
     def test_what_must_be_there_has_no_default(self) -> None:
         rows = re.findall(r"^\| (`.*?) \|.*\| must be there \|$", members(), re.MULTILINE)
