@@ -30,6 +30,8 @@ from companions.tries import Tries
 
 # How long a queue rests whose trouble was told, as a multiple of `gate.pause`.
 REST = 5
+# How often a queue without orders looks whether its notes are the lander's own, in seconds: workers read them.
+NOTES = 300.0
 
 
 class QueueLander:
@@ -46,7 +48,7 @@ class QueueLander:
         # The gate's first accepted delivery, and how many landings of the queue the gate has; none before a look.
         self.first: str | None = None
         self.told = 0
-        self.has_begun = False
+        self.has_begun, self.looked_at = False, 0.0
 
     def begin(self) -> None:
         """At the start: the heads that projects have before their first landings are noted.
@@ -55,8 +57,12 @@ class QueueLander:
         """
         for it in self.repositories.values():
             it.unlock()
-        self.branches.look()
+        self.look_at_notes()
         self.has_begun = True
+
+    def look_at_notes(self) -> None:
+        self.branches.look()
+        self.looked_at = time.monotonic()
 
     def carry_out(self, order: Order) -> None:
         """Lands, refuses or tells an order; `QueueStops` where none of it may be.
@@ -237,6 +243,8 @@ class Lander:
             self.take(order)
         for queue in self.queues.keys() - {it.queue for it in orders}:
             self.go_on(queue)
+            if self.queues[queue].has_begun and self.queues[queue].looked_at + NOTES <= time.monotonic():
+                self.start(queue, self.queues[queue].look_at_notes)
 
     def take(self, order: Order) -> None:
         queue = self.queues.get(order.queue)

@@ -11,7 +11,7 @@ from companions.forges import Forge, Place
 from companions.gate import Gate, say
 from companions.landings import Branch, first_name
 from companions.needs import Needs, message, need_lines, needs_of
-from companions.repository import REVISION, GitFault, Repository
+from companions.repository import REVISION, Repository
 from companions.requests import (NO_REVISION, Request, State, Telling, Told, closing, first_seen, set_aside, tellings,
                                  uncounted)
 from companions.settings import Adapter, Project, Settings

@@ -20,7 +20,7 @@ from companions.landings import Branch, Line, author_of, first_name, in_order, l
 from companions.merging import Merge
 from companions.outbox import Notes
 from companions.repository import REVISION, GitFault, Repository
-from companions.settings import Project, Settings, SettingsFault
+from companions.settings import Settings, SettingsFault
 
 # So many revisions' names are kept in a mirror.
 KEPT = 500

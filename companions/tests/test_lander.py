@@ -5,6 +5,7 @@ import dataclasses
 import unittest
 from unittest import mock
 
+from companions import lander
 from companions.checks import Again, QueueStops
 from companions.gate import NoAnswer
 from companions.ids import id_of, success_id
@@ -167,6 +168,22 @@ class LanderTest(LanderCase):
         self.assertIn("lib core/000000", self.notes())
         every.turn()
         self.assertEqual((self.gate.told, every.said), ([], {}))
+
+    def test_notes_are_looked_at_while_nothing_is_ordered(self) -> None:
+        """Workers that read another author in a first note take nothing, so no order would come."""
+        every = Lander(dataclasses.replace(self.settings, folder=self.folder / "other", pause=0.01))
+        self.addCleanup(every.pool.shutdown)
+        every.gate = self.gate  # type: ignore[assignment]
+        self.gate.until = lambda ask, pause: ask()  # type: ignore[attr-defined]
+        every.turn()
+        every.at_work["core"].result()
+        self.git("lib", "update-ref", "refs/landings/core/000000", self.commit("lib", "x", {"y": "z"}, []))
+        every.turn()
+        self.assertNotEqual(self.notes()["lib core/000000"], self.root("lib"))
+        with mock.patch.object(lander, "NOTES", 0.0):
+            every.turn()
+            every.at_work["core"].result()
+        self.assertEqual(self.notes()["lib core/000000"], self.root("lib"))
 
     def test_an_unknown_project_is_told(self) -> None:
         with self.assertRaisesRegex(QueueStops, "is of project site, which the settings don't have"):
