@@ -101,6 +101,10 @@ class Settings(Case):
                 ("[gate]", "[lander]\nauthors = 'x'\n[gate]", "lander.authors: isn't known"),
                 ("[gate]", "[lander]\nadapter = 1\n[gate]", "lander.adapter: isn't true or false"),
                 ("[gate]", "[lander]\ntries = 0\n[gate]", "lander.tries: isn't above 0"),
+                ("[gate]", '[lander]\nauthor = "gate"\n[gate]', "lander.author: isn't NAME <ADDRESS>"),
+                ("[gate]", '[lander]\nauthor = "a\\nb <a@b>"\n[gate]', "lander.author: isn't NAME <ADDRESS>"),
+                ("[gate]", '[lander]\nauthor = "a <a@b> "\n[gate]', "lander.author: isn't NAME <ADDRESS>"),
+                ('queue = "core"', 'queue = "core"\nevidence = 1', r"project\[0\].evidence: isn't true or false"),
                 ("[gate]", "[lander]\ntries = 1.5\n[gate]", "lander.tries: isn't a whole number"),
                 ("[gate]", "project = 1\n[gate]", "no TOML"),
                 ("[gate]", "[gate", "no TOML")):

@@ -50,6 +50,8 @@ class LanderTest(LanderCase):
         self.lander.carry_out(self.order(2, 102))
         self.assertEqual([it["kind"] for it in self.gate.told], ["landed", "refused"])
         self.assertEqual(self.head(), head)
+        self.assertIn("lander: core: refused change 102, revision 1: it can't be merged into main: it conflicts with change"
+                      " 101 in file: {'reply': 'removed'}\n", self.said())
 
     def test_what_was_pushed_and_not_told_is_told_once_and_not_merged_again(self) -> None:
         self.change(101)
