@@ -88,7 +88,7 @@ class Take(WorkerCase):
         self.assertEqual(self.outcomes(), [(7, "success")])
 
     def test_it_pauses_when_idle(self) -> None:
-        self.gate.left = []
+        self.gate.left, self.worker.author_at = [], float("inf")
         with mock.patch.object(worker.time, "sleep") as sleep:
             self.worker.turn()
         sleep.assert_called_once_with(0.02)
