@@ -21,6 +21,8 @@ FORM = re.compile(rf"Land change {NUMBER}(?:: [^\n]*)?\n\nGate-Queue: (?P<queue>
 EARLIER = re.compile(rf"Land change {NUMBER}: [^\n]*\n\nGate-File: (?P<first>\S+)\nGate-Queue: (?P<queue>\S+)\n"
                      rf"Gate-Order: {NUMBER}\nGate-Change: (?P<change>{NUMBER})\n"
                      rf"Gate-Revision: (?P<revision>{NUMBER})\n?")
+# The most bytes that a note has.
+NOTE = 65_536
 TRAILER = re.compile(r"^Gate-(\w+): ([^\n]+)$", re.MULTILINE)
 
 
@@ -264,7 +266,9 @@ def author_of(text: str) -> str | None:
 
 
 def text_of(repository: Repository, it: str) -> str:
-    """What a note's object says, or nothing where it is a commit, as those of an earlier version are."""
-    if repository.git("cat-file", "-t", it) != "tag":
+    """What a note's object says. One that is a commit, as those of an earlier version are, says nothing, and neither
+    does one that is too large to be the lander's."""
+    kind, size = repository.kind(it)
+    if kind != "tag" or size > NOTE:
         return ""
     return repository.content(it, "tag").partition(b"\n\n")[2].decode("utf-8", "replace")

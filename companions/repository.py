@@ -267,6 +267,13 @@ class Repository:
             raise GitFault(f"git cat-file {kind} {it}: {ran.stderr.decode('utf-8', 'replace').strip()}")
         return ran.stdout
 
+    def kind(self, it: str) -> tuple[str, int]:
+        """What kind of an object it is, and of how many bytes."""
+        words = self.git("cat-file", "--batch-check", given=f"{it}\n").split()
+        if len(words) != 3:
+            raise GitFault(f"git cat-file: {' '.join(words)}")
+        return words[1], int(words[2])
+
     def parent(self, commit: str) -> Parent:
         """What a merge reads of a commit."""
         return parent_of(commit, self.content(commit))

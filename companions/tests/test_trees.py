@@ -235,6 +235,8 @@ class Waiting(TreesCase):
             self.assertEqual(self.trees.other_author(), None if is_right else said)
             if is_right:
                 self.make(build(103, 0))
+                with mock.patch.object(landings, "NOTE", 10):
+                    self.assertIsNone(self.trees.other_author())
             else:
                 with self.assertRaisesRegex(Waited, said):
                     self.make(build(103, 0))
