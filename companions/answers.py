@@ -10,6 +10,7 @@ import json
 import os
 import re
 import threading
+from collections.abc import Container
 from dataclasses import asdict, dataclass, field
 from pathlib import Path
 from typing import Any
@@ -121,6 +122,14 @@ class Answers:
         """The ref of a revision is what it has to be, or its order is over."""
         with self.lock:
             left = [it for it in self.wrong if (it.change, it.revision) != (change, revision)]
+            if left != self.wrong:
+                self.wrong = left
+                self.write()
+
+    def is_over(self, projects: Container[str]) -> None:
+        """No order of these projects is shown: nobody has to look after their refs any more."""
+        with self.lock:
+            left = [it for it in self.wrong if it.project not in projects]
             if left != self.wrong:
                 self.wrong = left
                 self.write()

@@ -282,6 +282,7 @@ class Lander:
         running = self.at_work.get(queue)
         if self.queues[queue].has_begun and (running is None or running.done()):
             self.answers.stop(queue, None)
+            self.answers.is_over(self.queues[queue].repositories)
 
     def tell(self, queue: str, what: str) -> None:
         if self.said.get(queue) != what:

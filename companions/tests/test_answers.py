@@ -45,6 +45,12 @@ class Written(unittest.TestCase):
         said = read(self.file)
         self.assertEqual((said.stopped, said.wrong), ({"core": None}, ()))
 
+    def test_refs_of_projects_without_an_order_are_nobody_s_business(self) -> None:
+        for change, project in ((7, "lib"), (8, "app"), (9, "site")):
+            self.answers.is_wrong(change, 1, project)
+        self.answers.is_over({"lib": 1, "app": 2})
+        self.assertEqual(read(self.file).wrong, (Wrong(9, 1, "site"),))
+
     def test_a_lander_that_is_started_again_has_its_answers(self) -> None:
         self.answers.stop("core", "because")
         self.answers.refuse(8, 1, "a")
