@@ -65,16 +65,18 @@ class Adapter:
         for it in self.looks.repositories.values():
             it.unlock()
         failures.begin()
-        self.compare_at = 0.0
+        self.compare_at, self.now = 0.0, 0.0
         self.righted: dict[Wrong, float] = {}
         self.rests: dict[str, float] = {}
         self.troubles: dict[str, str] = {}
 
     def once(self, now: float) -> None:
         """One round. Without an answer of the gate all stays as it is."""
+        self.now = now
         try:
             if not self.file.is_known or now >= min(self.compare_at, self.look_at):
                 self.file.ask()
+            self.tell_again()
             self.comparisons.leave()
             if now >= self.compare_at:
                 self.compare_at = now + (self.compare if self.hint_at_all() else REST * self.settings.pause)
@@ -111,16 +113,21 @@ class Adapter:
         self.comparisons.answer(said.wrong, {it for it, fault in faults.items() if not is_of_network(fault)})
         for queue, since in said.since.items():
             for name in dict.fromkeys(it.forge for it in self.settings.projects_of(queue)):
-                if self.comparisons.is_late(name, since):
-                    self.attempt(name, lambda it=name: self.hint_at(it))
+                if self.comparisons.is_late(name, since) and self.rests.get(name, 0.0) <= now:
+                    if self.attempt(name, lambda it=name: self.hint_at(it)) is not None:
+                        self.rests[name] = now + REST * self.settings.pause
 
     def send(self) -> None:
         """Sends what may be sent by now. What is kept is left word of before, and what was answered behind."""
         try:
             if self.outbox.is_due():
                 self.file.ask()
+                self.tell_again()
                 self.comparisons.leave()
-                self.outbox.send(self.gate, self.answered, self.settings.pause, self.comparisons.leave)
+                # What is kept of a branch goes behind what a gate that was restored is told of it again.
+                untold = (self.outbox.get("untold") or {"homes": []})["homes"]
+                held = {str(change) for it in untold for change in self.changes.of_home(tuple(it))}
+                self.outbox.send(self.gate, self.answered, self.settings.pause, self.comparisons.leave, held)
                 if not self.file.is_known:
                     self.file.ask()
         finally:
@@ -131,12 +138,12 @@ class Adapter:
         sent before the next one, and a hook that comes meanwhile is followed next, unless its request had its look."""
         if self.changes.first() is None:
             self.send()
-        faults, waiting, done = 0, self.hints.all(), set[Place]()
+        faults, waiting, done, untold = 0, self.hints.all(), set[Place](), self.comparisons.untold()
         last = waiting[-1][0] if waiting else 0
         while waiting and faults < FAULTS:
             row, place = waiting.pop(0)
             name = f"{place.repository} {place.number}"
-            if self.rests.get(name, 0.0) > now or place in done:
+            if self.rests.get(name, 0.0) > now or place in done or place.repository in untold:
                 continue
             done.add(place)
             fault = self.attempt(name, lambda it=place: self.looks.look(it))
@@ -202,13 +209,28 @@ class Adapter:
         self.compare_at = 0.0
 
     def is_earlier(self) -> None:
-        """The gate was restored. What the branches have by now is noted before anything is told again."""
+        """The gate was restored. What was known to it before isn't what is known if it was restored once more."""
         self.comparisons.forget()
         self.compare_at = 0.0
-        self.looks.note_all_landings()
-        known = self.changes.replies_known(self.gate.knows)
-        with self.changes.step():
-            self.changes.tell_again(known=known)
+        before, known = self.outbox.get("untold"), self.changes.replies_known(self.gate.knows)
+        self.outbox.put("untold", {"known": min(known, before["known"]) if before else known,
+                                   "homes": self.changes.homes()})
+
+    def tell_again(self) -> None:
+        """Tells a gate that was restored what it may have lost: of each branch, once what it has by now is noted. One
+        that can't be read holds up its own repository."""
+        untold = self.outbox.get("untold")
+        for home in [] if untold is None else untold["homes"]:
+            project, name = self.looks.projects.get(tuple(home)), " ".join(home)
+            if project is not None and self.rests.get(name, 0.0) > self.now:
+                continue
+            if project is not None and self.attempt(name, lambda it=project: self.looks.note_landings(it)) is not None:
+                self.rests[name] = self.now + REST * self.settings.pause
+                continue
+            with self.changes.step():
+                self.changes.tell_again(known=untold["known"], home=tuple(home))
+                left = [it for it in self.outbox.get("untold")["homes"] if it != home]
+                self.outbox.put("untold", {**untold, "homes": left} if left else None)
 
     def run(self, came: threading.Event) -> None:
         while True:

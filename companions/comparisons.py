@@ -72,6 +72,10 @@ class Comparisons:
         """The adapter has looked once more at some of the refs that the lander finds to be wrong."""
         self.answered = {it.name: self.answered.get(it.name, 0) + (it in done) for it in listed}
 
+    def untold(self) -> set[str]:
+        """The repositories of which a gate that was restored isn't told again yet."""
+        return {repository for repository, _ in (self.outbox.get("untold") or {"homes": []})["homes"]}
+
     def forget(self) -> None:
         """The gate was restored, or has another file: what was compared before says nothing any more."""
         self.at_work.clear()
@@ -81,8 +85,8 @@ class Comparisons:
         """Leaves for the lander what is so by now."""
         noted, began = self.outbox.get("file"), self.outbox.get("compared") or {}
         submitting = {int(it.lane): SUBMITTING.get(it.said["kind"]) for it in self.outbox.submitting()}
-        waiting = self.changes.waiting(submitting)
-        repositories = {it: Repository(waiting.get(it, 0), Moment(**began[it]) if it in began else None)
+        waiting, untold = self.changes.waiting(submitting), self.untold()
+        repositories = {it: Repository(waiting.get(it, 0) + (it in untold), Moment(**began[it]) if it in began else None)
                         for it in self.repositories}
         unseen = {change: UNSEEN for place in self.unseen for change in self.changes.of_request(place).values()}
         refuse = unseen | {change: why for change, why in submitting.items() if why is not None}

@@ -16,7 +16,7 @@ from companions.requests import (NO_REVISION, Request, State, Telling, Told, clo
                                  uncounted)
 from companions.settings import Adapter, Project, Settings
 from companions.subjects import Subjects
-from companions.told import AHEAD, Changes
+from companions.told import AHEAD
 
 HASH = re.compile(r"[0-9a-f]{40}|[0-9a-f]{64}")
 COMMITTED = re.compile(r"^committer .*> ([0-9]{1,20}) [+-][0-9]{4}$", re.MULTILINE)
@@ -204,11 +204,6 @@ class Looks:
             for it in landed:
                 self.changes.land(it.change)
             outbox.put(name, {"first": file["first"], "head": head})
-
-    def note_all_landings(self) -> None:
-        """Notes what all branches have, before a gate that was restored is told anything."""
-        for project in self.projects.values():
-            self.note_landings(project)
 
     def be_sure(self, so: Request, seen: dict[str, int]) -> None:
         """An approval that names no commit is of what the forge shows before it and behind it."""

@@ -3,7 +3,7 @@ from __future__ import annotations
 
 import json
 import time
-from collections.abc import Callable
+from collections.abc import Callable, Container
 from dataclasses import dataclass
 from pathlib import Path
 from typing import Any
@@ -105,8 +105,8 @@ class Outbox(Notes):
         return [it for it in self.firsts() if self.shown.get(it.lane) == it.id] if self.shown else []
 
     def send(self, gate: Gate, told: Callable[[Kept, Answer], None], pause: float = 1.0,
-             waits: Callable[[], None] = lambda: None) -> bool:
-        """Sends what may be sent by now, and says whether nothing is left.
+             waits: Callable[[], None] = lambda: None, held: Container[str] = ()) -> bool:
+        """Sends what may be sent by now, but for the lanes that are held, and says whether nothing is left.
 
         A lane whose order is shown is tried again after a pause. Without an answer all stay as they are: `NoAnswer`.
         `told` is called with each final answer, before the delivery goes, and `waits` where an order is shown.
@@ -115,7 +115,7 @@ class Outbox(Notes):
         while moved:
             moved = False
             for first in self.firsts():
-                if self.later.get(first.lane, 0.0) > time.monotonic():
+                if first.lane in held or self.later.get(first.lane, 0.0) > time.monotonic():
                     continue
                 answer = gate.post(first.door, {"id": first.id, **first.said})
                 if answer.code == SUBMITTING:

@@ -43,7 +43,8 @@ trap 'rm -rf "$work"' EXIT
     done
   done
   for scene in worker-keeps lander-back lander-past worker-hastes unit \
-    "adapter-holds --forge gitea" "adapter-fresh --forge github" "adapter-believes --forge gitlab"; do
+    "adapter-holds --forge gitea" "adapter-fresh --forge github" "adapter-believes --forge gitlab" \
+    "lander-blind --forge gitea"; do
     echo "companions.tests.day --turn $scene"
   done
   for file in companions/tests/test_*.py; do

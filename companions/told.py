@@ -228,18 +228,29 @@ class Changes:
         at = bisect.bisect_left(numbers, True, key=lambda it: not knows(row_of(it)[0]))
         return row_of(numbers[at - 1])[1] if at else 0
 
-    def tell_again(self, change: int | None = None, known: int = 0) -> None:
-        """Keeps what was told of a change, or of all, and still holds: what the gate has gets a kept reply. Left out is
-        what got one of the first replies, so many as are known.
+    def homes(self) -> list[tuple[str, str]]:
+        """The repositories and branches of which changes were told."""
+        return self.tables.execute("SELECT DISTINCT repository, branch FROM change WHERE number IN"
+                                   " (SELECT change FROM telling) ORDER BY repository, branch").fetchall()
+
+    def of_home(self, home: tuple[str, str]) -> list[int]:
+        """The changes of a repository and branch."""
+        rows = self.tables.execute("SELECT number FROM change WHERE repository = ? AND branch = ?", home)
+        return [row[0] for row in rows]
+
+    def tell_again(self, change: int | None = None, known: int = 0, home: tuple[str, str] = ("", "")) -> None:
+        """Keeps what was told of a change, or of all of a repository and branch, and still holds: what the gate has gets
+        a kept reply. Left out is what got one of the first replies, so many as are known.
 
         What was `stale` came too late once. Told to a gate that was restored it could come too early. Of what has
         landed in the branch, nothing is told that the gate hasn't taken before. Call it within a step.
         """
-        lane = None if change is None else str(change)
-        self.tables.execute("DELETE FROM delivery WHERE lane = coalesce(?, lane)", (lane,))
+        which = "(change.number = ? OR change.repository = ? AND change.branch = ?)"
+        self.tables.execute("DELETE FROM delivery WHERE CAST(lane AS INTEGER) IN (SELECT number FROM change WHERE"
+                            f" {which})", (change, *home))
         rows = self.tables.execute(
             "SELECT change, id, said, answer, landed FROM telling JOIN change ON change.number = change"
-            " WHERE change = coalesce(?, change) AND coalesce(reply, ?) > ? ORDER BY place", (change, known + 1, known))
+            f" WHERE {which} AND coalesce(reply, ?) > ? ORDER BY place", (change, *home, known + 1, known))
         for number, identity, said, answer, landed in rows.fetchall():
             is_over = answer == "stale" or answer is not None and answer[0] == "E" and answer not in LACKING
             if not is_over and not (landed and (answer is None or answer in LACKING)):

@@ -215,6 +215,28 @@ class Restored(Leaving):
         self.look()
         self.assertEqual((self.gate.changes[1]["order"], self.refuse()), (None, {}))
 
+    def test_a_repository_that_is_away_is_told_again_later_and_before_anything_else(self) -> None:
+        self.be(12, 0)
+        self.assertEqual(self.look(self.place), ["withdrawn 1 1"])
+        self.lose(2)
+        away = self.origin.folder.rename(self.folder / "away")
+        self.assertEqual((self.look(), self.look()), ([], []))
+        self.waits("it hasn't compared acme/lib yet")
+        self.assertEqual(self.lib().waiting, 1)
+        away.rename(self.origin.folder)
+        self.assertEqual(self.look(), ["revision 1 1", "approved 1 1", "withdrawn 1 1"])
+        self.assertEqual((self.gate.changes[1]["order"], self.lib().waiting), (None, 0))
+
+    def test_what_was_kept_is_told_behind_what_is_told_again(self) -> None:
+        """Else a withdrawal would come before the approval that it takes back."""
+        self.be(12, 0)
+        self.adapter.looks.look(self.place)
+        self.lose(1)
+        self.adapter.compare_at = 2.0
+        self.adapter.once(1.0)
+        self.assertEqual([it["kind"] for it in self.standin.deliveries()[-2:]], ["approved", "withdrawn"])
+        self.assertIsNone(self.gate.changes[1]["order"])
+
     def test_what_still_stands_may_land_once_it_was_compared(self) -> None:
         self.lose(1)
         self.waits("it hasn't seen yet that the gate was restored")

@@ -133,7 +133,7 @@ class Tables(Case):
 class Again(Case):
     def tell_again(self, known: int = 0) -> list[str]:
         with self.changes.step():
-            self.changes.tell_again(known=known)
+            self.changes.tell_again(known=known, home=("acme/lib", "main"))
         return self.kinds()
 
     def test_what_holds_is_told_again_under_the_same_ids(self) -> None:

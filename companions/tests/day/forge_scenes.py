@@ -112,8 +112,27 @@ def holds(it: ForgeScene) -> None:
         it.stage.start("lander")
 
 
+def blind(it: ForgeScene) -> None:
+    """A backup is restored that has an approval and not its withdrawal, and the lander is there before the adapter."""
+    it.stage.kill(*WORKERS)
+    change = it.add(103, "lib", "numbers/3", "three", lands=False)
+    it.await_gate(change, lambda said: said["order"] is not None)
+    it.keeper.backup()
+    it.developers.withdraw(change)
+    it.tell()
+    it.await_gate(change, lambda said: said["order"] is None)
+    it.stage.kill("adapter", "follow")
+    it.keeper.lose()
+    it.keeper.restore(follower=False)
+    it.stage.start(*WORKERS)
+    wait_for("the order to be shown, and the lander to act", lambda: it.is_so(change, lambda said: (
+        said["state"] == "landed" or "waits for the adapter: it hasn't seen yet" in it.stage.log("lander"))))
+    it.stage.start("adapter")
+
+
 FORGE_SCENES = {
     "adapter-fresh": Played(fresh, "times by the votes of ann"),
     "adapter-believes": Played(believes, "and the gate was told"),
     "adapter-holds": Played(holds, "acme/site 1 is open, and the gate knows nothing of it"),
+    "lander-blind": Played(blind, "acme/lib 2, change 103, landed"),
 }

@@ -9,7 +9,7 @@ from dataclasses import replace
 from pathlib import Path
 from typing import Any
 
-from companions import adapter, hooks, lander, worker
+from companions import adapter, compared, hooks, lander, worker
 from companions.forges import Forge, Place
 from companions.gate import Answer, Delivery, Order
 from companions.outbox import Kept, Outbox
@@ -106,6 +106,12 @@ def land_carelessly(words: list[str]) -> None:
     lander.Lander(read(Path(words[0]))).run()
 
 
+def land_blindly(words: list[str]) -> None:
+    """Asks nobody whether the adapter has compared."""
+    compared.Comparison.why_refused = lambda *it: None  # type: ignore[method-assign]
+    lander.main(words)
+
+
 def keep(words: list[str]) -> None:
     worker.Look.wanted = lambda look: True  # type: ignore[method-assign]
     KeepingWorker(read(Path(words[0])), words[1]).run()
@@ -134,7 +140,7 @@ def hold(words: list[str]) -> None:
 # By the name of the scene that finds it. The part of `unit` is the gate's, which the stage starts.
 TURNED: dict[str, Callable[[list[str]], None]] = {
     "lander-past": land_carelessly, "lander-back": land_carelessly, "worker-keeps": keep, "worker-hastes": hasten,
-    "adapter-fresh": draw_fresh, "adapter-believes": believe, "adapter-holds": hold}
+    "adapter-fresh": draw_fresh, "adapter-believes": believe, "adapter-holds": hold, "lander-blind": land_blindly}
 
 if __name__ == "__main__":
     TURNED[sys.argv[1]](sys.argv[2:])
