@@ -56,5 +56,6 @@ await is_quiet
 check_queue core '101 102 103 105' '104 failed'
 check_queue web '201 202 204 205' '203 failed'
 check_projects
+check_evidence core web
 grep -q 'lost' "$FORGE"/w1.log "$FORGE"/w2.log || fail "no build was lost"
 echo ok

@@ -172,6 +172,15 @@ check_queue() {
   printf '%s\n' "$history"
 }
 
+# Whoever checks the landings of these queues afterwards accepts them all.
+check_evidence() {
+  local queue
+  for queue in "$@"; do
+    python3 -m companions.evidence "$FORGE/companions.toml" "$queue" >"$FORGE/evidence.log" 2>&1 ||
+      fail "what landed in $queue isn't what was tested: $(cat "$FORGE/evidence.log")"
+  done
+}
+
 # Of each project, the branch is the landed changes in the gate's order, and each landed tree passed its jobs.
 check_projects() {
   local project

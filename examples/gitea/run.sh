@@ -209,6 +209,7 @@ for project in acme/lib acme/app; do
 done
 check_branch acme/site web
 check_trees acme/site web
+check_evidence core web
 [ "$(grep -c 'revision: recorded$' "$FORGE/adapter.log")" -eq 12 ] || fail "not twelve revisions were told"
 [ "$(grep -c 'change 4, .*: approved: queued$' "$FORGE/adapter.log")" -eq 2 ] || fail "a doubled hook approved twice"
 await shows_what_is_expected
