@@ -90,7 +90,8 @@ class Comparisons:
                         for it in self.repositories}
         unseen = {change: UNSEEN for place in self.unseen for change in self.changes.of_request(place).values()}
         refuse = unseen | {change: why for change, why in submitting.items() if why is not None}
-        now = Compared(noted["first"] if noted else None, self.outbox.get("last"), repositories, refuse, self.answered)
+        first = noted["first"] if noted else None
+        now = Compared(first, self.outbox.get("last"), repositories, refuse, self.answered)
         if now != self.left:
             compared.write(self.file, now)
             self.left = now

@@ -17,7 +17,6 @@ from companions.branches import Branches
 from companions.checks import Again, Evidence, QueueStops, Refused, Revisions
 from companions.compared import Comparison, Waits
 from companions.conflicts import cause_of
-from companions.conflicts import cause_of
 from companions.gate import Gate, NoAnswer, Order, say
 from companions.ids import id_of
 from companions.landings import Landed, Note, note_name

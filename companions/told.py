@@ -239,8 +239,8 @@ class Changes:
         return [row[0] for row in rows]
 
     def tell_again(self, change: int | None = None, known: int = 0, home: tuple[str, str] = ("", "")) -> None:
-        """Keeps what was told of a change, or of all of a repository and branch, and still holds: what the gate has gets
-        a kept reply. Left out is what got one of the first replies, so many as are known.
+        """Keeps what was told of a change, or of all of a repository and branch, and still holds: what the gate has
+        gets a kept reply. Left out is what got one of the first replies, so many as are known.
 
         What was `stale` came too late once. Told to a gate that was restored it could come too early. Of what has
         landed in the branch, nothing is told that the gate hasn't taken before. Call it within a step.
