@@ -12,8 +12,8 @@ from typing import Any
 
 from companions.gate import NoAnswer
 from companions.tests.day.developers import Developers
-from companions.tests.day.layout import BEGINNING, TOOL
-from companions.tests.day.parts import Differs
+from companions.tests.day.layout import BEGINNING, SERVICE, TOOL
+from companions.tests.day.parts import Differs, run
 from companions.tests.day.stage import Stage
 
 TRAILER = re.compile(r"^Gate-(\w+): (\S+)$", re.MULTILINE)
