@@ -156,7 +156,7 @@ await has_said 5 1 'approved: waiting'
 at_forge reject acme/site 2 ann
 await has_said 5 1 'withdrawn: recorded'
 
-# While the gate is away the adapter is killed. Change 7 uses what isn't there, and a line of its text can't be read.
+# While the gate is away the adapter is killed. Change 7 conflicts with change 2, and a line of its text can't be read.
 stop gate
 propose acme/app 2 'Use nine' use=nine 'Depends-On: the weather'
 at_forge approve acme/app 2 ann
