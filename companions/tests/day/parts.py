@@ -76,9 +76,10 @@ class Part:
 
 def is_alive(group: int) -> bool:
     """Whether a process of a group runs. One that has ended and that nobody has asked for doesn't."""
-    for file in Path("/proc").glob("[0-9]*/stat"):
+    for number in filter(str.isdigit, os.listdir("/proc")):
         try:
-            state, _, its_group = file.read_text(encoding="ascii", errors="replace").rpartition(")")[2].split()[:3]
+            said = Path(f"/proc/{number}/stat").read_text(encoding="ascii", errors="replace")
+            state, _, its_group = said.rpartition(")")[2].split()[:3]
         except (OSError, ValueError):
             continue
         if int(its_group) == group and state not in "ZX":
