@@ -1,0 +1,196 @@
+"""The proxy before a gate: nginx with companions/service/nginx.conf, before a stand-in that shows what it was sent."""
+from __future__ import annotations
+
+import asyncio
+import base64
+import hashlib
+import os
+import shutil
+import signal
+import ssl
+import subprocess
+import tempfile
+import threading
+import time
+import unittest
+from collections import Counter
+from collections.abc import Awaitable, Iterable
+from http.server import BaseHTTPRequestHandler, ThreadingHTTPServer
+from pathlib import Path
+
+from companions.tests.day.layout import proxy_settings
+from companions.tests.day.stage import free_port, search
+
+# A program's password is random, and a person's was chosen.
+PASSWORDS = {"forge": "f" * 48, "worker": "a" * 48, "watch": "b" * 48, "standby": "c" * 48, "alice": "one that she chose"}
+# From where somebody guesses, and where the others are.
+GUESSER, ELSEWHERE = "127.0.0.2", "127.0.0.3"
+# Guesses a second, and for how long they come before the watch asks.
+GUESSES, BEFORE = 33, 3.0
+
+
+class StandIn(BaseHTTPRequestHandler):
+    """Answers as a gate that has nothing, and keeps what it was sent. /items/1 is answered once it may be."""
+    heads: list[dict[str, str]] = []
+    may_answer = threading.Event()
+
+    def do_GET(self) -> None:
+        self.heads.append({name.lower(): value for name, value in self.headers.items()})
+        if self.path == "/items/1":
+            self.may_answer.wait(60)
+        content = b"end\n"
+        self.send_response(200)
+        self.send_header("Content-Length", str(len(content)))
+        self.end_headers()
+        self.wfile.write(content)
+
+    def do_POST(self) -> None:
+        self.rfile.read(int(self.headers["Content-Length"]))
+        self.do_GET()
+
+    def log_message(self, *_: object) -> None:
+        pass
+
+
+class StandInServer(ThreadingHTTPServer):
+    daemon_threads = True
+    request_queue_size = 512
+
+
+class ProxyTest(unittest.IsolatedAsyncioTestCase):
+    """A proxy for each test, behind which the stand-in listens."""
+
+    def setUp(self) -> None:
+        where = tempfile.TemporaryDirectory()
+        self.addCleanup(where.cleanup)
+        self.folder, self.port = Path(where.name), free_port()
+        StandIn.heads.clear()
+        StandIn.may_answer.clear()
+        gate = StandInServer(("127.0.0.1", 0), StandIn)
+        threading.Thread(target=gate.serve_forever, kwargs={"poll_interval": 0.05}, daemon=True).start()
+        self.addCleanup(gate.server_close)
+        self.addCleanup(gate.shutdown)
+        self.addCleanup(StandIn.may_answer.set)
+        self.start_proxy(gate.server_port)
+        self.context = ssl.create_default_context(cafile=str(self.folder / "proxy" / "gate.crt"))
+
+    def start_proxy(self, gate: int) -> None:
+        self.assertIsNotNone(shutil.which("nginx", path=search()), "nginx isn't there")
+        (self.folder / "proxy").mkdir()
+        settings = self.folder / "proxy" / "nginx.conf"
+        settings.write_text(proxy_settings(self.folder, self.port, gate))
+        subprocess.run(["openssl", "req", "-x509", "-newkey", "rsa:2048", "-noenc", "-days", "2", "-subj", "/CN=gate",
+                        "-addext", "subjectAltName=IP:127.0.0.1", "-keyout", self.folder / "proxy" / "gate.key",
+                        "-out", self.folder / "proxy" / "gate.crt"], check=True, capture_output=True)
+        for name, password in PASSWORDS.items():
+            self.add(name, slow_hash(password) if name == "alice" else quick_hash(password))
+        log = (self.folder / "proxy" / "printed").open("wb")
+        self.addCleanup(log.close)
+        process = subprocess.Popen(["nginx", "-g", "daemon off;", "-c", settings], stdin=subprocess.DEVNULL, stdout=log,
+                                   stderr=log, start_new_session=True, env={**os.environ, "PATH": search()})
+        self.addCleanup(process.wait)
+        self.addCleanup(os.killpg, process.pid, signal.SIGKILL)
+        until = time.monotonic() + 30
+        while not (self.folder / "proxy" / "pid").exists():
+            self.assertIsNone(process.poll(), (self.folder / "proxy" / "printed").read_text())
+            self.assertLess(time.monotonic(), until)
+            time.sleep(0.05)
+
+    def add(self, name: str, hashed: str) -> None:
+        with (self.folder / "proxy" / "gate.passwords").open("a") as passwords:
+            passwords.write(f"{name}:{hashed}\n")
+
+    async def asyncSetUp(self) -> None:
+        asyncio.get_running_loop().set_debug(False)
+
+    async def head(self, path: str, name: str, password: str | None = None, by: str = ELSEWHERE, method: str = "GET",
+                   more: str = "") -> tuple[int, str]:
+        """The status and the head of an answer; 0 and nothing where the connection broke."""
+        account = base64.b64encode(f"{name}:{PASSWORDS[name] if password is None else password}".encode()).decode()
+        said = f"{method} /{path} HTTP/1.1\r\nHost: gate\r\nConnection: close\r\nAuthorization: Basic {account}\r\n"
+        said += f"Content-Length: 2\r\n{more}\r\n{{}}" if method == "POST" else f"{more}\r\n"
+        try:
+            reader, writer = await asyncio.open_connection("127.0.0.1", self.port, ssl=self.context,
+                                                           server_hostname="127.0.0.1", local_addr=(by, 0))
+            writer.write(said.encode())
+            answer = (await reader.read(65536)).decode()
+            writer.close()
+        except OSError:
+            return 0, ""
+        return int(answer.split(" ")[1]) if answer else 0, answer
+
+    async def status(self, path: str, name: str, password: str | None = None, by: str = ELSEWHERE) -> int:
+        return (await self.head(path, name, password, by))[0]
+
+
+def quick_hash(password: str) -> str:
+    return "{SHA}" + base64.b64encode(hashlib.sha1(password.encode()).digest()).decode()
+
+
+def slow_hash(password: str) -> str:
+    return subprocess.run(["openssl", "passwd", "-6", "-stdin"], input=password, text=True, capture_output=True,
+                          check=True).stdout.strip()
+
+
+async def steadily(requests: Iterable[Awaitable[int]], a_second: float) -> Counter[int]:
+    """Sends requests at a rate, whether or not they are answered, and counts the answers' statuses."""
+    tasks = []
+    for it in requests:
+        tasks.append(asyncio.ensure_future(it))
+        await asyncio.sleep(1 / a_second)
+    return Counter(await asyncio.gather(*tasks))
+
+
+class Guessing(ProxyTest):
+    """Somebody guesses what a person chose. The programs are answered meanwhile."""
+
+    async def watch_is_answered(self, seconds: float = 2.0) -> None:
+        for _ in range(5):
+            begin = time.monotonic()
+            self.assertEqual(await self.status("status", "watch"), 200)
+            self.assertLess(time.monotonic() - begin, seconds)
+            await asyncio.sleep(0.2)
+
+    async def guess(self, passwords: Iterable[str]) -> Counter[int]:
+        """The answers to guesses. The watch asks once they have come for some seconds, and before they end."""
+        guesses = asyncio.ensure_future(steadily(
+            (self.status("status", "alice", it, by=GUESSER) for it in passwords), GUESSES))
+        await asyncio.sleep(BEFORE)
+        await self.watch_is_answered()
+        self.assertEqual(await self.status("status", "alice"), 200)
+        return await guesses
+
+    async def test_guesses(self) -> None:
+        """Few of them are looked at: ten a second of one address, behind the first forty."""
+        seconds = 6
+        answers = await self.guess(f"guess {at}" for at in range(GUESSES * seconds))
+        self.assertEqual(set(answers), {401, 429})
+        self.assertLess(answers[401], 41 + 10 * (seconds + 3))
+
+    async def test_long_passwords(self) -> None:
+        """None of them is looked at, whoever's it is."""
+        answers = await self.guess(f"{at:06}" * 85 for at in range(GUESSES * 6))
+        self.assertEqual(set(answers), {431})
+        self.assertEqual(await self.status("status", "watch", "b" * 300), 431)
+        self.assertEqual(await self.status("status", "watch", "b" * 100), 401)
+
+    async def test_guesses_of_many_addresses(self) -> None:
+        """Each is within its own rate, and all together are above theirs."""
+        answers = await steadily((self.status("status", "alice", "guess", by=f"127.0.1.{at}") for at in range(1, 250)),
+                                 200)
+        self.assertEqual(set(answers), {401, 429})
+        await self.watch_is_answered()
+
+    async def test_connections_of_one_address(self) -> None:
+        """256 of them wait for the gate; one more is refused, and another address isn't."""
+        waiting = [asyncio.ensure_future(self.status("items/1", "watch", by=GUESSER)) for _ in range(256)]
+        while len(StandIn.heads) < 256:
+            await asyncio.sleep(0.1)
+        self.assertEqual(await self.status("status", "watch", by=GUESSER), 429)
+        await self.watch_is_answered()
+        StandIn.may_answer.set()
+        self.assertEqual(Counter(await asyncio.gather(*waiting)), {200: 256})
+
+
+if __name__ == "__main__":
+    unittest.main()
