@@ -78,7 +78,7 @@ class ProxyTest(unittest.IsolatedAsyncioTestCase):
         self.assertIsNotNone(shutil.which("nginx", path=search()), "nginx isn't there")
         (self.folder / "proxy").mkdir()
         settings = self.folder / "proxy" / "nginx.conf"
-        settings.write_text(proxy_settings(self.folder, self.port, gate))
+        settings.write_text(proxy_settings(self.folder, self.port, gate).replace("127.0.0.1:8090", f"127.0.0.1:{gate}"))
         subprocess.run(["openssl", "req", "-x509", "-newkey", "rsa:2048", "-noenc", "-days", "2", "-subj", "/CN=gate",
                         "-addext", "subjectAltName=IP:127.0.0.1", "-keyout", self.folder / "proxy" / "gate.key",
                         "-out", self.folder / "proxy" / "gate.crt"], check=True, capture_output=True)
@@ -139,6 +139,20 @@ async def steadily(requests: Iterable[Awaitable[int]], a_second: float) -> Count
         tasks.append(asyncio.ensure_future(it))
         await asyncio.sleep(1 / a_second)
     return Counter(await asyncio.gather(*tasks))
+
+
+class Passing(ProxyTest):
+    """What the proxy passes on, and what it adds to an answer."""
+
+    async def test_passwords_stay(self) -> None:
+        """Whoever listens at a port of the gate or the adapter learns nobody's password."""
+        for method, path, name in (("POST", "forge", "forge"), ("GET", "orders", "forge"), ("POST", "worker", "worker"),
+                                   ("GET", "builds/1", "worker"), ("GET", "status", "alice"),
+                                   ("GET", "changes/1", "watch"), ("GET", "deliveries", "standby"),
+                                   ("POST", "hook", "forge")):
+            StandIn.heads.clear()
+            self.assertEqual((await self.head(path, name, method=method))[0], 200, path)
+            self.assertEqual([it for it in StandIn.heads[0] if "authorization" in it], [], path)
 
 
 class Guessing(ProxyTest):
