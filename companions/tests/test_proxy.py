@@ -18,7 +18,7 @@ from collections.abc import Awaitable, Iterable
 from http.server import BaseHTTPRequestHandler, ThreadingHTTPServer
 from pathlib import Path
 
-from companions.tests.day.layout import proxy_settings
+from companions.tests.day.layout import SERVICE, proxy_settings
 from companions.tests.day.stage import free_port, search
 
 # A program's password is random, and a person's was chosen.
@@ -64,6 +64,7 @@ class ProxyTest(unittest.IsolatedAsyncioTestCase):
         where = tempfile.TemporaryDirectory()
         self.addCleanup(where.cleanup)
         self.folder, self.port = Path(where.name), free_port()
+        self.passwords = self.folder / "proxy" / "gate.passwords"
         StandIn.heads.clear()
         StandIn.may_answer.clear()
         gate = StandInServer(("127.0.0.1", 0), StandIn)
@@ -97,7 +98,7 @@ class ProxyTest(unittest.IsolatedAsyncioTestCase):
             time.sleep(0.05)
 
     def add(self, name: str, hashed: str) -> None:
-        with (self.folder / "proxy" / "gate.passwords").open("a") as passwords:
+        with self.passwords.open("a") as passwords:
             passwords.write(f"{name}:{hashed}\n")
 
     async def asyncSetUp(self) -> None:
@@ -153,6 +154,59 @@ class Passing(ProxyTest):
             StandIn.heads.clear()
             self.assertEqual((await self.head(path, name, method=method))[0], 200, path)
             self.assertEqual([it for it in StandIn.heads[0] if "authorization" in it], [], path)
+
+
+class Names(ProxyTest):
+    """Who has which name, and who may get one."""
+
+    def gated_person(self, name: str, password: str) -> subprocess.CompletedProcess[str]:
+        return subprocess.run([SERVICE / "gated-person", name], input=password + "\n", capture_output=True, text=True,
+                              check=False, env={**os.environ, "PASSWORDS": str(self.passwords)})
+
+    async def test_names_are_compared_as_they_are(self) -> None:
+        """A person whose name is a program's in other letters is a person."""
+        for name in ("Forge", "WATCH", "Standby", "Worker1", "forge2", "my-watch"):
+            self.add(name, quick_hash("hers"))
+            for path, method in (("forge", "POST"), ("orders", "GET"), ("worker", "POST"), ("deliveries", "GET")):
+                self.assertEqual((await self.head(path, name, "hers", method=method))[0], 403, f"{name} at {path}")
+            self.assertEqual(await self.status("status", name, "hers"), 200, name)
+
+    async def test_a_person_is_added(self) -> None:
+        mode, programs = self.passwords.stat().st_mode, self.passwords.read_text()
+        for password, was in (("the first password", "added"), ("the second password", "given a new password")):
+            ran = self.gated_person("b.en", password)
+            self.assertEqual((ran.returncode, ran.stdout), (0, f"gated-person: b.en was {was}\n"), ran.stderr)
+            self.assertEqual(await self.status("status", "b.en", password), 200)
+            self.assertEqual(await self.status("forge", "b.en", password), 403)
+        self.assertEqual(await self.status("status", "b.en", "the first password"), 401)
+        self.assertTrue(self.passwords.read_text().startswith(programs))
+        self.assertEqual(self.passwords.read_text().count("\n"), programs.count("\n") + 1)
+        self.assertEqual(self.passwords.stat().st_mode, mode)
+        self.assertIn(":$6$", self.passwords.read_text().splitlines()[-1])
+
+    async def test_the_longest_password(self) -> None:
+        self.assertEqual(self.gated_person("n" * 48, "p" * 128).returncode, 0)
+        self.assertEqual(await self.status("status", "n" * 48, "p" * 128), 200)
+
+    def test_names_and_passwords_that_are_refused(self) -> None:
+        before = self.passwords.read_text()
+        for name, password, says in (
+                ("forge", "long enough for it", "forge is the name of a program: take another one"),
+                ("Forge", "long enough for it", "Forge is the name of a program: take another one"),
+                ("watch", "long enough for it", "is the name of a program"),
+                ("standby", "long enough for it", "is the name of a program"),
+                ("worker", "long enough for it", "is the name of a program"),
+                ("workers-friend", "long enough for it", "is the name of a program"),
+                ("an:n", "long enough for it", "a name has 1 to 48"), ("ann\nforge", "long enough for it", "a name has"),
+                ("", "long enough for it", "a name has"), ("n" * 49, "long enough for it", "a name has"),
+                ("ann", "eleven long", "at least 12"), ("ann", "", "at least 12"), ("ann", "p" * 129, "at most 128")):
+            ran = self.gated_person(name, password)
+            self.assertEqual((ran.returncode, ran.stdout), (1, ""), name)
+            self.assertIn(says, ran.stderr)
+        self.assertEqual(self.passwords.read_text(), before)
+        self.passwords.unlink()
+        self.assertIn("isn't there", self.gated_person("ann", "long enough for it").stderr)
+        self.assertEqual([it.name for it in self.folder.glob("proxy/gate.passwords*")], [])
 
 
 class Guessing(ProxyTest):

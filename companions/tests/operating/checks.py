@@ -51,6 +51,8 @@ def check_proxy() -> None:
         told(curl("status", f"{name}:wrong")[0] == (403 if name == "worker" else 401), f"{name} with a wrong password")
     for path in PATHS:
         told(curl(path, None)[0] == 401, f"nobody at /{path}")
+    alice = f"alice:{Path('/root/alice.password').read_text().strip()}"
+    told(curl("status", alice)[0] == 200 and curl("orders", alice)[0] == 403, "a person sees what people may")
     told(curl("elsewhere", f"forge:{passwords()['forge']}")[0] == 404, "another path")
 
 
