@@ -13,6 +13,7 @@ import tempfile
 import threading
 import time
 import unittest
+import warnings
 from collections import Counter
 from collections.abc import Awaitable, Iterable
 from http.server import BaseHTTPRequestHandler, ThreadingHTTPServer
@@ -154,6 +155,36 @@ class Passing(ProxyTest):
             StandIn.heads.clear()
             self.assertEqual((await self.head(path, name, method=method))[0], 200, path)
             self.assertEqual([it for it in StandIn.heads[0] if "authorization" in it], [], path)
+
+
+class Encrypting(ProxyTest):
+    """TLS as nginx speaks it."""
+
+    async def speaks(self, newest: ssl.TLSVersion) -> str | None:
+        """The version that a client gets which knows none newer, or none where there is no connection."""
+        context = ssl.create_default_context(cafile=str(self.folder / "proxy" / "gate.crt"))
+        context.set_ciphers("DEFAULT:@SECLEVEL=0")
+        with warnings.catch_warnings():
+            warnings.simplefilter("ignore", DeprecationWarning)
+            context.minimum_version, context.maximum_version = ssl.TLSVersion.TLSv1, newest
+        try:
+            _, writer = await asyncio.open_connection("127.0.0.1", self.port, ssl=context)
+        except OSError:
+            return None
+        writer.close()
+        return str(writer.get_extra_info("ssl_object").version())
+
+    async def test_versions(self) -> None:
+        self.assertEqual([await self.speaks(it) for it in (ssl.TLSVersion.TLSv1_3, ssl.TLSVersion.TLSv1_2)],
+                         ["TLSv1.3", "TLSv1.2"])
+        self.assertIsNone(await self.speaks(ssl.TLSVersion.TLSv1_1))
+
+    async def test_a_browser_asks_by_tls_alone(self) -> None:
+        """Whatever the answer is: a password never goes over plain HTTP again."""
+        for status, password in ((200, PASSWORDS["watch"]), (401, "wrong"), (431, "long" * 100)):
+            answered, head = await self.head("status", "watch", password)
+            self.assertEqual(answered, status)
+            self.assertIn("\r\nStrict-Transport-Security: max-age=31536000\r\n", head)
 
 
 class Names(ProxyTest):
