@@ -77,7 +77,7 @@ class Adapter:
 
 @dataclass(frozen=True)
 class Settings:
-    """All that the file says. Times are in seconds.
+    """All that the file says. Times are in seconds. `figures` is the folder of the watch's figures.
 
     `has_adapter`: the lander lands only what an adapter has compared. `tries` is how often it tries what is refused.
     """
@@ -93,6 +93,7 @@ class Settings:
     adapter: Adapter | None = None
     has_adapter: bool = True
     tries: int = TRIES
+    figures: Path | None = None
 
     @property
     def blind(self) -> float:
@@ -205,7 +206,8 @@ def read(file: Path) -> Settings:
         url=gate.address("url"), accounts=accounts_of(gate), folder=Path(top.text("folder")), projects=projects_of(top),
         pause=gate.seconds("pause", 1.0), look=worker.seconds("look", 10.0), grace=watch.seconds("grace", 300.0),
         stands=watch.seconds("stands", 3600.0), author=author_of(lander),
-        adapter=adapter_of(top), has_adapter=lander.get("adapter", bool, True), tries=lander.count("tries", TRIES))
+        adapter=adapter_of(top), has_adapter=lander.get("adapter", bool, True), tries=lander.count("tries", TRIES),
+        figures=Path(watch.text("figures", str(Path(top.text("folder")) / "watch"))))
     for it in (top, gate, lander, worker, watch):
         it.end()
     return settings

@@ -37,6 +37,7 @@ class Watch:
         self.settings, self.folder = settings, settings.folder / "watch"
         self.people, self.worker, self.standby = (
             Gate(settings.url, settings.account(role), part=PART) for role in ("people", "worker", "standby"))
+        self.file = (settings.figures or self.folder) / "gated.prom"
         self.notes = Notes(self.folder / "notes.db")
         self.noted: dict[str, Any] = self.notes.get("seen") or none_seen(None)
         self.first_is_asked = False
@@ -62,7 +63,19 @@ class Watch:
         for build in late:
             with self.asking("can't report what is lost"):
                 self.report(build)
-        figures.write(self.folder / "gated.prom", figures.text_of(told, self.notes.get("lost") or 0))
+        self.write(figures.text_of(told, self.notes.get("lost") or 0))
+
+    def write(self, text: str) -> None:
+        """Writes the figures. What runs for too long is reported also where they can't be written."""
+        trouble = "can't write the figures"
+        try:
+            figures.write(self.file, text)
+        except OSError as fault:
+            if trouble not in self.troubles:
+                say(PART, f"{trouble}: {fault}")
+            self.troubles.add(trouble)
+        else:
+            self.troubles.discard(trouble)
 
     @contextmanager
     def asking(self, trouble: str) -> Iterator[None]:

@@ -72,6 +72,8 @@ class Settings(Case):
         self.assertEqual((known.url, known.pause, known.look, known.grace, known.stands, known.author),
                          ("https://gate.example", 1.0, 10.0, 300.0, 3600.0, "gate <gate@localhost>"))
         self.assertEqual((known.has_adapter, known.tries, known.blind), (True, 5, 900.0))
+        self.assertEqual(known.figures, Path(known.folder) / "watch")
+        self.assertEqual(self.read(WHOLE + '[watch]\nfigures = "/srv/figures"\n').figures, Path("/srv/figures"))
         self.assertEqual((known.account("worker"), known.account("forge")), (Account("w", "secret"), None))
         self.assertEqual({it.name: it.branch for it in known.projects_of("core")}, {"lib": "main", "app": "trunk"})
         self.assertEqual((known.limit_of("core", "unit"), known.limit_of("core", "docs")), (3600.0, None))

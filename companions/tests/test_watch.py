@@ -2,6 +2,7 @@
 from __future__ import annotations
 
 import contextlib
+import dataclasses
 import http.server
 import io
 import json
@@ -196,6 +197,22 @@ class WatchTest(unittest.TestCase):
             lander.stop("core", why)
             self.look(1000.0)
             self.assertEqual(self.figure(figure), shown)
+
+    def test_figures_in_a_folder_of_their_own(self) -> None:
+        """What can't be written there is told once, and the watch goes on."""
+        folder = Path(self.settings.folder) / "figures"
+        self.settings = dataclasses.replace(self.settings, figures=folder)
+        self.start_again()
+        self.assertRegex(self.look(1000.0), "^watch: can't write the figures: .*No such file or directory.*\n$")
+        self.assertEqual(self.look(1001.0), "")
+        folder.mkdir()
+        self.look(1002.0)
+        self.assertIn("gated_up 1\n", (folder / "gated.prom").read_text())
+        self.assertEqual([[it.name for it in of.glob("gated*")] for of in (folder, self.file.parent)],
+                         [["gated.prom"], []])
+        (folder / "gated.prom").unlink()
+        folder.rmdir()
+        self.assertRegex(self.look(1003.0), "^watch: can't write the figures")
 
     def test_a_gate_that_does_not_answer_has_no_figures(self) -> None:
         self.gate.items = [" 7 101 1 - ok unit=running"]

@@ -1,6 +1,7 @@
 """What has to hold on the stage once each command of the page was run: run there by stage.sh."""
 from __future__ import annotations
 
+import grp
 import hashlib
 import hmac
 import subprocess
@@ -80,6 +81,17 @@ def check_log() -> None:
     told(ran("stat", "-c", "%a %U %G", str(log)).stdout == "640 www-data adm\n", "who may read the log")
 
 
+def check_figures() -> None:
+    """Who may read the figures, as the node exporter, may read nothing else; others can't read them."""
+    figures, group = "/var/lib/gated-figures/gated.prom", grp.getgrnam("gated-figures").gr_gid
+    for groups, name, may in (([group], figures, True), ([], figures, False),
+                              ([group], "/etc/gated/companions.toml", False),
+                              ([group], "/var/lib/gated-companions/watch/notes.db", False)):
+        read = subprocess.run(["cat", name], capture_output=True, user="nobody", group="nogroup", extra_groups=groups,
+                              check=False)
+        told(Path(name).exists() and (read.returncode == 0) == may, f"{name} by a user of the groups {groups}")
+
+
 def check_missing_file() -> None:
     """A start without the file ends with O4, however often, and makes none."""
     ran("systemctl", "stop", "gated")
@@ -101,6 +113,6 @@ def check_units() -> None:
     told(all(" init " not in Path(it).read_text() for it in units), "no unit makes a file")
 
 
-for check in (check_proxy, check_hooks, check_log, check_units, check_missing_file):
+for check in (check_proxy, check_hooks, check_log, check_figures, check_units, check_missing_file):
     check()
 print("all was checked")
