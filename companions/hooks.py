@@ -3,6 +3,7 @@ from __future__ import annotations
 
 import http.server
 import threading
+import time
 from collections.abc import Callable, Mapping
 from pathlib import Path
 
@@ -20,6 +21,8 @@ CREATE TABLE IF NOT EXISTS hint(row INTEGER PRIMARY KEY AUTOINCREMENT, repositor
 # The path of hooks, and the seconds that a connection may take for its next bytes.
 PATH = "/hook"
 PATIENCE = 30
+# The seconds between two lines about hooks that weren't taken.
+MINUTE = 60.0
 
 
 class Hints:
@@ -45,6 +48,29 @@ class Hints:
     def drop(self, row: int) -> None:
         with self.lock:
             self.tables.execute("DELETE FROM hint WHERE row = ?", (row,))
+
+
+class NotTaken:
+    """Lines about hooks that weren't taken: the first at once, and then one a minute that counts them. Anybody may send
+    hooks, and nobody's journal is to be filled by them."""
+
+    def __init__(self, clock: Callable[[], float] = time.monotonic) -> None:
+        self.clock, self.lock = clock, threading.Lock()
+        self.count, self.last, self.due = 0, "", float("-inf")
+
+    def add(self, what: str) -> None:
+        with self.lock:
+            self.count, self.last = self.count + 1, what
+        self.tell()
+
+    def tell(self) -> None:
+        """Says what wasn't said yet, if it is time."""
+        with self.lock:
+            if self.count == 0 or self.clock() < self.due:
+                return
+            others = f"; {self.count - 1} others weren't taken since the last such line" if self.count > 1 else ""
+            said, self.count, self.due = self.last + others, 0, self.clock() + MINUTE
+        say("adapter", said)
 
 
 class Handler(http.server.BaseHTTPRequestHandler):
@@ -91,6 +117,7 @@ class Hooks(http.server.ThreadingHTTPServer):
     def __init__(self, address: tuple[str, int], hints: Hints, forge: Forge, names: Mapping[str, str],
                  came: threading.Event) -> None:
         self.hints, self.forge, self.names, self.came = hints, forge, names, came
+        self.not_taken = NotTaken()
         super().__init__(address, Handler)
 
     def take(self, headers, body: bytes) -> tuple[int, str]:
@@ -98,10 +125,10 @@ class Hooks(http.server.ThreadingHTTPServer):
         try:
             place = self.forge.place_of(headers, body)
         except PermissionError as fault:
-            say("adapter", f"a hook was refused: {fault}")
+            self.not_taken.add(f"a hook was refused: {fault}")
             return 403, str(fault)
         except Exception as fault:  # pylint: disable=broad-except
-            say("adapter", f"a hook can't be read: {type(fault).__name__}: {fault}")
+            self.not_taken.add(f"a hook can't be read: {type(fault).__name__}: {fault}")
             return 500, "this hook can't be read"
         if place is None:
             return 200, "this hook is about no request"
@@ -111,6 +138,10 @@ class Hooks(http.server.ThreadingHTTPServer):
         self.hints.put(Place(repository, place.number))
         self.came.set()
         return 200, "noted"
+
+    def service_actions(self) -> None:
+        """Now and then: those behind the last line are told too, also where no other comes."""
+        self.not_taken.tell()
 
     def handle_error(self, request: object, client_address: object) -> None:
         """A connection that broke: the forge sends its hook again, or the next comparison finds what it was about."""

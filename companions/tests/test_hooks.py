@@ -46,6 +46,29 @@ class Incoming(Case):
             self.assertEqual(self.post(body, Secret="wrong"), 403)
         self.assertEqual(self.places(), [])
 
+    def test_hooks_that_are_refused_fill_no_journal(self) -> None:
+        """A line for the first, and one a minute for those behind it."""
+        now = 1000.0
+        self.hooks.not_taken.clock = lambda: now
+        before = len(self.lines())
+        for _ in range(30):
+            self.assertEqual(self.post(b"null", Secret="wrong"), 403)
+        self.assertEqual(self.post(b"no json"), 500)
+        said = self.lines()[before:]
+        self.assertEqual(len(said), 1)
+        self.assertRegex(said[0], "^adapter: a hook was refused: [^;]*$")
+        now += 59.9
+        self.hooks.service_actions()
+        self.assertEqual(len(self.lines()), before + 1)
+        now += 0.1
+        self.hooks.service_actions()
+        self.assertEqual(len(self.lines()), before + 2)
+        self.assertRegex(self.lines()[-1], "^adapter: a hook can't be read: JSONDecodeError: .*"
+                                           "; 29 others weren't taken since the last such line$")
+        now += 1000.0
+        self.hooks.service_actions()
+        self.assertEqual(len(self.lines()), before + 2)
+
     def test_other_hooks_are_taken_and_nothing_follows(self) -> None:
         self.assertEqual([self.post(it) for it in (b"null", b'["acme/web", 12]')], [200, 200])
         self.assertEqual((self.places(), self.came.is_set()), ([], False))
