@@ -4,6 +4,7 @@ from __future__ import annotations
 import signal
 import subprocess
 import threading
+import time
 import unittest
 from http.server import BaseHTTPRequestHandler, HTTPServer
 from pathlib import Path
@@ -64,8 +65,54 @@ class BackupTest(ServiceTest):
         gate, _ = self.serve(file)
         self.stand_in("cp", "sleep 100")
         self.environment["HOLD"] = "1"
-        self.assertEqual(self.run_script("backup", file, self.target).returncode, 1)
+        ran = self.run_script("backup", file, self.target)
+        self.assertEqual((ran.returncode, ran.stderr),
+                         (1, f"backup: the copy took longer than 1 s: {self.target} stays what it was\n"))
         self.assertNotEqual(state_of(gate), "T")
+
+    def held_for(self, gate: subprocess.Popen[str]) -> float:
+        """For how long a gate that is about to be held up is held up."""
+        self.assertTrue(wait_for(lambda: state_of(gate) == "T", 20.0))
+        begin = time.monotonic()
+        self.assertTrue(wait_for(lambda: state_of(gate) != "T", 20.0))
+        return time.monotonic() - begin
+
+    def test_a_copy_that_no_signal_ends(self) -> None:
+        """The gate goes on although the copy doesn't end, and what is copied in the end is thrown away."""
+        file = self.gate("gate.db", LINES[:2])
+        gate, address = self.serve(file)
+        self.stand_in("cp", "trap '' TERM\nsleep 6\nexec /bin/cp \"$@\"")
+        self.environment["HOLD"] = "1"
+        process = self.start(SERVICE / "backup", file, self.target)
+        self.assertLess(self.held_for(gate), 3.0)
+        tell(address, LINES[2])
+        self.assertEqual(process.wait(timeout=20), 1)
+        self.assertFalse(self.target.exists())
+
+    def test_a_disk_that_hangs(self) -> None:
+        """A file system that is frozen, as for a snapshot: no signal ends a copy to it."""
+        disk, mount = self.folder / "disk", self.folder / "mount"
+        mount.mkdir()
+        with disk.open("wb") as image:
+            image.truncate(1 << 25)
+        for words in (["mkfs.ext4", "-q", disk], ["mount", "-o", "loop", disk, mount]):
+            ran = subprocess.run(words, capture_output=True, text=True, check=False)
+            if ran.returncode != 0:
+                self.skipTest(f"no file system to freeze: {ran.stderr.strip()}")
+        self.addCleanup(subprocess.run, ["umount", "--lazy", mount], check=True)
+        file = self.gate("gate.db", LINES[:2])
+        gate, address = self.serve(file)
+        self.environment["HOLD"] = "1"
+        self.stand_in("cp", f'fsfreeze --freeze {mount}\nexec /bin/cp "$@"')
+        process = self.start(SERVICE / "backup", file, mount / "backup.db")
+        try:
+            self.assertLess(self.held_for(gate), 3.0)
+            tell(address, LINES[2])
+            self.assertIsNone(process.poll())
+        finally:
+            subprocess.run(["fsfreeze", "--unfreeze", mount], check=True)
+        self.assertEqual(process.wait(timeout=20), 1)
+        self.assertEqual([it.name for it in mount.glob("backup*")], [])
 
     def test_a_backup_that_is_killed(self) -> None:
         """The gate goes on, whichever way the script ends."""
