@@ -8,13 +8,15 @@ import subprocess
 import tempfile
 import unittest
 from pathlib import Path
+from typing import TypeVar
 
+T = TypeVar("T")
 TOP = Path(__file__).resolve().parents[2]
 PAGE = TOP / "docs" / "OPERATING.md"
 STAGE = Path(__file__).resolve().parent / "operating"
 PROGRAM = Path(os.environ.get("GATED", TOP / "crates" / "gated" / "out" / "gated"))
-# Of the indented blocks, those that aren't run: none by now.
-SHOWN_ONLY: tuple[str, ...] = ()
+# Of the indented blocks, the one that stands for another: whoever has tried the gate runs it in place of `init`.
+OF_A_TRIAL, OF_NO_TRIAL = "mv /root/trial/gate.db*", "gated init /etc/gated/gate.toml /var/lib/gated/gate.db"
 # What stands between fences begins so: it is printed or written, and isn't run.
 FENCED = ("queue core window 3 landed 0", "gated: O4 unavailable", "backup: /var/backups/gated/",
           "follow: both show the same at ", "restore: /var/lib/gated/gate.db has ")
@@ -23,8 +25,32 @@ TOLD = {
     "https://gate.example/status": (
         '"kind":"revision","change":301,"project":"site","revision":1,"message":"Depends-On: https://forge/c/101"',
         '"kind":"approved","change":301,"revision":1'),
+    "systemctl start gated gated-lander": (
+        '"kind":"revision","change":301,"project":"site","revision":1,"message":"Depends-On: https://forge/c/101"',
+        '"kind":"approved","change":301,"revision":1'),
     "gated-backup.timer": ('"kind":"revision","change":302,"project":"site","revision":1,"message":""',),
 }
+# What is done in front of the block that has the text on the left, and what has to hold behind it.
+BEFORE = {"gated/before-$day": """
+git -C /srv/git/site.git update-ref refs/landings/web/1 refs/heads/main
+touch /var/lib/gated-companions/{lander,adapter}/was-here"""}
+BEHIND = {
+    "gated/before-$day": """
+[ -s /var/lib/gated/before-$day/gate.db ] && [ -s /var/lib/gated/before-$day/gate.db-wal ]
+git -C /srv/git/site.git rev-parse --verify "refs/landings-before/$day/web/1"
+[ -z "$(git -C /srv/git/site.git for-each-ref refs/landings/)" ]
+[ -e /var/lib/gated-companions/adapter/was-here ] && [ ! -e /var/lib/gated-companions/lander ]""",
+    "systemctl start gated gated-lander": """
+curl -s http://127.0.0.1:8080/changes/301 | grep unknown-change
+curl -sf http://127.0.0.1:8080/status | grep 'queue web window 2 landed 0'""",
+}
+# A trial in /root/trial, whose gate was killed: what was told last is in its log alone.
+TRIAL = """
+mkdir -p /root/trial/companions/{lander,adapter}
+touch /root/trial/companions/{lander,adapter}/was-here
+crates/gated/out/gated init examples/settings.toml /root/trial/gate.db
+crates/gated/out/gated serve examples/settings.toml /root/trial/gate.db --port 8080 --count 1000 &
+curl -sf --retry 10 --retry-connrefused http://127.0.0.1:8080/status"""
 TELL = """curl -sf -d "{{\\"id\\":\\"$(cat /proc/sys/kernel/random/uuid)\\",$(cat <<'SAID'
 {0}
 SAID
@@ -44,18 +70,22 @@ def blocks_of(page: str) -> tuple[list[str], list[str]]:
     return indented, fenced
 
 
+def those_of(block: str, by_mark: dict[str, T]) -> list[T]:
+    """What goes with a block, by a text in it."""
+    return [it for mark, it in by_mark.items() if mark in block]
+
+
 def script_of(blocks: list[str]) -> str:
     """The blocks as one script, as somebody has them who gives them to one shell."""
     lines = ["set -euo pipefail", "trap 'echo \"FAILED: $BASH_COMMAND\"' ERR"]
     for at, block in enumerate(blocks):
-        lines += [f"echo '== block {at}'", block]
-        for mark, said in TOLD.items():
-            if mark in block:
-                lines += [TELL.format(it) for it in said]
+        lines += [f"echo '== block {at}'", *those_of(block, BEFORE), block, *those_of(block, BEHIND)]
+        for told in those_of(block, TOLD):
+            lines += [TELL.format(it) for it in told]
     return "\n".join([*lines, "echo 'the page was run'", ""])
 
 
-def play(folder: Path, blocks: list[str]) -> str:
+def play(folder: Path, blocks: list[str], checks: str = "checks.py") -> str:
     """What the stage prints when these blocks are run on it, and the checks behind them."""
     checkout = folder / "checkout"
     (checkout / "crates" / "gated" / "out").mkdir(parents=True)
@@ -65,8 +95,8 @@ def play(folder: Path, blocks: list[str]) -> str:
     (folder / "bin").mkdir()
     for it in ("systemctl", "journalctl"):
         shutil.copy(STAGE / it, folder / "bin" / it)
-    for it in ("stage.sh", "checks.py"):
-        shutil.copy(STAGE / it, folder / it)
+    shutil.copy(STAGE / "stage.sh", folder / "stage.sh")
+    shutil.copy(STAGE / checks, folder / "checks.py")
     (folder / "page.sh").write_text(script_of(blocks))
     folder.chmod(0o755)
     words = ["unshare", "--mount", "--net", "--pid", "--fork", "--kill-child", "--mount-proc"]
@@ -83,8 +113,8 @@ class OperatingTest(unittest.TestCase):
         self.assertEqual(len(self.fenced), len(FENCED))
         for block, begins in zip(self.fenced, FENCED):
             self.assertTrue(block.startswith(begins), block)
-        for block in SHOWN_ONLY:
-            self.assertIn(block, self.blocks)
+        for mark in (OF_A_TRIAL, *BEFORE, *BEHIND, *TOLD):
+            self.assertTrue(any(mark in it for it in self.blocks), mark)
         self.assertGreater(len(self.blocks), 20)
 
     def test_each_command_runs(self) -> None:
@@ -93,12 +123,23 @@ class OperatingTest(unittest.TestCase):
         for it in ("nginx", "systemd-analyze", "sqlite3", "curl", "openssl", "unshare"):
             self.assertIsNotNone(shutil.which(it, path="/usr/sbin:/usr/bin:/sbin:/bin"), f"{it} isn't there")
         with tempfile.TemporaryDirectory() as folder:
-            printed = play(Path(folder), [it for it in self.blocks if it not in SHOWN_ONLY])
+            printed = play(Path(folder), [it for it in self.blocks if OF_A_TRIAL not in it])
         self.assertTrue("the page was run\n" in printed and "all was checked\n" in printed, printed)
         self.assertFalse("NOT OK" in printed, printed)
         self.assertRegex(printed, r"backup: /var/backups/gated/gate-\d\d.db is /var/lib/gated/gate.db of .*held up for")
         self.assertRegex(printed, r"restore: /var/lib/gated/gate.db has the 2 deliveries of .* and 1 more, up to")
         self.assertRegex(printed, "follow: both show the same at [0-9a-f]{32}")
+
+    def test_a_trial_becomes_the_service(self) -> None:
+        """Its file and its log are the service's, and so is what the log alone has."""
+        self.assertEqual(os.geteuid(), 0, "the stage has users of its own: run this as root, as in a container")
+        blocks = [it for it in self.blocks if OF_NO_TRIAL not in it or "/var/backups" not in it]
+        end = next(at for at, it in enumerate(blocks) if "systemctl enable --now gated\n" in it)
+        trial = [TRIAL, *(TELL.format(it) for it in TOLD["https://gate.example/status"]), "kill -KILL $!"]
+        with tempfile.TemporaryDirectory() as folder:
+            printed = play(Path(folder), ["\n".join(trial), *blocks[:end + 1]], "trial.py")
+        self.assertTrue("the page was run\n" in printed and "all was checked\n" in printed, printed)
+        self.assertFalse("NOT OK" in printed, printed)
 
 
 if __name__ == "__main__":
