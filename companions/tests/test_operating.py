@@ -18,8 +18,8 @@ PROGRAM = Path(os.environ.get("GATED", TOP / "crates" / "gated" / "out" / "gated
 # Of the indented blocks, the one that stands for another: whoever has tried the gate runs it in place of `init`.
 OF_A_TRIAL, OF_NO_TRIAL = "mv /root/trial/gate.db*", "gated init /etc/gated/gate.toml /var/lib/gated/gate.db"
 # What stands between fences begins so: it is printed or written, and isn't run.
-FENCED = ("queue core window 3 landed 0", "gated: O4 unavailable", "backup: /var/backups/gated/",
-          "follow: both show the same at ", "restore: /var/lib/gated/gate.db has ")
+FENCED = ("queue core window 3 landed 0", "gated: O4 unavailable", "core 1 lib: change 101, revision 1, ",
+          "backup: /var/backups/gated/", "follow: both show the same at ", "restore: /var/lib/gated/gate.db has ")
 # What clients of the gate tell meanwhile: behind the block that has the text on the left.
 TOLD = {
     "https://gate.example/status": (
