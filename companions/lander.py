@@ -290,7 +290,11 @@ class Lander:
 
 
 def run(settings: Settings) -> int:
-    said = untested()
+    try:
+        said = untested()
+    except GitFault as fault:
+        say("lander", f"stops: {fault}")
+        return 1
     if said is not None:
         say("lander", said)
     Lander(settings).run()

@@ -9,6 +9,7 @@ import os
 import re
 import shutil
 import subprocess
+import threading
 from collections.abc import Mapping
 from dataclasses import dataclass
 from pathlib import Path
@@ -27,6 +28,8 @@ PATIENCE = 900
 OUT = "refs/out/"
 # So many commits of a branch are read at once.
 PAGE = 1000
+# So many bytes of an object are read: whoever may push decides how large a commit is.
+MOST = 1 << 20
 
 # The versions of git with which the merges were tested, and the least one that can do them.
 TESTED = ("2.39",)
@@ -260,12 +263,22 @@ class Repository:
         return {name: it for it, _, name in (line.partition(" ") for line in listed.splitlines())}
 
     def content(self, it: str, kind: str = "commit") -> bytes:
-        """The content of an object."""
+        """The content of an object; of a larger one, its first `MOST` bytes."""
         self.begin()
-        ran = self.start(["git", *OWN, "-C", str(self.mirror), "cat-file", kind, it], self.own, None)
-        if ran.returncode != 0:
-            raise GitFault(f"git cat-file {kind} {it}: {ran.stderr.decode('utf-8', 'replace').strip()}")
-        return ran.stdout
+        ran = subprocess.Popen(["git", *OWN, "-C", str(self.mirror), "cat-file", kind, it], env=self.own,
+                               stdin=subprocess.DEVNULL, stdout=subprocess.PIPE, stderr=subprocess.PIPE)
+        hangs = threading.Timer(PATIENCE, ran.kill)
+        hangs.start()
+        with ran:
+            assert ran.stdout is not None and ran.stderr is not None
+            content = ran.stdout.read(MOST)
+            # Git ends where nobody reads the rest.
+            ran.stdout.close()
+            said = ran.stderr.read().decode("utf-8", "replace").strip()
+        hangs.cancel()
+        if ran.returncode != 0 and len(content) < MOST:
+            raise GitFault(f"git cat-file {kind} {it}: {said or ran.returncode}")
+        return content
 
     def kind(self, it: str) -> tuple[str, int]:
         """What kind of an object it is, and of how many bytes."""

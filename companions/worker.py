@@ -355,7 +355,7 @@ def main(argv: list[str]) -> int:
         finally:
             # A job that was just being started when the signal came.
             job.kill_marked(started.mark)
-    except (SettingsFault, OSError, sqlite3.Error) as fault:
+    except (SettingsFault, GitFault, OSError, sqlite3.Error) as fault:
         print(f"worker {argv[1]}: {fault}", file=sys.stderr)
         return 1
     except KeyboardInterrupt:

@@ -1,12 +1,15 @@
 from __future__ import annotations
 
+import contextlib
+import io
 import os
 import tempfile
 import unittest
 from pathlib import Path
 from unittest import mock
 
-from companions.merging import Merge
+from companions import lander
+from companions.merging import Merge, Parent
 from companions.repository import GitFault, Merged, Repository
 from companions.tests.forge import Origin
 
@@ -56,6 +59,22 @@ class Git(unittest.TestCase):
         self.assertEqual(self.repository.merge_trees(ours, alone), Merged(None))
         with self.assertRaises(GitFault):
             self.repository.merge_trees(ours, "0" * 39 + "1")
+
+    def test_of_a_commit_of_any_size_a_beginning_is_read(self) -> None:
+        tree = self.origin.git("rev-parse", "main^{tree}")
+        large = self.origin.git("commit-tree", tree, "-p", self.head, "-F", "-", given="Subject\n\n" + "x" * (3 << 20))
+        self.origin.name("refs/changes/1/1", large)
+        self.repository.fetch("refs/changes/1/1")
+        self.assertEqual(len(self.repository.content(large)), 1 << 20)
+        self.assertEqual(self.repository.parent(large), Parent(large, 1704067200, "Subject"))
+        with self.assertRaisesRegex(GitFault, "git cat-file commit 0{40}: "):
+            self.repository.content("0" * 40)
+
+    def test_an_old_git_is_refused_with_a_line(self) -> None:
+        said = io.StringIO()
+        with mock.patch("companions.repository.version", return_value="2.37"), contextlib.redirect_stderr(said):
+            self.assertEqual(lander.run(mock.Mock()), 1)
+        self.assertEqual(said.getvalue(), "lander: stops: git 2.37 is too old: it has to be 2.39\n")
 
     def test_a_push_names_what_was_there(self) -> None:
         new = self.change("refs/changes/1/1", {"a": "1"}, self.head)
