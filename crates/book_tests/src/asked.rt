@@ -1,253 +1,231 @@
-//! What a book answers, compared with what it has to answer.
-use crate::claims::is;
-use crate::scene::{change_no, id, name, serial_no};
-use gate_book::Book;
-use gate_types::numbers::ChangeNo;
-use gate_types::records::{Counters, Item, Plan, Ready};
+//! What a book is told and asked, a line each, as `item 4`, and its answer as text.
+//!
+//! `put` does the edits behind it, `keeps 9` keeps nine replies, and `settings` gives the book these settings: one in
+//! memory adopts them, one that holds what is live reads that anew. All else is asked: `sizes core` tells the window of
+//! a queue and how many items and landings it has, `before core 2` how many landings have a lower serial,
+//! `first core 0 1` the first items above a serial, no more than one, and `needing core 101 0` those above a serial
+//! whose changes need 101; `enters 101` tells the ready changes that need it. `plans core 0 4` and `builds core 0 4`
+//! tell of the items above a serial up to another. `history core 20` is written, with a `|` at the end of each line,
+//! behind a front and to a writer that takes 20 bytes.
+use crate::edits::{edits, id, keep};
+use crate::settings::settings;
+use crate::told::{Told, counted, fault_word, found, listed, push};
+use crate::words::{build, change, name, number, serial, size, word};
+use gate_book::{Book, BookFault, HistoryFault, MemBook};
+use gate_live::LiveBook;
+use gate_types::config::Config;
+use gate_types::names::Name;
+use gate_types::open_fault::OpenFault;
+use gate_types::tap::Tap;
+use std::io;
+use std::io::Write;
 use std::process::Abort;
+use std::str::{SplitWhitespace, from_utf8};
 
-pub(crate) fn window_is<B: Book>(
-    rt: &(impl Abort + AllocGlobal),
-    book: &mut B,
-    queue: &str,
-    wanted: Option<u32>,
-) {
-    let found = book.window(&name(rt, queue));
-    assert!(rt; found == Ok(wanted), "{queue}");
+/// A book that is given settings.
+pub(crate) trait Takes: Book {
+    /// What comes of it.
+    fn takes(&mut self, config: &Config) -> &'static str;
 }
 
-/// A queue has so many items and landings.
-pub(crate) fn sizes_are<B: Book>(
-    rt: &(impl Abort + AllocGlobal),
-    book: &mut B,
-    queue: &str,
-    items: u64,
-    landings: u64,
-) {
-    let name = name(rt, queue);
-    assert!(rt; book.item_count(&name) == Ok(items), "{queue}");
-    assert!(rt; book.landing_count(&name) == Ok(landings), "{queue}");
-}
-
-pub(crate) fn reports_are<B: Book>(
-    rt: &(impl Abort + AllocGlobal),
-    book: &mut B,
-    queue: &str,
-    wanted: u64,
-) {
-    let found = book.reports(&name(rt, queue));
-    assert!(rt; found == Ok(wanted), "{queue}");
-}
-
-/// So many landings of `core` have a lower serial.
-pub(crate) fn landings_before<B: Book>(
-    rt: &(impl Abort + AllocGlobal),
-    book: &mut B,
-    serial: u64,
-    wanted: u64,
-) {
-    let found = book.landing_before(&name(rt, "core"), serial_no(rt, serial));
-    assert!(rt; found == Ok(wanted), "{serial}");
-}
-
-pub(crate) fn counters_are<B: Book>(rt: &impl Abort, book: &mut B, wanted: Counters) {
-    assert!(rt; book.counters() == Ok(wanted));
-}
-
-pub(crate) fn ready_are<B: Book>(rt: &impl Abort, book: &mut B, wanted: &[Ready]) {
-    let ready = book.ready().expect(rt, "the ready list");
-    assert!(rt; ready.as_slice() == wanted);
-}
-
-/// The ready changes that need this one.
-pub(crate) fn ready_needing_is<B: Book>(
-    rt: &impl Abort,
-    book: &mut B,
-    change: u64,
-    wanted: &[Ready],
-) {
-    let found = book.ready_needing(change_no(rt, change));
-    let ready = found.expect(rt, "ready changes");
-    assert!(rt; ready.as_slice() == wanted, "{change}");
-}
-
-/// A change's approval has this number; None where it isn't ready.
-pub(crate) fn approval_is<B: Book>(
-    rt: &impl Abort,
-    book: &mut B,
-    change: u64,
-    wanted: Option<u64>,
-) {
-    assert!(rt;
-        book.approval(change_no(rt, change)) == Ok(wanted),
-        "{change}"
-    );
-}
-
-/// The items of `core`.
-pub(crate) fn items_are<B: Book>(rt: &(impl Abort + AllocGlobal), book: &mut B, wanted: &[Item]) {
-    let items = book.items(&name(rt, "core")).expect(rt, "items");
-    assert!(rt; items.as_slice() == wanted);
-}
-
-pub(crate) fn item_is<B: Book>(rt: &impl Abort, book: &mut B, serial: u64, wanted: Option<Item>) {
-    assert!(rt; book.item(serial_no(rt, serial)) == Ok(wanted), "{serial}");
-}
-
-/// The first item of `core` above a serial.
-pub(crate) fn next_item_is<B: Book>(
-    rt: &(impl Abort + AllocGlobal),
-    book: &mut B,
-    above: u64,
-    wanted: Option<Item>,
-) {
-    assert!(rt;
-        book.next_item(&name(rt, "core"), above) == Ok(wanted),
-        "{above}"
-    );
-}
-
-/// The last item of `core` below a serial.
-pub(crate) fn last_item_is<B: Book>(
-    rt: &(impl Abort + AllocGlobal),
-    book: &mut B,
-    below: u64,
-    wanted: Option<Item>,
-) {
-    assert!(rt;
-        book.last_item(&name(rt, "core"), below) == Ok(wanted),
-        "{below}"
-    );
-}
-
-/// The first items of `core` above a serial, no more than `most`.
-pub(crate) fn next_items_are<B: Book>(
-    rt: &(impl Abort + AllocGlobal),
-    book: &mut B,
-    above: u64,
-    most: u32,
-    wanted: &[Item],
-) {
-    let found = book.next_items(&name(rt, "core"), above, most);
-    let items = found.expect(rt, "items");
-    assert!(rt; items.as_slice() == wanted, "{above} {most}");
-}
-
-/// The items of `core` above a serial whose changes need this one.
-pub(crate) fn needing_is<B: Book>(
-    rt: &(impl Abort + AllocGlobal),
-    book: &mut B,
-    change: u64,
-    above: u64,
-    wanted: &[Item],
-) {
-    let found = book.needing(&name(rt, "core"), change_no(rt, change), above);
-    let items = found.expect(rt, "items");
-    assert!(rt; items.as_slice() == wanted, "{above}");
-}
-
-/// A change stands in `core` as this item.
-pub(crate) fn queued_is<B: Book>(rt: &impl Abort, book: &mut B, change: u64, wanted: Item) {
-    let queued = book.queued(change_no(rt, change)).expect(rt, "an item");
-    let queued = queued.expect(rt, "an item");
-    assert_eq!(rt; queued.queue.as_str(), "core");
-    assert!(rt; queued.item == wanted, "{change}");
-}
-
-pub(crate) fn not_queued<B: Book>(rt: &impl Abort, book: &mut B, change: u64) {
-    assert!(rt;
-        matches!(&book.queued(change_no(rt, change)), Ok(None)),
-        "{change}"
-    );
-}
-
-/// A change is known, and needs these.
-pub(crate) fn needs_are<B: Book>(rt: &impl Abort, book: &mut B, change: u64, wanted: &[ChangeNo]) {
-    let known = book.change(change_no(rt, change)).expect(rt, "a change");
-    let needs = known.expect(rt, "a change").needs;
-    assert!(rt; needs.as_slice() == wanted, "{change}");
-}
-
-pub(crate) fn not_known<B: Book>(rt: &impl Abort, book: &mut B, change: u64) {
-    assert!(rt;
-        matches!(&book.change(change_no(rt, change)), Ok(None)),
-        "{change}"
-    );
-}
-
-/// A plan's jobs, those that don't vote behind a `-`, and whether it fails fast.
-fn plan_text(rt: &(impl Abort + AllocGlobal), plan: &Plan) -> String {
-    let mut text = String::new(rt.alloc());
-    for job in plan.jobs.as_slice() {
-        let (mark, name) = (if job.voting { "" } else { "-" }, job.name.as_str());
-        write!(text, "{mark}{name} ").expect(rt, "memory");
+impl Takes for MemBook {
+    fn takes(&mut self, config: &Config) -> &'static str {
+        match self.adopt(config) {
+            Ok(()) => "taken",
+            Err(OpenFault::OtherSettings) => "refused",
+            Err(_) => "another fault",
+        }
     }
-    let end = if plan.fast { "fast" } else { "slow" };
-    text.push_str(end).expect(rt, "memory");
-    text
 }
 
-/// Under a serial stands this plan.
-pub(crate) fn plan_is<B: Book>(
+impl<B: Book> Takes for LiveBook<B> {
+    fn takes(&mut self, config: &Config) -> &'static str {
+        match self.fill(config) {
+            Ok(()) => "taken",
+            Err(fault) => fault_word(fault),
+        }
+    }
+}
+
+/// Takes bytes while it has room for them, and fails then.
+#[derive(Drop)]
+struct Short {
+    bytes: Vec<u8>,
+    room: usize,
+}
+
+impl Write for Short {
+    fn write(&mut self, buf: &[u8]) -> io::Result<usize> {
+        if self.room == 0 {
+            return Err(io::Error::from(io::ErrorKind::Interrupted));
+        }
+        let n = buf.len().min(self.room);
+        self.room -= n;
+        self.bytes.write(&buf[..n])
+    }
+
+    fn flush(&mut self) -> io::Result<()> {
+        Ok(())
+    }
+}
+
+fn history_word(done: Result<(), HistoryFault>) -> &'static str {
+    match done {
+        Ok(()) => ", whole",
+        Err(HistoryFault::NoQueue) => ", no queue",
+        Err(HistoryFault::Unavailable) => ", unavailable",
+        Err(HistoryFault::Broken) => ", broken",
+        Err(HistoryFault::Write) => ", cut",
+    }
+}
+
+/// What comes of a history, and what of it and its front a writer with so much room takes.
+fn history<B: Book>(
     rt: &(impl Abort + AllocGlobal),
     book: &mut B,
-    serial: u64,
-    wanted: &str,
+    told: &mut String,
+    words: &mut SplitWhitespace,
 ) {
-    let found = book.plan(serial_no(rt, serial)).expect(rt, "a plan");
-    let plan = found.expect(rt, "a plan");
-    assert_eq!(rt; plan.serial.get(), serial);
-    is(rt, plan_text(rt, &plan).as_str(), wanted, "a plan");
+    let queue = word(rt, words);
+    let room = word(rt, words).parse::<usize>().ok().expect(rt, queue);
+    let bytes = Vec::new(rt.alloc());
+    let mut w = Tap::new(Short { bytes, room });
+    let done = book.history(queue, b"front\n", &mut w);
+    let Short { bytes, room: _ } = w.into_inner();
+    let text = from_utf8(bytes.as_slice()).ok().expect(rt, queue);
+    let text = text.replace(rt.alloc(), "\n", "|").expect(rt, "memory");
+    push(rt, told, text.as_str());
+    push(rt, told, history_word(done));
 }
 
-/// The items of `core` above a serial up to another have plans under these serials.
-pub(crate) fn planned_between<B: Book>(
+fn done(rt: &impl Abort, told: &mut String, done: Result<(), BookFault>) {
+    match done {
+        Ok(()) => push(rt, told, "done"),
+        Err(fault) => push(rt, told, fault_word(fault)),
+    }
+}
+
+fn put<B: Book>(rt: &(impl Abort + AllocGlobal), book: &mut B, told: &mut String, words: &str) {
+    let edits = edits(rt, words);
+    done(rt, told, book.apply(edits.as_slice()));
+}
+
+/// Keeps so many replies, one after another.
+fn keeps<B: Book>(rt: &(impl Abort + AllocGlobal), book: &mut B, told: &mut String, many: u64) {
+    for number in 0..many {
+        let edits = [keep(rt, number, "kept")];
+        book.apply(&edits).expect(rt, "memory");
+    }
+    push(rt, told, "done");
+}
+
+/// The window of a queue, and how many items and landings it has.
+fn size_of<B: Book>(rt: &impl Abort, book: &mut B, told: &mut String, queue: &Name) {
+    found(rt, told, book.window(queue));
+    push(rt, told, " ");
+    counted(rt, told, book.item_count(queue));
+    push(rt, told, " ");
+    counted(rt, told, book.landing_count(queue));
+}
+
+/// What is asked of a queue by its name.
+fn asks_queue<B: Book>(
     rt: &(impl Abort + AllocGlobal),
     book: &mut B,
-    above: u64,
-    last: u64,
-    wanted: &[u64],
+    told: &mut String,
+    queue: &Name,
+    asked: &str,
+    words: &mut SplitWhitespace,
 ) {
-    let found = book.plans_between(&name(rt, "core"), above, serial_no(rt, last));
-    let plans = found.expect(rt, "plans");
-    let serials = plans.as_slice().iter().map(|plan| plan.serial.get());
-    assert!(rt; serials.eq(wanted.iter().copied()), "{above} {last}");
+    match asked {
+        "sizes" => size_of(rt, book, told, queue),
+        "reports" => counted(rt, told, book.reports(queue)),
+        "before" => counted(rt, told, book.landing_before(queue, serial(rt, words))),
+        "items" => listed(rt, told, book.items(queue)),
+        "next" => found(rt, told, book.next_item(queue, number(rt, words))),
+        "last" => found(rt, told, book.last_item(queue, number(rt, words))),
+        "first" => {
+            let above = number(rt, words);
+            listed(rt, told, book.next_items(queue, above, size(rt, words)));
+        }
+        "needing" => {
+            let needed = change(rt, words);
+            listed(rt, told, book.needing(queue, needed, number(rt, words)));
+        }
+        "plans" => {
+            let above = number(rt, words);
+            listed(
+                rt,
+                told,
+                book.plans_between(queue, above, serial(rt, words)),
+            );
+        }
+        "builds" => {
+            let above = number(rt, words);
+            listed(
+                rt,
+                told,
+                book.builds_between(queue, above, serial(rt, words)),
+            );
+        }
+        _ => panic!(rt; "nothing is asked: {asked}"),
+    }
 }
 
-/// The items of `core` above a serial up to another have live builds of these numbers.
-pub(crate) fn live_between<B: Book>(
+fn counters<B: Book>(rt: &impl Abort, book: &mut B, told: &mut String) {
+    let drawn = book.counters().expect(rt, "counters");
+    drawn.approval.tell(rt, told);
+    push(rt, told, " ");
+    drawn.build.tell(rt, told);
+    push(rt, told, " ");
+    drawn.order.tell(rt, told);
+}
+
+/// What is asked by a number, or of all.
+fn asks<B: Book>(
     rt: &(impl Abort + AllocGlobal),
     book: &mut B,
-    above: u64,
-    last: u64,
-    wanted: &[u64],
+    told: &mut String,
+    asked: &str,
+    words: &mut SplitWhitespace,
 ) {
-    let found = book.builds_between(&name(rt, "core"), above, serial_no(rt, last));
-    let builds = found.expect(rt, "builds");
-    let numbers = builds.as_slice().iter().map(|build| build.number.get());
-    assert!(rt; numbers.eq(wanted.iter().copied()), "{above} {last}");
+    match asked {
+        "item" => found(rt, told, book.item(serial(rt, words))),
+        "queued" => found(rt, told, book.queued(change(rt, words))),
+        "plan" => found(rt, told, book.plan(serial(rt, words))),
+        "live" => listed(rt, told, book.live_builds(serial(rt, words))),
+        "build" => found(rt, told, book.build(build(rt, words))),
+        "change" => found(rt, told, book.change(change(rt, words))),
+        "approval" => found(rt, told, book.approval(change(rt, words))),
+        "kept" => found(rt, told, book.delivery(&id(number(rt, words)))),
+        "ready" => listed(rt, told, book.ready()),
+        "enters" => listed(rt, told, book.ready_needing(change(rt, words))),
+        "counters" => counters(rt, book, told),
+        "history" => history(rt, book, told, words),
+        "keeps" => keeps(rt, book, told, number(rt, words)),
+        _ => {
+            let queue = name(rt, word(rt, words));
+            asks_queue(rt, book, told, &queue, asked, words);
+        }
+    }
 }
 
-pub(crate) fn no_plan<B: Book>(rt: &impl Abort, book: &mut B, serial: u64) {
-    assert!(rt;
-        matches!(&book.plan(serial_no(rt, serial)), Ok(None)),
-        "{serial}"
-    );
-}
-
-/// An item has so many live builds.
-pub(crate) fn live_builds<B: Book>(rt: &impl Abort, book: &mut B, serial: u64, wanted: usize) {
-    let live = book.live_builds(serial_no(rt, serial)).expect(rt, "builds");
-    assert!(rt; live.as_slice().len() == wanted, "{serial}");
-}
-
-/// This reply is kept under an id.
-pub(crate) fn reply_is<B: Book>(rt: &impl Abort, book: &mut B, number: u64, wanted: &str) {
-    let kept = book.delivery(&id(number)).expect(rt, "a kept reply");
-    let reply = kept.expect(rt, "a kept reply").reply;
-    assert_eq!(rt; reply.as_str(), wanted);
-}
-
-pub(crate) fn no_reply<B: Book>(rt: &impl Abort, book: &mut B, number: u64) {
-    assert!(rt; matches!(&book.delivery(&id(number)), Ok(None)), "{number}");
+/// What a book answers to a line.
+pub(crate) fn answer<B: Takes>(
+    rt: &(impl Abort + AllocGlobal),
+    book: &mut B,
+    line: &str,
+) -> String {
+    let mut told = String::new(rt.alloc());
+    let (asked, rest) = line.split_once(' ').unwrap_or((line, ""));
+    match asked {
+        "put" => put(rt, book, &mut told, rest),
+        "settings" => push(rt, &mut told, book.takes(&settings(rt, rest))),
+        _ => {
+            let mut words = rest.split_whitespace();
+            asks(rt, book, &mut told, asked, &mut words);
+            assert!(rt; words.next().is_none(), "{line}");
+        }
+    }
+    told
 }

@@ -11,3 +11,8 @@ pub(crate) fn holds(rt: &impl Abort, claim: bool, what: &str) {
 pub(crate) fn is(rt: &impl Abort, found: &str, wanted: &str, what: &str) {
     assert_eq!(rt; found, wanted, "{what}");
 }
+
+/// The answer in a scene is the one that is wanted.
+pub(crate) fn answers(rt: &impl Abort, found: &str, wanted: &str, title: &str, asked: &str) {
+    assert_eq!(rt; found, wanted, "{title}: {asked}");
+}

@@ -1,4 +1,4 @@
-//! A book that counts what it is asked for, and can refuse edits, or a read, once.
+//! A book that counts what it is asked for, and can refuse edits, or a build, once.
 use gate_book::{Book, BookFault, HistoryFault, QueuedItem};
 use gate_types::edits::Edit;
 use gate_types::names::Name;
@@ -7,45 +7,39 @@ use gate_types::records::{Build, Change, Counters, Id, Item, Kept, Plan, Ready};
 use gate_types::sequence::Sequence;
 use gate_types::tap::Tap;
 use std::io::Write;
+use std::process::Abort;
 
-/// Answers as the book in it; the first edits are refused by a fault, if one is set, and so is one read, by the store.
+/// Answers as the book in it; the first edits are refused by a fault, if one is set, and so is the first build that is
+/// asked for, by the store.
 #[derive(Drop)]
 pub(crate) struct Counting<B> {
     pub(crate) book: B,
     pub(crate) reads: u32,
     pub(crate) refuses: Option<BookFault>,
-    pub(crate) fails_at: Option<u32>,
+    pub(crate) refuses_build: bool,
 }
 
-/// Over this book, asked for nothing yet.
-pub(crate) fn counted<B: Book>(book: B, refuses: Option<BookFault>) -> Counting<B> {
+/// Over this book, asked for nothing yet, with what it refuses once.
+pub(crate) fn refusing<B: Book>(rt: &impl Abort, book: B, refuses: &str) -> Counting<B> {
+    let (refuses, refuses_build) = match refuses {
+        "" => (None, false),
+        "edits by the store" => (Some(BookFault::Store), false),
+        "edits for memory" => (Some(BookFault::NoMemory), false),
+        "a build" => (None, true),
+        _ => panic!(rt; "nothing is refused: {refuses}"),
+    };
     Counting {
         book,
         reads: 0,
         refuses,
-        fails_at: None,
-    }
-}
-
-/// The same, where the store refuses a read: the first one is 1.
-pub(crate) fn failing_at<B: Book>(book: B, read: u32) -> Counting<B> {
-    Counting {
-        book,
-        reads: 0,
-        refuses: None,
-        fails_at: Some(read),
+        refuses_build,
     }
 }
 
 impl<B> Counting<B> {
     /// One read more.
-    fn count(&mut self) -> Result<(), BookFault> {
+    fn count(&mut self) {
         self.reads = self.reads.saturating_add(1);
-        if self.fails_at == Some(self.reads) {
-            Err(BookFault::Store)
-        } else {
-            Ok(())
-        }
     }
 }
 
@@ -61,62 +55,62 @@ impl<B: Book> Book for Counting<B> {
     ghost leaves_more = { λ _ _ _ _ h. h };
 
     fn delivery(&mut self, id: &Id) -> Result<Option<Kept>, BookFault> {
-        self.count()?;
+        self.count();
         self.book.delivery(id)
     }
 
     fn change(&mut self, number: ChangeNo) -> Result<Option<Change>, BookFault> {
-        self.count()?;
+        self.count();
         self.book.change(number)
     }
 
     fn window(&mut self, queue: &Name) -> Result<Option<u32>, BookFault> {
-        self.count()?;
+        self.count();
         self.book.window(queue)
     }
 
     fn item_count(&mut self, queue: &Name) -> Result<u64, BookFault> {
-        self.count()?;
+        self.count();
         self.book.item_count(queue)
     }
 
     fn landing_count(&mut self, queue: &Name) -> Result<u64, BookFault> {
-        self.count()?;
+        self.count();
         self.book.landing_count(queue)
     }
 
     fn reports(&mut self, queue: &Name) -> Result<u64, BookFault> {
-        self.count()?;
+        self.count();
         self.book.reports(queue)
     }
 
     fn landing_before(&mut self, queue: &Name, serial: Serial) -> Result<u64, BookFault> {
-        self.count()?;
+        self.count();
         self.book.landing_before(queue, serial)
     }
 
     fn items(&mut self, queue: &Name) -> Result<Sequence<Item>, BookFault> {
-        self.count()?;
+        self.count();
         self.book.items(queue)
     }
 
     fn item(&mut self, serial: Serial) -> Result<Option<Item>, BookFault> {
-        self.count()?;
+        self.count();
         self.book.item(serial)
     }
 
     fn queued(&mut self, change: ChangeNo) -> Result<Option<QueuedItem>, BookFault> {
-        self.count()?;
+        self.count();
         self.book.queued(change)
     }
 
     fn next_item(&mut self, queue: &Name, above: u64) -> Result<Option<Item>, BookFault> {
-        self.count()?;
+        self.count();
         self.book.next_item(queue, above)
     }
 
     fn last_item(&mut self, queue: &Name, below: u64) -> Result<Option<Item>, BookFault> {
-        self.count()?;
+        self.count();
         self.book.last_item(queue, below)
     }
 
@@ -126,7 +120,7 @@ impl<B: Book> Book for Counting<B> {
         above: u64,
         most: u32,
     ) -> Result<Sequence<Item>, BookFault> {
-        self.count()?;
+        self.count();
         self.book.next_items(queue, above, most)
     }
 
@@ -136,17 +130,17 @@ impl<B: Book> Book for Counting<B> {
         change: ChangeNo,
         above: u64,
     ) -> Result<Sequence<Item>, BookFault> {
-        self.count()?;
+        self.count();
         self.book.needing(queue, change, above)
     }
 
     fn plan(&mut self, serial: Serial) -> Result<Option<Plan>, BookFault> {
-        self.count()?;
+        self.count();
         self.book.plan(serial)
     }
 
     fn live_builds(&mut self, serial: Serial) -> Result<Sequence<Build>, BookFault> {
-        self.count()?;
+        self.count();
         self.book.live_builds(serial)
     }
 
@@ -156,7 +150,7 @@ impl<B: Book> Book for Counting<B> {
         above: u64,
         last: Serial,
     ) -> Result<Sequence<Plan>, BookFault> {
-        self.count()?;
+        self.count();
         self.book.plans_between(queue, above, last)
     }
 
@@ -166,32 +160,36 @@ impl<B: Book> Book for Counting<B> {
         above: u64,
         last: Serial,
     ) -> Result<Sequence<Build>, BookFault> {
-        self.count()?;
+        self.count();
         self.book.builds_between(queue, above, last)
     }
 
     fn build(&mut self, number: BuildNo) -> Result<Option<Build>, BookFault> {
-        self.count()?;
+        self.count();
+        if self.refuses_build {
+            self.refuses_build = false;
+            return Err(BookFault::Store);
+        }
         self.book.build(number)
     }
 
     fn ready(&mut self) -> Result<Sequence<Ready>, BookFault> {
-        self.count()?;
+        self.count();
         self.book.ready()
     }
 
     fn approval(&mut self, change: ChangeNo) -> Result<Option<u64>, BookFault> {
-        self.count()?;
+        self.count();
         self.book.approval(change)
     }
 
     fn ready_needing(&mut self, change: ChangeNo) -> Result<Sequence<Ready>, BookFault> {
-        self.count()?;
+        self.count();
         self.book.ready_needing(change)
     }
 
     fn counters(&mut self) -> Result<Counters, BookFault> {
-        self.count()?;
+        self.count();
         self.book.counters()
     }
 
@@ -201,7 +199,7 @@ impl<B: Book> Book for Counting<B> {
         front: &[u8],
         w: &mut Tap<W>,
     ) -> Result<(), HistoryFault> {
-        self.reads = self.reads.saturating_add(1);
+        self.count();
         self.book.history(queue, front, w)
     }
 

@@ -10,6 +10,8 @@ mod claims;
 #[cfg(test)]
 mod counting;
 #[cfg(test)]
+mod edits;
+#[cfg(test)]
 mod live;
 #[cfg(test)]
 mod live_changes;
@@ -22,6 +24,12 @@ mod needing;
 #[cfg(test)]
 mod polling;
 #[cfg(test)]
-mod scene;
+mod scenes;
+#[cfg(test)]
+mod settings;
 #[cfg(test)]
 mod starved;
+#[cfg(test)]
+mod told;
+#[cfg(test)]
+mod words;

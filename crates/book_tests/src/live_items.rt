@@ -1,119 +1,172 @@
 //! A book that holds what is live: it asks the book below for each plan and live build of its items once.
-use crate::asked::{live_between, live_builds, no_plan, plan_is, planned_between};
-use crate::live::{Live, filled, reads_are, unfilled};
-use crate::scene::{apply, build_no, put_build, put_plan, serial_no, set_outcome};
-use gate_book::Book;
-use gate_types::edits::Edit;
-use gate_types::records::Outcome;
+use crate::asked::Takes;
+use crate::claims::holds;
+use crate::edits::edits;
+use crate::scenes::{ONE_QUEUE, plays};
+use crate::settings::settings;
+use gate_archive::Archive;
+use gate_book::{Book, MemBook};
+use gate_live::LiveBook;
+use gate_types::numbers::Serial;
 use std::process::Abort;
 
-/// Six reads of the plans and the live builds of both items.
-fn items_are_told<B: Book>(rt: &(impl Abort + AllocGlobal), book: &mut B) {
-    plan_is(rt, book, 2, "unit -docs fast");
-    plan_is(rt, book, 4, "unit slow");
-    live_builds(rt, book, 2, 2);
-    live_builds(rt, book, 4, 0);
-    planned_between(rt, book, 0, 4, &[2, 4]);
-    live_between(rt, book, 0, 4, &[1, 2]);
+/// Seven reads fill the book; then the plan and the live builds of each item are asked for.
+const SCENES: &str = "
+# what an item has is asked below once
+live over first
+
+settings core/10/1 lib@core = taken
+
+twice
+plan 2 = 2 fast unit -docs
+plan 4 = 4 slow unit
+live 2 = 1 running, 2 running
+live 4 = none
+plans core 0 4 = 2 fast unit -docs, 4 slow unit
+builds core 0 4 = 1 running, 2 running
+
+below, asked 11
+
+# what some items have is asked below once
+live over first
+
+settings core/10/1 lib@core = taken
+plans core 0 4 = 2 fast unit -docs, 4 slow unit
+builds core 0 4 = 1 running, 2 running
+plan 2 = 2 fast unit -docs
+plan 4 = 4 slow unit
+live 2 = 1 running, 2 running
+live 4 = none
+plans core 0 4 = 2 fast unit -docs, 4 slow unit
+builds core 0 4 = 1 running, 2 running
+
+below, asked 11
+
+# before it is filled nothing of an item is held
+live over first
+
+twice
+plan 2 = 2 fast unit -docs
+plan 4 = 4 slow unit
+live 2 = 1 running, 2 running
+live 4 = none
+plans core 0 4 = 2 fast unit -docs, 4 slow unit
+builds core 0 4 = 1 running, 2 running
+
+below, asked 12
+
+# edits change what is held of an item: builds stop, fail and begin, and what it was admitted with is told anew
+live over first
+
+settings core/10/1 lib@core = taken
+plan 2 = 2 fast unit -docs
+plan 4 = 4 slow unit
+live 2 = 1 running, 2 running
+live 4 = none
+plans core 0 4 = 2 fast unit -docs, 4 slow unit
+builds core 0 4 = 1 running, 2 running
+put stop 1; end 2 failure; build 3 4 102; plan 4 fast unit site = done
+plan 2 = 2 fast unit -docs
+plan 4 = 4 fast unit site
+live 2 = 2 failure
+live 4 = 3 running
+plans core 0 4 = 2 fast unit -docs, 4 fast unit site
+builds core 0 4 = 2 failure, 3 running
+
+below, asked 11
+
+plan 2 = 2 fast unit -docs
+plan 4 = 4 fast unit site
+live 2 = 2 failure
+live 4 = 3 running
+plans core 0 4 = 2 fast unit -docs, 4 fast unit site
+builds core 0 4 = 2 failure, 3 running
+
+# nothing is held of an item that left as a landing: its plan is told anew, its builds are live still
+live over first
+
+settings core/10/1 lib@core = taken
+plan 2 = 2 fast unit -docs
+plan 4 = 4 slow unit
+live 2 = 1 running, 2 running
+live 4 = none
+plans core 0 4 = 2 fast unit -docs, 4 slow unit
+builds core 0 4 = 1 running, 2 running
+put drop 2; plan 2 slow unit -docs = done
+
+twice
+plan 2 = 2 slow unit -docs
+live 2 = 1 running, 2 running
+plan 4 = 4 slow unit
+live 4 = none
+plans core 0 4 = 4 slow unit
+builds core 0 4 = none
+
+below, asked 15
+
+plan 2 = 2 slow unit -docs
+live 2 = 1 running, 2 running
+plan 4 = 4 slow unit
+live 4 = none
+plans core 0 4 = 4 slow unit
+builds core 0 4 = none
+
+# a serial without an item is asked below each time
+live over first
+
+settings core/10/1 lib@core = taken
+
+twice
+plan 3 = none
+plan 1 = 1 slow -docs unit
+
+below, asked 11
+
+# what is past is asked below
+live over first
+
+settings core/10/1 lib@core = taken
+change 102 = 102 1 needs 101
+ready = 7 103
+live 2 = 1 running, 2 running
+builds core 0 4 = 1 running, 2 running
+builds core 2 4 = none
+counters = 0 0 4
+kept 9 = first
+plan 1 = 1 slow -docs unit
+plan 2 = 2 fast unit -docs
+plan 4 = 4 slow unit
+plan 3 = none
+plan 5 = none
+plans core 0 4 = 2 fast unit -docs, 4 slow unit
+plans core 2 3 = none
+
+below, asked 16";
+
+#[test]
+fn what_items_have_is_asked_below_once(rt: HostRuntime) {
+    plays(&rt, SCENES);
 }
 
-/// Eleven reads: seven fill the book, then the plan and the live builds of each item are asked for.
-fn asked(rt: &(impl Abort + AllocGlobal)) -> Live {
-    let mut book = filled(rt, None);
-    items_are_told(rt, &mut book);
-    book
+/// Two builds are counted of item 2.
+fn two_are_counted<B: Archive + Drop>(rt: &(impl Abort + AllocGlobal), below: B) {
+    let mut book = LiveBook::new(rt.alloc(), below);
+    holds(
+        rt,
+        book.apply(edits(rt, "first").as_slice()).is_ok(),
+        "edits",
+    );
+    holds(
+        rt,
+        book.takes(&settings(rt, ONE_QUEUE)) == "taken",
+        "settings",
+    );
+    let serial = Serial::new(2).expect(rt, "a serial");
+    holds(rt, book.build_count(serial) == Ok(2), "builds");
 }
 
 #[test]
-fn what_an_item_has_is_asked_below_once(rt: HostRuntime) {
-    let mut book = asked(&rt);
-    items_are_told(&rt, &mut book);
-    let _below = reads_are(&rt, book, 11);
-}
-
-#[test]
-fn what_some_items_have_is_asked_below_once(rt: HostRuntime) {
-    let mut book = filled(&rt, None);
-    planned_between(&rt, &mut book, 0, 4, &[2, 4]);
-    live_between(&rt, &mut book, 0, 4, &[1, 2]);
-    items_are_told(&rt, &mut book);
-    let _below = reads_are(&rt, book, 11);
-}
-
-#[test]
-fn before_it_is_filled_nothing_of_an_item_is_held(rt: HostRuntime) {
-    let mut book = unfilled(&rt, None);
-    items_are_told(&rt, &mut book);
-    items_are_told(&rt, &mut book);
-    let _below = reads_are(&rt, book, 12);
-}
-
-/// Build 1 stops, build 2 fails, build 3 of item 4 begins, and what item 4 was admitted with is told anew.
-fn later_edits(rt: &(impl Abort + AllocGlobal)) -> [Edit; 4] {
-    [
-        Edit::StopBuild(build_no(rt, 1)),
-        set_outcome(rt, 2, Outcome::Failure),
-        put_build(rt, 3, 4, 102),
-        put_plan(rt, 4, "unit site", true),
-    ]
-}
-
-/// The only live build of item 2 has failed.
-fn build_has_failed<B: Book>(rt: &impl Abort, book: &mut B) {
-    let live = book.live_builds(serial_no(rt, 2)).expect(rt, "builds");
-    assert!(rt; live.as_slice().len() == 1);
-    assert!(rt; live.as_slice()[0].outcome == Outcome::Failure);
-}
-
-fn later_is_told<B: Book>(rt: &(impl Abort + AllocGlobal), book: &mut B) {
-    plan_is(rt, book, 2, "unit -docs fast");
-    plan_is(rt, book, 4, "unit site fast");
-    build_has_failed(rt, book);
-    live_builds(rt, book, 4, 1);
-    planned_between(rt, book, 0, 4, &[2, 4]);
-    live_between(rt, book, 0, 4, &[2, 3]);
-}
-
-#[test]
-fn edits_change_what_is_held_of_an_item(rt: HostRuntime) {
-    let mut book = asked(&rt);
-    let edits = later_edits(&rt);
-    apply(&rt, &mut book, &edits);
-    later_is_told(&rt, &mut book);
-    let mut below = reads_are(&rt, book, 11);
-    later_is_told(&rt, &mut below);
-}
-
-/// Item 2 left as a landing: its plan is told anew, its builds are live still. Two reads of it, four of what is left.
-fn without_two_is_told<B: Book>(rt: &(impl Abort + AllocGlobal), book: &mut B) {
-    plan_is(rt, book, 2, "unit -docs slow");
-    live_builds(rt, book, 2, 2);
-    plan_is(rt, book, 4, "unit slow");
-    live_builds(rt, book, 4, 0);
-    planned_between(rt, book, 0, 4, &[4]);
-    live_between(rt, book, 0, 4, &[]);
-}
-
-#[test]
-fn nothing_is_held_of_an_item_that_left(rt: HostRuntime) {
-    let mut book = asked(&rt);
-    let edits = [
-        Edit::DropItem(serial_no(&rt, 2)),
-        put_plan(&rt, 2, "unit -docs", false),
-    ];
-    apply(&rt, &mut book, &edits);
-    without_two_is_told(&rt, &mut book);
-    without_two_is_told(&rt, &mut book);
-    let mut below = reads_are(&rt, book, 15);
-    without_two_is_told(&rt, &mut below);
-}
-
-#[test]
-fn a_serial_without_an_item_is_asked_below_each_time(rt: HostRuntime) {
-    let mut book = filled(&rt, None);
-    no_plan(&rt, &mut book, 3);
-    no_plan(&rt, &mut book, 3);
-    plan_is(&rt, &mut book, 1, "-docs unit slow");
-    plan_is(&rt, &mut book, 1, "-docs unit slow");
-    let _below = reads_are(&rt, book, 11);
+fn the_builds_that_an_item_ever_had_are_asked_below(rt: HostRuntime) {
+    let config = settings(&rt, ONE_QUEUE);
+    two_are_counted(&rt, MemBook::new(rt.alloc(), &config).expect(&rt, "memory"));
 }

@@ -1,15 +1,21 @@
 //! A gate that is polled asks its book for nothing while nothing has changed.
+//!
+//! Texts of scenes, each with a title behind `# `, a gate of its own, and behind an empty line parts with an empty line
+//! between two. The first line of a part says what is asked of the gate, and how often the book is asked for it:
+//! `status` and `orders`, or `>` and a delivery, behind `nothing: `, `once: `, `more: `, which is more than once, or
+//! `some: `. Below stands the answer. `made: status` is a status that is made by reads, and said again without any.
+//! `is idle` stands for a worker that is told by reads that there is no build, and then, under other ids, by looking up
+//! the id alone. `a read fails` and `edits fail` are faults of the store, at a build that is asked for and at the
+//! next edits.
 use crate::claims::{holds, is};
-use crate::counting::{Counting, counted};
-use crate::scene::build_no;
-use gate_book::{BookFault, MemBook};
+use crate::counting::{Counting, refusing};
+use gate_book::{Book, BookFault, MemBook};
 use gate_config::read;
 use gate_core::Gate;
 use gate_types::deliveries::{Answer, Refusal};
+use gate_types::numbers::BuildNo;
 use gate_wire::{Door, read_delivery};
 use std::process::Abort;
-
-type Polled = Gate<Counting<MemBook>>;
 
 const SETTINGS: &str = r#"
 [forge]
@@ -27,15 +33,148 @@ queue = "web"
 name = "unit"
 "#;
 
-fn polled(rt: &(impl Abort + AllocGlobal)) -> Polled {
-    let config = read(rt.alloc(), SETTINGS.as_bytes()).expect(rt, "settings");
-    let book = MemBook::new(rt.alloc(), &config).expect(rt, "memory");
-    Gate::new(config, counted(book, None))
-}
+const IDLE: &str =
+    r#"more: > {"id":"0d000000-0000-4000-8000-000000000001","kind":"take","worker":"w1"}
+{"code":"E12","error":"idle"}
 
-/// The line is answered so; how often the book was asked is given.
-fn tells(rt: &(impl Abort + AllocGlobal), gate: &mut Polled, line: &str, wanted: &str) -> u32 {
-    gate.book.reads = 0;
+once: > {"id":"0d000000-0000-4000-8000-000000000002","kind":"take","worker":"w2"}
+{"code":"E12","error":"idle"}
+
+once: > {"id":"0d000000-0000-4000-8000-000000000001","kind":"take","worker":"w1"}
+{"code":"E12","error":"idle"}"#;
+
+const SCENES: &str = r#"
+# an idle gate is asked for nothing
+
+made: status
+queue web window 2 landed 0
+end
+
+made: orders
+[]
+
+is idle
+
+nothing: status
+queue web window 2 landed 0
+end
+
+nothing: orders
+[]
+
+# an accepted delivery is shown at once
+
+made: status
+queue web window 2 landed 0
+end
+
+is idle
+
+some: > {"id":"0b000000-0000-4000-8000-000000000001","kind":"revision","change":101,"project":"site","revision":1,"message":""}
+{"reply":"recorded"}
+
+made: status
+queue web window 2 landed 0
+end
+
+some: > {"id":"0b000000-0000-4000-8000-000000000002","kind":"approved","change":101,"revision":1}
+{"order":1,"reply":"queued"}
+
+made: status
+queue web window 2 landed 0
+     1       101    1      - ok      unit=waiting
+end
+
+some: > {"id":"0b000000-0000-4000-8000-000000000003","kind":"take","worker":"w1"}
+{"after":0,"ahead":[],"build":1,"change":101,"job":"unit","queue":"web","reply":"build","revision":1}
+
+made: status
+queue web window 2 landed 0
+     1       101    1      - ok      unit=running
+end
+
+is idle
+
+some: > {"id":"0e000000-0000-4000-8000-000000000001","kind":"approved","change":900,"revision":1}
+{"code":"E5","error":"unknown-change"}
+
+some: > {"id":"0b000000-0000-4000-8000-000000000002","kind":"approved","change":101,"revision":1}
+{"order":1,"reply":"queued"}
+
+nothing: status
+queue web window 2 landed 0
+     1       101    1      - ok      unit=running
+end
+
+once: > {"id":"0e000000-0000-4000-8000-000000000002","kind":"take","worker":"w1"}
+{"code":"E12","error":"idle"}
+
+some: > {"id":"0b000000-0000-4000-8000-000000000004","kind":"result","build":1,"outcome":"lost"}
+{"reply":"noted"}
+
+made: status
+queue web window 2 landed 0
+     1       101    1      - ok      unit=waiting
+end
+
+some: > {"id":"0b000000-0000-4000-8000-000000000005","kind":"take","worker":"w1"}
+{"after":0,"ahead":[],"build":2,"change":101,"job":"unit","queue":"web","reply":"build","revision":1}
+
+made: orders
+[]
+
+some: > {"id":"0b000000-0000-4000-8000-000000000006","kind":"result","build":2,"outcome":"success"}
+{"reply":"noted"}
+
+made: orders
+[{"change":101,"order":1,"project":"site","queue":"web","revision":1}]
+
+some: > {"id":"0b000000-0000-4000-8000-000000000007","kind":"landed","order":1}
+{"n":1,"reply":"landed"}
+
+made: orders
+[]
+
+made: status
+queue web window 3 landed 1
+end
+
+# after a fault nothing is said unasked, so that a gate whose file is shut says so to each poll
+
+made: status
+queue web window 2 landed 0
+end
+
+made: orders
+[]
+
+a read fails
+
+made: status
+queue web window 2 landed 0
+end
+
+made: orders
+[]
+
+is idle
+
+edits fail
+
+some: > {"id":"0b000000-0000-4000-8000-000000000001","kind":"revision","change":101,"project":"site","revision":1,"message":""}
+{"code":"E15","error":"unavailable"}
+
+made: status
+queue web window 2 landed 0
+end
+
+made: orders
+[]
+
+is idle"#;
+
+/// A delivery gets this answer.
+fn tells<B: Book>(rt: &(impl Abort + AllocGlobal), gate: &mut Gate<B>, line: &str, wanted: &str) {
     let (id, delivery) = read_delivery(rt.alloc(), line.as_bytes(), Door::Any)
         .ok()
         .expect(rt, line);
@@ -43,221 +182,97 @@ fn tells(rt: &(impl Abort + AllocGlobal), gate: &mut Polled, line: &str, wanted:
         Answer::Said(text) => is(rt, text.as_str(), wanted, line),
         Answer::Refused(refusal) => is(rt, refusal.text(), wanted, line),
     }
-    gate.book.reads
 }
 
-/// The same for the status.
-fn shows(rt: &(impl Abort + AllocGlobal), gate: &mut Polled, wanted: &str) -> u32 {
+/// A text is this one and what stands at its end.
+fn shows(rt: &impl Abort, text: Result<String, Refusal>, wanted: &str, end: &str) {
+    let text = text.ok().expect(rt, wanted);
+    let text = text.as_str().strip_suffix(end).expect(rt, wanted);
+    is(rt, text, wanted, "a poll");
+}
+
+/// What is asked of the gate has this answer. Gives how often the book was asked.
+fn asks<B: Book>(
+    rt: &(impl Abort + AllocGlobal),
+    gate: &mut Gate<Counting<B>>,
+    asked: &str,
+    wanted: &str,
+) -> u32 {
     gate.book.reads = 0;
-    let text = gate.status(rt.alloc()).ok().expect(rt, "a status");
-    is(rt, text.as_str(), wanted, "the status");
+    match asked {
+        "status" => shows(rt, gate.status(rt.alloc()), wanted, "\n"),
+        "orders" => shows(rt, gate.orders(rt.alloc()), wanted, ""),
+        _ => tells(rt, gate, asked.strip_prefix("> ").expect(rt, asked), wanted),
+    }
     gate.book.reads
 }
 
-/// And for the orders.
-fn orders(rt: &(impl Abort + AllocGlobal), gate: &mut Polled, wanted: &str) -> u32 {
-    gate.book.reads = 0;
-    let text = gate.orders(rt.alloc()).ok().expect(rt, "orders");
-    is(rt, text.as_str(), wanted, "the orders");
-    gate.book.reads
+/// What is asked has this answer, and the book is asked for it so often.
+fn polls<B: Book>(
+    rt: &(impl Abort + AllocGlobal),
+    gate: &mut Gate<Counting<B>>,
+    title: &str,
+    part: &str,
+) {
+    let (head, wanted) = part.split_once('\n').expect(rt, part);
+    let (often, asked) = head.split_once(": ").expect(rt, head);
+    let reads = asks(rt, gate, asked, wanted);
+    match often {
+        "nothing" => holds(rt, reads == 0, title),
+        "once" => holds(rt, reads == 1, title),
+        "more" => holds(rt, reads > 1, title),
+        "some" => holds(rt, reads > 0, title),
+        "made" => {
+            holds(rt, reads > 0, title);
+            holds(rt, asks(rt, gate, asked, wanted) == 0, title);
+        }
+        _ => panic!(rt; "not so often: {head}"),
+    }
 }
 
-/// The status is made by reads, and said again without any.
-fn is_shown(rt: &(impl Abort + AllocGlobal), gate: &mut Polled, wanted: &str) {
-    holds(rt, shows(rt, gate, wanted) > 0, "a status is made");
-    holds(rt, shows(rt, gate, wanted) == 0, "a status is kept");
+/// The store fails as a build is asked for.
+fn a_read_fails<B: Book>(
+    rt: &(impl Abort + AllocGlobal),
+    gate: &mut Gate<Counting<B>>,
+    title: &str,
+) {
+    let number = BuildNo::new(1).expect(rt, title);
+    gate.book.refuses_build = true;
+    let found = gate.build(rt.alloc(), number);
+    holds(rt, matches!(found, Err(Refusal::Unavailable)), title);
 }
 
-/// The same for the orders.
-fn are_ordered(rt: &(impl Abort + AllocGlobal), gate: &mut Polled, wanted: &str) {
-    holds(rt, orders(rt, gate, wanted) > 0, "orders are made");
-    holds(rt, orders(rt, gate, wanted) == 0, "orders are kept");
+/// The gate goes on by these parts.
+fn goes_on<B: Book>(
+    rt: &(impl Abort + AllocGlobal),
+    gate: &mut Gate<Counting<B>>,
+    title: &str,
+    parts: &str,
+) {
+    for part in parts.trim_end().split("\n\n") {
+        match part {
+            "a read fails" => a_read_fails(rt, gate, title),
+            "edits fail" => gate.book.refuses = Some(BookFault::Store),
+            _ => polls(rt, gate, title, part),
+        }
+    }
 }
 
-const IDLE: &str = r#"{"code":"E12","error":"idle"}"#;
-
-/// A worker is told by reads that there is no build, and then, under other ids, by the look-up of the id alone.
-fn is_idle(rt: &(impl Abort + AllocGlobal), gate: &mut Polled) {
-    holds(
-        rt,
-        tells(
-            rt,
-            gate,
-            r#"{"id":"0d000000-0000-4000-8000-000000000001","kind":"take","worker":"w1"}"#,
-            IDLE,
-        ) > 1,
-        "ruled",
-    );
-    holds(
-        rt,
-        tells(
-            rt,
-            gate,
-            r#"{"id":"0d000000-0000-4000-8000-000000000002","kind":"take","worker":"w2"}"#,
-            IDLE,
-        ) == 1,
-        "idle",
-    );
-    holds(
-        rt,
-        tells(
-            rt,
-            gate,
-            r#"{"id":"0d000000-0000-4000-8000-000000000001","kind":"take","worker":"w1"}"#,
-            IDLE,
-        ) == 1,
-        "again",
-    );
+fn plays_scene(rt: &(impl Abort + AllocGlobal), title: &str, parts: &str) {
+    let config = read(rt.alloc(), SETTINGS.as_bytes()).expect(rt, "settings");
+    let book = MemBook::new(rt.alloc(), &config).expect(rt, "memory");
+    let mut gate = Gate::new(config, refusing(rt, book, ""));
+    let parts = parts
+        .replace(rt.alloc(), "is idle", IDLE)
+        .expect(rt, "memory");
+    goes_on(rt, &mut gate, title, parts.as_str());
 }
-
-const EMPTY: &str = "queue web window 2 landed 0\nend\n";
 
 #[test]
-fn an_idle_gate_is_asked_for_nothing(rt: HostRuntime) {
-    let mut gate = polled(&rt);
-    is_shown(&rt, &mut gate, EMPTY);
-    are_ordered(&rt, &mut gate, "[]");
-    is_idle(&rt, &mut gate);
-    holds(
-        &rt,
-        shows(&rt, &mut gate, EMPTY) == 0,
-        "refusals leave a status",
-    );
-    holds(
-        &rt,
-        orders(&rt, &mut gate, "[]") == 0,
-        "refusals leave orders",
-    );
-}
-
-const UNKNOWN: &str = r#"{"code":"E5","error":"unknown-change"}"#;
-
-/// A refused delivery and a repeated one leave what was said.
-fn refusals_and_repeats_leave_it(rt: &(impl Abort + AllocGlobal), gate: &mut Polled, status: &str) {
-    let _ = tells(
-        rt,
-        gate,
-        r#"{"id":"0e000000-0000-4000-8000-000000000001","kind":"approved","change":900,"revision":1}"#,
-        UNKNOWN,
-    );
-    let _ = tells(
-        rt,
-        gate,
-        r#"{"id":"0b000000-0000-4000-8000-000000000002","kind":"approved","change":101,"revision":1}"#,
-        r#"{"order":1,"reply":"queued"}"#,
-    );
-    holds(rt, shows(rt, gate, status) == 0, "a status is left");
-    holds(
-        rt,
-        tells(
-            rt,
-            gate,
-            r#"{"id":"0e000000-0000-4000-8000-000000000002","kind":"take","worker":"w1"}"#,
-            IDLE,
-        ) == 1,
-        "idle still",
-    );
-}
-
-const RUNNING: &str =
-    "queue web window 2 landed 0\n     1       101    1      - ok      unit=running\nend\n";
-
-const WAITING: &str =
-    "queue web window 2 landed 0\n     1       101    1      - ok      unit=waiting\nend\n";
-
-/// A change is queued, and its build given.
-fn is_queued_and_built(rt: &(impl Abort + AllocGlobal), gate: &mut Polled) {
-    is_idle(rt, gate);
-    let _ = tells(
-        rt,
-        gate,
-        r#"{"id":"0b000000-0000-4000-8000-000000000001","kind":"revision","change":101,"project":"site","revision":1,"message":""}"#,
-        r#"{"reply":"recorded"}"#,
-    );
-    is_shown(rt, gate, EMPTY);
-    let _ = tells(
-        rt,
-        gate,
-        r#"{"id":"0b000000-0000-4000-8000-000000000002","kind":"approved","change":101,"revision":1}"#,
-        r#"{"order":1,"reply":"queued"}"#,
-    );
-    is_shown(rt, gate, WAITING);
-    let _ = tells(
-        rt,
-        gate,
-        r#"{"id":"0b000000-0000-4000-8000-000000000003","kind":"take","worker":"w1"}"#,
-        r#"{"after":0,"ahead":[],"build":1,"change":101,"job":"unit","queue":"web","reply":"build","revision":1}"#,
-    );
-    is_shown(rt, gate, RUNNING);
-    is_idle(rt, gate);
-}
-
-const ORDERED: &str = r#"[{"change":101,"order":1,"project":"site","queue":"web","revision":1}]"#;
-
-#[test]
-fn an_accepted_delivery_is_shown_at_once(rt: HostRuntime) {
-    let mut gate = polled(&rt);
-    is_shown(&rt, &mut gate, EMPTY);
-    is_queued_and_built(&rt, &mut gate);
-    refusals_and_repeats_leave_it(&rt, &mut gate, RUNNING);
-    let _ = tells(
-        &rt,
-        &mut gate,
-        r#"{"id":"0b000000-0000-4000-8000-000000000004","kind":"result","build":1,"outcome":"lost"}"#,
-        r#"{"reply":"noted"}"#,
-    );
-    is_shown(&rt, &mut gate, WAITING);
-    let _ = tells(
-        &rt,
-        &mut gate,
-        r#"{"id":"0b000000-0000-4000-8000-000000000005","kind":"take","worker":"w1"}"#,
-        r#"{"after":0,"ahead":[],"build":2,"change":101,"job":"unit","queue":"web","reply":"build","revision":1}"#,
-    );
-    are_ordered(&rt, &mut gate, "[]");
-    let _ = tells(
-        &rt,
-        &mut gate,
-        r#"{"id":"0b000000-0000-4000-8000-000000000006","kind":"result","build":2,"outcome":"success"}"#,
-        r#"{"reply":"noted"}"#,
-    );
-    are_ordered(&rt, &mut gate, ORDERED);
-    let _ = tells(
-        &rt,
-        &mut gate,
-        r#"{"id":"0b000000-0000-4000-8000-000000000007","kind":"landed","order":1}"#,
-        r#"{"n":1,"reply":"landed"}"#,
-    );
-    are_ordered(&rt, &mut gate, "[]");
-    is_shown(&rt, &mut gate, "queue web window 3 landed 1\nend\n");
-}
-
-const UNAVAILABLE: &str = r#"{"code":"E15","error":"unavailable"}"#;
-
-/// After a fault of a read or of edits the book is asked anew, so that a gate whose file is shut says so to each poll.
-#[test]
-fn after_a_fault_nothing_is_said_unasked(rt: HostRuntime) {
-    let mut gate = polled(&rt);
-    is_shown(&rt, &mut gate, EMPTY);
-    are_ordered(&rt, &mut gate, "[]");
-    gate.book.fails_at = Some(gate.book.reads.saturating_add(1));
-    let found = gate.build(rt.alloc(), build_no(&rt, 1));
-    gate.book.fails_at = None;
-    holds(
-        &rt,
-        matches!(found, Err(Refusal::Unavailable)),
-        "a read fails",
-    );
-    is_shown(&rt, &mut gate, EMPTY);
-    are_ordered(&rt, &mut gate, "[]");
-    is_idle(&rt, &mut gate);
-    gate.book.refuses = Some(BookFault::Store);
-    let _ = tells(
-        &rt,
-        &mut gate,
-        r#"{"id":"0b000000-0000-4000-8000-000000000001","kind":"revision","change":101,"project":"site","revision":1,"message":""}"#,
-        UNAVAILABLE,
-    );
-    is_shown(&rt, &mut gate, EMPTY);
-    are_ordered(&rt, &mut gate, "[]");
-    is_idle(&rt, &mut gate);
+fn a_gate_that_is_polled_asks_for_nothing(rt: HostRuntime) {
+    let scenes = SCENES.strip_prefix("\n# ").expect(&rt, "a title");
+    for scene in scenes.split("\n# ") {
+        let (title, parts) = scene.split_once("\n\n").expect(&rt, scene);
+        plays_scene(&rt, title, parts);
+    }
 }

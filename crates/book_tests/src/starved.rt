@@ -1,16 +1,15 @@
 //! A book in memory where one allocation is refused: what was asked leaves it as it was, and is done the next time.
 //! Each test passes whichever allocation of its run that is, and where there is none.
 use crate::claims::holds;
-use crate::scene::item;
 use gate_book::{Book, BookFault, MemBook};
 use gate_config::read;
 use gate_live::LiveBook;
 use gate_types::config::Config;
 use gate_types::edits::Edit;
 use gate_types::names::Name;
-use gate_types::numbers::Serial;
+use gate_types::numbers::{ChangeNo, Revision, Serial};
 use gate_types::open_fault::OpenFault;
-use gate_types::records::Plan;
+use gate_types::records::{Item, Plan};
 use std::alloc::Global;
 use std::process::Abort;
 
@@ -171,7 +170,13 @@ fn live(rt: &(impl Abort + AllocGlobal), below: MemBook, config: &Config) -> Liv
 fn put_item(rt: &(impl Abort + AllocGlobal), queue: &str) -> Edit {
     Edit::PutItem {
         queue: name(rt, queue),
-        item: item(rt, 1, 101),
+        item: Item {
+            serial: Serial::new(1).expect(rt, "a serial"),
+            change: ChangeNo::new(101).expect(rt, "a change"),
+            revision: Revision::new(1).expect(rt, "a revision"),
+            ahead: None,
+            failing: false,
+        },
     }
 }
 
