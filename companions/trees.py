@@ -14,6 +14,7 @@ from dataclasses import dataclass, field
 from pathlib import Path
 from typing import Any
 
+from companions.checkout import check_out, forget_earlier
 from companions.conflicts import Conflict, cause_of
 from companions.gate import NoAnswer
 from companions.landings import Branch, Line, author_of, first_name, in_order, lines_of, places_of, text_of
@@ -121,15 +122,13 @@ class Trees:
         """Removes what a worker has left that was killed: nobody else uses its mirrors."""
         for repository in self.repositories.values():
             repository.unlock()
+            forget_earlier(repository)
         self.remove()
 
     def remove(self) -> None:
         """Removes the trees that were made."""
         if self.folder.exists():
             remove_all(self.folder)
-        for repository in self.repositories.values():
-            if (repository.mirror / "worktrees").exists():
-                repository.git("worktree", "prune")
 
     def make(self, build: Build, name: str, wait: Wait, patience: float) -> Made:
         """Makes a build's trees below a folder of this name.
@@ -143,9 +142,7 @@ class Trees:
         self.forget(build)
         trees = {}
         for project, commit in commits.items():
-            place = self.folder / name / project
-            place.parent.mkdir(parents=True, exist_ok=True)
-            self.repositories[project].git("worktree", "add", "--quiet", "--force", "--detach", str(place), commit)
+            check_out(self.repositories[project], self.folder / name / project, commit)
             trees[project] = self.repositories[project].tree(commit)
         return Made(self.folder / name, found.homes[build.changes[-1]][0], commits, trees)
 

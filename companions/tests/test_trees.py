@@ -379,7 +379,6 @@ class Leftovers(TreesCase):
         self.assertFalse(made.folder.exists())
         self.assertEqual([it for it in locks if it.exists()], [])
         self.trees.repositories["lib"].git("pack-refs", "--all")
-        self.assertEqual(len(self.trees.repositories["lib"].git("worktree", "list").splitlines()), 1)
         self.assertEqual(self.make(build(103, 0)).project, "lib")
 
     def test_half_a_mirror_is_made_anew(self) -> None:
