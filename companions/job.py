@@ -16,6 +16,8 @@ from collections.abc import Callable
 from dataclasses import dataclass
 from pathlib import Path
 
+from companions.sandbox import Sandbox, Told, told
+
 # Who sends these is outside the job, as an operator or the kernel that needs memory.
 FROM_OUTSIDE = (signal.SIGHUP, signal.SIGINT, signal.SIGKILL, signal.SIGTERM)
 
@@ -32,7 +34,7 @@ class Command:
     """What is run: by `sh`, in a folder, with this environment, its output added to a log, for so many seconds at most.
 
     `mark` is the entry of the environment, `NAME=VALUE`, by which the job's processes are known. No other process may
-    have it.
+    have it. Without a `sandbox` it does what this process may do.
     """
     text: str
     folder: Path
@@ -40,6 +42,7 @@ class Command:
     mark: str
     log: Path
     limit: float
+    sandbox: Sandbox | None = None
 
 
 @dataclass(frozen=True)
@@ -78,21 +81,57 @@ class Ended:
 def run(command: Command, wanted: Callable[[], bool], look: float, began: Callable[[int], None]) -> Ended:
     """Runs a command to its end. `wanted` is asked every `look` seconds, `began` is told the process group.
 
-    `OSError` where the shell can't be started. A log has no limit of its own: the time limit has to do.
+    `OSError` where the shell or the sandbox can't be started. A log has no limit of its own: the time limit has to do.
     """
     begin = time.monotonic()
-    with command.log.open("ab") as log:
-        process = subprocess.Popen(["sh", "-c", command.text], cwd=command.folder, env=command.environment,
-                                   stdin=subprocess.DEVNULL, stdout=log, stderr=log, start_new_session=True)
-    try:
-        began(process.pid)
-        cause = wait(process.pid, begin + command.limit, wanted, look)
-    finally:
-        # The shell isn't waited for yet, so that its number can't be another group's by now.
-        kill_group(process.pid)
-        kill_marked(command.mark)
-        process.wait()
-    return Ended(cause, process.returncode, time.monotonic() - begin)
+    reading, writing = os.pipe()
+    with os.fdopen(reading, "rb") as status, command.log.open("ab") as log:
+        try:
+            process = subprocess.Popen(words_of(command, writing), cwd=command.folder, env=command.environment,
+                                       stdin=subprocess.DEVNULL, stdout=log, stderr=log, start_new_session=True,
+                                       pass_fds=(writing,) if command.sandbox is not None else ())
+        finally:
+            os.close(writing)
+        try:
+            began(process.pid)
+            cause = wait(process.pid, begin + command.limit, wanted, look)
+        finally:
+            # The shell isn't waited for yet, so that its number can't be another group's by now.
+            kill_group(process.pid)
+            kill_marked(command.mark)
+            process.wait()
+            # Nobody has the other end any more.
+            said = told(status.read()) if command.sandbox is not None else Told(None, process.returncode)
+            if said.process is not None:
+                wait_for_end(said.process)
+    if cause is Cause.ITSELF and said.status is None:
+        raise OSError(f"its sandbox didn't begin, or was killed: {last_line(command.log)}")
+    return Ended(cause, process.returncode if said.status is None else said.status, time.monotonic() - begin)
+
+
+def words_of(command: Command, status: int) -> list[str]:
+    """What is started. A sandbox tells the descriptor `status` how the job ended."""
+    shell = ["sh", "-c", command.text]
+    if command.sandbox is None:
+        return shell
+    return [*command.sandbox.words(status)[:-1], "--chdir", str(command.folder), "--", *shell]
+
+
+def wait_for_end(process: int, patience: float = 10.0) -> None:
+    """Waits for the first process of a sandbox: it ends once all others of it have ended. `OSError` where it stays."""
+    end = time.monotonic() + patience
+    while state_of(process) not in ("Z", "X", None):
+        if time.monotonic() > end:
+            raise OSError(f"the sandbox of a job, process {process}, doesn't end")
+        time.sleep(0.01)
+
+
+def last_line(log: Path) -> str:
+    """The last line of a log, as it may stand in a line."""
+    with log.open("rb") as lines:
+        lines.seek(max(0, log.stat().st_size - 1000))
+        found = lines.read().decode("utf-8", "replace").splitlines()
+    return "".join(it if it.isprintable() else " " for it in found[-1])[:300] if found else "nothing is in its log"
 
 
 def wait(process: int, end: float, wanted: Callable[[], bool], look: float) -> Cause:
@@ -152,8 +191,20 @@ def kill_if_marked(process: int, mark: bytes) -> bool:
 
 def began_at(process: int) -> int | None:
     """When a process began, in the kernel's ticks: together with its number this names it. None where there is none."""
+    words = stat_of(process)
+    return int(words[19]) if words else None
+
+
+def state_of(process: int) -> str | None:
+    """The letter of a process's state, as `Z`. None where there is none."""
+    words = stat_of(process)
+    return words[0] if words else None
+
+
+def stat_of(process: int) -> list[str]:
+    """What the kernel tells of a process, from its state on."""
     try:
         text = Path(f"/proc/{process}/stat").read_text(encoding="utf-8", errors="replace")
     except OSError:
-        return None
-    return int(text.rpartition(")")[2].split()[19])
+        return []
+    return text.rpartition(")")[2].split()

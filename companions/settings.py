@@ -4,6 +4,7 @@ docs/CONNECTING.md ("The settings of the companions") has its members.
 """
 from __future__ import annotations
 
+import os
 import re
 import tomllib
 from dataclasses import dataclass, field
@@ -28,10 +29,16 @@ class Account:
 
 @dataclass(frozen=True)
 class Job:
-    """A job of a project: the command that runs it, and how long it may take, in seconds."""
+    """A job of a project: the command that runs it, and how long it may take, in seconds.
+
+    Its sandbox has the folders `read` and `write` of the machine besides, and the machine's network with `network`.
+    """
     name: str
     command: str
     limit: float
+    read: tuple[Path, ...] = ()
+    write: tuple[Path, ...] = ()
+    network: bool = False
 
 
 @dataclass(frozen=True)
@@ -80,6 +87,7 @@ class Settings:
     """All that the file says. Times are in seconds. `figures` is the folder of the watch's figures.
 
     `has_adapter`: the lander lands only what an adapter has compared. `tries` is how often it tries what is refused.
+    `file` is where they were read, which no job may read. Without `sandbox` jobs run as the worker does.
     """
     url: str
     accounts: dict[str, Account]
@@ -94,6 +102,8 @@ class Settings:
     has_adapter: bool = True
     tries: int = TRIES
     figures: Path | None = None
+    file: Path = Path("/dev/null")
+    sandbox: bool = True
 
     @property
     def blind(self) -> float:
@@ -166,6 +176,14 @@ class Reader:
             raise self.fault(member, "isn't an array of texts")
         return frozenset(value)
 
+    def folders(self, member: str) -> tuple[Path, ...]:
+        """An array of folders by their whole names, in the order of the names."""
+        named = sorted(self.names(member) or ())
+        for it in named:
+            if not it.startswith("/") or os.path.realpath(it) == "/":
+                raise self.fault(member, f"{it} isn't the whole name of a folder below /")
+        return tuple(Path(it) for it in named)
+
     def seconds(self, member: str, default: float | None = None) -> float:
         value = self.get(member, float, default)
         if not 0 < value < float("inf"):
@@ -207,10 +225,24 @@ def read(file: Path) -> Settings:
         pause=gate.seconds("pause", 1.0), look=worker.seconds("look", 10.0), grace=watch.seconds("grace", 300.0),
         stands=watch.seconds("stands", 3600.0), author=author_of(lander),
         adapter=adapter_of(top), has_adapter=lander.get("adapter", bool, True), tries=lander.count("tries", TRIES),
-        figures=Path(watch.text("figures", str(Path(top.text("folder")) / "watch"))))
+        figures=Path(watch.text("figures", str(Path(top.text("folder")) / "watch"))),
+        file=file.resolve(), sandbox=worker.get("sandbox", bool, True))
+    keep_secret(top, settings)
     for it in (top, gate, lander, worker, watch):
         it.end()
     return settings
+
+
+def keep_secret(top: Reader, settings: Settings) -> None:
+    """No job is given a folder that has the settings in it, or what the companions keep, or is one of theirs."""
+    folder = settings.folder.resolve()
+    for project in settings.projects.values():
+        for job in project.jobs.values():
+            for it in (*job.read, *job.write):
+                real = it.resolve()
+                if real in (folder, *folder.parents, *settings.file.parents) or folder in real.parents:
+                    raise top.fault("project", f"{project.name}, job {job.name}: {it} has the settings or the folder of "
+                                               "the companions in it, or is in that folder: no job may have it")
 
 
 def author_of(lander: Reader) -> str:
@@ -283,7 +315,8 @@ def projects_of(top: Reader) -> dict[str, Project]:
 def jobs_of(project: Reader) -> dict[str, Job]:
     jobs: dict[str, Job] = {}
     for it in project.each("job"):
-        job = Job(it.text("name"), it.text("command"), it.seconds("limit", 3600.0))
+        job = Job(it.text("name"), it.text("command"), it.seconds("limit", 3600.0), it.folders("read"),
+                  it.folders("write"), it.get("network", bool, False))
         if job.name in jobs:
             raise it.fault("name", f"{job.name} stands twice")
         it.end()

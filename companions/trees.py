@@ -60,11 +60,19 @@ def revision_name(change: tuple[int, int]) -> str:
 
 @dataclass(frozen=True)
 class Made:
-    """Trees on disk: where, whose change is built, and of each project the commit and its tree's hash."""
+    """Trees on disk: where, whose change is built, and of each project the commit and its tree's hash.
+
+    Beside their folder is the build's own, which has nothing of the changes.
+    """
     folder: Path
     project: str
     commits: dict[str, str]
     trees: dict[str, str]
+
+    @property
+    def own(self) -> Path:
+        """Where a sandbox has its folders."""
+        return self.folder.parent / "own"
 
     @property
     def commit(self) -> str:
@@ -140,11 +148,15 @@ class Trees:
         found = self.gather(build, wait, patience)
         commits = self.merge(build, found)
         self.forget(build)
-        trees = {}
+        folder, trees = self.folder / name / "trees", {}
         for project, commit in commits.items():
-            check_out(self.repositories[project], self.folder / name / project, commit)
+            check_out(self.repositories[project], folder / project, commit)
             trees[project] = self.repositories[project].tree(commit)
-        return Made(self.folder / name, found.homes[build.changes[-1]][0], commits, trees)
+        return Made(folder, found.homes[build.changes[-1]][0], commits, trees)
+
+    def objects(self, made: Made) -> tuple[Path, ...]:
+        """The objects that trees read."""
+        return tuple((self.repositories[it].mirror / "objects").resolve() for it in made.commits)
 
     def merge(self, build: Build, found: Found) -> dict[str, str]:
         """Each project's commit, once the build's changes are merged in their order: their landing commits."""

@@ -20,12 +20,13 @@ import uuid
 from pathlib import Path
 from typing import Any, NoReturn
 
-from companions import job, settings
+from companions import job, sandbox, settings
 from companions.conflicts import Conflict
 from companions.gate import Answer, Delivery, Gate, NoAnswer, expected, say
 from companions.ids import id_of, success_id
 from companions.outbox import Notes
 from companions.repository import GitFault, untested
+from companions.sandbox import ENVIRONMENT, Sandbox
 from companions.settings import Settings, SettingsFault
 from companions.starting import alone
 from companions.trees import Build, Made, Trees, UnknownChange, build_of
@@ -100,6 +101,7 @@ class Worker:
         said = untested()
         if said is not None:
             self.say(said)
+        self.say_of_sandbox()
         while True:
             try:
                 self.begin()
@@ -109,6 +111,17 @@ class Worker:
                 self.say(f"begins anew, since the machine failed: {fault}")
                 self.losses += 1
                 self.rest()
+
+    def say_of_sandbox(self) -> None:
+        """Says what jobs may do here."""
+        if not self.settings.sandbox:
+            self.say("worker.sandbox is false: a job can read all that the worker reads, its password too, and change "
+                     "what later builds are")
+            return
+        inside = [f"{project.name} {it.name}" for project in self.settings.projects.values()
+                  for it in project.jobs.values() if not it.network]
+        if inside:
+            self.say(f"jobs without a network (network = true gives them the machine's): {', '.join(inside)}")
 
     def begin(self) -> None:
         """Ends what an earlier run left, and tells what became of its build: of a job that was cut off nobody knows."""
@@ -235,8 +248,10 @@ class Worker:
             raise UnknownChange(f"project {made.project} has no job {build.job}: add its [[project.job]] to "
                                 "companions.toml")
         tell(log, f"in {made.project}, for {known.limit:g} s at most: {known.command}\n")
+        box = Sandbox(self.settings.folder.resolve(), self.settings.file, made.folder, made.own,
+                      self.trees.objects(made), known.read, known.write, known.network)
         command = job.Command(known.command, made.folder / made.project, self.environment(build, made, take),
-                              f"GATED_TAKE={take}", log, known.limit)
+                              f"GATED_TAKE={take}", log, known.limit, box if self.settings.sandbox else None)
         ended = job.run(command, look.wanted, self.settings.look, self.note_group)
         self.notes.drop("group")
         if ended.cause is job.Cause.UNWANTED:
@@ -249,7 +264,8 @@ class Worker:
 
     def environment(self, build: Build, made: Made, take: str) -> dict[str, str]:
         name, _, folder = self.mark.partition("=")
-        return {**{it: value for it, value in os.environ.items() if not it.startswith("GIT_")}, name: folder,
+        mine = {it: value for it, value in os.environ.items() if not it.startswith("GIT_")}
+        return {**(ENVIRONMENT if self.settings.sandbox else mine), name: folder,
                 "GATED_TAKE": take, "GATED_BUILD": str(build.number), "GATED_QUEUE": build.queue,
                 "GATED_CHANGE": str(build.change), "GATED_REVISION": str(build.revision), "GATED_JOB": build.job,
                 "GATED_PROJECT": made.project, "GATED_TREES": str(made.folder)}
@@ -344,6 +360,10 @@ def main(argv: list[str]) -> int:
         return 2
     try:
         known = settings.read(Path(argv[0]))
+        refused = sandbox.refused() if known.sandbox else None
+        if refused is not None:
+            say(f"worker {argv[1]}", f"stops: {refused}")
+            return 1
         hold = alone(known.folder / "worker" / argv[1])
         if hold is None:
             say(f"worker {argv[1]}", "stops: a worker of this name runs already")

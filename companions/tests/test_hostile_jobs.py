@@ -1,9 +1,19 @@
 """Jobs that are out for the next build, the worker or the machine: the next build isn't changed by any of them."""
 from __future__ import annotations
 
+import os
+import subprocess
 import unittest
+from pathlib import Path
+from unittest import mock
 
+from companions import sandbox, settings, worker
+from companions.settings import SettingsFault
+from companions.tests.boxes import boxed
 from companions.tests.worker_case import WorkerCase
+
+IS_OFF = ("worker w1: worker.sandbox is false: a job can read all that the worker reads, its password too, and change "
+          "what later builds are\n")
 
 
 class Repositories(WorkerCase):
@@ -55,6 +65,159 @@ class Repositories(WorkerCase):
         self.worker.turn()
         log = self.log().partition("\n\n")[2].splitlines()
         self.assertEqual(log[:-1], ["Land change 103: A commit", "A commit", "A commit"])
+
+
+@unittest.skipUnless(boxed(), "the kernel refuses sandboxes, or bubblewrap is missing")
+class Sandboxes(WorkerCase):
+    """Each of these jobs reached what it is out for before jobs had sandboxes."""
+
+    def said(self, command: str, more: str = "") -> list[str]:
+        """What a job says, up to its end, which is a success. Another worker has a folder too."""
+        (self.folder / "state/worker/w2").mkdir(exist_ok=True)
+        self.more = more
+        self.worker = self.start(command)
+        self.worker.turn()
+        self.assertEqual([it["outcome"] for it in self.gate.results], ["success"], self.log())
+        return self.log().partition("\n\n")[2].splitlines()[:-1]
+
+    def test_the_password_and_the_folders_of_the_companions_are_not_there(self) -> None:
+        self.assertEqual(self.said(f"cat {self.folder}/companions.toml; ls {self.folder}/state/worker/w1; "
+                                   f"ls {self.folder}/state/worker {self.folder}/state"),
+                         [f"cat: {self.folder}/companions.toml: No such file or directory", "mirrors", "trees",
+                          f"{self.folder}/state:", "worker", "", f"{self.folder}/state/worker:", "w1"])
+
+    def test_settings_that_are_among_the_machine_s_files_are_hidden(self) -> None:
+        """Where nothing else hides them."""
+        file = Path("/usr/local/lib/gated-test-settings.toml")
+        if not os.access(file.parent, os.W_OK):
+            self.skipTest(f"{file.parent} can't be written")
+        self.addCleanup(file.unlink)
+        file.write_text(self.write_settings(f"cat {file}; wc -c < {file}").read_text())
+        self.worker = worker.Worker(settings.read(file), "w1")
+        self.worker.begin()
+        self.worker.turn()
+        self.assertEqual(self.log().partition("\n\n")[2].splitlines()[0], "0")
+
+    def test_the_environment_is_made_anew(self) -> None:
+        with mock.patch.dict(os.environ, {"SECRET": "of the worker"}):
+            said = self.said("env | sed 's/=.*//' | grep -v '^GATED_' | sort")
+        self.assertEqual([it for it in said if it not in ("PWD", "OLDPWD", "SHLVL", "_")], ["HOME", "LANG", "PATH"])
+
+    def test_the_gate_is_not_reached(self) -> None:
+        port = self.standin.url.rpartition(":")[2]
+        knock = f"python3 -c 'import socket; socket.create_connection((\"127.0.0.1\", {port}), 5)'"
+        self.assertIn("ConnectionRefusedError: [Errno 111] Connection refused", self.said(f"{knock}; true"))
+        self.gate.left = [self.reply(8, 103)]
+        self.gate.results.clear()
+        self.more = "network = true"
+        self.worker = self.start(knock)
+        self.worker.turn()
+        self.assertEqual([it["outcome"] for it in self.gate.results], ["success"])
+
+    def test_nothing_that_a_job_starts_survives_it(self) -> None:
+        """It has neither the job's group nor its mark."""
+        mark = f"left{self.folder}".replace("/", "-")
+        left = f"env -i setsid python3 -c 'import time; time.sleep(1000)' {mark} & env -i setsid -f sleep 0.01"
+        self.said(f"{left}; ps ax | grep -c {mark}")
+        found = [it for it in Path("/proc").glob("[0-9]*/cmdline") if mark.encode() in content(it)]
+        self.assertEqual(found, [])
+
+    def test_no_process_of_the_machine_can_be_killed(self) -> None:
+        other = subprocess.Popen(["sleep", "1000"])
+        self.addCleanup(other.wait)
+        self.addCleanup(other.kill)
+        self.worker = self.start(f"kill -9 {other.pid}; kill -9 {os.getpid()}; exit 3")
+        self.worker.turn()
+        self.assertEqual(self.outcomes(), [(7, "failure")])
+        self.assertIsNone(other.poll())
+
+    def test_what_belongs_to_the_machine_is_only_read(self) -> None:
+        commands = ("touch /usr/here", "touch /etc/here", "touch /dev/here",
+                    "touch $(cat .git/objects/info/alternates)/here", "chmod 0 $(cat .git/objects/info/alternates)",
+                    "mount -o remount,rw /", "umount /tmp")
+        self.said(f"touch {self.folder}/state/here; " + "; ".join(f"if {it}; then exit 1; fi" for it in commands))
+        self.assertFalse((self.folder / "state/here").exists())
+
+    def test_a_job_has_folders_of_its_own(self) -> None:
+        self.assertEqual(self.said("for it in /tmp /var/tmp /run /dev/shm ~; do echo 1 > $it/here; cat $it/here; done; "
+                                   "hostname; ls /home /root"), [*5 * ["1"], "job", "/home:", "", "/root:"])
+        self.gate.left = [self.reply(8, 104)]
+        self.worker = self.start("! ls /tmp/here /var/tmp/here /run/here /dev/shm/here ~/here")
+        self.worker.turn()
+        self.assertEqual([it["outcome"] for it in self.gate.results], ["success", "success"])
+
+    def test_folders_that_the_settings_name_are_given(self) -> None:
+        for name in ("cache", "tools"):
+            (self.folder / name).mkdir()
+            (self.folder / name / "it").write_text(f"{name}\n")
+        cache, tools = self.folder / "cache", self.folder / "tools"
+        said = self.said(f"cat {cache}/it {tools}/it; echo 1 > {cache}/new; ! touch {tools}/new",
+                         f'read = ["{tools}"]\nwrite = ["{cache}"]')
+        self.assertEqual(said[:2], ["cache", "tools"])
+        self.assertEqual(sorted(it.name for it in self.folder.glob("*/new")), ["new"])
+        self.assertEqual((cache / "new").read_text(), "1\n")
+
+    def test_no_folder_with_the_settings_is_given(self) -> None:
+        for name in (self.folder, self.folder / "state", self.folder / "state/worker/w1", "/", "tmp"):
+            self.more = f'write = ["{name}"]'
+            with self.subTest(name), self.assertRaisesRegex(SettingsFault, "no job may have it|isn't the whole name"):
+                self.start()
+
+    def test_a_status_of_the_job_is_a_failure_and_one_of_the_sandbox_a_loss(self) -> None:
+        self.worker = self.start("exit 1")
+        self.worker.turn()
+        self.more = f'read = ["{self.folder}/gone"]'
+        self.worker = self.start()
+        self.gate.left = [self.reply(8, 104)]
+        self.worker.turn()
+        self.assertEqual(self.outcomes(), [(7, "failure"), (8, "lost")])
+        self.assertIn(f"build 8: lost, its sandbox didn't begin, or was killed: bwrap: Can't find source path "
+                      f"{self.folder}/gone: No such file or directory\n", self.errors.getvalue())
+
+    def test_a_job_that_hangs_ends_with_its_sandbox(self) -> None:
+        mark = f"hangs{self.folder}".replace("/", "-")
+        self.worker = self.start(f"setsid python3 -c 'import time; time.sleep(1000)' {mark}", limit=1)
+        self.worker.turn()
+        self.assertEqual(self.outcomes(), [(7, "failure")])
+        self.assertEqual([it for it in Path("/proc").glob("[0-9]*/cmdline") if mark.encode() in content(it)], [])
+
+
+class Starting(WorkerCase):
+    def test_without_bubblewrap_it_does_not_start(self) -> None:
+        with mock.patch.dict(sandbox.ENVIRONMENT, PATH=str(self.folder)):
+            self.assertEqual(worker.main([str(self.file()), "w2"]), 1)
+        self.assertEqual(self.errors.getvalue(), (
+            "worker w2: stops: bubblewrap is missing: install it (apt-get install bubblewrap), or set worker.sandbox to "
+            "false, with which a job can do all that the worker can\n"))
+
+    def test_where_the_kernel_refuses_it_does_not_start(self) -> None:
+        refuses = self.folder / "bwrap"
+        refuses.write_text("#!/bin/sh\necho 'bwrap: No permissions to create new namespace' >&2\nexit 1\n")
+        refuses.chmod(0o755)
+        with mock.patch.dict(sandbox.ENVIRONMENT, PATH=f"{self.folder}:/usr/bin:/bin"):
+            self.assertEqual(worker.main([str(self.file()), "w2"]), 1)
+        self.assertRegex(self.errors.getvalue(), "^worker w2: stops: bubblewrap can't begin a sandbox: bwrap: No "
+                         "permissions to create new namespace: allow user namespaces .user.max_user_namespaces, ")
+
+    def file(self) -> Path:
+        with mock.patch(f"{WorkerCase.__module__}.boxed", lambda: True):
+            return self.write_settings()
+
+    def test_what_jobs_may_do_is_said(self) -> None:
+        self.worker.say_of_sandbox()
+        self.assertEqual(self.errors.getvalue(), "worker w1: jobs without a network (network = true gives them the "
+                                                 "machine's): lib unit\n" if boxed() else IS_OFF)
+        self.errors.truncate(0)
+        self.sandbox = False
+        self.start().say_of_sandbox()
+        self.assertEqual(self.errors.getvalue().strip("\0"), IS_OFF)
+
+
+def content(file: Path) -> bytes:
+    try:
+        return file.read_bytes()
+    except OSError:
+        return b""
 
 
 if __name__ == "__main__":

@@ -157,8 +157,9 @@ class Restart(WorkerCase):
 
 
 class Killed(WorkerCase):
-    """A worker in a process of its own."""
-    command = "sh -c 'echo $$ > $GATED_TREES/../../pid; exec sleep 1000'; true"
+    """A worker in a process of its own, whose jobs have no sandbox, so that they may outlive it."""
+    sandbox = False
+    command = "sh -c 'echo $$ > $GATED_TREES/../../../pid; exec sleep 1000'; true"
 
     def process(self) -> subprocess.Popen[bytes]:
         command = [sys.executable, "-m", "companions.worker", str(self.write_settings()), "w1"]

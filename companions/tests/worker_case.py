@@ -14,6 +14,7 @@ from typing import Any
 from companions import settings
 from companions.ids import success_id
 from companions.outbox import Notes
+from companions.tests.boxes import boxed
 from companions.tests.forge import Origin
 from companions.tests.standin import StandIn
 from companions.worker import Worker
@@ -62,6 +63,9 @@ class PretendGate:
 
 class WorkerCase(unittest.TestCase):
     command = "cat text; test -e own"
+    # Jobs have sandboxes, where the kernel grants them. What stands for a job's other members.
+    sandbox = True
+    more = ""
 
     def setUp(self) -> None:
         temporary = tempfile.TemporaryDirectory()
@@ -92,6 +96,7 @@ class WorkerCase(unittest.TestCase):
             worker = {{ user = "w", password = "p" }}
             [worker]
             look = 0.1
+            sandbox = {str(self.sandbox and boxed()).lower()}
             [[project]]
             name = "lib"
             queue = "core"
@@ -100,6 +105,7 @@ class WorkerCase(unittest.TestCase):
             name = "unit"
             command = '''{command or self.command}'''
             limit = {limit}
+            {self.more}
             """)
         return file
 

@@ -28,9 +28,9 @@ make() {
 # in words. `unit` of app: what it uses is a number of lib.
 make lib numbers/1=one numbers/2=two \
   unit.sh='if [ -e slow ]; then
-  echo "$GATED_TREES" >"$FORGE/slow.new"
-  mv "$FORGE/slow.new" "$FORGE/slow"
-  until [ -e "$FORGE/goes-on" ]; do sleep 0.1; done
+  echo "$GATED_TREES" >"$SIGNS/slow.new"
+  mv "$SIGNS/slow.new" "$SIGNS/slow"
+  until [ -e "$SIGNS/goes-on" ]; do sleep 0.1; done
 fi
 [ "$(ls numbers | sort -n | tail -n 1)" -le 100 ]' \
   docs.sh='[ -z "$(grep -L . numbers/*)" ]'

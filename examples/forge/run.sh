@@ -9,7 +9,7 @@ FORGE_SETTINGS=$(cd "$(dirname "$0")" && pwd)/settings.toml
 # Kills the worker at which the slow job is, and starts it again.
 lose_a_worker() {
   local worker
-  worker=$(cat "$FORGE/slow") && worker=${worker#*/worker/} && worker=${worker%%/*}
+  worker=$(cat "$FORGE/signs/slow") && worker=${worker#*/worker/} && worker=${worker%%/*}
   stop "$worker"
   start_worker "$worker"
 }
@@ -33,9 +33,9 @@ propose site 204 'Add a style' style=plain
 propose site 205 'Add a title' title=Gate
 approve 201 101 102 103 104 105 202 203 204
 
-await test -s "$FORGE/slow"
+await test -s "$FORGE/signs/slow"
 lose_a_worker
-touch "$FORGE/goes-on"
+touch "$FORGE/signs/goes-on"
 await has_landed lib core/1
 stop gate
 start_gate

@@ -9,6 +9,7 @@ if [ ! -x "$GATED" ]; then
   exit 1
 fi
 FORGE=$(mktemp -d)
+mkdir "$FORGE/signs"
 export FORGE FORGE_SCRIPTS FORGE_SETTINGS PYTHONPATH="$FORGE_TOP" PYTHONDONTWRITEBYTECODE=1
 . "$FORGE_SCRIPTS/common.sh"
 declare -A running=()
@@ -73,17 +74,24 @@ start_gate() {
   mv "$FORGE/companions.toml.new" "$FORGE/companions.toml"
 }
 
-# The companions' settings, by those of the gate: each job is the script of its name in its project.
+# The companions' settings, by those of the gate: each job is the script of its name in its project. It has a sandbox,
+# where the kernel grants one, and has a folder for signs besides.
 companions_settings() {
   python3 - "$FORGE_SETTINGS" "$FORGE" "$(cat "$GATE_PORT")" <<'PYTHON'
 import sys, tomllib
+from companions import sandbox
 settings, forge, port = sys.argv[1:]
+refused = sandbox.refused()
+if refused:
+    print(f"jobs run without sandboxes: {refused}", file=sys.stderr)
 print(f'folder = "{forge}/companions"\n[gate]\nurl = "http://127.0.0.1:{port}"\npause = 0.2\n[worker]\nlook = 1.0')
+print(f'sandbox = {str(not refused).lower()}')
 for project in tomllib.load(open(settings, "rb"))["project"]:
     print(f'[[project]]\nname = "{project["name"]}"\nqueue = "{project["queue"]}"\nbranch = "main"')
     print(f'repository = "{forge}/repos/{project["name"]}.git"')
     for job in project["job"]:
-        print(f'[[project.job]]\nname = "{job["name"]}"\ncommand = "sh {job["name"]}.sh"\nlimit = 100.0')
+        print(f'[[project.job]]\nname = "{job["name"]}"\nlimit = 100.0\nwrite = ["{forge}/signs"]')
+        print(f'command = "SIGNS={forge}/signs sh {job["name"]}.sh"')
 PYTHON
 }
 

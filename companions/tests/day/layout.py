@@ -5,6 +5,7 @@ import os
 from dataclasses import dataclass
 from pathlib import Path
 
+from companions.tests.boxes import boxed
 from companions.tests.day.parts import Differs, run
 
 TOP = Path(__file__).resolve().parents[3]
@@ -66,7 +67,7 @@ esac
 JOB = """#!/bin/sh
 trees=
 for tree in "$GATED_TREES"/*/; do
-    index=$(mktemp -u "$DAY/index.XXXXXXXX")
+    index=$(mktemp -u)
     hash=$(cd "$tree" && GIT_INDEX_FILE=$index git add --all . && GIT_INDEX_FILE=$index git write-tree) || exit 2
     rm -f "$index"
     tree=${tree%/}
@@ -149,13 +150,14 @@ def companions_settings(folder: Path, port: int, projects: list[Project], where:
     text = f'folder = "{folder}/companions"\n[gate]\nurl = "https://127.0.0.1:{port}"\npause = {pace()}\n'
     for role, user in USERS.items():
         text += f'[gate.{role}]\nuser = "{user}"\npassword = "{PASSWORD}"\n'
-    text += f'[worker]\nlook = 1.0\n[watch]\ngrace = 3.0\nstands = 20.0\n{more}'
+    text += f'[worker]\nlook = 1.0\nsandbox = {str(boxed()).lower()}\n[watch]\ngrace = 3.0\nstands = 20.0\n{more}'
     for project in projects:
         text += (f'[[project]]\nname = "{project.name}"\nqueue = "{project.queue}"\nbranch = "{project.branch}"\n'
                  f'repository = "{where}{folder}/repos/{project.home}.git"\nforge = "acme/{project.home}"\n'
                  f'evidence = {str(evidence).lower()}\n')
         for job, _ in project.jobs:
-            text += f'[[project.job]]\nname = "{job}"\ncommand = "sh {folder}/job {job}"\nlimit = {12 + 10 * pace()}\n'
+            text += (f'[[project.job]]\nname = "{job}"\ncommand = "DAY={folder} sh {folder}/job {job}"\n'
+                     f'read = ["{folder}/job"]\nwrite = ["{folder}/witness"]\nlimit = {12 + 10 * pace()}\n')
     return text
 
 
