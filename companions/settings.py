@@ -241,8 +241,8 @@ def keep_secret(top: Reader, settings: Settings) -> None:
             for it in (*job.read, *job.write):
                 real = it.resolve()
                 if real in (folder, *folder.parents, *settings.file.parents) or folder in real.parents:
-                    raise top.fault("project", f"{project.name}, job {job.name}: {it} has the settings or the folder of "
-                                               "the companions in it, or is in that folder: no job may have it")
+                    raise top.fault("project", f"{project.name}, job {job.name}: {it} has the settings or the folder "
+                                               "of the companions in it, or is in that folder: no job may have it")
 
 
 def author_of(lander: Reader) -> str:

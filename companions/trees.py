@@ -5,8 +5,6 @@ tested lands. docs/CONNECTING.md ("Trees") has what a build names.
 """
 from __future__ import annotations
 
-import os
-import shutil
 import time
 import urllib.parse
 from collections.abc import Callable, Mapping
@@ -14,6 +12,7 @@ from dataclasses import dataclass, field
 from pathlib import Path
 from typing import Any
 
+from companions.aside import clear, clear_aside
 from companions.checkout import check_out, forget_earlier
 from companions.conflicts import Conflict, cause_of
 from companions.gate import NoAnswer
@@ -114,7 +113,8 @@ class Trees:
     def __init__(self, settings: Settings, folder: Path, notes: Notes, mark: str,
                  project_of: Callable[[int], str | None]) -> None:
         """`project_of` asks the gate for a change's project."""
-        self.settings, self.notes, self.folder, self.project_of = settings, notes, folder / "trees", project_of
+        self.settings, self.notes, self.project_of = settings, notes, project_of
+        self.folder, self.aside = folder / "trees", folder / "aside"
         self.repositories: dict[str, Repository] = {}
         self.projects: dict[int, str] = {}
         name, _, value = mark.partition("=")
@@ -126,17 +126,16 @@ class Trees:
                     raise SettingsFault(f"the tree of project {other.name} would stand in that of {project.name}: give "
                                         f"them queues of their own")
 
-    def begin(self) -> None:
-        """Removes what a worker has left that was killed: nobody else uses its mirrors."""
+    def begin(self) -> list[str]:
+        """Removes what a worker has left that was killed: nobody else uses its mirrors. What stays is to be said."""
         for repository in self.repositories.values():
             repository.unlock()
             forget_earlier(repository)
-        self.remove()
+        return [*clear_aside(self.aside), *self.remove()]
 
-    def remove(self) -> None:
-        """Removes the trees that were made."""
-        if self.folder.exists():
-            remove_all(self.folder)
+    def remove(self) -> list[str]:
+        """Removes the trees that were made. What can't be removed is set aside, which is to be said."""
+        return clear(self.folder, self.aside)
 
     def make(self, build: Build, name: str, wait: Wait, patience: float) -> Made:
         """Makes a build's trees below a folder of this name.
@@ -335,15 +334,3 @@ def base_of(branch: Branch, line: Line) -> str | None:
     if line.landings:
         return line.landings[0].parent
     return branch.first if branch.first == branch.tip else None
-
-
-def remove_all(folder: Path) -> None:
-    """Removes a folder with all that is in it, also where a job took the right to write away."""
-    try:
-        shutil.rmtree(folder)
-    except PermissionError:
-        for place, names, _ in os.walk(folder):
-            for name in names:
-                if not os.path.islink(os.path.join(place, name)):
-                    os.chmod(os.path.join(place, name), 0o700)
-        shutil.rmtree(folder)

@@ -126,7 +126,8 @@ class Worker:
     def begin(self) -> None:
         """Ends what an earlier run left, and tells what became of its build: of a job that was cut off nobody knows."""
         self.stop_leftovers()
-        self.trees.begin()
+        for it in self.trees.begin():
+            self.say(it)
         (self.folder / "logs").mkdir(exist_ok=True)
         held = self.notes.get("held")
         if held is None or "reply" not in held:
@@ -207,8 +208,9 @@ class Worker:
     def job_ended(self) -> None:
         """Frees what a build took. It is no fault of the build if that fails: the next one begins anew."""
         try:
-            self.trees.remove()
-        except (OSError, GitFault) as fault:
+            for it in self.trees.remove():
+                self.say(it)
+        except OSError as fault:
             self.say(f"its trees can't be removed: {fault}")
 
     def build(self, take: str, reply: Reply, build: Build) -> tuple[str | None, str | None]:

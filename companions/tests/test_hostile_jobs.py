@@ -5,9 +5,10 @@ import os
 import subprocess
 import unittest
 from pathlib import Path
+from typing import Any
 from unittest import mock
 
-from companions import sandbox, settings, worker
+from companions import aside, sandbox, settings, worker
 from companions.settings import SettingsFault
 from companions.tests.boxes import boxed
 from companions.tests.worker_case import WorkerCase
@@ -182,13 +183,66 @@ class Sandboxes(WorkerCase):
         self.assertEqual([it for it in Path("/proc").glob("[0-9]*/cmdline") if mark.encode() in content(it)], [])
 
 
+class Leftovers(WorkerCase):
+    """What a build leaves on disk holds up no other one."""
+
+    def test_folders_that_are_very_deep_are_removed(self) -> None:
+        deep = "at=0; while [ $at -lt 1500 ]; do mkdir d && cd d || exit 1; at=$((at + 1)); done"
+        self.worker = self.start(f"if [ $GATED_CHANGE = 103 ]; then {deep}; fi", limit=60.0)
+        self.gate.left.append(self.reply(8, 104))
+        self.worker.turn()
+        self.worker.turn()
+        self.assertEqual(self.outcomes(), [(7, "success"), (8, "success")])
+        self.assertEqual(list((self.folder / "state/worker/w1").glob("trees/*")), [])
+        self.assertFalse((self.folder / "state/worker/w1/aside").exists())
+
+    def test_what_cannot_be_removed_is_set_aside_and_said(self) -> None:
+        self.gate.left.append(self.reply(8, 104))
+        why = "rm: cannot remove 'x': Operation not permitted"
+        with mock.patch.object(aside, "removed", lambda place: why):
+            self.worker.turn()
+            self.worker.turn()
+            self.assertEqual(self.outcomes(), [(7, "success"), (8, "success")])
+            places = sorted((self.folder / "state/worker/w1").resolve().glob("aside/*"))
+            said = {f"worker w1: {it.parents[1]}/trees/{it.name[:-2]} can't be removed, and is set aside as {it}: {why}"
+                    for it in places}
+            self.assertEqual(len(said), 2)
+            self.assertLessEqual(said, set(self.errors.getvalue().splitlines()))
+            self.start()
+            self.assertIn(f"worker w1: 2 folders in {places[0].parent} can't be removed: remove them as root\n",
+                          self.errors.getvalue())
+        self.start()
+        self.assertEqual(list(places[0].parent.iterdir()), [])
+
+    def test_a_job_takes_rights_away_from_a_worker_that_is_not_root(self) -> None:
+        """Trees without any right are removed; what is another user's is set aside."""
+        self.folder.chmod(0o755)
+        place, source = self.folder / "w1", Path(aside.__file__).read_text()
+        for name in ("trees/closed/trees/lib", "trees/roots/trees/lib/etc"):
+            (place / name).mkdir(parents=True)
+            (place / name / "file").touch()
+        clear = f"{source}\nprint(clear(Path('{place}/trees'), Path('{place}/aside')))"
+        user: dict[str, Any] = {"user": 65534, "group": 65534} if os.geteuid() == 0 else {}
+        if user:
+            subprocess.run(["chown", "-R", "65534:65534", str(place)], check=True)
+            subprocess.run(["chown", "-R", "0:0", str(place / "trees/roots/trees/lib/etc")], check=True)
+        for name in ("trees/closed/trees/lib", "trees/closed/trees", "trees/closed", "trees"):
+            (place / name).chmod(0)
+        ran = subprocess.run(["python3", "-c", clear], cwd="/", capture_output=True, text=True, check=False, **user)
+        self.assertEqual(ran.stderr, "")
+        self.assertFalse((place / "trees/closed").exists())
+        if user:
+            self.assertIn("can't be removed, and is set aside as ", ran.stdout)
+            self.assertTrue((place / "aside/roots-1/trees/lib/etc/file").exists())
+
+
 class Starting(WorkerCase):
     def test_without_bubblewrap_it_does_not_start(self) -> None:
         with mock.patch.dict(sandbox.ENVIRONMENT, PATH=str(self.folder)):
             self.assertEqual(worker.main([str(self.file()), "w2"]), 1)
         self.assertEqual(self.errors.getvalue(), (
-            "worker w2: stops: bubblewrap is missing: install it (apt-get install bubblewrap), or set worker.sandbox to "
-            "false, with which a job can do all that the worker can\n"))
+            "worker w2: stops: bubblewrap is missing: install it (apt-get install bubblewrap), or set worker.sandbox to"
+            " false, with which a job can do all that the worker can\n"))
 
     def test_where_the_kernel_refuses_it_does_not_start(self) -> None:
         refuses = self.folder / "bwrap"
