@@ -16,8 +16,12 @@ from collections.abc import Callable
 from dataclasses import dataclass
 from pathlib import Path
 
+from companions.room import Guard, Room
 from companions.sandbox import Sandbox, Told, told
+from companions.settings import LOG_LIMIT
 
+# So much is read at once of what a job says, and so often of what it has left when it has ended.
+CHUNK, LEFT = 65536, 64
 # Who sends these is outside the job, as an operator or the kernel that needs memory.
 FROM_OUTSIDE = (signal.SIGHUP, signal.SIGINT, signal.SIGKILL, signal.SIGTERM)
 
@@ -26,6 +30,7 @@ class Cause(enum.Enum):
     """Why a job ended."""
     ITSELF = "itself"
     LIMIT = "limit"
+    SPACE = "space"
     UNWANTED = "unwanted"
 
 
@@ -34,7 +39,8 @@ class Command:
     """What is run: by `sh`, in a folder, with this environment, its output added to a log, for so many seconds at most.
 
     `mark` is the entry of the environment, `NAME=VALUE`, by which the job's processes are known. No other process may
-    have it. Without a `sandbox` it does what this process may do.
+    have it. Without a `sandbox` it does what this process may do. The log ends at `log_limit` bytes of it, and the job
+    once it has no more `room`.
     """
     text: str
     folder: Path
@@ -43,6 +49,8 @@ class Command:
     log: Path
     limit: float
     sandbox: Sandbox | None = None
+    log_limit: int = LOG_LIMIT
+    room: Room | None = None
 
 
 @dataclass(frozen=True)
@@ -59,7 +67,7 @@ class Ended:
         A job that hangs is a failure, since nobody can tell it from a change that makes it hang. So are 126 and 127: a
         command that isn't there may have been taken away by the change.
         """
-        if self.cause is Cause.LIMIT:
+        if self.cause in (Cause.LIMIT, Cause.SPACE):
             return "failure"
         if self.cause is Cause.UNWANTED or self.signal in FROM_OUTSIDE:
             return "lost"
@@ -73,6 +81,8 @@ class Ended:
     def __str__(self) -> str:
         if self.cause is Cause.LIMIT:
             return "killed at its time limit"
+        if self.cause is Cause.SPACE:
+            return "killed, since the disk was nearly full and it had written more than worker.space"
         if self.cause is Cause.UNWANTED:
             return "killed, since the gate doesn't want the build any more"
         return f"ended by signal {-self.status}" if self.status < 0 else f"exit status {self.status}"
@@ -81,20 +91,23 @@ class Ended:
 def run(command: Command, wanted: Callable[[], bool], look: float, began: Callable[[int], None]) -> Ended:
     """Runs a command to its end. `wanted` is asked every `look` seconds, `began` is told the process group.
 
-    `OSError` where the shell or the sandbox can't be started. A log has no limit of its own: the time limit has to do.
+    `OSError` where the shell or the sandbox can't be started, or where the disk is nearly full by no fault of the job.
     """
     begin = time.monotonic()
     reading, writing = os.pipe()
-    with os.fdopen(reading, "rb") as status, command.log.open("ab") as log:
+    with os.fdopen(reading, "rb") as status, Output(command.log, command.log_limit) as output:
         try:
             process = subprocess.Popen(words_of(command, writing), cwd=command.folder, env=command.environment,
-                                       stdin=subprocess.DEVNULL, stdout=log, stderr=log, start_new_session=True,
+                                       stdin=subprocess.DEVNULL, stdout=output.writing, stderr=output.writing,
+                                       start_new_session=True,
                                        pass_fds=(writing,) if command.sandbox is not None else ())
         finally:
             os.close(writing)
+            output.begin()
         try:
-            began(process.pid)
-            cause = wait(process.pid, begin + command.limit, wanted, look)
+            with Guard(command.room, lambda: kill_group(process.pid)) as guard:
+                began(process.pid)
+                cause = wait(process.pid, begin + command.limit, wanted, look, output)
         finally:
             # The shell isn't waited for yet, so that its number can't be another group's by now.
             kill_group(process.pid)
@@ -104,9 +117,62 @@ def run(command: Command, wanted: Callable[[], bool], look: float, began: Callab
             said = told(status.read()) if command.sandbox is not None else Told(None, process.returncode)
             if said.process is not None:
                 wait_for_end(said.process)
+        output.end()
+    if guard.was_low and command.room is not None:
+        if command.room.used() <= command.room.space:
+            raise OSError(f"less than worker.free is left on the disk of {command.room.folder}")
+        cause = Cause.SPACE
     if cause is Cause.ITSELF and said.status is None:
         raise OSError(f"its sandbox didn't begin, or was killed: {last_line(command.log)}")
     return Ended(cause, process.returncode if said.status is None else said.status, time.monotonic() - begin)
+
+
+class Output:
+    """What a job says, which is added to its log up to a limit. The rest is read too, and thrown away."""
+
+    def __init__(self, log: Path, limit: int) -> None:
+        self.limit, self.left = limit, limit
+        self.log = log.open("ab")
+        self.reading, self.writing = os.pipe()
+        os.set_blocking(self.reading, False)
+        self.is_open = True
+
+    def begin(self) -> None:
+        """Leaves the other end to the job."""
+        os.close(self.writing)
+        self.writing = -1
+
+    def copy(self) -> bool:
+        """Takes what there is. False where there is nothing at the moment, or nobody who could say anything."""
+        try:
+            said = os.read(self.reading, CHUNK)
+        except BlockingIOError:
+            return False
+        if not said:
+            self.is_open = False
+            return False
+        was, kept = self.left, said[:self.left]
+        self.left -= len(kept)
+        self.log.write(kept)
+        if was and not self.left:
+            self.log.write(f"\nthe log ends here, at log_limit ({self.limit} bytes)\n".encode())
+        self.log.flush()
+        return True
+
+    def end(self) -> None:
+        """Takes what the job has left, though somebody may still speak."""
+        for _ in range(LEFT):
+            if not self.copy():
+                return
+
+    def __enter__(self) -> Output:
+        return self
+
+    def __exit__(self, *_: object) -> None:
+        os.close(self.reading)
+        if self.writing >= 0:
+            os.close(self.writing)
+        self.log.close()
 
 
 def words_of(command: Command, status: int) -> list[str]:
@@ -134,19 +200,27 @@ def last_line(log: Path) -> str:
     return "".join(it if it.isprintable() else " " for it in found[-1])[:300] if found else "nothing is in its log"
 
 
-def wait(process: int, end: float, wanted: Callable[[], bool], look: float) -> Cause:
-    """Waits for a process's end without taking its status, for the time limit, or for its build to be unwanted."""
+def wait(process: int, end: float, wanted: Callable[[], bool], look: float, output: Output) -> Cause:
+    """Waits for a process's end without taking its status, for the time limit, or for its build to be unwanted.
+
+    What it says goes to its log meanwhile.
+    """
     handle = os.pidfd_open(process)
     try:
         due = time.monotonic() + look
-        while not select.select([handle], [], [], max(0.0, min(due, end) - time.monotonic()))[0]:
+        while True:
+            heard = [handle, *([output.reading] if output.is_open else [])]
+            ready = select.select(heard, [], [], max(0.0, min(due, end) - time.monotonic()))[0]
+            if output.reading in ready:
+                output.copy()
+            if handle in ready:
+                return Cause.ITSELF
             if time.monotonic() >= end:
                 return Cause.LIMIT
             if time.monotonic() >= due:
                 if not wanted():
                     return Cause.UNWANTED
                 due = time.monotonic() + look
-        return Cause.ITSELF
     finally:
         os.close(handle)
 

@@ -14,6 +14,8 @@ from typing import Any
 
 # How old a comparison of the adapter may be, by which something lands, and how often what the forge refuses is tried.
 BLIND, TRIES = 900.0, 5
+# The bytes that jobs leave free on a worker's disk, those that one may write, and those of its log.
+FREE, SPACE, LOG_LIMIT = 1024 ** 3, 20 * 1024 ** 3, 64 * 1024 ** 2
 
 
 class SettingsFault(Exception):
@@ -31,7 +33,8 @@ class Account:
 class Job:
     """A job of a project: the command that runs it, and how long it may take, in seconds.
 
-    Its sandbox has the folders `read` and `write` of the machine besides, and the machine's network with `network`.
+    Its sandbox has the folders `read` and `write` of the machine besides, and the machine's network with `network`. Its
+    log has `log_limit` bytes.
     """
     name: str
     command: str
@@ -39,6 +42,7 @@ class Job:
     read: tuple[Path, ...] = ()
     write: tuple[Path, ...] = ()
     network: bool = False
+    log_limit: int = LOG_LIMIT
 
 
 @dataclass(frozen=True)
@@ -87,7 +91,8 @@ class Settings:
     """All that the file says. Times are in seconds. `figures` is the folder of the watch's figures.
 
     `has_adapter`: the lander lands only what an adapter has compared. `tries` is how often it tries what is refused.
-    `file` is where they were read, which no job may read. Without `sandbox` jobs run as the worker does.
+    `file` is where they were read, which no job may read. Without `sandbox` jobs run as the worker does. A job is killed
+    once less than `free` bytes are left, and is at fault where it has written more than `space`.
     """
     url: str
     accounts: dict[str, Account]
@@ -104,6 +109,8 @@ class Settings:
     figures: Path | None = None
     file: Path = Path("/dev/null")
     sandbox: bool = True
+    free: int = FREE
+    space: int = SPACE
 
     @property
     def blind(self) -> float:
@@ -226,7 +233,8 @@ def read(file: Path) -> Settings:
         stands=watch.seconds("stands", 3600.0), author=author_of(lander),
         adapter=adapter_of(top), has_adapter=lander.get("adapter", bool, True), tries=lander.count("tries", TRIES),
         figures=Path(watch.text("figures", str(Path(top.text("folder")) / "watch"))),
-        file=file.resolve(), sandbox=worker.get("sandbox", bool, True))
+        file=file.resolve(), sandbox=worker.get("sandbox", bool, True),
+        free=worker.count("free", FREE), space=worker.count("space", SPACE))
     keep_secret(top, settings)
     for it in (top, gate, lander, worker, watch):
         it.end()
@@ -316,7 +324,8 @@ def jobs_of(project: Reader) -> dict[str, Job]:
     jobs: dict[str, Job] = {}
     for it in project.each("job"):
         job = Job(it.text("name"), it.text("command"), it.seconds("limit", 3600.0), it.folders("read"),
-                  it.folders("write"), it.get("network", bool, False))
+                  it.folders("write"), it.get("network", bool, False),
+                  it.count("log_limit", LOG_LIMIT))
         if job.name in jobs:
             raise it.fault("name", f"{job.name} stands twice")
         it.end()

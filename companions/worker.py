@@ -26,6 +26,7 @@ from companions.gate import Answer, Delivery, Gate, NoAnswer, expected, say
 from companions.ids import id_of, success_id
 from companions.outbox import Notes
 from companions.repository import GitFault, untested
+from companions.room import Room, shared
 from companions.sandbox import ENVIRONMENT, Sandbox
 from companions.settings import Settings, SettingsFault
 from companions.starting import alone
@@ -114,6 +115,9 @@ class Worker:
 
     def say_of_sandbox(self) -> None:
         """Says what jobs may do here."""
+        said = shared(self.folder)
+        if said is not None:
+            self.say(said)
         if not self.settings.sandbox:
             self.say("worker.sandbox is false: a job can read all that the worker reads, its password too, and change "
                      "what later builds are")
@@ -253,7 +257,8 @@ class Worker:
         box = Sandbox(self.settings.folder.resolve(), self.settings.file, made.folder, made.own,
                       self.trees.objects(made), known.read, known.write, known.network)
         command = job.Command(known.command, made.folder / made.project, self.environment(build, made, take),
-                              f"GATED_TAKE={take}", log, known.limit, box if self.settings.sandbox else None)
+                              f"GATED_TAKE={take}", log, known.limit, box if self.settings.sandbox else None,
+                              known.log_limit, Room(made.folder.parent, self.settings.free, self.settings.space))
         ended = job.run(command, look.wanted, self.settings.look, self.note_group)
         self.notes.drop("group")
         if ended.cause is job.Cause.UNWANTED:

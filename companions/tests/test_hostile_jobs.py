@@ -8,7 +8,7 @@ from pathlib import Path
 from typing import Any
 from unittest import mock
 
-from companions import aside, sandbox, settings, worker
+from companions import aside, room, sandbox, settings, worker
 from companions.settings import SettingsFault
 from companions.tests.boxes import boxed
 from companions.tests.worker_case import WorkerCase
@@ -258,6 +258,7 @@ class Starting(WorkerCase):
             return self.write_settings()
 
     def test_what_jobs_may_do_is_said(self) -> None:
+        self.enterContext(mock.patch.object(worker, "shared", lambda folder: None))
         self.worker.say_of_sandbox()
         self.assertEqual(self.errors.getvalue(), "worker w1: jobs without a network (network = true gives them the "
                                                  "machine's): lib unit\n" if boxed() else IS_OFF)
@@ -265,6 +266,56 @@ class Starting(WorkerCase):
         self.sandbox = False
         self.start().say_of_sandbox()
         self.assertEqual(self.errors.getvalue().strip("\0"), IS_OFF)
+
+
+class Limits(WorkerCase):
+    def test_a_log_ends_at_its_limit_and_the_job_goes_on(self) -> None:
+        """Before, a log grew for as long as its job ran."""
+        self.more = "log_limit = 100000"
+        self.worker = self.start("timeout 2 yes; echo end; cat text")
+        self.gate.left.append(self.reply(8, 104))
+        self.worker.turn()
+        self.worker.turn()
+        self.assertEqual(self.outcomes(), [(7, "success"), (8, "success")])
+        log = self.log()
+        self.assertLess(len(log), 101000)
+        self.assertRegex(log, "(?s)\ny\n.*\n\nthe log ends here, at log_limit .100000 bytes.\nended: success")
+
+    def disk(self) -> None:
+        """A disk of 64 MiB for the companions."""
+        state = self.folder / "state"
+        mounted = subprocess.run(["mount", "-t", "tmpfs", "-o", "size=64m", "none", str(state)], capture_output=True,
+                                 check=False)
+        if mounted.returncode != 0:
+            self.skipTest(f"no disk can be mounted: {mounted.stderr!r}")
+        self.addCleanup(subprocess.run, ["umount", "--lazy", str(state)], check=True)
+
+    def test_a_job_that_fills_the_disk_is_a_failure(self) -> None:
+        """It closes what it has written, and doesn't end by itself."""
+        self.disk()
+        self.room = "free = 33554432\nspace = 8388608"
+        fills = "mkdir closed; head -c 50M /dev/zero > closed/big; chmod 0 closed; sleep 1000"
+        self.worker = self.start(f"if [ $GATED_CHANGE = 103 ]; then {fills}; fi", limit=60.0)
+        self.gate.left.append(self.reply(8, 104))
+        self.worker.turn()
+        self.worker.turn()
+        self.assertEqual(self.outcomes(), [(7, "failure"), (8, "success")])
+        self.assertIn("build 7: failure, killed, since the disk was nearly full and it had written more than "
+                      "worker.space\n", self.errors.getvalue())
+
+    def test_a_disk_that_others_have_filled_is_the_machine_s_fault(self) -> None:
+        self.disk()
+        self.room = "free = 33554432\nspace = 8388608"
+        self.worker = self.start("sleep 1000", limit=60.0)
+        (self.folder / "state/other").write_bytes(bytes(40 * 1024 * 1024))
+        self.worker.turn()
+        self.assertEqual(self.outcomes(), [(7, "lost")])
+        self.assertRegex(self.errors.getvalue(), "build 7: lost, less than worker.free is left on the disk of .*/trees/")
+
+    def test_a_folder_on_the_machine_s_disk_is_told(self) -> None:
+        self.assertEqual(room.shared(Path("/")), "/ is on the disk of /, which jobs can fill down to worker.free: give "
+                                                 "it a file system of its own")
+        self.assertIsNone(room.shared(Path("/proc")))
 
 
 def content(file: Path) -> bytes:

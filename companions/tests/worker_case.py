@@ -63,9 +63,9 @@ class PretendGate:
 
 class WorkerCase(unittest.TestCase):
     command = "cat text; test -e own"
-    # Jobs have sandboxes, where the kernel grants them. What stands for a job's other members.
+    # Jobs have sandboxes, where the kernel grants them. Then the other members of a job, and of `worker`.
     sandbox = True
-    more = ""
+    more = room = ""
 
     def setUp(self) -> None:
         temporary = tempfile.TemporaryDirectory()
@@ -97,6 +97,7 @@ class WorkerCase(unittest.TestCase):
             [worker]
             look = 0.1
             sandbox = {str(self.sandbox and boxed()).lower()}
+            {self.room}
             [[project]]
             name = "lib"
             queue = "core"
