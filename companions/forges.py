@@ -65,6 +65,9 @@ class Forge(Protocol):
     def request(self, place: Place) -> Request | None:
         """A request as it is now; none where there is none."""
 
+    def outline(self, place: Place) -> Request | None:
+        """A request as it is now, but without its votes: by one call."""
+
     def open_requests(self, repository: str) -> Iterator[int]:
         """The numbers of a repository's open requests."""
 

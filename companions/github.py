@@ -8,6 +8,7 @@ from __future__ import annotations
 import itertools
 import urllib.parse
 from collections.abc import Iterator, Mapping
+from dataclasses import replace
 from typing import Any
 
 from companions.forges import (APPROVES, Api, Opinion, Place, approves, as_hook, check_signature, expected, hash_of,
@@ -52,15 +53,21 @@ class GitHub:
         return self.api.pages(path, self.page_size, self.has_links)
 
     def request(self, place: Place) -> Request | None:
+        so = self.outline(place)
+        if so is None:
+            return None
+        with expected(self.path(place)):
+            # At one and the same second a review counts as the later one: it may be against.
+            return replace(so, votes=votes_of([*self.comments(place), *self.reviews(place)]))
+
+    def outline(self, place: Place) -> Request | None:
         said = self.api.find("GET", self.path(place))
         if said is None:
             return None
         with expected(self.path(place)):
             state = State.MERGED if said["merged"] else State(said["state"])
-            # At one and the same second a review counts as the later one: it may be against.
-            votes = votes_of([*self.comments(place), *self.reviews(place)])
             return Request(place.repository, place.number, state, hash_of(said["head"]["sha"]), said["base"]["ref"],
-                           said["title"] or "", said.get("body") or "", votes, bool(said.get("draft")))
+                           said["title"] or "", said.get("body") or "", is_draft=bool(said.get("draft")))
 
     def reviews(self, place: Place) -> Iterator[Opinion]:
         for it in self.rows(self.path(place) + "/reviews"):

@@ -8,6 +8,7 @@ from __future__ import annotations
 import itertools
 import urllib.parse
 from collections.abc import Iterator, Mapping
+from dataclasses import replace
 from datetime import datetime
 from typing import Any
 
@@ -55,13 +56,18 @@ class GitLab:
         return self.api.pages(path, "per_page", True)
 
     def request(self, place: Place) -> Request | None:
+        so = self.outline(place)
+        with expected(self.path(place)):
+            return so and replace(so, votes=votes_of(self.opinions(place)))
+
+    def outline(self, place: Place) -> Request | None:
         said = self.api.find("GET", self.path(place))
         if said is None:
             return None
         with expected(self.path(place)):
             return Request(place.repository, place.number, STATES[said["state"]], hash_of(said["sha"]),
                            said["target_branch"], said["title"] or "", said.get("description") or "",
-                           votes_of(self.opinions(place)), bool(said.get("draft")))
+                           is_draft=bool(said.get("draft")))
 
     def opinions(self, place: Place) -> Iterator[Opinion]:
         """Approvals by their notes, while GitLab still counts them, comments, and what takes approvals back."""

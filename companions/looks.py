@@ -209,8 +209,7 @@ class Looks:
         """An approval that names no commit is of what the forge shows before it and behind it."""
         if any(it.approves and it.commit is None and seen.get(it.object, NO_REVISION) != NO_REVISION
                for it in so.votes):
-            again = self.forge.request(Place(so.repository, so.number))
-            if again is None or replace(again, votes=()) != replace(so, votes=()):
+            if self.forge.outline(Place(so.repository, so.number)) != replace(so, votes=()):
                 raise Again
 
     def is_ahead(self, so: Request, project: Project) -> bool:
@@ -258,12 +257,7 @@ class Looks:
         return frozenset(project.jobs) if project is not None and project.jobs else None
 
     def needs(self, so: Request) -> Needs:
-        return needs_of(so, self.adapter.web, self.asked, self.change_of)
-
-    def asked(self, place: Place) -> Request | None:
-        """A request that a text names; none in a repository that isn't gated, which the token needn't see."""
-        repository = self.names.get(place.repository.casefold())
-        return self.forge.request(Place(repository, place.number)) if repository else None
+        return needs_of(so, self.adapter.web, self.names, self.forge.outline, self.change_of)
 
     def change_of(self, so: Request) -> tuple[int, bool] | None:
         if (so.repository, so.target) not in self.projects:

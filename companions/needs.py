@@ -8,7 +8,7 @@ ADDRESS is the forge's own address of a request, `owner/name#12` or `owner/name!
 from __future__ import annotations
 
 import re
-from collections.abc import Callable
+from collections.abc import Callable, Mapping
 from dataclasses import dataclass
 
 from companions.forges import Place
@@ -20,8 +20,12 @@ SHORT = re.compile(rf"({REPOSITORY})?[#!]([1-9][0-9]{{0,8}})", re.ASCII)
 # Behind the number of an address may stand a page of the request, as /files, a query or a place on the page.
 LONG = re.compile(rf"/({REPOSITORY}?)/(?:pulls?|-/merge_requests)/([1-9][0-9]{{0,8}})(?:[/?#]\S*)?", re.ASCII)
 
-# The gate refuses a message that names more changes than 32 (E13), so it is enough that it sees the next one.
+# The gate refuses a message that names more changes than 32 (E13), so it is enough that it sees the next one. The forge
+# is asked for no more requests either: anybody's text would use up what it answers in an hour.
 MOST = 33
+
+# So many lines about what is named in vain are kept: as many as people are shown, with the one that counts the others.
+REMARKS = 9
 
 
 @dataclass(frozen=True)
@@ -52,32 +56,51 @@ def place_of(said: str, repository: str, web: str) -> Place | None:
     return Place(match[1] or repository, int(match[2])) if match else None
 
 
-def needs_of(so: Request, web: str, ask: Callable[[Place], Request | None],
+def needs_of(so: Request, web: str, names: Mapping[str, str], ask: Callable[[Place], Request | None],
              change_of: Callable[[Request], tuple[int, bool] | None]) -> Needs:
     """The needs of a request.
 
-    `ask` asks the forge for a request. `change_of` gives the number of its change, and whether that can land for the
-    gate, or has; none where its branch isn't gated. A request that was merged without the gate, or past it, stands in
-    the branch and never lands for the gate: it is left out.
+    `names` has the gated repositories' names, each by itself in small letters: the token needn't see others. `ask` asks
+    the forge for a request, which is done once for each. `change_of` gives the number of its change, and whether that
+    can land for the gate, or has; none where its branch isn't gated. A request that was merged without the gate, or
+    past it, stands in the branch and never lands for the gate: it is left out.
     """
     changes: dict[int, None] = {}
     remarks: dict[str, None] = {}
-    for said, place in named(so.text, so.repository, web):
-        found = ask(place) if place and place != Place(so.repository, so.number) else None
+    asked: dict[Place, Request | None] = {Place(so.repository, so.number): None}
+    more = 0
+    for said, named_place in named(so.text, so.repository, web):
+        place = in_letters(named_place, names)
+        if place is not None and place not in asked and len(asked) <= MOST:
+            asked[place] = ask(place) if place.repository.casefold() in names else None
+        found = asked.get(place) if place is not None else None
         change = change_of(found) if found else None
-        if change is None or found is None:
-            remarks[f"Depends-On: {clean(said)}: {trouble(so, place, found)}"] = None
-        elif change[1] or found.state is not State.MERGED:
-            changes[change[0]] = None
-    return Needs(tuple(changes)[:MOST], tuple(remarks))
+        if change is not None and found is not None:
+            if change[1] or found.state is not State.MERGED:
+                changes[change[0]] = None
+            continue
+        remark = f"Depends-On: {clean(said)}: {trouble(so, place, found, place in asked)}"
+        if len(remarks) < REMARKS:
+            remarks[remark] = None
+        else:
+            more += remark not in remarks
+    counted = [f"and {more} more line{'s' if more > 1 else ''}"] if more else []
+    return Needs(tuple(changes), (*remarks, *counted))
 
 
-def trouble(so: Request, place: Place | None, found: Request | None) -> str:
+def in_letters(place: Place | None, names: Mapping[str, str]) -> Place | None:
+    """A place with its repository's name in the letters that the settings have: forges don't tell letters' case."""
+    return place and Place(names.get(place.repository.casefold(), place.repository), place.number)
+
+
+def trouble(so: Request, place: Place | None, found: Request | None, is_asked: bool) -> str:
     """Why a line names no change."""
     if place is None:
         return "names no request of this forge"
     if place == Place(so.repository, so.number):
         return "names this request itself"
+    if not is_asked:
+        return f"isn't looked up, since {MOST} others stand before it"
     if found is None:
         return "there is no such request"
     return f"its branch, {clean(found.target)}, isn't gated"

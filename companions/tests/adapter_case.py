@@ -178,6 +178,10 @@ class Forge(PretendForge):
             raise ForgeFault(f"GET {place.number}: 500")
         return self.requests.get(place)
 
+    def outline(self, place: Place) -> Request | None:
+        so = self.request(place)
+        return so and replace(so, votes=())
+
     def open_requests(self, repository: str) -> Iterator[int]:
         yield from (it.number for it in list(self.requests.values())
                     if it.repository == repository and it.state is State.OPEN)

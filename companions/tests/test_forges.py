@@ -3,6 +3,7 @@ from __future__ import annotations
 
 import time
 import unittest
+from dataclasses import replace
 from datetime import timedelta
 from email.message import Message
 
@@ -117,6 +118,14 @@ class EachForm:
         self.forge.server.asked.clear()
         self.assertEqual(len(self.votes()), 2)
         self.assertLessEqual(len(self.forge.server.asked), 5)
+
+    def test_an_outline_is_one_call(self) -> None:
+        self.model.approve(self.place, "ann")
+        so = self.asked()
+        self.forge.server.asked.clear()
+        self.assertEqual(self.client.outline(self.place), replace(so, votes=()))
+        self.assertIsNone(self.client.outline(Place(LIB, 2)))
+        self.assertEqual(len(self.forge.server.asked), 2)
 
     def test_a_hidden_list_isnt_an_empty_one(self) -> None:
         self.fails(404, lambda: list(self.client.open_requests("acme/other")))

@@ -58,15 +58,18 @@ class Found(unittest.TestCase):
     def setUp(self) -> None:
         self.requests = {number: replace(SO, number=number) for number in range(1, 50)}
         self.stands = set(range(10, 500, 10))
+        self.asked: list[Place] = []
 
     def ask(self, place: Place) -> Request | None:
-        return self.requests.get(place.number) if place.repository == "acme/lib" else None
+        self.asked.append(place)
+        return self.requests.get(place.number)
 
     def change_of(self, so: Request) -> tuple[int, bool] | None:
         return None if so.target == "topic" else (so.number * 10, so.number * 10 in self.stands)
 
     def needs(self, *lines: str):
-        return needs_of(replace(SO, text="\n".join(f"Depends-On: {it}" for it in lines)), WEB, self.ask, self.change_of)
+        text = "\n".join(f"Depends-On: {it}" for it in lines)
+        return needs_of(replace(SO, text=text), WEB, {"acme/lib": "acme/lib"}, self.ask, self.change_of)
 
     def test_needs_are_numbers_in_order_each_once(self) -> None:
         found = self.needs("#3", "acme/lib#1", "#3", f"{WEB}/acme/lib/pull/1")
@@ -88,8 +91,7 @@ class Found(unittest.TestCase):
         self.requests[3] = replace(SO, number=3, state=State.MERGED)
         self.assertEqual(self.needs("#3", "#1").changes, (30, 10))
         self.stands.discard(30)
-        self.assertEqual(self.needs("#3", "#1"), needs_of(replace(SO, text="Depends-On: #1"), WEB, self.ask,
-                                                          self.change_of))
+        self.assertEqual(self.needs("#3", "#1"), self.needs("#1"))
 
     def test_what_is_open_or_closed_stays_needed(self) -> None:
         self.stands.clear()
@@ -98,6 +100,25 @@ class Found(unittest.TestCase):
 
     def test_so_many_needs_are_given_that_the_gate_refuses_them(self) -> None:
         self.assertEqual(len(self.needs(*(f"#{it}" for it in range(13, 50))).changes), 33)
+
+    def test_a_request_is_asked_for_once_however_its_name_is_written(self) -> None:
+        found = self.needs(*["#3", "acme/lib#3", "Acme/LIB!3", f"{WEB}/acme/lib/pull/3/files"] * 1000, "ACME/lib#12")
+        self.assertEqual((found.changes, found.remarks), ((30,), ("Depends-On: ACME/lib#12: names this request itself",)))
+        self.assertEqual(self.asked, [Place("acme/lib", 3)])
+
+    def test_a_long_text_has_33_requests_asked_for_and_ten_lines_told(self) -> None:
+        found = self.needs(*(f"#{it}" for it in range(50, 4000)), "#3")
+        self.assertEqual((found.changes, len(self.asked)), ((), 33))
+        self.assertEqual(found.remarks[8:], ("Depends-On: #58: there is no such request", "and 3942 more lines"))
+        self.asked.clear()
+        found = self.needs(*(f"#{it}" for it in range(13, 47)))
+        self.assertEqual((len(found.changes), len(self.asked)), (33, 33))
+        self.assertEqual(found.remarks, ("Depends-On: #46: isn't looked up, since 33 others stand before it",))
+
+    def test_nothing_is_asked_of_repositories_that_are_not_gated(self) -> None:
+        found = self.needs(*(f"acme/app#{it}" for it in range(1, 4)))
+        self.assertEqual((found.changes, self.asked), ((), []))
+        self.assertEqual(found.remarks[0], "Depends-On: acme/app#1: there is no such request")
 
 
 class Messages(unittest.TestCase):

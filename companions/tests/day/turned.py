@@ -93,6 +93,10 @@ class Believing:
         so = self.forge.request(place)
         return replace(so, head=self.heads.get(place, so.head)) if so else None
 
+    def outline(self, place: Place) -> Request | None:
+        so = self.forge.outline(place)
+        return replace(so, head=self.heads.get(place, so.head)) if so else None
+
 
 class HoldingOutbox(Outbox):
     """Has one lane for all changes."""
