@@ -38,7 +38,7 @@ class PretendForge:
     def set_status(self, repository: str, commit: str, state: str, text: str) -> None:
         self.before(None)
         self.statuses[commit] = state, text
-        self.written.append(f"{repository} {commit.lstrip('0')}: {state}: {text}")
+        self.written.append(f"{repository} {commit.lstrip('0') if commit.isdigit() else commit}: {state}: {text}")
         self.after()
 
     def comment(self, place: Place, comment: int | None, text: str) -> int:
