@@ -29,6 +29,7 @@ from companions.outbox import Kept, Notes, Outbox
 from companions.people import Manner, People
 from companions.people_others import KnownByOthers
 from companions.repository import Declined, GitFault
+from companions.rests import Rests
 from companions.settings import Settings
 from companions.starting import start
 from companions.subjects import Subjects
@@ -38,7 +39,7 @@ FORMS: dict[str, Callable[[str, str, str], Forge]] = {"gitea": Gitea, "github": 
 
 # So many requests in a row of which the forge doesn't tell end a round: it may be away, and each takes its time.
 FAULTS = 3
-# How long a request whose look failed rests, as a multiple of `gate.pause`.
+# How long what failed rests at first, as a multiple of `gate.pause`. A request rests as long as a comparison at most.
 REST = 5
 
 
@@ -67,7 +68,7 @@ class Adapter:
         failures.begin()
         self.compare_at, self.now = 0.0, 0.0
         self.righted: dict[Wrong, float] = {}
-        self.rests: dict[str, float] = {}
+        self.rests = Rests(REST * settings.pause, settings.adapter.compare)
         self.troubles: dict[str, str] = {}
 
     def once(self, now: float) -> None:
@@ -101,7 +102,7 @@ class Adapter:
         began = Moment.now()
         numbers = {*self.forge.open_requests(repository), *self.changes.still_open(repository)}
         for number in sorted(numbers):
-            self.hints.put(Place(repository, number))
+            self.hints.put(Place(repository, number), is_hook=False)
         self.comparisons.begin(repository, began, numbers)
 
     def answer_lander(self, now: float) -> None:
@@ -113,9 +114,8 @@ class Adapter:
         self.comparisons.answer(said.wrong, {it for it, fault in faults.items() if not is_of_network(fault)})
         for queue, since in said.since.items():
             for name in dict.fromkeys(it.forge for it in self.settings.projects_of(queue)):
-                if self.comparisons.is_late(name, since) and self.rests.get(name, 0.0) <= now:
-                    if self.attempt(name, lambda it=name: self.hint_at(it)) is not None:
-                        self.rests[name] = now + REST * self.settings.pause
+                if self.comparisons.is_late(name, since) and not self.rests.is_resting(name, now):
+                    self.rest(name, self.attempt(name, lambda it=name: self.hint_at(it)))
 
     def send(self) -> None:
         """Sends what may be sent by now. What is kept is left word of before, and what was answered behind."""
@@ -134,31 +134,33 @@ class Adapter:
             self.comparisons.leave()
 
     def follow(self, now: float) -> None:
-        """Looks at the requests that were hinted at. Where these are many, that takes long: so what a look has kept is
-        sent before the next one, and a hook that comes meanwhile is followed next, unless its request had its look."""
+        """Looks at the requests that were hinted at: those that have failed behind all others, and of these and of the
+        others those of hooks first. Where they are many, that takes long: so what a look has kept is sent before the
+        next one, and a hook that comes meanwhile is followed next, unless its request had its look."""
         if self.changes.first() is None:
             self.send()
         faults, waiting, done, untold = 0, self.hints.all(), set[Place](), self.comparisons.untold()
-        last = waiting[-1][0] if waiting else 0
+        last = max((row for row, _ in waiting), default=0)
+        waiting.sort(key=lambda it: self.rests.times(name_of(it[1])) > 0)
         while waiting and faults < FAULTS:
             row, place = waiting.pop(0)
-            name = f"{place.repository} {place.number}"
-            if self.rests.get(name, 0.0) > now or place in done or place.repository in untold:
+            name = name_of(place)
+            if self.rests.is_resting(name, now) or place in done or place.repository in untold:
                 continue
             done.add(place)
             fault = self.attempt(name, lambda it=place: self.looks.look(it))
             if fault is None:
                 self.comparisons.looked(place)
-                self.rests.pop(name, None)
                 self.hints.drop(row)
                 self.send()
                 faults = 0
             else:
                 self.comparisons.failed(place, not isinstance(fault, ForgeFault))
-                self.rests[name] = now + REST * self.settings.pause
                 faults += 1
+            self.rest(name, fault)
             news = self.hints.all(last)
-            waiting, last = news + waiting, news[-1][0] if news else last
+            last = max((row for row, _ in news), default=last)
+            waiting = sorted(news + waiting, key=lambda it: self.rests.times(name_of(it[1])) > 0)
 
     def tell_people(self) -> None:
         for change, kind in self.people.look(self.subjects.all(), time.time()).items():
@@ -180,6 +182,13 @@ class Adapter:
             return fault
         self.trouble(name, None)
         return None
+
+    def rest(self, name: str, fault: Exception | None) -> None:
+        """What has failed rests, and longer each time."""
+        if fault is None:
+            self.rests.over(name)
+        else:
+            self.rests.failed(name, self.now)
 
     def trouble(self, name: str, said: str | None) -> None:
         """Tells of a trouble once, until it is another one or over."""
@@ -222,11 +231,13 @@ class Adapter:
         untold = self.outbox.get("untold")
         for home in [] if untold is None else untold["homes"]:
             project, name = self.looks.projects.get(tuple(home)), " ".join(home)
-            if project is not None and self.rests.get(name, 0.0) > self.now:
-                continue
-            if project is not None and self.attempt(name, lambda it=project: self.looks.note_landings(it)) is not None:
-                self.rests[name] = self.now + REST * self.settings.pause
-                continue
+            if project is not None:
+                if self.rests.is_resting(name, self.now):
+                    continue
+                fault = self.attempt(name, lambda it=project: self.looks.note_landings(it))
+                self.rest(name, fault)
+                if fault is not None:
+                    continue
             with self.changes.step():
                 self.changes.tell_again(known=untold["known"], home=tuple(home))
                 left = [it for it in self.outbox.get("untold")["homes"] if it != home]
@@ -237,6 +248,10 @@ class Adapter:
             came.clear()
             self.once(time.monotonic())
             came.wait(self.settings.pause)
+
+
+def name_of(place: Place) -> str:
+    return f"{place.repository} {place.number}"
 
 
 def is_of_network(fault: Exception | None) -> bool:

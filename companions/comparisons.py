@@ -23,7 +23,7 @@ class Comparisons:
 
     A request at which nobody can look, as its author may bring about, doesn't hold up its repository: the comparison is
     whole without it, and orders of its changes are refused. It is such a one where the fault is its own, or the forge
-    couldn't tell of it in two comparisons in a row.
+    couldn't tell of it in two comparisons in a row, and until it was looked at again.
     """
 
     def __init__(self, changes: Changes, repositories: Iterable[str], folder: Path) -> None:
@@ -50,7 +50,7 @@ class Comparisons:
 
     def failed(self, place: Place, is_its_own: bool) -> None:
         """A request couldn't be looked at, for a fault of its own or of the forge."""
-        if is_its_own or place in self.overdue:
+        if is_its_own or place in self.overdue or place in self.unseen:
             self.unseen.add(place)
             self.go_on(place.repository, place.number)
 

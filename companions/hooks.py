@@ -15,7 +15,7 @@ from companions.tables import add
 # A place that is noted again is looked at again: whoever has looked at it takes away the row that he has seen.
 TABLES = """
 CREATE TABLE IF NOT EXISTS hint(row INTEGER PRIMARY KEY AUTOINCREMENT, repository TEXT, request INTEGER,
-    UNIQUE(repository, request));
+    is_hook INTEGER DEFAULT 1, UNIQUE(repository, request));
 """
 
 # The path of hooks, and the seconds that a connection may take for its next bytes.
@@ -33,16 +33,20 @@ class Hints:
         add(self.tables, TABLES)
         self.lock = threading.Lock()
 
-    def put(self, place: Place) -> None:
+    def put(self, place: Place, is_hook: bool = True) -> None:
+        """Notes a place. That of a hook stays one when a comparison notes it too."""
+        at = place.repository, place.number
         with self.lock:
-            self.tables.execute("INSERT OR REPLACE INTO hint(repository, request) VALUES (?, ?)",
-                                (place.repository, place.number))
+            self.tables.execute("INSERT OR REPLACE INTO hint(repository, request, is_hook) VALUES (?, ?, ? OR EXISTS"
+                                " (SELECT 1 FROM hint WHERE repository = ? AND request = ? AND is_hook))",
+                                (*at, is_hook, *at))
 
     def all(self, behind: int = 0) -> list[tuple[int, Place]]:
-        """The places of the rows behind one, those that were noted first at the front, each with its row."""
+        """The places of the rows behind one, each with its row: those of hooks first, and of these and of the others
+        those that were noted first."""
         with self.lock:
-            rows = self.tables.execute("SELECT row, repository, request FROM hint WHERE row > ? ORDER BY row",
-                                       (behind,)).fetchall()
+            rows = self.tables.execute("SELECT row, repository, request FROM hint WHERE row > ?"
+                                       " ORDER BY NOT is_hook, row", (behind,)).fetchall()
         return [(row, Place(repository, request)) for row, repository, request in rows]
 
     def drop(self, row: int) -> None:

@@ -236,7 +236,7 @@ class Case(unittest.TestCase):
         for place in places:
             self.adapter.hints.put(place)
         self.adapter.compare_at = 2.0 if places else 0.0
-        self.adapter.rests.clear()
+        self.adapter.rests.end_all()
         self.adapter.outbox.later.clear()
         self.adapter.once(1.0)
         return [f"{it['kind']} {it['change']} {it['revision']}" for it in self.standin.deliveries()[before:]]

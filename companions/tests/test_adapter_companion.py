@@ -10,7 +10,8 @@ from unittest import mock
 from companions.forges import Place
 from companions.repository import Repository
 from companions.requests import State, Vote
-from companions.tests.adapter_case import Case
+from companions.rests import Rests
+from companions.tests.adapter_case import NEVER, Case
 from companions.tests.forge import earlier_message, message_of
 
 
@@ -34,6 +35,42 @@ class Requests(Case):
         self.forge.when_asked = lambda place: place == first and self.adapter.hints.put(third)
         self.look(first, second)
         self.assertEqual(self.forge.asked, [first, third, second])
+
+    def test_those_that_fail_leave_room_to_all_others(self) -> None:
+        bad = [self.be(it, 0) for it in range(21, 37)]
+        self.forge.broken = set(bad)
+        for _ in range(6):
+            self.adapter.once(1.0)
+        # All sixteen have failed by now, and their rests are over.
+        for it in bad:
+            self.adapter.rests.failed(f"acme/lib {it.number}", -1000.0)
+        self.adapter.rests.end_all()
+        good = [self.be(it, 0) for it in range(41, 49)]
+        self.forge.asked.clear()
+        for it in good[:4]:
+            self.adapter.hints.put(it, is_hook=False)
+        for it in [*bad, *good[4:]]:
+            self.adapter.hints.put(it)
+        self.adapter.compare_at = 9.0
+        self.adapter.once(2.0)
+        self.assertEqual(self.forge.asked, [*good[4:], *good[:4], *bad[:3]])
+        self.assertEqual(len(self.standin.deliveries()), 8)
+
+    def test_one_that_fails_rests_longer_each_time(self) -> None:
+        place = self.be(12, 0)
+        self.forge.broken = {place}
+        self.adapter.hints.put(place)
+        self.adapter.rests = Rests(5.0, 30.0)
+        tried = []
+        for now in range(200):
+            self.adapter.compare_at = NEVER
+            before = len(self.forge.asked)
+            self.adapter.once(float(now))
+            tried += [now] if len(self.forge.asked) > before else []
+        self.assertEqual(tried, [0, 5, 15, 35, 65, 95, 125, 155, 185])
+        self.forge.broken.clear()
+        self.adapter.once(300.0)
+        self.assertEqual((self.adapter.rests.times("acme/lib 12"), len(self.standin.deliveries())), (0, 1))
 
     def test_a_restart_tells_nothing_again(self) -> None:
         place = self.be(12, 0, self.approve(1))

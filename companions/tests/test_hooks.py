@@ -86,6 +86,11 @@ class Incoming(Case):
             with self.subTest(path=path, length=length):
                 self.assertEqual(self.post(b"", path, method, Content_Length=length), status)
 
+    def test_a_hook_s_place_is_before_those_of_comparisons_and_stays_there(self) -> None:
+        for number, is_hook in ((11, False), (12, False), (13, True), (14, True), (12, True), (13, False)):
+            self.adapter.hints.put(Place("acme/lib", number), is_hook)
+        self.assertEqual([it.number for it in self.places()], [14, 12, 13, 11])
+
     def test_a_hook_while_its_request_is_looked_at_is_looked_at_again(self) -> None:
         place = self.be(12, 0)
         self.forge.when_asked = lambda _: self.post(json.dumps(["acme/lib", 12]).encode())
