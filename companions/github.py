@@ -13,7 +13,7 @@ from typing import Any
 
 from companions.forges import (APPROVES, Api, Opinion, Place, approves, as_hook, check_signature, expected, hash_of,
                                mark_of, marked, place_at, secret_of, time_of, votes_of)
-from companions.requests import Request, State, Vote
+from companions.requests import GONE, Request, State, Vote
 
 __all__ = ["APPROVES", "GitHub", "Gitea"]
 
@@ -76,7 +76,7 @@ class GitHub:
             if says is None or not it.get("user"):
                 continue
             approves_it = None if says == "dismissed" else says == "approves"
-            vote = Vote(f"review {it['id']}", it["user"]["login"], approves_it, it.get("commit_id") or None)
+            vote = Vote(f"review {it['id']}", it["user"]["login"], approves_it, it.get("commit_id") or GONE)
             yield Opinion(time_of(it["submitted_at"]), vote)
 
     def comments(self, place: Place) -> Iterator[Opinion]:

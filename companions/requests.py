@@ -11,6 +11,9 @@ from dataclasses import dataclass, field
 # In the place of a revision: a vote that is of none, since nobody knows which commit, or which branch, it was made for.
 NO_REVISION = 0
 
+# The commit of a review that the forge doesn't name any more, as once it is gone from there.
+GONE = ""
+
 
 class State(enum.Enum):
     """How a forge shows a request."""
@@ -25,7 +28,7 @@ class Vote:
 
     `approves` is none for one that was dismissed, or that takes an approval back: from then on it says nothing, and
     neither do the person's earlier ones.
-    `commit` is the one that it was made for, or none where the forge doesn't say.
+    `commit` is the one that it was made for, or none where the forge never says, or `GONE` where it no longer does.
     """
     object: str
     person: str
@@ -62,7 +65,7 @@ class Told:
     `closed`: the change was closed behind the last of its revisions. `landed`: the gate or the branch has its landing.
     `ordered`: the gate shows its order, so the lander may be at it. `approvals` are the votes that were told, each with
     its revision, and `withdrawals` those of them that were taken back. `seen` are all votes that were seen, each with
-    the revision at which that was first. `again`: the last revision was told under an id that isn't made of its commit,
+    the revision at which that was first, and `commits` the commits that they named then. `again`: the last revision was told under an id that isn't made of its commit,
     by which nobody can check that commit, so it is told once more as the next one.
     """
     change: int
@@ -73,6 +76,7 @@ class Told:
     approvals: dict[str, int] = field(default_factory=dict)
     withdrawals: frozenset[str] = frozenset()
     seen: dict[str, int] = field(default_factory=dict)
+    commits: dict[str, str] = field(default_factory=dict)
     again: bool = False
 
 
@@ -178,7 +182,9 @@ def counts(vote: Vote, so: Request, told: Told, revision: int, new_ones: dict[st
     seen = told.seen.get(vote.object, new_ones.get(vote.object, NO_REVISION))
     if vote.object in told.approvals or seen == NO_REVISION:
         return False
-    return vote.commit == so.head if vote.commit is not None else seen == revision
+    if vote.commit is None:
+        return seen == revision
+    return (vote.commit or told.commits.get(vote.object)) == so.head
 
 
 def uncounted(so: Request, told: Told, needs: tuple[int, ...], may_approve: frozenset[str]) -> list[str]:
@@ -198,7 +204,8 @@ def uncounted(so: Request, told: Told, needs: tuple[int, ...], may_approve: froz
         elif told.approvals.get(it.object, revision) != revision:
             why = "approved an earlier revision, or another branch"
         elif it.object not in told.approvals and not counts(it, so, told, revision, new_ones):
-            why = ("approved an earlier commit" if it.commit not in (None, so.head) else
+            why = ("approved a commit that the forge no longer names" if it.commit == GONE else
+                   "approved an earlier commit" if it.commit not in (None, so.head) else
                    "approved before the gate knew this revision at this branch")
         lines += [f"{it.person} {why}: {it.object} doesn't count"] if why else []
     return lines

@@ -13,7 +13,8 @@ from pathlib import Path
 # What carries the tables of a file from each version to the next one, the first from 0: files had no version then, and
 # the same tables. A statement that is about a table stands behind its name, and is left out where the file has none.
 Step = Sequence[tuple[str, str]]
-STEPS: list[Step] = [(), (("hint", "ALTER TABLE hint ADD COLUMN is_hook INTEGER DEFAULT 1"),)]
+STEPS: list[Step] = [(), (("hint", "ALTER TABLE hint ADD COLUMN is_hook INTEGER DEFAULT 1"),),
+                     (("vote", "ALTER TABLE vote ADD COLUMN hash TEXT"),)]
 
 
 class OtherVersion(sqlite3.DatabaseError):

@@ -19,7 +19,8 @@ from companions.requests import NO_REVISION, Request, Revision, Telling, Told
 from companions.tables import add, at_once
 
 # A change has a row once its request is known or named. `told` says whether the gate's present file was told of it.
-# A vote has the change and the revision at which it was first seen, and those that it was told of, once it was.
+# A vote has the change and the revision at which it was first seen, those that it was told of, once it was, and the
+# commit that it named at first.
 # Replies are counted: a telling has the number of its own, and how many there were when it was kept.
 TABLES = """
 CREATE TABLE IF NOT EXISTS change(number INTEGER PRIMARY KEY, repository TEXT, request INTEGER, branch TEXT,
@@ -28,7 +29,7 @@ CREATE INDEX IF NOT EXISTS change_open ON change(repository, request) WHERE told
 CREATE TABLE IF NOT EXISTS revision(change INTEGER, number INTEGER, hash TEXT, needs TEXT,
     PRIMARY KEY(change, number));
 CREATE TABLE IF NOT EXISTS vote(repository TEXT, request INTEGER, object TEXT, change INTEGER, revision INTEGER,
-    told_change INTEGER, told_revision INTEGER, taken_back INTEGER DEFAULT 0,
+    told_change INTEGER, told_revision INTEGER, taken_back INTEGER DEFAULT 0, hash TEXT,
     PRIMARY KEY(repository, request, object));
 CREATE TABLE IF NOT EXISTS telling(place INTEGER PRIMARY KEY AUTOINCREMENT, change INTEGER, id TEXT UNIQUE, said TEXT,
     answer TEXT, reply INTEGER, replies INTEGER);
@@ -83,18 +84,20 @@ class Changes:
             "SELECT repository, request, closed, landed FROM change WHERE number = ?", (change,)).fetchone()
         rows = self.tables.execute("SELECT hash, needs FROM revision WHERE change = ? ORDER BY number", (change,))
         revisions = tuple(Revision(commit, tuple(json.loads(needs))) for commit, needs in rows)
-        approvals, seen, withdrawals = {}, {}, set()
-        for row in self.tables.execute("SELECT object, change, revision, told_change, told_revision, taken_back"
+        approvals, seen, withdrawals, commits = {}, {}, set(), {}
+        for row in self.tables.execute("SELECT object, change, revision, told_change, told_revision, taken_back, hash"
                                        " FROM vote WHERE repository = ? AND request = ?", (repository, request)):
-            name, at, revision, told_at, told_revision, taken_back = row
+            name, at, revision, told_at, told_revision, taken_back, commit = row
             # A vote of another branch is of no revision of this one.
             seen[name] = revision if at == change else NO_REVISION
             if told_at is not None:
                 approvals[name] = told_revision if told_at == change else NO_REVISION
             if taken_back:
                 withdrawals.add(name)
+            if commit:
+                commits[name] = commit
         return Told(change, revisions, bool(closed), bool(landed), False, approvals, frozenset(withdrawals), seen,
-                    self.is_unsure(change, revisions))
+                    commits, self.is_unsure(change, revisions))
 
     def revision(self, change: int, revision: int) -> str | None:
         """The commit of a revision that was told."""
@@ -118,9 +121,11 @@ class Changes:
 
     def see(self, so: Request, change: int | None, seen: dict[str, int]) -> None:
         """Notes votes with the revision of a change at which they are first seen; without a change they are of none."""
+        commits = {it.object: it.commit for it in so.votes}
         for name, revision in seen.items():
-            self.tables.execute("INSERT OR IGNORE INTO vote(repository, request, object, change, revision)"
-                                " VALUES (?, ?, ?, ?, ?)", (so.repository, so.number, name, change, revision))
+            self.tables.execute("INSERT OR IGNORE INTO vote(repository, request, object, change, revision, hash)"
+                                " VALUES (?, ?, ?, ?, ?, ?)",
+                                (so.repository, so.number, name, change, revision, commits.get(name)))
 
     def keep(self, so: Request, change: int, steps: Iterable[Telling], more: dict[str, str],
              needs: tuple[int, ...]) -> None:

@@ -10,7 +10,7 @@ from email.message import Message
 from companions.forges import FAILURE, PAGE, PENDING, SUCCESS, Content, KeptAnswers, Place
 from companions.gitlab import UNDECIDED
 from companions.people_texts import unapproved
-from companions.requests import State
+from companions.requests import GONE, State
 from companions.tests.forges import StandInForge
 from companions.tests.forges.case import LIB, ONE, TWO, Case
 from companions.tests.forges.model import GATE, Status
@@ -288,6 +288,12 @@ class GitHubTest(EachForm, Case):
         self.model.reject(self.place, "ann")
         self.model.comment(self.place, "ann", "/gate approve")
         self.assertEqual([it[:2] for it in self.votes()], [("ann", True), ("ann", False)])
+
+    def test_a_review_whose_commit_is_gone_is_of_none(self) -> None:
+        self.model.approve(self.place, "ann")
+        self.model.push(self.place, TWO)
+        self.model.lose(self.place, ONE)
+        self.assertEqual(self.votes(), [("ann", True, GONE)])
 
     def test_whose_account_is_deleted_has_no_vote(self) -> None:
         self.model.approve(self.place, "")

@@ -4,7 +4,7 @@ from __future__ import annotations
 import unittest
 from dataclasses import replace
 
-from companions.requests import (Request, Revision, State, Telling, Told, Vote, closing, first_seen, tellings,
+from companions.requests import (GONE, Request, Revision, State, Telling, Told, Vote, closing, first_seen, tellings,
                                  uncounted)
 
 A, B = "a" * 40, "b" * 40
@@ -91,6 +91,12 @@ VOTES = (
      ["revision 2 " + A, "approved 2 review 7"]),
     ("a vote that was first seen at another branch", so(ADA), told(ONE, seen=(ADA,), at=0), (), []),
     ("a vote that was told of another branch", so(ADA), told(ONE, ADA, at=0), (), []),
+    ("a commit that the forge no longer names", so(ada(1, commit=GONE)), ONE, (), []),
+    ("which it named when the vote was first seen", so(ada(1, commit=GONE)),
+     told(ONE, seen=(ADA,), commits={"review 1": A}), (), ["approved 1 review 1"]),
+    ("which was another one", so(ada(1, commit=GONE)), told(ONE, seen=(ADA,), commits={"review 1": B}), (), []),
+    ("whose approval was told, which stays", so(ada(1, commit=GONE)), told(ONE, ADA), (), []),
+    ("first seen together with a new head", so(ada(1, commit=GONE), head=B), ONE, (), ["revision 2 " + B]),
     ("two approve at once: one delivery", so(ADA, BOB), ONE, (), ["approved 1 review 1"]),
     ("a second one approves", so(ADA, BOB), told(ONE, ADA), (), ["approved 1 review 2"]),
     ("failed, and approved by a new object", so(ADA, ada(7)), told(ONE, ADA), (), ["approved 1 review 7"]),
@@ -218,6 +224,8 @@ class Rules(unittest.TestCase):
                 (so(ADA), told(ONE, ADA), []),
                 (so(ADA), ONE, []),
                 (so(ADA, head=B), TWO, ["ada approved an earlier commit: review 1 doesn't count"]),
+                (so(ada(1, commit=GONE)), ONE,
+                 ["ada approved a commit that the forge no longer names: review 1 doesn't count"]),
                 (so(ADA), told(BACK, ADA),
                  ["ada approved an earlier revision, or another branch: review 1 doesn't count"]),
                 (so(SAID), told(ONE, seen=(SAID,), at=0),

@@ -80,7 +80,7 @@ class Tables(Case):
         self.open()
         self.assertEqual(self.changes.told(1), Told(
             1, (Revision(A, (3,)),), approvals={"review 1": 1}, withdrawals=frozenset({"review 1"}),
-            seen={"review 1": 1, "comment 2": 0}))
+            seen={"review 1": 1, "comment 2": 0}, commits={"review 1": A}))
         self.assertEqual(self.kinds(), ["revision 1 1", "approved 1 1", "withdrawn 1 1"])
         self.assertEqual(self.changes.still_open("acme/lib"), [12])
 

@@ -73,7 +73,7 @@ class GitHubForm(Form):
         return {**self.pull(it), "merged": it.state == "merged", "merged_by": self.user(it.merged_by)}
 
     def review(self, it: Entry) -> dict[str, Any]:
-        return {"id": it.id, "user": self.user(it.person), "body": it.text, "commit_id": it.commit,
+        return {"id": it.id, "user": self.user(it.person), "body": it.text, "commit_id": it.commit or None,
                 "state": "DISMISSED" if it.is_dismissed else self.review_states[it.kind],
                 "submitted_at": self.time(it.at), "author_association": "MEMBER"}
 

@@ -145,6 +145,12 @@ class Model:
     def comment(self, place: Place, person: str, text: str) -> Entry:
         return self.say("commented", place, person, text)
 
+    def lose(self, place: Place, commit: str) -> None:
+        """A commit is gone from the forge, as some time after it was pushed over: what was said of it names none."""
+        with self.lock:
+            for it in self.pulls[place].of("approved", "rejected"):
+                it.commit = "" if it.commit == commit else it.commit
+
     def edit_comment(self, place: Place, comment: Entry, text: str) -> None:
         with self.lock:
             comment.text = text
