@@ -18,7 +18,7 @@ from companions.requests import Request, Vote
 # What a commit status says: the check isn't decided, has passed, or hasn't.
 PENDING, SUCCESS, FAILURE = "pending", "success", "failure"
 
-# A comment that has this line is a person's approval.
+# A comment that is this is a person's approval.
 APPROVES = "/gate approve"
 
 # The most bytes that an answer of a forge's API, or a hook, may have.
@@ -251,9 +251,15 @@ def hash_of(text: str) -> str:
 
 
 def approves(text: str | None, mark: str) -> bool:
-    """Whether a comment is an approval: one of its lines is it. One of the gate's, which has its mark, is none."""
+    """Whether a comment is meant as an approval: one of its lines is it. One of the gate's, which has its mark, isn't."""
     lines = [line.strip() for line in (text or "").splitlines()]
     return APPROVES in lines and lines[-1] != mark
+
+
+def flaw_of(text: str) -> str | None:
+    """Why a comment that is meant as an approval is none. Within other text the line may be part of an example or of a
+    quotation, or nobody sees it."""
+    return None if text.strip() == APPROVES else f"wrote more than the line {APPROVES}"
 
 
 def secret_of(secret: str) -> str:

@@ -11,8 +11,8 @@ from collections.abc import Iterator, Mapping
 from dataclasses import replace
 from typing import Any
 
-from companions.forges import (APPROVES, Api, Opinion, Place, approves, as_hook, check_signature, expected, hash_of,
-                               mark_of, marked, place_at, secret_of, time_of, votes_of)
+from companions.forges import (APPROVES, Api, Opinion, Place, approves, as_hook, check_signature, expected, flaw_of,
+                               hash_of, mark_of, marked, place_at, secret_of, time_of, votes_of)
 from companions.requests import GONE, Request, State, Vote
 
 __all__ = ["APPROVES", "GitHub", "Gitea"]
@@ -82,7 +82,7 @@ class GitHub:
     def comments(self, place: Place) -> Iterator[Opinion]:
         for it in self.rows(self.path(place, "issues") + "/comments"):
             if approves(it.get("body"), mark_of(self.secret, place)) and it.get("user"):
-                vote = Vote(f"comment {it['id']}", it["user"]["login"], True, None)
+                vote = Vote(f"comment {it['id']}", it["user"]["login"], True, None, flaw_of(it["body"]))
                 yield Opinion(time_of(it["created_at"]), vote)
 
     def verdict(self, review: dict[str, Any]) -> str | None:

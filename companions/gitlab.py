@@ -13,7 +13,7 @@ from datetime import datetime
 from typing import Any
 
 from companions.forges import (PENDING, Api, ForgeFault, Opinion, Place, approves, as_hook, check_same, expected,
-                               hash_of, mark_of, marked, place_at, secret_of, time_of, votes_of)
+                               flaw_of, hash_of, mark_of, marked, place_at, secret_of, time_of, votes_of)
 from companions.requests import Request, State, Vote
 
 STATES = {"opened": State.OPEN, "locked": State.OPEN, "closed": State.CLOSED, "merged": State.MERGED}
@@ -79,8 +79,8 @@ class GitLab:
             if it["system"] and body == UNAPPROVED:
                 yield Opinion(at, Vote(f"note {it['id']}", person, None, None))
             elif body == APPROVED and person in approving if it["system"] else approves(body, mark):
-                versions = versions or self.versions(place)
-                yield Opinion(at, Vote(f"note {it['id']}", person, True, commit_at(versions, at)))
+                versions, flaw = versions or self.versions(place), None if it["system"] else flaw_of(body)
+                yield Opinion(at, Vote(f"note {it['id']}", person, True, commit_at(versions, at), flaw))
 
     def versions(self, place: Place) -> list[tuple[datetime, str]]:
         """The heads that the request had, the oldest first, and since when."""

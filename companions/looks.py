@@ -118,7 +118,7 @@ class Looks:
         if self.adapter.approvers is not None:
             return self.adapter.approvers
         now, found = time.monotonic(), set()
-        for person in sorted({it.person for it in so.votes if it.approves is not None}):
+        for person in sorted({it.person for it in so.votes if it.approves is not None and it.flaw is None}):
             known = self.writers.get((so.repository, person))
             if known is None or known[1] <= now:
                 known = self.forge.may_write(so.repository, person), now + self.adapter.compare

@@ -29,11 +29,13 @@ class Vote:
     `approves` is none for one that was dismissed, or that takes an approval back: from then on it says nothing, and
     neither do the person's earlier ones.
     `commit` is the one that it was made for, or none where the forge never says, or `GONE` where it no longer does.
+    `flaw` is why what is meant as a vote is none, where it is none.
     """
     object: str
     person: str
     approves: bool | None
     commit: str | None
+    flaw: str | None = None
 
 
 @dataclass(frozen=True)
@@ -139,7 +141,7 @@ def first_seen(so: Request, told: Told, needs: tuple[int, ...]) -> dict[str, int
     revision = revision_of(so, told, needs) if so.state is State.OPEN else last
     is_unsure = so.state is not State.OPEN or revision > last
     return {it.object: NO_REVISION if is_unsure and it.commit is None else revision
-            for it in so.votes if it.object not in told.seen}
+            for it in so.votes if it.flaw is None and it.object not in told.seen}
 
 
 def votes(so: Request, told: Told, revision: int, new_ones: dict[str, int],
@@ -167,6 +169,8 @@ def standing(votes_of_all: Iterable[Vote]) -> tuple[list[Vote], list[Vote]]:
     approving: dict[str, list[Vote]] = {}
     against: dict[str, Vote] = {}
     for it in votes_of_all:
+        if it.flaw is not None:
+            continue
         against.pop(it.person, None)
         if it.approves:
             approving.setdefault(it.person, []).append(it)
@@ -188,24 +192,33 @@ def counts(vote: Vote, so: Request, told: Told, revision: int, new_ones: dict[st
 
 
 def uncounted(so: Request, told: Told, needs: tuple[int, ...], may_approve: frozenset[str]) -> list[str]:
-    """Why the approving votes that the forge shows of an open request aren't the gate's approval: a line each."""
+    """Why the approving votes that the forge shows of an open request aren't the gate's approval: a line each. Lines
+    about persons who may not approve are the last, so that theirs hide none of the others."""
     if so.state is not State.OPEN or told.landed:
         return []
     revision, new_ones = revision_of(so, told, needs), first_seen(so, told, needs)
     approving, against = standing(so.votes)
     lines = [f"{it.person} objects ({it.object})" for it in against if it.person in may_approve]
     lines += ["it is a draft, which isn't to land"] if so.is_draft and approving else []
-    for it in approving:
-        why = None
-        if it.person not in may_approve:
-            why = "isn't among those who may approve"
-        elif it.object in told.withdrawals:
-            why = "approved, and that was withdrawn since"
-        elif told.approvals.get(it.object, revision) != revision:
-            why = "approved an earlier revision, or another branch"
-        elif it.object not in told.approvals and not counts(it, so, told, revision, new_ones):
-            why = ("approved a commit that the forge no longer names" if it.commit == GONE else
-                   "approved an earlier commit" if it.commit not in (None, so.head) else
-                   "approved before the gate knew this revision at this branch")
+    meant = (*approving, *(it for it in so.votes if it.flaw is not None))
+    for it in sorted(meant, key=lambda it: it.person not in may_approve):
+        why = it.flaw or why_not(it, so, told, revision, new_ones, it.person in may_approve)
         lines += [f"{it.person} {why}: {it.object} doesn't count"] if why else []
     return lines
+
+
+def why_not(vote: Vote, so: Request, told: Told, revision: int, new_ones: dict[str, int],
+            may_approve: bool) -> str | None:
+    """Why an approving vote isn't the gate's approval of this revision, if it isn't."""
+    if not may_approve:
+        return "isn't among those who may approve"
+    if vote.object in told.withdrawals:
+        return "approved, and that was withdrawn since"
+    if told.approvals.get(vote.object, revision) != revision:
+        return "approved an earlier revision, or another branch"
+    if vote.object in told.approvals or counts(vote, so, told, revision, new_ones):
+        return None
+    if vote.commit == GONE:
+        return "approved a commit that the forge no longer names"
+    return ("approved an earlier commit" if vote.commit not in (None, so.head) else
+            "approved before the gate knew this revision at this branch")

@@ -56,10 +56,15 @@ class EachForm:
         self.model.push(self.place, ONE)
         self.assertEqual(self.votes(), [("ann", True, ONE), ("ben", True, TWO)])
 
-    def test_comments_approve_by_a_line(self) -> None:
+    def test_comments_approve_by_their_whole_text(self) -> None:
         self.model.comment(self.place, "cy", "I'd say /gate approve\n> /gate approve\n")
-        self.assertEqual(self.votes(), [])
-        said = self.model.comment(self.place, "ann", "Well\r\n /gate approve \r\nthanks")
+        self.assertEqual((self.votes(), self.flaws()), ([], []))
+        for text in ("Well\r\n /gate approve \r\nthanks", "```\n/gate approve\n```", "<!--\n/gate approve\n-->",
+                     "> So:\n/gate approve", "/gate approve\n/gate approve"):
+            said = self.model.comment(self.place, "ann", text)
+            self.assertEqual((self.votes(), self.flaws()), ([], [("ann", "wrote more than the line /gate approve")]))
+            self.model.delete_comment(self.place, said)
+        said = self.model.comment(self.place, "ann", "\r\n\t /gate approve \r\n")
         self.model.push(self.place, TWO)
         self.assertEqual(self.votes(), [("ann", True, self.of_comment(ONE))])
         other = self.model.comment(self.place, "ben", "/gate approve")

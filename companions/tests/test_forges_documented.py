@@ -36,7 +36,7 @@ GITHUB_REVIEWS = [
     {"id": 83, "user": {**USER, "login": "monalisa"}, "body": "", "state": "COMMENTED", "commit_id": HEAD,
      "submitted_at": "2019-11-17T17:46:00Z"},
     {"id": 84, "user": USER, "body": "", "state": "PENDING", "commit_id": HEAD}]
-GITHUB_COMMENTS = [{"id": 1, "user": {**USER, "login": "hubot"}, "body": "Me too\r\n/gate approve", "created_at":
+GITHUB_COMMENTS = [{"id": 1, "user": {**USER, "login": "hubot"}, "body": "/gate approve\r\n", "created_at":
                     "2019-11-17T17:43:00Z", "updated_at": "2019-11-17T17:43:00Z", "author_association": "COLLABORATOR"}]
 GITHUB_COMMENT_HOOK = {
     "action": "created", "comment": GITHUB_COMMENTS[0], "sender": USER,

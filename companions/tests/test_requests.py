@@ -14,6 +14,7 @@ APPROVERS = frozenset({"ada", "bob", "eve"})
 ADA, BOB = Vote("review 1", "ada", True, A), Vote("review 2", "bob", True, A)
 EVE = Vote("review 3", "eve", False, A)
 SAID = Vote("comment 4", "ada", True, None)
+FLAW = "wrote something else"
 
 NOTHING = Told(5)
 ONE = Told(5, (Revision(A, ()),))
@@ -122,6 +123,10 @@ COMMENTS = (
     ("seen with a new revision, and looked at again", so(SAID), told(ONE, seen=(SAID,), at=0), (), []),
     ("given again, once the revision is known", so(SAID, Vote("comment 5", "ada", True, None)),
      told(ONE, seen=(SAID,), at=0), (), ["approved 1 comment 5"]),
+    ("which is none", so(replace(SAID, flaw=FLAW)), ONE, (), []),
+    ("which was one when it was told", so(replace(SAID, flaw=FLAW)), told(ONE, SAID), (),
+     ["withdrawn 1 comment 4"]),
+    ("which is none and ends no objection", so(EVE, replace(SAID, person="eve", flaw=FLAW), ADA), ONE, (), []),
     ("beside a review, with a new request", so(ADA, SAID), NOTHING, (), ["revision 1 " + A, "approved 1 review 1"]),
     ("at a head that goes back", so(SAID), told(BACK, SAID), (), []),
 )
@@ -235,6 +240,8 @@ class Rules(unittest.TestCase):
                 (so(Vote("review 9", "mallory", True, A), Vote("review 10", "mallory", False, A)), ONE, []),
                 (so(Vote("review 9", "mallory", True, A)), ONE,
                  ["mallory isn't among those who may approve: review 9 doesn't count"]),
+                (so(Vote("comment 8", "mallory", True, None, FLAW), replace(SAID, flaw=FLAW)), ONE,
+                 ["ada wrote something else: comment 4 doesn't count", "mallory wrote something else: comment 8 doesn't count"]),
                 (so(ADA, EVE), ONE, ["eve objects (review 3)"]),
                 (so(ADA, is_draft=True), ONE, ["it is a draft, which isn't to land"]),
                 (so(is_draft=True), ONE, []),

@@ -174,7 +174,7 @@ push acme/lib 4 'Add five' five=5
 at_forge push acme/lib 4
 await has_said 8 1 'revision: recorded'
 at_forge release
-at_forge comment acme/lib 4 ann 'Fine.\n\n/gate approve'
+at_forge comment acme/lib 4 ann '/gate approve'
 await has_landed acme/lib core/4
 await is_quiet
 

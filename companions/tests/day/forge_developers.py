@@ -16,7 +16,7 @@ from companions.tests.day.parts import wait_for
 from companions.tests.forges.model import Entry, Pull
 
 # An approval by a comment, as people write it.
-APPROVALS = ("/gate approve", "Looks good.\n\n/gate approve", "  /gate approve\t\r\nThanks!")
+APPROVALS = ("/gate approve", "\n\n/gate approve\n", "  /gate approve\t\r\n")
 
 
 @dataclass

@@ -26,11 +26,17 @@ class Case(unittest.TestCase):
         """The votes that say something still: what dismisses one takes its person's earlier ones away."""
         held: list[tuple[str, bool, str | None]] = []
         for it in self.asked().votes:
+            if it.flaw is not None:
+                continue
             if it.approves is None:
                 held = [vote for vote in held if vote[0] != it.person]
             else:
                 held.append((it.person, it.approves, it.commit))
         return held
+
+    def flaws(self) -> list[tuple[str, str]]:
+        """Who wrote what is meant as a vote and is none, and why it is none."""
+        return [(it.person, it.flaw) for it in self.asked().votes if it.flaw is not None]
 
     def asked(self) -> Request:
         request = self.client.request(self.place)
