@@ -50,7 +50,7 @@ class Comparisons:
 
     def failed(self, place: Place, is_its_own: bool) -> None:
         """A request couldn't be looked at, for a fault of its own or of the forge."""
-        if is_its_own or place in self.overdue or place in self.unseen:
+        if is_its_own or place in self.overdue | self.unseen:
             self.unseen.add(place)
             self.go_on(place.repository, place.number)
 

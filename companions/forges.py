@@ -251,15 +251,19 @@ def hash_of(text: str) -> str:
 
 
 def approves(text: str | None, mark: str) -> bool:
-    """Whether a comment is meant as an approval: one of its lines is it. One of the gate's, which has its mark, isn't."""
+    """Whether a comment is meant as an approval: one of its lines is it. The gate's, which has its mark, isn't."""
     lines = [line.strip() for line in (text or "").splitlines()]
     return APPROVES in lines and lines[-1] != mark
 
 
-def flaw_of(text: str) -> str | None:
+def flaw_of(comment: Mapping[str, Any]) -> str | None:
     """Why a comment that is meant as an approval is none. Within other text the line may be part of an example or of a
-    quotation, or nobody sees it."""
-    return None if text.strip() == APPROVES else f"wrote more than the line {APPROVES}"
+    quotation, or nobody sees it. Who may write to the repository may edit what another person wrote."""
+    if comment["body"].strip() != APPROVES:
+        return f"wrote more than the line {APPROVES}"
+    if time_of(comment["updated_at"]) > time_of(comment["created_at"]):
+        return "approved by a comment that somebody has edited"
+    return None
 
 
 def secret_of(secret: str) -> str:

@@ -82,7 +82,7 @@ class GitHub:
     def comments(self, place: Place) -> Iterator[Opinion]:
         for it in self.rows(self.path(place, "issues") + "/comments"):
             if approves(it.get("body"), mark_of(self.secret, place)) and it.get("user"):
-                vote = Vote(f"comment {it['id']}", it["user"]["login"], True, None, flaw_of(it["body"]))
+                vote = Vote(f"comment {it['id']}", it["user"]["login"], True, None, flaw_of(it))
                 yield Opinion(time_of(it["created_at"]), vote)
 
     def verdict(self, review: dict[str, Any]) -> str | None:

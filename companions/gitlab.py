@@ -79,7 +79,7 @@ class GitLab:
             if it["system"] and body == UNAPPROVED:
                 yield Opinion(at, Vote(f"note {it['id']}", person, None, None))
             elif body == APPROVED and person in approving if it["system"] else approves(body, mark):
-                versions, flaw = versions or self.versions(place), None if it["system"] else flaw_of(body)
+                versions, flaw = versions or self.versions(place), None if it["system"] else flaw_of(it)
                 yield Opinion(at, Vote(f"note {it['id']}", person, True, commit_at(versions, at), flaw))
 
     def versions(self, place: Place) -> list[tuple[datetime, str]]:

@@ -67,8 +67,9 @@ class Told:
     `closed`: the change was closed behind the last of its revisions. `landed`: the gate or the branch has its landing.
     `ordered`: the gate shows its order, so the lander may be at it. `approvals` are the votes that were told, each with
     its revision, and `withdrawals` those of them that were taken back. `seen` are all votes that were seen, each with
-    the revision at which that was first, and `commits` the commits that they named then. `again`: the last revision was told under an id that isn't made of its commit,
-    by which nobody can check that commit, so it is told once more as the next one.
+    the revision at which that was first, and `commits` the commits that they named then. `again`: the last revision was
+    told under an id that isn't made of its commit, by which nobody can check that commit, so it is told once more as
+    the next one.
     """
     change: int
     revisions: tuple[Revision, ...] = ()

@@ -73,6 +73,16 @@ class EachForm:
         self.model.delete_comment(self.place, other)
         self.assertEqual(self.votes(), [])
 
+    def test_an_edited_comment_is_no_vote(self) -> None:
+        said = self.model.comment(self.place, "ann", "Well, no")
+        self.model.edit_comment(self.place, said, "/gate approve")
+        self.assertEqual((self.votes(), self.flaws()),
+                         ([], [("ann", "approved by a comment that somebody has edited")]))
+        self.model.comment(self.place, "ann", "/gate approve")
+        self.assertEqual(len(self.votes()), 1)
+        self.model.edit_comment(self.place, self.model.comments(self.place, "ann")[1], "/gate approve\n")
+        self.assertEqual((self.votes(), len(self.flaws())), ([], 2))
+
     def test_each_vote_is_an_object_of_its_own_and_stays_it(self) -> None:
         self.model.approve(self.place, "ann")
         self.model.comment(self.place, "ann", "/gate approve")

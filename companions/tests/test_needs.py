@@ -103,7 +103,8 @@ class Found(unittest.TestCase):
 
     def test_a_request_is_asked_for_once_however_its_name_is_written(self) -> None:
         found = self.needs(*["#3", "acme/lib#3", "Acme/LIB!3", f"{WEB}/acme/lib/pull/3/files"] * 1000, "ACME/lib#12")
-        self.assertEqual((found.changes, found.remarks), ((30,), ("Depends-On: ACME/lib#12: names this request itself",)))
+        self.assertEqual(found.changes, (30,))
+        self.assertEqual(found.remarks, ("Depends-On: ACME/lib#12: names this request itself",))
         self.assertEqual(self.asked, [Place("acme/lib", 3)])
 
     def test_a_long_text_has_33_requests_asked_for_and_ten_lines_told(self) -> None:

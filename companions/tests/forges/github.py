@@ -79,7 +79,7 @@ class GitHubForm(Form):
 
     def said(self, it: Entry) -> dict[str, Any]:
         return {"id": it.id, "user": self.user(it.person), "body": it.text, "created_at": self.time(it.at),
-                "updated_at": self.time(it.at), "author_association": "NONE"}
+                "updated_at": self.time(it.edited or it.at), "author_association": "NONE"}
 
     def pulls(self, question: Question) -> Reply:
         repository, state = self.repository(question), question.query.get("state", "open")

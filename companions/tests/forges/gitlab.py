@@ -78,8 +78,8 @@ class GitLabForm(Form):
 
     def note(self, it: Entry) -> dict[str, Any]:
         return {"id": it.note, "body": SYSTEM.get(it.kind, it.text), "system": it.kind in SYSTEM,
-                "author": self.user(it.person), "created_at": self.time(it.at), "updated_at": self.time(it.at),
-                "noteable_type": "MergeRequest"}
+                "author": self.user(it.person), "created_at": self.time(it.at),
+                "updated_at": self.time(it.edited or it.at), "noteable_type": "MergeRequest"}
 
     def notes(self, question: Question) -> Reply:
         it = self.find(question)

@@ -30,6 +30,7 @@ class Entry:
     commit: str
     at: datetime
     is_dismissed: bool = False
+    edited: datetime | None = None
 
 
 @dataclass
@@ -152,8 +153,9 @@ class Model:
                 it.commit = "" if it.commit == commit else it.commit
 
     def edit_comment(self, place: Place, comment: Entry, text: str) -> None:
+        """Its writer edits a comment, or somebody else who may write to the repository, and nobody sees who it was."""
         with self.lock:
-            comment.text = text
+            comment.text, comment.edited = text, self.tick()
             self.tell("comment edited", place, comment)
 
     def delete_comment(self, place: Place, comment: Entry) -> None:
