@@ -24,8 +24,12 @@ APPROVES = "/gate approve"
 # The most bytes that an answer of a forge's API, or a hook, may have.
 LARGEST = 8 * 1024 * 1024
 
-# How many elements of a list are asked for at a time.
+# How many elements of a list are asked for at a time; and where a page is too large, those of a smaller one.
 PAGE = 50
+SMALLER = {PAGE: 10, 10: 1}
+
+# The most calls of smaller pages that one reading of a list takes, and the most pages of a list of comments.
+MOST_CALLS = 100
 
 # The longest pause that a forge is believed to ask for, in seconds.
 LONGEST_PAUSE = 3600.0
@@ -43,6 +47,18 @@ class ForgeFault(Exception):
     def __init__(self, what: str, status: int | None = None, said: str = "") -> None:
         super().__init__(what)
         self.status, self.said = status, said
+
+
+class TooLarge(ForgeFault):
+    """An answer is larger than any that is read. Anybody who may write a long text can bring that about."""
+
+
+class Unread:
+    """A reading of a list in which anybody may write: what can't be read of it is left out, and that is noted here.
+    `is_whole`: it comes whole, whichever page is asked for. `calls` are those of smaller pages."""
+
+    def __init__(self, is_whole: bool = False) -> None:
+        self.is_whole, self.is_any, self.calls = is_whole, False, 0
 
 
 @dataclass(frozen=True)
@@ -162,6 +178,8 @@ class Api:
             if method == "GET":
                 self.kept.keep(path, answer)
             return json.loads(content), answer.link
+        except TooLong as fault:
+            raise TooLarge(f"{method} {path}: {fault}") from fault
         except (OSError, http.client.HTTPException, ValueError, RecursionError) as fault:
             raise ForgeFault(f"{method} {path}: {fault or type(fault).__name__}") from fault
 
@@ -178,28 +196,65 @@ class Api:
             response = connection.getresponse()
             return response, content_of(response)
 
-    def pages(self, path: str, size: str, has_links: bool) -> Iterator[Any]:
+    def pages(self, path: str, size: str, has_links: bool, unread: Unread | None = None) -> Iterator[Any]:
         """All elements of a list that comes by pages; `size` is how the API calls the number of elements on a page.
 
         The page may be smaller than asked for. The last one has no link to a next one; of a forge that doesn't link all
-        its lists, it is the one that brings nothing new, as some lists come whole whichever page is asked for.
+        its lists, it is the one that brings nothing new, as some lists come whole whichever page is asked for. A page
+        that is too large is asked for by smaller ones. What can't be read so is a fault, or left out if it may be.
         """
-        page, seen, between = 1, set[int](), "&" if "?" in path else "?"
+        page, seen, calls = 1, set[int](), unread or Unread()
+        where = f"{path}{'&' if '?' in path else '?'}{size}="
         while True:
-            where = f"{path}{between}{size}={PAGE}&page={page}"
-            found, link = self.answer("GET", where, None)
+            if unread and page > MOST_CALLS:
+                unread.is_any = True
+                return
+            found, is_last = self.part(where, PAGE, page, has_links, calls, unread is None)
             with expected(where):
-                if not isinstance(found, list):
-                    raise TypeError("no list")
                 new = [it for it in found if it["id"] not in seen]
                 seen.update(it["id"] for it in new)
             yield from new
-            if not new or has_links and 'rel="next"' not in link:
-                # A full page stays the same when the next one comes to be.
-                if len(found) >= PAGE:
-                    self.kept.drop(where)
+            if is_last or not new and not calls.is_any:
                 return
             page += 1
+
+    def part(self, where: str, size: int, page: int, has_links: bool, unread: Unread,
+             is_strict: bool) -> tuple[list[Any], bool]:
+        """A page, and whether it is the last one. `is_strict`: nothing may be left out."""
+        path = f"{where}{size}&page={page}"
+        if size < PAGE:
+            unread.calls += 1
+        try:
+            if unread.calls > MOST_CALLS:
+                raise TooLarge(f"GET {path}: not asked, since {MOST_CALLS} smaller pages were asked for by then")
+            found, link = self.answer("GET", path, None)
+        except TooLarge:
+            if unread.calls <= MOST_CALLS and size in SMALLER and not unread.is_whole:
+                return self.parts(where, size, page, has_links, unread, is_strict)
+            if is_strict:
+                raise
+            unread.is_any = True
+            return [], unread.calls > MOST_CALLS or unread.is_whole
+        with expected(path):
+            if not isinstance(found, list):
+                raise TypeError("no list")
+        is_last = not found or has_links and 'rel="next"' not in link
+        if is_last and len(found) >= size:
+            # A full page stays the same when the next one comes to be.
+            self.kept.drop(path)
+        return found, is_last
+
+    def parts(self, where: str, size: int, page: int, has_links: bool, unread: Unread,
+              is_strict: bool) -> tuple[list[Any], bool]:
+        """What is on a page, by the smaller ones in its place."""
+        smaller, found, is_last = SMALLER[size], list[Any](), False
+        first = (page - 1) * (size // smaller) + 1
+        for at in range(first, first + size // smaller):
+            more, is_last = self.part(where, smaller, at, has_links, unread, is_strict)
+            found += more
+            if is_last:
+                break
+        return found, is_last
 
 
 def pause_of(response: http.client.HTTPResponse) -> float:
@@ -213,11 +268,15 @@ def pause_of(response: http.client.HTTPResponse) -> float:
     return min(float(wait), LONGEST_PAUSE) if wait.isdigit() else 0.0
 
 
+class TooLong(Exception):
+    """A content is longer than any that is read."""
+
+
 def content_of(response: http.client.HTTPResponse) -> bytes:
     """The whole content. A cut one could be taken for an empty list."""
     content = response.read(LARGEST + 1)
     if len(content) > LARGEST:
-        raise ValueError(f"more than {LARGEST} bytes")
+        raise TooLong(f"more than {LARGEST} bytes")
     if response.length:
         raise http.client.IncompleteRead(content, response.length)
     return content

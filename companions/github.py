@@ -11,8 +11,8 @@ from collections.abc import Iterator, Mapping
 from dataclasses import replace
 from typing import Any
 
-from companions.forges import (APPROVES, Api, Opinion, Place, approves, as_hook, check_signature, expected, flaw_of,
-                               hash_of, mark_of, marked, place_at, secret_of, time_of, votes_of)
+from companions.forges import (APPROVES, Api, Opinion, Place, Unread, approves, as_hook, check_signature, expected,
+                               flaw_of, hash_of, mark_of, marked, place_at, secret_of, time_of, votes_of)
 from companions.requests import GONE, Request, State, Vote
 
 __all__ = ["APPROVES", "GitHub", "Gitea"]
@@ -24,6 +24,8 @@ class GitHub:
     mark = "#"
     page_size = "per_page"
     has_links = True
+    # Whether each page of a request's comments has all of them.
+    has_whole_comments = False
     signature = "X-Hub-Signature-256"
     context = "gate"
 
@@ -49,8 +51,8 @@ class GitHub:
     def path(self, place: Place, kind: str = "pulls") -> str:
         return f"{self.repository(place.repository)}/{kind}/{place.number}"
 
-    def rows(self, path: str) -> Iterator[Any]:
-        return self.api.pages(path, self.page_size, self.has_links)
+    def rows(self, path: str, unread: Unread | None = None) -> Iterator[Any]:
+        return self.api.pages(path, self.page_size, self.has_links, unread)
 
     def request(self, place: Place) -> Request | None:
         so = self.outline(place)
@@ -58,7 +60,9 @@ class GitHub:
             return None
         with expected(self.path(place)):
             # At one and the same second a review counts as the later one: it may be against.
-            return replace(so, votes=votes_of([*self.comments(place), *self.reviews(place)]))
+            unread = Unread(self.has_whole_comments)
+            votes = votes_of([*self.comments(place, unread), *self.reviews(place)])
+            return replace(so, votes=votes, is_cut=unread.is_any)
 
     def outline(self, place: Place) -> Request | None:
         said = self.api.find("GET", self.path(place))
@@ -79,8 +83,8 @@ class GitHub:
             vote = Vote(f"review {it['id']}", it["user"]["login"], approves_it, it.get("commit_id") or GONE)
             yield Opinion(time_of(it["submitted_at"]), vote)
 
-    def comments(self, place: Place) -> Iterator[Opinion]:
-        for it in self.rows(self.path(place, "issues") + "/comments"):
+    def comments(self, place: Place, unread: Unread) -> Iterator[Opinion]:
+        for it in self.rows(self.path(place, "issues") + "/comments", unread):
             if approves(it.get("body"), mark_of(self.secret, place)) and it.get("user"):
                 vote = Vote(f"comment {it['id']}", it["user"]["login"], True, None, flaw_of(it))
                 yield Opinion(time_of(it["created_at"]), vote)
@@ -109,7 +113,8 @@ class GitHub:
         body = {"body": f"{text}\n\n{mark}"}
         with expected(of_request):
             known = iter(() if comment is None else (comment,))
-            for number in itertools.chain(known, marked(self.rows(of_request), mark)):
+            rows = self.rows(of_request, Unread(self.has_whole_comments))
+            for number in itertools.chain(known, marked(rows, mark)):
                 path = f"{self.repository(place.repository)}/issues/comments/{number}"
                 if self.api.find("PATCH", path, body) is not None:
                     return number
@@ -124,6 +129,7 @@ class Gitea(GitHub):
 
     page_size = "limit"
     has_links = False
+    has_whole_comments = True
     signature = "X-Gitea-Signature"
 
     def api_headers(self, token: str) -> dict[str, str]:

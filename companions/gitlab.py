@@ -12,8 +12,8 @@ from dataclasses import replace
 from datetime import datetime
 from typing import Any
 
-from companions.forges import (PENDING, Api, ForgeFault, Opinion, Place, approves, as_hook, check_same, expected,
-                               flaw_of, hash_of, mark_of, marked, place_at, secret_of, time_of, votes_of)
+from companions.forges import (PENDING, Api, ForgeFault, Opinion, Place, Unread, approves, as_hook, check_same,
+                               expected, flaw_of, hash_of, mark_of, marked, place_at, secret_of, time_of, votes_of)
 from companions.requests import Request, State, Vote
 
 STATES = {"opened": State.OPEN, "locked": State.OPEN, "closed": State.CLOSED, "merged": State.MERGED}
@@ -23,6 +23,8 @@ UNDECIDED = "Waits for approval, or see the comment of the gate"
 
 # The notes that GitLab itself writes of approvals.
 APPROVED, UNAPPROVED = "approved this merge request", "unapproved this merge request"
+# Why a comment is no vote where others can't be read.
+UNSURE = "approved by a comment, while others of it are too long to be read"
 # Who may write to a project has this access level at least.
 DEVELOPER = 30
 
@@ -52,13 +54,13 @@ class GitLab:
     def path(self, place: Place) -> str:
         return f"{self.project(place.repository)}/merge_requests/{place.number}"
 
-    def rows(self, path: str) -> Iterator[Any]:
-        return self.api.pages(path, "per_page", True)
+    def rows(self, path: str, unread: Unread | None = None) -> Iterator[Any]:
+        return self.api.pages(path, "per_page", True, unread)
 
     def request(self, place: Place) -> Request | None:
-        so = self.outline(place)
+        so, unread = self.outline(place), Unread()
         with expected(self.path(place)):
-            return so and replace(so, votes=votes_of(self.opinions(place)))
+            return so and replace(so, votes=votes_of(self.opinions(place, unread)), is_cut=unread.is_any)
 
     def outline(self, place: Place) -> Request | None:
         said = self.api.find("GET", self.path(place))
@@ -69,18 +71,27 @@ class GitLab:
                            said["target_branch"], said["title"] or "", said.get("description") or "",
                            is_draft=bool(said.get("draft")))
 
-    def opinions(self, place: Place) -> Iterator[Opinion]:
-        """Approvals by their notes, while GitLab still counts them, comments, and what takes approvals back."""
+    def opinions(self, place: Place, unread: Unread) -> list[Opinion]:
+        """Approvals by their notes, while GitLab still counts them, comments, and what takes approvals back. Where some
+        notes can't be read, one of them may take back what a person approved by a comment."""
+        found = list(self.of_notes(place, unread))
+        flaw = UNSURE if unread.is_any else None
+        return [replace(it, vote=replace(it.vote, flaw=it.vote.flaw or flaw)) if is_comment else it
+                for it, is_comment in found]
+
+    def of_notes(self, place: Place, unread: Unread) -> Iterator[tuple[Opinion, bool]]:
+        """What notes say, each with whether it is a comment."""
         said = self.api.call("GET", self.path(place) + "/approvals")
         approving = {it["user"]["username"] for it in said["approved_by"]}
         versions, mark = list[tuple[datetime, str]](), mark_of(self.secret, place)
-        for it in self.rows(self.path(place) + "/notes?sort=asc&order_by=created_at"):
+        for it in self.rows(self.path(place) + "/notes?sort=asc&order_by=created_at", unread):
             person, at, body = it["author"]["username"], time_of(it["created_at"]), (it.get("body") or "").strip()
             if it["system"] and body == UNAPPROVED:
-                yield Opinion(at, Vote(f"note {it['id']}", person, None, None))
+                yield Opinion(at, Vote(f"note {it['id']}", person, None, None)), False
             elif body == APPROVED and person in approving if it["system"] else approves(body, mark):
                 versions, flaw = versions or self.versions(place), None if it["system"] else flaw_of(it)
-                yield Opinion(at, Vote(f"note {it['id']}", person, True, commit_at(versions, at), flaw))
+                vote = Vote(f"note {it['id']}", person, True, commit_at(versions, at), flaw)
+                yield Opinion(at, vote), not it["system"]
 
     def versions(self, place: Place) -> list[tuple[datetime, str]]:
         """The heads that the request had, the oldest first, and since when."""
@@ -114,7 +125,8 @@ class GitLab:
         body = {"body": f"{text}\n\n{mark}"}
         with expected(notes):
             known = iter(() if comment is None else (comment,))
-            for number in itertools.chain(known, marked(self.rows(notes + "?sort=asc&order_by=created_at"), mark)):
+            rows = self.rows(notes + "?sort=asc&order_by=created_at", Unread())
+            for number in itertools.chain(known, marked(rows, mark)):
                 if self.api.find("PUT", f"{notes}/{number}", body) is not None:
                     return number
             return int(self.api.call("POST", notes, body)["id"])

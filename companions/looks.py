@@ -209,7 +209,7 @@ class Looks:
         """An approval that names no commit is of what the forge shows before it and behind it."""
         if any(it.approves and it.commit is None and seen.get(it.object, NO_REVISION) != NO_REVISION
                for it in so.votes):
-            if self.forge.outline(Place(so.repository, so.number)) != replace(so, votes=()):
+            if self.forge.outline(Place(so.repository, so.number)) != replace(so, votes=(), is_cut=False):
                 raise Again
 
     def is_ahead(self, so: Request, project: Project) -> bool:

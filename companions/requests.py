@@ -41,7 +41,7 @@ class Vote:
 @dataclass(frozen=True)
 class Request:
     """A pull or merge request as it is now. `votes` are those that the forge shows, the oldest first. One that is a
-    draft isn't to land."""
+    draft isn't to land. `is_cut`: there are comments that are too long to be read, so nobody knows what they say."""
     repository: str
     number: int
     state: State
@@ -51,6 +51,7 @@ class Request:
     text: str
     votes: tuple[Vote, ...] = ()
     is_draft: bool = False
+    is_cut: bool = False
 
 
 @dataclass(frozen=True)
@@ -201,6 +202,7 @@ def uncounted(so: Request, told: Told, needs: tuple[int, ...], may_approve: froz
     approving, against = standing(so.votes)
     lines = [f"{it.person} objects ({it.object})" for it in against if it.person in may_approve]
     lines += ["it is a draft, which isn't to land"] if so.is_draft and approving else []
+    lines += ["some of its comments are too long to be read: no approval by one of them counts"] if so.is_cut else []
     meant = (*approving, *(it for it in so.votes if it.flaw is not None))
     for it in sorted(meant, key=lambda it: it.person not in may_approve):
         why = it.flaw or why_not(it, so, told, revision, new_ones, it.person in may_approve)

@@ -6,9 +6,10 @@ import unittest
 from dataclasses import replace
 from datetime import timedelta
 from email.message import Message
+from unittest import mock
 
 from companions.forges import FAILURE, PAGE, PENDING, SUCCESS, Content, KeptAnswers, Place
-from companions.gitlab import UNDECIDED
+from companions.gitlab import UNDECIDED, UNSURE
 from companions.people_texts import unapproved
 from companions.requests import GONE, State
 from companions.tests.forges import StandInForge
@@ -141,6 +142,46 @@ class EachForm:
         self.assertEqual(self.client.outline(self.place), replace(so, votes=()))
         self.assertIsNone(self.client.outline(Place(LIB, 2)))
         self.assertEqual(len(self.forge.server.asked), 2)
+
+    def test_long_comments_of_others_hide_no_vote(self) -> None:
+        self.model.approve(self.place, "ann")
+        self.model.comment(self.place, "ben", "/gate approve")
+        for _ in range(60):
+            self.model.comment(self.place, "mallory", "x" * 9000)
+        self.enterContext(mock.patch("companions.forges.LARGEST", 40_000))
+        both = [("ann", True, ONE), ("ben", True, self.of_comment(ONE))]
+        # All comments of a request at Gitea are one answer.
+        is_whole = self.kind == "gitea"
+        self.assertEqual((self.votes(), self.asked().is_cut), (both[:1] if is_whole else both, is_whole))
+        for _ in range(60):
+            self.model.comment(self.place, "mallory", "x" * 9000)
+        self.model.draft(self.place, True)
+        self.forge.server.asked.clear()
+        so = self.asked()
+        self.assertLess(len(self.forge.server.asked), 120)
+        self.assertEqual((so.is_draft, so.is_cut), (True, True))
+        self.assertEqual(self.votes(), both if self.kind == "github" else both[:1])
+        self.assertEqual(self.flaws(), [("ben", UNSURE)] if self.kind == "gitlab" else [])
+
+    def test_a_comment_that_is_too_long_itself_is_left_out(self) -> None:
+        self.model.approve(self.place, "ann")
+        self.model.comment(self.place, "mallory", "x" * 50_000)
+        self.model.comment(self.place, "ben", "/gate approve")
+        self.enterContext(mock.patch("companions.forges.LARGEST", 40_000))
+        self.assertTrue(self.asked().is_cut)
+        self.assertEqual([it[0] for it in self.votes()], ["ann", "ben"] if self.kind == "github" else ["ann"])
+        number = self.client.comment(self.place, None, "waits")
+        self.assertEqual(self.client.comment(self.place, number, "tests"), number)
+
+    def test_long_texts_of_requests_hide_none(self) -> None:
+        for _ in range(60):
+            self.model.open(LIB, TWO, "main", "One more", "x" * 9000)
+        self.enterContext(mock.patch("companions.forges.LARGEST", 40_000))
+        self.assertEqual(sorted(self.client.open_requests(LIB)), list(range(1, 62)))
+        for _ in range(60):
+            self.model.open(LIB, TWO, "main", "One more", "x" * 9000)
+        fault = self.fails(None, lambda: list(self.client.open_requests(LIB)))
+        self.assertIn("not asked, since 100 smaller pages were asked for by then", str(fault))
 
     def test_a_hidden_list_isnt_an_empty_one(self) -> None:
         self.fails(404, lambda: list(self.client.open_requests("acme/other")))

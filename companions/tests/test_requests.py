@@ -244,6 +244,8 @@ class Rules(unittest.TestCase):
                  ["ada wrote something else: comment 4 doesn't count",
                   "mallory wrote something else: comment 8 doesn't count"]),
                 (so(ADA, EVE), ONE, ["eve objects (review 3)"]),
+                (replace(so(ADA), is_cut=True), ONE,
+                 ["some of its comments are too long to be read: no approval by one of them counts"]),
                 (so(ADA, is_draft=True), ONE, ["it is a draft, which isn't to land"]),
                 (so(is_draft=True), ONE, []),
                 (so(ADA, head=B), replace(TWO, landed=True), []),
