@@ -9,7 +9,7 @@ import json
 import time
 import urllib.parse
 from collections.abc import Iterable, Iterator, Mapping
-from dataclasses import dataclass
+from dataclasses import dataclass, replace
 from datetime import datetime, timezone
 from typing import Any, Protocol
 
@@ -47,6 +47,10 @@ class ForgeFault(Exception):
     def __init__(self, what: str, status: int | None = None, said: str = "") -> None:
         super().__init__(what)
         self.status, self.said = status, said
+
+
+# Why an approval is none where the request had another target branch.
+ELSEWHERE = "approved before its target branch was changed"
 
 
 class TooLarge(ForgeFault):
@@ -294,6 +298,14 @@ def expected(path: str) -> Iterator[None]:
 def votes_of(opinions: Iterable[Opinion]) -> tuple[Vote, ...]:
     """The votes, the oldest first; those of one time in the order in which they are given."""
     return tuple(it.vote for it in sorted(opinions, key=lambda it: it.at))
+
+
+def at_target(opinions: Iterable[Opinion], changed: Iterable[datetime]) -> list[Opinion]:
+    """The opinions, of which those aren't approvals that were given by the time at which the target branch was changed
+    last: nobody knows that they are for the branch of now."""
+    last = max(changed, default=None)
+    return [replace(it, vote=replace(it.vote, flaw=it.vote.flaw or ELSEWHERE))
+            if last is not None and it.vote.approves and it.at <= last else it for it in opinions]
 
 
 def time_of(text: str) -> datetime:

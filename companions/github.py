@@ -9,10 +9,11 @@ import itertools
 import urllib.parse
 from collections.abc import Iterator, Mapping
 from dataclasses import replace
+from datetime import datetime
 from typing import Any
 
-from companions.forges import (APPROVES, Api, Opinion, Place, Unread, approves, as_hook, check_signature, expected,
-                               flaw_of, hash_of, mark_of, marked, place_at, secret_of, time_of, votes_of)
+from companions.forges import (APPROVES, Api, Opinion, Place, Unread, approves, as_hook, at_target, check_signature,
+                               expected, flaw_of, hash_of, mark_of, marked, place_at, secret_of, time_of, votes_of)
 from companions.requests import GONE, Request, State, Vote
 
 __all__ = ["APPROVES", "GitHub", "Gitea"]
@@ -26,6 +27,9 @@ class GitHub:
     has_links = True
     # Whether each page of a request's comments has all of them.
     has_whole_comments = False
+    # The list of what was done to a request, the member that says what it was, and what changes its target branch.
+    events, event = "events", "event"
+    target_events = ("base_ref_changed", "automatic_base_change_succeeded")
     signature = "X-Hub-Signature-256"
     context = "gate"
 
@@ -61,8 +65,10 @@ class GitHub:
         with expected(self.path(place)):
             # At one and the same second a review counts as the later one: it may be against.
             unread = Unread(self.has_whole_comments)
-            votes = votes_of([*self.comments(place, unread), *self.reviews(place)])
-            return replace(so, votes=votes, is_cut=unread.is_any)
+            found = [*self.comments(place, unread), *self.reviews(place)]
+            if any(it.vote.approves for it in found):
+                found = at_target(found, self.target_changes(place))
+            return replace(so, votes=votes_of(found), is_cut=unread.is_any)
 
     def outline(self, place: Place) -> Request | None:
         said = self.api.find("GET", self.path(place))
@@ -88,6 +94,12 @@ class GitHub:
             if approves(it.get("body"), mark_of(self.secret, place)) and it.get("user"):
                 vote = Vote(f"comment {it['id']}", it["user"]["login"], True, None, flaw_of(it))
                 yield Opinion(time_of(it["created_at"]), vote)
+
+    def target_changes(self, place: Place) -> Iterator[datetime]:
+        """When the request got another target branch."""
+        for it in self.rows(f"{self.path(place, 'issues')}/{self.events}"):
+            if it[self.event] in self.target_events:
+                yield time_of(it["created_at"])
 
     def verdict(self, review: dict[str, Any]) -> str | None:
         """What a review says: approves, rejects, or dismissed; none where it says nothing of these."""
@@ -130,6 +142,8 @@ class Gitea(GitHub):
     page_size = "limit"
     has_links = False
     has_whole_comments = True
+    events, event = "timeline", "type"
+    target_events = ("change_target_branch",)
     signature = "X-Gitea-Signature"
 
     def api_headers(self, token: str) -> dict[str, str]:

@@ -6,14 +6,16 @@ approvals and statuses differ from those of others.
 from __future__ import annotations
 
 import itertools
+import re
 import urllib.parse
 from collections.abc import Iterator, Mapping
 from dataclasses import replace
 from datetime import datetime
 from typing import Any
 
-from companions.forges import (PENDING, Api, ForgeFault, Opinion, Place, Unread, approves, as_hook, check_same,
-                               expected, flaw_of, hash_of, mark_of, marked, place_at, secret_of, time_of, votes_of)
+from companions.forges import (PENDING, Api, ForgeFault, Opinion, Place, Unread, approves, as_hook, at_target,
+                               check_same, expected, flaw_of, hash_of, mark_of, marked, place_at, secret_of, time_of,
+                               votes_of)
 from companions.requests import Request, State, Vote
 
 STATES = {"opened": State.OPEN, "locked": State.OPEN, "closed": State.CLOSED, "merged": State.MERGED}
@@ -23,6 +25,8 @@ UNDECIDED = "Waits for approval, or see the comment of the gate"
 
 # The notes that GitLab itself writes of approvals.
 APPROVED, UNAPPROVED = "approved this merge request", "unapproved this merge request"
+# And of another target branch, also where the branch that it had was deleted.
+RETARGETED = re.compile("changed target branch from `|deleted the `.*` branch. This merge request now targets the `")
 # Why a comment is no vote where others can't be read.
 UNSURE = "approved by a comment, while others of it are too long to be read"
 # Who may write to a project has this access level at least.
@@ -74,19 +78,22 @@ class GitLab:
     def opinions(self, place: Place, unread: Unread) -> list[Opinion]:
         """Approvals by their notes, while GitLab still counts them, comments, and what takes approvals back. Where some
         notes can't be read, one of them may take back what a person approved by a comment."""
-        found = list(self.of_notes(place, unread))
+        changed = list[datetime]()
+        found = list(self.of_notes(place, unread, changed))
         flaw = UNSURE if unread.is_any else None
-        return [replace(it, vote=replace(it.vote, flaw=it.vote.flaw or flaw)) if is_comment else it
-                for it, is_comment in found]
+        return at_target((replace(it, vote=replace(it.vote, flaw=it.vote.flaw or flaw)) if is_comment else it
+                          for it, is_comment in found), changed)
 
-    def of_notes(self, place: Place, unread: Unread) -> Iterator[tuple[Opinion, bool]]:
-        """What notes say, each with whether it is a comment."""
+    def of_notes(self, place: Place, unread: Unread, changed: list[datetime]) -> Iterator[tuple[Opinion, bool]]:
+        """What notes say, each with whether it is a comment, and into `changed` when the target branch was changed."""
         said = self.api.call("GET", self.path(place) + "/approvals")
         approving = {it["user"]["username"] for it in said["approved_by"]}
         versions, mark = list[tuple[datetime, str]](), mark_of(self.secret, place)
         for it in self.rows(self.path(place) + "/notes?sort=asc&order_by=created_at", unread):
             person, at, body = it["author"]["username"], time_of(it["created_at"]), (it.get("body") or "").strip()
-            if it["system"] and body == UNAPPROVED:
+            if it["system"] and RETARGETED.match(body):
+                changed.append(at)
+            elif it["system"] and body == UNAPPROVED:
                 yield Opinion(at, Vote(f"note {it['id']}", person, None, None)), False
             elif body == APPROVED and person in approving if it["system"] else approves(body, mark):
                 versions, flaw = versions or self.versions(place), None if it["system"] else flaw_of(it)

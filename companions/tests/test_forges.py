@@ -8,7 +8,7 @@ from datetime import timedelta
 from email.message import Message
 from unittest import mock
 
-from companions.forges import FAILURE, PAGE, PENDING, SUCCESS, Content, KeptAnswers, Place
+from companions.forges import ELSEWHERE, FAILURE, PAGE, PENDING, SUCCESS, Content, KeptAnswers, Place
 from companions.gitlab import UNDECIDED, UNSURE
 from companions.people_texts import unapproved
 from companions.requests import GONE, State
@@ -74,6 +74,19 @@ class EachForm:
         self.model.delete_comment(self.place, other)
         self.assertEqual(self.votes(), [])
 
+    def test_what_was_approved_at_another_target_branch_is_not_approved_at_this_one(self) -> None:
+        self.model.retarget(self.place, "topic")
+        self.model.approve(self.place, "ann")
+        self.model.comment(self.place, "ben", "/gate approve")
+        self.model.comment(self.place, "ben", "changed target branch from `a` to `b`")
+        self.assertEqual([it[0] for it in self.votes()], ["ann", "ben"])
+        self.model.reject(self.place, "cy")
+        self.model.retarget(self.place, "main")
+        self.assertEqual(self.flaws(), [(it, ELSEWHERE) for it in ("ann", "ben")])
+        self.assertEqual(self.votes(), [] if self.kind == "gitlab" else [("cy", False, ONE)])
+        self.model.comment(self.place, "ann", "/gate approve")
+        self.assertIn("ann", [it[0] for it in self.votes()])
+
     def test_an_edited_comment_is_no_vote(self) -> None:
         said = self.model.comment(self.place, "ann", "Well, no")
         self.model.edit_comment(self.place, said, "/gate approve")
@@ -133,7 +146,8 @@ class EachForm:
         self.model.comment(self.place, "ben", "/gate approve")
         self.forge.server.asked.clear()
         self.assertEqual(len(self.votes()), 2)
-        self.assertLessEqual(len(self.forge.server.asked), 5)
+        # Gitea's lists end with a page that brings nothing.
+        self.assertLessEqual(len(self.forge.server.asked), 7 if self.kind == "gitea" else 4)
 
     def test_an_outline_is_one_call(self) -> None:
         self.model.approve(self.place, "ann")
@@ -371,9 +385,9 @@ class UnchangedTest(Case):
     def test_what_has_not_changed_is_not_sent_again(self) -> None:
         self.model.approve(self.place, "ann")
         first, server = self.asked(), self.forge.server
-        self.assertEqual((self.asked(), server.unchanged, len(server.asked)), (first, 3, 6))
+        self.assertEqual((self.asked(), server.unchanged, len(server.asked)), (first, 4, 8))
         self.model.approve(self.place, "ben")
-        self.assertEqual(([it.person for it in self.asked().votes], server.unchanged), (["ann", "ben"], 5))
+        self.assertEqual(([it.person for it in self.asked().votes], server.unchanged), (["ann", "ben"], 7))
 
     def test_a_list_that_grows_by_a_page(self) -> None:
         for number in range(PAGE + 5):

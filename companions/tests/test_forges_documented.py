@@ -38,6 +38,9 @@ GITHUB_REVIEWS = [
     {"id": 84, "user": USER, "body": "", "state": "PENDING", "commit_id": HEAD}]
 GITHUB_COMMENTS = [{"id": 1, "user": {**USER, "login": "hubot"}, "body": "/gate approve\r\n", "created_at":
                     "2019-11-17T17:43:00Z", "updated_at": "2019-11-17T17:43:00Z", "author_association": "COLLABORATOR"}]
+GITHUB_EVENTS = [
+    {"id": 11, "event": "base_ref_changed", "actor": USER, "commit_id": None, "created_at": "2019-11-17T17:40:00Z"},
+    {"id": 12, "event": "labeled", "actor": USER, "commit_id": None, "created_at": "2019-11-17T17:50:00Z"}]
 GITHUB_COMMENT_HOOK = {
     "action": "created", "comment": GITHUB_COMMENTS[0], "sender": USER,
     "issue": {"id": 444500041, "number": 1, "title": "Spelling", "state": "open",
@@ -66,6 +69,8 @@ GITEA_REVIEWS: list[dict[str, Any]] = [
      "stale": False, "official": False, "dismissed": False, "submitted_at": "2024-05-01T11:54:00+02:00"}]
 GITEA_COMMENTS = [{"id": 8, "user": {"login": "ben"}, "body": "/gate approve", "created_at": "2024-05-01T09:55:00Z",
                    "updated_at": "2024-05-01T09:55:00Z", "assets": []}]
+GITEA_TIMELINE = [{"id": 20, "type": "change_target_branch", "old_ref": "a", "new_ref": "main", "body": "",
+                   "user": {"login": "ann"}, "created_at": "2024-05-01T11:30:00+02:00"}]
 GITEA_REVIEW_HOOK = {"action": "reviewed", "number": 7, "pull_request": GITEA_PULL, "requested_reviewer": None,
                      "repository": {"id": 4, "full_name": "acme/lib"}, "sender": {"id": 2, "login": "ann"},
                      "commit_id": "", "review": {"type": "pull_request_review_approved", "content": ""}}
@@ -122,7 +127,8 @@ class DocumentedCase(unittest.TestCase):
 
 class GitHubTest(DocumentedCase):
     def test_a_pull_request(self) -> None:
-        form = GitHub(self.serve(one=GITHUB_PULL, reviews=GITHUB_REVIEWS, comments=GITHUB_COMMENTS), "token", "secret")
+        form = GitHub(self.serve(one=GITHUB_PULL, reviews=GITHUB_REVIEWS, comments=GITHUB_COMMENTS,
+                                 events=GITHUB_EVENTS), "token", "secret")
         place = Place("octocat/Hello-World", 1347)
         self.assertEqual(form.request(place), Request(
             "octocat/Hello-World", 1347, State.OPEN, HEAD, "master", "Amazing new feature",
@@ -185,7 +191,8 @@ class GitHubTest(DocumentedCase):
 
 class GiteaTest(DocumentedCase):
     def test_a_pull_request(self) -> None:
-        form = Gitea(self.serve(one=GITEA_PULL, reviews=GITEA_REVIEWS, comments=GITEA_COMMENTS), "token", "secret")
+        form = Gitea(self.serve(one=GITEA_PULL, reviews=GITEA_REVIEWS, comments=GITEA_COMMENTS,
+                                timeline=GITEA_TIMELINE), "token", "secret")
         self.assertEqual(form.request(Place("acme/lib", 7)), Request(
             "acme/lib", 7, State.MERGED, HEAD, "main", "Add one", "", (Vote("review 6", "ann", False, OTHER),
                                                                       Vote("review 7", "ben", None, HEAD),
@@ -201,7 +208,7 @@ class GiteaTest(DocumentedCase):
     def test_lists_that_come_whole(self) -> None:
         """All comments come whichever page is asked for, also where they are more than a page could have."""
         many = [{**GITEA_COMMENTS[0], "id": n} for n in range(120)]
-        url = self.serve(one=GITEA_PULL, reviews=[], comments=many)
+        url = self.serve(one=GITEA_PULL, reviews=[], comments=many, timeline=[])
         votes = Gitea(url, "token", "secret").request(Place("acme/lib", 7)).votes
         self.assertEqual([it.object for it in votes], [f"comment {n}" for n in range(120)])
 

@@ -36,7 +36,8 @@ class GitHubForm(Form):
         pull, issue = REPOSITORY + r"/pulls/(\d+)", REPOSITORY + r"/issues/(\d+)"
         return [("GET", REPOSITORY + "/pulls", self.pulls), ("GET", pull, self.one),
                 ("GET", pull + "/reviews", self.reviews), ("GET", issue + "/comments", self.comments),
-                ("POST", issue + "/comments", self.add_comment),
+                ("POST", issue + "/comments", self.add_comment), ("GET", issue + "/events", self.events),
+                ("GET", issue + "/timeline", self.timeline),
                 ("PATCH", REPOSITORY + r"/issues/comments/(\d+)", self.edit_comment),
                 ("GET", REPOSITORY + "/collaborators/([^/]+)/permission", self.permission),
                 ("POST", REPOSITORY + "/statuses/([0-9a-f]+)", self.add_status)]
@@ -100,6 +101,22 @@ class GitHubForm(Form):
     def comments(self, question: Question) -> Reply:
         pull = self.find(question)
         return self.listed([self.said(it) for it in pull.of("commented")], question) if pull else self.missing()
+
+    def events(self, question: Question) -> Reply:
+        """What was done to a request, of which pushes and changes of its target are shown here."""
+        names = {"retargeted": "base_ref_changed", "pushed": "head_ref_force_pushed"}
+        pull = self.find(question)
+        rows = [{"id": it.note, "event": names[it.kind], "actor": self.user(it.person), "created_at": self.time(it.at)}
+                for it in (pull.of(*names) if pull else [])]
+        return self.listed(rows, question) if pull else self.missing()
+
+    def timeline(self, question: Question) -> Reply:
+        """Gitea's list of all that was said and done."""
+        names = {"retargeted": "change_target_branch", "pushed": "pull_push", "commented": "comment"}
+        pull = self.find(question)
+        rows = [{"id": it.note, "type": names[it.kind], "user": self.user(it.person), "created_at": self.time(it.at)}
+                for it in (pull.of(*names) if pull else [])]
+        return self.listed(rows, question) if pull else self.missing()
 
     def add_comment(self, question: Question) -> Reply:
         pull = self.find(question)

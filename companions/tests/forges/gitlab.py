@@ -77,7 +77,7 @@ class GitLabForm(Form):
                            "user_has_approved": False, "user_can_approve": True, "approved_by": approving})
 
     def note(self, it: Entry) -> dict[str, Any]:
-        return {"id": it.note, "body": SYSTEM.get(it.kind, it.text), "system": it.kind in SYSTEM,
+        return {"id": it.note, "body": SYSTEM.get(it.kind, it.text), "system": it.kind in (*SYSTEM, "retargeted"),
                 "author": self.user(it.person), "created_at": self.time(it.at),
                 "updated_at": self.time(it.edited or it.at), "noteable_type": "MergeRequest"}
 

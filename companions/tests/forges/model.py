@@ -124,7 +124,9 @@ class Model:
 
     def retarget(self, place: Place, branch: str) -> None:
         with self.lock:
-            self.pulls[place].target = branch
+            pull = self.pulls[place]
+            self.enter("retargeted", place, pull.author, f"changed target branch from `{pull.target}` to `{branch}`")
+            pull.target = branch
             self.tell("edited", place)
 
     def approve(self, place: Place, person: str) -> Entry:
