@@ -100,7 +100,8 @@ class Forge(Protocol):
     def comment(self, place: Place, comment: int | None, text: str) -> int:
         """Writes a comment, in the place of an earlier one if there is one, and gives its number.
 
-        Whoever doesn't know the number, as after a crash or a lost answer, has the same comment nevertheless.
+        Whoever doesn't know the number, as after a crash or a lost answer, has the same comment nevertheless. One that
+        somebody else has written is never taken for it.
         """
 
     def head_ref(self, number: int) -> str:
@@ -151,19 +152,27 @@ class Api:
         self.url, self.timeout, self.resting = urllib.parse.urlsplit(url.rstrip("/")), timeout, 0.0
         self.headers = {"Accept": "application/json", "User-Agent": "gated-adapter", **headers}
         self.kept = KeptAnswers()
+        self.own: int | None = None
 
     def call(self, method: str, path: str, said: Any = None) -> Any:
         """What the API answers; `ForgeFault` for all statuses but 2xx."""
         return self.answer(method, path, said)[0]
 
-    def find(self, method: str, path: str, said: Any = None) -> Any:
-        """What the API answers, or none where it says 404."""
+    def find(self, method: str, path: str, said: Any = None, none: tuple[int, ...] = (404,)) -> Any:
+        """What the API answers, or none where its status says that there is none."""
         try:
             return self.call(method, path, said)
         except ForgeFault as fault:
-            if fault.status != 404:
+            if fault.status not in none:
                 raise
             return None
+
+    def account(self) -> int:
+        """The number of the token's account, which stays the same."""
+        if self.own is None:
+            with expected("/user"):
+                self.own = int(self.call("GET", "/user")["id"])
+        return self.own
 
     def answer(self, method: str, path: str, said: Any) -> tuple[Any, str]:
         """What the API answers, and what its header `Link` has."""
@@ -350,10 +359,11 @@ def mark_of(secret: str, place: Place) -> str:
     return f"<!-- gate {digits[:32]} -->"
 
 
-def marked(rows: Iterable[Any], mark: str) -> Iterator[int]:
-    """The numbers of the comments that end with the mark: who quotes one adds something."""
+def marked(rows: Iterable[Any], mark: str, writer: str, account: int) -> Iterator[int]:
+    """The numbers of the comments that end with the mark and are of an account. Others see the mark and may copy it.
+    `writer` is how the API calls who wrote a comment."""
     for it in rows:
-        if (it.get("body") or "").rstrip().endswith(f"\n{mark}"):
+        if (it.get(writer) or {}).get("id") == account and (it.get("body") or "").rstrip().endswith(f"\n{mark}"):
             yield int(it["id"])
 
 

@@ -124,13 +124,15 @@ class GitHub:
         of_request, mark = self.path(place, "issues") + "/comments", mark_of(self.secret, place)
         body = {"body": f"{text}\n\n{mark}"}
         with expected(of_request):
-            known = iter(() if comment is None else (comment,))
-            rows = self.rows(of_request, Unread(self.has_whole_comments))
-            for number in itertools.chain(known, marked(rows, mark)):
+            for number in itertools.chain(() if comment is None else (comment,), self.own_comments(of_request, mark)):
                 path = f"{self.repository(place.repository)}/issues/comments/{number}"
-                if self.api.find("PATCH", path, body) is not None:
+                if self.api.find("PATCH", path, body, (403, 404)) is not None:
                     return number
             return int(self.api.call("POST", of_request, body)["id"])
+
+    def own_comments(self, path: str, mark: str) -> Iterator[int]:
+        rows = self.rows(path, Unread(self.has_whole_comments))
+        yield from marked(rows, mark, "user", self.api.account())
 
     def head_ref(self, number: int) -> str:
         return f"refs/pull/{number}/head"

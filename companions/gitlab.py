@@ -131,12 +131,14 @@ class GitLab:
         notes, mark = self.path(place) + "/notes", mark_of(self.secret, place)
         body = {"body": f"{text}\n\n{mark}"}
         with expected(notes):
-            known = iter(() if comment is None else (comment,))
-            rows = self.rows(notes + "?sort=asc&order_by=created_at", Unread())
-            for number in itertools.chain(known, marked(rows, mark)):
-                if self.api.find("PUT", f"{notes}/{number}", body) is not None:
+            for number in itertools.chain(() if comment is None else (comment,), self.own_notes(notes, mark)):
+                if self.api.find("PUT", f"{notes}/{number}", body, (403, 404)) is not None:
                     return number
             return int(self.api.call("POST", notes, body)["id"])
+
+    def own_notes(self, path: str, mark: str) -> Iterator[int]:
+        rows = self.rows(path + "?sort=asc&order_by=created_at", Unread())
+        yield from marked(rows, mark, "author", self.api.account())
 
     def head_ref(self, number: int) -> str:
         return f"refs/merge-requests/{number}/head"

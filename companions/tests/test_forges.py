@@ -235,7 +235,8 @@ class EachForm:
         self.client.comment(Place(LIB, 2), None, "waits")
         [elsewhere] = self.model.comments(Place(LIB, 2), GATE)
         self.model.comment(self.place, "ann", elsewhere.text)
-        # Two pages are looked through before.
+        # Whose account it is, is asked once, and two pages are looked through before.
+        self.client.api.account()
         self.forge.server.plan = ["", "", "cut"]
         self.fails(None, self.client.comment, self.place, None, "waits")
         [said] = self.model.comments(self.place, GATE)
@@ -251,9 +252,20 @@ class EachForm:
         self.client.comment(self.place, None, "Write this to approve:\n\n/gate approve")
         self.assertEqual(self.votes(), [])
 
+    def test_somebody_who_copies_the_mark_has_a_comment_of_his_own(self) -> None:
+        number = self.client.comment(self.place, None, "waits")
+        [said] = self.model.comments(self.place, GATE)
+        copied = self.model.comment(self.place, "mallory", said.text)
+        self.model.delete_comment(self.place, said)
+        other = self.client.comment(self.place, number, "tests")
+        self.assertEqual(self.shown(), ["tests"])
+        # The number of another's comment, as an earlier version may have kept it.
+        kept = copied.note if self.kind == "gitlab" else copied.id
+        self.assertEqual(self.client.comment(self.place, kept, "has landed"), other)
+        self.assertEqual((self.shown(), self.model.comments(self.place, "mallory")), (["has landed"], [copied]))
+        self.assertTrue(copied.text.startswith("waits"))
+
     def test_no_comment_where_none_can_be(self) -> None:
-        own = self.model.comment(self.place, "ann", "Words")
-        self.fails(403, self.client.comment, self.place, own.note if self.kind == "gitlab" else own.id, "tests")
         self.fails(404, self.client.comment, Place(LIB, 9), None, "waits")
 
     def test_who_may_write(self) -> None:

@@ -115,6 +115,11 @@ GITLAB_OTHERS: list[Any] = [
     {"object_kind": ["note"]}, {"object_kind": "note"}, [], None, 7]
 
 
+def created(method: str, path: str, _: bytes) -> tuple[int, Any]:
+    """Takes all, and has nothing but an account."""
+    return (201, {"id": 9}) if method != "GET" else (200, USER if path.endswith("/user") else [])
+
+
 class DocumentedCase(unittest.TestCase):
     def serve(self, **answers: Any) -> str:
         """The address of a server that answers by the last word of the path, and else that there is nothing."""
@@ -155,7 +160,7 @@ class GitHubTest(DocumentedCase):
             GitHub(self.serve(permission={}), "token", "secret").may_write("a/b", "ann")
 
     def test_what_is_sent(self) -> None:
-        with StandIn(lambda method, *_: (200, []) if method == "GET" else (201, {"id": 9})) as server:
+        with StandIn(created) as server:
             form = GitHub(server.url + "/api/v3/", "token", "secret")
             form.set_status("a/b", HEAD, "success", "landed as 7")
             self.assertEqual(form.comment(Place("a/b", 4), None, "words"), 9)
@@ -248,7 +253,7 @@ class GitLabTest(DocumentedCase):
                 form.place_of(headers, json.dumps(GITLAB_HOOK).encode())
 
     def test_what_is_sent(self) -> None:
-        with StandIn(lambda method, *_: (200, []) if method == "GET" else (201, {"id": 9})) as server:
+        with StandIn(created) as server:
             form = GitLab(server.url + "/api/v4", "token", "secret")
             form.set_status("a/core/b", HEAD, "failure", "unit failed")
             self.assertEqual(form.comment(Place("a/core/b", 4), None, "words"), 9)

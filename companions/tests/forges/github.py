@@ -37,7 +37,7 @@ class GitHubForm(Form):
         return [("GET", REPOSITORY + "/pulls", self.pulls), ("GET", pull, self.one),
                 ("GET", pull + "/reviews", self.reviews), ("GET", issue + "/comments", self.comments),
                 ("POST", issue + "/comments", self.add_comment), ("GET", issue + "/events", self.events),
-                ("GET", issue + "/timeline", self.timeline),
+                ("GET", issue + "/timeline", self.timeline), ("GET", "/user", lambda _: Reply(200, self.user(GATE))),
                 ("PATCH", REPOSITORY + r"/issues/comments/(\d+)", self.edit_comment),
                 ("GET", REPOSITORY + "/collaborators/([^/]+)/permission", self.permission),
                 ("POST", REPOSITORY + "/statuses/([0-9a-f]+)", self.add_status)]
@@ -53,7 +53,7 @@ class GitHubForm(Form):
 
     def user(self, name: str | None) -> dict[str, Any] | None:
         """None where the account was deleted."""
-        return {"id": 1, "login": name, "type": "User"} if name else None
+        return {"id": self.model.account(name), "login": name, "type": "User"} if name else None
 
     def address(self, place: Place) -> str:
         return f"{self.web}/{place.repository}/{self.pull_path}/{place.number}"

@@ -34,6 +34,7 @@ class GitLabForm(Form):
                 ("GET", request + "/approvals", self.approvals), ("GET", request + "/notes", self.notes),
                 ("GET", request + "/versions", self.versions), ("POST", request + "/notes", self.add_note),
                 ("PUT", request + r"/notes/(\d+)", self.edit_note), ("GET", PROJECT + "/members/all", self.members),
+                ("GET", "/user", lambda _: Reply(200, self.user(GATE))),
                 ("POST", PROJECT + "/statuses/([0-9a-f]+)", self.add_status)]
 
     def missing(self) -> Reply:
@@ -46,7 +47,7 @@ class GitLabForm(Form):
         return at.strftime("%Y-%m-%dT%H:%M:%S.") + f"{at.microsecond // 1000:03d}Z"
 
     def user(self, name: str) -> dict[str, Any]:
-        return {"id": 1, "username": name, "name": name.title(), "state": "active"}
+        return {"id": self.model.account(name), "username": name, "name": name.title(), "state": "active"}
 
     def address(self, place: Place) -> str:
         return f"{self.web}/{place.repository}/-/merge_requests/{place.number}"

@@ -84,7 +84,13 @@ class Model:
         self.now, self.pace = BEGIN, timedelta(seconds=1)
         # Whether approvals stay at a new head, as a forge's settings may say.
         self.keeps_approvals = True
+        self.accounts: dict[str, int] = {}
         self.counts: dict[str, itertools.count[int]] = defaultdict(lambda: itertools.count(1))
+
+    def account(self, person: str) -> int:
+        """The number of a person's account."""
+        with self.lock:
+            return self.accounts.setdefault(person, 100 + len(self.accounts))
 
     def add(self, repository: str, *writers: str) -> None:
         """A repository, and who may write to it."""
