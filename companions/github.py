@@ -87,13 +87,17 @@ class GitHub:
                 continue
             approves_it = None if says == "dismissed" else says == "approves"
             vote = Vote(f"review {it['id']}", it["user"]["login"], approves_it, it.get("commit_id") or GONE)
-            yield Opinion(time_of(it["submitted_at"]), vote)
+            yield Opinion(time_of(self.submitted(it)), vote)
 
     def comments(self, place: Place, unread: Unread) -> Iterator[Opinion]:
         for it in self.rows(self.path(place, "issues") + "/comments", unread):
             if approves(it.get("body"), mark_of(self.secret, place)) and it.get("user"):
                 vote = Vote(f"comment {it['id']}", it["user"]["login"], True, None, flaw_of(it))
                 yield Opinion(time_of(it["created_at"]), vote)
+
+    def submitted(self, review: dict[str, Any]) -> str:
+        """When a review was given."""
+        return review["submitted_at"]
 
     def target_changes(self, place: Place) -> Iterator[datetime]:
         """When the request got another target branch."""
@@ -155,3 +159,9 @@ class Gitea(GitHub):
         # Whether Gitea calls it stale doesn't matter: its commit says that, and a stale rejection holds.
         says = {"APPROVED": "approves", "REQUEST_CHANGES": "rejects"}.get(review["state"])
         return "dismissed" if says and review.get("dismissed") else says
+
+    def submitted(self, review: dict[str, Any]) -> str:
+        """Gitea's time of a review is that at which it was begun, and between that and the end of it its person may
+        approve by a comment. So an objection is of the time at which it was changed last: it isn't before its end."""
+        is_against = self.verdict(review) == "rejects"
+        return is_against and review.get("updated_at") or review["submitted_at"]

@@ -390,6 +390,14 @@ class GitHubTest(EachForm, Case):
 class GiteaTest(GitHubTest):
     kind = "gitea"
 
+    def test_an_objection_that_was_begun_before_an_approval_and_given_behind_it_is_behind_it(self) -> None:
+        begun = self.model.now
+        self.model.comment(self.place, "ann", "/gate approve")
+        self.model.reject(self.place, "ann").begun = begun
+        self.assertEqual([it[:2] for it in self.votes()], [("ann", True), ("ann", False)])
+        self.model.approve(self.place, "ann")
+        self.assertEqual([it[:2] for it in self.votes()][-1], ("ann", True))
+
 
 class UnchangedTest(Case):
     """GitHub sends nothing again that hasn't changed."""

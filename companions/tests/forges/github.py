@@ -194,7 +194,8 @@ class GiteaForm(GitHubForm):
 
     def review(self, it: Entry) -> dict[str, Any]:
         return {**super().review(it), "state": self.review_states[it.kind], "dismissed": it.is_dismissed,
-                "stale": False, "official": True}
+                "submitted_at": self.time(it.begun or it.at), "updated_at": self.time(it.at), "stale": False,
+                "official": True}
 
     def reviews(self, question: Question) -> Reply:
         reply = super().reviews(question)

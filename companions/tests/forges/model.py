@@ -20,7 +20,7 @@ class Entry:
     """Something said of a request, or done to it: approved, rejected, dismissed, commented or pushed.
 
     Reviews and comments are numbered each by itself, as Gitea does, so that they have numbers in common; `note` numbers
-    all of them, as GitLab does.
+    all of them, as GitLab does. `at` is when a review was given, and `begun` when its person began to write it.
     """
     kind: str
     id: int
@@ -31,6 +31,7 @@ class Entry:
     at: datetime
     is_dismissed: bool = False
     edited: datetime | None = None
+    begun: datetime | None = None
 
 
 @dataclass
