@@ -15,10 +15,11 @@ from collections.abc import Callable
 
 from companions import answers
 from companions.answers import Wrong
+from companions.api import ForgeFault
 from companions.compared import Moment
 from companions.comparisons import Comparisons
 from companions.failures import Failures
-from companions.forges import Forge, ForgeFault, Place
+from companions.forges import Forge, Place
 from companions.gate import Answer, Gate, NoAnswer, say
 from companions.gate_file import GateFile
 from companions.github import Gitea, GitHub

@@ -12,8 +12,9 @@ from dataclasses import replace
 from datetime import datetime
 from typing import Any
 
-from companions.forges import (APPROVES, Api, Opinion, Place, Unread, approves, as_hook, at_target, check_signature,
-                               expected, flaw_of, hash_of, mark_of, marked, place_at, secret_of, time_of, votes_of)
+from companions.api import Api, Unread, expected
+from companions.forges import (APPROVES, Opinion, Place, approves, as_hook, at_target, check_signature, flaw_of,
+                               hash_of, mark_of, marked, place_at, secret_of, time_of, votes_of)
 from companions.requests import GONE, Request, State, Vote
 
 __all__ = ["APPROVES", "GitHub", "Gitea"]

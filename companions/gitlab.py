@@ -13,9 +13,9 @@ from dataclasses import replace
 from datetime import datetime
 from typing import Any
 
-from companions.forges import (PENDING, Api, ForgeFault, Opinion, Place, Unread, approves, as_hook, at_target,
-                               check_same, expected, flaw_of, hash_of, mark_of, marked, place_at, secret_of, time_of,
-                               votes_of)
+from companions.api import Api, ForgeFault, Unread, expected
+from companions.forges import (PENDING, Opinion, Place, approves, as_hook, at_target, check_same, flaw_of, hash_of,
+                               mark_of, marked, place_at, secret_of, time_of, votes_of)
 from companions.requests import Request, State, Vote
 
 STATES = {"opened": State.OPEN, "locked": State.OPEN, "closed": State.CLOSED, "merged": State.MERGED}

@@ -7,7 +7,8 @@ import time
 from collections.abc import Callable, Mapping
 from pathlib import Path
 
-from companions.forges import LARGEST, Forge, Place
+from companions.api import LARGEST
+from companions.forges import Forge, Place
 from companions.gate import say
 from companions.outbox import Notes
 from companions.tables import add

@@ -9,7 +9,8 @@ from collections.abc import Callable, Sequence
 from dataclasses import dataclass
 from typing import Protocol
 
-from companions.forges import FAILURE, PENDING, SUCCESS, ForgeFault, Place
+from companions.api import ForgeFault
+from companions.forges import FAILURE, PENDING, SUCCESS, Place
 from companions.gate import Gate, NoAnswer, say
 from companions.outbox import Notes
 from companions.people_gate import Later, Observer

@@ -15,7 +15,8 @@ from pathlib import Path
 from typing import Any
 
 from companions.adapter import Adapter
-from companions.forges import ForgeFault, Place
+from companions.api import ForgeFault
+from companions.forges import Place
 from companions.requests import Request, State, Vote
 from companions.settings import read
 from companions.tests.forge import Origin

@@ -4,8 +4,8 @@ from __future__ import annotations
 from collections.abc import Iterator
 from typing import Any
 
+from companions.api import ForgeFault
 from companions.compared import Comparison, Moment, Repository, Waits, file_in, read
-from companions.forges import ForgeFault
 from companions.gate import Gate, Order
 from companions.outbox import Notes
 from companions.tests.adapter_case import Case

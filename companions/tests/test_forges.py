@@ -8,7 +8,8 @@ from datetime import timedelta
 from email.message import Message
 from unittest import mock
 
-from companions.forges import ELSEWHERE, FAILURE, PAGE, PENDING, SUCCESS, Content, KeptAnswers, Place
+from companions.api import KINDS, PAGE, Content, KeptAnswers
+from companions.forges import ELSEWHERE, FAILURE, PENDING, SUCCESS, Place
 from companions.gitlab import UNDECIDED, UNSURE
 from companions.people_texts import unapproved
 from companions.requests import GONE, State
@@ -162,7 +163,7 @@ class EachForm:
         self.model.comment(self.place, "ben", "/gate approve")
         for _ in range(60):
             self.model.comment(self.place, "mallory", "x" * 9000)
-        self.enterContext(mock.patch("companions.forges.LARGEST", 40_000))
+        self.enterContext(mock.patch("companions.api.LARGEST", 40_000))
         both = [("ann", True, ONE), ("ben", True, self.of_comment(ONE))]
         # All comments of a request at Gitea are one answer.
         is_whole = self.kind == "gitea"
@@ -181,7 +182,7 @@ class EachForm:
         self.model.approve(self.place, "ann")
         self.model.comment(self.place, "mallory", "x" * 50_000)
         self.model.comment(self.place, "ben", "/gate approve")
-        self.enterContext(mock.patch("companions.forges.LARGEST", 40_000))
+        self.enterContext(mock.patch("companions.api.LARGEST", 40_000))
         self.assertTrue(self.asked().is_cut)
         self.assertEqual([it[0] for it in self.votes()], ["ann", "ben"] if self.kind == "github" else ["ann"])
         number = self.client.comment(self.place, None, "waits")
@@ -190,7 +191,7 @@ class EachForm:
     def test_long_texts_of_requests_hide_none(self) -> None:
         for _ in range(60):
             self.model.open(LIB, TWO, "main", "One more", "x" * 9000)
-        self.enterContext(mock.patch("companions.forges.LARGEST", 40_000))
+        self.enterContext(mock.patch("companions.api.LARGEST", 40_000))
         self.assertEqual(sorted(self.client.open_requests(LIB)), list(range(1, 62)))
         for _ in range(60):
             self.model.open(LIB, TWO, "main", "One more", "x" * 9000)
@@ -324,21 +325,64 @@ class EachForm:
         server, api = self.forge.server, self.client.api
         soon = str(int(time.time()) + 100)
         for limits, pause in (({"Retry-After": "60"}, 60), ({"Retry-After": "99999"}, 3600),
-                              ({"Retry-After": "Fri, 31 Dec 2027 23:59:59 GMT"}, 0),
+                              ({"Retry-After": "Fri, 31 Dec 9999 23:59:59 GMT"}, 3600),
+                              ({"Retry-After": "Mon, 01 Jan 2024 00:00:00 GMT"}, 60),
+                              ({"Retry-After": "soon"}, 60), ({}, 60), ({"X-RateLimit-Reset": soon}, 100),
+                              ({"Retry-After": "9" * 5000}, 3600),
                               ({"X-RateLimit-Remaining": "0", "X-RateLimit-Reset": soon}, 100),
                               ({"RateLimit-Remaining": "0", "RateLimit-Reset": soon}, 100),
-                              ({"X-RateLimit-Remaining": "1", "X-RateLimit-Reset": soon}, 0),
-                              ({"X-RateLimit-Remaining": "0", "X-RateLimit-Reset": "5"}, 0)):
+                              ({"X-RateLimit-Remaining": "1", "X-RateLimit-Reset": soon}, 60),
+                              ({"X-RateLimit-Remaining": "0", "X-RateLimit-Reset": "5"}, 60)):
             with self.subTest(limits):
                 server.plan, server.limits, api.resting = ["limit"], limits, 0.0
+                api.refusals.of_name.clear()
                 self.fails(429, self.client.request, self.place)
-                self.assertAlmostEqual(max(0.0, api.resting - time.time()), pause, delta=5)
-        api.resting = time.time() + 60
+                self.assertAlmostEqual(self.pause(), pause, delta=5)
         server.asked.clear()
         fault = self.fails(None, self.client.request, self.place)
         self.assertIn("not asked, since the forge wants a pause", str(fault))
         self.assertEqual(server.asked, [])
-        api.resting = time.time()
+        api.resting = 0.0
+        api.refusals.end_all()
+        self.assertEqual(self.asked().number, self.place.number)
+
+    def pause(self) -> float:
+        """For how long the forge isn't asked now."""
+        api = self.client.api
+        ends = [api.resting, *(until for name, (until, _) in api.refusals.of_name.items() if name in KINDS)]
+        return max(0.0, max(ends) - time.monotonic())
+
+    def test_a_forge_that_refuses_is_asked_less_and_less_often(self) -> None:
+        server, api = self.forge.server, self.client.api
+        for trouble in ("limit", "secondary"):
+            for pause in (60, 120, 240, 480, 960, 1920, 3600, 3600):
+                server.plan = [trouble]
+                self.fails(429 if trouble == "limit" else 403, self.client.request, self.place)
+                self.assertAlmostEqual(self.pause(), pause, delta=5)
+                api.refusals.end_all()
+            self.assertEqual((self.asked().number, self.pause()), (self.place.number, 0.0))
+        other = self.client
+        self.client = self.forge.client(token="ended")
+        self.fails(401, self.client.request, self.place)
+        self.assertAlmostEqual(self.pause(), 60, delta=5)
+        self.client = other
+
+    def test_a_right_that_is_missing_stops_nothing_else(self) -> None:
+        server, api = self.forge.server, self.client.api
+        server.plan = ["forbid"]
+        self.fails(403, self.client.set_status, LIB, ONE, SUCCESS, "landed")
+        self.assertEqual(self.asked().number, self.place.number)
+        server.asked.clear()
+        self.fails(403, self.client.set_status, LIB, ONE, SUCCESS, "landed")
+        self.assertEqual(server.asked, [])
+        api.refusals.end_all()
+        self.client.set_status(LIB, ONE, SUCCESS, "landed")
+
+    def test_a_clock_that_is_set_stops_nothing(self) -> None:
+        self.forge.server.plan = ["fail"]
+        ahead = time.time() + 3 * 86400
+        with mock.patch("companions.api.time.time", lambda: ahead):
+            self.fails(500, self.client.request, self.place)
         self.assertEqual(self.asked().number, self.place.number)
 
     def test_a_slow_forge_isnt_waited_for(self) -> None:

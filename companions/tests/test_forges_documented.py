@@ -6,7 +6,8 @@ import unittest
 import urllib.parse
 from typing import Any
 
-from companions.forges import LARGEST, Api, ForgeFault, Place, check_signature, mark_of, time_of
+from companions.api import LARGEST, Api, ForgeFault
+from companions.forges import Place, check_signature, mark_of, time_of
 from companions.github import Gitea, GitHub
 from companions.gitlab import GitLab, commit_at
 from companions.requests import Request, State, Vote

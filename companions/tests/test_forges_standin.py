@@ -4,7 +4,8 @@ from __future__ import annotations
 import random
 import unittest
 
-from companions.forges import SUCCESS, ForgeFault, Place
+from companions.api import ForgeFault
+from companions.forges import SUCCESS, Place
 from companions.tests.forges import StandInForge
 from companions.tests.forges.case import LIB, ONE, THREE, TWO, Case
 from companions.tests.standin import StandIn

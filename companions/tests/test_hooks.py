@@ -5,7 +5,8 @@ import http.client
 import json
 import threading
 
-from companions.forges import LARGEST, Place
+from companions.api import LARGEST
+from companions.forges import Place
 from companions.hooks import Hooks, serve
 from companions.tests.adapter_case import Case
 

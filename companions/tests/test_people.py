@@ -4,7 +4,8 @@ from __future__ import annotations
 import contextlib
 import unittest
 
-from companions.forges import FAILURE, PENDING, ForgeFault, Place
+from companions.api import ForgeFault
+from companions.forges import FAILURE, PENDING, Place
 from companions.people import Manner
 from companions.requests import State
 from companions.tests.people_case import PLACES, PeopleCase, subject

@@ -4,7 +4,7 @@ from __future__ import annotations
 import unittest
 from collections.abc import Callable
 
-from companions.forges import ForgeFault
+from companions.api import ForgeFault
 from companions.requests import Request
 from companions.tests.forges import StandInForge
 

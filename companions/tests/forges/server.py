@@ -34,6 +34,10 @@ class Question:
     url: str
 
 
+# GitHub's words where a token lacks a right, and where there is too much at a time.
+FORBIDDEN = {"forbid": "Resource not accessible by personal access token",
+             "secondary": "You have exceeded a secondary rate limit. Please wait a few minutes before you try again."}
+
 # A method, a pattern of the path, and who answers.
 Route = tuple[str, str, Callable[[Question], Reply]]
 
@@ -105,8 +109,9 @@ class HttpServer(ThreadingHTTPServer):
 class Server:
     """`asked` is what came: method and target; `unchanged` questions were answered by that. Troubles: `plan` says what
     goes wrong with the next answers, in order, `fail` (it is 500), `limit` (it is 429, with the headers `limits`),
-    `cut` (its content is missing) or nothing; `odds` is the probability that one is 500, before or after what was asked
-    is done, and `delay` the seconds that each one takes."""
+    `forbid` and `secondary` (it is 403, for a right or for a limit), `cut` (its content is missing) or nothing; `odds`
+    is the probability that one is 500, before or after what was asked is done, and `delay` the seconds that each one
+    takes."""
 
     def __init__(self, form: Form) -> None:
         self.form, self.asked, self.plan = form, list[tuple[str, str]](), list[str]()
@@ -136,6 +141,8 @@ class Server:
         failed = Reply(500, {"message": "Internal Server Error"})
         if trouble == "limit":
             return Reply(429, {"message": "Too Many Requests"}, self.limits), True
+        if trouble in FORBIDDEN:
+            return Reply(403, {"message": FORBIDDEN[trouble]}), True
         if trouble == "fail" or before:
             return failed, True
         reply = self.form.answer(method, target, body, headers)

@@ -1,0 +1,280 @@
+"""A forge's API: JSON over HTTP, by pages, with bounds for what comes and for how often a forge is asked."""
+from __future__ import annotations
+
+import contextlib
+import email.utils
+import http.client
+import json
+import re
+import time
+import urllib.parse
+from collections.abc import Iterator, Mapping
+from dataclasses import dataclass
+from typing import Any
+
+from companions.rests import Rests
+
+# The most bytes that an answer of a forge's API, or a hook, may have.
+LARGEST = 8 * 1024 * 1024
+
+# How many elements of a list are asked for at a time; and where a page is too large, those of a smaller one.
+PAGE = 50
+SMALLER = {PAGE: 10, 10: 1}
+
+# The most calls of smaller pages that one reading of a list takes, and the most pages of a list of comments.
+MOST_CALLS = 100
+
+# The longest pause that a forge is believed to ask for, in seconds, and how long it isn't asked at first if it refuses
+# without naming one.
+LONGEST_PAUSE, REFUSED_PAUSE = 3600.0, 60.0
+
+# The kinds of calls, and by which words forges refuse for a limit where they don't name it by a header.
+KINDS = ("reading", "writing")
+LIMITS = re.compile("rate limit|abuse|too many requests", re.IGNORECASE)
+
+# The most bytes of answers that are kept to be asked for again only where they have changed.
+MOST_KEPT = 64 * 1024 * 1024
+
+
+class ForgeFault(Exception):
+    """The forge didn't answer, or not with what its documentation says: nothing is known.
+
+    `status` is that of HTTP, if an answer came, and `said` the beginning of its text.
+    """
+
+    def __init__(self, what: str, status: int | None = None, said: str = "") -> None:
+        super().__init__(what)
+        self.status, self.said = status, said
+
+
+class TooLarge(ForgeFault):
+    """An answer is larger than any that is read. Anybody who may write a long text can bring that about."""
+
+
+class Unread:
+    """A reading of a list in which anybody may write: what can't be read of it is left out, and that is noted here.
+    `is_whole`: it comes whole, whichever page is asked for. `calls` are those of smaller pages."""
+
+    def __init__(self, is_whole: bool = False) -> None:
+        self.is_whole, self.is_any, self.calls = is_whole, False, 0
+
+
+@dataclass(frozen=True)
+class Content:
+    """What an answer brought: its content, the header `Link`, and a tag by which to ask whether it has changed."""
+    content: bytes
+    link: str
+    tag: str
+
+
+class KeptAnswers:
+    """The last answers that had a tag, by path. A forge sends nothing again that hasn't changed, and GitHub doesn't
+    count the question: so all open requests may be looked at every few minutes."""
+
+    def __init__(self, most: int = MOST_KEPT) -> None:
+        self.most, self.size = most, 0
+        self.of_path: dict[str, Content] = {}
+
+    def keep(self, path: str, answer: Content) -> None:
+        """Keeps an answer behind all others, and drops the oldest where they are too much."""
+        self.drop(path)
+        if answer.tag:
+            self.of_path[path] = answer
+            self.size += len(answer.content)
+        while self.size > self.most:
+            self.drop(next(iter(self.of_path)))
+
+    def drop(self, path: str) -> None:
+        old = self.of_path.pop(path, None)
+        self.size -= len(old.content) if old else 0
+
+
+class Api:
+    """A forge's API: JSON over HTTP, a request a connection. A forge that asks for a pause, or refuses, isn't called for
+    a while, by a clock that nobody sets; nor is a path that the account may not use."""
+
+    def __init__(self, url: str, headers: Mapping[str, str], timeout: float = 30.0) -> None:
+        self.url, self.timeout, self.resting = urllib.parse.urlsplit(url.rstrip("/")), timeout, 0.0
+        self.headers = {"Accept": "application/json", "User-Agent": "gated-adapter", **headers}
+        self.kept = KeptAnswers()
+        self.own: int | None = None
+        self.refusals = Rests(REFUSED_PAUSE, LONGEST_PAUSE)
+
+    def call(self, method: str, path: str, said: Any = None) -> Any:
+        """What the API answers; `ForgeFault` for all statuses but 2xx."""
+        return self.answer(method, path, said)[0]
+
+    def find(self, method: str, path: str, said: Any = None, none: tuple[int, ...] = (404,)) -> Any:
+        """What the API answers, or none where its status says that there is none."""
+        try:
+            return self.call(method, path, said)
+        except ForgeFault as fault:
+            if fault.status not in none:
+                raise
+            return None
+
+    def account(self) -> int:
+        """The number of the token's account, which stays the same."""
+        if self.own is None:
+            with expected("/user"):
+                self.own = int(self.call("GET", "/user")["id"])
+        return self.own
+
+    def answer(self, method: str, path: str, said: Any) -> tuple[Any, str]:
+        """What the API answers, and what its header `Link` has."""
+        self.check(method, path)
+        kept = self.kept.of_path.get(path) if method == "GET" else None
+        try:
+            response, content = self.exchange(method, path, said, kept)
+            if response.status == 304 and kept is not None:
+                return json.loads(kept.content), kept.link
+            if response.status // 100 != 2:
+                text = content[:200].decode("utf-8", "replace")
+                self.refused(method, path, response, text)
+                raise ForgeFault(f"{method} {path}: status {response.status}, {text!r}", response.status, text)
+            self.refusals.over(kind_of(method))
+            self.refusals.over(f"{method} {path}")
+            answer = Content(content, response.getheader("Link", ""), response.getheader("ETag", ""))
+            if method == "GET":
+                self.kept.keep(path, answer)
+            return json.loads(content), answer.link
+        except TooLong as fault:
+            raise TooLarge(f"{method} {path}: {fault}") from fault
+        except (OSError, http.client.HTTPException, ValueError, RecursionError) as fault:
+            raise ForgeFault(f"{method} {path}: {fault or type(fault).__name__}") from fault
+
+    def check(self, method: str, path: str) -> None:
+        """`ForgeFault` where the forge isn't to be asked by now."""
+        now = time.monotonic()
+        if now < self.resting or any(self.refusals.is_resting(it, now) for it in KINDS):
+            raise ForgeFault(f"{method} {path}: not asked, since the forge wants a pause")
+        if self.refusals.is_resting(f"{method} {path}", now):
+            raise ForgeFault(f"{method} {path}: not asked, since the forge has refused it", 403)
+
+    def refused(self, method: str, path: str, response: http.client.HTTPResponse, text: str) -> None:
+        """Notes for how long the forge isn't asked that gave this answer. One that names no time and refuses for a limit,
+        or doesn't know the token, refuses all; a right that is missing is one of this path."""
+        now, pause = time.monotonic(), pause_of(response)
+        if pause:
+            self.resting = max(self.resting, now + pause)
+        elif response.status in (401, 429) or response.status == 403 and LIMITS.search(text):
+            self.refusals.failed(kind_of(method), now)
+        elif response.status == 403:
+            self.refusals.failed(f"{method} {path}", now)
+
+    def exchange(self, method: str, path: str, said: Any, kept: Content | None
+                 ) -> tuple[http.client.HTTPResponse, bytes]:
+        """One request, and the whole content of its answer."""
+        kind = http.client.HTTPSConnection if self.url.scheme == "https" else http.client.HTTPConnection
+        body = None if said is None else json.dumps(said).encode()
+        headers = {**self.headers, **({"Content-Type": "application/json"} if body is not None else {}),
+                   **({"If-None-Match": kept.tag} if kept else {})}
+        connection = kind(self.url.hostname or "", self.url.port, timeout=self.timeout)
+        with contextlib.closing(connection):
+            connection.request(method, self.url.path + path, body, headers)
+            response = connection.getresponse()
+            return response, content_of(response)
+
+    def pages(self, path: str, size: str, has_links: bool, unread: Unread | None = None) -> Iterator[Any]:
+        """All elements of a list that comes by pages; `size` is how the API calls the number of elements on a page.
+
+        The page may be smaller than asked for. The last one has no link to a next one; of a forge that doesn't link all
+        its lists, it is the one that brings nothing new, as some lists come whole whichever page is asked for. A page
+        that is too large is asked for by smaller ones. What can't be read so is a fault, or left out if it may be.
+        """
+        page, seen, calls = 1, set[int](), unread or Unread()
+        where = f"{path}{'&' if '?' in path else '?'}{size}="
+        while True:
+            if unread and page > MOST_CALLS:
+                unread.is_any = True
+                return
+            found, is_last = self.part(where, PAGE, page, has_links, calls, unread is None)
+            with expected(where):
+                new = [it for it in found if it["id"] not in seen]
+                seen.update(it["id"] for it in new)
+            yield from new
+            if is_last or not new and not calls.is_any:
+                return
+            page += 1
+
+    def part(self, where: str, size: int, page: int, has_links: bool, unread: Unread,
+             is_strict: bool) -> tuple[list[Any], bool]:
+        """A page, and whether it is the last one. `is_strict`: nothing may be left out."""
+        path = f"{where}{size}&page={page}"
+        if size < PAGE:
+            unread.calls += 1
+        try:
+            if unread.calls > MOST_CALLS:
+                raise TooLarge(f"GET {path}: not asked, since {MOST_CALLS} smaller pages were asked for by then")
+            found, link = self.answer("GET", path, None)
+        except TooLarge:
+            if unread.calls <= MOST_CALLS and size in SMALLER and not unread.is_whole:
+                return self.parts(where, size, page, has_links, unread, is_strict)
+            if is_strict:
+                raise
+            unread.is_any = True
+            return [], unread.calls > MOST_CALLS or unread.is_whole
+        with expected(path):
+            if not isinstance(found, list):
+                raise TypeError("no list")
+        is_last = not found or has_links and 'rel="next"' not in link
+        if is_last and len(found) >= size:
+            # A full page stays the same when the next one comes to be.
+            self.kept.drop(path)
+        return found, is_last
+
+    def parts(self, where: str, size: int, page: int, has_links: bool, unread: Unread,
+              is_strict: bool) -> tuple[list[Any], bool]:
+        """What is on a page, by the smaller ones in its place."""
+        smaller, found, is_last = SMALLER[size], list[Any](), False
+        first = (page - 1) * (size // smaller) + 1
+        for at in range(first, first + size // smaller):
+            more, is_last = self.part(where, smaller, at, has_links, unread, is_strict)
+            found += more
+            if is_last:
+                break
+        return found, is_last
+
+
+def kind_of(method: str) -> str:
+    """What a call is, one of `KINDS`: forges limit each by itself."""
+    return KINDS[method != "GET"]
+
+
+def pause_of(response: http.client.HTTPResponse) -> float:
+    """The seconds that a forge that refuses wants to be left alone: by HTTP, in seconds or as a date, or as GitHub and
+    GitLab say that what may be asked in an hour is used up."""
+    said, waits = response.getheader("Retry-After", ""), list[float]()
+    if said.isascii() and said.isdigit():
+        waits.append(float(said[:9]))
+    elif said:
+        with contextlib.suppress(ValueError):
+            waits.append(email.utils.parsedate_to_datetime(said).timestamp() - time.time())
+    for name in ("X-RateLimit", "RateLimit"):
+        until = response.getheader(f"{name}-Reset", "")
+        if not waits and response.getheader(f"{name}-Remaining", "0") == "0" and until.isascii() and until.isdigit():
+            waits.append(float(until[:15]) - time.time())
+    return max(0.0, min(LONGEST_PAUSE, *waits)) if waits else 0.0
+
+
+class TooLong(Exception):
+    """A content is longer than any that is read."""
+
+
+def content_of(response: http.client.HTTPResponse) -> bytes:
+    """The whole content. A cut one could be taken for an empty list."""
+    content = response.read(LARGEST + 1)
+    if len(content) > LARGEST:
+        raise TooLong(f"more than {LARGEST} bytes")
+    if response.length:
+        raise http.client.IncompleteRead(content, response.length)
+    return content
+
+
+@contextlib.contextmanager
+def expected(path: str) -> Iterator[None]:
+    """An answer that doesn't have the form that is documented is none."""
+    try:
+        yield
+    except (KeyError, TypeError, ValueError, AttributeError) as fault:
+        raise ForgeFault(f"{path}: not what the forge's documentation says: {fault!r}") from fault
