@@ -40,6 +40,8 @@ FORMS: dict[str, Callable[[str, str, str], Forge]] = {"gitea": Gitea, "github": 
 
 # So many requests in a row of which the forge doesn't tell end a round: it may be away, and each takes its time.
 FAULTS = 3
+# A forge may answer from a copy that lags behind its hook: so many seconds later the request is looked at once more.
+LAG = 15.0
 # How long what failed rests at first, as a multiple of `gate.pause`. A request rests as long as a comparison at most.
 REST = 5
 
@@ -70,6 +72,7 @@ class Adapter:
         self.compare_at, self.now = 0.0, 0.0
         self.righted: dict[Wrong, float] = {}
         self.rests = Rests(REST * settings.pause, settings.adapter.compare)
+        self.later: dict[Place, float] = {}
         self.troubles: dict[str, str] = {}
 
     def once(self, now: float) -> None:
@@ -83,6 +86,9 @@ class Adapter:
             if now >= self.compare_at:
                 self.compare_at = now + (self.compare if self.hint_at_all() else REST * self.settings.pause)
             self.answer_lander(now)
+            for place in [place for place, at in self.later.items() if at <= now]:
+                del self.later[place]
+                self.hints.put(place, is_hook=False)
             self.follow(now)
             self.send()
             self.trouble("gate", None)
@@ -152,7 +158,8 @@ class Adapter:
             fault = self.attempt(name, lambda it=place: self.looks.look(it))
             if fault is None:
                 self.comparisons.looked(place)
-                self.hints.drop(row)
+                if self.hints.drop(row):
+                    self.later.setdefault(place, now + LAG)
                 self.send()
                 faults = 0
             else:

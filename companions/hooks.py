@@ -50,9 +50,12 @@ class Hints:
                                        " ORDER BY NOT is_hook, row", (behind,)).fetchall()
         return [(row, Place(repository, request)) for row, repository, request in rows]
 
-    def drop(self, row: int) -> None:
+    def drop(self, row: int) -> bool:
+        """Takes a row away, and says whether it was a hook's."""
         with self.lock:
+            found = self.tables.execute("SELECT is_hook FROM hint WHERE row = ?", (row,)).fetchone()
             self.tables.execute("DELETE FROM hint WHERE row = ?", (row,))
+        return found is not None and bool(found[0])
 
 
 class NotTaken:

@@ -72,6 +72,20 @@ class Requests(Case):
         self.adapter.once(300.0)
         self.assertEqual((self.adapter.rests.times("acme/lib 12"), len(self.standin.deliveries())), (0, 1))
 
+    def test_what_a_lagging_copy_of_the_forge_has_hidden_is_seen_soon(self) -> None:
+        place = self.be(12, 0)
+        self.look(place)
+        self.adapter.compare_at = NEVER
+        self.adapter.hints.put(place)
+        self.adapter.once(100.0)
+        self.be(12, 1)
+        before = len(self.forge.asked)
+        self.adapter.once(114.0)
+        self.assertEqual(len(self.forge.asked), before)
+        self.adapter.once(115.0)
+        self.adapter.once(200.0)
+        self.assertEqual((len(self.forge.asked), self.gate.changes[1]["revision"]), (before + 1, 2))
+
     def test_a_restart_tells_nothing_again(self) -> None:
         place = self.be(12, 0, self.approve(1))
         self.look()
