@@ -7,6 +7,7 @@ from collections.abc import Callable
 from dataclasses import dataclass, replace
 
 from companions.answers import Wrong
+from companions.api import ForgeFault
 from companions.forges import Forge, Place
 from companions.gate import Gate, say
 from companions.landings import Branch, first_name
@@ -37,6 +38,14 @@ class Decided:
     told: Told
     steps: list[Telling]
     is_lacking: bool
+
+
+@dataclass(frozen=True)
+class Rights:
+    """Who may approve a request, and of whom the forge didn't tell, with its fault."""
+    may: frozenset[str]
+    unknown: frozenset[str] = frozenset()
+    fault: ForgeFault | None = None
 
 
 class Looks:
@@ -86,9 +95,9 @@ class Looks:
     def compare(self, so: Request, project: Project, change: int) -> None:
         """Keeps what has to be told of a request at its branch."""
         needs = self.needs(so) if so.state is State.OPEN else Needs((), ())
-        may_approve = self.may_approve(so)
+        rights = self.rights(so)
         decided = self.decide(so, self.changes.told(change), project,
-                              lambda known: tellings(so, known, needs.changes, may_approve))
+                              lambda known: self.sure_steps(so, known, needs.changes, rights))
         if self.changes.first() is None:
             # Ids are made of the first delivery's, so that one is told alone.
             decided = replace(decided, steps=[it for it in decided.steps if it.kind == "revision"])
@@ -107,25 +116,39 @@ class Looks:
                 self.subjects.see(so, change, True)
             self.write(so, decided, more, needs.changes)
             self.changes.remark(change, "need", needs.remarks)
-            self.changes.remark(change, "vote", uncounted(so, told, needs.changes, may_approve))
+            self.changes.remark(change, "vote", uncounted(so, told, needs.changes, rights.may | rights.unknown))
             self.changes.remark(change, AHEAD, [so.head] if is_ahead else [])
+        if rights.fault is not None:
+            raise rights.fault
 
-    def may_approve(self, so: Request) -> frozenset[str]:
+    def sure_steps(self, so: Request, told: Told, needs: tuple[int, ...], rights: Rights) -> list[Telling]:
+        """What is to be told whoever of those whose right isn't known may approve. The others wait for that."""
+        steps = tellings(so, told, needs, rights.may)
+        kinds = {it.kind for it in tellings(so, told, needs, rights.may | rights.unknown)}
+        return [it for it in steps if it.kind in kinds]
+
+    def rights(self, so: Request) -> Rights:
         """The persons whose votes on a request count: those whom the settings name, or who may write to its repository.
 
-        The forge is asked about a person as often as all requests are compared.
+        The forge is asked about a person as often as all requests are compared. What it doesn't answer holds up no more
+        than the approvals that wait for it.
         """
         if self.adapter.approvers is not None:
-            return self.adapter.approvers
-        now, found = time.monotonic(), set()
+            return Rights(self.adapter.approvers)
+        now, may, unknown, fault = time.monotonic(), set[str](), set[str](), None
         for person in sorted({it.person for it in so.votes if it.approves is not None and it.flaw is None}):
             known = self.writers.get((so.repository, person))
             if known is None or known[1] <= now:
-                known = self.forge.may_write(so.repository, person), now + self.adapter.compare
+                try:
+                    known = self.forge.may_write(so.repository, person), now + self.adapter.compare
+                except ForgeFault as said:
+                    unknown.add(person)
+                    fault = said
+                    continue
                 self.writers[so.repository, person] = known
             if known[0]:
-                found.add(person)
-        return frozenset(found)
+                may.add(person)
+        return Rights(frozenset(may), frozenset(unknown), fault)
 
     def write(self, so: Request, decided: Decided, more: dict[str, str], needs: tuple[int, ...]) -> None:
         change = decided.told.change

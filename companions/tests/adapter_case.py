@@ -159,11 +159,13 @@ class Forge(PretendForge):
         self.broken: set[Place] = set()
         self.asked: list[Place] = []
         self.when_asked = lambda place: None
-        self.writers = {"ada", "bob"}
+        self.writers, self.hidden = {"ada", "bob"}, set[str]()
         self.asked_about: list[str] = []
 
     def may_write(self, repository: str, person: str) -> bool:
         self.asked_about.append(person)
+        if person in self.hidden:
+            raise ForgeFault(f"GET {person}: 403")
         return person in self.writers
 
     def place_of(self, headers: Mapping[str, str], body: bytes) -> Place | None:

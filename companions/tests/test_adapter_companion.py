@@ -439,6 +439,26 @@ class People(Case):
         self.forge.writers.discard("bob")
         self.assertEqual(self.look(place), ["withdrawn 1 1"])
 
+    def test_a_right_that_the_forge_does_not_tell_holds_up_approvals_alone(self) -> None:
+        self.settings = replace(self.settings, adapter=replace(self.settings.adapter, approvers=None))
+        self.start()
+        self.forge.hidden = {"ada", "eve"}
+        place = self.be(12, 0, self.approve(1))
+        self.assertEqual(self.look(place), ["revision 1 1"])
+        self.assertIn("adapter: acme/lib 12: GET ada: 403", self.lines())
+        self.be(12, 0, self.approve(1), self.approve(2, person="bob"), Vote("review 3", "eve", False, self.commits[0]))
+        self.assertEqual(self.look(place), [])
+        self.be(12, 0, self.approve(1), self.approve(2, person="bob"))
+        self.assertEqual(self.look(place), ["approved 1 1"])
+        # Nothing that was approved is withdrawn since nobody knows any more whose approval it was.
+        self.forge.hidden.add("bob")
+        self.adapter.looks.writers.clear()
+        self.assertEqual(self.look(place), [])
+        self.be(12, 1, self.approve(1), self.approve(2, person="bob"))
+        self.assertEqual(self.look(place), ["revision 1 2"])
+        self.be(12, 1, self.approve(1), state=State.CLOSED)
+        self.assertEqual(self.look(place), ["closed 1 2"])
+
 
 class Files(Case):
     def test_a_restored_gate_is_told_again_what_still_holds(self) -> None:
