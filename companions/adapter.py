@@ -86,6 +86,8 @@ class Adapter:
             if now >= self.compare_at:
                 self.compare_at = now + (self.compare if self.hint_at_all() else REST * self.settings.pause)
             self.answer_lander(now)
+            if not self.looks.approvers.is_known and not self.rests.is_resting("approvers", now):
+                self.rest("approvers", self.attempt("approvers", self.looks.approvers.look_up))
             for place in [place for place, at in self.later.items() if at <= now]:
                 del self.later[place]
                 self.hints.put(place, is_hook=False)

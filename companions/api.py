@@ -90,8 +90,8 @@ class KeptAnswers:
 
 
 class Api:
-    """A forge's API: JSON over HTTP, a request a connection. A forge that asks for a pause, or refuses, isn't called for
-    a while, by a clock that nobody sets; nor is a path that the account may not use."""
+    """A forge's API: JSON over HTTP, a request a connection. A forge that asks for a pause, or refuses, isn't called
+    for a while, by a clock that nobody sets; nor is a path that the account may not use."""
 
     def __init__(self, url: str, headers: Mapping[str, str], timeout: float = 30.0) -> None:
         self.url, self.timeout, self.resting = urllib.parse.urlsplit(url.rstrip("/")), timeout, 0.0

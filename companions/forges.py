@@ -51,6 +51,9 @@ class Forge(Protocol):
     def may_write(self, repository: str, person: str) -> bool:
         """Whether a person may write to the repository. Anybody who sees a request may vote on it."""
 
+    def account_of(self, login: str) -> int | None:
+        """The number of the account that has a login now; none where no account has it."""
+
     def set_status(self, repository: str, commit: str, state: str, text: str) -> None:
         """Sets the commit's status of the gate: one of the three states, and a short text."""
 

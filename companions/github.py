@@ -87,13 +87,14 @@ class GitHub:
             if says is None or not it.get("user"):
                 continue
             approves_it = None if says == "dismissed" else says == "approves"
-            vote = Vote(f"review {it['id']}", it["user"]["login"], approves_it, it.get("commit_id") or GONE)
+            vote = Vote(f"review {it['id']}", it["user"]["login"], approves_it, it.get("commit_id") or GONE,
+                        account=int(it["user"]["id"]))
             yield Opinion(time_of(self.submitted(it)), vote)
 
     def comments(self, place: Place, unread: Unread) -> Iterator[Opinion]:
         for it in self.rows(self.path(place, "issues") + "/comments", unread):
             if approves(it.get("body"), mark_of(self.secret, place)) and it.get("user"):
-                vote = Vote(f"comment {it['id']}", it["user"]["login"], True, None, flaw_of(it))
+                vote = Vote(f"comment {it['id']}", it["user"]["login"], True, None, flaw_of(it), int(it["user"]["id"]))
                 yield Opinion(time_of(it["created_at"]), vote)
 
     def submitted(self, review: dict[str, Any]) -> str:
@@ -120,6 +121,12 @@ class GitHub:
         said = self.api.find("GET", path)
         with expected(path):
             return said is not None and said["permission"] in ("owner", "admin", "write")
+
+    def account_of(self, login: str) -> int | None:
+        path = f"/users/{urllib.parse.quote(login, safe='')}"
+        said = self.api.find("GET", path)
+        with expected(path):
+            return None if said is None else int(said["id"])
 
     def set_status(self, repository: str, commit: str, state: str, text: str) -> None:
         self.api.call("POST", f"{self.repository(repository)}/statuses/{commit}",

@@ -91,13 +91,14 @@ class GitLab:
         versions, mark = list[tuple[datetime, str]](), mark_of(self.secret, place)
         for it in self.rows(self.path(place) + "/notes?sort=asc&order_by=created_at", unread):
             person, at, body = it["author"]["username"], time_of(it["created_at"]), (it.get("body") or "").strip()
+            account = int(it["author"]["id"])
             if it["system"] and RETARGETED.match(body):
                 changed.append(at)
             elif it["system"] and body == UNAPPROVED:
-                yield Opinion(at, Vote(f"note {it['id']}", person, None, None)), False
+                yield Opinion(at, Vote(f"note {it['id']}", person, None, None, account=account)), False
             elif body == APPROVED and person in approving if it["system"] else approves(body, mark):
                 versions, flaw = versions or self.versions(place), None if it["system"] else flaw_of(it)
-                vote = Vote(f"note {it['id']}", person, True, commit_at(versions, at), flaw)
+                vote = Vote(f"note {it['id']}", person, True, commit_at(versions, at), flaw, account)
                 yield Opinion(at, vote), not it["system"]
 
     def versions(self, place: Place) -> list[tuple[datetime, str]]:
@@ -115,6 +116,12 @@ class GitLab:
         with expected(path):
             found = self.rows(f"{path}?{urllib.parse.urlencode({'query': person})}")
             return any(it["username"] == person and it["access_level"] >= DEVELOPER for it in found)
+
+    def account_of(self, login: str) -> int | None:
+        path = f"/users?{urllib.parse.urlencode({'username': login})}"
+        said = self.api.call("GET", path)
+        with expected(path):
+            return next((int(it["id"]) for it in said if it["username"].casefold() == login.casefold()), None)
 
     def set_status(self, repository: str, commit: str, state: str, text: str) -> None:
         description = UNDECIDED if state == PENDING else text[:255]

@@ -7,7 +7,6 @@ from collections.abc import Callable
 from dataclasses import dataclass, replace
 
 from companions.answers import Wrong
-from companions.api import ForgeFault
 from companions.forges import Forge, Place
 from companions.gate import Gate, say
 from companions.landings import Branch, first_name
@@ -15,6 +14,7 @@ from companions.needs import Needs, message, need_lines, needs_of
 from companions.repository import REVISION, Repository
 from companions.requests import (NO_REVISION, Request, State, Telling, Told, closing, first_seen, set_aside, tellings,
                                  uncounted)
+from companions.rights import Approvers, Rights
 from companions.settings import Adapter, Project, Settings
 from companions.subjects import Subjects
 from companions.told import AHEAD
@@ -40,14 +40,6 @@ class Decided:
     is_lacking: bool
 
 
-@dataclass(frozen=True)
-class Rights:
-    """Who may approve a request, and of whom the forge didn't tell, with its fault."""
-    may: frozenset[str]
-    unknown: frozenset[str] = frozenset()
-    fault: ForgeFault | None = None
-
-
 class Looks:
     """Looks at requests. A request's trouble is raised, and nothing is kept then."""
 
@@ -58,7 +50,7 @@ class Looks:
         self.names = names_of(settings)
         self.repositories = {it.name: Repository(it.repository, settings.folder / "adapter" / it.name, settings.author)
                              for it in settings.projects.values()}
-        self.writers: dict[tuple[str, str], tuple[bool, float]] = {}
+        self.approvers = Approvers(adapter, forge, self.changes.outbox)
 
     def look(self, place: Place) -> None:
         """Keeps what has to be told of a request, and of changes that it no longer stands for."""
@@ -95,7 +87,7 @@ class Looks:
     def compare(self, so: Request, project: Project, change: int) -> None:
         """Keeps what has to be told of a request at its branch."""
         needs = self.needs(so) if so.state is State.OPEN else Needs((), ())
-        rights = self.rights(so)
+        rights = self.approvers.of(so)
         decided = self.decide(so, self.changes.told(change), project,
                               lambda known: self.sure_steps(so, known, needs.changes, rights))
         if self.changes.first() is None:
@@ -126,29 +118,6 @@ class Looks:
         steps = tellings(so, told, needs, rights.may)
         kinds = {it.kind for it in tellings(so, told, needs, rights.may | rights.unknown)}
         return [it for it in steps if it.kind in kinds]
-
-    def rights(self, so: Request) -> Rights:
-        """The persons whose votes on a request count: those whom the settings name, or who may write to its repository.
-
-        The forge is asked about a person as often as all requests are compared. What it doesn't answer holds up no more
-        than the approvals that wait for it.
-        """
-        if self.adapter.approvers is not None:
-            return Rights(self.adapter.approvers)
-        now, may, unknown, fault = time.monotonic(), set[str](), set[str](), None
-        for person in sorted({it.person for it in so.votes if it.approves is not None and it.flaw is None}):
-            known = self.writers.get((so.repository, person))
-            if known is None or known[1] <= now:
-                try:
-                    known = self.forge.may_write(so.repository, person), now + self.adapter.compare
-                except ForgeFault as said:
-                    unknown.add(person)
-                    fault = said
-                    continue
-                self.writers[so.repository, person] = known
-            if known[0]:
-                may.add(person)
-        return Rights(frozenset(may), frozenset(unknown), fault)
 
     def write(self, so: Request, decided: Decided, more: dict[str, str], needs: tuple[int, ...]) -> None:
         change = decided.told.change

@@ -29,13 +29,14 @@ class Vote:
     `approves` is none for one that was dismissed, or that takes an approval back: from then on it says nothing, and
     neither do the person's earlier ones.
     `commit` is the one that it was made for, or none where the forge never says, or `GONE` where it no longer does.
-    `flaw` is why what is meant as a vote is none, where it is none.
+    `flaw` is why what is meant as a vote is none, where it is none. `account` is the number of the person's account.
     """
     object: str
     person: str
     approves: bool | None
     commit: str | None
     flaw: str | None = None
+    account: int | None = field(default=None, compare=False)
 
 
 @dataclass(frozen=True)

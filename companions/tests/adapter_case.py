@@ -160,6 +160,7 @@ class Forge(PretendForge):
         self.asked: list[Place] = []
         self.when_asked = lambda place: None
         self.writers, self.hidden = {"ada", "bob"}, set[str]()
+        self.accounts = {"ada": 11, "bob": 12}
         self.asked_about: list[str] = []
 
     def may_write(self, repository: str, person: str) -> bool:
@@ -167,6 +168,12 @@ class Forge(PretendForge):
         if person in self.hidden:
             raise ForgeFault(f"GET {person}: 403")
         return person in self.writers
+
+    def account_of(self, login: str) -> int | None:
+        self.asked_about.append(login)
+        if login in self.hidden:
+            raise ForgeFault(f"GET {login}: 500")
+        return self.accounts.get(login.casefold())
 
     def place_of(self, headers: Mapping[str, str], body: bytes) -> Place | None:
         if headers.get("Secret") != "secret":
@@ -179,7 +186,8 @@ class Forge(PretendForge):
         self.asked.append(place)
         if place in self.broken:
             raise ForgeFault(f"GET {place.number}: 500")
-        return self.requests.get(place)
+        so = self.requests.get(place)
+        return so and replace(so, votes=tuple(replace(it, account=self.accounts.get(it.person, 99)) for it in so.votes))
 
     def outline(self, place: Place) -> Request | None:
         so = self.request(place)

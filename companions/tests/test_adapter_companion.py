@@ -435,9 +435,39 @@ class People(Case):
         self.assertEqual(self.look(place), ["revision 1 1", "approved 1 1"])
         self.look(place)
         self.assertEqual(self.forge.asked_about, ["bob", "eve"])
-        self.adapter.looks.writers.clear()
+        self.adapter.looks.approvers.writers.clear()
         self.forge.writers.discard("bob")
         self.assertEqual(self.look(place), ["withdrawn 1 1"])
+
+    def test_a_login_that_another_account_has_taken_approves_nothing(self) -> None:
+        self.settings = replace(self.settings, adapter=replace(self.settings.adapter,
+                                                               approvers=frozenset({"Ada", "bob", "nobody"})))
+        self.start()
+        place = self.be(12, 0, self.approve(1))
+        self.assertEqual(self.look(place), ["revision 1 1", "approved 1 1"])
+        self.assertIn("adapter: approvers: the forge has no account nobody: nobody approves by this name", self.lines())
+        self.forge.accounts["ada"] = 77
+        self.start()
+        self.assertEqual(self.look(place), ["withdrawn 1 1"])
+        self.be(12, 0, self.approve(2))
+        self.assertEqual((self.look(place), self.look(place)), ([], []))
+        self.assertEqual([it for it in self.lines() if "is account" in it], [
+            "adapter: approvers: ada is account 77 now, and 11 before: its votes don't count. If it is the same person,"
+            " take the name out of approvers, restart, and name it again"])
+        for names, told in (({"bob"}, []), ({"ada", "bob"}, ["approved 1 1"])):
+            self.settings = replace(self.settings, adapter=replace(self.settings.adapter, approvers=frozenset(names)))
+            self.start()
+            self.assertEqual(self.look(place), told)
+
+    def test_approvals_wait_for_accounts_that_the_forge_does_not_tell(self) -> None:
+        self.forge.hidden = {"ada"}
+        place = self.be(12, 0, self.approve(1))
+        self.assertEqual(self.look(place), ["revision 1 1"])
+        self.forge.hidden.clear()
+        self.assertEqual(self.look(place), ["approved 1 1"])
+        self.forge.asked_about.clear()
+        self.start()
+        self.assertEqual((self.look(place), self.forge.asked_about), ([], []))
 
     def test_a_right_that_the_forge_does_not_tell_holds_up_approvals_alone(self) -> None:
         self.settings = replace(self.settings, adapter=replace(self.settings.adapter, approvers=None))
@@ -452,7 +482,7 @@ class People(Case):
         self.assertEqual(self.look(place), ["approved 1 1"])
         # Nothing that was approved is withdrawn since nobody knows any more whose approval it was.
         self.forge.hidden.add("bob")
-        self.adapter.looks.writers.clear()
+        self.adapter.looks.approvers.writers.clear()
         self.assertEqual(self.look(place), [])
         self.be(12, 1, self.approve(1), self.approve(2, person="bob"))
         self.assertEqual(self.look(place), ["revision 1 2"])

@@ -273,6 +273,16 @@ class EachForm:
         may = {it: self.client.may_write(LIB, it) for it in ("ann", "ben", "cy", "an", "nobody", "a/b?c")}
         self.assertEqual(may, {"ann": True, "ben": True, "cy": False, "an": False, "nobody": False, "a/b?c": False})
 
+    def test_accounts(self) -> None:
+        self.model.approve(self.place, "ann")
+        self.model.comment(self.place, "ben", "/gate approve")
+        numbers = [self.client.account_of(it) for it in ("ann", "Ben")]
+        self.assertEqual([it.account for it in self.asked().votes], numbers)
+        self.assertEqual(len({*numbers, self.client.account_of("cy")}), 3)
+        self.assertIsNone(self.client.account_of("nobody"))
+        self.model.give_up("ann")
+        self.assertNotIn(self.client.account_of("ann"), numbers)
+
     def test_a_head_has_a_name_in_git(self) -> None:
         wanted = "refs/merge-requests/7/head" if self.kind == "gitlab" else "refs/pull/7/head"
         self.assertEqual(self.client.head_ref(7), wanted)

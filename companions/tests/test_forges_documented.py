@@ -60,18 +60,18 @@ GITEA_PULL = {
 GITEA_REVIEWS: list[dict[str, Any]] = [
     {"id": 5, "user": None, "team": {"id": 1, "name": "core"}, "state": "REQUEST_REVIEW", "body": "", "commit_id": "",
      "stale": False, "official": False, "dismissed": False, "submitted_at": "2024-05-01T11:50:00+02:00"},
-    {"id": 6, "user": {"login": "ann"}, "team": None, "state": "REQUEST_CHANGES", "body": "No", "commit_id": OTHER,
+    {"id": 6, "user": {"id": 2, "login": "ann"}, "team": None, "state": "REQUEST_CHANGES", "body": "No", "commit_id": OTHER,
      "stale": True, "official": True, "dismissed": False, "submitted_at": "2024-05-01T11:51:00+02:00"},
-    {"id": 7, "user": {"login": "ben"}, "team": None, "state": "APPROVED", "body": "", "commit_id": HEAD,
+    {"id": 7, "user": {"id": 3, "login": "ben"}, "team": None, "state": "APPROVED", "body": "", "commit_id": HEAD,
      "stale": False, "official": True, "dismissed": True, "submitted_at": "2024-05-01T11:52:00+02:00"},
-    {"id": 8, "user": {"login": "cy"}, "team": None, "state": "APPROVED", "body": "", "commit_id": HEAD,
+    {"id": 8, "user": {"id": 4, "login": "cy"}, "team": None, "state": "APPROVED", "body": "", "commit_id": HEAD,
      "stale": False, "official": False, "dismissed": False, "submitted_at": "2024-05-01T11:53:00+02:00"},
-    {"id": 9, "user": {"login": "cy"}, "team": None, "state": "COMMENT", "body": "Well", "commit_id": HEAD,
+    {"id": 9, "user": {"id": 4, "login": "cy"}, "team": None, "state": "COMMENT", "body": "Well", "commit_id": HEAD,
      "stale": False, "official": False, "dismissed": False, "submitted_at": "2024-05-01T11:54:00+02:00"}]
-GITEA_COMMENTS = [{"id": 8, "user": {"login": "ben"}, "body": "/gate approve", "created_at": "2024-05-01T09:55:00Z",
+GITEA_COMMENTS = [{"id": 8, "user": {"id": 3, "login": "ben"}, "body": "/gate approve", "created_at": "2024-05-01T09:55:00Z",
                    "updated_at": "2024-05-01T09:55:00Z", "assets": []}]
 GITEA_TIMELINE = [{"id": 20, "type": "change_target_branch", "old_ref": "a", "new_ref": "main", "body": "",
-                   "user": {"login": "ann"}, "created_at": "2024-05-01T11:30:00+02:00"}]
+                   "user": {"id": 2, "login": "ann"}, "created_at": "2024-05-01T11:30:00+02:00"}]
 GITEA_REVIEW_HOOK = {"action": "reviewed", "number": 7, "pull_request": GITEA_PULL, "requested_reviewer": None,
                      "repository": {"id": 4, "full_name": "acme/lib"}, "sender": {"id": 2, "login": "ann"},
                      "commit_id": "", "review": {"type": "pull_request_review_approved", "content": ""}}

@@ -38,6 +38,7 @@ class GitHubForm(Form):
                 ("GET", pull + "/reviews", self.reviews), ("GET", issue + "/comments", self.comments),
                 ("POST", issue + "/comments", self.add_comment), ("GET", issue + "/events", self.events),
                 ("GET", issue + "/timeline", self.timeline), ("GET", "/user", lambda _: Reply(200, self.user(GATE))),
+                ("GET", "/users/([^/]+)", self.person),
                 ("PATCH", REPOSITORY + r"/issues/comments/(\d+)", self.edit_comment),
                 ("GET", REPOSITORY + "/collaborators/([^/]+)/permission", self.permission),
                 ("POST", REPOSITORY + "/statuses/([0-9a-f]+)", self.add_status)]
@@ -139,6 +140,10 @@ class GitHubForm(Form):
         if writers is None or person == "nobody":
             return self.missing()
         return Reply(200, {"permission": "write" if person in writers else "read", "user": self.user(person)})
+
+    def person(self, question: Question) -> Reply:
+        name = question.parts[0].casefold()
+        return self.missing() if name == "nobody" else Reply(200, self.user(name))
 
     def add_status(self, question: Question) -> Reply:
         repository, commit, said = self.repository(question), question.parts[2], question.said

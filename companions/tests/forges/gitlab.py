@@ -34,7 +34,7 @@ class GitLabForm(Form):
                 ("GET", request + "/approvals", self.approvals), ("GET", request + "/notes", self.notes),
                 ("GET", request + "/versions", self.versions), ("POST", request + "/notes", self.add_note),
                 ("PUT", request + r"/notes/(\d+)", self.edit_note), ("GET", PROJECT + "/members/all", self.members),
-                ("GET", "/user", lambda _: Reply(200, self.user(GATE))),
+                ("GET", "/user", lambda _: Reply(200, self.user(GATE))), ("GET", "/users", self.persons),
                 ("POST", PROJECT + "/statuses/([0-9a-f]+)", self.add_status)]
 
     def missing(self) -> Reply:
@@ -104,6 +104,10 @@ class GitLabForm(Form):
         level = {it: 30 for it in self.model.writers.get(question.parts[0], ())}
         rows = [{**self.user(it), "id": at, "access_level": level.get(it, 10)} for at, it in enumerate(named)]
         return self.listed([it for it in rows if question.query.get("query", "") in it["username"]], question)
+
+    def persons(self, question: Question) -> Reply:
+        name = question.query["username"].casefold()
+        return Reply(200, [] if name == "nobody" else [self.user(name)])
 
     def add_note(self, question: Question) -> Reply:
         it = self.find(question)

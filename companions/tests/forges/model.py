@@ -93,6 +93,11 @@ class Model:
         with self.lock:
             return self.accounts.setdefault(person, 100 + len(self.accounts))
 
+    def give_up(self, person: str) -> None:
+        """A person's account is deleted or has another name now, and a new one has taken the name."""
+        with self.lock:
+            self.accounts[person] = 1000 + len(self.accounts)
+
     def add(self, repository: str, *writers: str) -> None:
         """A repository, and who may write to it."""
         self.writers[repository] = set(writers)
