@@ -19,6 +19,10 @@ from companions.requests import GONE, Request, State, Vote
 
 __all__ = ["APPROVES", "GitHub", "Gitea"]
 
+# The states of a review that says nothing but its text, and why its text is no approval.
+WORDS_ALONE = ("COMMENTED", "COMMENT")
+IN_REVIEW = f"wrote {APPROVES} in a review and not in a comment"
+
 
 class GitHub:
     """GitHub, by an access token and the secret of its hooks."""
@@ -67,7 +71,7 @@ class GitHub:
             # At one and the same second a review counts as the later one: it may be against.
             unread = Unread(self.has_whole_comments)
             found = [*self.comments(place, unread), *self.reviews(place)]
-            if any(it.vote.approves for it in found):
+            if any(it.vote.approves and it.vote.flaw is None for it in found):
                 found = at_target(found, self.target_changes(place))
             return replace(so, votes=votes_of(found), is_cut=unread.is_any)
 
@@ -81,8 +85,12 @@ class GitHub:
                            said["title"] or "", said.get("body") or "", is_draft=bool(said.get("draft")))
 
     def reviews(self, place: Place) -> Iterator[Opinion]:
+        mark = mark_of(self.secret, place)
         for it in self.rows(self.path(place) + "/reviews"):
             says = self.verdict(it)
+            if says is None and it["state"] in WORDS_ALONE and it.get("user") and approves(it.get("body"), mark):
+                vote = Vote(f"review {it['id']}", it["user"]["login"], True, None, IN_REVIEW, int(it["user"]["id"]))
+                yield Opinion(time_of(it["submitted_at"]), vote)
             # Nobody is named where the account was deleted.
             if says is None or not it.get("user"):
                 continue

@@ -18,7 +18,7 @@ LINE = re.compile(r"^[ \t]*(?:[-*+][ \t]+)?depends-on:(.*)", re.IGNORECASE | re.
 REPOSITORY = r"[\w.-]+(?:/[\w.-]+)+"
 SHORT = re.compile(rf"({REPOSITORY})?[#!]([1-9][0-9]{{0,8}})", re.ASCII)
 # Behind the number of an address may stand a page of the request, as /files, a query or a place on the page.
-LONG = re.compile(rf"/({REPOSITORY}?)/(?:pulls?|-/merge_requests)/([1-9][0-9]{{0,8}})(?:[/?#]\S*)?", re.ASCII)
+LONG = re.compile(rf"/({REPOSITORY}?)/(?:pulls?|(?:-/)?merge_requests)/([1-9][0-9]{{0,8}})(?:[/?#]\S*)?", re.ASCII)
 
 # The gate refuses a message that names more changes than 32 (E13), so it is enough that it sees the next one. The forge
 # is asked for no more requests either: anybody's text would use up what it answers in an hour.

@@ -431,6 +431,12 @@ class GitHubTest(EachForm, Case):
         self.model.lose(self.place, ONE)
         self.assertEqual(self.votes(), [("ann", True, GONE)])
 
+    def test_the_line_in_a_review_approves_nothing_and_is_answered(self) -> None:
+        self.model.review(self.place, "ann", "Nice.\n/gate approve")
+        self.model.review(self.place, "ben", "Nice.")
+        self.assertEqual((self.votes(), self.flaws()),
+                         ([], [("ann", "wrote /gate approve in a review and not in a comment")]))
+
     def test_whose_account_is_deleted_has_no_vote(self) -> None:
         self.model.approve(self.place, "")
         self.model.comment(self.place, "", "/gate approve")

@@ -23,6 +23,7 @@ class Named(unittest.TestCase):
                 ("group/sub/app!7", Place("group/sub/app", 7)),
                 (f"{WEB}/acme/app/pulls/7", Place("acme/app", 7)), (f"{WEB}/acme/app/pull/7", Place("acme/app", 7)),
                 (f"{WEB}/group/sub/app/-/merge_requests/7", Place("group/sub/app", 7)),
+                (f"{WEB}/group/sub/app/merge_requests/7", Place("group/sub/app", 7)),
                 (f"{WEB}/acme/app/pull/7/files", Place("acme/app", 7)),
                 (f"{WEB}/acme/app/pull/7#issuecomment-1", Place("acme/app", 7)),
                 (f"{WEB}/acme/my.app-2_x/pull/999999999?x=1", Place("acme/my.app-2_x", 999999999))):

@@ -27,7 +27,7 @@ class GitHubForm(Form):
     """GitHub, whose lists come by pages with links."""
 
     pull_path, description_limit, has_tags = "pull", 140, True
-    review_states = {"approved": "APPROVED", "rejected": "CHANGES_REQUESTED"}
+    review_states = {"approved": "APPROVED", "rejected": "CHANGES_REQUESTED", "reviewed": "COMMENTED"}
 
     def may(self, headers: dict[str, str]) -> bool:
         return headers.get("Authorization") == f"Bearer {self.token}"
@@ -96,7 +96,7 @@ class GitHubForm(Form):
 
     def reviews(self, question: Question) -> Reply:
         pull = self.find(question)
-        rows = [self.review(it) for it in pull.of("approved", "rejected")] if pull else []
+        rows = [self.review(it) for it in pull.of(*self.review_states)] if pull else []
         return self.listed(rows, question) if pull else self.missing()
 
     def comments(self, question: Question) -> Reply:
@@ -188,7 +188,7 @@ class GiteaForm(GitHubForm):
 
     prefix, page_name, largest_page, pull_path, description_limit = "/api/v1", "limit", 50, "pulls", 10**6
     has_tags = False
-    review_states = {"approved": "APPROVED", "rejected": "REQUEST_CHANGES"}
+    review_states = {"approved": "APPROVED", "rejected": "REQUEST_CHANGES", "reviewed": "COMMENT"}
     zone = timezone(timedelta(hours=2))
 
     def may(self, headers: dict[str, str]) -> bool:

@@ -148,6 +148,10 @@ class Model:
         """Requests changes. GitLab's form shows nothing of it."""
         return self.say("rejected", place, person)
 
+    def review(self, place: Place, person: str, text: str) -> Entry:
+        """Says something by a review that neither approves nor requests changes."""
+        return self.say("reviewed", place, person, text)
+
     def dismiss(self, place: Place, person: str) -> None:
         """What a person said last by a review doesn't hold any more; at GitLab the person takes the approval back."""
         with self.lock:
@@ -237,7 +241,7 @@ class Model:
 
     def enter(self, kind: str, place: Place, person: str, text: str = "") -> Entry:
         pull = self.pulls[place]
-        sort = "review" if kind in ("approved", "rejected") else kind
+        sort = "review" if kind in ("approved", "rejected", "reviewed") else kind
         entry = Entry(kind, next(self.counts[sort]), next(self.counts["note"]), person, text, pull.head, self.tick())
         pull.entries.append(entry)
         return entry
