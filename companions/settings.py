@@ -131,6 +131,7 @@ class Settings:
 
 
 AUTHOR = re.compile(r"[^<>\x00-\x20\x7f](?:[^<>\x00-\x1f\x7f]*[^<>\x00-\x20\x7f])? <[^<>\x00-\x20\x7f]+>")
+PASSWORD = re.compile(r"[a-z][a-z0-9+.-]*://[^/?#@]*:[^/?#]*@", re.IGNORECASE)
 ROLES = ("forge", "worker", "people", "standby")
 FORMS = ("gitea", "github", "gitlab")
 KINDS = {str: "a text", bool: "true or false", int: "a whole number", float: "a number", dict: "a table",
@@ -301,7 +302,7 @@ def projects_of(top: Reader) -> dict[str, Project]:
     branches: set[tuple[str, str]] = set()
     for it in top.each("project"):
         name = it.text("name")
-        project = Project(name, it.text("queue"), it.text("repository"), it.text("branch", "main"), jobs_of(it),
+        project = Project(name, it.text("queue"), repository_of(it), it.text("branch", "main"), jobs_of(it),
                           it.text("forge", name), it.get("evidence", bool, True))
         if project.name in projects:
             raise it.fault("name", f"{project.name} stands twice")
@@ -318,6 +319,16 @@ def projects_of(top: Reader) -> dict[str, Project]:
     if not projects:
         raise top.fault("project", "is missing")
     return projects
+
+
+def repository_of(project: Reader) -> str:
+    """The address of a project's repository. git prints it where something fails, and shows it to all who list the
+    machine's processes, as jobs can."""
+    address = project.text("repository")
+    if PASSWORD.match(address):
+        raise project.fault("repository", "has a password in it, which git prints and other programs see: use SSH with"
+                                          " a key, or leave the password to a credential helper of git")
+    return address
 
 
 def jobs_of(project: Reader) -> dict[str, Job]:

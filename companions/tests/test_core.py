@@ -94,6 +94,10 @@ class Settings(Case):
                 ("limit = 60", "limits = 60", r"project\[0\].job\[0\].limits: isn't known"),
                 ('name = "app"', 'name = "lib"', r"project\[1\].name: lib stands twice"),
                 ("app.git", "lib.git", r"project\[1\].repository: /srv/git/lib.git is another .* of the queue core"),
+                ("/srv/git/app.git", "https://gate:a token@git.example/acme/app.git",
+                 r"project\[1\].repository: has a password in it, which git prints and other programs see: use SSH with"
+                 " a key, or leave the password to a credential helper of git"),
+                ("/srv/git/app.git", "HTTPS://:a@git.example/acme/app.git", "project.1..repository: has a password"),
                 ('queue = "core"\nrepository = "/srv/git/app.git"\nbranch = "trunk"',
                  'queue = "web"\nrepository = "/srv/git/lib.git"', r"project\[1\].branch: main of .* is another"),
                 ('branch = "trunk"', 'branch = ""', r"project\[1\].branch: is empty"),
