@@ -40,13 +40,14 @@ class Writer(Protocol):
 class Manner:
     """How people are told. `mark` is what stands before a request's number, `logs` the address of a build's log with
     `{build}` in it. How far a change has come is written every `quiet` seconds, and what the forge didn't take is tried
-    again after `rest`. There are at most `writes` calls of the forge a minute and `burst` a look, and `questions` about
-    changes a look."""
+    again after `rest`. There are at most `writes` calls of the forge a minute, `hourly` an hour and `burst` a look, and
+    `questions` about changes a look."""
     mark: str = "#"
     logs: str | None = None
     quiet: float = 60.0
     rest: float = 60.0
     writes: int = 60
+    hourly: int = 400
     burst: int = 10
     questions: int = 100
 
@@ -192,10 +193,12 @@ class People:
         """
         due = sorted((it for it in writes if self.is_due(it, now)),
                      key=lambda it: (not self.news(it)[0], self.news(it)[1]))
-        self.times = [it for it in self.times if 0 <= now - it < 60]
+        self.times = [it for it in self.times if 0 <= now - it < 3600]
+        last_minute = sum(now - it < 60 for it in self.times)
+        left = min(self.manner.burst, self.manner.writes - last_minute, self.manner.hourly - len(self.times))
         written: set[str] = set()
         faults = 0
-        for it in due[:max(0, min(self.manner.burst, self.manner.writes - len(self.times)))]:
+        for it in due[:max(0, left)]:
             self.times.append(now)
             try:
                 self.put(it, now)

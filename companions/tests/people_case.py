@@ -18,7 +18,7 @@ from companions.tests.standin import StandIn
 
 PLACES = {101: Place("o/app", 11), 102: Place("o/app", 12), 103: Place("o/app", 13), 104: Place("o/lib", 14)}
 GONE = (404, {"code": "E5", "error": "unknown-change"})
-NEWS = Manner(logs="https://logs/{build}", quiet=0.0, writes=10 ** 6)
+NEWS = Manner(logs="https://logs/{build}", quiet=0.0, writes=10 ** 6, hourly=10 ** 6)
 
 
 def subject(change: int, *commits: str, **other: Any) -> Subject:

@@ -78,6 +78,16 @@ class PeopleTest(PeopleCase):
         self.assertEqual([it.split(":")[0] for it in self.look(*both)], ["o/app 101", "o/app 11, comment 1"])
         self.assertTrue(self.is_done)
 
+    def test_an_hour_has_so_many_writes(self) -> None:
+        self.people = self.start(Manner(quiet=0.0, hourly=2))
+        both = subject(101), subject(102)
+        self.gate.items = ["1 101 1 - ok unit=running", "2 102 1 1 ok unit=running"]
+        self.assertEqual([it.split(":")[0] for it in self.look(*both)], ["o/app 101", "o/app 102"])
+        self.now += 3500
+        self.assertEqual(self.look(*both), [])
+        self.now += 99
+        self.assertEqual([it.split(":")[0] for it in self.look(*both)], ["o/app 11, comment 1", "o/app 12, comment 2"])
+
     def test_a_look_writes_so_much_and_the_next_one_goes_on(self) -> None:
         self.people = self.start(Manner(quiet=0.0, burst=3))
         self.gate.items = [f"{it} {it} 1 - ok unit=running" for it in PLACES]
