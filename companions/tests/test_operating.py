@@ -120,7 +120,7 @@ class OperatingTest(unittest.TestCase):
     def test_each_command_runs(self) -> None:
         self.assertEqual(os.geteuid(), 0, "the stage has users of its own: run this as root, as in a container")
         self.assertTrue(PROGRAM.exists(), f"{PROGRAM} isn't built")
-        for it in ("nginx", "systemd-analyze", "sqlite3", "curl", "openssl", "unshare"):
+        for it in ("nginx", "systemd-analyze", "sqlite3", "curl", "openssl", "unshare", "nft"):
             self.assertIsNotNone(shutil.which(it, path="/usr/sbin:/usr/bin:/sbin:/bin"), f"{it} isn't there")
         with tempfile.TemporaryDirectory() as folder:
             printed = play(Path(folder), [it for it in self.blocks if OF_A_TRIAL not in it])

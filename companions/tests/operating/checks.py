@@ -92,6 +92,17 @@ def check_figures() -> None:
         told(Path(name).exists() and (read.returncode == 0) == may, f"{name} by a user of the groups {groups}")
 
 
+def check_ports() -> None:
+    """Who reaches the gate and the adapter on a machine that all share."""
+    for port, user, reaches in ((8080, "root", True), (8080, "www-data", True), (8080, "gated-worker", False),
+                                (8080, "gated-companions", False), (8090, "www-data", True), (8090, "root", False),
+                                (8090, "gated-worker", False)):
+        knocked = ran("runuser", "-u", user, "--", "curl", "--silent", "--max-time", "20", "--output", "/dev/null",
+                      f"http://127.0.0.1:{port}/status")
+        told((knocked.returncode == 0) == reaches and knocked.returncode in (0, 7),
+             f"{user} at port {port}: {knocked.returncode}")
+
+
 def check_missing_file() -> None:
     """A start without the file ends with O4, however often, and makes none."""
     ran("systemctl", "stop", "gated")
@@ -113,6 +124,6 @@ def check_units() -> None:
     told(all(" init " not in Path(it).read_text() for it in units), "no unit makes a file")
 
 
-for check in (check_proxy, check_hooks, check_log, check_figures, check_units, check_missing_file):
+for check in (check_proxy, check_hooks, check_ports, check_log, check_figures, check_units, check_missing_file):
     check()
 print("all was checked")
