@@ -91,8 +91,8 @@ class Settings:
     """All that the file says. Times are in seconds. `figures` is the folder of the watch's figures.
 
     `has_adapter`: the lander lands only what an adapter has compared. `tries` is how often it tries what is refused.
-    `file` is where they were read, which no job may read. Without `sandbox` jobs run as the worker does. A job is killed
-    once less than `free` bytes are left, and is at fault where it has written more than `space`.
+    `file` is where they were read, which no job may read. Without `sandbox` jobs run as the worker does. A job is
+    killed once less than `free` bytes are left, and is at fault where it has written more than `space`.
     """
     url: str
     accounts: dict[str, Account]

@@ -310,7 +310,8 @@ class Limits(WorkerCase):
         (self.folder / "state/other").write_bytes(bytes(40 * 1024 * 1024))
         self.worker.turn()
         self.assertEqual(self.outcomes(), [(7, "lost")])
-        self.assertRegex(self.errors.getvalue(), "build 7: lost, less than worker.free is left on the disk of .*/trees/")
+        self.assertRegex(self.errors.getvalue(),
+                         "build 7: lost, less than worker.free is left on the disk of .*/trees/")
 
     def test_a_folder_on_the_machine_s_disk_is_told(self) -> None:
         self.assertEqual(room.shared(Path("/")), "/ is on the disk of /, which jobs can fill down to worker.free: give "
