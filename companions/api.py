@@ -152,8 +152,8 @@ class Api:
             raise ForgeFault(f"{method} {path}: not asked, since the forge has refused it", 403)
 
     def refused(self, method: str, path: str, response: http.client.HTTPResponse, text: str) -> None:
-        """Notes for how long the forge isn't asked that gave this answer. One that names no time and refuses for a limit,
-        or doesn't know the token, refuses all; a right that is missing is one of this path."""
+        """Notes for how long the forge isn't asked that gave this answer. One that names no time and refuses for a
+        limit, or doesn't know the token, refuses all; a right that is missing is one of this path."""
         now, pause = time.monotonic(), pause_of(response)
         if pause:
             self.resting = max(self.resting, now + pause)

@@ -20,6 +20,8 @@ APPROVES = "/gate approve"
 
 # Why an approval is none where the request had another target branch.
 ELSEWHERE = "approved before its target branch was changed"
+# And where it is a comment, and the request had another head.
+PUSHED = "approved by a comment before the last push"
 
 
 @dataclass(frozen=True)
@@ -86,6 +88,15 @@ def at_target(opinions: Iterable[Opinion], changed: Iterable[datetime]) -> list[
     last = max(changed, default=None)
     return [replace(it, vote=replace(it.vote, flaw=it.vote.flaw or ELSEWHERE))
             if last is not None and it.vote.approves and it.at <= last else it for it in opinions]
+
+
+def at_head(opinions: Iterable[Opinion], pushed: Iterable[datetime]) -> list[Opinion]:
+    """The opinions, of which those aren't approvals that name no commit and were given by the last push: whoever wrote
+    them hadn't seen what was pushed."""
+    last = max(pushed, default=None)
+    return [replace(it, vote=replace(it.vote, flaw=it.vote.flaw or PUSHED))
+            if last is not None and it.vote.approves and it.vote.commit is None and it.at <= last else it
+            for it in opinions]
 
 
 def time_of(text: str) -> datetime:

@@ -13,8 +13,8 @@ from datetime import datetime
 from typing import Any
 
 from companions.api import Api, Unread, expected
-from companions.forges import (APPROVES, Opinion, Place, approves, as_hook, at_target, check_signature, flaw_of,
-                               hash_of, mark_of, marked, place_at, secret_of, time_of, votes_of)
+from companions.forges import (APPROVES, Opinion, Place, approves, as_hook, at_head, at_target, check_signature,
+                               flaw_of, hash_of, mark_of, marked, place_at, secret_of, time_of, votes_of)
 from companions.requests import GONE, Request, State, Vote
 
 __all__ = ["APPROVES", "GitHub", "Gitea"]
@@ -32,9 +32,11 @@ class GitHub:
     has_links = True
     # Whether each page of a request's comments has all of them.
     has_whole_comments = False
-    # The list of what was done to a request, the member that says what it was, and what changes its target branch.
+    # The list of what was done to a request, the member that says what it was, what changes its target branch, and what
+    # its head. GitHub lists only pushes that are forced.
     events, event = "events", "event"
     target_events = ("base_ref_changed", "automatic_base_change_succeeded")
+    push_events = ("head_ref_force_pushed",)
     signature = "X-Hub-Signature-256"
     context = "gate"
 
@@ -72,7 +74,9 @@ class GitHub:
             unread = Unread(self.has_whole_comments)
             found = [*self.comments(place, unread), *self.reviews(place)]
             if any(it.vote.approves and it.vote.flaw is None for it in found):
-                found = at_target(found, self.target_changes(place))
+                changes = list(self.changes(place))
+                found = at_target(found, [at for what, at in changes if what in self.target_events])
+                found = at_head(found, [at for what, at in changes if what in self.push_events])
             return replace(so, votes=votes_of(found), is_cut=unread.is_any)
 
     def outline(self, place: Place) -> Request | None:
@@ -109,11 +113,11 @@ class GitHub:
         """When a review was given."""
         return review["submitted_at"]
 
-    def target_changes(self, place: Place) -> Iterator[datetime]:
-        """When the request got another target branch."""
+    def changes(self, place: Place) -> Iterator[tuple[str, datetime]]:
+        """When the request got another target branch, or another head."""
         for it in self.rows(f"{self.path(place, 'issues')}/{self.events}"):
-            if it[self.event] in self.target_events:
-                yield time_of(it["created_at"])
+            if it[self.event] in self.target_events + self.push_events:
+                yield it[self.event], time_of(it["created_at"])
 
     def verdict(self, review: dict[str, Any]) -> str | None:
         """What a review says: approves, rejects, or dismissed; none where it says nothing of these."""
@@ -166,6 +170,7 @@ class Gitea(GitHub):
     has_whole_comments = True
     events, event = "timeline", "type"
     target_events = ("change_target_branch",)
+    push_events = ("pull_push",)
     signature = "X-Gitea-Signature"
 
     def api_headers(self, token: str) -> dict[str, str]:

@@ -9,7 +9,7 @@ from email.message import Message
 from unittest import mock
 
 from companions.api import KINDS, PAGE, Content, KeptAnswers
-from companions.forges import ELSEWHERE, FAILURE, PENDING, SUCCESS, Place
+from companions.forges import ELSEWHERE, FAILURE, PENDING, PUSHED, SUCCESS, Place
 from companions.gitlab import UNDECIDED, UNSURE
 from companions.people_texts import unapproved
 from companions.requests import GONE, State
@@ -67,8 +67,8 @@ class EachForm:
             self.assertEqual((self.votes(), self.flaws()), ([], [("ann", "wrote more than the line /gate approve")]))
             self.model.delete_comment(self.place, said)
         said = self.model.comment(self.place, "ann", "\r\n\t /gate approve \r\n")
-        self.model.push(self.place, TWO)
         self.assertEqual(self.votes(), [("ann", True, self.of_comment(ONE))])
+        self.model.push(self.place, TWO)
         other = self.model.comment(self.place, "ben", "/gate approve")
         self.model.edit_comment(self.place, said, "I'm not sure")
         self.assertEqual(self.votes(), [("ben", True, self.of_comment(TWO))])
@@ -87,6 +87,17 @@ class EachForm:
         self.assertEqual(self.votes(), [] if self.kind == "gitlab" else [("cy", False, ONE)])
         self.model.comment(self.place, "ann", "/gate approve")
         self.assertIn("ann", [it[0] for it in self.votes()])
+
+    def test_a_comment_is_of_no_head_that_was_pushed_behind_it(self) -> None:
+        """Somebody shows another commit for a while, has it approved and pushes the first one back."""
+        self.model.push(self.place, TWO)
+        self.model.comment(self.place, "ann", "/gate approve")
+        self.assertEqual(self.votes(), [("ann", True, self.of_comment(TWO))])
+        self.model.push(self.place, ONE)
+        self.assertEqual((self.votes(), self.flaws()), ([("ann", True, TWO)], []) if self.kind == "gitlab" else
+                         ([], [("ann", PUSHED)]))
+        self.model.comment(self.place, "ann", "/gate approve")
+        self.assertEqual(self.votes()[-1], ("ann", True, self.of_comment(ONE)))
 
     def test_an_edited_comment_is_no_vote(self) -> None:
         said = self.model.comment(self.place, "ann", "Well, no")

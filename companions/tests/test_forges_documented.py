@@ -41,6 +41,7 @@ GITHUB_COMMENTS = [{"id": 1, "user": {**USER, "login": "hubot"}, "body": "/gate 
                     "2019-11-17T17:43:00Z", "updated_at": "2019-11-17T17:43:00Z", "author_association": "COLLABORATOR"}]
 GITHUB_EVENTS = [
     {"id": 11, "event": "base_ref_changed", "actor": USER, "commit_id": None, "created_at": "2019-11-17T17:40:00Z"},
+    {"id": 13, "event": "head_ref_force_pushed", "actor": USER, "commit_id": None, "created_at": "2019-11-17T17:41:00Z"},
     {"id": 12, "event": "labeled", "actor": USER, "commit_id": None, "created_at": "2019-11-17T17:50:00Z"}]
 GITHUB_COMMENT_HOOK = {
     "action": "created", "comment": GITHUB_COMMENTS[0], "sender": USER,

@@ -104,11 +104,12 @@ class GitHubForm(Form):
         return self.listed([self.said(it) for it in pull.of("commented")], question) if pull else self.missing()
 
     def events(self, question: Question) -> Reply:
-        """What was done to a request, of which pushes and changes of its target are shown here."""
+        """What was done to a request since it was opened, of which pushes and changes of its target are shown here. Its
+        pushes are forced ones."""
         names = {"retargeted": "base_ref_changed", "pushed": "head_ref_force_pushed"}
         pull = self.find(question)
         rows = [{"id": it.note, "event": names[it.kind], "actor": self.user(it.person), "created_at": self.time(it.at)}
-                for it in (pull.of(*names) if pull else [])]
+                for it in (pull.of(*names)[1:] if pull else [])]
         return self.listed(rows, question) if pull else self.missing()
 
     def timeline(self, question: Question) -> Reply:
@@ -116,7 +117,7 @@ class GitHubForm(Form):
         names = {"retargeted": "change_target_branch", "pushed": "pull_push", "commented": "comment"}
         pull = self.find(question)
         rows = [{"id": it.note, "type": names[it.kind], "user": self.user(it.person), "created_at": self.time(it.at)}
-                for it in (pull.of(*names) if pull else [])]
+                for it in (pull.of(*names)[1:] if pull else [])]
         return self.listed(rows, question) if pull else self.missing()
 
     def add_comment(self, question: Question) -> Reply:
