@@ -1,11 +1,14 @@
 """Where a forge's hooks come in. A hook is a place to look at, and nothing else of it is believed."""
 from __future__ import annotations
 
+import contextlib
 import http.server
+import socket
 import threading
 import time
 from collections.abc import Callable, Mapping
 from pathlib import Path
+from typing import Any
 
 from companions.api import LARGEST
 from companions.forges import Forge, Place
@@ -19,11 +22,13 @@ CREATE TABLE IF NOT EXISTS hint(row INTEGER PRIMARY KEY AUTOINCREMENT, repositor
     is_hook INTEGER DEFAULT 1, UNIQUE(repository, request));
 """
 
-# The path of hooks, and the seconds that a connection may take for its next bytes.
+# The path of hooks, and the seconds that a connection may take, from its first byte to its last one.
 PATH = "/hook"
 PATIENCE = 30
 # The seconds between two lines about hooks that weren't taken.
 MINUTE = 60.0
+# So many connections are there at once, and so many of them may have a body of more than so many bytes.
+MOST, MOST_LARGE, LARGE = 200, 4, 64 * 1024
 
 
 class Hints:
@@ -86,6 +91,21 @@ class Handler(http.server.BaseHTTPRequestHandler):
     server: Hooks
     timeout = PATIENCE
 
+    def setup(self) -> None:
+        """A connection that takes too long is ended, however it spends its time."""
+        super().setup()
+        self.timer = threading.Timer(self.server.patience, self.hang_up)
+        self.timer.daemon = True
+        self.timer.start()
+
+    def hang_up(self) -> None:
+        with contextlib.suppress(OSError):
+            self.connection.shutdown(socket.SHUT_RDWR)
+
+    def finish(self) -> None:
+        self.timer.cancel()
+        super().finish()
+
     def do_POST(self) -> None:
         if self.path.partition("?")[0] != PATH:
             return self.answer(404, "hooks come to " + PATH)
@@ -94,10 +114,11 @@ class Handler(http.server.BaseHTTPRequestHandler):
             return self.answer(411, "a hook has a Content-Length")
         if len(length) > 9 or int(length) > LARGEST:
             return self.answer(413, f"a hook has at most {LARGEST} bytes")
-        body = self.rfile.read(int(length))
-        if len(body) < int(length):
-            return self.answer(400, "the hook was cut")
-        return self.answer(*self.server.take(self.headers, body))
+        with self.server.large if int(length) > LARGE else contextlib.nullcontext():
+            body = self.rfile.read(int(length))
+            if len(body) < int(length):
+                return self.answer(400, "the hook was cut")
+            return self.answer(*self.server.take(self.headers, body))
 
     def do_GET(self) -> None:
         self.answer(404, "hooks are posted to " + PATH)
@@ -121,12 +142,27 @@ class Hooks(http.server.ThreadingHTTPServer):
     """The server. `names` has the gated repositories' names, each by itself in small letters: a forge may write it in
     others. `came` is set once a place was noted."""
     daemon_threads = True
+    patience = float(PATIENCE)
 
     def __init__(self, address: tuple[str, int], hints: Hints, forge: Forge, names: Mapping[str, str],
                  came: threading.Event) -> None:
         self.hints, self.forge, self.names, self.came = hints, forge, names, came
         self.not_taken = NotTaken()
+        self.places, self.large = threading.BoundedSemaphore(MOST), threading.BoundedSemaphore(MOST_LARGE)
         super().__init__(address, Handler)
+
+    def process_request(self, request: Any, client_address: Any) -> None:
+        """One more connection than there may be is ended at once: its hook is found by the next comparison."""
+        if self.places.acquire(blocking=False):
+            super().process_request(request, client_address)
+        else:
+            self.shutdown_request(request)
+
+    def process_request_thread(self, request: Any, client_address: Any) -> None:
+        try:
+            super().process_request_thread(request, client_address)
+        finally:
+            self.places.release()
 
     def take(self, headers, body: bytes) -> tuple[int, str]:
         """The answer to a hook, given once its place is on disk: a forge that got 200 sends it never again."""

@@ -1,13 +1,16 @@
 """Where hooks come in: what is noted of them, and how each is answered."""
 from __future__ import annotations
 
+import contextlib
 import http.client
 import json
+import socket
 import threading
+import time
 
 from companions.api import LARGEST
 from companions.forges import Place
-from companions.hooks import Hooks, serve
+from companions.hooks import LARGE, MOST_LARGE, Hooks, serve
 from companions.tests.adapter_case import Case
 
 
@@ -91,6 +94,52 @@ class Incoming(Case):
         for number, is_hook in ((11, False), (12, False), (13, True), (14, True), (12, True), (13, False)):
             self.adapter.hints.put(Place("acme/lib", number), is_hook)
         self.assertEqual([it.number for it in self.places()], [14, 12, 13, 11])
+
+    def test_a_connection_that_takes_too_long_is_ended(self) -> None:
+        self.hooks.patience = 0.5
+        for sent in (b"", b"POST /hook HTTP/1.1\r\n", b"POST /hook HTTP/1.1\r\nContent-Length: 9\r\n\r\n"):
+            with self.subTest(sent), socket.create_connection(("127.0.0.1", self.hooks.server_port)) as trickle:
+                trickle.sendall(sent)
+                trickle.settimeout(20)
+                began = time.monotonic()
+                with contextlib.suppress(OSError):
+                    while trickle.send(b"1") and time.monotonic() < began + 20:
+                        time.sleep(0.05)
+                self.assertLess(time.monotonic() - began, 10)
+        self.assertEqual(self.post(b'["acme/lib", 12]'), 200)
+
+    def test_large_bodies_are_read_a_few_at_a_time_and_hold_up_no_small_one(self) -> None:
+        large, head = b"x" * (LARGE + 1), "POST /hook HTTP/1.1\r\nSecret: wrong\r\nContent-Length: {}\r\n\r\n"
+        waiting = [socket.create_connection(("127.0.0.1", self.hooks.server_port)) for _ in range(MOST_LARGE)]
+        for it in waiting:
+            self.addCleanup(it.close)
+            it.sendall(head.format(len(large)).encode())
+        while self.hooks.large.acquire(blocking=False):
+            self.hooks.large.release()
+            time.sleep(0.01)
+        self.assertEqual(self.post(b'["acme/lib", 12]'), 200)
+        late = threading.Thread(target=lambda: answers.append(self.post(large, Secret="wrong")))
+        answers: list[int] = []
+        late.start()
+        late.join(0.3)
+        self.assertEqual(answers, [])
+        waiting[0].sendall(large)
+        late.join(20)
+        self.assertEqual(answers, [403])
+
+    def test_there_are_so_many_connections_at_once(self) -> None:
+        self.hooks.places = threading.BoundedSemaphore(1)
+        with socket.create_connection(("127.0.0.1", self.hooks.server_port)) as first:
+            first.sendall(b"POST")
+            while self.hooks.places.acquire(blocking=False):
+                self.hooks.places.release()
+                time.sleep(0.01)
+            with self.assertRaises((OSError, http.client.HTTPException)):
+                self.post(b'["acme/lib", 12]')
+        while not self.hooks.places.acquire(blocking=False):
+            time.sleep(0.01)
+        self.hooks.places.release()
+        self.assertEqual(self.post(b'["acme/lib", 12]'), 200)
 
     def test_a_hook_while_its_request_is_looked_at_is_looked_at_again(self) -> None:
         place = self.be(12, 0)
