@@ -12,6 +12,7 @@ from collections.abc import Iterator, Mapping
 from dataclasses import dataclass
 from typing import Any
 
+from companions.gate import say
 from companions.rests import Rests
 
 # The most bytes that an answer of a forge's API, or a hook, may have.
@@ -27,6 +28,9 @@ MOST_CALLS = 100
 # The longest pause that a forge is believed to ask for, in seconds, and how long it isn't asked at first if it refuses
 # without naming one.
 LONGEST_PAUSE, REFUSED_PAUSE = 3600.0, 60.0
+
+# From so many places to the next one is gone where a forge refers there.
+MOST_MOVES = 4
 
 # The kinds of calls, and by which words forges refuse for a limit where they don't name it by a header.
 KINDS = ("reading", "writing")
@@ -98,6 +102,7 @@ class Api:
         self.headers = {"Accept": "application/json", "User-Agent": "gated-adapter", **headers}
         self.kept = KeptAnswers()
         self.own: int | None = None
+        self.told = set[str]()
         self.refusals = Rests(REFUSED_PAUSE, LONGEST_PAUSE)
 
     def call(self, method: str, path: str, said: Any = None) -> Any:
@@ -125,7 +130,7 @@ class Api:
         self.check(method, path)
         kept = self.kept.of_path.get(path) if method == "GET" else None
         try:
-            response, content = self.exchange(method, path, said, kept)
+            response, content = self.followed(method, path, said, kept)
             if response.status == 304 and kept is not None:
                 return json.loads(kept.content), kept.link
             if response.status // 100 != 2:
@@ -161,6 +166,36 @@ class Api:
             self.refusals.failed(kind_of(method), now)
         elif response.status == 403:
             self.refusals.failed(f"{method} {path}", now)
+
+    def followed(self, method: str, path: str, said: Any, kept: Content | None
+                 ) -> tuple[http.client.HTTPResponse, bytes]:
+        """The answer, or the one at the place to which the forge refers, as where a repository has another name now:
+        git goes there too. Nothing is sent to another server."""
+        where = path
+        for _ in range(MOST_MOVES):
+            response, content = self.exchange(method, where, said, kept)
+            there = self.moved(response, where)
+            if there is None:
+                return response, content
+            where = there
+        raise ValueError(f"refers from place to place, last to {where}")
+
+    def moved(self, response: http.client.HTTPResponse, path: str) -> str | None:
+        """The path to which an answer refers, if that is of this API."""
+        if response.status not in (301, 302, 307, 308):
+            return None
+        there = urllib.parse.urlsplit(urllib.parse.urljoin(self.url.geturl(), response.getheader("Location", "")))
+        is_here = (there.scheme, there.netloc) == (self.url.scheme, self.url.netloc)
+        if not is_here or not there.path.startswith(self.url.path + "/"):
+            return None
+        place, _, query = path.partition("?")
+        # This is about a repository's name.
+        beginning = "/".join(place.split("/")[:4])
+        if beginning not in self.told:
+            self.told.add(beginning)
+            say("adapter", f"{place} is at {there.path} now: if its repository has another name, give that to"
+                           " project.forge")
+        return there.path[len(self.url.path):] + (f"?{there.query or query}" if there.query or query else "")
 
     def exchange(self, method: str, path: str, said: Any, kept: Content | None
                  ) -> tuple[http.client.HTTPResponse, bytes]:

@@ -1,6 +1,8 @@
 """Each call of each form of forge, before a stand-in that speaks its API."""
 from __future__ import annotations
 
+import contextlib
+import io
 import time
 import unittest
 from dataclasses import replace
@@ -405,6 +407,25 @@ class EachForm:
         with mock.patch("companions.api.time.time", lambda: ahead):
             self.fails(500, self.client.request, self.place)
         self.assertEqual(self.asked().number, self.place.number)
+
+    def test_a_repository_that_has_another_name_now_is_followed(self) -> None:
+        server, told = self.forge.server, io.StringIO()
+        slash = "%2F" if self.kind == "gitlab" else "/"
+        server.moved = f"acme{slash}old", f"acme{slash}lib"
+        with contextlib.redirect_stderr(told):
+            so = self.client.request(Place("acme/old", 1))
+            self.client.request(Place("acme/old", 1))
+            self.assertEqual(list(self.client.open_requests("acme/old")), [1])
+            self.client.set_status("acme/old", ONE, SUCCESS, "landed")
+        self.assertEqual((so and so.head, self.model.statuses), (ONE, [Status(LIB, ONE, "success", "landed")]))
+        lines = told.getvalue().splitlines()
+        self.assertEqual(len(lines), len(set(lines)))
+        self.assertIn("if its repository has another name, give that to project.forge", lines[0])
+        kind = self.forge.form.prefix + ("/projects/" if self.kind == "gitlab" else "/repos/")
+        for old, other, status in ((kind, "http://127.0.0.1:9/", 301), (f"acme{slash}old", f"acme{slash}old", None)):
+            server.moved = old, other
+            with contextlib.redirect_stderr(io.StringIO()):
+                self.fails(status, self.client.set_status, "acme/old", ONE, SUCCESS, "landed")
 
     def test_a_slow_forge_isnt_waited_for(self) -> None:
         self.forge.server.delay = 0.5

@@ -111,12 +111,13 @@ class Server:
     goes wrong with the next answers, in order, `fail` (it is 500), `limit` (it is 429, with the headers `limits`),
     `forbid` and `secondary` (it is 403, for a right or for a limit), `cut` (its content is missing) or nothing; `odds`
     is the probability that one is 500, before or after what was asked is done, and `delay` the seconds that each one
-    takes."""
+    takes. What is asked of the first name of `moved` is referred to the second one."""
 
     def __init__(self, form: Form) -> None:
         self.form, self.asked, self.plan = form, list[tuple[str, str]](), list[str]()
         self.delay, self.odds, self.chance = 0.0, 0.0, Random(1)
         self.limits: dict[str, str] = {}
+        self.moved: tuple[str, str] | None = None
         self.unchanged = 0
         self.lock = threading.Lock()
         self.server = HttpServer(("127.0.0.1", 0), handler_of(self))
@@ -143,6 +144,8 @@ class Server:
             return Reply(429, {"message": "Too Many Requests"}, self.limits), True
         if trouble in FORBIDDEN:
             return Reply(403, {"message": FORBIDDEN[trouble]}), True
+        if self.moved is not None and self.moved[0] in target:
+            return Reply(301, {"message": "Moved Permanently"}, {"Location": target.replace(*self.moved)}), True
         if trouble == "fail" or before:
             return failed, True
         reply = self.form.answer(method, target, body, headers)
