@@ -93,6 +93,7 @@ def refused() -> str | None:
         place = Path(folder).resolve()
         tried = Sandbox(place / "folder", place / "file", place / "trees", place / "own")
         tried.trees.mkdir()
+        tried.file.touch()
         reading, writing = os.pipe()
         try:
             ran = subprocess.run([*tried.words(writing), "true"], stdin=subprocess.DEVNULL, capture_output=True,
