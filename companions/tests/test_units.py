@@ -20,7 +20,7 @@ COVERS = ("ProtectProc", "ProcSubset", "ProtectKernelTunables", "ProtectKernelLo
 # What limits a worker's unit. Another limit has to be tried below too.
 WORKERS = {"NoNewPrivileges", "CapabilityBoundingSet", "ProtectSystem", "ProtectHome", "PrivateTmp", "PrivateDevices",
            "DevicePolicy", "ProtectClock", "ProtectControlGroups", "ProtectKernelModules", "RestrictRealtime",
-           "RestrictAddressFamilies", "SystemCallFilter", "SystemCallErrorNumber"}
+           "RestrictAddressFamilies", "SystemCallFilter", "SystemCallErrorNumber", "MemoryMax"}
 # The calls by which a sandbox is made.
 CALLS = {"clone", "clone3", "unshare", "setns", "mount", "umount2", "pivot_root", "sethostname", "prctl", "capset",
          "seccomp", "socket", "setresuid", "setresgid", "setgroups"}
