@@ -38,6 +38,10 @@ class Case(unittest.TestCase):
         """Who wrote what is meant as a vote and is none, and why it is none."""
         return [(it.person, it.flaw) for it in self.asked().votes if it.flaw is not None]
 
+    def of_comment(self, head: str) -> str | None:
+        """The commit that a comment at a head is of, where the form says it."""
+        return head if self.kind == "gitlab" else None
+
     def asked(self) -> Request:
         request = self.client.request(self.place)
         assert request is not None
