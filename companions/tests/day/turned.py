@@ -102,7 +102,7 @@ class HoldingOutbox(Outbox):
     """Has one lane for all changes."""
 
     def keep(self, delivery: Kept) -> None:
-        super().keep(replace(delivery, lane="all"))
+        super().keep(replace(delivery, lane="0"))
 
 
 def land_carelessly(words: list[str]) -> None:
