@@ -67,6 +67,8 @@ def plan(chance: random.Random) -> list[Step]:
         changes.append(good(100 + n, "lib", f"numbers/{n}", "a number"))
         changes.append(good(120 + n, "app", f"uses/{n}", "once", 100 + n))
         changes.append(good(200 + n, "site", f"number-{n}", "shown", *([100 + n] if chance.random() < 0.7 else [])))
+    changes += [good(401, "press", "letter-1", "sent", 103), bad(402, "press", "letter-2", "broken"),
+                good(403, "press", "letter-3", "sent")]
     # Two that conflict: one of them lands, or, where builds were lost, none.
     for number, title in ((253, "One title"), (254, "Another title")):
         change = Change(number, "site", {"title": title}, lands=None)

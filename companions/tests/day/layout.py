@@ -46,6 +46,8 @@ APP = Project("app", "core", (("unit", True),), (
     ("unit.sh", 'for use in uses/*; do [ -e "$GATED_TREES/lib/numbers/${use##*/}" ] || exit 1; done')))
 SITE = Project("site", "web", (("unit", True),), (
     ("page", "Welcome"), ("title", "Gate"), ("unit.sh", '! grep -q broken page style-* 2>/dev/null')))
+PRESS = Project("press", "press", (("unit", True),), (
+    ("letter", "Dear reader"), ("unit.sh", '! grep -q broken letter-* 2>/dev/null')))
 # Is added while the day runs.
 TOOL = Project("tool", "web", (("unit", True),), (("tool", "a hammer"), ("unit.sh", 'grep -q hammer tool')))
 

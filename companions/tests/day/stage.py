@@ -13,7 +13,7 @@ from pathlib import Path
 from companions.gate import Gate, NoAnswer
 from companions.job import kill_marked
 from companions.tests.day import layout
-from companions.tests.day.layout import ADAPTER, APP, LIB, SITE, Project
+from companions.tests.day.layout import ADAPTER, APP, LIB, PRESS, SITE, Project
 from companions.tests.day.parts import Differs, Part, put, run, wait_for
 
 WORKERS = ("w1", "w2", "w3")
@@ -53,7 +53,7 @@ class Stage:
 
     Here the repositories are their own forge: their hooks call the adapter, and so does whoever says something.
     """
-    first_projects = (LIB, APP, SITE)
+    first_projects = (LIB, APP, SITE, PRESS)
 
     def __init__(self, folder: Path, turned: str | None = None) -> None:
         self.folder, self.turned = folder, turned
