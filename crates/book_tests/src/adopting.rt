@@ -1,6 +1,5 @@
 //! A book in memory that is given other settings.
 use crate::scenes::plays;
-use std::process::Abort;
 
 /// The edits `first` leave 5 of the window of `core`.
 const SCENES: &str = "

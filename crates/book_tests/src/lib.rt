@@ -12,6 +12,8 @@ mod counting;
 #[cfg(test)]
 mod edits;
 #[cfg(test)]
+mod forgetting;
+#[cfg(test)]
 mod live;
 #[cfg(test)]
 mod live_changes;

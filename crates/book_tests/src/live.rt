@@ -1,6 +1,5 @@
 //! A book that holds what is live: once it is filled, the book below is asked only for what is past.
 use crate::scenes::plays;
-use std::process::Abort;
 
 /// Seven reads fill the book: the window, the items, the landings and the reports of its queue, the counters, the ready
 /// list and the only change that is ready. Of what is live eleven reads are made at a time. By the edits item 2 lands,
@@ -112,7 +111,7 @@ counters = 0 0 5
 below, asked 25
 
 # a fault of the store at a read drops what is held
-live over first, refuses a build
+live over first, refuses read 8
 
 settings core/10/1 lib@core = taken
 

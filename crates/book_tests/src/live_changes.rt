@@ -1,7 +1,6 @@
 //! Which changes are held by a book that holds what is live: those that are ready, and those of its items once they
 //! were asked for.
 use crate::scenes::plays;
-use std::process::Abort;
 
 /// Seven reads fill the book. Change 102 is that of item 4, and needs 101, which is that of item 2. By the edits change
 /// 103 is no longer ready, and 104 is, which needs 101; what 102 needs has changed.

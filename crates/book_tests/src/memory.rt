@@ -1,6 +1,5 @@
 //! A book in memory, changed and read back.
 use crate::scenes::plays;
-use std::process::Abort;
 
 const SCENES: &str = "
 # a book begins empty

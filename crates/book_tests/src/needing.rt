@@ -1,6 +1,5 @@
 //! The ready changes that need a change.
 use crate::scenes::plays;
-use std::process::Abort;
 
 /// Later 203 is approved anew, 202 no longer needs 110, and 205 is approved. Six reads of the queue, the counters and
 /// the ready list fill the book that holds what is live, and one of each change that is ready.

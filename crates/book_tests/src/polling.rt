@@ -230,14 +230,14 @@ fn polls<B: Book>(
     }
 }
 
-/// The store fails as a build is asked for.
+/// The store fails at the next read, at which a build is asked for.
 fn a_read_fails<B: Book>(
     rt: &(impl Abort + AllocGlobal),
     gate: &mut Gate<Counting<B>>,
     title: &str,
 ) {
     let number = BuildNo::new(1).expect(rt, title);
-    gate.book.refuses_build = true;
+    gate.book.fails_at = Some(gate.book.reads.saturating_add(1));
     let found = gate.build(rt.alloc(), number);
     holds(rt, matches!(found, Err(Refusal::Unavailable)), title);
 }

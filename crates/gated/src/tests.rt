@@ -5,6 +5,7 @@ mod commands;
 mod faults;
 mod files;
 mod machine;
+mod order;
 mod serving;
 mod sessions;
 mod streams;

@@ -9,6 +9,7 @@
 
 mod entry;
 mod machine;
+mod new_file;
 mod run;
 
 pub use entry::{program, unread};

@@ -1,6 +1,7 @@
 //! The gates' files of a machine.
 ghost use Rattle.std.specs.Prelude.{◌≡◌, IfErr, IsErrOf, OnErr, OnOk};
 
+use crate::new_file;
 use crate::run::{Fault, asking, over_file};
 use gate_sql::Migrated;
 use gate_types::config::Config;
@@ -157,7 +158,7 @@ impl<S: Alter + Drop, M: Databases<Database = Connection<S>> + Net + AllocGlobal
         × P (state S.Store old) (state S.Store new) };
 
     fn make(&self, file: &str, config: &Config) -> Result<(), Fault> {
-        let conn = self.database(file)?;
+        let conn = self.fresh(file)?;
         let (conn, done) = over_file::make(self.alloc(), conn, config);
         closed(self.close(conn), done)
     }
@@ -246,6 +247,7 @@ impl<S: Alter + Drop, M: Databases<Database = Connection<S>> + Net + AllocGlobal
 pub trait Databases {
     ghost use Rattle.std.specs.Prelude.{◌≡◌, ℕ, List, IfErr, IfOk, OnOk};
     ghost use Rattle.gate_types.specs.declared.open_fault.OpenFault.{OpenFault};
+    ghost use Rattle.gated_cli.specs.Ending.{IsOfFile};
 
     /// An open database.
     type Database;
@@ -260,6 +262,12 @@ pub trait Databases {
     fn database(&self, file: &str) -> Result<Self::Database, Fault>
         ensures of { IfOk result (λ conn. IsOf conn file.now) }
         ensures fault { IfErr result (λ f. f ≡ Fault.File OpenFault.Unavailable) };
+
+    /// The database of a file for a new gate: one of small pages is made where there is none. `File` where it can't be
+    /// opened, or where it isn't there and another one's log is.
+    fn fresh(&self, file: &str) -> Result<Self::Database, Fault>
+        ensures of { IfOk result (λ conn. IsOf conn file.now) }
+        ensures fault { IfErr result IsOfFile };
 
     /// The database of a file that is there. `File` where it isn't, or can't be opened.
     fn present(&self, file: &str) -> Result<Self::Database, Fault>
@@ -286,6 +294,14 @@ impl Databases for HostRuntime {
         match Connection::open(self, file) {
             Ok(conn) => Ok(conn),
             Err(_) => Err(Fault::File(OpenFault::Unavailable)),
+        }
+    }
+
+    fn fresh(&self, file: &str) -> Result<Connection<FileStore<File>>, Fault> {
+        match new_file::made(self, file) {
+            Ok(Some(conn)) => Ok(conn),
+            Ok(None) => self.database(file),
+            Err(fault) => Err(Fault::File(fault)),
         }
     }
 

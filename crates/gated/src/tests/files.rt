@@ -73,6 +73,61 @@ fn a_gate_is_made_and_delivered_to(rt: HostRuntime) {
     plays(&rt, &Machine::new(&rt), DELIVERED);
 }
 
+const NEW: &str =
+    r#"# a new file has small pages, also where an empty one is there, and a database keeps those that it has
+$ clear new.toml new.gate new.gate-wal old.gate old.gate-wal
+$ write new.toml < one queue
+$ gated init new.toml new.gate
+|= 0
+$ page new.gate
+1024
+$ clear new.gate
+$ write new.gate < nothing
+$ gated init new.toml new.gate
+|= 0
+$ page new.gate
+1024
+$ sql old.gate < nothing
+$ gated init new.toml old.gate
+|= 0
+$ page old.gate
+4096
+$ gated deliver new.toml old.gate < revision
+{"reply":"recorded"}
+|= 0
+$ clear new.toml new.gate new.gate-wal old.gate old.gate-wal
+# a log that lies by the name of a file that isn't there belongs to another one
+$ clear stray.toml stray.gate stray.gate-wal
+$ write stray.toml < one queue
+$ write stray.gate-wal < no gate
+$ gated init stray.toml stray.gate
+|gated: O1 wrong-file
+= 1
+$ look stray.gate
+missing
+$ write stray.gate-wal < nothing
+$ gated init stray.toml stray.gate
+|= 0
+$ gated deliver stray.toml stray.gate < revision
+{"reply":"recorded"}
+|= 0
+$ clear stray.toml stray.gate stray.gate-wal
+# what is no path of a file makes none
+$ clear new.toml :memory:
+$ write new.toml < one queue
+$ gated init new.toml :memory:
+|gated: O4 unavailable
+= 1
+$ look :memory:
+missing
+$ clear new.toml
+"#;
+
+#[test]
+fn a_new_file_has_small_pages(rt: HostRuntime) {
+    plays(&rt, &Machine::new(&rt), NEW);
+}
+
 const ADOPTED: &str =
     r#"# settings with a queue more are taken, and an item keeps the jobs that it came with
 $ clear others.toml others.gate others.gate-wal

@@ -171,6 +171,10 @@ impl Databases for Machine<'_> {
         self.host.database(file)
     }
 
+    fn fresh(&self, file: &str) -> Result<Connection<FileStore<File>>, Fault> {
+        self.host.fresh(file)
+    }
+
     fn present(&self, file: &str) -> Result<Connection<FileStore<File>>, Fault> {
         self.host.present(file)
     }

@@ -63,6 +63,8 @@ $ gated init serve_taken.toml serve_taken.gate
 $ gated serve serve_taken.toml serve_taken.gate --port PORT --count 1
 |gated: I4 listen
 = 1
+$ size serve_taken.gate-wal
+41
 $ gated deliver serve_taken.toml serve_taken.gate < revision
 {"reply":"recorded"}
 |= 0
@@ -130,6 +132,8 @@ $ gated serve serve_ended.toml serve_ended.gate --port 0 --count 2
 listening 127.0.0.1:PORT
 |gated: I4 listen
 = 1
+$ size serve_ended.gate-wal
+41
 $ gated deliver serve_ended.toml serve_ended.gate < approved
 {\"order\":1,\"reply\":\"queued\"}
 |= 0
@@ -146,4 +150,29 @@ fn a_listener_that_fails_ends_the_run(rt: HostRuntime) {
     let client = client(&rt, address, POST);
     plays_at(&rt, &machine_at(&rt, &listener, 0), address, ENDED);
     received(&rt, client, RECORDED);
+}
+
+const UNHEARD: &str = "\
+# where the port can't be told nobody is served
+$ clear serve_unheard.toml serve_unheard.gate serve_unheard.gate-wal
+$ write serve_unheard.toml < one queue
+$ gated init serve_unheard.toml serve_unheard.gate
+|= 0
+$ gated serve serve_unheard.toml serve_unheard.gate --port 0 --count 1 > 0
+|gated: I2 write
+= 1
+$ size serve_unheard.gate-wal
+41
+$ gated deliver serve_unheard.toml serve_unheard.gate < approved
+{\"code\":\"E5\",\"error\":\"unknown-change\"}
+|= 0
+$ clear serve_unheard.toml serve_unheard.gate serve_unheard.gate-wal
+";
+
+/// The client has sent a revision, which the gate would know then.
+#[test]
+fn the_port_is_told_before_anybody_is_served(rt: HostRuntime) {
+    let (listener, address) = free_port(&rt);
+    let _client = client(&rt, address, POST);
+    plays(&rt, &machine_at(&rt, &listener, 0), UNHEARD);
 }

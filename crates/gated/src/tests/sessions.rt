@@ -142,6 +142,20 @@ fn presence(machine: &Machine<'_>, file: &str) -> &'static str {
     }
 }
 
+/// The bytes of a page of a database, as its header says: two bytes at offset 16 (the SQLite file format, 1.3.2).
+fn page_size(rt: &(impl Abort + AllocGlobal), machine: &Machine<'_>, file: &str) -> String {
+    let bytes = fs::read(machine.host, file).expect(rt, file);
+    let size = bytes.get(16..18).expect(rt, file);
+    let size = u16::from_be_bytes([size[0], size[1]]);
+    format!(in rt.alloc(); "{size}\n").expect(rt, "memory")
+}
+
+/// The bytes of a file.
+fn size(rt: &(impl Abort + AllocGlobal), machine: &Machine<'_>, file: &str) -> String {
+    let bytes = fs::read(machine.host, file).expect(rt, file);
+    format!(in rt.alloc(); "{}\n", bytes.len()).expect(rt, "memory")
+}
+
 /// Does what stands behind `$ `, and finds below it what comes of it.
 fn goes_on(rt: &(impl Abort + AllocGlobal), machine: &Machine<'_>, title: &str, part: &str) {
     let (line, wanted) = parted(part, "\n", "");
@@ -149,6 +163,14 @@ fn goes_on(rt: &(impl Abort + AllocGlobal), machine: &Machine<'_>, title: &str, 
     match verb {
         "gated" => return runs(rt, machine, title, line, wanted),
         "look" => has_come(rt, presence(machine, rest), wanted, title, line),
+        "page" => has_come(
+            rt,
+            page_size(rt, machine, rest).as_str(),
+            wanted,
+            title,
+            line,
+        ),
+        "size" => has_come(rt, size(rt, machine, rest).as_str(), wanted, title, line),
         "write" => write(rt, machine, rest),
         "sql" => run_sql(rt, machine, rest),
         "fill" => fill(rt, machine, rest),
@@ -164,7 +186,8 @@ fn goes_on(rt: &(impl Abort + AllocGlobal), machine: &Machine<'_>, title: &str, 
 ///   what is wanted stands for any text, and so it does once more in the middle;
 /// - `write FILE < TEXT` writes a text of a name, `fill FILE SIZE` a comment of so many bytes, and `sql FILE < TEXT`
 ///   runs the statements of a text;
-/// - `clear FILES` removes files, and `look FILE` tells whether one is there.
+/// - `clear FILES` removes files, and `look FILE` tells whether one is there, `size FILE` its bytes, and `page FILE` the
+///   bytes of a page of a database.
 fn plays_scene(rt: &(impl Abort + AllocGlobal), machine: &Machine<'_>, scene: &str) {
     let (title, lines) = scene.split_once("\n$ ").expect(rt, scene);
     for part in lines.split("$ ") {

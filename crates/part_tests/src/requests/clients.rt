@@ -1,6 +1,7 @@
 //! Clients over loopback, one after another, with the responses typed from the formats.
 use crate::claims::holds;
 use crate::requests::scenes::Fresh;
+use crate::requests::streams::{Pace, Stream};
 use crate::requests::texts::{halves, request, response};
 use crate::requests::torn::Torn;
 use gate_archive::Archive;
@@ -119,4 +120,20 @@ fn a_history_that_breaks_off_is_told_and_the_next_is_served(rt: HostRuntime) {
         TORN,
         "gated: I7 store\n",
     );
+}
+
+/// The fault of the second client can't be told, and the third is answered all the same.
+#[test]
+fn where_no_fault_can_be_told_the_next_is_served(rt: HostRuntime) {
+    let Gate { config, book, .. } = Gate::<MemBook>::fresh(&rt);
+    let mut gate = Gate::new(config, Torn(book));
+    let listener = TcpListener::bind(&rt, "127.0.0.1:0").expect(&rt, "a port");
+    let clients = clients(&rt, &listener, TORN);
+    let mut errors = Tap::new(Stream::new(rt.alloc(), b"", Pace::writing(0)));
+    let done = serve(rt.alloc(), &listener, &mut gate, 3, &mut errors);
+    holds(&rt, done.is_ok() && errors.failed(), TORN);
+    drop(listener);
+    for (name, stream) in clients {
+        was_answered(&rt, stream, name);
+    }
 }

@@ -77,5 +77,5 @@ run INSERT INTO report VALUES ('core', 1, 1, 101, 1, 'landed', 1), ('core', 2, 2
 pub(crate) const LONG_ROWS: &str = r#"run INSERT INTO meta VALUES ('format', 'gate')
 run INSERT INTO meta VALUES ('schema', '1')
 run INSERT INTO meta VALUES ('settings', '{"base":"https://forge/c/","projects":[{"jobs":[{"name":"unit","voting":true},{"name":"docs","voting":false}],"name":"lib","queue":"core"},{"jobs":[{"name":"unit","voting":true}],"name":"app","queue":"core"},{"jobs":[{"name":"unit","voting":true}],"name":"site","queue":"web"}],"queues":[{"floor":1,"name":"core","window":2},{"floor":1,"name":"web","window":2}]}')
-run INSERT INTO counter VALUES ('approval', 1000), ('build', 1001000), ('order', 1000)
+run INSERT INTO counter VALUES ('approval', 5000), ('build', 1005000), ('order', 5000)
 run INSERT INTO queue VALUES ('core', 0, 1000), ('web', 1, 2)"#;

@@ -244,10 +244,10 @@ fn queued_items_of_a_migrated_file_fail_fast(rt: HostRuntime) {
     fails_fast(&rt, empty(&rt));
 }
 
-/// The lines that write the rows of 1,000 landings. Builds on two jobs have shown each.
+/// The lines that write the rows of 5,000 landings. Builds on two jobs have shown each.
 fn landings(alloc: Global) -> Result<String, AllocError> {
     let mut lines = String::new(alloc);
-    for base in 0..1000u32 {
+    for base in 0..5000u32 {
         let n = base.saturating_add(1);
         write!(
             lines,
@@ -267,34 +267,34 @@ run DELETE FROM build WHERE serial = 500 AND job = 'docs'
 open: OtherSchema
 migrate: done
 open: done
-1999 is SELECT count(*) FROM item_job
+9999 is SELECT count(*) FROM item_job
 2 is SELECT count(*) FROM item_job WHERE serial = 1
 1 is SELECT count(*) FROM item_job WHERE serial = 1 AND place = 0 AND name = 'unit' AND voting = 1
 1 is SELECT count(*) FROM item_job WHERE serial = 1 AND place = 1 AND name = 'docs' AND voting = 0
 1 is SELECT count(*) FROM item_job WHERE serial = 500
 1 is SELECT count(*) FROM item_job WHERE serial = 500 AND place = 0 AND name = 'unit' AND voting = 1
-2 is SELECT count(*) FROM item_job WHERE serial = 1000
-1 is SELECT count(*) FROM item_job WHERE serial = 1000 AND place = 0 AND name = 'unit' AND voting = 1
-1 is SELECT count(*) FROM item_job WHERE serial = 1000 AND place = 1 AND name = 'docs' AND voting = 0
+2 is SELECT count(*) FROM item_job WHERE serial = 5000
+1 is SELECT count(*) FROM item_job WHERE serial = 5000 AND place = 0 AND name = 'unit' AND voting = 1
+1 is SELECT count(*) FROM item_job WHERE serial = 5000 AND place = 1 AND name = 'docs' AND voting = 0
 0 is SELECT count(*) FROM item_fast";
 
 const LONG_GOES_ON: &str = r#"status
-queue core window 1000 landed 1000
+queue core window 1000 landed 5000
 queue web window 2 landed 0
 end
 
-> {"id":"0c000000-0000-4000-8000-000000000001","kind":"revision","change":1001,"project":"app","revision":1,"message":"Depends-On: https://forge/c/1000"}
+> {"id":"0c000000-0000-4000-8000-000000000001","kind":"revision","change":5001,"project":"app","revision":1,"message":"Depends-On: https://forge/c/5000"}
 < {"reply":"recorded"}
-> {"id":"0c000000-0000-4000-8000-000000000002","kind":"approved","change":1001,"revision":1}
-< {"order":1001,"reply":"queued"}
+> {"id":"0c000000-0000-4000-8000-000000000002","kind":"approved","change":5001,"revision":1}
+< {"order":5001,"reply":"queued"}
 
 status
-queue core window 1000 landed 1000
-  1001      1001    1      - ok      unit=waiting
+queue core window 1000 landed 5000
+  5001      5001    1      - ok      unit=waiting
 queue web window 2 landed 0
 end"#;
 
-/// A file of schema 1 with 1,000 landings.
+/// A file of schema 1 with 5,000 landings.
 fn long<S: Alter + Drop>(rt: &(impl Abort + AllocGlobal), conn: Connection<S>) -> Connection<S> {
     let lines = landings(rt.alloc()).expect(rt, "memory");
     let conn = first_with(rt, conn, CHANGES, LONG_ROWS);
@@ -303,11 +303,11 @@ fn long<S: Alter + Drop>(rt: &(impl Abort + AllocGlobal), conn: Connection<S>) -
 
 fn a_long_history_goes_on<S: Alter + Drop>(rt: &(impl Abort + AllocGlobal), conn: Connection<S>) {
     let conn = after(rt, long(rt, conn), LONG);
-    let _ = goes_on_over(rt, conn, SETTINGS, "a thousand landings", LONG_GOES_ON);
+    let _ = goes_on_over(rt, conn, SETTINGS, "5,000 landings", LONG_GOES_ON);
 }
 
 #[test]
-fn a_thousand_landings_are_migrated(rt: HostRuntime) {
+fn all_5_000_landings_are_migrated(rt: HostRuntime) {
     a_long_history_goes_on(&rt, empty(&rt));
 }
 
