@@ -5,8 +5,7 @@ use Rattle.std.specs.List.{All, AllPass, list_any}
 use Rattle.std.proofs.lemmas.List.Elements.{All-cons, All-nil, All-head, All-tail}
 use Rattle.gate_types.specs.declared.config.Job.{Job}
 use Rattle.gate_types.specs.declared.records.Build.{Build}
-use Rattle.gate_types.specs.Settings.{Settings}
-use Rattle.gate_types.specs.State.{Item, Queue, State}
+use Rattle.gate_types.specs.State.{Item}
 use Rattle.gate_types.specs.Line.{Place}
 use Rattle.gate_types.specs.Slot.{is_blocked, is_cut, slot_of, raw_slot_of}
 use Rattle.gate_types.specs.Standing.{is_failing, places, all_places, places_after, place_of, with_ahead, next_ahead}

@@ -1,8 +1,7 @@
 -- What a walk does after a delivery: it leaves of the touched queue what a rebase and then a sweep of the whole state
 -- leave.
-use Rattle.std.specs.Prelude.{ℕ, Bool, true, false, ◌+◌, ◌==◌, ◌≡◌, List, [], ◌∷◌, ◌++◌, map, length, Option, Some}
+use Rattle.std.specs.Prelude.{ℕ, true, false, ◌+◌, ◌≡◌, List, [], ◌∷◌, ◌++◌, map, length, Option, Some}
 use Rattle.std.specs.Prelude.{None, find, nat_le, Contains, ◌⊎◌}
-use Rattle.std.specs.Option.{option_map_or}
 use Rattle.gate_types.specs.declared.records.Item.{Item as ItemRow}
 use Rattle.gate_types.specs.declared.records.Verdict.TheVariants as verdict
 use Rattle.gate_types.specs.declared.deliveries.Delivery.{Delivery}
@@ -14,7 +13,7 @@ use Rattle.gate_types.specs.Standing.{place_of}
 use Rattle.gate_types.specs.Rebase.{rebase}
 use Rattle.gate_types.specs.Window.{Bounds, bounds_of}
 use Rattle.gate_types.specs.Sweep.{sweep}
-use Rattle.gate_types.specs.Step.{accepted, raw_step, left_queue, landed_queue, shrunk_queue, build_of}
+use Rattle.gate_types.specs.Step.{accepted, raw_step, left_queue, landed_queue, shrunk_queue}
 use Rattle.gate_types.specs.Lawful.{IsLawful}
 use Rattle.gate_types.specs.Rows.{fold_edits}
 use Rattle.gate_laws.specs.Touch.{touched_by, is_on, is_stale, OtherQueuesStay}

@@ -135,3 +135,29 @@ loop-order-preserved g c = record {
 pub returns-clause-admitted : goal.returns-clause-admitted
 returns-clause-admitted g c = λ trusted x holds lawful v sound leads enters.
     absurd (omega (arith, c.loop-order-test.false, c.loop-order.invariant.low))
+
+pub returns-in_err-drawn-clause-kept : goal.returns-in_err-drawn-clause-kept
+returns-in_err-drawn-clause-kept g c = then c.in_ok-waiting.ensures.kept c.in_err-drawn.ensures.kept
+
+pub returns-then-is_past-clause-kept : goal.returns-then-is_past-clause-kept
+returns-then-is_past-clause-kept g c = then c.in_ok-waiting.ensures.kept c.in_ok-drawn.ensures.kept
+
+pub returns-in_err-entrant-clause-kept : goal.returns-in_err-entrant-clause-kept
+returns-in_err-entrant-clause-kept g c = then c.loop-order.invariant.kept c.in_err-entrant.ensures.kept
+
+pub returns-in_default-clause-kept : goal.returns-in_default-clause-kept
+returns-in_default-clause-kept g c = then c.loop-order.invariant.kept c.in_ok-entrant.ensures.kept
+
+pub returns-in_default-new-clause-kept : goal.returns-in_default-new-clause-kept
+returns-in_default-new-clause-kept g c = then c.loop-order.invariant.kept c.in_ok-entrant.ensures.kept
+
+pub returns-in_err-enter-clause-kept : goal.returns-in_err-enter-clause-kept
+returns-in_err-enter-clause-kept g c =
+    let two = then c.loop-order.invariant.kept c.in_ok-entrant.ensures.kept in
+    then two c.in_err-enter.ensures.kept
+
+pub returns-in_err-add_needing-clause-kept : goal.returns-in_err-add_needing-clause-kept
+returns-in_err-add_needing-clause-kept g c =
+    let two = then c.loop-order.invariant.kept c.in_ok-entrant.ensures.kept in
+    let three = then two c.in_ok-enter.ensures.kept in
+    then three c.in_err-add_needing.ensures.kept

@@ -8,6 +8,7 @@ use Rattle.gate_types.specs.State.{change_of, need_of, is_open}
 use Rattle.gate_types.specs.Standing.{needs_of}
 use Rattle.gate_laws.proofs.Members.{every, contains_in}
 use Rattle.gate_book_trait.specs.Reads.{items_in}
+use Rattle.gate_book_trait.proofs.KeptLemmas.{then}
 use Rattle.gate_admission.specs.Known.{has_place}
 use Rattle.gate_admission.specs.Enters.{AreMetWithRoom, is_met_by_rows}
 use Rattle.gate_admission.proofs.ReadyList.{open_known}
@@ -83,3 +84,19 @@ returns-clause-found g c = λ trusted x holds lawful v led.
             ∙ ap (λ name. list_all (is_met_by_rows (items_in s v name)) (needs_of v n)) (queue_is s v n p project));
       },
     )
+
+pub returns-in_err-needs-clause-kept : goal.returns-in_err-needs-clause-kept
+returns-in_err-needs-clause-kept g c = then c.in_ok-change.ensures.kept c.in_err-needs.ensures.kept
+
+pub returns-in_err-fine-clause-kept : goal.returns-in_err-fine-clause-kept
+returns-in_err-fine-clause-kept g c =
+    let two = then c.in_ok-change.ensures.kept c.in_ok-needs.ensures.kept in
+    then two c.in_err-fine.ensures.kept
+
+pub returns-in_default-2-clause-kept : goal.returns-in_default-2-clause-kept
+returns-in_default-2-clause-kept g c =
+    let two = then c.in_ok-change.ensures.kept c.in_ok-needs.ensures.kept in
+    then two c.in_ok-fine.ensures.kept
+
+pub returns-clause-kept : goal.returns-clause-kept
+returns-clause-kept g c = then (then c.in_ok-change.ensures.kept c.in_ok-needs.ensures.kept) c.in_ok-fine.ensures.kept

@@ -1,5 +1,6 @@
 use Rattle.std.proofs.Common.{◌+◌, ◌∙◌, ap, sym, arith}
 use Rattle.std.specs.Prelude.{nat_lt}
+use Rattle.gate_book_trait.proofs.KeptLemmas.{then}
 use Rattle.gate_admission.proofs.LedItems.{room_led}
 use Rattle.gate_admission.proofs.Spans.{room_by_most}
 use Rattle.gate_admission.proofs.room.has_room.Goals as goal
@@ -21,3 +22,14 @@ returns-clause-found g c = λ trusted s x holds lawful v led there.
     ∙ room_led s x c.args.edits.now v c.args.queue.now c.in_ok-items.items moves.added moves.dropped led there
     (c.in_ok-items.ensures.found one s x at_zero lawful)
     (c.in_ok-moves.ensures.found trusted s x at_one lawful)
+
+pub returns-in_err-items-clause-kept : goal.returns-in_err-items-clause-kept
+returns-in_err-items-clause-kept g c = then c.in_ok-most.ensures.kept c.in_err-items.ensures.kept
+
+pub returns-in_err-moves-clause-kept : goal.returns-in_err-moves-clause-kept
+returns-in_err-moves-clause-kept g c =
+    let two = then c.in_ok-most.ensures.kept c.in_ok-items.ensures.kept in
+    then two c.in_err-moves.ensures.kept
+
+pub returns-clause-kept : goal.returns-clause-kept
+returns-clause-kept g c = then (then c.in_ok-most.ensures.kept c.in_ok-items.ensures.kept) c.in_ok-moves.ensures.kept
