@@ -9,7 +9,7 @@ if [ ! -x "$GATED" ]; then
   exit 1
 fi
 FORGE=$(mktemp -d)
-mkdir "$FORGE/signs"
+mkdir "$FORGE/signs" "$FORGE/logs"
 export FORGE FORGE_SCRIPTS FORGE_SETTINGS PYTHONPATH="$FORGE_TOP" PYTHONDONTWRITEBYTECODE=1
 . "$FORGE_SCRIPTS/common.sh"
 declare -A running=()
@@ -85,6 +85,7 @@ refused = sandbox.refused()
 if refused:
     print(f"jobs run without sandboxes: {refused}", file=sys.stderr)
 print(f'folder = "{forge}/companions"\n[gate]\nurl = "http://127.0.0.1:{port}"\npause = 0.2\n[worker]\nlook = 1.0')
+print(f'logs = "{forge}/logs"')
 print(f'sandbox = {str(not refused).lower()}')
 for project in tomllib.load(open(settings, "rb"))["project"]:
     print(f'[[project]]\nname = "{project["name"]}"\nqueue = "{project["queue"]}"\nbranch = "main"')

@@ -100,7 +100,8 @@ class Forge:
             yield f"{place.repository} {place.number}, {pull.state}: {pull.title}"
             yield f"  {status.state}: {status.text}" if status else "  no status"
             comments = [it.text.splitlines()[:-2] for it in self.model.comments(place, GATE)]
-            yield from (f"    {line}".rstrip() for lines in comments for line in lines)
+            # Commits have other hashes each time.
+            yield from (f"    {line}".rstrip().replace(pull.head, "COMMIT") for lines in comments for line in lines)
             yield ""
 
     def watch(self) -> None:

@@ -2,7 +2,18 @@
 # A day of a forge in Gitea's form that is connected to a gate by the companions: adapter, lander and two workers, with
 # real repositories. The forge's API and hooks are a stand-in (forge.py). All runs on this machine alone. It ends by
 # itself, and says `ok`, or what differs.
+#
+#   run.sh [--page]
+#
+# With `--page` people can look at it: nginx shows the page at the address that is printed first. Jobs take SLOW seconds
+# then, and when the day is over the page stays until somebody presses Return. PORT is the page's port, or a free one.
 set -eu
+shows= slow=
+case ${1-} in
+  '') ;;
+  --page) shows=yes slow="sleep ${SLOW:-6}; " PATIENCE=${PATIENCE:-900} ;;
+  *) echo "usage: run.sh [--page]" >&2 && exit 2 ;;
+esac
 here=$(cd "$(dirname "$0")" && pwd)
 FORGE_SETTINGS=$here/settings.toml
 . "$here/../forge/stage.sh"
@@ -63,6 +74,17 @@ base = "https://gate.example/c/"
 approvers = ["ann", "cy"]
 look = 1.0
 TOML
+  [ -z "$shows" ] || printf 'page = "%s"\nlogs = "%s#/builds/{build}"\n' "$FORGE/page" "$(cat "$FORGE/address")"
+}
+
+# The page, behind nginx's part of companions/service.
+start_page() {
+  local nginx
+  nginx=$(PATH="$PATH:/usr/sbin" command -v nginx) || fail "nginx isn't there: install it (apt-get install nginx-light)"
+  python3 "$here/page.py" "$FORGE" "$(cat "$GATE_PORT")" ${PORT:+"$PORT"} >"$FORGE/address"
+  start page "$nginx" -g 'daemon off;' -c "$FORGE/proxy/nginx.conf"
+  await curl -sf "$(cat "$FORGE/address")status"
+  echo "look at $(cat "$FORGE/address")"
 }
 
 start_adapter() {
@@ -95,9 +117,10 @@ shows_what_is_expected() {
 
 "$GATED" init "$FORGE_SETTINGS" "$FORGE/day.gate"
 start_gate
-make acme/lib one=1 unit.sh='! cat one two three four 2>/dev/null | grep -q broken'
-make acme/app use=one unit.sh='for use in $(cat use); do [ -e "../lib/$use" ] || exit 1; done'
-make acme/site page=Welcome unit.sh='grep -q . page'
+make acme/lib one=1 unit.sh="$slow"'! cat one two three four 2>/dev/null | grep -q broken'
+make acme/app use=one unit.sh="$slow"'for use in $(cat use); do [ -e "../lib/$use" ] || exit 1; done'
+make acme/site page=Welcome unit.sh="$slow"'grep -q . page'
+[ -z "$shows" ] || start_page
 hooks=$(python3 -c 'import socket; print(socket.create_server(("127.0.0.1", 0)).getsockname()[1])')
 coproc forge { exec python3 "$here/forge.py" "$FORGE/repos" "http://127.0.0.1:$hooks/hook" 2>>"$FORGE/forge.log"; }
 read -r -u "${forge[0]}" api
@@ -167,14 +190,14 @@ await has_said 6 1 'revision: recorded'
 await has_said 7 1 'approved: queued'
 await is_quiet
 
-# Change 8 has a new commit before the hook of its first one comes, and is approved by a comment.
+# Change 8 has a new commit before the hook of its first one comes, and is approved by a comment that names it.
 push acme/lib 4 'Add five' five=4
 at_forge late open acme/lib main 'Add five' ''
 push acme/lib 4 'Add five' five=5
 at_forge push acme/lib 4
 await has_said 8 1 'revision: recorded'
 at_forge release
-at_forge comment acme/lib 4 ann '/gate approve'
+at_forge comment acme/lib 4 ann "/gate approve $(git -C "$FORGE/repos/acme/lib.git" rev-parse refs/pull/4/head)"
 await has_landed acme/lib core/4
 await is_quiet
 
@@ -215,3 +238,7 @@ check_evidence core web
 await shows_what_is_expected
 cat "$FORGE/shown"
 echo ok
+if [ -n "$shows" ]; then
+  echo "the day is over, and the page stays: press Return to end it"
+  read -r _ || true
+fi
