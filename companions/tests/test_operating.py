@@ -15,17 +15,30 @@ TOP = Path(__file__).resolve().parents[2]
 PAGE = TOP / "docs" / "OPERATING.md"
 STAGE = Path(__file__).resolve().parent / "operating"
 PROGRAM = Path(os.environ.get("GATED", TOP / "crates" / "gated" / "out" / "gated"))
-# Of the indented blocks, the one that stands for another: whoever has tried the gate runs it in place of `init`.
+# Of the indented blocks, the one that stands for another: whoever has tried the gate runs it in place of `init`. And
+# the one for those who have no adapter.
 OF_A_TRIAL, OF_NO_TRIAL = "mv /root/trial/gate.db*", "gated init /etc/gated/gate.toml /var/lib/gated/gate.db"
+OF_NO_ADAPTER = "adapter = false"
+# Those for a second machine, which test_standby.py types, and for an upgrade from before `install` and back, which
+# test_upgrade.py types.
+OF_TWO = "service/standby "
+OF_FORMER, OF_ITS_START = "rm /etc/systemd/system/gated*.service", "gated-copies gated-backup.timer"
+OF_WAY_BACK = "companions/service/install --remove"
+NOT_TYPED = (OF_A_TRIAL, OF_NO_ADAPTER, OF_TWO, OF_FORMER, OF_ITS_START, OF_WAY_BACK)
+# The variable that names a folder of repositories which several stages have.
+FORGED = "SHARED"
 # What stands between fences begins so: it is printed or written, and isn't run.
-FENCED = ("queue core window 3 landed 0", "gated: O4 unavailable", "core 1 lib: change 101, revision 1, ",
-          "backup: /var/backups/gated/", "follow: both show the same at ", "restore: /var/lib/gated/gate.db has ")
+FENCED = ("queue core window 3 landed 0", "gated: O4 unavailable",
+          "check: /etc/gated/worker.toml: project lib has no job docs", "change 17, revision 2, stands at place 4 of 5",
+          "ci/lint is failure: no approval counts before it has passed", "tell = '''\ncase $GATED_VERDICT",
+          "tell = '''\ncase $GATED_VERDICT", "core 1 lib: change 101, revision 1, ", "backup: /var/backups/gated/",
+          "follow: both show the same at ", "restore: /var/lib/gated/gate.db has ")
 # What clients of the gate tell meanwhile: behind the block that has the text on the left.
 TOLD = {
     "https://gate.example/status": (
         '"kind":"revision","change":301,"project":"site","revision":1,"message":"Depends-On: https://forge/c/101"',
         '"kind":"approved","change":301,"revision":1'),
-    "systemctl start gated gated-lander": (
+    "systemctl start gated gated-lander gated-watch gated-worker": (
         '"kind":"revision","change":301,"project":"site","revision":1,"message":"Depends-On: https://forge/c/101"',
         '"kind":"approved","change":301,"revision":1'),
     "gated-backup.timer": ('"kind":"revision","change":302,"project":"site","revision":1,"message":""',),
@@ -40,8 +53,8 @@ BEHIND = {
 git -C /srv/git/site.git rev-parse --verify "refs/landings-before/$day/web/1"
 [ -z "$(git -C /srv/git/site.git for-each-ref refs/landings/)" ]
 [ -e /var/lib/gated-companions/adapter/was-here ] && [ ! -e /var/lib/gated-companions/lander ]""",
-    "systemctl start gated gated-lander": """
-curl -s http://127.0.0.1:8080/changes/301 | grep unknown-change
+    "systemctl start gated gated-lander gated-watch gated-worker": """
+curl -s --retry 20 --retry-connrefused http://127.0.0.1:8080/changes/301 | grep unknown-change
 curl -sf http://127.0.0.1:8080/status | grep 'queue web window 2 landed 0'""",
 }
 # A trial in /root/trial, whose gate was killed: what was told last is in its log alone.
@@ -61,7 +74,7 @@ def blocks_of(page: str) -> tuple[list[str], list[str]]:
     """The indented blocks of a page, and those between fences."""
     indented: list[str] = []
     fenced: list[str] = []
-    for at, part in enumerate(re.split(r"^```\n", page, flags=re.MULTILINE)):
+    for at, part in enumerate(re.split(r"^```[a-z]*\n", page, flags=re.MULTILINE)):
         if at % 2 == 1:
             fenced.append(part)
         else:
@@ -85,8 +98,8 @@ def script_of(blocks: list[str]) -> str:
     return "\n".join([*lines, "echo 'the page was run'", ""])
 
 
-def play(folder: Path, blocks: list[str], checks: str = "checks.py") -> str:
-    """What the stage prints when these blocks are run on it, and the checks behind them."""
+def make_stage(folder: Path, page: str, checks: str) -> None:
+    """Makes a stage, on which a script is run, and then checks."""
     checkout = folder / "checkout"
     (checkout / "crates" / "gated" / "out").mkdir(parents=True)
     shutil.copy(PROGRAM, checkout / "crates" / "gated" / "out" / "gated")
@@ -97,8 +110,13 @@ def play(folder: Path, blocks: list[str], checks: str = "checks.py") -> str:
         shutil.copy(STAGE / it, folder / "bin" / it)
     shutil.copy(STAGE / "stage.sh", folder / "stage.sh")
     shutil.copy(STAGE / checks, folder / "checks.py")
-    (folder / "page.sh").write_text(script_of(blocks))
+    (folder / "page.sh").write_text(page, encoding="utf-8")
     folder.chmod(0o755)
+
+
+def play(folder: Path, blocks: list[str], checks: str = "checks.py") -> str:
+    """What the stage prints when these blocks are run on it, and the checks behind them."""
+    make_stage(folder, script_of(blocks), checks)
     words = ["unshare", "--mount", "--net", "--pid", "--fork", "--kill-child", "--mount-proc"]
     ran = subprocess.run([*words, "bash", "stage.sh"], cwd=folder, stdin=subprocess.DEVNULL, stdout=subprocess.PIPE,
                          stderr=subprocess.STDOUT, text=True, errors="replace", timeout=600, check=False)
@@ -113,7 +131,7 @@ class OperatingTest(unittest.TestCase):
         self.assertEqual(len(self.fenced), len(FENCED))
         for block, begins in zip(self.fenced, FENCED):
             self.assertTrue(block.startswith(begins), block)
-        for mark in (OF_A_TRIAL, *BEFORE, *BEHIND, *TOLD):
+        for mark in (*NOT_TYPED, *BEFORE, *BEHIND, *TOLD):
             self.assertTrue(any(mark in it for it in self.blocks), mark)
         self.assertGreater(len(self.blocks), 20)
 
@@ -123,7 +141,8 @@ class OperatingTest(unittest.TestCase):
         for it in ("nginx", "systemd-analyze", "sqlite3", "curl", "openssl", "unshare", "nft"):
             self.assertIsNotNone(shutil.which(it, path="/usr/sbin:/usr/bin:/sbin:/bin"), f"{it} isn't there")
         with tempfile.TemporaryDirectory() as folder:
-            printed = play(Path(folder), [it for it in self.blocks if OF_A_TRIAL not in it])
+            printed = play(Path(folder), [
+                it for it in self.blocks if not any(mark in it for mark in NOT_TYPED)])
         self.assertTrue("the page was run\n" in printed and "all was checked\n" in printed, printed)
         self.assertFalse("NOT OK" in printed, printed)
         self.assertRegex(printed, r"backup: /var/backups/gated/gate-\d\d.db is /var/lib/gated/gate.db of .*held up for")
@@ -133,11 +152,22 @@ class OperatingTest(unittest.TestCase):
     def test_a_trial_becomes_the_service(self) -> None:
         """Its file and its log are the service's, and so is what the log alone has."""
         self.assertEqual(os.geteuid(), 0, "the stage has users of its own: run this as root, as in a container")
-        blocks = [it for it in self.blocks if OF_NO_TRIAL not in it or "/var/backups" not in it]
+        blocks = list(self.blocks)
+        blocks.remove(next(it for it in blocks if OF_NO_TRIAL in it))
         end = next(at for at, it in enumerate(blocks) if "systemctl enable --now gated\n" in it)
         trial = [TRIAL, *(TELL.format(it) for it in TOLD["https://gate.example/status"]), "kill -KILL $!"]
         with tempfile.TemporaryDirectory() as folder:
             printed = play(Path(folder), ["\n".join(trial), *blocks[:end + 1]], "trial.py")
+        self.assertTrue("the page was run\n" in printed and "all was checked\n" in printed, printed)
+        self.assertFalse("NOT OK" in printed, printed)
+
+    def test_changes_land_in_repositories_of_the_machine(self) -> None:
+        """Lander and workers run under the units' users, rights and masks, and find what each other has pushed."""
+        self.assertEqual(os.geteuid(), 0, "the stage has users of its own: run this as root, as in a container")
+        blocks = [it for it in self.blocks if OF_A_TRIAL not in it]
+        end = next(at for at, it in enumerate(blocks) if OF_NO_ADAPTER in it)
+        with tempfile.TemporaryDirectory() as folder:
+            printed = play(Path(folder), blocks[:end + 1], "landing.py")
         self.assertTrue("the page was run\n" in printed and "all was checked\n" in printed, printed)
         self.assertFalse("NOT OK" in printed, printed)
 

@@ -93,10 +93,10 @@ def check_figures() -> None:
 
 
 def check_ports() -> None:
-    """Who reaches the gate and the adapter on a machine that all share."""
+    """Who reaches the gate, the adapter and the watch on a machine that all share."""
     for port, user, reaches in ((8080, "root", True), (8080, "www-data", True), (8080, "gated-worker", False),
                                 (8080, "gated-companions", False), (8090, "www-data", True), (8090, "root", False),
-                                (8090, "gated-worker", False)):
+                                (8090, "gated-worker", False), (8092, "www-data", True), (8092, "gated-worker", False)):
         knocked = ran("runuser", "-u", user, "--", "curl", "--silent", "--max-time", "20", "--output", "/dev/null",
                       f"http://127.0.0.1:{port}/status")
         told((knocked.returncode == 0) == reaches and knocked.returncode in (0, 7),
@@ -117,9 +117,9 @@ def check_missing_file() -> None:
 
 
 def check_units() -> None:
-    units = sorted(str(it) for it in Path("/etc/systemd/system").glob("gated*"))
+    units = sorted(str(it) for it in Path("/usr/local/lib/systemd/system").glob("gated*"))
     verified = ran("systemd-analyze", "--man=no", "verify", *(it.replace("@.", "@w1.") for it in units))
-    told(len(units) == 8 and verified.returncode == 0 and verified.stdout + verified.stderr == "",
+    told(len(units) == 11 and verified.returncode == 0 and verified.stdout + verified.stderr == "",
          f"units are well: {verified.stdout}{verified.stderr}")
     told(all(" init " not in Path(it).read_text() for it in units), "no unit makes a file")
 

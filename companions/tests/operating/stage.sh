@@ -12,23 +12,27 @@ for folder in /usr/local /var/lib /var/log /var/backups /srv /root /run; do
   mount -t tmpfs -o mode=755 none "$folder"
 done
 mkdir -p /usr/local/{bin,lib,share/ca-certificates} /var/log/nginx /var/lib/nginx /run/lock /srv/git
-rm -rf /etc/nginx /etc/systemd/system && mkdir /etc/nginx /etc/systemd/system
-echo '127.0.0.1 localhost gate.example' >/etc/hosts
+rm -rf /etc/systemd/system && mkdir /etc/systemd/system
+echo '127.0.0.1 localhost' >/etc/hosts
+# Of the machine's 140 authorities none is asked for here, and all would be read by each program that begins.
+rm -rf /etc/ssl/certs && mkdir /etc/ssl/certs && : >/etc/ca-certificates.conf
 /usr/bin/python3 - <<'PYTHON'
 import fcntl, socket, struct
 with socket.socket(socket.AF_INET, socket.SOCK_DGRAM) as any_socket:
     fcntl.ioctl(any_socket, 0x8914, struct.pack("16sh14s", b"lo", 1, b""))  # SIOCSIFFLAGS: lo is up
 PYTHON
-# The repositories of examples/settings.toml, which a forge would have elsewhere.
-git config --system safe.directory '*'
-git config --system init.defaultBranch main
+# The repositories of examples/settings.toml, which a forge would have elsewhere, and somebody who pushes to them.
+rm -f /etc/gitconfig
+useradd --user-group --create-home --home-dir /srv/dev dev
+# A forge that two machines use.
+[ -z "${SHARED-}" ] || mount --bind "$SHARED" /srv/git
 for project in lib app site; do
-  git init --quiet --bare "/srv/git/$project.git"
+  [ ! -e "/srv/git/$project.git" ] || continue
+  git init --quiet --bare --initial-branch=main "/srv/git/$project.git"
   tree=$(git -C "/srv/git/$project.git" hash-object -t tree -w /dev/null)
   git -C "/srv/git/$project.git" update-ref refs/heads/main \
     "$(git -C "/srv/git/$project.git" -c user.name=a -c user.email=b commit-tree -m 'Begin' "$tree")"
 done
-chmod -R a+rwX /srv/git
 cd "$stage/checkout"
 bash "$stage/page.sh"
 exec /usr/bin/python3 "$stage/checks.py"

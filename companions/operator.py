@@ -1,0 +1,248 @@
+"""What an operator does with a queue, by deliveries and without a word in the gate's settings.
+
+    python3 -m companions.operator companions.toml promote N
+    python3 -m companions.operator companions.toml dequeue N
+    python3 -m companions.operator companions.toml hold QUEUE [--because TEXT]
+    python3 -m companions.operator companions.toml resume QUEUE
+    python3 -m companions.operator companions.toml log
+
+N is the number of a change at the gate, or its request, as acme/lib#7.
+
+promote: the change goes to the front of its queue, behind what it needs and what is being landed. All others are taken
+    back and approved again behind it, in their old order, so they lose their builds. People have to have approved it.
+dequeue: the change leaves its queue, and needs a new approval.
+hold: no approval of the queue is told, and nothing lands, until resume. Builds go on. Both say so on the requests.
+log: what was done, by whom and when.
+
+What will be done is shown first, and asked for, unless --yes is given. The adapter does the first two; if it doesn't
+run, it does them once it does. The status is 0 where it was done, 1 where it wasn't, 2 where nothing was understood,
+and 3 where the adapter hasn't answered within --wait seconds (60).
+"""
+from __future__ import annotations
+
+import getpass
+import json
+import os
+import sqlite3
+import sys
+import time
+import uuid
+from collections.abc import Iterator
+from datetime import datetime, timezone
+from pathlib import Path
+from typing import Any
+
+from companions.gate import Gate, NoAnswer
+from companions.held import LONGEST, Hold, folder_in, make, own, read, write
+from companions.settings import Settings, SettingsFault
+from companions.settings import read as read_settings
+
+ACTS = {"promote": 1, "dequeue": 1, "hold": 1, "resume": 1, "log": 0}
+LOG = "done.jsonl"
+
+
+class Wrong(Exception):
+    """Why nothing is done."""
+
+
+def main(words: list[str]) -> int:
+    if words in (["--help"], ["-h"]):
+        print((__doc__ or "").strip())
+        return 0
+    try:
+        words, yes, because, wait = options(words)
+        if len(words) < 2 or words[1] not in ACTS or len(words) != 2 + ACTS[words[1]]:
+            raise Wrong("see 'python3 -m companions.operator --help'")
+        settings = read_settings(Path(words[0]))
+        return act(settings, words[1], words[2:], yes, because, wait)
+    except (Wrong, SettingsFault, NoAnswer, OSError, ValueError) as fault:
+        print(f"operator: {fault}", file=sys.stderr)
+        return 2 if isinstance(fault, (Wrong, SettingsFault)) else 1
+
+
+def options(words: list[str]) -> tuple[list[str], bool, str, float]:
+    """The words without the options, and these."""
+    left, yes, because, wait = [], False, "", 60.0
+    given = iter(words)
+    for it in given:
+        if it == "--yes":
+            yes = True
+        elif it == "--because":
+            because = next(given, "")
+            if not because or len(because) > LONGEST or not because.isprintable():
+                raise Wrong(f"--because wants a text of one line, of at most {LONGEST} characters")
+        elif it == "--wait":
+            try:
+                wait = max(0.0, float(next(given, "")))
+            except ValueError:
+                raise Wrong("--wait wants a number of seconds") from None
+        elif it.startswith("-"):
+            raise Wrong(f"{it} isn't known: see 'python3 -m companions.operator --help'")
+        else:
+            left.append(it)
+    return left, yes, because, wait
+
+
+def act(settings: Settings, what: str, words: list[str], yes: bool, because: str, wait: float) -> int:
+    if what == "log":
+        for it in done(settings.folder):
+            print(told(it))
+        return 0
+    if what in ("hold", "resume"):
+        return hold(settings, what, words[0], yes, because)
+    change = number_of(settings, words[0])
+    for it in shown(settings, what, change):
+        print(it)
+    if not yes and not is_wanted():
+        print("operator: nothing is done")
+        return 1
+    identity = ask(settings.folder, what, change)
+    return await_(settings.folder, identity, wait)
+
+
+def number_of(settings: Settings, word: str) -> int:
+    """The number of a change, which may be named by its request."""
+    if word.isascii() and word.isdigit() and 0 < int(word[:18]) < 10 ** 9:
+        return int(word)
+    repository, mark, number = word.replace("!", "#").rpartition("#")
+    if not mark or not (number.isascii() and number.isdigit()):
+        raise Wrong(f"{word} is neither the number of a change nor a request, as acme/lib#7")
+    file = settings.folder / "adapter" / "adapter.db"
+    try:
+        tables = sqlite3.connect(f"file:{file}?mode=ro", uri=True)
+        try:
+            rows = tables.execute("SELECT number FROM change WHERE repository = ? AND request = ? AND told"
+                                  " AND NOT closed", (repository, int(number[:18]))).fetchall()
+        finally:
+            tables.close()
+    except sqlite3.Error as fault:
+        raise Wrong(f"{file} can't be read: {fault}: name the change by its number") from fault
+    if len(rows) != 1:
+        raise Wrong(f"the adapter has {'no change' if not rows else 'several changes'} of {word}")
+    return int(rows[0][0])
+
+
+def shown(settings: Settings, what: str, change: int) -> Iterator[str]:
+    """What will be done, by what the gate shows now."""
+    gate = Gate(settings.url, settings.account("forge"), part="operator")
+    known = gate.change(change)
+    if known is None:
+        raise Wrong(f"the gate doesn't know change {change}")
+    queue, order = known["queue"], known["order"]
+    items = next((it.items for it in gate.status().queues if it.name == queue), [])
+    landing = {it.order for it in gate.orders()}
+    place = next((at for at, it in enumerate(items, 1) if int(it[1]) == change), None)
+    stands = f"stands at place {place} of {len(items)} in {queue}" if order is not None else f"doesn't stand in {queue}"
+    yield f"change {change}, revision {known['revision']}, {stands}"
+    if what == "dequeue":
+        yield f"it leaves {queue}, and needs a new approval"
+        return
+    others = [int(it[1]) for it in items if int(it[0]) not in landing and int(it[1]) != change]
+    for it in items:
+        if int(it[0]) in landing:
+            yield f"change {it[1]} is being landed: it stays first"
+    yield f"change {change} goes first in {queue}, behind what it needs of it"
+    if others:
+        yield f"these follow, in this order, and lose their builds: {', '.join(map(str, others))}"
+
+
+def is_wanted() -> bool:
+    print("Do it? [y/N] ", end="", flush=True)
+    return sys.stdin.readline().strip().lower() in ("y", "yes")
+
+
+def ask(folder: Path, what: str, change: int) -> str:
+    """Leaves the adapter a file that asks for it, and gives its id. What was asked and isn't done yet is asked once."""
+    place = make(folder)
+    for file in place.glob("asked-*.json"):
+        try:
+            said = json.loads(file.read_text(encoding="utf-8"))
+            if (said["do"], said["change"]) == (what, change):
+                return str(said["id"])
+        except (OSError, ValueError, KeyError, TypeError):
+            continue
+    identity = uuid.uuid4().hex
+    new = place / f"new-{identity}"
+    new.write_text(json.dumps({"id": identity, "do": what, "change": change, "by": user()}) + "\n", encoding="utf-8")
+    own(new, folder)
+    os.replace(new, place / f"asked-{identity}.json")
+    return identity
+
+
+def user() -> str:
+    """Who does it, as far as the machine knows: behind `sudo` the person who called it."""
+    return (os.environ.get("SUDO_USER") or getpass.getuser())[:64]
+
+
+def await_(folder: Path, identity: str, wait: float) -> int:
+    """Waits until the adapter has done it, and says what it did."""
+    end = time.monotonic() + wait
+    while True:
+        found = next((it for it in done(folder) if it["id"] == identity), None)
+        if found is not None:
+            print(told(found))
+            return 1 if found["said"] and found["said"][0].startswith("not done: ") else 0
+        if time.monotonic() >= end:
+            print("operator: the adapter hasn't answered yet: it does this once it runs. 'log' shows when it has",
+                  file=sys.stderr)
+            return 3
+        time.sleep(0.2)
+
+
+def hold(settings: Settings, what: str, queue: str, yes: bool, because: str) -> int:
+    """Holds a queue, or lets it go on."""
+    if queue not in {it.queue for it in settings.projects.values()}:
+        raise Wrong(f"no project of the settings has the queue {queue}")
+    try:
+        held = read(settings.folder)
+    except ValueError as fault:
+        print(f"operator: {fault}: it is written anew", file=sys.stderr)
+        held = {}
+    if (what == "resume") == (queue not in held):
+        print(f"{queue} {'is held already: ' + str(held[queue]) if what == 'hold' else 'is not held'}")
+        return 0
+    print(f"{queue}: no approval is told and nothing lands until 'resume {queue}'" if what == "hold"
+          else f"{queue}: approvals are told and changes land again")
+    if not yes and not is_wanted():
+        print("operator: nothing is done")
+        return 1
+    now = datetime.now(timezone.utc)
+    if what == "hold":
+        held[queue] = Hold(f"{now:%Y-%m-%d %H:%M} UTC", because)
+    else:
+        del held[queue]
+    write(settings.folder, held)
+    line = {"id": uuid.uuid4().hex, "at": now.isoformat(timespec="seconds"), "by": user(), "do": what, "queue": queue,
+            "said": [because] if because else []}
+    log = folder_in(settings.folder) / LOG
+    with log.open("a", encoding="utf-8") as lines:
+        lines.write(json.dumps(line) + "\n")
+    own(log, settings.folder)
+    print(told(line))
+    return 0
+
+
+def done(folder: Path) -> Iterator[dict[str, Any]]:
+    """What was done, each once: the adapter may have been killed right behind a line."""
+    known: set[str] = set()
+    try:
+        lines = (folder_in(folder) / LOG).read_text(encoding="utf-8").splitlines()
+    except FileNotFoundError:
+        return
+    for line in lines:
+        try:
+            said = json.loads(line)
+        except ValueError:
+            continue
+        if said["id"] not in known:
+            known.add(said["id"])
+            yield said
+
+
+def told(it: dict[str, Any]) -> str:
+    what = f"{it['do']} {it.get('change', it.get('queue'))}"
+    return f"{it['at']} {it['by']}: {what}{': ' if it['said'] else ''}{'; '.join(it['said'])}"
+
+
+if __name__ == "__main__":
+    sys.exit(main(sys.argv[1:]))
