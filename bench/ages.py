@@ -10,6 +10,9 @@ from counted import counted, serving
 # Changes whose deliveries are counted in each scene.
 CHANGES = 10
 
+# The bytes of a page of the file, as the program makes it if none are given.
+PAGE = os.environ.get("PAGE", "")
+
 SIZES = {
     "whole": {"opening": (1000, 4000, 16000), "age": (1000, 4000, 16000), "length": (10, 100, 900),
               "waiting": (0, 100, 1000), "chain": (10, 100, 400), "asked": (100, 10000), "running": (10, 100, 997)},
@@ -29,6 +32,8 @@ class Gate:
         for end in ("", "-wal", "-shm"):
             if os.path.exists(self.file + end):
                 os.remove(self.file + end)
+        if PAGE:
+            subprocess.run(["sqlite3", self.file, f"PRAGMA page_size = {PAGE}; VACUUM;"], check=True)
         subprocess.run([program, "init", settings, self.file], check=True, capture_output=True)
 
     def lines(self, deliveries):

@@ -9,7 +9,8 @@ import unittest
 from pathlib import Path
 from typing import Any
 
-RULES = Path(__file__).resolve().parents[1] / "service" / "ports.nft"
+TOP = Path(__file__).resolve().parents[2]
+RULES = TOP / "companions" / "service" / "ports.nft"
 PATH = "/usr/sbin:/usr/bin:/sbin:/bin"
 # Numbers of users that the machine needn't have.
 USERS = {"www-data": 64001, "gated": 64002, "gated-companions": 64003}
@@ -46,7 +47,8 @@ for listener, client, port in asked:
 print(json.dumps(found))
 """
 # Of each port: who has it, who reaches it, and who doesn't.
-PORTS = ((8080, GATE, (ROOT, PROXY), (GATE, ADAPTER, WORKER)), (8090, ADAPTER, (PROXY,), (ROOT, GATE, ADAPTER, WORKER)))
+PORTS = ((8080, GATE, (ROOT, PROXY), (GATE, ADAPTER, WORKER)), (8090, ADAPTER, (PROXY,), (ROOT, GATE, ADAPTER, WORKER)),
+         (8091, ADAPTER, (PROXY,), (ROOT, GATE, WORKER)), (8092, ADAPTER, (PROXY,), (ROOT, GATE, WORKER)))
 
 
 @unittest.skipUnless(os.geteuid() == 0, "needs root, for a network namespace and other users")

@@ -1,10 +1,11 @@
-"""The proxy before a gate: nginx with companions/service/nginx.conf, before a stand-in that shows what it was sent."""
+"""The proxy before a gate: nginx with companions/service/gate.conf, before a stand-in that shows what it was sent."""
 from __future__ import annotations
 
 import asyncio
 import base64
 import hashlib
 import os
+import re
 import shutil
 import signal
 import ssl
@@ -27,7 +28,9 @@ PASSWORDS = {"forge": "f" * 48, "worker": "a" * 48, "watch": "b" * 48, "standby"
              "alice": "one that she chose"}
 # From where somebody guesses, and where the others are.
 GUESSER, ELSEWHERE = "127.0.0.2", "127.0.0.3"
-# Guesses a second, and for how long they come before the watch asks.
+# What an address has a second under people's names, and before that, and what all addresses have together.
+RATE, BURST, ALL, BURST_OF_ALL = 30, 120, 60, 240
+# Long passwords that come a second, and for how long they come before the watch asks.
 GUESSES, BEFORE = 33, 3.0
 
 
@@ -60,7 +63,8 @@ class StandInServer(ThreadingHTTPServer):
 
 
 class ProxyTest(unittest.IsolatedAsyncioTestCase):
-    """A proxy for each test, behind which the stand-in listens."""
+    """A proxy for each test, behind which the stand-in listens. `beats` is the port of a watch, if there is one."""
+    beats = 0
 
     def setUp(self) -> None:
         where = tempfile.TemporaryDirectory()
@@ -81,7 +85,8 @@ class ProxyTest(unittest.IsolatedAsyncioTestCase):
         self.assertIsNotNone(shutil.which("nginx", path=search()), "nginx isn't there")
         (self.folder / "proxy").mkdir()
         settings = self.folder / "proxy" / "nginx.conf"
-        settings.write_text(proxy_settings(self.folder, self.port, gate).replace("127.0.0.1:8090", f"127.0.0.1:{gate}"))
+        text = proxy_settings(self.folder, self.port, gate, self.beats or gate)
+        settings.write_text(text.replace("127.0.0.1:8090", f"127.0.0.1:{gate}"))
         subprocess.run(["openssl", "req", "-x509", "-newkey", "rsa:2048", "-noenc", "-days", "2", "-subj", "/CN=gate",
                         "-addext", "subjectAltName=IP:127.0.0.1", "-keyout", self.folder / "proxy" / "gate.key",
                         "-out", self.folder / "proxy" / "gate.crt"], check=True, capture_output=True)
@@ -152,10 +157,49 @@ class Passing(ProxyTest):
         for method, path, name in (("POST", "forge", "forge"), ("GET", "orders", "forge"), ("POST", "worker", "worker"),
                                    ("GET", "builds/1", "worker"), ("GET", "status", "alice"),
                                    ("GET", "changes/1", "watch"), ("GET", "deliveries", "standby"),
-                                   ("POST", "hook", "forge")):
+                                   ("POST", "hook", "forge"), ("POST", "beat", "worker")):
             StandIn.heads.clear()
             self.assertEqual((await self.head(path, name, method=method))[0], 200, path)
             self.assertEqual([it for it in StandIn.heads[0] if "authorization" in it], [], path)
+
+
+    async def test_people_share_answers_and_programs_get_their_own(self) -> None:
+        """By an answer of a second ago a lander that starts again would refuse a sound change."""
+        self.add("ben", quick_hash("his"))
+        for path in ("status", "running", "history/core/1", "items/2", "changes/1"):
+            StandIn.heads.clear()
+            begin = time.monotonic()
+            for name, password in (("alice", None), ("ben", "his")) * 10:
+                self.assertEqual(await self.status(path, name, password), 200)
+            # Each is kept for a whole second of nginx's clock, and the second in which it came counts.
+            self.assertLessEqual(len(StandIn.heads), time.monotonic() - begin + 2, path)
+            for name in ("forge", "watch", "standby"):
+                StandIn.heads.clear()
+                for _ in range(4):
+                    self.assertEqual(await self.status(path, name), 200)
+                self.assertEqual(len(StandIn.heads), 4, f"{name} at {path}")
+
+    async def test_requests_are_for_people(self) -> None:
+        """Titles and authors: no program needs them."""
+        (self.folder / "page").mkdir()
+        (self.folder / "page" / "requests.json").write_text('{"requests": []}')
+        answered, head = await self.head("requests.json", "alice")
+        self.assertEqual((answered, head.endswith('{"requests": []}')), (200, True))
+        self.assertIn("\r\nContent-Type: application/json\r\n", head)
+        for name in ("forge", "worker", "watch", "standby"):
+            self.assertEqual(await self.status("requests.json", name), 403)
+        self.assertEqual(await self.status("requests.json", "alice", "wrong"), 401)
+
+    async def test_the_page_may_run_its_own_scripts_alone(self) -> None:
+        for path, kind in (("", "text/html"), ("page.css", "text/css"), ("page.js", "text/javascript")):
+            answered, head = await self.head(path, "alice")
+            self.assertEqual(answered, 200)
+            self.assertIn(f"\r\nContent-Type: {kind}; charset=utf-8\r\n", head)
+            self.assertIn("\r\nContent-Security-Policy: default-src 'none'; script-src 'self'; ", head)
+            self.assertIn("\r\nX-Content-Type-Options: nosniff\r\n", head)
+        for path in ("nginx.conf", "other.html", "page.js.bak", ".page.js", "x/../../gate.passwords"):
+            self.assertIn(await self.status(path, "alice"), (400, 404), path)
+        self.assertEqual(await self.status("", "worker"), 403)
 
 
 class Encrypting(ProxyTest):
@@ -260,12 +304,30 @@ class Guessing(ProxyTest):
         self.assertEqual(await self.status("status", "alice"), 200)
         return await guesses
 
+    async def guess_at_once(self, by: str, guesses: int) -> Counter[int]:
+        """The answers to guesses over one connection, which don't wait for each other. The hash that they are compared
+        with is quick, so that a machine with much else to do gets at more than it may."""
+        account = base64.b64encode(b"ben:guess").decode()
+        ends = ["keep-alive"] * (guesses - 1) + ["close"]
+        said = "".join(f"GET /status HTTP/1.1\r\nHost: gate\r\nConnection: {it}\r\nAuthorization: Basic {account}"
+                       "\r\n\r\n" for it in ends)
+        reader, writer = await asyncio.open_connection("127.0.0.1", self.port, ssl=self.context,
+                                                       server_hostname="127.0.0.1", local_addr=(by, 0))
+        writer.write(said.encode())
+        answers = (await reader.read(-1)).decode()
+        writer.close()
+        return Counter(int(it) for it in re.findall(r"^HTTP/1.1 ([0-9]{3}) ", answers, re.MULTILINE))
+
     async def test_guesses(self) -> None:
-        """Few of them are looked at: ten a second of one address, behind the first forty."""
-        seconds = 6
-        answers = await self.guess(f"guess {at}" for at in range(GUESSES * seconds))
+        """Few of them are looked at, so the programs are answered, and a person elsewhere is."""
+        self.add("ben", quick_hash("his"))
+        begin = time.monotonic()
+        guesses = [asyncio.ensure_future(self.guess_at_once(GUESSER, 100)) for _ in range(10)]
+        await self.watch_is_answered()
+        self.assertEqual(await self.status("status", "alice"), 200)
+        answers = sum(await asyncio.gather(*guesses), Counter[int]())
         self.assertEqual(set(answers), {401, 429})
-        self.assertLess(answers[401], 41 + 10 * (seconds + 3))
+        self.assertLessEqual(answers[401], BURST + 1 + RATE * (time.monotonic() - begin))
 
     async def test_long_passwords(self) -> None:
         """None of them is looked at, whoever's it is."""
@@ -276,16 +338,23 @@ class Guessing(ProxyTest):
 
     async def test_guesses_of_many_addresses(self) -> None:
         """Each is within its own rate, and all together are above theirs."""
-        answers = await steadily((self.status("status", "alice", "guess", by=f"127.0.1.{at}") for at in range(1, 250)),
-                                 200)
-        self.assertEqual(set(answers), {401, 429})
+        self.add("ben", quick_hash("his"))
+        begin = time.monotonic()
+        guesses = [asyncio.ensure_future(self.guess_at_once(f"127.0.1.{at}", 100)) for at in range(1, 11)]
         await self.watch_is_answered()
+        answers = sum(await asyncio.gather(*guesses), Counter[int]())
+        self.assertEqual(set(answers), {401, 429})
+        self.assertLessEqual(answers[401], BURST_OF_ALL + 1 + ALL * (time.monotonic() - begin))
 
     async def test_connections_of_one_address(self) -> None:
         """256 of them wait for the gate; one more is refused, and another address isn't."""
-        waiting = [asyncio.ensure_future(self.status("items/1", "watch", by=GUESSER)) for _ in range(256)]
+        waiting = list[asyncio.Future[int]]()
         while len(StandIn.heads) < 256:
-            await asyncio.sleep(0.1)
+            self.assertFalse([it for it in waiting if it.done()])
+            # A few at a time, since the proxy waits ten seconds for a head.
+            if len(waiting) == len(StandIn.heads):
+                waiting += [asyncio.ensure_future(self.status("items/1", "watch", by=GUESSER)) for _ in range(16)]
+            await asyncio.sleep(0.02)
         self.assertEqual(await self.status("status", "watch", by=GUESSER), 429)
         await self.watch_is_answered()
         StandIn.may_answer.set()

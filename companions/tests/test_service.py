@@ -4,7 +4,6 @@ from __future__ import annotations
 import signal
 import subprocess
 import threading
-import time
 import unittest
 from http.server import BaseHTTPRequestHandler, HTTPServer
 from pathlib import Path
@@ -70,21 +69,21 @@ class BackupTest(ServiceTest):
                          (1, f"backup: the copy took longer than 1 s: {self.target} stays what it was\n"))
         self.assertNotEqual(state_of(gate), "T")
 
-    def held_for(self, gate: subprocess.Popen[str]) -> float:
-        """For how long a gate that is about to be held up is held up."""
+    def is_held_for_a_while(self, gate: subprocess.Popen[str]) -> None:
+        """A gate that is about to be held up goes on by itself."""
         self.assertTrue(wait_for(lambda: state_of(gate) == "T", 20.0))
-        begin = time.monotonic()
-        self.assertTrue(wait_for(lambda: state_of(gate) != "T", 20.0))
-        return time.monotonic() - begin
+        self.assertTrue(wait_for(lambda: state_of(gate) != "T", 15.0))
 
     def test_a_copy_that_no_signal_ends(self) -> None:
         """The gate goes on although the copy doesn't end, and what is copied in the end is thrown away."""
         file = self.gate("gate.db", LINES[:2])
         gate, address = self.serve(file)
-        self.stand_in("cp", "trap '' TERM\nsleep 6\nexec /bin/cp \"$@\"")
+        copied = self.folder / "copied"
+        self.stand_in("cp", f"trap '' TERM\nsleep 20\ntouch {copied}\nexec /bin/cp \"$@\"")
         self.environment["HOLD"] = "1"
         process = self.start(SERVICE / "backup", file, self.target)
-        self.assertLess(self.held_for(gate), 3.0)
+        self.is_held_for_a_while(gate)
+        self.assertFalse(copied.exists())
         tell(address, LINES[2])
         self.assertEqual(process.wait(timeout=20), 1)
         self.assertFalse(self.target.exists())
@@ -106,7 +105,7 @@ class BackupTest(ServiceTest):
         self.stand_in("cp", f'fsfreeze --freeze {mount}\nexec /bin/cp "$@"')
         process = self.start(SERVICE / "backup", file, mount / "backup.db")
         try:
-            self.assertLess(self.held_for(gate), 3.0)
+            self.is_held_for_a_while(gate)
             tell(address, LINES[2])
             self.assertIsNone(process.poll())
         finally:

@@ -5,16 +5,18 @@ import os
 import re
 import shutil
 import subprocess
+import sys
 import unittest
 from pathlib import Path
 
+from companions.moments import BOOT
 from companions.tests.service import SERVICE
 
 UNITS = {it.name.removesuffix(".service").rstrip("@"): it for it in (SERVICE / "systemd").glob("*.service")}
 # What each may be exposed to at most, in tenths, as `systemd-analyze security` reckons. A worker runs foreign code, and
 # its jobs have sandboxes of their own, which take rights that the others don't have.
 MOST = {"gated": 19, "gated-lander": 19, "gated-adapter": 19, "gated-watch": 19, "gated-follow": 19, "gated-backup": 19,
-        "gated-worker": 37}
+        "gated-copies": 19, "gated-fence": 19, "gated-worker": 37, "gated-ci": 37}
 # What covers parts of /proc, or hides its processes.
 COVERS = ("ProtectProc", "ProcSubset", "ProtectKernelTunables", "ProtectKernelLogs", "ProtectHostname")
 # What limits a worker's unit. Another limit has to be tried below too.
@@ -99,12 +101,37 @@ class Exposure(unittest.TestCase):
         self.assertEqual([it for it in (*COVERS, "RestrictNamespaces") if it in members], [])
         self.assertEqual({it for it in COVERS if dict(says("gated")).get(it) not in (None, "no")}, set(COVERS))
 
+    def test_a_ci_that_runs_commands_too_has_the_limits_of_a_worker(self) -> None:
+        own = [it for it in says("gated-ci") if it[0] not in ("Description", "After", "ConditionPathExists", "User",
+                                                              "StateDirectory", "ExecStart")]
+        others = [it for it in says("gated-worker") if it[0] not in ("Description", "After", "User", "StateDirectory",
+                                                                     "ExecStart")]
+        self.assertEqual(own, others)
+
     def test_a_worker_has_the_calls_that_a_sandbox_takes(self) -> None:
         (said,) = [value for key, value in says("gated-worker") if key == "SystemCallFilter"]
         self.assertTrue(said.startswith("~@"))
         denied = set[str]().union(*(calls_of(it) for it in said[1:].split()))
         self.assertIn("reboot", denied)
         self.assertEqual(denied & CALLS, set())
+
+
+@unittest.skipUnless(os.geteuid() == 0, "the mounts of a unit are made by root")
+class Moments(unittest.TestCase):
+    def moment(self, subset: str) -> str:
+        """What reads the boot's id prints under a /proc of its own."""
+        code = "from companions.moments import Moment; print(Moment.now().boot == sys.argv[1])"
+        script = f'mount -t proc -o {subset} proc /proc && exec "$@"'
+        words = ("unshare", "--mount", "--pid", "--fork", "--mount-proc", "sh", "-c", script, "sh", sys.executable,
+                 "-c", f"import sys; {code}", BOOT.read_text().strip())
+        ran = subprocess.run(words, capture_output=True, text=True, check=False, cwd=SERVICE.parents[1], timeout=60)
+        return ran.stdout + ran.stderr
+
+    def test_each_that_measures_ages_can_read_the_boots_id(self) -> None:
+        self.assertIn("No such file", self.moment("subset=pid"))
+        for unit in ("gated-adapter", "gated-lander", "gated-watch"):
+            subset = dict(says(unit)).get("ProcSubset", "all")
+            self.assertEqual(self.moment("rw" if subset == "all" else f"subset={subset}"), "True\n", unit)
 
 
 @unittest.skipUnless(os.geteuid() == 0, "the mounts of a unit are made by root")
