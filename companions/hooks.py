@@ -4,14 +4,15 @@ from __future__ import annotations
 import contextlib
 import http.server
 import socket
+import tempfile
 import threading
 import time
 from collections.abc import Callable, Mapping
 from pathlib import Path
-from typing import Any
+from typing import IO, Any, BinaryIO
 
 from companions.api import LARGEST
-from companions.forges import Forge, Place
+from companions.forges import Forge, Place, Seal
 from companions.gate import say
 from companions.outbox import Notes
 from companions.tables import add
@@ -67,8 +68,8 @@ class NotTaken:
     """Lines about hooks that weren't taken: the first at once, and then one a minute that counts them. Anybody may send
     hooks, and nobody's journal is to be filled by them."""
 
-    def __init__(self, clock: Callable[[], float] = time.monotonic) -> None:
-        self.clock, self.lock = clock, threading.Lock()
+    def __init__(self, clock: Callable[[], float] = time.monotonic, part: str = "adapter") -> None:
+        self.clock, self.part, self.lock = clock, part, threading.Lock()
         self.count, self.last, self.due = 0, "", float("-inf")
 
     def add(self, what: str) -> None:
@@ -83,7 +84,7 @@ class NotTaken:
                 return
             others = f"; {self.count - 1} others weren't taken since the last such line" if self.count > 1 else ""
             said, self.count, self.due = self.last + others, 0, self.clock() + MINUTE
-        say("adapter", said)
+        say(self.part, said)
 
 
 class Handler(http.server.BaseHTTPRequestHandler):
@@ -114,11 +115,12 @@ class Handler(http.server.BaseHTTPRequestHandler):
             return self.answer(411, "a hook has a Content-Length")
         if len(length) > 9 or int(length) > LARGEST:
             return self.answer(413, f"a hook has at most {LARGEST} bytes")
-        with self.server.large if int(length) > LARGE else contextlib.nullcontext():
-            body = self.rfile.read(int(length))
-            if len(body) < int(length):
-                return self.answer(400, "the hook was cut")
-            return self.answer(*self.server.take(self.headers, body))
+        if int(length) > LARGE:
+            return self.answer(*self.server.take_large(self.headers, self.rfile, int(length)))
+        body = self.rfile.read(int(length))
+        if len(body) < int(length):
+            return self.answer(400, "the hook was cut")
+        return self.answer(*self.server.take(self.headers, body))
 
     def do_GET(self) -> None:
         self.answer(404, "hooks are posted to " + PATH)
@@ -140,12 +142,14 @@ class Handler(http.server.BaseHTTPRequestHandler):
 
 class Hooks(http.server.ThreadingHTTPServer):
     """The server. `names` has the gated repositories' names, each by itself in small letters: a forge may write it in
-    others. `came` is set once a place was noted."""
+    others. `came` is set once a place was noted. Large bodies come to files in `folder`, until they are found to be
+    signed: anybody may send some."""
     daemon_threads = True
     patience = float(PATIENCE)
 
     def __init__(self, address: tuple[str, int], hints: Hints, forge: Forge, names: Mapping[str, str],
-                 came: threading.Event) -> None:
+                 came: threading.Event, folder: Path | None = None) -> None:
+        self.folder = folder
         self.hints, self.forge, self.names, self.came = hints, forge, names, came
         self.not_taken = NotTaken()
         self.places, self.large = threading.BoundedSemaphore(MOST), threading.BoundedSemaphore(MOST_LARGE)
@@ -164,13 +168,47 @@ class Hooks(http.server.ThreadingHTTPServer):
         finally:
             self.places.release()
 
+    def take_large(self, headers: Any, incoming: BinaryIO, length: int) -> tuple[int, str]:
+        """The answer to a hook whose body is large, and perhaps an enemy's: read once it is found to be signed."""
+        try:
+            seal = self.forge.seal_of(headers)
+        except PermissionError as fault:
+            return self.refused(fault)
+        if not self.large.acquire(timeout=self.patience):
+            return 503, "too many large hooks come in"
+        try:
+            with tempfile.TemporaryFile(dir=self.folder) as file:
+                left = length
+                while left and (part := incoming.read(min(left, LARGE))):
+                    seal.add(part)
+                    file.write(part)
+                    left -= len(part)
+                return self.take_file(headers, file, seal) if not left else (400, "the hook was cut")
+        except OSError as fault:
+            self.not_taken.add(f"a hook can't be kept: {fault}")
+            return 500, "this hook can't be kept"
+        finally:
+            self.large.release()
+
+    def take_file(self, headers: Any, file: IO[bytes], seal: Seal) -> tuple[int, str]:
+        """The answer to a hook whose body is in a file."""
+        try:
+            seal.check()
+        except PermissionError as fault:
+            return self.refused(fault)
+        file.seek(0)
+        return self.take(headers, file.read())
+
+    def refused(self, fault: PermissionError) -> tuple[int, str]:
+        self.not_taken.add(f"a hook was refused: {fault}")
+        return 403, str(fault)
+
     def take(self, headers, body: bytes) -> tuple[int, str]:
         """The answer to a hook, given once its place is on disk: a forge that got 200 sends it never again."""
         try:
             place = self.forge.place_of(headers, body)
         except PermissionError as fault:
-            self.not_taken.add(f"a hook was refused: {fault}")
-            return 403, str(fault)
+            return self.refused(fault)
         except Exception as fault:  # pylint: disable=broad-except
             self.not_taken.add(f"a hook can't be read: {type(fault).__name__}: {fault}")
             return 500, "this hook can't be read"

@@ -1,7 +1,8 @@
 """Runs a job: a command in a process group of its own, with a time limit and a log, that can be ended from outside.
 
 Whatever a job has started ends with it. Its processes are known by their group, and by an entry of their environment,
-since one may leave the group, and a worker that was killed leaves the whole job running.
+since one may leave the group, and a worker that was killed leaves the whole job running. A job that has to end is told
+so first, since it may have something to end elsewhere, as a run of a CI.
 """
 from __future__ import annotations
 
@@ -18,12 +19,12 @@ from pathlib import Path
 
 from companions.room import Guard, Room
 from companions.sandbox import Sandbox, Told, told
-from companions.settings import LOG_LIMIT
+from companions.settings import LOG_LIMIT, LOST
 
 # So much is read at once of what a job says, and so often of what it has left when it has ended.
 CHUNK, LEFT = 65536, 64
-# Who sends these is outside the job, as an operator or the kernel that needs memory.
-FROM_OUTSIDE = (signal.SIGHUP, signal.SIGINT, signal.SIGKILL, signal.SIGTERM)
+# How long a job has to end once it is told so, in seconds.
+ENDING = 10.0
 
 
 class Cause(enum.Enum):
@@ -51,32 +52,35 @@ class Command:
     sandbox: Sandbox | None = None
     log_limit: int = LOG_LIMIT
     room: Room | None = None
+    lost: frozenset[int] = LOST
 
 
 @dataclass(frozen=True)
 class Ended:
-    """How a job ended: the cause, the status of its shell (below 0 a signal's number), and how long it took."""
+    """How a job ended: the cause, the status of its shell (below 0 a signal's number), how long it took, and which exit
+    statuses mean that it is lost."""
     cause: Cause
     status: int
     seconds: float
+    lost: frozenset[int] = LOST
 
     @property
     def outcome(self) -> str:
-        """`success`, `failure` or `lost`, the last where something outside ended it.
+        """`success`, `failure` or `lost`, the last where something outside ended it, or it says so by its status.
 
         A job that hangs is a failure, since nobody can tell it from a change that makes it hang. So are 126 and 127: a
         command that isn't there may have been taken away by the change.
         """
         if self.cause in (Cause.LIMIT, Cause.SPACE):
             return "failure"
-        if self.cause is Cause.UNWANTED or self.signal in FROM_OUTSIDE:
+        if self.cause is Cause.UNWANTED or self.exit_status in self.lost:
             return "lost"
         return "success" if self.status == 0 else "failure"
 
     @property
-    def signal(self) -> int:
-        """The signal that ended it, or 0. A shell whose command was ended by one exits with 128 and its number."""
-        return -self.status if self.status < 0 else max(self.status - 128, 0)
+    def exit_status(self) -> int:
+        """Its status as a shell tells it: 128 and the signal's number where a signal ended it."""
+        return 128 - self.status if self.status < 0 else self.status
 
     def __str__(self) -> str:
         if self.cause is Cause.LIMIT:
@@ -88,10 +92,19 @@ class Ended:
         return f"ended by signal {-self.status}" if self.status < 0 else f"exit status {self.status}"
 
 
+class NoRoom(OSError):
+    """The disk is nearly full, by no fault of the job."""
+
+
+class NoSandbox(OSError):
+    """The sandbox of a job didn't begin, or was killed before the job's end."""
+
+
 def run(command: Command, wanted: Callable[[], bool], look: float, began: Callable[[int], None]) -> Ended:
     """Runs a command to its end. `wanted` is asked every `look` seconds, `began` is told the process group.
 
-    `OSError` where the shell or the sandbox can't be started, or where the disk is nearly full by no fault of the job.
+    `OSError` where the shell can't be started; `NoSandbox` where the sandbox doesn't begin, or ends before the job, and
+    `NoRoom` where the disk is nearly full by no fault of the job.
     """
     begin = time.monotonic()
     reading, writing = os.pipe()
@@ -108,6 +121,8 @@ def run(command: Command, wanted: Callable[[], bool], look: float, began: Callab
             with Guard(command.room, lambda: kill_group(process.pid)) as guard:
                 began(process.pid)
                 cause = wait(process.pid, begin + command.limit, wanted, look, output)
+                if cause is not Cause.ITSELF:
+                    terminate(process.pid, command, output)
         finally:
             # The shell isn't waited for yet, so that its number can't be another group's by now.
             kill_group(process.pid)
@@ -120,11 +135,12 @@ def run(command: Command, wanted: Callable[[], bool], look: float, began: Callab
         output.end()
     if guard.was_low and command.room is not None:
         if command.room.used() <= command.room.space:
-            raise OSError(f"less than worker.free is left on the disk of {command.room.folder}")
+            raise NoRoom(f"less than worker.free is left on the disk of {command.room.folder}")
         cause = Cause.SPACE
     if cause is Cause.ITSELF and said.status is None:
-        raise OSError(f"its sandbox didn't begin, or was killed: {last_line(command.log)}")
-    return Ended(cause, process.returncode if said.status is None else said.status, time.monotonic() - begin)
+        raise NoSandbox(f"its sandbox didn't begin, or was killed: {last_line(command.log)}")
+    status_of_job = process.returncode if said.status is None else said.status
+    return Ended(cause, status_of_job, time.monotonic() - begin, command.lost)
 
 
 class Output:
@@ -225,6 +241,47 @@ def wait(process: int, end: float, wanted: Callable[[], bool], look: float, outp
         os.close(handle)
 
 
+def terminate(process: int, command: Command, output: Output) -> None:
+    """Tells all processes of a job to end, and waits until they have ended, for a time.
+
+    A sandbox ends with the job's first process, and kills the others. So it is held up meanwhile: a shell ends at once,
+    while what it has started may still have something to do.
+    """
+    if command.sandbox is not None:
+        os.kill(process, signal.SIGSTOP)
+    for it, began in members(process, command).items():
+        send(it, began, signal.SIGTERM)
+    end = time.monotonic() + ENDING
+    while members(process, command) and time.monotonic() < end:
+        if not (output.is_open and output.copy()):
+            time.sleep(0.05)
+
+
+def members(first: int, command: Command) -> dict[int, int]:
+    """The processes of a job that haven't ended, with when each began: what comes from its first process, and without a
+    sandbox, which is that process, those of its group and those with its mark."""
+    known = {it: words for it in processes() if (words := stat_of(it))}
+    found, boxed = {first}, command.sandbox is not None
+    while more := {it for it, words in known.items() if int(words[1]) in found} - found:
+        found |= more
+    if boxed:
+        found.discard(first)
+    else:
+        found |= {it for it, words in known.items() if int(words[2]) == first or is_marked(it, command.mark.encode())}
+    return {it: int(known[it][19]) for it in found if it in known and known[it][0] not in "ZX"}
+
+
+def send(process: int, began: int, number: int) -> None:
+    """Sends a signal to a process that began then, unless it has ended: another one may have its number by now."""
+    with contextlib.suppress(OSError):
+        handle = os.pidfd_open(process)
+        try:
+            if began_at(process) == began:
+                signal.pidfd_send_signal(handle, number)
+        finally:
+            os.close(handle)
+
+
 def kill_group(group: int) -> None:
     with contextlib.suppress(ProcessLookupError, PermissionError):
         os.killpg(group, signal.SIGKILL)
@@ -253,7 +310,7 @@ def kill_if_marked(process: int, mark: bytes) -> bool:
     except OSError:
         return False
     try:
-        if mark not in Path(f"/proc/{process}/environ").read_bytes().split(b"\0"):
+        if not is_marked(process, mark):
             return False
         signal.pidfd_send_signal(handle, signal.SIGKILL)
         return True
@@ -261,6 +318,13 @@ def kill_if_marked(process: int, mark: bytes) -> bool:
         return False
     finally:
         os.close(handle)
+
+
+def is_marked(process: int, mark: bytes) -> bool:
+    try:
+        return mark in Path(f"/proc/{process}/environ").read_bytes().split(b"\0")
+    except OSError:
+        return False
 
 
 def began_at(process: int) -> int | None:

@@ -13,7 +13,7 @@ import pwd
 import subprocess
 import tempfile
 from collections.abc import Iterable
-from dataclasses import dataclass
+from dataclasses import dataclass, replace
 from pathlib import Path
 
 # What each job has of its own, in the folder of its build.
@@ -24,6 +24,8 @@ HIDDEN = ("/etc/gated", "/var/lib/gated*", "/var/backups/gated", "/home", "/root
 ENVIRONMENT = {"PATH": "/usr/local/sbin:/usr/local/bin:/usr/sbin:/usr/bin:/sbin:/bin", "LANG": "C.UTF-8", "HOME": HOME}
 APART = ("--unshare-user", "--unshare-pid", "--unshare-ipc", "--unshare-uts", "--unshare-cgroup-try", "--hostname",
          "job", "--cap-drop", "ALL", "--die-with-parent", "--new-session")
+# How long a trial may take, in seconds.
+PATIENCE = 60
 OTHERWISE = "or set worker.sandbox to false, with which a job can do all that the worker can"
 
 
@@ -31,7 +33,7 @@ OTHERWISE = "or set worker.sandbox to false, with which a job can do all that th
 class Sandbox:
     """What a job gets: its trees, which it writes; the folder that its own folders are made in; the objects of its
     mirrors; and folders of the machine that it reads and writes besides. `folder` is that of the companions, and
-    `file` their settings.
+    `file` their settings. `logs` has logs of other builds, if it isn't in that folder.
     """
     folder: Path
     file: Path
@@ -41,9 +43,15 @@ class Sandbox:
     read: tuple[Path, ...] = ()
     write: tuple[Path, ...] = ()
     network: bool = False
+    logs: Path | None = None
 
     def words(self, status: int) -> list[str]:
-        """The command before the job's own. What became of the job is written to the descriptor `status`."""
+        """The command before the job's own. What became of the job is written to the descriptor `status`.
+
+        `OSError` where a folder leads to the companions' by now, as a job may have turned one within a folder of
+        `write`.
+        """
+        self.check()
         words = ["bwrap", *APART, *([] if self.network else ["--unshare-net"]), "--json-status-fd", str(status),
                  "--ro-bind", "/", "/", "--dev", "/dev", "--proc", "/proc"]
         for name, place in OWN.items():
@@ -63,9 +71,15 @@ class Sandbox:
         words += [word for it in (*hidden, "/dev") for word in ("--remount-ro", it)]
         return [*words, "--"]
 
+    def check(self) -> None:
+        for it in (*self.read, *self.write):
+            real = os.path.realpath(it)
+            if is_below(real, [str(self.folder)]) or any(is_below(str(own), [real]) for own in (self.folder, self.file)):
+                raise OSError(f"{it} leads to the settings or the folder of the companions: no job may have it")
+
     def hidden(self) -> list[str]:
         """The folders of the machine in whose place there is an empty one: none of them within another one."""
-        named = [str(self.folder), *(it for pattern in HIDDEN for it in glob.glob(pattern)), *homes()]
+        named = [str(self.folder), *([str(self.logs)] if self.logs is not None else []), *(it for pattern in HIDDEN for it in glob.glob(pattern)), *homes()]
         found: list[str] = []
         for it in sorted({os.path.realpath(it) for it in named if os.path.isdir(it)}):
             if it != "/" and not is_below(it, [*found, *OWN.values()]):
@@ -91,26 +105,38 @@ def refused() -> str | None:
     """Why no sandbox can be begun on this machine, and what to do about it; none where one can."""
     with tempfile.TemporaryDirectory() as folder:
         place = Path(folder).resolve()
-        tried = Sandbox(place / "folder", place / "file", place / "trees", place / "own")
-        tried.trees.mkdir()
-        tried.file.touch()
-        reading, writing = os.pipe()
+        (place / "file").touch()
         try:
-            ran = subprocess.run([*tried.words(writing), "true"], stdin=subprocess.DEVNULL, capture_output=True,
-                                 env=ENVIRONMENT, pass_fds=(writing,), timeout=60, check=False)
+            said = tried(Sandbox(place / "folder", place / "file", place, place), place)
         except FileNotFoundError:
             return f"bubblewrap is missing: install it (apt-get install bubblewrap), {OTHERWISE}"
         except subprocess.TimeoutExpired:
-            return f"bubblewrap doesn't end within 60 seconds: find out why, {OTHERWISE}"
-        finally:
-            os.close(reading)
-            os.close(writing)
-    if ran.returncode == 0:
+            return f"bubblewrap doesn't end within {PATIENCE} seconds: find out why, {OTHERWISE}"
+    if said is None:
         return None
-    said = ran.stderr.decode("utf-8", "replace").strip()[:300]
     return (f"bubblewrap can't begin a sandbox: {said}: allow user namespaces (user.max_user_namespaces, "
             "kernel.unprivileged_userns_clone and kernel.apparmor_restrict_unprivileged_userns of sysctl), "
             f"{OTHERWISE}")
+
+
+def tried(box: Sandbox, folder: Path) -> str | None:
+    """What bubblewrap says where a sandbox like this one can't be begun; none where it can. Its trees and its own
+    folders are made anew, in a folder.
+
+    `FileNotFoundError` where bubblewrap is missing, `subprocess.TimeoutExpired` where it doesn't end.
+    """
+    with tempfile.TemporaryDirectory(dir=folder) as trial:
+        place = Path(trial).resolve()
+        mine = replace(box, trees=place / "trees", own=place / "own")
+        mine.trees.mkdir()
+        reading, writing = os.pipe()
+        try:
+            ran = subprocess.run([*mine.words(writing), "true"], stdin=subprocess.DEVNULL, capture_output=True,
+                                 env=ENVIRONMENT, pass_fds=(writing,), timeout=PATIENCE, check=False)
+        finally:
+            os.close(reading)
+            os.close(writing)
+    return None if ran.returncode == 0 else ran.stderr.decode("utf-8", "replace").strip()[:300]
 
 
 @dataclass(frozen=True)

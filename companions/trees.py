@@ -7,7 +7,7 @@ from __future__ import annotations
 
 import time
 import urllib.parse
-from collections.abc import Callable, Mapping
+from collections.abc import Callable, Iterable, Mapping
 from dataclasses import dataclass, field
 from pathlib import Path
 from typing import Any
@@ -17,6 +17,7 @@ from companions.checkout import check_out, forget_earlier
 from companions.conflicts import Conflict, cause_of
 from companions.gate import NoAnswer
 from companions.landings import Branch, Line, author_of, first_name, in_order, lines_of, places_of, text_of
+from companions.lfs import LargeFiles
 from companions.merging import Merge
 from companions.outbox import Notes
 from companions.repository import REVISION, GitFault, Repository
@@ -80,7 +81,23 @@ class Made:
 
 
 class UnknownChange(Exception):
-    """The gate or the settings don't know a change, or its repository doesn't have the revision."""
+    """The gate doesn't know a change, or its repository doesn't have the revision."""
+
+
+class Unset(Exception):
+    """The settings lack what a build needs, by its queue, and the project and the job as far as they matter."""
+
+    def __init__(self, settings: Settings, *lacking: str) -> None:
+        super().__init__(settings.lacking(*lacking))
+        self.lacking = lacking
+
+
+class Unreadable(GitFault):
+    """The repository of a project can't be read, where it is or on this machine."""
+
+    def __init__(self, project: str, said: str) -> None:
+        super().__init__(said)
+        self.project = project
 
 
 @dataclass
@@ -141,8 +158,9 @@ class Trees:
         """Makes a build's trees below a folder of this name.
 
         `wait` is called with what is waited for, before each further look. `Conflict` where a change can't be merged,
-        `UnknownChange` where no repository has one of them after `patience` seconds, `GitFault` or `OSError` where the
-        machine is at fault.
+        `Lacking` where files of it can't be had, `UnknownChange` where no repository has one of them after `patience`
+        seconds, `Unset` where the settings lack what is needed, `Unreadable` where a repository can't be read, another
+        `GitFault` or `OSError` where the machine is at fault.
         """
         found = self.gather(build, wait, patience)
         commits = self.merge(build, found)
@@ -151,11 +169,20 @@ class Trees:
         for project, commit in commits.items():
             check_out(self.repositories[project], folder / project, commit)
             trees[project] = self.repositories[project].tree(commit)
+            if "lfs" in self.settings.filters:
+                self.fill(project, folder / project, commit)
         return Made(folder, found.homes[build.changes[-1]][0], commits, trees)
 
-    def objects(self, made: Made) -> tuple[Path, ...]:
-        """The objects that trees read."""
-        return tuple((self.repositories[it].mirror / "objects").resolve() for it in made.commits)
+    def fill(self, project: str, place: Path, commit: str) -> None:
+        """Puts the files that git-lfs keeps into a tree."""
+        try:
+            LargeFiles(self.repositories[project], self.settings.space).fill(place, commit)
+        except GitFault as fault:
+            raise Unreadable(project, str(fault)) from fault
+
+    def objects(self, projects: Iterable[str]) -> tuple[Path, ...]:
+        """The objects that the trees of projects read."""
+        return tuple((self.repositories[it].mirror / "objects").resolve() for it in projects)
 
     def merge(self, build: Build, found: Found) -> dict[str, str]:
         """Each project's commit, once the build's changes are merged in their order: their landing commits."""
@@ -179,15 +206,17 @@ class Trees:
     def gather(self, build: Build, wait: Wait, patience: float) -> Found:
         """Fetches what a build needs, and waits for what isn't there.
 
-        Landings may be late, and a repository may be away: both are waited for as long as the build is wanted, since
-        builds that are lost for an outage would count against their changes.
+        Landings may be late, and the gate may be away: both are waited for as long as the build is wanted, since builds
+        that are lost for that would count against their changes.
         """
-        if not self.settings.projects_of(build.queue):
-            raise UnknownChange(f"no project of the queue {build.queue} is in companions.toml: add each by [[project]]")
+        if self.settings.lacking(build.queue, "", "") is not None:
+            raise Unset(self.settings, build.queue, "", "")
         begin = time.monotonic()
         while True:
             try:
                 found = self.look(build)
+            except Unreadable:
+                raise
             except (GitFault, NoAnswer) as fault:
                 wait(str(fault))
                 continue
@@ -212,12 +241,12 @@ class Trees:
         for project in projects:
             names = [revision_name(it) for it, name in wanted.items() if name == project.name]
             names += [] if is_known else [f"refs/heads/{project.branch}", first_name(build.queue)]
-            asked[project.name] = self.repositories[project.name].ask(*names, keep=True) if names else {}
+            asked[project.name] = self.ask(project.name, names) if names else {}
         for it, name in wanted.items():
-            if name not in asked:
-                found.unknown.append(f"the gate has change {it[0]} in project {name}: add its [[project]] with the"
-                                     f" queue {build.queue} to companions.toml" if name else
-                                     f"the gate doesn't know change {it[0]}")
+            if name is None:
+                found.unknown.append(f"the gate doesn't know change {it[0]}")
+            elif name not in asked:
+                raise Unset(self.settings, build.queue, name, "")
             elif revision_name(it) in asked[name]:
                 found.homes[it] = name, asked[name][revision_name(it)]
             else:
@@ -225,6 +254,13 @@ class Trees:
                 self.projects.pop(it[0], None)
         found.past = past if past is not None and is_known else self.read(build, past, asked, found)
         return found
+
+    def ask(self, project: str, names: list[str]) -> dict[str, str]:
+        """What a repository has under these names. They stay here."""
+        try:
+            return self.repositories[project].ask(*names, keep=True)
+        except GitFault as fault:
+            raise Unreadable(project, str(fault)) from fault
 
     def homes(self, build: Build) -> dict[tuple[int, int], str | None]:
         """The projects of a build's changes, as the gate names them: it is asked once a change."""

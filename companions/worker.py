@@ -1,91 +1,60 @@
-"""A worker: it takes a build, makes its trees, runs its job, and says how it ended, over and over.
+"""A worker: it takes a build, runs it, and says how it ended, over and over.
 
 It may be killed at any moment: the id of a take is on disk before it is sent, and what a job came to before it is told.
 The gate may be away, and may have another file when it is back, under whose numbers other builds are meant. So the
 worker sends its take again right before each result: a gate that gives the same reply means the same build. A success
 is of the landing commit that was tested, by its id: for another build of the same number it says nothing.
 
-Logs are kept, one a build: an operator decides how long.
+Where its machine or its settings are at fault, a worker keeps its build, and begins it again once they aren't.
 """
 from __future__ import annotations
 
-import json
-import os
-import re
+import shutil
 import signal
 import sqlite3
 import sys
 import time
 import uuid
 from pathlib import Path
-from typing import Any, NoReturn
+from typing import NoReturn
 
 from companions import job, sandbox, settings
-from companions.conflicts import Conflict
-from companions.gate import Answer, Delivery, Gate, NoAnswer, expected, say
+from companions.beating import Beating
+from companions.beats import NAME
+from companions.building import Ran
+from companions.faults import MACHINE, OtherSettings
+from companions.gate import Answer, Delivery, Gate, expected, say
 from companions.ids import id_of, success_id
+from companions.keeping import LONGEST_REST, Clock, Held, Keeper
 from companions.outbox import Notes
 from companions.repository import GitFault, untested
-from companions.room import Room, shared
-from companions.sandbox import ENVIRONMENT, Sandbox
+from companions.room import shared
 from companions.settings import Settings, SettingsFault
 from companions.starting import alone
-from companions.trees import Build, Made, Trees, UnknownChange, build_of
+from companions.trees import Build, Trees, build_of
+from companions.wanted import Reply
 
 USAGE = "usage: python3 -m companions.worker companions.toml NAME"
-NAME = re.compile(r"[A-Za-z0-9][A-Za-z0-9._-]{0,63}")
 IDLE = "E12"
-Reply = dict[str, Any]
-
-# What the machine may do to a build: none of it is the change's fault.
-MACHINE = (OSError, sqlite3.Error, GitFault)
-# A worker that loses one build after another rests longer each time, up to so many looks.
-LONGEST_REST = 64
 # So often a worker looks whether the lander has its author, as a multiple of `worker.look`.
 AUTHOR = 30
 
 
-class Unwanted(Exception):
-    """The gate doesn't want the build any more."""
-
-
-class Look:
-    """Looks, now and then, whether the gate still wants a build."""
-
-    def __init__(self, gate: Gate, reply: Reply, every: float) -> None:
-        self.gate, self.reply, self.every = gate, reply, every
-        self.due = time.monotonic() + every
-
-    def wanted(self) -> bool:
-        """Whether the gate has this build, and wants it. Where the gate is silent, nothing is known: it may."""
-        self.due = time.monotonic() + self.every
-        try:
-            shown = self.gate.build(self.reply["build"])
-        except NoAnswer:
-            return True
-        if shown is None:
-            return False
-        if not isinstance(shown, dict) or "live" not in shown:
-            return True
-        alike = all(shown.get(it) == self.reply[it]
-                    for it in ("build", "queue", "change", "revision", "job", "after", "ahead"))
-        return alike and shown["live"] is True
-
-    def check(self) -> None:
-        if time.monotonic() >= self.due and not self.wanted():
-            raise Unwanted
-
-
 class Worker:
-    """A worker with its name's folder, which has its notes, its mirrors, its trees and its logs."""
+    """A worker with its name's folder, which has its notes, its mirrors, its trees and its logs. Another `folder` and
+    `part` are those of the program that runs commands beside the jobs of a CI."""
 
-    def __init__(self, known: Settings, name: str) -> None:
-        self.settings, self.name, self.part = known, name, f"worker {name}"
-        self.folder = (known.folder / "worker" / name).resolve()
+    def __init__(self, known: Settings, name: str, clock: Clock | None = None, folder: Path | None = None,
+                 part: str | None = None) -> None:
+        self.settings, self.name, self.part = known, name, part or f"worker {name}"
+        self.clock = clock or Clock()
+        self.folder = (folder or known.folder / "worker" / name).resolve()
         self.mark = f"GATED_WORKER={self.folder}"
         self.notes = Notes(self.folder / "notes.db")
         self.gate = Gate(known.url, known.account("worker"), part=self.part)
+        self.beating = Beating(known, name)
         self.trees = Trees(known, self.folder, self.notes, self.mark, self.project_of)
+        self.keeper = Keeper(known, self.folder, self.notes, self.gate, self.trees, self.clock, self.say)
         self.losses = 0
         self.said, self.author_at = "", 0.0
 
@@ -99,10 +68,13 @@ class Worker:
             return None if said is None else str(said["project"])
 
     def run(self) -> NoReturn:
+        """Works for ever. `OtherSettings` where the settings have to be read again."""
         said = untested()
         if said is not None:
             self.say(said)
         self.say_of_sandbox()
+        self.say_of_ci()
+        self.beating.start()
         while True:
             try:
                 self.begin()
@@ -123,33 +95,46 @@ class Worker:
                      "what later builds are")
             return
         inside = [f"{project.name} {it.name}" for project in self.settings.projects.values()
-                  for it in project.jobs.values() if not it.network]
+                  for it in project.jobs.values() if not it.network and not it.status]
         if inside:
             self.say(f"jobs without a network (network = true gives them the machine's): {', '.join(inside)}")
 
+    def say_of_ci(self) -> None:
+        """Says why it asks for nothing, where a CI runs some of the jobs."""
+        if self.settings.of_ci():
+            self.say(f"takes nothing: a CI runs jobs of {', '.join(self.settings.of_ci())} (status), and the gate gives"
+                     " any job to whoever asks first: run companions.ci for this gate, which runs the commands too")
+
+    def is_for_ci(self) -> bool:
+        """Whether a CI runs some of the jobs: who can't run each of them doesn't ask. `OtherSettings` once none is."""
+        if not self.settings.of_ci():
+            return False
+        try:
+            is_still = bool(settings.read(self.settings.file).of_ci())
+        except SettingsFault:
+            return True
+        if not is_still:
+            raise OtherSettings
+        return True
+
     def begin(self) -> None:
-        """Ends what an earlier run left, and tells what became of its build: of a job that was cut off nobody knows."""
-        self.stop_leftovers()
-        for it in self.trees.begin():
-            self.say(it)
-        (self.folder / "logs").mkdir(exist_ok=True)
+        """Ends what an earlier run left, and goes on with its build: it is begun again where its job hadn't begun, and
+        lost where it had, since nobody knows what became of a job that was cut off."""
+        self.keeper.is_ready = False
         held = self.notes.get("held")
+        if held is not None and "reply" in held and "outcome" not in held and not held.get("began"):
+            self.carry_on(Held(held["take"], held["reply"], held.get("since")))
+            return
+        self.keeper.make_ready()
         if held is None or "reply" not in held:
             return
+        kept = Held(held["take"], held["reply"])
         if "outcome" not in held:
-            build = build_of(held["reply"])
-            self.say(f"{build}: lost, since the worker was stopped meanwhile")
-            tell_if_possible(self.log_of(held["take"], build), "ended: lost, since the worker was stopped meanwhile")
-            self.note(held["take"], held["reply"], "lost", None, None)
+            self.keeper.ended(kept, build_of(kept.reply), Ran("lost", "since the worker was stopped meanwhile"))
         result = held.get("outcome", "lost"), held.get("commit")
-        self.carry_on(held["take"], self.report(held["take"], held["reply"], *result))
-
-    def stop_leftovers(self) -> None:
-        group = self.notes.get("group")
-        if group is not None and job.began_at(group["number"]) == group["began"]:
-            job.kill_group(group["number"])
-        job.kill_marked(self.mark)
-        self.notes.drop("group")
+        again = self.report(kept.take, kept.reply, *result)
+        if again is not None:
+            self.carry_on(Held(kept.take, again))
 
     def turn(self) -> None:
         """Asks for a build once, and carries it out if there is one.
@@ -157,8 +142,8 @@ class Worker:
         A refusal spends no id, so one id does until there is a build.
         """
         held = self.notes.get("held")
-        if held is None and self.has_other_author():
-            time.sleep(max(self.settings.pause, self.settings.look))
+        if held is None and (self.is_for_ci() or self.keeper.is_at_fault() or self.has_other_author()):
+            self.clock.sleep(max(self.settings.pause, self.settings.look))
             return
         if held is None:
             held = {"take": str(uuid.uuid4())}
@@ -166,13 +151,13 @@ class Worker:
         take = held["take"]
         answer = self.gate.until(lambda: self.take(take), self.settings.pause)
         if answer.reply == "build":
-            self.carry_on(take, answer.said)
+            self.carry_on(Held(take, answer.said))
         elif answer.code == IDLE:
-            time.sleep(self.settings.pause)
+            self.clock.sleep(self.settings.pause)
         else:
             self.say(f"its take was refused: {answer.said}")
             self.notes.drop("held")
-            time.sleep(max(self.settings.pause, self.settings.look))
+            self.clock.sleep(max(self.settings.pause, self.settings.look))
 
     def has_other_author(self) -> bool:
         """Whether the lander merges with another author: then nothing that is tested here could land."""
@@ -189,113 +174,27 @@ class Worker:
     def take(self, take: str) -> Answer:
         return self.gate.post("worker", {"id": take, "kind": "take", "worker": self.name})
 
-    def carry_on(self, take: str, reply: Reply | None) -> None:
+    def carry_on(self, held: Held) -> None:
         """Carries out a build, and whichever the gate means by the take afterwards."""
-        while reply is not None:
-            self.notes.put("held", {"take": take, "reply": reply})
-            build = build_of(reply)
+        while True:
+            build = build_of(held.reply)
             self.say(str(build))
             try:
-                outcome, commit = self.build(take, reply, build)
-                lost = outcome == "lost"
-                reply = self.report(take, reply, outcome, commit) if outcome is not None else self.let_go(build)
+                with self.beating.having(held.take, build.number):
+                    ran = self.keeper.run(held, build)
+                    again = self.report(held.take, held.reply, ran.outcome, ran.commit) if ran else self.let_go(build)
             finally:
-                self.job_ended()
-            self.losses = self.losses + 1 if lost else 0
-            if lost:
+                self.keeper.job_ended()
+            self.losses = self.losses + 1 if ran is not None and ran.outcome == "lost" else 0
+            if self.losses:
                 self.rest()
+            if again is None:
+                return
+            held = Held(held.take, again)
 
     def let_go(self, build: Build) -> None:
         self.say(f"build {build.number}: not wanted any more")
         self.notes.drop("held")
-
-    def job_ended(self) -> None:
-        """Frees what a build took. It is no fault of the build if that fails: the next one begins anew."""
-        try:
-            for it in self.trees.remove():
-                self.say(it)
-        except OSError as fault:
-            self.say(f"its trees can't be removed: {fault}")
-
-    def build(self, take: str, reply: Reply, build: Build) -> tuple[str | None, str | None]:
-        """The outcome of a build, which is noted, and the commit that was tested; no outcome if it isn't wanted any
-        more."""
-        begin = time.monotonic()
-        log = self.log_of(take, build)
-        made: Made | None = None
-        try:
-            tell(log, f"{build}, after landing {build.after}, behind {build.ahead}")
-            look = Look(self.gate, reply, self.settings.look)
-            made = self.trees.make(build, take[:8], Waiting(self, look).wait, self.settings.look)
-            outcome, why = self.run_job(build, made, take, log, look)
-        except Unwanted:
-            tell_if_possible(log, "ended: not wanted any more")
-            return None, None
-        except Conflict as fault:
-            outcome, why = "failure", str(fault)
-        except (*MACHINE, UnknownChange) as fault:
-            outcome, why = "lost", str(fault)
-        seconds = round(time.monotonic() - begin, 3)
-        tell_if_possible(log, f"ended: {outcome}, {why}, after {seconds} s")
-        self.say(f"build {build.number}: {outcome}, {why}")
-        self.note(take, reply, outcome, made, seconds)
-        return outcome, made.commit if made else None
-
-    def log_of(self, take: str, build: Build) -> Path:
-        """A build's log: a number may come again from another file of the gate, with another take."""
-        return self.folder / "logs" / f"{take[:8]}-{build.number}.log"
-
-    def run_job(self, build: Build, made: Made, take: str, log: Path, look: Look) -> tuple[str, str]:
-        """The outcome of a build's job in trees that are made, and how it ended."""
-        for name, commit in made.commits.items():
-            tell(log, f"{name}: commit {commit}, tree {made.trees[name]}")
-        known = self.settings.projects[made.project].jobs.get(build.job)
-        if known is None:
-            raise UnknownChange(f"project {made.project} has no job {build.job}: add its [[project.job]] to "
-                                "companions.toml")
-        tell(log, f"in {made.project}, for {known.limit:g} s at most: {known.command}\n")
-        box = Sandbox(self.settings.folder.resolve(), self.settings.file, made.folder, made.own,
-                      self.trees.objects(made), known.read, known.write, known.network)
-        command = job.Command(known.command, made.folder / made.project, self.environment(build, made, take),
-                              f"GATED_TAKE={take}", log, known.limit, box if self.settings.sandbox else None,
-                              known.log_limit, Room(made.folder.parent, self.settings.free, self.settings.space))
-        ended = job.run(command, look.wanted, self.settings.look, self.note_group)
-        self.notes.drop("group")
-        if ended.cause is job.Cause.UNWANTED:
-            raise Unwanted
-        return ended.outcome, str(ended)
-
-    def note_group(self, group: int) -> None:
-        """Notes the job's processes, which go on if this one is killed."""
-        self.notes.put("group", {"number": group, "began": job.began_at(group)})
-
-    def environment(self, build: Build, made: Made, take: str) -> dict[str, str]:
-        name, _, folder = self.mark.partition("=")
-        mine = {it: value for it, value in os.environ.items() if not it.startswith("GIT_")}
-        return {**(ENVIRONMENT if self.settings.sandbox else mine), name: folder,
-                "GATED_TAKE": take, "GATED_BUILD": str(build.number), "GATED_QUEUE": build.queue,
-                "GATED_CHANGE": str(build.change), "GATED_REVISION": str(build.revision), "GATED_JOB": build.job,
-                "GATED_PROJECT": made.project, "GATED_TREES": str(made.folder)}
-
-    def note(self, take: str, reply: Reply, outcome: str, made: Made | None, seconds: float | None) -> None:
-        """Writes a build's record, then notes its outcome: what the gate will be told is in the records.
-
-        A loss may be told without, so that a full disk doesn't keep the build from other workers.
-        """
-        commit = made.commit if made else None
-        record = {"take": take, **{it: reply[it] for it in ("build", "queue", "change", "revision", "job")},
-                  "project": made.project if made else None, "outcome": outcome, "commit": commit,
-                  "trees": made.trees if made else {}, "seconds": seconds}
-        try:
-            with (self.folder / "builds.jsonl").open("a", encoding="utf-8") as records:
-                records.write(json.dumps(record) + "\n")
-                records.flush()
-                os.fsync(records.fileno())
-            self.notes.put("held", {"take": take, "reply": reply, "outcome": outcome, "commit": commit})
-        except MACHINE as fault:
-            if outcome != "lost":
-                raise
-            self.say(f"the loss can't be noted: {fault}")
 
     def report(self, take: str, reply: Reply, outcome: str, commit: str | None) -> Reply | None:
         """Tells how a build ended, unless the gate means another one by the take: then that is given."""
@@ -320,22 +219,8 @@ class Worker:
         return True, self.gate.post("worker", result_of(take, reply, outcome, commit))
 
     def rest(self) -> None:
-        """Rests after a loss, so that a broken machine doesn't take and lose what others could build."""
-        time.sleep(self.settings.look * min(2 ** (self.losses - 1), LONGEST_REST))
-
-
-class Waiting:
-    """What a worker does while it waits for what a build needs: it says so once, and looks whether that is wanted."""
-
-    def __init__(self, worker: Worker, look: Look) -> None:
-        self.worker, self.look, self.said = worker, look, ""
-
-    def wait(self, what: str) -> None:
-        if what != self.said:
-            self.worker.say(f"build {self.look.reply['build']}: {what}")
-            self.said = what
-        time.sleep(self.worker.settings.pause)
-        self.look.check()
+        """Rests after a loss, longer after each further one, so that others can take what this machine would lose."""
+        self.clock.sleep(self.settings.look * min(2 ** (self.losses - 1), LONGEST_REST))
 
 
 def result_of(take: str, reply: Reply, outcome: str, commit: str | None) -> Delivery:
@@ -348,45 +233,47 @@ def result_of(take: str, reply: Reply, outcome: str, commit: str | None) -> Deli
     return {"id": identity, "kind": "result", "build": number, "outcome": outcome}
 
 
-def tell(log: Path, line: str) -> None:
-    with log.open("a", encoding="utf-8") as lines:
-        lines.write(f"{line}\n")
-
-
-def tell_if_possible(log: Path, line: str) -> None:
-    """Ends a log; how a build ended doesn't depend on that."""
-    try:
-        tell(log, line)
-    except OSError as fault:
-        print(f"{log}: {fault}", file=sys.stderr)
+def work(file: Path, name: str) -> int:
+    """Works by a file's settings. The status of the process where it can't; `OtherSettings` where they are other ones
+    by now."""
+    known = settings.read(file)
+    refused = sandbox.refused() if known.sandbox else None
+    if refused is not None:
+        say(f"worker {name}", f"stops: {refused}")
+        return 1
+    if "lfs" in known.filters and shutil.which("git-lfs") is None:
+        say(f"worker {name}", "stops: git-lfs is missing: install it (apt-get install git-lfs), or leave lfs out of"
+                              " worker.filters")
+        return 1
+    hold = alone(known.folder / "worker" / name)
+    if hold is None:
+        say(f"worker {name}", "stops: a worker of this name runs already")
+        return 1
+    signal.signal(signal.SIGTERM, lambda number, frame: sys.exit(128 + number))
+    with hold:
+        started = Worker(known, name)
+        try:
+            started.run()
+        finally:
+            started.beating.end()
+            # A job that was just being started when a signal came.
+            job.kill_marked(started.mark)
 
 
 def main(argv: list[str]) -> int:
     if len(argv) != 2 or not NAME.fullmatch(argv[1]):
         print(USAGE, file=sys.stderr)
         return 2
-    try:
-        known = settings.read(Path(argv[0]))
-        refused = sandbox.refused() if known.sandbox else None
-        if refused is not None:
-            say(f"worker {argv[1]}", f"stops: {refused}")
-            return 1
-        hold = alone(known.folder / "worker" / argv[1])
-        if hold is None:
-            say(f"worker {argv[1]}", "stops: a worker of this name runs already")
-            return 1
-        signal.signal(signal.SIGTERM, lambda number, frame: sys.exit(128 + number))
-        started = Worker(known, argv[1])
+    while True:
         try:
-            started.run()
-        finally:
-            # A job that was just being started when the signal came.
-            job.kill_marked(started.mark)
-    except (SettingsFault, GitFault, OSError, sqlite3.Error) as fault:
-        print(f"worker {argv[1]}: {fault}", file=sys.stderr)
-        return 1
-    except KeyboardInterrupt:
-        return 130
+            return work(Path(argv[0]), argv[1])
+        except OtherSettings:
+            say(f"worker {argv[1]}", "begins anew with the settings of now")
+        except (SettingsFault, GitFault, OSError, sqlite3.Error) as fault:
+            print(f"worker {argv[1]}: {fault}", file=sys.stderr)
+            return 1
+        except KeyboardInterrupt:
+            return 130
 
 
 if __name__ == "__main__":

@@ -11,7 +11,7 @@ from unittest import mock
 from companions import aside, room, sandbox, settings, worker
 from companions.settings import SettingsFault
 from companions.tests.boxes import boxed
-from companions.tests.worker_case import WorkerCase
+from companions.tests.worker_case import PretendClock, WorkerCase
 
 IS_OFF = ("worker w1: worker.sandbox is false: a job can read all that the worker reads, its password too, and change "
           "what later builds are\n")
@@ -82,10 +82,10 @@ class Sandboxes(WorkerCase):
         return self.log().partition("\n\n")[2].splitlines()[:-1]
 
     def test_the_password_and_the_folders_of_the_companions_are_not_there(self) -> None:
-        self.assertEqual(self.said(f"cat {self.folder}/companions.toml; ls {self.folder}/state/worker/w1; "
+        self.assertEqual(self.said(f"cat {self.folder}/companions.toml 2>&- | wc -c; ls {self.folder}/state/worker/w1; "
                                    f"ls {self.folder}/state/worker {self.folder}/state"),
-                         [f"cat: {self.folder}/companions.toml: No such file or directory", "mirrors", "trees",
-                          f"{self.folder}/state:", "worker", "", f"{self.folder}/state/worker:", "w1"])
+                         ["0", "mirrors", "trees", f"{self.folder}/state:", "worker", "",
+                          f"{self.folder}/state/worker:", "w1"])
 
     def test_settings_that_are_among_the_machine_s_files_are_hidden(self) -> None:
         """Where nothing else hides them."""
@@ -164,7 +164,25 @@ class Sandboxes(WorkerCase):
             with self.subTest(name), self.assertRaisesRegex(SettingsFault, "no job may have it|isn't the whole name"):
                 self.start()
 
+    def test_a_folder_that_a_job_turns_into_another_is_given_to_nobody(self) -> None:
+        """It is within one that the job may write."""
+        cache = self.folder / "cache"
+        (cache / "own").mkdir(parents=True)
+        self.clock, self.room = PretendClock(), "patience = 0.5"
+        self.said(f"rmdir {cache}/own; ln -s {self.folder}/state {cache}/own", f'write = ["{cache}"]')
+        self.more = f'write = ["{cache}/own"]'
+        (cache / "own").rename(cache / "turned")
+        (cache / "own").mkdir()
+        self.worker = self.start(f"ls {cache}/own")
+        (cache / "own").rmdir()
+        (cache / "turned").rename(cache / "own")
+        self.gate.left = [self.reply(8, 104)]
+        self.worker.turn()
+        self.assertIn(f"build 8: lost, {cache}/own leads to the settings or the folder of the companions: no job may "
+                      "have it\n", self.errors.getvalue())
+
     def test_a_status_of_the_job_is_a_failure_and_one_of_the_sandbox_a_loss(self) -> None:
+        self.clock, self.room = PretendClock(), "patience = 0.5"
         self.worker = self.start("exit 1")
         self.worker.turn()
         self.more = f'read = ["{self.folder}/gone"]'
@@ -188,7 +206,7 @@ class Leftovers(WorkerCase):
 
     def test_folders_that_are_very_deep_are_removed(self) -> None:
         deep = "at=0; while [ $at -lt 1500 ]; do mkdir d && cd d || exit 1; at=$((at + 1)); done"
-        self.worker = self.start(f"if [ $GATED_CHANGE = 103 ]; then {deep}; fi", limit=60.0)
+        self.worker = self.start(f"if [ $GATED_CHANGE = 103 ]; then {deep}; fi", limit=600.0)
         self.gate.left.append(self.reply(8, 104))
         self.worker.turn()
         self.worker.turn()
@@ -304,8 +322,9 @@ class Limits(WorkerCase):
                       "worker.space\n", self.errors.getvalue())
 
     def test_a_disk_that_others_have_filled_is_the_machine_s_fault(self) -> None:
+        self.clock = PretendClock()
         self.disk()
-        self.room = "free = 33554432\nspace = 8388608"
+        self.room = "free = 33554432\nspace = 8388608\npatience = 0.5"
         self.worker = self.start("sleep 1000", limit=60.0)
         (self.folder / "state/other").write_bytes(bytes(40 * 1024 * 1024))
         self.worker.turn()

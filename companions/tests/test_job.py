@@ -6,9 +6,13 @@ import tempfile
 import time
 import unittest
 from pathlib import Path
+from typing import Any
+from unittest import mock
 
 from companions import job
 from companions.job import Cause, Command, Ended
+from companions.sandbox import Sandbox
+from companions.tests.boxes import boxed
 
 LONG = 60.0
 
@@ -22,9 +26,9 @@ class JobCase(unittest.TestCase):
         self.addCleanup(job.kill_marked, self.mark)
         self.groups: list[int] = []
 
-    def command(self, text: str, limit: float = LONG) -> Command:
+    def command(self, text: str, limit: float = LONG, **more: Any) -> Command:
         name, _, value = self.mark.partition("=")
-        return Command(text, self.folder, {**os.environ, name: value}, self.mark, self.folder / "log", limit)
+        return Command(text, self.folder, {**os.environ, name: value}, self.mark, self.folder / "log", limit, **more)
 
     def run_job(self, text: str, limit: float = LONG) -> Ended:
         return job.run(self.command(text, limit), lambda: True, LONG, self.groups.append)
@@ -66,6 +70,15 @@ class Outcome(JobCase):
                 with self.subTest(text):
                     self.assertEqual(self.run_job(text).outcome, outcome)
 
+    def test_a_status_that_means_lost(self) -> None:
+        """By default 75, EX_TEMPFAIL, among others; else those that the settings name, and no other one."""
+        self.assertEqual([it for it in range(256) if Ended(Cause.ITSELF, it, 0.0).outcome == "lost"],
+                         [75, 129, 130, 137, 143])
+        self.assertEqual(self.run_job("exit 75").outcome, "lost")
+        mine = [job.run(self.command(it, lost=frozenset({3, 137})), lambda: True, LONG, self.groups.append).outcome
+                for it in ("exit 3", "exit 75", "kill -KILL $$", "kill -TERM $$")]
+        self.assertEqual(mine, ["lost", "failure", "lost", "failure"])
+
     def test_a_job_that_hangs_is_killed_and_a_failure(self) -> None:
         ended = self.run_job("sh -c 'echo $$ > inner; sleep 20'; true", limit=0.5)
         self.assertEqual((ended.cause, ended.outcome), (Cause.LIMIT, "failure"))
@@ -87,6 +100,96 @@ class Outcome(JobCase):
         command = Command("true", self.folder / "none", dict(os.environ), self.mark, self.folder / "log", LONG)
         with self.assertRaises(OSError):
             job.run(command, lambda: True, LONG, self.groups.append)
+
+
+# What has something to end elsewhere: it says what it is told, and takes its time. A shell may wait for it.
+BRIDGE = """import pathlib, signal, sys, time
+def end(number, frame):
+    time.sleep(0.3)
+    print("cancelled", flush=True)
+    pathlib.Path("cancelled").write_text("1\\n")
+    sys.exit(0)
+signal.signal(signal.SIGTERM, end)
+pathlib.Path("began").write_text("1\\n")
+time.sleep(1000)
+"""
+
+
+class Ending(JobCase):
+    """A job that isn't wanted any more is told so, and has ten seconds."""
+
+    def box(self) -> Sandbox | None:
+        return None
+
+    def end(self, text: str, ending: float = 30.0, limit: float | None = None) -> Ended:
+        """What comes of a job that isn't wanted once it has written the file `began`, or is over its limit."""
+        (self.folder / "bridge.py").write_text(BRIDGE)
+        command = self.command(text, limit or LONG, sandbox=self.box())
+        with mock.patch.object(job, "ENDING", ending):
+            return job.run(command, lambda: limit is not None or not (self.folder / "began").exists(), 0.1,
+                           self.groups.append)
+
+    def test_how_long(self) -> None:
+        self.assertEqual(job.ENDING, 10.0)
+
+    def test_what_it_has_started_ends_something_elsewhere(self) -> None:
+        """Also behind a shell that ends at once, out of its group, and without its mark."""
+        for text in ("python3 bridge.py", "python3 bridge.py; true", "sh -c 'python3 bridge.py; true'; true",
+                     "setsid python3 bridge.py; true", "env -i /usr/bin/python3 bridge.py; true"):
+            with self.subTest(text):
+                self.assertEqual(self.end(text).cause, Cause.UNWANTED)
+                self.assertTrue((self.folder / "cancelled").exists())
+                # A shell may say that what it waited for was ended.
+                self.assertIn("cancelled\n", (self.folder / "log").read_text())
+                for it in ("began", "cancelled", "log"):
+                    (self.folder / it).unlink()
+
+    def test_what_ends_at_once_is_not_waited_for(self) -> None:
+        begin = time.monotonic()
+        self.end("touch began; sleep 1000; true")
+        self.assertLess(time.monotonic() - begin, 20)
+
+    def test_what_does_not_end_is_killed(self) -> None:
+        deaf = "trap '' TERM; sleep 1000 & echo $! > inner; touch began; sleep 1000; true"
+        begin = time.monotonic()
+        self.assertEqual(self.end(deaf, ending=1.0).cause, Cause.UNWANTED)
+        self.assertGreater(time.monotonic() - begin, 1)
+        self.assert_gone(self.process("inner"))
+
+    def test_it_is_told_at_its_limit_too(self) -> None:
+        ended = self.end("python3 bridge.py; true", limit=5.0)
+        self.assertEqual((ended.cause, ended.outcome), (Cause.LIMIT, "failure"))
+        self.assertTrue((self.folder / "cancelled").exists())
+
+    def test_nobody_else_is_told(self) -> None:
+        other = subprocess.Popen(["sleep", "1000"])
+        self.addCleanup(other.wait)
+        self.addCleanup(other.kill)
+        self.end("touch began; sleep 1000; true")
+        self.assertIsNone(other.poll())
+
+
+@unittest.skipUnless(boxed(), "the kernel refuses sandboxes, or bubblewrap is missing")
+class EndingBoxed(Ending):
+    """The same in a sandbox, whose first process doesn't take the others with it."""
+
+    def box(self) -> Sandbox | None:
+        place = self.folder / "boxed"
+        place.mkdir(exist_ok=True)
+        return Sandbox(place / "folder", place / "file", self.folder, place)
+
+    def test_what_does_not_end_is_killed(self) -> None:
+        deaf = "trap '' TERM; setsid sleep 999.25 & touch began; sleep 999.5; true"
+        self.assertEqual(self.end(deaf, ending=1.0).cause, Cause.UNWANTED)
+        self.assertEqual([it for it in Path("/proc").glob("[0-9]*/cmdline")
+                          if content(it).split(b"\0")[:2] in ([b"sleep", b"999.25"], [b"sleep", b"999.5"])], [])
+
+
+def content(file: Path) -> bytes:
+    try:
+        return file.read_bytes()
+    except OSError:
+        return b""
 
 
 class Processes(JobCase):

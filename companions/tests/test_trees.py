@@ -13,7 +13,7 @@ from companions.outbox import Notes
 from companions.repository import GitFault, Repository
 from companions.settings import Project, Settings, SettingsFault
 from companions.tests.forge import Origin, earlier_message
-from companions.trees import Build, Made, Trees, UnknownChange
+from companions.trees import Build, Made, Trees, UnknownChange, Unreadable, Unset
 
 MARK = "GATED_WORKER=test"
 
@@ -242,14 +242,18 @@ class Waiting(TreesCase):
                     self.make(build(103, 0))
 
     def test_a_change_is_unknown_after_a_while(self) -> None:
-        for project, said in ((None, "the gate doesn't know change 103"), ("lib", "lib.git has no refs/changes/103/1"),
-                              ("site", "the gate has change 103 in project site: add its .* with the queue core")):
+        for project, said in ((None, "the gate doesn't know change 103"), ("lib", "lib.git has no refs/changes/103/1")):
             self.homes[103] = project
             self.trees = self.start()
             with self.assertRaisesRegex(UnknownChange, said):
                 self.trees.make(build(103, 0), "tree", no_wait, 0.0)
             with self.assertRaisesRegex(Waited, f"waits: .*{said}"):
                 self.trees.make(build(103, 0), "tree", no_wait, 60.0)
+
+    def test_a_project_that_the_settings_lack_is_told_at_once(self) -> None:
+        self.homes[103] = "site"
+        with self.assertRaisesRegex(Unset, "the gate has the change in project site: add its .* with the queue core"):
+            self.trees.make(build(103, 0), "tree", no_wait, 60.0)
 
     def test_a_revision_is_of_the_project_that_the_gate_names(self) -> None:
         """The same name is pushed in another project, before the worker looks and behind it."""
@@ -267,21 +271,18 @@ class Waiting(TreesCase):
         self.assertEqual(self.texts(self.make(build(103, 0)), "lib")["own"], "1")
 
     def test_a_queue_without_a_project_is_told(self) -> None:
-        with self.assertRaisesRegex(UnknownChange, "no project of the queue docs is in companions.toml"):
+        with self.assertRaisesRegex(Unset, "no project of the queue docs is in companions.toml"):
             self.make(build(103, 0, queue="docs"))
 
-    def test_a_repository_that_is_away_is_waited_for(self) -> None:
+    def test_a_repository_that_is_away_is_told_by_its_project(self) -> None:
         self.change("lib", 103, {"own": "1"})
         away = self.folder / "away.git"
         (self.folder / "lib.git").rename(away)
-        waited: list[str] = []
-
-        def wait(what: str) -> None:
-            waited.append(what)
-            away.rename(self.folder / "lib.git")
-
-        self.assertEqual(self.trees.make(build(103, 0), "tree", wait, 0.0).project, "lib")
-        self.assertEqual(len(waited), 1)
+        with self.assertRaises(Unreadable) as raised:
+            self.make(build(103, 0))
+        self.assertEqual(raised.exception.project, "lib")
+        away.rename(self.folder / "lib.git")
+        self.assertEqual(self.make(build(103, 0)).project, "lib")
 
 
 class Past(TreesCase):

@@ -11,9 +11,8 @@ from unittest import mock
 
 from companions import job, worker
 from companions.outbox import Notes
-from companions.repository import GitFault
 from companions.tests.test_job import runs
-from companions.tests.worker_case import PretendGate, Said, WorkerCase
+from companions.tests.worker_case import PretendClock, PretendGate, Said, WorkerCase
 
 TOP = Path(__file__).parents[2]
 
@@ -48,6 +47,11 @@ class Wanted(WorkerCase):
                 self.turn_with(**other)
                 self.assertEqual((self.gate.results, self.held()), ([], None))
 
+    def test_a_job_ends_whose_build_somebody_else_has_reported(self) -> None:
+        """As the watch does, which takes its worker for dead."""
+        self.turn_with(outcome="lost")
+        self.assertEqual((self.kinds(), self.held()), (["take"], None))
+
     def test_a_job_ends_that_the_gate_does_not_know(self) -> None:
         with mock.patch.object(self.gate, "show"):
             self.worker.turn()
@@ -71,7 +75,15 @@ class Wanted(WorkerCase):
 
     def test_waiting_for_a_landing_ends_too(self) -> None:
         self.gate.left = [self.reply(7, 103, after=1)]
-        self.turn_with(live=False)
+        asked: list[int] = []
+
+        def answer(number: int) -> None:
+            """It is wanted at first."""
+            asked.append(number)
+            self.gate.show(self.reply(7, 103, after=1), live=len(asked) < 3)
+
+        self.gate.before_build = answer
+        self.worker.turn()
         self.assertEqual((self.kinds(), self.held()), (["take"], None))
         self.assertIn("build 7: waits: no branch of the queue core has its landing 1", self.errors.getvalue())
 
@@ -83,45 +95,28 @@ class Lost(WorkerCase):
         self.assertEqual(self.outcomes(), [(7, "lost")])
         self.assertIn(f"build 7: lost, {self.origin.folder} has no refs/changes/109/1\n", self.errors.getvalue())
 
-    def test_a_job_that_the_settings_lack_is_lost_and_told(self) -> None:
-        self.gate.left = [self.reply(7, 103, job="docs")]
-        self.worker.turn()
-        self.assertEqual(self.outcomes(), [(7, "lost")])
-        self.assertIn("project lib has no job docs: add its [[project.job]] to companions.toml", self.errors.getvalue())
-
-    def test_what_the_machine_did_is_lost(self) -> None:
-        for number, fault in enumerate((GitFault("no space"), OSError("no space"))):
-            self.gate.left = [self.reply(number + 1, 103)]
-            with mock.patch.object(self.worker.trees, "make", side_effect=fault):
-                self.worker.turn()
-        self.assertEqual(self.outcomes(), [(1, "lost"), (2, "lost")])
-
     def test_losses_in_a_row_make_it_rest_longer(self) -> None:
-        rests: list[float] = []
-        look = self.worker.settings.look
-        # Whoever waits for git's end sleeps too, for less.
-        with mock.patch.object(worker.time, "sleep", lambda seconds: rests.append(seconds) if seconds >= look else None):
-            for number in range(1, 11):
-                self.gate.left = [self.reply(number, 103, job="docs")]
-                self.worker.turn()
-            self.gate.left = [self.reply(11, 103)]
+        self.clock = PretendClock()
+        self.worker = self.start("test $GATED_CHANGE = 104 || kill -TERM $$")
+        for number in range(1, 11):
+            self.gate.left = [self.reply(number, 103)]
             self.worker.turn()
-            self.gate.left = [self.reply(12, 103, job="docs")]
+        for number, change in ((11, 104), (12, 103)):
+            self.gate.left = [self.reply(number, change)]
             self.worker.turn()
-        self.assertEqual([round(it * 10) for it in rests], [1, 2, 4, 8, 16, 32, 64, 64, 64, 64, 1])
+        self.assertEqual([round(it * 10) for it in self.clock.slept], [1, 2, 4, 8, 16, 32, 64, 64, 64, 64, 1])
 
-    def test_a_loss_is_told_though_the_disk_is_full(self) -> None:
-        self.gate.left = [self.reply(7, 103, job="docs")]
+    def test_a_success_is_not_told_before_it_is_on_disk(self) -> None:
+        """The build is kept until it can be noted."""
+        self.clock, self.room = PretendClock(), "patience = 2"
+        self.worker = self.start()
         with mock.patch.object(os, "fsync", side_effect=OSError("no space")):
             self.worker.turn()
         self.assertEqual(self.outcomes(), [(7, "lost")])
-
-    def test_a_success_is_not_told_before_it_is_on_disk(self) -> None:
-        with mock.patch.object(os, "fsync", side_effect=OSError("no space")), self.assertRaises(OSError):
-            self.worker.turn()
-        self.assertEqual(self.outcomes(), [])
-        self.worker.begin()
-        self.assertEqual(self.outcomes(), [(7, "lost")])
+        self.gate.left = [self.reply(8, 103)]
+        self.worker.turn()
+        self.worker.turn()
+        self.assertEqual(self.outcomes(), [(7, "lost"), (8, "success")])
 
 
 class Restart(WorkerCase):
@@ -136,12 +131,18 @@ class Restart(WorkerCase):
         self.assertEqual(list(self.gate.taken), ["70000000-0000-4000-8000-000000000001"])
         self.assertEqual(self.outcomes(), [(7, "success")])
 
-    def test_a_build_without_an_outcome_is_lost(self) -> None:
+    def test_a_build_whose_job_had_begun_is_lost(self) -> None:
         self.gate.take("70000000-0000-4000-8000-000000000001")
-        self.put(take="70000000-0000-4000-8000-000000000001", reply=self.reply(7, 103))
+        self.put(take="70000000-0000-4000-8000-000000000001", reply=self.reply(7, 103), began=True)
         self.start()
         self.assertEqual((self.kinds(), self.outcomes()), (["take", "result"], [(7, "lost")]))
         self.assertEqual(([it["outcome"] for it in self.records()], self.held()), (["lost"], None))
+
+    def test_a_build_whose_job_had_not_begun_is_begun_again(self) -> None:
+        self.gate.take("70000000-0000-4000-8000-000000000001")
+        self.put(take="70000000-0000-4000-8000-000000000001", reply=self.reply(7, 103))
+        self.start("true")
+        self.assertEqual((self.kinds(), self.outcomes()), (["take", "result"], [(7, "success")]))
 
     def test_a_noted_outcome_is_told(self) -> None:
         self.gate.take("70000000-0000-4000-8000-000000000001")

@@ -13,6 +13,7 @@ from typing import Any
 
 from companions import settings
 from companions.ids import success_id
+from companions.keeping import Clock
 from companions.outbox import Notes
 from companions.tests.boxes import boxed
 from companions.tests.forge import Origin
@@ -31,11 +32,13 @@ class PretendGate:
         self.shown: dict[int, dict[str, Any]] = {}
         self.results: list[dict[str, Any]] = []
         self.before: Callable[[str, dict[str, Any]], Said] = lambda kind, said: None
+        self.before_build: Callable[[int], Any] = lambda number: None
 
     def answer(self, method: str, path: str, body: bytes) -> Said:
         if method == "GET" and path.startswith("/changes/"):
             return 200, {"project": "lib"}
         if method == "GET":
+            self.before_build(int(path.rpartition("/")[2]))
             shown = self.shown.get(int(path.rpartition("/")[2]))
             return (200, shown) if shown else (404, {"code": "E11", "error": "unknown-build"})
         said = json.loads(body)
@@ -61,7 +64,24 @@ class PretendGate:
         return 200, {"reply": "noted"}
 
 
+class PretendClock(Clock):
+    """Goes on while somebody sleeps, and only then. `meanwhile` is called each time, with the seconds so far."""
+
+    def __init__(self) -> None:
+        self.so_far, self.slept = 0.0, list[float]()
+        self.meanwhile: Callable[[float], Any] = lambda seconds: None
+
+    def now(self) -> float:
+        return 1e9 + self.so_far
+
+    def sleep(self, seconds: float) -> None:
+        self.so_far += seconds
+        self.slept.append(seconds)
+        self.meanwhile(self.so_far)
+
+
 class WorkerCase(unittest.TestCase):
+    clock, look = Clock(), 0.1
     command = "cat text; test -e own"
     # Jobs have sandboxes, where the kernel grants them. Then the other members of a job, and of `worker`.
     sandbox = True
@@ -86,7 +106,7 @@ class WorkerCase(unittest.TestCase):
         return {"after": 0, "ahead": [], "build": number, "change": change, "job": "unit", "queue": "core",
                 "reply": "build", "revision": 1, **other}
 
-    def write_settings(self, command: str | None = None, limit: float = 10.0) -> Path:
+    def write_settings(self, command: str | None = None, limit: float = 60.0) -> Path:
         file = self.folder / "companions.toml"
         file.write_text(f"""
             folder = "{self.folder}/state"
@@ -95,7 +115,7 @@ class WorkerCase(unittest.TestCase):
             pause = 0.02
             worker = {{ user = "w", password = "p" }}
             [worker]
-            look = 0.1
+            look = {self.look}
             sandbox = {str(self.sandbox and boxed()).lower()}
             {self.room}
             [[project]]
@@ -110,9 +130,9 @@ class WorkerCase(unittest.TestCase):
             """)
         return file
 
-    def start(self, command: str | None = None, limit: float = 10.0) -> Worker:
+    def start(self, command: str | None = None, limit: float = 60.0) -> Worker:
         """A worker as after a start, on what an earlier one has left."""
-        started = Worker(settings.read(self.write_settings(command, limit)), "w1")
+        started = Worker(settings.read(self.write_settings(command, limit)), "w1", self.clock)
         started.begin()
         return started
 
