@@ -12,11 +12,11 @@ import sys
 import threading
 import time
 from collections.abc import Callable
+from pathlib import Path
 
-from companions import answers
+from companions import answers, held, peeking
 from companions.answers import Wrong
 from companions.api import ForgeFault
-from companions.compared import Moment
 from companions.comparisons import Comparisons
 from companions.failures import Failures
 from companions.forges import Forge, Place
@@ -25,12 +25,18 @@ from companions.gate_file import GateFile
 from companions.github import Gitea, GitHub
 from companions.gitlab import GitLab
 from companions.hooks import Hints, Hooks, serve
+from companions.leaving import Leaving
+from companions.leftovers import Leftovers
 from companions.looks import Again, Looks, names_of
+from companions.moments import Moment
+from companions.operated import Operated
 from companions.outbox import Kept, Notes, Outbox
+from companions.page_file import PageFile
 from companions.people import Manner, People
 from companions.people_others import KnownByOthers
 from companions.repository import Declined, GitFault
-from companions.rests import Rests
+from companions.rests import Paces, Rests
+from companions.settings import Adapter as AdapterSettings
 from companions.settings import Settings
 from companions.starting import start
 from companions.subjects import Subjects
@@ -42,6 +48,13 @@ FORMS: dict[str, Callable[[str, str, str], Forge]] = {"gitea": Gitea, "github": 
 FAULTS = 3
 # A forge may answer from a copy that lags behind its hook: so many seconds later the request is looked at once more.
 LAG = 15.0
+# So long a forge has to see by itself that a request was merged.
+CLOSES = 60.0
+# So many seconds lie between two looks at what was closed long ago.
+DROP = 3600.0
+# So often in an hour a request is looked at as soon as a hook names it, and then so many times in a comparison's time:
+# anybody may bring hooks about, by comments.
+AT_ONCE, PER_COMPARISON = 20, 5
 # How long what failed rests at first, as a multiple of `gate.pause`. A request rests as long as a comparison at most.
 REST = 5
 
@@ -60,18 +73,31 @@ class Adapter:
         self.file = GateFile(self.outbox, self.gate, self.is_other, self.is_earlier)
         self.looks = Looks(settings, settings.adapter, forge, self.gate, self.subjects)
         self.comparisons = Comparisons(self.changes, (it.forge for it in settings.projects.values()), settings.folder)
-        manner = Manner(forge.mark, settings.adapter.logs, settings.adapter.quiet)
+        manner = Manner(forge.mark, settings.adapter.logs, settings.adapter.quiet, limits=forge.limits,
+                        closes=CLOSES if forge.leaves_open else None)
         notes = Notes(file.with_name("people.db"))
         failures = Failures(settings, self.gate, notes)
         self.people = People(self.gate, notes, forge, self.changes.place, manner,
-                             KnownByOthers(settings.folder, self.looks.jobs, failures))
+                             KnownByOthers(settings.folder, self.looks.jobs, failures), self.changes.show)
+        self.page = page_file(settings.adapter, forge, self.subjects, self.people)
+        self.leaving = Leaving(settings.adapter.tell, notes, self.subjects, address_at(settings.adapter, forge),
+                               self.changes.first)
         self.look, self.look_at = settings.adapter.look, 0.0
         for it in self.looks.repositories.values():
             it.unlock()
+        peeking.clear(file.parent)
         failures.begin()
-        self.compare_at, self.now = 0.0, 0.0
+        self.leftovers = Leftovers(self.looks, self.gate)
+        self.operated = Operated(settings.folder, self.gate, self.looks, self.attempt, self.send, settings.pause)
+        self.held = held_in(settings.folder)
+        self.compare_at, self.drop_at, self.now = 0.0, 0.0, 0.0
+        # The repositories whose comparison has to begin still.
+        self.missed: set[str] = set()
         self.righted: dict[Wrong, float] = {}
         self.rests = Rests(REST * settings.pause, settings.adapter.compare)
+        # Of lists of requests, without which nothing lands: these are few, and tried again soon.
+        self.lists = Rests(REST * settings.pause, REST * settings.pause)
+        self.paces = Paces(AT_ONCE, settings.adapter.compare / PER_COMPARISON)
         self.later: dict[Place, float] = {}
         self.troubles: dict[str, str] = {}
 
@@ -83,8 +109,14 @@ class Adapter:
                 self.file.ask()
             self.tell_again()
             self.comparisons.leave()
+            if (holds := held_in(self.settings.folder)) != self.held:
+                # What people have approved meanwhile is told, or their requests say that it isn't.
+                self.held, self.compare_at = holds, 0.0
+            due = [it for it in self.missed if not self.lists.is_resting(it, now)]
             if now >= self.compare_at:
-                self.compare_at = now + (self.compare if self.hint_at_all() else REST * self.settings.pause)
+                due, self.compare_at = self.comparisons.repositories, now + self.compare
+            for it in due:
+                self.compare_again(it)
             self.answer_lander(now)
             if not self.looks.approvers.is_known and not self.rests.is_resting("approvers", now):
                 self.rest("approvers", self.attempt("approvers", self.looks.approvers.look_up))
@@ -93,23 +125,39 @@ class Adapter:
                 self.hints.put(place, is_hook=False)
             self.follow(now)
             self.send()
+            self.operated.once(now)
             self.trouble("gate", None)
             if now >= self.look_at:
                 self.look_at = now + self.look
                 self.attempt("people", self.tell_people)
+                self.attempt("page", self.show)
+                self.attempt("tell", lambda: self.leaving.look(self.people.said, self.people.kinds))
+            if now >= self.drop_at and not self.comparisons.untold():
+                self.drop_at = now + DROP
+                self.attempt("leftovers", self.leftovers.drop)
         except NoAnswer as fault:
             self.file.is_known = False
             self.trouble("gate", f"no answer of the gate: {fault}")
 
-    def hint_at_all(self) -> bool:
-        """Hints at each request that is open at the forge, or that the gate has for open."""
-        faults = [self.attempt(it, lambda it=it: self.hint_at(it)) for it in self.comparisons.repositories]
-        return not any(faults)
+    def compare_again(self, repository: str) -> None:
+        """Begins a comparison of a repository, behind one that is at work: if each began before the one before is
+        whole, none would ever be. A repository that can't be read holds up no other, and is tried again later."""
+        self.missed.add(repository)
+        if self.comparisons.is_going_on(repository):
+            return
+        if self.attempt(repository, lambda: self.hint_at(repository)) is None:
+            self.missed.discard(repository)
+            self.lists.over(repository)
+        else:
+            self.lists.failed(repository, self.now)
 
     def hint_at(self, repository: str) -> None:
-        """Hints at each request of a repository: its comparison has begun."""
+        """Hints at each request of a repository that may have changed: its comparison has begun. A deleted comment or a
+        lost right needn't show in the list, so all that are approved are looked at."""
         began = Moment.now()
-        numbers = {*self.forge.open_requests(repository), *self.changes.still_open(repository)}
+        shown = self.forge.open_requests(repository)
+        unchanged = self.looks.unchanged(repository, shown, began.uptime, self.forge.time())
+        numbers = {*shown, *self.changes.still_open(repository)} - unchanged | {*self.changes.approved(repository)}
         for number in sorted(numbers):
             self.hints.put(Place(repository, number), is_hook=False)
         self.comparisons.begin(repository, began, numbers)
@@ -123,8 +171,8 @@ class Adapter:
         self.comparisons.answer(said.wrong, {it for it, fault in faults.items() if not is_of_network(fault)})
         for queue, since in said.since.items():
             for name in dict.fromkeys(it.forge for it in self.settings.projects_of(queue)):
-                if self.comparisons.is_late(name, since) and not self.rests.is_resting(name, now):
-                    self.rest(name, self.attempt(name, lambda it=name: self.hint_at(it)))
+                if self.comparisons.is_late(name, since) and not self.lists.is_resting(name, now):
+                    self.compare_again(name)
 
     def send(self) -> None:
         """Sends what may be sent by now. What is kept is left word of before, and what was answered behind."""
@@ -154,13 +202,15 @@ class Adapter:
         while waiting and faults < FAULTS:
             row, place = waiting.pop(0)
             name = name_of(place)
-            if self.rests.is_resting(name, now) or place in done or place.repository in untold:
+            is_early = self.rests.is_resting(name, now) or self.paces.waits(name, now)
+            if is_early or place in done or place.repository in untold:
                 continue
             done.add(place)
             fault = self.attempt(name, lambda it=place: self.looks.look(it))
             if fault is None:
                 self.comparisons.looked(place)
                 if self.hints.drop(row):
+                    self.paces.count(name, now)
                     self.later.setdefault(place, now + LAG)
                 self.send()
                 faults = 0
@@ -173,8 +223,15 @@ class Adapter:
             waiting = sorted(news + waiting, key=lambda it: self.rests.times(name_of(it[1])) > 0)
 
     def tell_people(self) -> None:
-        for change, kind in self.people.look(self.subjects.all(), time.time()).items():
+        for change, kind in self.people.look(self.subjects.all(), Moment.now()).items():
             self.subjects.written(change, kind)
+        while self.people.closed:
+            self.hints.put(self.people.closed.pop(), is_hook=False)
+
+    def show(self) -> None:
+        """Leaves for the page what it is told of requests."""
+        if self.page is not None:
+            self.page.look(self.people.said, time.time())
 
     def attempt(self, name: str, task: Callable[[], None]) -> Exception | None:
         """What went wrong, if anything did: it is told, once while it stays the same. The gate's silence is raised."""
@@ -224,12 +281,14 @@ class Adapter:
     def is_other(self) -> None:
         """The gate has another file."""
         self.comparisons.forget()
+        self.looks.looked.forget()
         self.changes.forget()
         self.compare_at = 0.0
 
     def is_earlier(self) -> None:
         """The gate was restored. What was known to it before isn't what is known if it was restored once more."""
         self.comparisons.forget()
+        self.looks.looked.forget()
         self.compare_at = 0.0
         before, known = self.outbox.get("untold"), self.changes.replies_known(self.gate.knows)
         self.outbox.put("untold", {"known": min(known, before["known"]) if before else known,
@@ -260,6 +319,30 @@ class Adapter:
             came.wait(self.settings.pause)
 
 
+def page_file(settings: AdapterSettings, forge: Forge, subjects: Subjects, people: People) -> PageFile | None:
+    """What writes for the page, if the settings name a folder for it."""
+    def order(change: int) -> int | None:
+        report = people.observer.report(change)
+        return None if report is None else report.order
+
+    if settings.page is None:
+        return None
+    return PageFile(settings.page, subjects, address_at(settings, forge), forge.mark, settings.logs, order)
+
+
+def address_at(settings: AdapterSettings, forge: Forge) -> Callable[[Place], str]:
+    """What gives the address of a request."""
+    return lambda place: f"{settings.web}/{place.repository}{forge.requests_at}{place.number}"
+
+
+def held_in(folder: Path) -> frozenset[str] | None:
+    """The queues that an operator holds; none where nobody knows."""
+    try:
+        return frozenset(held.read(folder))
+    except ValueError:
+        return None
+
+
 def name_of(place: Place) -> str:
     return f"{place.repository} {place.number}"
 
@@ -276,7 +359,8 @@ def run(settings: Settings) -> int:
         return 1
     adapter, came = Adapter(settings, FORMS[it.form](it.url, it.token, it.secret)), threading.Event()
     try:
-        hooks = Hooks((it.host, it.port), adapter.hints, adapter.forge, names_of(settings), came)
+        hooks = Hooks((it.host, it.port), adapter.hints, adapter.forge, names_of(settings), came,
+                      settings.folder / "adapter")
     except OSError as fault:
         say("adapter", f"stops: nothing can listen at {it.host}:{it.port}: {fault.strerror}")
         return 1

@@ -15,7 +15,7 @@ from dataclasses import asdict, dataclass, field
 from pathlib import Path
 from typing import Any
 
-from companions.compared import Moment
+from companions.moments import Moment
 
 # So many of each list are kept, the newest ones: people who are told later than that look at the lander's log.
 MOST = 200

@@ -10,10 +10,13 @@ import time
 import urllib.parse
 from collections.abc import Iterator, Mapping
 from dataclasses import dataclass
+from datetime import datetime
 from typing import Any
 
+from companions.connections import within
 from companions.gate import say
-from companions.rests import Rests
+from companions.rests import Hourly, Rests
+from companions.tokens import HEADER, Ending
 
 # The most bytes that an answer of a forge's API, or a hook, may have.
 LARGEST = 8 * 1024 * 1024
@@ -34,7 +37,7 @@ MOST_MOVES = 4
 
 # The kinds of calls, and by which words forges refuse for a limit where they don't name it by a header.
 KINDS = ("reading", "writing")
-LIMITS = re.compile("rate limit|abuse|too many requests", re.IGNORECASE)
+LIMITS = re.compile("rate limit|abuse|too many requests|login attempts? exceeded", re.IGNORECASE)
 
 # The most bytes of answers that are kept to be asked for again only where they have changed.
 MOST_KEPT = 64 * 1024 * 1024
@@ -55,12 +58,17 @@ class TooLarge(ForgeFault):
     """An answer is larger than any that is read. Anybody who may write a long text can bring that about."""
 
 
+class Full(ForgeFault):
+    """A commit takes no more statuses."""
+
+
 class Unread:
     """A reading of a list in which anybody may write: what can't be read of it is left out, and that is noted here.
-    `is_whole`: it comes whole, whichever page is asked for. `calls` are those of smaller pages."""
+    `is_whole`: it comes whole, whichever page is asked for. `is_hourly`: smaller pages of such lists are bounded by the
+    hour. `calls` are those of smaller pages."""
 
-    def __init__(self, is_whole: bool = False) -> None:
-        self.is_whole, self.is_any, self.calls = is_whole, False, 0
+    def __init__(self, is_whole: bool = False, is_hourly: bool = False) -> None:
+        self.is_whole, self.is_hourly, self.is_any, self.calls = is_whole, is_hourly, False, 0
 
 
 @dataclass(frozen=True)
@@ -95,15 +103,23 @@ class KeptAnswers:
 
 class Api:
     """A forge's API: JSON over HTTP, a request a connection. A forge that asks for a pause, or refuses, isn't called
-    for a while, by a clock that nobody sets; nor is a path that the account may not use."""
+    for a while, by a clock that nobody sets; nor is a path that the account may not use. Of some lists so many smaller
+    pages are asked for in an hour, if that is bounded: the forge answers so many calls to all."""
 
-    def __init__(self, url: str, headers: Mapping[str, str], timeout: float = 30.0) -> None:
+    def __init__(self, url: str, headers: Mapping[str, str], timeout: float = 30.0, smaller: int | None = None
+                 ) -> None:
         self.url, self.timeout, self.resting = urllib.parse.urlsplit(url.rstrip("/")), timeout, 0.0
         self.headers = {"Accept": "application/json", "User-Agent": "gated-adapter", **headers}
         self.kept = KeptAnswers()
         self.own: int | None = None
+        # The forge's own time of its last answer.
+        self.time: datetime | None = None
         self.told = set[str]()
+        # Where each repository is by now, by the beginnings of paths: it may have another name.
+        self.names: dict[str, str] = {}
         self.refusals = Rests(REFUSED_PAUSE, LONGEST_PAUSE)
+        self.most_smaller, self.smaller = smaller, Hourly()
+        self.ending = Ending()
 
     def call(self, method: str, path: str, said: Any = None) -> Any:
         """What the API answers; `ForgeFault` for all statuses but 2xx."""
@@ -131,6 +147,7 @@ class Api:
         kept = self.kept.of_path.get(path) if method == "GET" else None
         try:
             response, content = self.followed(method, path, said, kept)
+            self.ending.see(response.getheader(HEADER, ""))
             if response.status == 304 and kept is not None:
                 return json.loads(kept.content), kept.link
             if response.status // 100 != 2:
@@ -142,7 +159,7 @@ class Api:
             answer = Content(content, response.getheader("Link", ""), response.getheader("ETag", ""))
             if method == "GET":
                 self.kept.keep(path, answer)
-            return json.loads(content), answer.link
+            return None if response.status == 204 and method != "GET" else json.loads(content), answer.link
         except TooLong as fault:
             raise TooLarge(f"{method} {path}: {fault}") from fault
         except (OSError, http.client.HTTPException, ValueError, RecursionError) as fault:
@@ -171,11 +188,16 @@ class Api:
                  ) -> tuple[http.client.HTTPResponse, bytes]:
         """The answer, or the one at the place to which the forge refers, as where a repository has another name now:
         git goes there too. Nothing is sent to another server."""
-        where = path
+        name, where = name_in(path), path
+        if method != "GET":
+            # GitLab refers questions alone.
+            where = self.names.get(name, name) + path[len(name):]
         for _ in range(MOST_MOVES):
             response, content = self.exchange(method, where, said, kept)
             there = self.moved(response, where)
             if there is None:
+                if method == "GET" and where.endswith(path[len(name):]):
+                    self.names[name] = where[:len(where) - len(path[len(name):])]
                 return response, content
             where = there
         raise ValueError(f"refers from place to place, last to {where}")
@@ -185,14 +207,11 @@ class Api:
         if response.status not in (301, 302, 307, 308):
             return None
         there = urllib.parse.urlsplit(urllib.parse.urljoin(self.url.geturl(), response.getheader("Location", "")))
-        is_here = (there.scheme, there.netloc) == (self.url.scheme, self.url.netloc)
-        if not is_here or not there.path.startswith(self.url.path + "/"):
+        if server_of(there) != server_of(self.url) or not there.path.startswith(self.url.path + "/"):
             return None
         place, _, query = path.partition("?")
-        # This is about a repository's name.
-        beginning = "/".join(place.split("/")[:4])
-        if beginning not in self.told:
-            self.told.add(beginning)
+        if name_in(path) not in self.told:
+            self.told.add(name_in(path))
             say("adapter", f"{place} is at {there.path} now: if its repository has another name, give that to"
                            " project.forge")
         return there.path[len(self.url.path):] + (f"?{there.query or query}" if there.query or query else "")
@@ -200,15 +219,14 @@ class Api:
     def exchange(self, method: str, path: str, said: Any, kept: Content | None
                  ) -> tuple[http.client.HTTPResponse, bytes]:
         """One request, and the whole content of its answer."""
-        kind = http.client.HTTPSConnection if self.url.scheme == "https" else http.client.HTTPConnection
         body = None if said is None else json.dumps(said).encode()
         headers = {**self.headers, **({"Content-Type": "application/json"} if body is not None else {}),
                    **({"If-None-Match": kept.tag} if kept else {})}
-        connection = kind(self.url.hostname or "", self.url.port, timeout=self.timeout)
-        with contextlib.closing(connection):
+        with within(self.url, self.timeout) as connection:
             connection.request(method, self.url.path + path, body, headers)
-            response = connection.getresponse()
-            return response, content_of(response)
+            with contextlib.closing(connection.getresponse()) as response:
+                self.time = date_of(response)
+                return response, content_of(response)
 
     def pages(self, path: str, size: str, has_links: bool, unread: Unread | None = None) -> Iterator[Any]:
         """All elements of a list that comes by pages; `size` is how the API calls the number of elements on a page.
@@ -237,7 +255,7 @@ class Api:
         """A page, and whether it is the last one. `is_strict`: nothing may be left out."""
         path = f"{where}{size}&page={page}"
         if size < PAGE:
-            unread.calls += 1
+            self.count_smaller(unread)
         try:
             if unread.calls > MOST_CALLS:
                 raise TooLarge(f"GET {path}: not asked, since {MOST_CALLS} smaller pages were asked for by then")
@@ -258,6 +276,16 @@ class Api:
             self.kept.drop(path)
         return found, is_last
 
+    def count_smaller(self, unread: Unread) -> None:
+        """Counts a call of a smaller page. Where the hour's are used up, so are those of this reading."""
+        unread.calls += 1
+        if unread.is_hourly and self.most_smaller is not None:
+            now = time.monotonic()
+            if self.smaller.is_below(self.most_smaller, now):
+                self.smaller.count(now)
+            else:
+                unread.calls = MOST_CALLS + 1
+
     def parts(self, where: str, size: int, page: int, has_links: bool, unread: Unread,
               is_strict: bool) -> tuple[list[Any], bool]:
         """What is on a page, by the smaller ones in its place."""
@@ -271,6 +299,19 @@ class Api:
         return found, is_last
 
 
+def server_of(url: urllib.parse.SplitResult) -> tuple[str, str, str | None, int | None]:
+    """What two addresses of one server have in common: they may name the port that each has by itself, or not."""
+    user, _, _ = url.netloc.rpartition("@")
+    port = {"http": 80, "https": 443}.get(url.scheme) if url.port is None else url.port
+    return url.scheme, user, url.hostname, port
+
+
+def name_in(path: str) -> str:
+    """The beginning of a path that names a repository, as `/repos/OWNER/NAME` or `/projects/ID`."""
+    parts = path.partition("?")[0].split("/")
+    return "/".join(parts[:3] if parts[1] == "projects" else parts[:4])
+
+
 def kind_of(method: str) -> str:
     """What a call is, one of `KINDS`: forges limit each by itself."""
     return KINDS[method != "GET"]
@@ -278,18 +319,28 @@ def kind_of(method: str) -> str:
 
 def pause_of(response: http.client.HTTPResponse) -> float:
     """The seconds that a forge that refuses wants to be left alone: by HTTP, in seconds or as a date, or as GitHub and
-    GitLab say that what may be asked in an hour is used up."""
-    said, waits = response.getheader("Retry-After", ""), list[float]()
+    GitLab say that what may be asked in an hour is used up. A time is compared with the forge's own one."""
+    said, waits, now = response.getheader("Retry-After", ""), list[float](), time.time()
+    with contextlib.suppress(ValueError):
+        now = email.utils.parsedate_to_datetime(response.getheader("Date", "")).timestamp()
     if said.isascii() and said.isdigit():
         waits.append(float(said[:9]))
     elif said:
         with contextlib.suppress(ValueError):
-            waits.append(email.utils.parsedate_to_datetime(said).timestamp() - time.time())
+            waits.append(email.utils.parsedate_to_datetime(said).timestamp() - now)
     for name in ("X-RateLimit", "RateLimit"):
         until = response.getheader(f"{name}-Reset", "")
         if not waits and response.getheader(f"{name}-Remaining", "0") == "0" and until.isascii() and until.isdigit():
-            waits.append(float(until[:15]) - time.time())
+            waits.append(float(until[:15]) - now)
     return max(0.0, min(LONGEST_PAUSE, *waits)) if waits else 0.0
+
+
+def date_of(response: http.client.HTTPResponse) -> datetime | None:
+    """When an answer was given, by the clock of who gave it; none where that isn't said."""
+    with contextlib.suppress(ValueError):
+        at = email.utils.parsedate_to_datetime(response.getheader("Date", ""))
+        return at if at.tzinfo else None
+    return None
 
 
 class TooLong(Exception):

@@ -8,17 +8,15 @@ from __future__ import annotations
 
 import json
 import os
-import time
 from collections.abc import Mapping
 from dataclasses import asdict, dataclass, field
 from pathlib import Path
 from typing import Any
 
 from companions.gate import Gate, Order
+from companions.moments import Moment
 from companions.outbox import Notes
 from companions.settings import Settings
-
-BOOT = Path("/proc/sys/kernel/random/boot_id")
 
 
 class Waits(Exception):
@@ -30,21 +28,12 @@ class Waits(Exception):
 
 
 @dataclass(frozen=True)
-class Moment:
-    """A moment by this machine's uptime, which says nothing beyond the boot that it is of."""
-    boot: str
-    uptime: float
-
-    @staticmethod
-    def now() -> Moment:
-        return Moment(BOOT.read_text(encoding="ascii").strip(), time.clock_gettime(time.CLOCK_BOOTTIME))
-
-
-@dataclass(frozen=True)
 class Repository:
-    """How many changes of a repository have deliveries that wait, and when its last whole comparison began."""
+    """How many changes of a repository have deliveries that wait, when its last whole comparison began, and when that
+    one began in which the last request was seen that was looked at, or it was seen that none is open."""
     waiting: int
     began: Moment | None
+    looked: Moment | None = None
 
 
 @dataclass(frozen=True)
@@ -68,8 +57,7 @@ def write(file: Path, it: Compared) -> None:
     """Writes beside and renames: so nobody ever reads a half of it."""
     table = {"first": it.first, "last": it.last, "answered": dict(it.answered),
              "refuse": {str(change): why for change, why in it.refuse.items()},
-             "repositories": {name: {"waiting": one.waiting, "began": one.began and asdict(one.began)}
-                              for name, one in it.repositories.items()}}
+             "repositories": {name: asdict(one) for name, one in it.repositories.items()}}
     file.parent.mkdir(parents=True, exist_ok=True)
     new = file.with_name(file.name + ".new")
     new.write_text(json.dumps(table) + "\n", encoding="utf-8")
@@ -86,13 +74,16 @@ def read(file: Path) -> Compared | None:
 
 def compared_of(table: dict[str, Any]) -> Compared:
     repositories = {
-        str(name): Repository(int(it["waiting"]), it["began"] and
-                              Moment(str(it["began"]["boot"]), float(it["began"]["uptime"])))
+        str(name): Repository(int(it["waiting"]), moment_of(it["began"]), moment_of(it.get("looked")))
         for name, it in table["repositories"].items()}
     first, last = (it if it is None else str(it) for it in (table["first"], table["last"]))
     answered = {str(name): int(times) for name, times in table.get("answered", {}).items()}
     return Compared(first, last, repositories, {int(change): str(why) for change, why in table["refuse"].items()},
                     answered)
+
+
+def moment_of(said: Mapping[str, Any] | None) -> Moment | None:
+    return None if said is None else Moment(str(said["boot"]), float(said["uptime"]))
 
 
 @dataclass(frozen=True)

@@ -7,8 +7,9 @@ from pathlib import Path
 
 from companions import compared
 from companions.answers import Wrong
-from companions.compared import Compared, Moment, Repository
+from companions.compared import Compared, Repository
 from companions.forges import Place
+from companions.moments import Moment
 from companions.told import Changes
 
 # Why the order of a change is to be refused: by the kind of its delivery that waits for the order's answer, or since
@@ -30,6 +31,10 @@ class Comparisons:
         self.changes, self.outbox, self.repositories = changes, changes.outbox, list(dict.fromkeys(repositories))
         self.file, self.left = compared.file_in(folder), Compared(None, None, {}, {})
         self.at_work: dict[str, tuple[Moment, set[int]]] = {}
+        # The requests that couldn't be looked at in the comparison that is at work.
+        self.tried: set[Place] = set()
+        # The repositories of which something was seen in the comparison that is at work.
+        self.in_sight: set[str] = set()
         self.overdue: set[Place] = set()
         self.unseen: set[Place] = set()
         self.answered: dict[str, int] = {}
@@ -39,20 +44,33 @@ class Comparisons:
         _, missed = self.at_work.get(repository, (began, set()))
         self.overdue = {it for it in self.overdue if it.repository != repository}
         self.overdue |= {Place(repository, it) for it in missed}
-        self.at_work[repository] = began, set(numbers)
+        self.tried = {it for it in self.tried if it.repository != repository}
+        left = set(numbers)
+        self.at_work[repository] = began, left
+        if left:
+            self.in_sight.discard(repository)
+        else:
+            self.in_sight.add(repository)
         self.go_on(repository, None)
 
     def looked(self, place: Place) -> None:
         """A request was looked at, and what has to be told of it is kept."""
         self.overdue.discard(place)
         self.unseen.discard(place)
+        self.in_sight.add(place.repository)
         self.go_on(place.repository, place.number)
 
     def failed(self, place: Place, is_its_own: bool) -> None:
         """A request couldn't be looked at, for a fault of its own or of the forge."""
+        self.tried.add(place)
         if is_its_own or place in self.overdue | self.unseen:
             self.unseen.add(place)
             self.go_on(place.repository, place.number)
+
+    def is_going_on(self, repository: str) -> bool:
+        """Whether a comparison is at work that has requests at which nobody has looked yet."""
+        _, numbers = self.at_work.get(repository, (None, set()))
+        return any(Place(repository, it) not in self.tried for it in numbers)
 
     def go_on(self, repository: str, number: int | None) -> None:
         """Notes that a comparison doesn't need this request any more, and that it is whole if it needs none."""
@@ -61,6 +79,8 @@ class Comparisons:
         if began is not None and not numbers:
             del self.at_work[repository]
             self.outbox.put("compared", {**(self.outbox.get("compared") or {}), repository: asdict(began)})
+            if repository in self.in_sight:
+                self.outbox.put("looked", {**(self.outbox.get("looked") or {}), repository: asdict(began)})
 
     def is_late(self, repository: str, since: Moment) -> bool:
         """Whether a comparison is wanted that began after this moment, and none is at work."""
@@ -83,10 +103,12 @@ class Comparisons:
 
     def leave(self) -> None:
         """Leaves for the lander what is so by now."""
-        noted, began = self.outbox.get("file"), self.outbox.get("compared") or {}
+        noted = self.outbox.get("file")
+        began, looked = ({repository: Moment(**it) for repository, it in (self.outbox.get(name) or {}).items()}
+                         for name in ("compared", "looked"))
         submitting = {int(it.lane): SUBMITTING.get(it.said["kind"]) for it in self.outbox.submitting()}
         waiting, untold = self.changes.waiting(submitting), self.untold()
-        repositories = {it: Repository(waiting.get(it, 0) + (it in untold), Moment(**began[it]) if it in began else None)
+        repositories = {it: Repository(waiting.get(it, 0) + (it in untold), began.get(it), looked.get(it))
                         for it in self.repositories}
         unseen = {change: UNSEEN for place in self.unseen for change in self.changes.of_request(place).values()}
         refuse = unseen | {change: why for change, why in submitting.items() if why is not None}

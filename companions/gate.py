@@ -17,6 +17,7 @@ from collections.abc import Callable, Iterator
 from dataclasses import dataclass
 from typing import Any, TypeVar
 
+from companions.connections import connection_to
 from companions.settings import Account
 
 T = TypeVar("T")
@@ -97,16 +98,13 @@ class Gate:
 
     def request(self, method: str, path: str, body: bytes | None = None) -> tuple[int, bytes]:
         """One request over a connection of its own: the status and the whole content, or `NoAnswer`."""
-        kind = http.client.HTTPSConnection if self.url.scheme == "https" else http.client.HTTPConnection
-        connection = kind(self.url.hostname or "", self.url.port, timeout=self.timeout)
         try:
-            connection.request(method, self.url.path + path, body, self.headers)
-            response = connection.getresponse()
-            return response.status, response.read()
+            with contextlib.closing(connection_to(self.url, self.timeout)) as connection:
+                connection.request(method, self.url.path + path, body, self.headers)
+                response = connection.getresponse()
+                return response.status, response.read()
         except (OSError, http.client.HTTPException, ValueError) as fault:
             raise NoAnswer(f"{method} {path}: {fault or type(fault).__name__}") from fault
-        finally:
-            connection.close()
 
     def post(self, door: str, delivery: Delivery) -> Answer:
         """The answer to a delivery at the door `forge` or `worker`.

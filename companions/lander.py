@@ -18,6 +18,7 @@ from companions.checks import Again, Evidence, QueueStops, Refused, Revisions
 from companions.compared import Comparison, Waits
 from companions.conflicts import cause_of
 from companions.gate import Gate, NoAnswer, Order, say
+from companions.held import why_held
 from companions.ids import id_of
 from companions.landings import Landed, Note, note_name
 from companions.merging import Merge
@@ -126,6 +127,7 @@ class QueueLander:
 
     def land(self, order: Order) -> None:
         """Lands an order, if all is right outside the gate too. `Refused` where it is for this change to wait."""
+        self.check_held()
         project, repository = self.settings.projects[order.project], self.repositories[order.project]
         branch, name = f"refs/heads/{project.branch}", REVISION.format(change=order.change, revision=order.revision)
         place, note = self.branches.noted + 1, note_name(self.queue, self.branches.noted + 1)
@@ -143,6 +145,7 @@ class QueueLander:
         if why is not None:
             raise Refused(why)
         self.confirm(order)
+        self.check_held()
         self.push(order, {branch: (landed.parent, landed.commit), note: (there.get(note), made)})
         self.branches.moved(landed, made, str(self.first))
         self.tell(order, place)
@@ -170,6 +173,12 @@ class QueueLander:
             raise GitFault(f"{project.branch} of {project.name} has moved while it was to be pushed to")
         self.tries.landed()
         self.evidence.landed()
+
+    def check_held(self) -> None:
+        """`QueueStops` where an operator holds the queue."""
+        held = why_held(self.settings.folder, self.queue)
+        if held is not None:
+            raise QueueStops(held)
 
     def confirm(self, order: Order) -> None:
         """Right before an act: the gate that is there by now shows this very order."""

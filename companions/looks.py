@@ -3,17 +3,25 @@ from __future__ import annotations
 
 import re
 import time
-from collections.abc import Callable
+from collections.abc import Callable, Mapping
 from dataclasses import dataclass, replace
+from datetime import datetime
 
 from companions.answers import Wrong
-from companions.forges import Forge, Place
+from companions.api import ForgeFault
+from companions.forges import Forge, Listed, Place
 from companions.gate import Gate, say
+from companions.held import why_held
 from companions.landings import Branch, first_name
-from companions.needs import Needs, message, need_lines, needs_of
+from companions.looked import Looked
+from companions.named import NamedRequests
+from companions.needs import Known, Needs, message, need_lines, needs_of
+from companions.peeking import commit_of
 from companions.repository import REVISION, Repository
 from companions.requests import (NO_REVISION, Request, State, Telling, Told, closing, first_seen, set_aside, tellings,
                                  uncounted)
+from companions.rests import HOUR
+from companions.required import Required
 from companions.rights import Approvers, Rights
 from companions.settings import Adapter, Project, Settings
 from companions.subjects import Subjects
@@ -22,6 +30,18 @@ from companions.told import AHEAD
 HASH = re.compile(r"[0-9a-f]{40}|[0-9a-f]{64}")
 COMMITTED = re.compile(r"^committer .*> ([0-9]{1,20}) [+-][0-9]{4}$", re.MULTILINE)
 DAY = 86400
+
+
+# How a request is that another one names, with the number of its change and whether that can land.
+Stands = tuple[Known | None, tuple[int, bool] | None]
+
+
+@dataclass(frozen=True)
+class Depends:
+    """On what it depends, beside the request itself, whether it has to be looked at: on what those are that it names,
+    and on the time, where outsiders approve it. They may get the right to that, but anybody may bring that about."""
+    names: Mapping[Place, Stands | None]
+    until: float | None = None
 
 
 class Again(Exception):
@@ -44,29 +64,51 @@ class Looks:
     """Looks at requests. A request's trouble is raised, and nothing is kept then."""
 
     def __init__(self, settings: Settings, adapter: Adapter, forge: Forge, gate: Gate, subjects: Subjects) -> None:
-        self.adapter, self.forge, self.gate = adapter, forge, gate
+        self.adapter, self.forge, self.gate, self.folder = adapter, forge, gate, settings.folder
         self.subjects, self.changes = subjects, subjects.changes
         self.projects = {(it.forge, it.branch): it for it in settings.projects.values()}
         self.names = names_of(settings)
         self.repositories = {it.name: Repository(it.repository, settings.folder / "adapter" / it.name, settings.author)
                              for it in settings.projects.values()}
         self.approvers = Approvers(adapter, forge, self.changes.outbox)
+        self.required = Required(adapter.require, adapter.form, forge, self.changes.outbox)
+        # Each request is looked at once in a comparison at least, and that may take long.
+        self.looked = Looked(2 * adapter.compare)
+        self.named = NamedRequests(forge.outline, self.changes.landed_at, self.looked.longest)
+        self.depends: dict[Place, Depends] = {}
 
     def look(self, place: Place) -> None:
         """Keeps what has to be told of a request, and of changes that it no longer stands for."""
-        so, changes = self.forge.request(place), self.changes.of_request(place)
+        began = self.looked.clock()
+        try:
+            so, at = self.forge.request(place), self.forge.time()
+            fault, is_settled = self.follow(so) if so is not None else (None, False)
+        except BaseException:
+            self.looked.failed(place)
+            raise
+        self.named.note(place, so and Known(so.target, so.state))
         if so is None:
-            if changes:
+            self.looked.failed(place)
+            if self.changes.of_request(place):
                 say("adapter", f"{place.repository} {place.number}: the forge doesn't show it: nothing is told")
             return
-        project = self.projects.get((so.repository, so.target))
+        self.looked.went_well(place, began, at, is_settled)
+        if fault is not None:
+            raise fault
+
+    def follow(self, so: Request) -> tuple[ForgeFault | None, bool]:
+        """Keeps what has to be told of a request as it is. Gives the fault by which it isn't known who may approve, and
+        whether nothing is to be done before the request itself changes."""
+        place = Place(so.repository, so.number)
+        changes, project = self.changes.of_request(place), self.projects.get((so.repository, so.target))
         for branch, change in changes.items():
             if branch != so.target:
                 self.leave(so, self.projects.get((so.repository, branch)), change)
         if project is None:
             self.pass_by(so, changes)
         elif so.state is State.OPEN or so.target in changes:
-            self.compare(so, project, self.changes.number(place, so.target))
+            return self.compare(so, project, self.changes.number(place, so.target))
+        return None, True
 
     def pass_by(self, so: Request, changes: dict[str, int]) -> None:
         """Notes what is so of a request whose branch isn't gated. Its votes are of no revision, whatever comes."""
@@ -84,23 +126,30 @@ class Looks:
             with self.changes.step():
                 self.write(so, decided, {}, ())
 
-    def compare(self, so: Request, project: Project, change: int) -> None:
+    def compare(self, so: Request, project: Project, change: int) -> tuple[ForgeFault | None, bool]:
         """Keeps what has to be told of a request at its branch."""
         needs = self.needs(so) if so.state is State.OPEN else Needs((), ())
         rights = self.approvers.of(so)
-        decided = self.decide(so, self.changes.told(change), project,
-                              lambda known: self.sure_steps(so, known, needs.changes, rights))
+        told = replace(self.changes.told(change), reading=self.adapter.reading,
+                       sure=self.looked.since(Place(so.repository, so.number)))
+        decided = self.decide(so, told, project, lambda known: self.sure_steps(so, known, needs.changes, rights))
         if self.changes.first() is None:
             # Ids are made of the first delivery's, so that one is told alone.
             decided = replace(decided, steps=[it for it in decided.steps if it.kind == "revision"])
+        is_approved = any(it.kind == "approved" for it in decided.steps)
+        waits, fault = self.waits_for(so, project) if is_approved else ([], None)
+        if waits:
+            decided = replace(decided, steps=[it for it in decided.steps if it.kind != "approved"])
         revision = next((it.revision for it in decided.steps if it.kind == "revision"), None)
         is_ahead = revision is not None and self.is_ahead(so, project)
         if is_ahead:
             decided = replace(decided, steps=set_aside(decided.told, so.head))
         told, seen = decided.told, first_seen(so, decided.told, needs.changes)
         self.be_sure(so, seen)
-        if revision is not None and not is_ahead:
-            self.name(project, so.number, so.head, REVISION.format(change=change, revision=revision))
+        approved = next((it.revision for it in decided.steps if it.kind == "approved"), None)
+        if approved is not None:
+            # Nobody but those who may approve fills the forge's repository.
+            self.name(project, so.number, so.head, REVISION.format(change=change, revision=approved))
         more = {"project": project.name, "message": message(so, needs.changes, self.adapter.base)}
         with self.changes.step():
             if told.revisions or decided.steps or is_ahead:
@@ -108,10 +157,27 @@ class Looks:
                 self.subjects.see(so, change, True)
             self.write(so, decided, more, needs.changes)
             self.changes.remark(change, "need", needs.remarks)
-            self.changes.remark(change, "vote", uncounted(so, told, needs.changes, rights.may | rights.unknown))
+            may = rights.may | rights.unknown
+            uncounting = uncounted(so, told, needs.changes, may)
+            uncounting += waits
+            self.changes.remark(change, "vote", uncounting)
             self.changes.remark(change, AHEAD, [so.head] if is_ahead else [])
-        if rights.fault is not None:
-            raise rights.fault
+        is_unsure = bool(uncounting) and any(it.person in may for it in so.votes)
+        self.depends[Place(so.repository, so.number)] = Depends(
+            {it: self.stands_for(it) for it in needs.places}, self.looked.clock() + HOUR if uncounting else None)
+        is_open = bool(decided.steps) or decided.is_lacking or is_ahead or is_unsure
+        fault = rights.fault or fault
+        return fault, not is_open and fault is None and self.changes.first() is not None
+
+    def waits_for(self, so: Request, project: Project) -> tuple[list[str], ForgeFault | None]:
+        """Why an approval that holds isn't told yet, a line each, and the fault by which that isn't known."""
+        held = why_held(self.folder, project.queue)
+        if held is not None:
+            return [f"{project.queue} takes no approvals for now: {held}"], None
+        try:
+            return self.required.unmet(so), None
+        except ForgeFault as fault:
+            return ["the forge doesn't say whether its checks have passed: no approval counts before that"], fault
 
     def sure_steps(self, so: Request, told: Told, needs: tuple[int, ...], rights: Rights) -> list[Telling]:
         """What is to be told whoever of those whose right isn't known may approve. The others wait for that."""
@@ -199,8 +265,7 @@ class Looks:
 
     def be_sure(self, so: Request, seen: dict[str, int]) -> None:
         """An approval that names no commit is of what the forge shows before it and behind it."""
-        if any(it.approves and it.commit is None and seen.get(it.object, NO_REVISION) != NO_REVISION
-               for it in so.votes):
+        if any(it.approves and it.names_none and seen.get(it.object, NO_REVISION) > NO_REVISION for it in so.votes):
             if self.forge.outline(Place(so.repository, so.number)) != replace(so, votes=(), is_cut=False):
                 raise Again
 
@@ -209,8 +274,12 @@ class Looks:
         landings behind it would be dated so."""
         if not HASH.fullmatch(so.head):
             raise Trouble(f"the forge's head of it is no commit: {so.head[:80]!r}")
-        content = self.fetched(project, so.number, so.head).git("cat-file", "commit", so.head)
-        dates = COMMITTED.findall(content.partition("\n\n")[0])
+        repository, head = self.repositories[project.name], self.forge.head_ref(so.number)
+        content = (repository.content(so.head) if repository.commit(so.head) is not None else
+                   commit_of(repository, head, so.head))
+        if content is None:
+            raise Trouble(f"{head} of {repository.address} doesn't have {so.head} yet")
+        dates = COMMITTED.findall(content.partition(b"\n\n")[0].decode("utf-8", "replace"))
         return len(dates) == 1 and int(dates[0]) > time.time() + DAY
 
     def fetched(self, project: Project, request: int, commit: str) -> Repository:
@@ -230,6 +299,8 @@ class Looks:
         there = repository.ask(name).get(name)
         if there != commit and not repository.push({name: (there, commit)}):
             raise Again
+        # Its name stays here too, for as long as it may have to be set right.
+        repository.set({name: commit})
         return there
 
     def set_right(self, wrong: Wrong) -> None:
@@ -248,14 +319,39 @@ class Looks:
         project = self.projects.get(self.changes.home(change) or ("", ""))
         return frozenset(project.jobs) if project is not None and project.jobs else None
 
-    def needs(self, so: Request) -> Needs:
-        return needs_of(so, self.adapter.web, self.names, self.forge.outline, self.change_of)
+    def queue_of(self, change: int) -> str:
+        """The queue of a change, if its branch is gated."""
+        project = self.projects.get(self.changes.home(change) or ("", ""))
+        return project.queue if project is not None else ""
 
-    def change_of(self, so: Request) -> tuple[int, bool] | None:
-        if (so.repository, so.target) not in self.projects:
+    def needs(self, so: Request) -> Needs:
+        return needs_of(so, self.adapter.web, self.names, self.named.ask, self.change_of)
+
+    def change_of(self, place: Place, target: str) -> tuple[int, bool] | None:
+        if (place.repository, target) not in self.projects:
             return None
-        change = self.changes.number(Place(so.repository, so.number), so.target)
+        change = self.changes.number(place, target)
         return change, self.changes.stands(change)
+
+    def stands_for(self, place: Place) -> Stands | None:
+        """What a request is to those that name it, where that is known without a question."""
+        seen = self.named.peek(place)
+        return seen and (seen.known, seen.known and self.change_of(place, seen.known.target))
+
+    def unchanged(self, repository: str, shown: Mapping[int, Listed], began: float, at: datetime | None) -> set[int]:
+        """The requests of a repository's list that needn't be looked at: neither they have changed since a look, nor
+        what they name. The list was asked for at an uptime and had its answer at a time of the forge's."""
+        self.named.listed(repository, {number: it.target for number, it in shown.items()})
+        for place in [it for it in self.depends if it.repository == repository and it.number not in shown]:
+            del self.depends[place]
+        found = self.looked.unchanged(repository, {number: it.shown for number, it in shown.items()}, began, at)
+        return {it for it in found if self.holds(self.depends.get(Place(repository, it), Depends({})))}
+
+    def holds(self, it: Depends) -> bool:
+        """Whether all is as it was on which it depends whether a request has to be looked at."""
+        is_over = it.until is not None and self.looked.clock() >= it.until
+        return not is_over and all(known is not None and self.stands_for(place) == known
+                                   for place, known in it.names.items())
 
 
 def names_of(settings: Settings) -> dict[str, str]:

@@ -29,10 +29,19 @@ REMARKS = 9
 
 
 @dataclass(frozen=True)
+class Known:
+    """What is asked of a request that a text names: its target branch, and how it is."""
+    target: str
+    state: State
+
+
+@dataclass(frozen=True)
 class Needs:
-    """The changes that a request needs, and the lines about those that it names in vain."""
+    """The changes that a request needs, and the lines about those that it names in vain. What it needs may change with
+    the `places` that it names in gated repositories."""
     changes: tuple[int, ...]
     remarks: tuple[str, ...]
+    places: tuple[Place, ...] = ()
 
 
 def clean(text: str, most: int = 200) -> str:
@@ -56,25 +65,26 @@ def place_of(said: str, repository: str, web: str) -> Place | None:
     return Place(match[1] or repository, int(match[2])) if match else None
 
 
-def needs_of(so: Request, web: str, names: Mapping[str, str], ask: Callable[[Place], Request | None],
-             change_of: Callable[[Request], tuple[int, bool] | None]) -> Needs:
+def needs_of(so: Request, web: str, names: Mapping[str, str], ask: Callable[[Place], Known | None],
+             change_of: Callable[[Place, str], tuple[int, bool] | None]) -> Needs:
     """The needs of a request.
 
     `names` has the gated repositories' names, each by itself in small letters: the token needn't see others. `ask` asks
-    the forge for a request, which is done once for each. `change_of` gives the number of its change, and whether that
-    can land for the gate, or has; none where its branch isn't gated. A request that was merged without the gate, or
-    past it, stands in the branch and never lands for the gate: it is left out.
+    how a request is, which is done once for each. `change_of` gives the number of its change at its target branch, and
+    whether that can land for the gate, or has; none where its branch isn't gated. A request that was merged without the
+    gate, or past it, stands in the branch and never lands for the gate: it is left out.
     """
     changes: dict[int, None] = {}
     remarks: dict[str, None] = {}
-    asked: dict[Place, Request | None] = {Place(so.repository, so.number): None}
+    own = Place(so.repository, so.number)
+    asked: dict[Place, Known | None] = {own: None}
     more = 0
     for said, named_place in named(so.text, so.repository, web):
         place = in_letters(named_place, names)
         if place is not None and place not in asked and len(asked) <= MOST:
             asked[place] = ask(place) if place.repository.casefold() in names else None
         found = asked.get(place) if place is not None else None
-        change = change_of(found) if found else None
+        change = change_of(place, found.target) if place is not None and found is not None else None
         if change is not None and found is not None:
             if change[1] or found.state is not State.MERGED:
                 changes[change[0]] = None
@@ -85,7 +95,8 @@ def needs_of(so: Request, web: str, names: Mapping[str, str], ask: Callable[[Pla
         else:
             more += remark not in remarks
     counted = [f"and {more} more line{'s' if more > 1 else ''}"] if more else []
-    return Needs(tuple(changes), (*remarks, *counted))
+    places = tuple(it for it in asked if it != own and it.repository.casefold() in names)
+    return Needs(tuple(changes), (*remarks, *counted), places)
 
 
 def in_letters(place: Place | None, names: Mapping[str, str]) -> Place | None:
@@ -93,7 +104,7 @@ def in_letters(place: Place | None, names: Mapping[str, str]) -> Place | None:
     return place and Place(names.get(place.repository.casefold(), place.repository), place.number)
 
 
-def trouble(so: Request, place: Place | None, found: Request | None, is_asked: bool) -> str:
+def trouble(so: Request, place: Place | None, found: Known | None, is_asked: bool) -> str:
     """Why a line names no change."""
     if place is None:
         return "names no request of this forge"

@@ -107,8 +107,10 @@ class Words:
         """What a change conflicts with."""
         return "its branch" if cause.other is None else self.request(cause.other)
 
-    def build(self, number: int) -> str:
-        return f"[build {number}]({self.logs.replace('{build}', str(number))})" if self.logs else f"build {number}"
+    def build(self, number: int, link: str | None = None) -> str:
+        """A build with its log: the one that a CI has named, or else the one of the settings."""
+        there = link or (self.logs.replace("{build}", str(number)) if self.logs else None)
+        return f"[build {number}]({there})" if there else f"build {number}"
 
 
 @dataclass(frozen=True)
@@ -158,14 +160,16 @@ def marked_jobs(item: Item, voting: frozenset[str] | None) -> str:
 
 @dataclass(frozen=True)
 class Failure:
-    """A job that failed: by a build, or by three that were lost, as where no worker knows the job."""
+    """A job that failed: by a build, or by three that were lost, as where no worker knows the job. `links` are the logs
+    of its builds that a CI has run."""
     job: str
     builds: tuple[int, ...]
     is_lost: bool
     is_unknown: bool = False
+    links: tuple[tuple[int, str], ...] = ()
 
     def line(self, words: Words) -> str:
-        numbers = ", ".join(words.build(it) for it in self.builds)
+        numbers = ", ".join(words.build(it, dict(self.links).get(it)) for it in self.builds)
         how = ("is known to no worker" if self.is_unknown else
                "was lost each time, its workers being gone" if self.is_lost else "failed")
         return f"`{self.job}` {how}: {numbers}"
@@ -180,14 +184,17 @@ def failures_of(builds: Iterable[Mapping[str, Any]], jobs: frozenset[str] | None
     """The jobs that failed by the builds that count: docs/RULES.md ("What an item is tested on") has the rule. `jobs`
     are those that workers know, if they are known: they report builds of others as lost."""
     of_job: dict[str, dict[str, list[int]]] = {}
+    links: dict[int, str] = {}
     for it in builds:
         if it["live"]:
             of_job.setdefault(it["job"], {}).setdefault(it["outcome"], []).append(it["build"])
+            links |= {it["build"]: it["link"]} if it.get("link") else {}
     found = []
     for job, by in of_job.items():
         lost = by.get("lost", [])
         if "success" not in by and ("failure" in by or len(lost) >= 3):
             is_lost = "failure" not in by
-            found.append(Failure(job, tuple(by.get("failure") or lost), is_lost,
-                                 is_lost and jobs is not None and job not in jobs))
+            numbers = tuple(by.get("failure") or lost)
+            found.append(Failure(job, numbers, is_lost, is_lost and jobs is not None and job not in jobs,
+                                 tuple((it, links[it]) for it in numbers if it in links)))
     return found

@@ -4,17 +4,23 @@ Nothing here asks anybody. Each text is true of what is given, and says what the
 """
 from __future__ import annotations
 
+import re
 from collections.abc import Mapping, Sequence
 from typing import Any
 
 from companions.conflicts import Cause
-from companions.forges import FAILURE, PENDING, SUCCESS
+from companions.forges import APPROVES, FAILURE, PENDING, SUCCESS
 from companions.people_seen import (
     Item, Report, Seen, Subject, Text, Words, cut, failures_of, listed, marked_jobs, plain, short_jobs)
 from companions.requests import State
 
 # The kinds of texts behind which nothing more comes, unless the request is opened again.
 ENDS = ("landed", "closed")
+# And those of a request that waits for an approval.
+UNAPPROVED = ("unknown", "unapproved", "withdrawn", "needs", "refused", "failed")
+
+# A link within a comment.
+LINK = re.compile(r"\[([^\[\]]*)\]\([^()]*\)")
 
 REFUSALS = {"E13": ("it needs over 32 requests", "Name at most 32 in its `Depends-On` lines."),
             "ahead": ("it is dated more than a day ahead", "Set the clock right, make the commit anew by"
@@ -55,15 +61,30 @@ def text_of(subject: Subject, seen: Seen, words: Words) -> Text | None:
     return left(subject, here, seen, words) if here is not None else unapproved(report)
 
 
-def comment_of(subject: Subject, text: Text) -> str:
-    """A comment as it is written: what the text says, why approvals don't count, and the lines that name no request."""
-    parts = list(text.comment)
+def comment_of(subject: Subject, text: Text, more: Sequence[str] = ()) -> str:
+    """A comment as it is written."""
+    return "\n\n".join(parts_of(subject, text, more))
+
+
+def parts_of(subject: Subject, text: Text, more: Sequence[str] = ()) -> list[str]:
+    """The paragraphs of a comment: what the text says and more, why approvals don't count, the line that approves its
+    commit whatever was seen before, and the lines that name no request."""
+    parts = [*text.comment, *more]
     if subject.votes and text.kind not in ENDS:
         parts += ["These votes don't approve it:", block(subject.votes)]
+    if subject.state is State.OPEN and text.kind in UNAPPROVED:
+        parts += ["To approve this commit by a comment, write one that is this line alone:",
+                  block([f"{APPROVES} {subject.commits[-1]}"])]
     if subject.lines:
         parts += ["These lines of its text name no request that the gate takes, so nothing is waited for:",
                   block(subject.lines), "Mend them in the text of the request."]
-    return "\n\n".join(parts)
+    return parts
+
+
+def unmarked(paragraph: str) -> str:
+    """A paragraph of a comment where nobody reads Markdown. Lines of people stay as they are."""
+    return "\n".join(line if line.startswith("    ") else LINK.sub(r"\1", line).replace("**", "").replace("`", "")
+                     for line in paragraph.splitlines())
 
 
 def block(lines: Sequence[str], most: int = 10) -> str:
@@ -168,8 +189,8 @@ def earlier_stands(item: Item) -> Text:
 
 
 def queued(item: Item, seen: Seen, words: Words) -> Text:
+    """Each landing moves all behind it, so its place stands in the status alone: forges bound what may be written."""
     at, where = f"at place {item.place} of {item.items} in", f"`{item.queue}`"
-    behind = f", behind {words.request(item.ahead)}" if item.ahead is not None else ""
     jobs = f"{marked_jobs(item, seen.voting)}."
     push = "If you push a new commit, it leaves the queue and has to be approved again."
     slots = {slot for _, slot in item.slots}
@@ -188,17 +209,18 @@ def queued(item: Item, seen: Seen, words: Words) -> Text:
                      "A commit that you push now may come too late for it."))
     if not slots & {"running", "waiting"}:
         return Text("tested", PENDING, f"Tests passed, waits for those before it, {at} {item.queue}",
-                    (f"**Its tests have passed, and it waits for those before it, {at} {where}{behind}.**", jobs,
+                    (f"**Its tests have passed, and it waits in {where} for those before it.**", jobs,
                      "If one that it was tested on leaves without landing, it is tested anew. " + push))
     if slots != {"waiting"}:
         return Text("testing", PENDING, f"Testing {at} {item.queue}: {short_jobs(item)}",
-                    (f"**Being tested {at} {where}{behind}.**", jobs, push))
+                    (f"**Being tested in {where}.**", jobs, push))
     if 0 < item.window < item.place:
         tested = f"only the first {item.window} get tests" if item.window > 1 else "only the first gets tests"
         return Text("queued", PENDING, f"Queued {at} {item.queue}, of which {tested} for now",
-                    (f"**Queued {at} {where}{behind}.**", f"For now {tested}. There is nothing to do.", push))
+                    (f"**Queued in {where}.**",
+                     "For now only those nearer to the front get tests. There is nothing to do.", push))
     return Text("queued", PENDING, f"Queued {at} {item.queue}, waits for a worker",
-                (f"**Queued {at} {where}{behind}.**", "It waits for a worker. There is nothing to do.", push))
+                (f"**Queued in {where}.**", "It waits for a worker. There is nothing to do.", push))
 
 
 def blocked(item: Item, seen: Seen, words: Words) -> Text:
@@ -208,7 +230,7 @@ def blocked(item: Item, seen: Seen, words: Words) -> Text:
     fails = "fails" if len(names) < 2 else "fail"
     why = f"it needs {listed(names)}, which {fails}" if names else "what it needs fails"
     return Text("blocked", PENDING, f"Blocked {at} {item.queue}: {why}",
-                (f"**Blocked {at} `{item.queue}`: {why}.**",
+                (f"**Blocked in `{item.queue}`: {why}.**",
                  f"It is tested if {names_or_that} can pass after all. If not, it leaves the queue too."))
 
 
@@ -223,9 +245,9 @@ def failing(item: Item, seen: Seen, words: Words) -> Text:
     if seen.cause is not None:
         why = f"{unmerged(seen.cause, words)}"
         return Text("failing", PENDING, cut(f"Failing {at} {item.queue}: {why}", 120),
-                    (f"**Failing {at} `{item.queue}`: it can't be merged.**", *conflict(seen.cause, words), then))
+                    (f"**Failing in `{item.queue}`: it can't be merged.**", *conflict(seen.cause, words), then))
     return Text("failing", PENDING, f"Failing {at} {item.queue}: {listed(failed)} failed",
-                (f"**Failing {at} `{item.queue}`: {listed([f'`{it}`' for it in failed])} failed.**", told, then))
+                (f"**Failing in `{item.queue}`: {listed([f'`{it}`' for it in failed])} failed.**", told, then))
 
 
 def unmerged(cause: Cause, words: Words) -> str:

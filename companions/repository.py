@@ -128,6 +128,7 @@ class Repository:
 
     `more` is what git has in its environment besides.
     """
+    patience = float(PATIENCE)
 
     def __init__(self, address: str, mirror: Path, author: str, more: Mapping[str, str] | None = None) -> None:
         self.address, self.mirror, self.author = address, mirror, author
@@ -168,14 +169,14 @@ class Repository:
         return subprocess.CompletedProcess(ran.args, ran.returncode, ran.stdout.decode("utf-8", "replace"),
                                            ran.stderr.decode("utf-8", "replace"))
 
-    def start(self, command: list[str], environment: Mapping[str, str], given: bytes | None
+    def start(self, command: list[str], environment: Mapping[str, str], given: bytes | None, folder: Path | None = None
               ) -> subprocess.CompletedProcess[bytes]:
         try:
             return subprocess.run(command, input=given, capture_output=True, env=environment, check=False,
-                                  timeout=PATIENCE)
+                                  timeout=self.patience, cwd=folder)
         except subprocess.TimeoutExpired as fault:
             words = " ".join(it for it in command[1:] if it not in OWN)
-            raise GitFault(f"git {words}: no end within {PATIENCE} seconds") from fault
+            raise GitFault(f"git {words}: no end within {self.patience:g} seconds") from fault
 
     def begin(self) -> None:
         """Makes the mirror where there is none."""
@@ -345,7 +346,7 @@ class Repository:
         self.drop(*self.names(OUT.rstrip("/")))
         self.set({it: updates[name][1] for it, name in names.items()})
         leases = [f"--force-with-lease={name}:{old or ''}" for name, (old, _) in updates.items()]
-        is_done = self.pushed(leases, f"{OUT}*:refs/*", names)
+        is_done = self.pushed(leases, [f"{OUT}*:refs/*"], names)
         self.drop(*names)
         if is_done:
             self.set({name: new for name, (_, new) in updates.items()})
@@ -353,13 +354,29 @@ class Repository:
 
     def take_away(self, name: str, there: str) -> bool:
         """Takes a name away there. False where it isn't what it was."""
-        is_done = self.pushed(["--prune", f"--force-with-lease={name}:{there}"], f"{OUT}none/{name}*:{name}*", {})
+        options = ["--prune", f"--force-with-lease={name}:{there}"]
+        is_done = self.pushed(options, [f"{OUT}none/{name}*:{name}*"], {})
         self.drop(*(it for it in self.here(name)))
         return is_done
 
-    def pushed(self, options: list[str], what: str, names: Mapping[str, str]) -> bool:
+    def remove(self, *names: str) -> None:
+        """Takes names away there, whatever they stand for by now; `Declined` where the server refuses that. One that
+        isn't there is no fault. They are named by patterns that begin in the last part of a name, since numbers stand
+        at its end: 1 begins 12 too."""
+        if names:
+            parts = (it.rpartition("/") for it in names)
+            self.pushed(["--prune"], [f"{OUT}none/*{last}:{folder}/*{last}" for folder, _, last in parts], {})
+            self.drop(*self.here(*names))
+
+    def clean(self) -> None:
+        """Removes all objects here that no name leads to."""
+        self.git("repack", "-a", "-d", "--quiet")
+        self.git("prune", "--expire=now")
+
+    def pushed(self, options: list[str], what: list[str], names: Mapping[str, str]) -> bool:
         """Whether a push was done; false where something there isn't what it was."""
-        ran = self.run("push", "--quiet", "--porcelain", "--atomic", "--no-follow-tags", *options, self.address, what)
+        words = ("push", "--quiet", "--porcelain", "--atomic", "--no-follow-tags")
+        ran = self.run(*words, *options, self.address, *what)
         if ran.returncode == 0:
             return True
         if any("stale info" in line or "fetch first" in line for line in ran.stdout.splitlines()):
@@ -368,5 +385,5 @@ class Repository:
         for it, name in names.items():
             said = said.replace(f"{it}:{name}", name)
         said = f"git push {self.address}: {said} {ran.stderr.strip()}"
-        words = words_of(ran.stdout, ran.stderr)
-        raise GitFault(said) if words is None else Declined(said, words)
+        cause = words_of(ran.stdout, ran.stderr)
+        raise GitFault(said) if cause is None else Declined(said, cause)

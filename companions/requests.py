@@ -7,9 +7,11 @@ from __future__ import annotations
 import enum
 from collections.abc import Iterable
 from dataclasses import dataclass, field
+from datetime import datetime, timedelta
 
-# In the place of a revision: a vote that is of none, since nobody knows which commit, or which branch, it was made for.
-NO_REVISION = 0
+# In the place of a revision: a vote that is of none, since nobody knows which commit, or which branch, it was made for;
+# and one of which nobody knows that since it was first seen behind a gap in looking, or not all could be read then.
+NO_REVISION, BEHIND_GAP = 0, -1
 
 # The commit of a review that the forge doesn't name any more, as once it is gone from there.
 GONE = ""
@@ -29,20 +31,31 @@ class Vote:
     `approves` is none for one that was dismissed, or that takes an approval back: from then on it says nothing, and
     neither do the person's earlier ones.
     `commit` is the one that it was made for, or none where the forge never says, or `GONE` where it no longer does.
-    `flaw` is why what is meant as a vote is none, where it is none. `account` is the number of the person's account.
+    `flaw` is why what is meant as a vote is none, where it is none. `said` is when it was made, by the forge's time,
+    where it is a comment that names no commit. `account` is the number of the person's account. `is_unplaced`: not all
+    that was done to the request can be read, so it may have had another target branch, or another head.
     """
     object: str
     person: str
     approves: bool | None
     commit: str | None
     flaw: str | None = None
+    said: datetime | None = None
     account: int | None = field(default=None, compare=False)
+    is_unplaced: bool = field(default=False, compare=False)
+
+    @property
+    def names_none(self) -> bool:
+        """Whether its person names no commit, so that it may be meant for another one than the request has."""
+        return self.commit is None or self.said is not None
 
 
 @dataclass(frozen=True)
 class Request:
     """A pull or merge request as it is now. `votes` are those that the forge shows, the oldest first. One that is a
-    draft isn't to land. `is_cut`: there are comments that are too long to be read, so nobody knows what they say."""
+    draft isn't to land. `is_cut`: there are comments that are too long to be read, so nobody knows what they say.
+    `moved` is when its head was pushed last, as far as the forge lists pushes; it is asked if somebody approves it.
+    `author` is the login of who opened it, or empty where the forge names nobody."""
     repository: str
     number: int
     state: State
@@ -53,6 +66,8 @@ class Request:
     votes: tuple[Vote, ...] = ()
     is_draft: bool = False
     is_cut: bool = False
+    moved: datetime | None = field(default=None, compare=False)
+    author: str = field(default="", compare=False)
 
 
 @dataclass(frozen=True)
@@ -71,7 +86,9 @@ class Told:
     its revision, and `withdrawals` those of them that were taken back. `seen` are all votes that were seen, each with
     the revision at which that was first, and `commits` the commits that they named then. `again`: the last revision was
     told under an id that isn't made of its commit, by which nobody can check that commit, so it is told once more as
-    the next one.
+    the next one. `shown` is when people were first told of the last revision, by the forge's time: so many seconds
+    behind that, `reading`, a person may have read it. `sure` is since when the request was looked at without a gap, by
+    the forge's time; none where the look of now is behind one.
     """
     change: int
     revisions: tuple[Revision, ...] = ()
@@ -83,6 +100,9 @@ class Told:
     seen: dict[str, int] = field(default_factory=dict)
     commits: dict[str, str] = field(default_factory=dict)
     again: bool = False
+    shown: datetime | None = None
+    reading: float = 60.0
+    sure: datetime | None = None
 
 
 @dataclass(frozen=True)
@@ -131,20 +151,35 @@ def revision_of(so: Request, told: Told, needs: tuple[int, ...]) -> int:
     """The revision that an open request is at: the last that was told, or the next one."""
     last = len(told.revisions)
     is_new = not last or told.closed or told.again or told.revisions[-1] != Revision(so.head, needs)
-    return last + 1 if is_new else last
+    return last + 1 if is_new or was_away(so, told) else last
+
+
+def was_away(so: Request, told: Told) -> bool:
+    """Whether the head has moved since people were told of it, so it was another one in between: what was said
+    meanwhile may be of that one. The forge's time may be in whole seconds."""
+    return so.moved is not None and told.shown is not None and so.moved.replace(microsecond=0) > told.shown
 
 
 def first_seen(so: Request, told: Told, needs: tuple[int, ...]) -> dict[str, int]:
     """The votes that weren't seen before, each with the revision that it is of.
 
-    A vote without a commit that is first seen together with a new revision may be older than that, and then nobody has
-    looked at what it would approve: it is of no revision. Whoever gives it again approves what is known by then.
+    A vote that names no commit and is first seen together with a new revision may be older than that, and then nobody
+    has looked at what it would approve: it is of no revision. So is one that is first seen behind a gap, or was made so
+    soon behind it that its person may have read what the request had in the gap. Whoever gives it again approves what
+    is known by then.
     """
     last = len(told.revisions)
     revision = revision_of(so, told, needs) if so.state is State.OPEN else last
     is_unsure = so.state is not State.OPEN or revision > last
-    return {it.object: NO_REVISION if is_unsure and it.commit is None else revision
-            for it in so.votes if it.flaw is None and it.object not in told.seen}
+
+    def first_of(vote: Vote) -> int:
+        if vote.is_unplaced:
+            return BEHIND_GAP
+        if not vote.names_none:
+            return revision
+        return NO_REVISION if is_unsure else revision if is_read(vote, told.sure, told.reading) else BEHIND_GAP
+
+    return {it.object: first_of(it) for it in so.votes if it.flaw is None and it.object not in told.seen}
 
 
 def votes(so: Request, told: Told, revision: int, new_ones: dict[str, int],
@@ -187,11 +222,16 @@ def standing(votes_of_all: Iterable[Vote]) -> tuple[list[Vote], list[Vote]]:
 def counts(vote: Vote, so: Request, told: Told, revision: int, new_ones: dict[str, int]) -> bool:
     """Whether a vote approves this revision, and wasn't told of this one or another."""
     seen = told.seen.get(vote.object, new_ones.get(vote.object, NO_REVISION))
-    if vote.object in told.approvals or seen == NO_REVISION:
+    if vote.object in told.approvals or seen in (NO_REVISION, BEHIND_GAP):
         return False
-    if vote.commit is None:
-        return seen == revision
-    return (vote.commit or told.commits.get(vote.object)) == so.head
+    if vote.names_none and (seen != revision or not is_read(vote, told.shown, told.reading)):
+        return False
+    return vote.commit is None or (vote.commit or told.commits.get(vote.object)) == so.head
+
+
+def is_read(vote: Vote, since: datetime | None, reading: float) -> bool:
+    """Whether a comment was made so long behind a time that its person may have read what was there then."""
+    return vote.said is not None and since is not None and vote.said >= since + timedelta(seconds=reading)
 
 
 def uncounted(so: Request, told: Told, needs: tuple[int, ...], may_approve: frozenset[str]) -> list[str]:
@@ -224,5 +264,21 @@ def why_not(vote: Vote, so: Request, told: Told, revision: int, new_ones: dict[s
         return None
     if vote.commit == GONE:
         return "approved a commit that the forge no longer names"
-    return ("approved an earlier commit" if vote.commit not in (None, so.head) else
-            "approved before the gate knew this revision at this branch")
+    if vote.commit not in (None, so.head):
+        return "approved another commit than that of now"
+    seen = told.seen.get(vote.object, new_ones.get(vote.object, NO_REVISION))
+    if seen == BEHIND_GAP and not vote.said:
+        return "approved, while not all that was done to this request could be read"
+    return why_unsure(vote, told, seen, revision)
+
+
+def why_unsure(vote: Vote, told: Told, seen: int, revision: int) -> str:
+    """Why nobody knows that a vote is of this revision that names no commit, given the one at which it was first
+    seen."""
+    if seen not in (revision, BEHIND_GAP):
+        return "approved before the gate knew this revision at this branch"
+    if told.shown is None:
+        return "approved before the gate has told of this commit, and named none"
+    if not is_read(vote, told.shown, told.reading):
+        return f"approved within {told.reading:g} seconds of the gate's word of this commit, and named none"
+    return "approved while the gate couldn't look at this request, or soon behind that, and named no commit"

@@ -11,6 +11,8 @@ from companions.outbox import Notes
 from companions.requests import Request
 from companions.settings import Adapter
 
+# Behind so many answers, those that hold no more are forgotten: anybody may vote.
+MANY = 1000
 # The note that has the numbers of the approvers' accounts, by their logins in small letters.
 ACCOUNTS = "accounts"
 
@@ -39,7 +41,8 @@ class Approvers:
             notes.put(ACCOUNTS, self.accounts)
         self.without = set[str]()
         self.others: dict[str, int] = {}
-        self.writers: dict[tuple[str, str], tuple[bool, float]] = {}
+        # Which account may write to which repository by its login, and until when that holds.
+        self.writers: dict[tuple[str, str, int | None], tuple[bool, float]] = {}
 
     @property
     def is_known(self) -> bool:
@@ -89,8 +92,11 @@ class Approvers:
         """Those who may write to the repository. The forge is asked about a person as often as all requests are
         compared. What it doesn't answer holds up no more than the approvals that wait for it."""
         now, may, unknown, fault = time.monotonic(), set[str](), set[str](), None
-        for person in sorted({it.person for it in so.votes if it.approves is not None and it.flaw is None}):
-            known = self.writers.get((so.repository, person))
+        if len(self.writers) > MANY:
+            self.writers = {it: known for it, known in self.writers.items() if known[1] > now}
+        voting = {it.person: it.account for it in so.votes if it.approves is not None and it.flaw is None}
+        for person, account in sorted(voting.items()):
+            known = self.writers.get((so.repository, person, account))
             if known is None or known[1] <= now:
                 try:
                     known = self.forge.may_write(so.repository, person), now + self.adapter.compare
@@ -98,7 +104,7 @@ class Approvers:
                     unknown.add(person)
                     fault = said
                     continue
-                self.writers[so.repository, person] = known
+                self.writers[so.repository, person, account] = known
             if known[0]:
                 may.add(person)
         return Rights(frozenset(may), frozenset(unknown), fault)

@@ -4,22 +4,26 @@ docs/CONNECTING.md ("The settings of the companions") has its members.
 """
 from __future__ import annotations
 
-import os
 import re
 import tomllib
 from dataclasses import dataclass, field
 from pathlib import Path
-from typing import Any
 
+from companions.ci_settings import OWN, Ci, ci_of, status_of
+from companions.reader import Reader, SettingsFault
+from companions.watch_settings import Hearing, hearing_of
 
 # How old a comparison of the adapter may be, by which something lands, and how often what the forge refuses is tried.
 BLIND, TRIES = 900.0, 5
+# How long a build may run beyond its limit, and a worker keeps one while its machine is at fault.
+GRACE = 300.0
+# How long a person reads a commit at least, and for how many days the commits of a closed request are kept.
+READING, KEEP = 60.0, 30.0
 # The bytes that jobs leave free on a worker's disk, those that one may write, and those of its log.
 FREE, SPACE, LOG_LIMIT = 1024 ** 3, 20 * 1024 ** 3, 64 * 1024 ** 2
-
-
-class SettingsFault(Exception):
-    """A fault of the settings, told with the file and the member that has it."""
+# The exit statuses of a command by which its build is lost: EX_TEMPFAIL, and those of an end by SIGHUP, SIGINT, SIGKILL
+# or SIGTERM, which somebody outside the job sends, as an operator or the kernel that needs memory.
+LOST = frozenset({75, 129, 130, 137, 143})
 
 
 @dataclass(frozen=True)
@@ -31,10 +35,11 @@ class Account:
 
 @dataclass(frozen=True)
 class Job:
-    """A job of a project: the command that runs it, and how long it may take, in seconds.
+    """A job of a project: the command that runs it, and how long it may take, in seconds. With a `status` in its place
+    a CI runs it, which says by a status of this name how it ended.
 
     Its sandbox has the folders `read` and `write` of the machine besides, and the machine's network with `network`. Its
-    log has `log_limit` bytes.
+    log has `log_limit` bytes. It is lost where the command ends with one of the statuses `lost`.
     """
     name: str
     command: str
@@ -43,6 +48,8 @@ class Job:
     write: tuple[Path, ...] = ()
     network: bool = False
     log_limit: int = LOG_LIMIT
+    lost: frozenset[int] = LOST
+    status: str | None = None
 
 
 @dataclass(frozen=True)
@@ -68,7 +75,11 @@ class Adapter:
 
     `approvers` are the persons whose approvals count, or none where all do who may write to the repository. People are
     told by a look at the gate every `look`, and of mere progress every `quiet`; `logs` is the address of a build's log,
-    with `{build}` in it. Nothing lands by a comparison that is older than `blind`.
+    with `{build}` in it. Nothing lands by a comparison that is older than `blind`. `copies` is the folder of the copies
+    of its tables, and `page` that of what the page for people is told. Whoever approves by a comment that names no
+    commit has read what it is for `reading` seconds behind the gate's word of it. The commits of a request that was
+    closed without landing are kept for `keep` days. The command `tell` is run for what leaves a queue without landing.
+    Approvals are told once the request's own checks of the names `require` have passed.
     """
     form: str
     url: str
@@ -84,6 +95,12 @@ class Adapter:
     quiet: float
     logs: str | None
     blind: float = BLIND
+    copies: Path | None = None
+    page: Path | None = None
+    reading: float = READING
+    keep: float = KEEP
+    tell: str | None = None
+    require: tuple[str, ...] = ()
 
 
 @dataclass(frozen=True)
@@ -92,7 +109,9 @@ class Settings:
 
     `has_adapter`: the lander lands only what an adapter has compared. `tries` is how often it tries what is refused.
     `file` is where they were read, which no job may read. Without `sandbox` jobs run as the worker does. A job is
-    killed once less than `free` bytes are left, and is at fault where it has written more than `space`.
+    killed once less than `free` bytes are left, and is at fault where it has written more than `space`. A worker whose
+    machine is at fault keeps its build for `patience`. Logs of builds are in `logs`, or with each worker. Files of trees are had by these `filters` of git. A watch
+    without `hearing` hears no workers.
     """
     url: str
     accounts: dict[str, Account]
@@ -111,6 +130,11 @@ class Settings:
     sandbox: bool = True
     free: int = FREE
     space: int = SPACE
+    patience: float = GRACE
+    logs: Path | None = None
+    filters: frozenset[str] = frozenset()
+    ci: Ci = Ci()
+    hearing: Hearing | None = None
 
     @property
     def blind(self) -> float:
@@ -126,96 +150,36 @@ class Settings:
         return [it for it in self.projects.values() if it.queue == queue]
 
     def limit_of(self, queue: str, job: str) -> float | None:
-        """The longest that a job of this name may take in a queue, or none where no project of it has the job."""
-        return max((it.jobs[job].limit for it in self.projects_of(queue) if job in it.jobs), default=None)
+        """The longest that a job of this name may take in a queue, or none where no project of it has the job. A CI has
+        to begin one besides."""
+        found = [it.jobs[job] for it in self.projects_of(queue) if job in it.jobs]
+        return max((it.limit + (self.ci.begins if it.status else 0.0) for it in found), default=None)
+
+    def of_ci(self) -> list[str]:
+        """The projects with jobs that a CI runs."""
+        return [it.name for it in self.projects.values() if any(job.status for job in it.jobs.values())]
+
+    def lacking(self, queue: str, project: str, job: str) -> str | None:
+        """What has to be added so that a build of this queue can be run, or none. Without a project that of its change
+        isn't known yet, and without a job its job doesn't matter yet."""
+        projects = {it.name: it for it in self.projects_of(queue)}
+        if not projects:
+            return f"no project of the queue {queue} is in companions.toml: add each by [[project]]"
+        if project and project not in projects:
+            return (f"the gate has the change in project {project}: add its [[project]] with the queue {queue} to"
+                    " companions.toml")
+        if job and job not in projects[project].jobs:
+            return f"project {project} has no job {job}: add its [[project.job]] to companions.toml"
+        if job and projects[project].jobs[job].status:
+            return f"job {job} of project {project} is a CI's: companions.ci runs it, and no worker"
+        return None
 
 
 AUTHOR = re.compile(r"[^<>\x00-\x20\x7f](?:[^<>\x00-\x1f\x7f]*[^<>\x00-\x20\x7f])? <[^<>\x00-\x20\x7f]+>")
 PASSWORD = re.compile(r"[a-z][a-z0-9+.-]*://[^/?#@]*:[^/?#]*@", re.IGNORECASE)
+FILTERS = frozenset({"lfs"})
 ROLES = ("forge", "worker", "people", "standby")
 FORMS = ("gitea", "github", "gitlab")
-KINDS = {str: "a text", bool: "true or false", int: "a whole number", float: "a number", dict: "a table",
-         list: "an array of tables"}
-
-
-class Reader:
-    """Reads a table, and tells what is wrong with it by the file and the member's whole name."""
-
-    def __init__(self, file: Path, where: str, table: dict[str, Any]) -> None:
-        self.file, self.where, self.table, self.read = file, where, table, set[str]()
-
-    def fault(self, member: str, what: str) -> SettingsFault:
-        return SettingsFault(f"{self.file}: {self.where}{member}: {what}")
-
-    def get(self, member: str, kind: type, default: Any = None) -> Any:
-        """A member, which has to be there where there is no default."""
-        self.read.add(member)
-        if member not in self.table:
-            if default is None:
-                raise self.fault(member, "is missing")
-            return default
-        value = self.table[member]
-        if kind is float and type(value) is int:
-            value = float(value)
-        if type(value) is not kind or kind is list and not all(type(it) is dict for it in value):
-            raise self.fault(member, f"isn't {KINDS[kind]}")
-        return value
-
-    def text(self, member: str, default: str | None = None) -> str:
-        value = self.get(member, str, default)
-        if not value:
-            raise self.fault(member, "is empty")
-        return value
-
-    def address(self, member: str) -> str:
-        """An address over HTTP, without a slash at its end."""
-        value = self.text(member).rstrip("/")
-        if not value.startswith(("http://", "https://")):
-            raise self.fault(member, "begins neither with http:// nor with https://")
-        return value
-
-    def names(self, member: str) -> frozenset[str] | None:
-        """An array of texts, or none where it isn't there."""
-        self.read.add(member)
-        value = self.table.get(member)
-        if value is None:
-            return None
-        if type(value) is not list or not all(type(it) is str and it for it in value):
-            raise self.fault(member, "isn't an array of texts")
-        return frozenset(value)
-
-    def folders(self, member: str) -> tuple[Path, ...]:
-        """An array of folders by their whole names, in the order of the names."""
-        named = sorted(self.names(member) or ())
-        for it in named:
-            if not it.startswith("/") or os.path.realpath(it) == "/":
-                raise self.fault(member, f"{it} isn't the whole name of a folder below /")
-        return tuple(Path(it) for it in named)
-
-    def seconds(self, member: str, default: float | None = None) -> float:
-        value = self.get(member, float, default)
-        if not 0 < value < float("inf"):
-            raise self.fault(member, "isn't above 0")
-        return value
-
-    def count(self, member: str, default: int) -> int:
-        value: int = self.get(member, int, default)
-        if value < 1:
-            raise self.fault(member, "isn't above 0")
-        return value
-
-    def inner(self, member: str) -> Reader:
-        return Reader(self.file, f"{self.where}{member}.", self.get(member, dict, {}))
-
-    def each(self, member: str) -> list[Reader]:
-        rows = self.get(member, list, [])
-        return [Reader(self.file, f"{self.where}{member}[{at}].", row) for at, row in enumerate(rows)]
-
-    def end(self) -> None:
-        """Nothing stands in the table that nobody reads, as a mistyped member."""
-        for member in self.table:
-            if member not in self.read:
-                raise self.fault(member, "isn't known")
 
 
 def read(file: Path) -> Settings:
@@ -228,14 +192,19 @@ def read(file: Path) -> Settings:
         raise SettingsFault(f"{file}: no TOML: {fault}") from fault
     top = Reader(file, "", table)
     gate, lander, worker, watch = (top.inner(it) for it in ("gate", "lander", "worker", "watch"))
+    grace, look = watch.seconds("grace", GRACE), worker.seconds("look", 10.0)
+    adapter = adapter_of(top)
     settings = Settings(
         url=gate.address("url"), accounts=accounts_of(gate), folder=Path(top.text("folder")), projects=projects_of(top),
-        pause=gate.seconds("pause", 1.0), look=worker.seconds("look", 10.0), grace=watch.seconds("grace", 300.0),
+        pause=gate.seconds("pause", 1.0), look=look, grace=grace,
         stands=watch.seconds("stands", 3600.0), author=author_of(lander),
-        adapter=adapter_of(top), has_adapter=lander.get("adapter", bool, True), tries=lander.count("tries", TRIES),
+        adapter=adapter, has_adapter=lander.get("adapter", bool, True), tries=lander.count("tries", TRIES),
         figures=Path(watch.text("figures", str(Path(top.text("folder")) / "watch"))),
         file=file.resolve(), sandbox=worker.get("sandbox", bool, True),
-        free=worker.count("free", FREE), space=worker.count("space", SPACE))
+        free=worker.count("free", FREE), space=worker.count("space", SPACE),
+        patience=worker.seconds("patience", grace),
+        logs=Path(worker.text("logs")) if "logs" in worker.table else None, filters=filters_of(worker),
+        ci=ci_of(top, adapter, FORMS), hearing=hearing_of(watch, look))
     keep_secret(top, settings)
     for it in (top, gate, lander, worker, watch):
         it.end()
@@ -244,14 +213,23 @@ def read(file: Path) -> Settings:
 
 def keep_secret(top: Reader, settings: Settings) -> None:
     """No job is given a folder that has the settings in it, or what the companions keep, or is one of theirs."""
-    folder = settings.folder.resolve()
+    folders = [it.resolve() for it in (settings.folder, settings.logs) if it is not None]
+    above = {*settings.file.parents, *folders, *(above for it in folders for above in it.parents)}
     for project in settings.projects.values():
         for job in project.jobs.values():
             for it in (*job.read, *job.write):
                 real = it.resolve()
-                if real in (folder, *folder.parents, *settings.file.parents) or folder in real.parents:
+                if real in above or any(folder in real.parents for folder in folders):
                     raise top.fault("project", f"{project.name}, job {job.name}: {it} has the settings or the folder "
                                                "of the companions in it, or is in that folder: no job may have it")
+
+
+def filters_of(worker: Reader) -> frozenset[str]:
+    """The filters of git by which a tree's files are had."""
+    named = worker.names("filters") or frozenset()
+    for it in sorted(named - FILTERS):
+        raise worker.fault("filters", f"{it} is none of {', '.join(sorted(FILTERS))}")
+    return named
 
 
 def author_of(lander: Reader) -> str:
@@ -267,20 +245,25 @@ def adapter_of(top: Reader) -> Adapter | None:
     table = top.inner("adapter")
     if not table.table:
         return None
-    form, listen = table.text("form"), table.text("listen", "127.0.0.1:8090")
+    form = table.text("form")
     if form not in FORMS:
         raise table.fault("form", f"is none of {', '.join(FORMS)}")
-    host, _, port = listen.rpartition(":")
-    if not host or not (port.isascii() and port.isdigit()) or int(port) > 65535:
-        raise table.fault("listen", "isn't a host and a port, as 127.0.0.1:8090")
+    host, port = table.place("listen", "127.0.0.1:8090")
     compare = table.seconds("compare", 300.0)
     adapter = Adapter(form, table.address("url"), table.address("web"), table.text("token"), table.text("secret"),
-                      table.text("base"), host, int(port), table.names("approvers"), compare,
+                      table.text("base"), host, port, table.names("approvers"), compare,
                       table.seconds("look", 5.0), table.seconds("quiet", 60.0),
                       table.address("logs") if "logs" in table.table else None,
-                      table.seconds("blind", max(BLIND, 3 * compare)))
+                      table.seconds("blind", max(BLIND, 3 * compare)),
+                      *(Path(table.text(it)) if it in table.table else None for it in ("copies", "page")),
+                      table.seconds("reading", READING), table.seconds("keep", KEEP),
+                      table.text("tell") if "tell" in table.table else None,
+                      tuple(sorted(table.names("require") or ())))
     if adapter.blind <= compare:
         raise table.fault("blind", "isn't above adapter.compare")
+    for it in adapter.require:
+        if it == OWN:
+            raise table.fault("require", f"{it} is the gate's own status, which waits for the approval")
     if adapter.logs is not None and "{build}" not in adapter.logs:
         raise table.fault("logs", "has no {build}")
     table.end()
@@ -334,11 +317,14 @@ def repository_of(project: Reader) -> str:
 def jobs_of(project: Reader) -> dict[str, Job]:
     jobs: dict[str, Job] = {}
     for it in project.each("job"):
-        job = Job(it.text("name"), it.text("command"), it.seconds("limit", 3600.0), it.folders("read"),
-                  it.folders("write"), it.get("network", bool, False),
-                  it.count("log_limit", LOG_LIMIT))
+        status = status_of(it)
+        job = Job(it.text("name"), "" if status else it.text("command"), it.seconds("limit", 3600.0),
+                  it.folders("read"), it.folders("write"), it.get("network", bool, False),
+                  it.count("log_limit", LOG_LIMIT), it.statuses("lost", LOST), status)
         if job.name in jobs:
             raise it.fault("name", f"{job.name} stands twice")
+        if status and any(other.status == status for other in jobs.values()):
+            raise it.fault("status", f"{status} is another job's")
         it.end()
         jobs[job.name] = job
     return jobs

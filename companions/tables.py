@@ -14,7 +14,14 @@ from pathlib import Path
 # the same tables. A statement that is about a table stands behind its name, and is left out where the file has none.
 Step = Sequence[tuple[str, str]]
 STEPS: list[Step] = [(), (("hint", "ALTER TABLE hint ADD COLUMN is_hook INTEGER DEFAULT 1"),),
-                     (("vote", "ALTER TABLE vote ADD COLUMN hash TEXT"),)]
+                     (("vote", "ALTER TABLE vote ADD COLUMN hash TEXT"),),
+                     (("revision", "ALTER TABLE revision ADD COLUMN shown TEXT"),),
+                     (("change", "ALTER TABLE change ADD COLUMN left_at REAL"),
+                      ("change", "ALTER TABLE change ADD COLUMN dropped INTEGER DEFAULT 0")),
+                     (("request", "ALTER TABLE request ADD COLUMN title TEXT DEFAULT ''"),
+                      ("request", "ALTER TABLE request ADD COLUMN author TEXT DEFAULT ''"),
+                      ("request", "ALTER TABLE request ADD COLUMN said TEXT DEFAULT '[]'"),
+                      ("request", "ALTER TABLE request ADD COLUMN ended REAL"))]
 
 
 class OtherVersion(sqlite3.DatabaseError):

@@ -10,6 +10,7 @@ import json
 from collections import Counter
 from collections.abc import Callable, Container, Iterable, Sequence
 from contextlib import AbstractContextManager
+from datetime import datetime
 
 from companions.forges import Place
 from companions.gate import Delivery
@@ -18,15 +19,17 @@ from companions.outbox import Kept, Outbox
 from companions.requests import NO_REVISION, Request, Revision, Telling, Told
 from companions.tables import add, at_once
 
-# A change has a row once its request is known or named. `told` says whether the gate's present file was told of it.
+# A change has a row once its request is known or named. `told` says whether the gate's present file was told of it,
+# `left_at` since when it is closed without having landed, and `dropped` whether its commits are gone for that.
 # A vote has the change and the revision at which it was first seen, those that it was told of, once it was, and the
-# commit that it named at first.
+# commit that it named at first. A revision has the forge's time at which people were first told of it.
 # Replies are counted: a telling has the number of its own, and how many there were when it was kept.
 TABLES = """
 CREATE TABLE IF NOT EXISTS change(number INTEGER PRIMARY KEY, repository TEXT, request INTEGER, branch TEXT,
-    closed INTEGER DEFAULT 0, landed INTEGER DEFAULT 0, told INTEGER DEFAULT 0, UNIQUE(repository, request, branch));
+    closed INTEGER DEFAULT 0, landed INTEGER DEFAULT 0, told INTEGER DEFAULT 0, left_at REAL,
+    dropped INTEGER DEFAULT 0, UNIQUE(repository, request, branch));
 CREATE INDEX IF NOT EXISTS change_open ON change(repository, request) WHERE told AND NOT closed AND NOT landed;
-CREATE TABLE IF NOT EXISTS revision(change INTEGER, number INTEGER, hash TEXT, needs TEXT,
+CREATE TABLE IF NOT EXISTS revision(change INTEGER, number INTEGER, hash TEXT, needs TEXT, shown TEXT,
     PRIMARY KEY(change, number));
 CREATE TABLE IF NOT EXISTS vote(repository TEXT, request INTEGER, object TEXT, change INTEGER, revision INTEGER,
     told_change INTEGER, told_revision INTEGER, taken_back INTEGER DEFAULT 0, hash TEXT,
@@ -82,8 +85,10 @@ class Changes:
         """What was told of a change."""
         repository, request, closed, landed = self.tables.execute(
             "SELECT repository, request, closed, landed FROM change WHERE number = ?", (change,)).fetchone()
-        rows = self.tables.execute("SELECT hash, needs FROM revision WHERE change = ? ORDER BY number", (change,))
-        revisions = tuple(Revision(commit, tuple(json.loads(needs))) for commit, needs in rows)
+        rows = self.tables.execute("SELECT hash, needs, shown FROM revision WHERE change = ? ORDER BY number",
+                                   (change,)).fetchall()
+        revisions = tuple(Revision(commit, tuple(json.loads(needs))) for commit, needs, _ in rows)
+        shown = rows[-1][2] if rows else None
         approvals, seen, withdrawals, commits = {}, {}, set(), {}
         for row in self.tables.execute("SELECT object, change, revision, told_change, told_revision, taken_back, hash"
                                        " FROM vote WHERE repository = ? AND request = ?", (repository, request)):
@@ -97,7 +102,12 @@ class Changes:
             if commit:
                 commits[name] = commit
         return Told(change, revisions, bool(closed), bool(landed), False, approvals, frozenset(withdrawals), seen,
-                    commits, self.is_unsure(change, revisions))
+                    commits, self.is_unsure(change, revisions), datetime.fromisoformat(shown) if shown else None)
+
+    def show(self, change: int, revision: int, at: datetime) -> None:
+        """Notes that people were told of a revision, and when by the forge's time. The first time stays."""
+        self.tables.execute("UPDATE revision SET shown = ? WHERE change = ? AND number = ? AND shown IS NULL",
+                            (at.isoformat(), change, revision))
 
     def revision(self, change: int, revision: int) -> str | None:
         """The commit of a revision that was told."""
@@ -137,7 +147,7 @@ class Changes:
             said: Delivery = {"kind": it.kind, "change": change, "revision": it.revision}
             if it.kind == "revision":
                 said |= more
-                self.tables.execute("INSERT INTO revision VALUES (?, ?, ?, ?)",
+                self.tables.execute("INSERT INTO revision(change, number, hash, needs) VALUES (?, ?, ?, ?)",
                                     (change, it.revision, so.head, json.dumps(needs)))
                 self.tables.execute("UPDATE change SET closed = 0, told = 1 WHERE number = ?", (change,))
             elif it.kind == "closed":
@@ -154,10 +164,24 @@ class Changes:
                             (*set_to[1], so.repository, so.number, name))
 
     def send_later(self, change: int, telling: Telling, said: Delivery) -> None:
-        identity = id_of(self.outbox.get("file")["ids"], telling.kind, change, telling.revision, *telling.stands_for)
+        identity = self.id_of(change, telling)
         self.tables.execute("INSERT OR IGNORE INTO telling(change, id, said, replies) VALUES (?, ?, ?, ?)",
                             (change, identity, json.dumps(said), self.replies()))
         self.outbox.keep(Kept(str(change), identity, "forge", said))
+
+    def take_away(self, change: int, telling: Telling) -> None:
+        """Takes away a delivery that the gate hasn't taken yet, if it is kept. Call it within a step."""
+        identity = self.id_of(change, telling)
+        if self.tables.execute("DELETE FROM delivery WHERE id = ?", (identity,)).rowcount:
+            self.tables.execute("DELETE FROM telling WHERE id = ?", (identity,))
+
+    def answer_to(self, change: int, telling: Telling) -> str | None:
+        """The gate's answer to a delivery: a reply, or a code; none where it has none, or that is over."""
+        row = self.tables.execute("SELECT answer FROM telling WHERE id = ?", (self.id_of(change, telling),)).fetchone()
+        return None if row is None else row[0]
+
+    def id_of(self, change: int, telling: Telling) -> str:
+        return id_of(self.outbox.get("file")["ids"], telling.kind, change, telling.revision, *telling.stands_for)
 
     def answered(self, identity: str, reply: str | None, code: str | None) -> None:
         """Notes the answer to a delivery. Once a revision is recorded, what was told before it is over for good."""
@@ -176,6 +200,12 @@ class Changes:
     def land(self, change: int) -> None:
         """Notes that the gate, or the branch, has a change's landing: nothing more is told of it."""
         self.tables.execute("UPDATE change SET landed = 1 WHERE number = ?", (change,))
+
+    def landed_at(self, place: Place) -> str | None:
+        """A branch at which a request has landed, if there is one."""
+        row = self.tables.execute("SELECT branch FROM change WHERE repository = ? AND request = ? AND landed",
+                                  (place.repository, place.number)).fetchone()
+        return None if row is None else str(row[0])
 
     def message(self, change: int) -> str | None:
         """The message of the last revision that the gate was told, while that is kept."""
@@ -278,6 +308,34 @@ class Changes:
         rows = self.tables.execute("SELECT repository, number FROM change WHERE number IN"
                                    " (SELECT CAST(lane AS INTEGER) FROM delivery)").fetchall()
         return Counter(repository for repository, number in rows if number not in but)
+
+    def left(self, now: float, keep: float) -> list[int]:
+        """The changes that have been closed for so many seconds without landing, by a clock, and weren't dropped."""
+        with self.step():
+            self.tables.execute("UPDATE change SET left_at = NULL, dropped = 0 WHERE (NOT closed OR landed) AND"
+                                " (left_at IS NOT NULL OR dropped)")
+            self.tables.execute("UPDATE change SET left_at = ? WHERE closed AND NOT landed AND left_at IS NULL", (now,))
+        rows = self.tables.execute("SELECT number FROM change WHERE closed AND NOT landed AND NOT dropped AND"
+                                   " left_at <= ? ORDER BY left_at, number", (now - keep,))
+        return [row[0] for row in rows]
+
+    def dropped(self, change: int) -> None:
+        """Notes that the commits of a change were dropped."""
+        self.tables.execute("UPDATE change SET dropped = 1 WHERE number = ?", (change,))
+
+    def is_alive(self, place: Place) -> bool:
+        """Whether a request has a change that was told and not closed."""
+        return self.tables.execute("SELECT 1 FROM change WHERE repository = ? AND request = ? AND told AND NOT closed",
+                                   (place.repository, place.number)).fetchone() is not None
+
+    def approved(self, repository: str) -> list[int]:
+        """The requests of a repository whose last revision has an approval that was told and not taken back."""
+        rows = self.tables.execute(
+            "SELECT DISTINCT request FROM change WHERE repository = ? AND told AND NOT closed AND NOT landed AND EXISTS"
+            " (SELECT 1 FROM vote WHERE vote.repository = change.repository AND vote.request = change.request"
+            " AND told_change = change.number AND NOT taken_back AND told_revision ="
+            " (SELECT max(number) FROM revision WHERE revision.change = change.number))", (repository,))
+        return [row[0] for row in rows]
 
     def still_open(self, repository: str) -> list[int]:
         """The requests of a repository that have a change which was neither closed nor has landed."""
