@@ -2,7 +2,9 @@
 # Tests the companions: their units, days by seeds, and scenes in which one part is wrong and has to be found. The last
 # line counts, and the status is 0 only if nothing failed. GATED is the program, by default the one that `rt run`
 # leaves; SEEDS are the days' seeds, FORGE_SEEDS those of the days with a forge of each form, JOBS how many tests run
-# at once, by default one a processor and at most four, PATIENCE the seconds that one may take.
+# at once, by default one a processor and at most four, PATIENCE the seconds that one may take. RECORDED is a folder in
+# which the sources of recorded answers are kept for later runs; what can't be had of them is skipped, and the last line
+# says so.
 set -u
 script=$(cd "$(dirname "$0")" && pwd)/$(basename "$0")
 cd "$(dirname "$script")/.."
@@ -29,7 +31,7 @@ fi
 jobs=$(nproc)
 [ "$jobs" -le 4 ] || jobs=4
 work=$(mktemp -d)
-export work
+export work RECORDED="${RECORDED:-$work/recorded}"
 trap 'rm -rf "$work"' EXIT
 
 # The longest first.
@@ -65,4 +67,8 @@ done >"$work/counts"
 for end in "$work"/companions_tests_day*.end; do
   grep -q '^passed: ' "$end" && echo "1 0" || echo "0 1"
 done >>"$work/counts"
-awk '{ passed += $1; failed += $2 } END { print passed " passed, " failed " failed"; exit failed > 0 }' "$work/counts"
+skipped=$(sed -n 's/^skipped: //p' "$work"/*.said | sort -u | paste -s -d ';' - | sed 's/;/; /g')
+awk -v skipped="$skipped" '
+    { passed += $1; failed += $2 }
+    END { print passed " passed, " failed " failed" (skipped ? ", skipped: " skipped : ""); exit failed > 0 }' \
+  "$work/counts"

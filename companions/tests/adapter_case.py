@@ -9,14 +9,15 @@ import shutil
 import tempfile
 import unittest
 import uuid
-from collections.abc import Iterator, Mapping
+from collections.abc import Mapping
 from dataclasses import replace
+from datetime import timedelta
 from pathlib import Path
 from typing import Any
 
 from companions.adapter import Adapter
 from companions.api import ForgeFault
-from companions.forges import Place
+from companions.forges import Listed, Place, Word
 from companions.requests import Request, State, Vote
 from companions.settings import read
 from companions.tests.forge import Origin
@@ -151,7 +152,7 @@ class Gate:
 class Forge(PretendForge):
     """A forge's requests, and what was written on them. `when_asked` is called at each question about a request, as by
     somebody who is at the forge at that moment."""
-    mark = "#"
+    mark, requests_at = "#", "/pulls/"
 
     def __init__(self) -> None:
         super().__init__()
@@ -175,9 +176,11 @@ class Forge(PretendForge):
             raise ForgeFault(f"GET {login}: 500")
         return self.accounts.get(login.casefold())
 
+    def seal_of(self, headers: Mapping[str, str]) -> Word:
+        return Word("secret", headers.get("Secret"))
+
     def place_of(self, headers: Mapping[str, str], body: bytes) -> Place | None:
-        if headers.get("Secret") != "secret":
-            raise PermissionError("the hook isn't signed by the secret")
+        self.seal_of(headers)
         said = json.loads(body)
         return Place(*said) if said else None
 
@@ -193,9 +196,9 @@ class Forge(PretendForge):
         so = self.request(place)
         return so and replace(so, votes=())
 
-    def open_requests(self, repository: str) -> Iterator[int]:
-        yield from (it.number for it in list(self.requests.values())
-                    if it.repository == repository and it.state is State.OPEN)
+    def open_requests(self, repository: str) -> dict[int, Listed]:
+        return {it.number: Listed(it.target, None) for it in list(self.requests.values())
+                if it.repository == repository and it.state is State.OPEN}
 
     def head_ref(self, number: int) -> str:
         return f"refs/pull/{number}/head"
@@ -248,6 +251,7 @@ class Case(unittest.TestCase):
             self.adapter.hints.put(place)
         self.adapter.compare_at = 2.0 if places else 0.0
         self.adapter.rests.end_all()
+        self.adapter.lists.end_all()
         self.adapter.outbox.later.clear()
         self.adapter.once(1.0)
         return [f"{it['kind']} {it['change']} {it['revision']}" for it in self.standin.deliveries()[before:]]
@@ -261,6 +265,12 @@ class Case(unittest.TestCase):
 
     def approve(self, number: int, head: int = 0, person: str = "ada") -> Vote:
         return Vote(f"review {number}", person, True, self.commits[head])
+
+    def comment(self, number: int, behind: float = 60.0) -> Vote:
+        """A comment that approves and names no commit, so many seconds from now by the forge's time."""
+        assert self.forge.now is not None
+        self.forge.now += timedelta(seconds=behind)
+        return Vote(f"comment {number}", "ada", True, None, said=self.forge.now)
 
     def lines(self) -> list[str]:
         return self.said.getvalue().splitlines()

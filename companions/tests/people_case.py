@@ -6,11 +6,13 @@ import io
 import tempfile
 import unittest
 from collections.abc import Callable
+from datetime import datetime, timezone
 from pathlib import Path
 from typing import Any
 
-from companions.forges import Place
+from companions.forges import Limits, Place
 from companions.gate import Gate
+from companions.moments import Moment
 from companions.outbox import Notes
 from companions.people import Manner, People
 from companions.people_seen import Subject
@@ -18,7 +20,7 @@ from companions.tests.standin import StandIn
 
 PLACES = {101: Place("o/app", 11), 102: Place("o/app", 12), 103: Place("o/app", 13), 104: Place("o/lib", 14)}
 GONE = (404, {"code": "E5", "error": "unknown-change"})
-NEWS = Manner(logs="https://logs/{build}", quiet=0.0, writes=10 ** 6, hourly=10 ** 6)
+NEWS = Manner(logs="https://logs/{build}", quiet=0.0, limits=Limits(10 ** 6))
 
 
 def subject(change: int, *commits: str, **other: Any) -> Subject:
@@ -27,19 +29,27 @@ def subject(change: int, *commits: str, **other: Any) -> Subject:
 
 class PretendForge:
     """Notes each write. `before` may raise in place of a write, `after` when it is done."""
+    limits, leaves_open = Limits(10 ** 6), False
 
     def __init__(self) -> None:
         self.statuses: dict[str, tuple[str, str]] = {}
         self.comments: dict[int, tuple[Place, str]] = {}
         self.written: list[str] = []
+        self.is_open = True
+        self.now: datetime | None = datetime(2026, 1, 1, tzinfo=timezone.utc)
+        self.takes_statuses = True
         self.before: Callable[[Place | None], None] = lambda place: None
         self.after: Callable[[], None] = lambda: None
 
-    def set_status(self, repository: str, commit: str, state: str, text: str) -> None:
+    def set_status(self, repository: str, commit: str, state: str, text: str) -> bool:
         self.before(None)
         self.statuses[commit] = state, text
         self.written.append(f"{repository} {commit.lstrip('0') if commit.isdigit() else commit}: {state}: {text}")
         self.after()
+        return self.takes_statuses
+
+    def time(self) -> datetime | None:
+        return self.now
 
     def comment(self, place: Place, comment: int | None, text: str) -> int:
         self.before(place)
@@ -50,6 +60,12 @@ class PretendForge:
         self.written.append(f"{place.repository} {place.number}, comment {comment}: {text.splitlines()[0]}")
         self.after()
         return comment
+
+    def close(self, place: Place, head: str) -> bool:
+        self.before(place)
+        self.written.append(f"{place.repository} {place.number}: closed at {head.lstrip('0')}")
+        self.after()
+        return self.is_open
 
     def find(self, place: Place) -> int | None:
         return next((at for at, it in self.comments.items() if it[0] == place), None)
@@ -108,7 +124,7 @@ class PeopleCase(unittest.TestCase):
         self.standin = self.enterContext(StandIn(lambda *asked: self.gate.answer(*asked)))
         self.errors = self.enterContext(contextlib.redirect_stderr(io.StringIO()))
         self.people = self.start()
-        self.now = 1000.0
+        self.boot, self.now = "one", 1000.0
 
     def start(self, manner: Manner = NEWS) -> People:
         return People(Gate(self.standin.url, None), Notes(self.folder / "people.db"), self.forge, PLACES.get, manner)
@@ -117,7 +133,7 @@ class PeopleCase(unittest.TestCase):
         """What a look writes."""
         self.now += 1
         told = subjects or (subject(101),)
-        self.done = self.people.look(told, self.now)
+        self.done = self.people.look(told, Moment(self.boot, self.now))
         self.is_done = set(self.done) == {it.change for it in told}
         return self.forge.news()
 

@@ -101,15 +101,15 @@ class Requests(Case):
 
     def test_a_ref_that_was_never_told_is_given_another_commit(self) -> None:
         self.origin.revision(1, 1, self.commits[3])
-        self.be(12, 0)
-        self.assertEqual(self.look(), ["revision 1 1"])
+        self.be(12, 0, self.approve(1))
+        self.assertEqual(self.look(), ["revision 1 1", "approved 1 1"])
         self.assertEqual(self.origin.git("rev-parse", "refs/changes/1/1"), self.commits[0])
 
-    def test_revisions_keep_their_commits(self) -> None:
-        place = self.be(12, 0)
+    def test_approved_revisions_keep_their_commits(self) -> None:
+        place = self.be(12, 0, self.approve(1))
         self.look()
-        for head in (1, 0):
-            self.be(12, head)
+        for number, head in ((2, 1), (3, 0)):
+            self.be(12, head, self.approve(number, head))
             self.look(place)
         self.assertEqual([self.origin.git("rev-parse", f"refs/changes/1/{it}") for it in (1, 2, 3)],
                          [self.commits[0], self.commits[1], self.commits[0]])
@@ -149,16 +149,16 @@ class Requests(Case):
 
     def test_one_whose_vote_has_no_commit_is_looked_at_twice(self) -> None:
         place = self.be(12, 0)
-        self.look()
-        said = Vote("comment 1", "ada", True, None)
+        self.tell()
+        said = self.comment(1)
         self.be(12, 0, said)
         self.forge.asked.clear()
         self.forge.when_asked = lambda _: self.forge.asked and self.be(12, 1, said)
         self.assertEqual(self.look(place), [])
         self.forge.when_asked = lambda _: None
         self.assertEqual(self.look(place), ["revision 1 2"])
-        self.assertEqual(self.look(place), [])
-        self.be(12, 1, said, replace(said, object="comment 2"))
+        self.tell(place)
+        self.be(12, 1, said, self.comment(2))
         self.assertEqual(self.look(place), ["approved 1 2"])
 
 

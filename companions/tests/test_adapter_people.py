@@ -2,8 +2,11 @@
 from __future__ import annotations
 
 from dataclasses import replace
+from unittest import mock
 
+from companions.moments import Moment
 from companions.requests import State, Vote
+from companions.rights import MANY
 from companions.tests.adapter_case import Case
 
 
@@ -15,7 +18,7 @@ class People(Case):
         self.gate.items = ["1 1 1 - ok unit=running"]
         self.assertEqual(self.tell(place), [
             f"acme/lib {commit}: pending: Testing at place 1 of 1 in core: unit running",
-            "acme/lib 12, comment 1: **Being tested at place 1 of 1 in `core`.**"])
+            "acme/lib 12, comment 1: **Being tested in `core`.**"])
         self.assertEqual(self.tell(), [])
         self.gate.items, self.gate.reports = [], ["1 1 1 landed 1"]
         self.gate.land(1)
@@ -29,6 +32,8 @@ class People(Case):
         self.tell()
         self.assertEqual(self.forge.comments[1][1].split("\n\n")[2:], [
             "These votes don't approve it:", "    eve isn't among those who may approve: review 1 doesn't count",
+            "To approve this commit by a comment, write one that is this line alone:",
+            f"    /gate approve {self.commits[0]}",
             "These lines of its text name no request that the gate takes, so nothing is waited for:",
             "    Depends-On: nothing: names no request of this forge", "Mend them in the text of the request."])
 
@@ -69,6 +74,20 @@ class People(Case):
         self.adapter.looks.approvers.writers.clear()
         self.forge.writers.discard("bob")
         self.assertEqual(self.look(place), ["withdrawn 1 1"])
+
+    def test_a_right_is_an_account_s_and_what_is_known_of_rights_is_bounded(self) -> None:
+        self.settings = replace(self.settings, adapter=replace(self.settings.adapter, approvers=None))
+        self.start()
+        known = self.adapter.looks.approvers.writers
+        known.update({("acme/lib", f"eve{it}", 99): (False, 0.0) for it in range(MANY)})
+        place = self.be(12, 0, self.approve(1), Vote("review 2", "bob", False, self.commits[0]))
+        self.look(place)
+        self.assertEqual(len(known), MANY + 2)
+        # Somebody else takes the login while the forge's answer of before holds still.
+        self.forge.accounts["bob"], self.forge.writers = 77, {"ada"}
+        self.assertEqual(self.look(place), ["approved 1 1"])
+        self.assertEqual({*self.adapter.looks.approvers.writers},
+                         {("acme/lib", "ada", 11), ("acme/lib", "bob", 12), ("acme/lib", "bob", 77)})
 
     def test_a_login_that_another_account_has_taken_approves_nothing(self) -> None:
         self.settings = replace(self.settings, adapter=replace(self.settings.adapter,
@@ -119,6 +138,20 @@ class People(Case):
         self.assertEqual(self.look(place), ["revision 1 2"])
         self.be(12, 1, self.approve(1), state=State.CLOSED)
         self.assertEqual(self.look(place), ["closed 1 2"])
+
+    def test_a_request_that_was_closed_here_is_looked_at(self) -> None:
+        self.forge.leaves_open = True
+        self.start()
+        place = self.be(12, 0, self.approve(12))
+        self.tell(place)
+        self.gate.items, self.gate.reports = [], ["1 1 1 landed 1"]
+        self.gate.land(1)
+        self.now = Moment.now()
+        self.enterContext(mock.patch.object(Moment, "now", staticmethod(lambda: self.now)))
+        self.tell()
+        self.now = Moment(self.now.boot, self.now.uptime + 61)
+        self.assertIn("acme/lib 12: closed at", " ".join(self.tell()))
+        self.assertEqual([place for _, place in self.adapter.hints.all()], [place])
 
 
 if __name__ == "__main__":

@@ -8,7 +8,7 @@ import unittest
 from pathlib import Path
 
 from companions.answers import MOST, Answers, Refusal, Said, Wrong, file_in, read
-from companions.compared import Moment
+from companions.moments import Moment
 
 
 class Written(unittest.TestCase):

@@ -10,9 +10,10 @@ from pathlib import Path
 from typing import Any
 
 from companions.answers import Answers, Refusal, read as answers_in, file_in as answers_file
-from companions.compared import Compared, Comparison, Moment, Repository, Waits, file_in, read, write
+from companions.compared import Compared, Comparison, Repository, Waits, file_in, read, write
 from companions.gate import Order
 from companions.lander import QueueLander
+from companions.moments import Moment
 from companions.outbox import Notes
 from companions.settings import Project, Settings
 from companions.tests.forge import Origin
@@ -52,16 +53,24 @@ class Case(unittest.TestCase):
 
 class Form(Case):
     def test_the_form(self) -> None:
-        write(self.file, Compared(FIRST, None, {"acme/lib": Repository(2, Moment("a boot", 12.5)),
-                                                "acme/app": Repository(0, None)}, {103: "it was closed"}, {"7/1": 2}))
+        left = {"acme/lib": Repository(2, Moment("a boot", 12.5)), "acme/app": Repository(0, None, Moment("b", 7.0))}
+        write(self.file, Compared(FIRST, None, left, {103: "it was closed"}, {"7/1": 2}))
         self.assertEqual(json.loads(self.file.read_text("utf-8")), {
             "first": FIRST, "last": None, "refuse": {"103": "it was closed"}, "answered": {"7/1": 2},
-            "repositories": {"acme/lib": {"waiting": 2, "began": {"boot": "a boot", "uptime": 12.5}},
-                             "acme/app": {"waiting": 0, "began": None}}})
+            "repositories": {"acme/lib": {"waiting": 2, "began": {"boot": "a boot", "uptime": 12.5}, "looked": None},
+                             "acme/app": {"waiting": 0, "began": None, "looked": {"boot": "b", "uptime": 7.0}}}})
 
     def test_it_is_read_as_it_was_written(self) -> None:
         self.leave(refuse={103: "it was closed"}, answered={"7/1": 2},
                    repositories=self.repository("acme/app", Repository(3, None)))
+        self.assertEqual(read(self.file), self.left)
+
+    def test_one_of_an_earlier_version_is_read(self) -> None:
+        self.leave()
+        table = json.loads(self.file.read_text("utf-8"))
+        for it in table["repositories"].values():
+            del it["looked"]
+        self.file.write_text(json.dumps(table), "utf-8")
         self.assertEqual(read(self.file), self.left)
 
     def test_what_has_no_such_form_is_none(self) -> None:

@@ -1,12 +1,13 @@
 """What the adapter leaves for the lander, while it compares and tells."""
 from __future__ import annotations
 
-from collections.abc import Iterator
 from typing import Any
 
 from companions.api import ForgeFault
-from companions.compared import Comparison, Moment, Repository, Waits, file_in, read
+from companions.compared import Comparison, Repository, Waits, file_in, read
+from companions.forges import Listed
 from companions.gate import Gate, Order
+from companions.moments import Moment
 from companions.outbox import Notes
 from companions.tests.adapter_case import Case
 
@@ -52,7 +53,7 @@ class Left(Leaving):
         listed: list[Moment] = []
         numbers = self.forge.open_requests
 
-        def open_requests(repository: str) -> Iterator[int]:
+        def open_requests(repository: str) -> dict[int, Listed]:
             listed.append(Moment.now())
             return numbers(repository)
 
@@ -106,7 +107,7 @@ class Left(Leaving):
             self.assertEqual((self.refuse(), self.lib().waiting), ({}, 0))
 
     def test_a_repository_of_which_the_forge_tells_nothing_is_not_compared(self) -> None:
-        def fail(repository: str) -> Iterator[int]:
+        def fail(repository: str) -> dict[int, Listed]:
             raise ForgeFault("GET /pulls: status 500")
 
         numbers, self.forge.open_requests = self.forge.open_requests, fail  # type: ignore[method-assign]

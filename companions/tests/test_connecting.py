@@ -16,10 +16,13 @@ from companions.settings import ROLES, Reader, Settings, SettingsFault, read
 
 PAGE = Path(__file__).resolve().parents[2] / "docs" / "CONNECTING.md"
 # What the page's example doesn't have, and is read only where it is there.
-LOGS = '[adapter]\nlogs = "https://logs.example/{build}"\n'
+LOGS = ('[adapter]\nlogs = "https://logs.example/{build}"\ncopies = "/var/lib/gated-copies"\n'
+        'page = "/var/lib/gated-page"\ntell = "cat"\nrequire = ["ci/lint"]\n')
 ACCOUNTS = "".join(f'[gate.{it}]\nuser = "a"\npassword = "b"\n' for it in ROLES)
+WORKER = '[worker]\nlogs = "/var/lib/gated-logs"\n'
 # Tables of which nothing is said but by their members; those of accounts are told in one row.
-TABLES = {"gate", "lander", "worker", "watch", *(f"gate.{role}.{it}" for role in ROLES for it in ("user", "password"))}
+TABLES = {"gate", "lander", "worker", "watch", "ci",
+          *(f"gate.{role}.{it}" for role in ROLES for it in ("user", "password"))}
 
 
 def example() -> str:
@@ -29,7 +32,7 @@ def example() -> str:
 
 def members() -> str:
     """The page's table of members, with what stands around it."""
-    return PAGE.read_text(encoding="utf-8").split("\n## The settings of the companions\n")[1].split("\n## ")[0]
+    return PAGE.read_text(encoding="utf-8").split("\n## The settings of the companions\n")[1].split("\n###")[0]
 
 
 def listed() -> list[str]:
@@ -67,7 +70,7 @@ class PageTest(unittest.TestCase):
         self.assertIn(f'[forge]\nbase = "{settings.adapter.base}"\n', PAGE.read_text(encoding="utf-8"))
 
     def test_what_is_read_is_listed_and_what_is_listed_is_read(self) -> None:
-        found = members_read(example().replace("[adapter]\n", LOGS) + ACCOUNTS)
+        found = members_read(example().replace("[adapter]\n", LOGS) + ACCOUNTS + WORKER)
         self.assertEqual(sorted(listed()), sorted(found - TABLES))
 
     def test_the_example_of_an_id_is_the_function_s(self) -> None:

@@ -1,11 +1,13 @@
 """The stage of the examples: what a program writes there is read whole by another one, and no job outlives it."""
 from __future__ import annotations
 
+import json
 import os
 import subprocess
 import tempfile
 import threading
 import unittest
+import urllib.request
 from pathlib import Path
 
 from companions.settings import SettingsFault, read
@@ -61,6 +63,39 @@ class StageTest(unittest.TestCase):
         self.assertEqual((stage.returncode, Path(folder).exists()), (0, False))
         self.assertFalse(Path(f"/proc/{process}/environ").exists() and
                          b"GATED_WORKER" in Path(f"/proc/{process}/environ").read_bytes())
+
+
+class PageTest(unittest.TestCase):
+    def test_a_day_to_look_at(self) -> None:
+        """The page of a day is there while it is played, and until somebody ends it."""
+        program = os.environ.get("GATED", TOP / "crates" / "gated" / "out" / "gated")
+        around = {**os.environ, "GATED": str(program), "SLOW": "0", "PATIENCE": "500"}
+        day = subprocess.Popen(["bash", TOP / "examples" / "gitea" / "run.sh", "--page"], env=around, text=True,
+                               stdin=subprocess.PIPE, stdout=subprocess.PIPE, stderr=subprocess.STDOUT)
+        # What it has started ends with it.
+        self.addCleanup(day.wait)
+        self.addCleanup(day.terminate)
+        assert day.stdin is not None and day.stdout is not None
+        self.addCleanup(day.stdout.close)
+        said = [day.stdout.readline()]
+        while said[-1] and not said[-1].startswith("look at "):
+            said.append(day.stdout.readline())
+        self.assertTrue(said[-1], said)
+        address = said[-1].removeprefix("look at ").strip()
+        with urllib.request.urlopen(address, timeout=60) as answer:
+            self.assertIn('<script type="module" src="page.js">', answer.read().decode())
+        said += [*iter(day.stdout.readline, "the day is over, and the page stays: press Return to end it\n")]
+        self.assertEqual(said[-1], "ok\n", "".join(said))
+        with urllib.request.urlopen(f"{address}requests.json", timeout=60) as answer:
+            shown = {it["name"]: (it["title"], it["says"]) for it in json.load(answer)["requests"]}
+        self.assertEqual(shown["acme/lib#1"], ("Add two", "Landed in core as 1."))
+        self.assertEqual(shown["acme/app#2"], ("Use nine", "Left core: it can't be merged."))
+        with urllib.request.urlopen(f"{address}logs/1/", timeout=60) as answer:
+            log, = json.load(answer)
+        with urllib.request.urlopen(f"{address}logs/1/{log['name']}", timeout=60) as answer:
+            self.assertIn("ended: success", answer.read().decode())
+        day.stdin.close()
+        self.assertEqual((day.wait(60), day.stdout.read()), (0, ""))
 
 
 if __name__ == "__main__":

@@ -39,7 +39,9 @@ class Told(Case):
         comment = next(text for place, text in self.forge.comments.values() if place.number == 13)
         self.assertEqual(comment, "**Left `core`: it can't be merged.**\n\nIt conflicts with #12 in:\n\n    a\n\n"
                                   "Mend that: rebase it, or merge its branch into it once the other one has landed."
-                                  " Then push, and have the new commit approved.")
+                                  " Then push, and have the new commit approved.\n\n"
+                                  "To approve this commit by a comment, write one that is this line alone:\n\n"
+                                  f"    /gate approve {self.commits[1]}")
 
     def test_one_that_has_landed_is_named_too(self) -> None:
         self.origin.land("core", 1, {"a": "landed"})

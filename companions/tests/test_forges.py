@@ -162,6 +162,11 @@ class EachForm:
         self.assertIsNone(self.client.outline(Place(LIB, 2)))
         self.assertEqual(len(self.forge.server.asked), 2)
 
+    def test_a_request_has_an_author_and_an_address(self) -> None:
+        form = self.forge.form
+        self.assertEqual(self.asked().author, "ann")
+        self.assertEqual(f"{form.web}/{LIB}{self.client.requests_at}{self.place.number}", form.address(self.place))
+
     def test_a_hidden_list_isnt_an_empty_one(self) -> None:
         self.fails(404, lambda: list(self.client.open_requests("acme/other")))
         self.assertEqual(list(self.client.open_requests(LIB)), [1])

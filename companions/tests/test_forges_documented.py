@@ -4,10 +4,12 @@ from __future__ import annotations
 import json
 import unittest
 import urllib.parse
+from dataclasses import replace
+from datetime import datetime
 from typing import Any
 
 from companions.api import LARGEST, Api, ForgeFault
-from companions.forges import Place, check_signature, mark_of, time_of
+from companions.forges import Place, Signature, check_seal, mark_of, time_of
 from companions.github import Gitea, GitHub
 from companions.gitlab import GitLab, commit_at
 from companions.requests import Request, State, Vote
@@ -132,6 +134,11 @@ class DocumentedCase(unittest.TestCase):
         return self.enterContext(StandIn(answer)).url
 
 
+def said_at(vote: Vote, time: str) -> Vote:
+    """A comment that names no commit, made at a time."""
+    return replace(vote, said=datetime.fromisoformat(time))
+
+
 class GitHubTest(DocumentedCase):
     def test_a_pull_request(self) -> None:
         form = GitHub(self.serve(one=GITHUB_PULL, reviews=GITHUB_REVIEWS, comments=GITHUB_COMMENTS,
@@ -139,7 +146,8 @@ class GitHubTest(DocumentedCase):
         place = Place("octocat/Hello-World", 1347)
         self.assertEqual(form.request(place), Request(
             "octocat/Hello-World", 1347, State.OPEN, HEAD, "master", "Amazing new feature",
-            "Please pull these awesome changes in!", (Vote("comment 1", "hubot", True, None),
+            "Please pull these awesome changes in!", (said_at(Vote("comment 1", "hubot", True, None),
+                                                              "2019-11-17T17:43:00+00:00"),
                                                       Vote("review 80", "octocat", True, HEAD),
                                                       Vote("review 82", "monalisa", False, OTHER))))
 
@@ -193,7 +201,7 @@ class GitHubTest(DocumentedCase):
     def test_a_signature_that_is_documented(self) -> None:
         """GitHub's page "Validating webhook deliveries" has these values to try a signature with."""
         wanted = "757107ea0eb2509fc211221cce984b8a37570b6d7586c22c46f4379c8b043e17"
-        check_signature("It's a Secret to Everybody", b"Hello, World!", wanted)
+        check_seal(Signature("It's a Secret to Everybody", wanted), b"Hello, World!")
 
 
 class GiteaTest(DocumentedCase):
@@ -204,7 +212,8 @@ class GiteaTest(DocumentedCase):
             "acme/lib", 7, State.MERGED, HEAD, "main", "Add one", "", (Vote("review 6", "ann", False, OTHER),
                                                                       Vote("review 7", "ben", None, HEAD),
                                                                       Vote("review 8", "cy", True, HEAD),
-                                                                      Vote("comment 8", "ben", True, None))))
+                                                                      said_at(Vote("comment 8", "ben", True, None),
+                                                                              "2024-05-01T09:55:00+00:00"))))
 
     def test_hooks(self) -> None:
         form, body = Gitea("https://gitea.example/api/v1", "token", "secret"), json.dumps(GITEA_REVIEW_HOOK).encode()
@@ -229,12 +238,19 @@ class GitLabTest(DocumentedCase):
     def test_a_merge_request(self) -> None:
         self.assertEqual(self.form().request(Place("acme/core/lib", 133)), Request(
             "acme/core/lib", 133, State.OPEN, HEAD, "master", "Manual job rules", "",
-            (Vote("note 302", "pipin", True, OTHER), Vote("note 303", "root", True, HEAD))))
+            (said_at(Vote("note 302", "pipin", True, OTHER), "2016-07-26T14:44:00+00:00"),
+             Vote("note 303", "root", True, HEAD))))
 
     def test_states(self) -> None:
         for word, state in (("locked", State.OPEN), ("closed", State.CLOSED), ("merged", State.MERGED)):
             request = self.form(one={**GITLAB_REQUEST, "state": word}).request(Place("a/b", 133))
             self.assertEqual(request.state, state)
+
+    def test_a_draft_of_an_earlier_version(self) -> None:
+        earlier = {name: value for name, value in GITLAB_REQUEST.items() if name != "draft"}
+        for is_draft in (True, False):
+            request = self.form(one={**earlier, "work_in_progress": is_draft}).request(Place("a/b", 133))
+            self.assertIs(request.is_draft, is_draft)
 
     def test_what_isnt_one(self) -> None:
         """A merge request that was just opened has no head yet."""

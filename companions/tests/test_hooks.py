@@ -7,9 +7,11 @@ import json
 import socket
 import threading
 import time
+import tracemalloc
 
 from companions.api import LARGEST
 from companions.forges import Place
+from companions.github import GitHub
 from companions.hooks import LARGE, MOST_LARGE, Hooks, serve
 from companions.tests.adapter_case import Case
 
@@ -109,7 +111,7 @@ class Incoming(Case):
         self.assertEqual(self.post(b'["acme/lib", 12]'), 200)
 
     def test_large_bodies_are_read_a_few_at_a_time_and_hold_up_no_small_one(self) -> None:
-        large, head = b"x" * (LARGE + 1), "POST /hook HTTP/1.1\r\nSecret: wrong\r\nContent-Length: {}\r\n\r\n"
+        large, head = b"x" * (LARGE + 1), "POST /hook HTTP/1.1\r\nSecret: secret\r\nContent-Length: {}\r\n\r\n"
         waiting = [socket.create_connection(("127.0.0.1", self.hooks.server_port)) for _ in range(MOST_LARGE)]
         for it in waiting:
             self.addCleanup(it.close)
@@ -118,14 +120,54 @@ class Incoming(Case):
             self.hooks.large.release()
             time.sleep(0.01)
         self.assertEqual(self.post(b'["acme/lib", 12]'), 200)
-        late = threading.Thread(target=lambda: answers.append(self.post(large, Secret="wrong")))
+        late = threading.Thread(target=lambda: answers.append(self.post(large)))
         answers: list[int] = []
         late.start()
         late.join(0.3)
         self.assertEqual(answers, [])
         waiting[0].sendall(large)
         late.join(20)
-        self.assertEqual(answers, [403])
+        self.assertEqual(answers, [500], "no JSON")
+
+    def test_a_large_hook_that_is_signed_is_taken(self) -> None:
+        self.assertEqual(self.post(b'["acme/lib", 12]' + b" " * LARGE), 200)
+        self.assertEqual(self.places(), [Place("acme/lib", 12)])
+        self.assertEqual(self.hooks.large._value, MOST_LARGE)  # pylint: disable=protected-access
+
+    def test_a_large_hook_whose_headers_say_that_it_is_not_signed_is_not_read(self) -> None:
+        with socket.create_connection(("127.0.0.1", self.hooks.server_port), timeout=20) as unread:
+            unread.sendall(f"POST /hook HTTP/1.1\r\nSecret: wrong\r\nContent-Length: {LARGEST}\r\n\r\n".encode())
+            self.assertIn(b" 403 ", unread.recv(100))
+
+    def test_large_hooks_that_are_not_signed_take_no_memory(self) -> None:
+        """A hundred of 8 MiB, ten at a time, of which each tenth one comes whole."""
+        self.hooks.forge, self.hooks.patience = GitHub("http://localhost", "token", "secret"), 600.0
+        part, head = b"x" * 65536, f"POST /hook HTTP/1.1\r\nContent-Length: {LARGEST}\r\n\r\n".encode()
+
+        def send() -> None:
+            for parts in (LARGEST // len(part), *[2] * 9):
+                with socket.create_connection(("127.0.0.1", self.hooks.server_port), timeout=600) as it:
+                    it.sendall(head)
+                    for _ in range(parts):
+                        it.sendall(part)
+                    it.shutdown(socket.SHUT_WR)
+                    answers.append(it.recv(100))
+
+        answers: list[bytes] = []
+        threads = [threading.Thread(target=send) for _ in range(10)]
+        tracemalloc.start()
+        self.addCleanup(tracemalloc.stop)
+        for it in threads:
+            it.start()
+        for it in threads:
+            it.join()
+        self.assertEqual([sum(status in it for it in answers) for status in (b" 403 ", b" 400 ")], [10, 90])
+        self.assertLess(tracemalloc.get_traced_memory()[1], LARGEST // 2)
+
+    def test_a_hook_that_cannot_be_kept_is_answered(self) -> None:
+        self.hooks.folder = self.folder / "nowhere"
+        self.assertEqual(self.post(b'["acme/lib", 12]' + b" " * LARGE), 500)
+        self.assertIn("adapter: a hook can't be kept: ", self.lines()[-1])
 
     def test_there_are_so_many_connections_at_once(self) -> None:
         self.hooks.places = threading.BoundedSemaphore(1)

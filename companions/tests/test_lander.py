@@ -5,9 +5,10 @@ import dataclasses
 import unittest
 from unittest import mock
 
-from companions import lander
+from companions import held, lander
 from companions.checks import Again, QueueStops
-from companions.gate import NoAnswer
+from companions.gate import NoAnswer, Order
+from companions.held import Hold
 from companions.ids import id_of, success_id
 from companions.lander import Lander
 from companions.repository import GitFault, Repository
@@ -52,6 +53,41 @@ class LanderTest(LanderCase):
         self.assertEqual(self.head(), head)
         self.assertIn("lander: core: refused change 102, revision 1: it can't be merged into main: it conflicts with change"
                       " 101 in file: {'reply': 'removed'}\n", self.said())
+
+    def test_a_queue_that_is_held_lands_nothing_until_it_is_resumed(self) -> None:
+        self.change(101)
+        order = self.order(1, 101)
+        self.settings.folder.mkdir(exist_ok=True)
+        held.write(self.settings.folder, {"core": Hold("2026-11-30 12:00 UTC", "a freeze"), "web": Hold("then")})
+        with self.assertRaisesRegex(QueueStops, "^an operator holds it since 2026-11-30 12:00 UTC: a freeze$"):
+            self.lander.carry_out(order)
+        self.assertEqual((self.head(), self.gate.told), (self.root("lib"), []))
+        held.write(self.settings.folder, {"web": Hold("then")})
+        self.lander.carry_out(order)
+        self.assertEqual([it["kind"] for it in self.gate.told], ["landed"])
+
+    def test_a_queue_that_is_held_while_an_order_is_carried_out(self) -> None:
+        """Right before the push. What was pushed before it is told all the same."""
+        self.change(101)
+        order = self.order(1, 101)
+        self.settings.folder.mkdir(exist_ok=True)
+        confirm = self.lander.confirm
+
+        def hold(it: Order) -> None:
+            confirm(it)
+            held.write(self.settings.folder, {"core": Hold("then")})
+
+        with mock.patch.object(self.lander, "confirm", hold), self.assertRaises(QueueStops):
+            self.lander.carry_out(order)
+        self.assertEqual(self.head(), self.root("lib"))
+        held.write(self.settings.folder, {})
+        self.gate.silent = True
+        with self.assertRaises(NoAnswer):
+            self.lander.carry_out(order)
+        self.gate.silent = False
+        held.write(self.settings.folder, {"core": Hold("then")})
+        self.lander.carry_out(order)
+        self.assertEqual(len(self.gate.landed), 1)
 
     def test_what_was_pushed_and_not_told_is_told_once_and_not_merged_again(self) -> None:
         self.change(101)

@@ -5,7 +5,7 @@ import unittest
 from dataclasses import replace
 
 from companions.forges import Place
-from companions.needs import clean, message, named, needs_of
+from companions.needs import Known, clean, message, named, needs_of
 from companions.requests import Request, State
 
 WEB = "https://forge.example"
@@ -57,27 +57,27 @@ class Found(unittest.TestCase):
     """A forge with requests of `acme/lib`. A change's number is ten times that of its request."""
 
     def setUp(self) -> None:
-        self.requests = {number: replace(SO, number=number) for number in range(1, 50)}
+        self.requests = {number: Known("main", State.OPEN) for number in range(1, 50)}
         self.stands = set(range(10, 500, 10))
         self.asked: list[Place] = []
 
-    def ask(self, place: Place) -> Request | None:
+    def ask(self, place: Place) -> Known | None:
         self.asked.append(place)
         return self.requests.get(place.number)
 
-    def change_of(self, so: Request) -> tuple[int, bool] | None:
-        return None if so.target == "topic" else (so.number * 10, so.number * 10 in self.stands)
+    def change_of(self, place: Place, target: str) -> tuple[int, bool] | None:
+        return None if target == "topic" else (place.number * 10, place.number * 10 in self.stands)
 
     def needs(self, *lines: str):
         text = "\n".join(f"Depends-On: {it}" for it in lines)
         return needs_of(replace(SO, text=text), WEB, {"acme/lib": "acme/lib"}, self.ask, self.change_of)
 
     def test_needs_are_numbers_in_order_each_once(self) -> None:
-        found = self.needs("#3", "acme/lib#1", "#3", f"{WEB}/acme/lib/pull/1")
-        self.assertEqual((found.changes, found.remarks), ((30, 10), ()))
+        found = self.needs("#3", "acme/lib#1", "#3", f"{WEB}/acme/lib/pull/1", "acme/app#1", "#12", "#77")
+        self.assertEqual((found.changes, found.places), ((30, 10), tuple(Place("acme/lib", it) for it in (3, 1, 77))))
 
     def test_each_line_that_names_no_change_is_told_once(self) -> None:
-        self.requests[5] = replace(SO, number=5, target="topic")
+        self.requests[5] = Known("topic", State.OPEN)
         found = self.needs("x", "#12", "#77", "acme/app#1", "#5", "x", "#3", "\x00\ud800" + "y" * 300)
         self.assertEqual(found.changes, (30,))
         self.assertEqual(found.remarks, (
@@ -89,14 +89,14 @@ class Found(unittest.TestCase):
             f"Depends-On: {'y' * 198}: names no request of this forge"))
 
     def test_what_was_merged_without_the_gate_is_left_out(self) -> None:
-        self.requests[3] = replace(SO, number=3, state=State.MERGED)
+        self.requests[3] = Known("main", State.MERGED)
         self.assertEqual(self.needs("#3", "#1").changes, (30, 10))
         self.stands.discard(30)
-        self.assertEqual(self.needs("#3", "#1"), self.needs("#1"))
+        self.assertEqual(replace(self.needs("#3", "#1"), places=()), replace(self.needs("#1"), places=()))
 
     def test_what_is_open_or_closed_stays_needed(self) -> None:
         self.stands.clear()
-        self.requests[3] = replace(SO, number=3, state=State.CLOSED)
+        self.requests[3] = Known("main", State.CLOSED)
         self.assertEqual(self.needs("#3", "#1").changes, (30, 10))
 
     def test_so_many_needs_are_given_that_the_gate_refuses_them(self) -> None:

@@ -1,11 +1,10 @@
 """People told by a forge that notes what is written, before a stand-in of a gate."""
 from __future__ import annotations
 
-import contextlib
 import unittest
+from datetime import datetime, timezone
 
-from companions.api import ForgeFault
-from companions.forges import FAILURE, PENDING, Place
+from companions.forges import FAILURE, PENDING
 from companions.people import Manner
 from companions.requests import State
 from companions.tests.people_case import PLACES, PeopleCase, subject
@@ -28,7 +27,7 @@ class PeopleTest(PeopleCase):
     def test_what_was_written_is_written_no_more(self) -> None:
         self.gate.items = ["1 101 1 - ok unit=running"]
         self.assertEqual(self.look(), ["o/app 101: pending: Testing at place 1 of 1 in core: unit running",
-                                       "o/app 11, comment 1: **Being tested at place 1 of 1 in `core`.**"])
+                                       "o/app 11, comment 1: **Being tested in `core`.**"])
         self.assertEqual(self.look(), [])
         self.people = self.start()
         self.assertEqual(self.look(), [])
@@ -56,44 +55,42 @@ class PeopleTest(PeopleCase):
         self.assertEqual(self.look()[0], "o/app 101: pending: Testing at place 1 of 1 in core: unit running")
         self.assertTrue(self.is_done)
         self.gate.items = ["2 101 1 1 ok unit=success"]
-        self.assertEqual(self.look()[0], "o/app 101: pending: Tests passed, being landed in core")
+        self.assertIn("o/app 101: pending: Tests passed, being landed in core", self.look())
         self.gate.items = ["2 101 1 1 ok unit=running"]
-        self.now -= 500
-        self.assertEqual(len(self.look()), 2, "a clock that was set back holds nothing up")
+        self.look()
+        self.gate.items = ["3 104 1 - ok unit=running", *self.gate.items]
+        self.assertEqual(self.look(), [])
+        self.boot = "another"
+        self.assertEqual(len(self.look()), 1, "what was written before the machine was started anew is old")
 
-    def test_a_minute_has_so_many_writes_and_the_news_first(self) -> None:
-        self.people = self.start(Manner(quiet=0.0, writes=2))
-        both = subject(101), subject(102)
-        self.gate.items = ["1 101 1 - ok unit=running", "2 102 1 1 ok unit=running"]
-        self.assertEqual([it.split(":")[0] for it in self.look(*both)], ["o/app 101", "o/app 102"])
-        self.assertEqual((self.look(*both), self.done), ([], {}))
-        self.now += 60
-        self.assertEqual([it.split(":")[0] for it in self.look(*both)], ["o/app 11, comment 1", "o/app 12, comment 2"])
-        self.assertTrue(self.is_done)
-        self.now += 60
-        self.gate.items = ["2 102 1 - ok unit=success", "3 103 1 2 ok unit=running", "4 101 1 3 ok unit=running"]
-        self.assertEqual([it.split(":")[0] for it in self.look(*both)], ["o/app 102", "o/app 12, comment 2"])
-        self.assertEqual(self.done, {102: "landing"})
-        self.now += 60
-        self.assertEqual([it.split(":")[0] for it in self.look(*both)], ["o/app 101", "o/app 11, comment 1"])
-        self.assertTrue(self.is_done)
+    def test_what_landed_and_is_shown_as_open_is_closed_some_time_later(self) -> None:
+        """Once, and its comment says so then. Nothing is closed that has other commits, or that isn't open."""
+        for is_open, state, commits, lines in (
+                (True, State.OPEN, ("9",), ["o/app 11: closed at 9",
+                                            "o/app 11, comment 1: **Landed in `core` as 1.**"]),
+                (False, State.OPEN, ("9",), ["o/app 11: closed at 9"]), (True, State.MERGED, ("9",), []),
+                (True, State.OPEN, ("9", "8"), [])):
+            with self.subTest(is_open=is_open, state=state, commits=commits):
+                self.setUp()
+                self.people, self.forge.is_open = self.start(Manner(quiet=0.0, closes=60.0)), is_open
+                self.gate.leave(5, 101, "landed", 1)
+                about = subject(101, *commits, state=state)
+                self.look(about)
+                self.now += 58
+                self.assertEqual(self.look(about), [])
+                self.now += 1
+                written = self.look(about) + self.look(about)
+                self.people = self.start(Manner(quiet=0.0, closes=60.0))
+                self.assertEqual((written, self.look(about)), (lines, []))
+                said = "The gate has closed it, since the forge didn't show it as merged. Its branch has its commits."
+                self.assertEqual(said in self.forge.comments[1][1], len(lines) == 2)
 
-    def test_an_hour_has_so_many_writes(self) -> None:
-        self.people = self.start(Manner(quiet=0.0, hourly=2))
-        both = subject(101), subject(102)
-        self.gate.items = ["1 101 1 - ok unit=running", "2 102 1 1 ok unit=running"]
-        self.assertEqual([it.split(":")[0] for it in self.look(*both)], ["o/app 101", "o/app 102"])
-        self.now += 3500
-        self.assertEqual(self.look(*both), [])
-        self.now += 99
-        self.assertEqual([it.split(":")[0] for it in self.look(*both)], ["o/app 11, comment 1", "o/app 12, comment 2"])
-
-    def test_a_look_writes_so_much_and_the_next_one_goes_on(self) -> None:
-        self.people = self.start(Manner(quiet=0.0, burst=3))
-        self.gate.items = [f"{it} {it} 1 - ok unit=running" for it in PLACES]
-        subjects = [subject(it) for it in PLACES]
-        self.assertEqual([len(self.look(*subjects)) for _ in range(4)], [3, 3, 2, 0])
-        self.assertTrue(self.is_done)
+    def test_places_in_the_queue_are_written_to_the_status_alone(self) -> None:
+        self.gate.items = [f"{it} {it} 1 {it - 1} ok unit=waiting" for it in (*range(2, 9), 101)]
+        self.look()
+        while len(self.gate.items) > 4:
+            self.gate.items = self.gate.items[1:]
+            self.assertEqual([it.split(" at ")[0] for it in self.look()], ["o/app 101: pending: Queued"])
 
     def test_a_history_of_another_file_is_read_anew(self) -> None:
         self.gate.leave(1, 102, "landed", 1)
@@ -210,84 +207,6 @@ class PeopleTest(PeopleCase):
                                          " approved again")
         self.assertIn("- `unit` failed: [build 17](https://logs/17)\n\nMend it", self.forge.comments[1][1])
 
-    def test_a_comment_is_there_once_though_people_are_killed(self) -> None:
-        class Killed(Exception):
-            pass
-
-        def kill() -> None:
-            self.forge.after = lambda: None
-            raise Killed
-
-        self.gate.items = ["1 101 1 - ok unit=running"]
-        # Behind the status, which is written first.
-        self.forge.after = lambda: setattr(self.forge, "after", kill)
-        self.assertRaises(Killed, self.look)
-        self.people = self.start()
-        self.gate.items = []
-        self.gate.know(101)
-        self.look()
-        self.assertEqual(list(self.forge.comments), [1])
-        self.assertIn("Waits for approval", self.forge.comments[1][1])
-
-    def test_what_was_there_before_is_written_over_a_write_without_an_answer(self) -> None:
-        """The forge did what it was asked, and failed then, or whoever asked was killed before he had noted that."""
-        def fail() -> None:
-            self.forge.after = lambda: None
-            raise fault
-
-        for fault in (ForgeFault("500"), KeyboardInterrupt()):
-            for skipped in (0, 1):
-                with self.subTest(type(fault).__name__, skipped=skipped):
-                    self.gate.items = ["1 101 1 - ok unit=running"]
-                    self.look()
-                    before = dict(self.forge.statuses), dict(self.forge.comments)
-                    self.gate.items = ["1 101 1 - ok unit=success"]
-                    self.forge.after = fail if not skipped else lambda: setattr(self.forge, "after", fail)
-                    with contextlib.suppress(KeyboardInterrupt):
-                        self.look()
-                    self.people, self.gate.items = self.start(), ["1 101 1 - ok unit=running"]
-                    self.look()
-                    self.assertEqual((self.forge.statuses, self.forge.comments), before)
-
-    def test_a_comment_that_somebody_removed_is_written_anew(self) -> None:
-        self.gate.items = ["1 101 1 - ok unit=running"]
-        self.look()
-        self.forge.comments = {7: (PLACES[102], "another")}
-        self.gate.items = ["1 101 1 - ok unit=success"]
-        self.assertIn("o/app 11, comment 8", self.look()[1])
-        self.gate.items = ["1 101 1 - ok unit=running"]
-        self.assertIn("o/app 11, comment 8", self.look()[1])
-
-    def test_a_request_that_cannot_be_told_holds_up_no_other(self) -> None:
-        def fault(place: Place | None) -> None:
-            if place == PLACES[101]:
-                raise ForgeFault("403")
-
-        self.gate.items = ["1 101 1 - ok unit=running", "2 102 1 1 ok unit=running"]
-        self.forge.before = fault
-        self.look(subject(101), subject(102))
-        self.look(subject(101), subject(102))
-        self.assertEqual([it for it, _ in self.forge.comments.values()], [PLACES[102]])
-        self.assertEqual(self.errors.getvalue(), "people: o/app, request 11: can't be told: 403\n")
-        self.assertFalse(self.is_done)
-        self.forge.before = lambda place: None
-        self.assertEqual(self.look(subject(101), subject(102)), [])
-        self.now += 60
-        self.assertEqual(len(self.look(subject(101), subject(102))), 1)
-        self.assertTrue(self.is_done)
-
-    def test_a_forge_that_fails_is_left_alone(self) -> None:
-        tried = []
-
-        def fault(place: Place | None) -> None:
-            tried.append(place)
-            raise ForgeFault("500")
-
-        self.gate.items = [f"{it} {it} 1 - ok unit=running" for it in PLACES]
-        self.forge.before = fault
-        self.look(*map(subject, PLACES))
-        self.assertEqual((len(tried), self.is_done), (3, False))
-
     def test_no_answer_of_the_gate_is_told_once(self) -> None:
         self.gate.answers = False
         self.assertEqual((self.look(), self.look(), self.is_done), ([], [], False))
@@ -339,7 +258,39 @@ class PeopleTest(PeopleCase):
         self.gate.leave(1, 101, "superseded")
         self.look(subject(101, "a", "b"))
         self.gate.know(101, revision=3)
-        self.assertEqual(self.look(subject(101, "a", "b", "a")), ["o/app a: pending: Waits for a new approval"])
+        self.assertEqual(self.look(subject(101, "a", "b", "a"))[0], "o/app a: pending: Waits for a new approval")
+
+    def test_of_a_revision_at_an_earlier_commit_people_are_told_anew_and_when(self) -> None:
+        told: list[tuple[int, int, int]] = []
+        self.people.shown = lambda change, revision, at: told.append((change, revision, at.second))
+        self.gate.know(101)
+        for second, commits in ((1, ("a",)), (2, ("a",)), (3, ("a", "a"))):
+            self.forge.now = datetime(2026, 1, 1, 0, 0, second, tzinfo=timezone.utc)
+            self.gate.know(101, revision=len(commits))
+            self.look(subject(101, *commits))
+        self.assertEqual(told, [(101, 1, 1), (101, 2, 3)])
+        # A forge that tells no time, and one that takes no status of this commit.
+        self.forge.now = None
+        self.gate.know(101, revision=3)
+        self.assertEqual(self.look(subject(101, "a", "a", "a")), ["o/app a: pending: Waits for approval"])
+        self.forge.now, self.forge.takes_statuses = datetime(2026, 1, 1, tzinfo=timezone.utc), False
+        self.gate.know(101, revision=4)
+        self.look(subject(101, "a", "a", "a", "a"))
+        self.assertEqual((len(told), self.look(subject(101, "a", "a", "a", "a"))), (2, []))
+
+    def test_a_request_that_waits_for_approval_has_the_line_to_copy_in_its_comment(self) -> None:
+        line = ("To approve this commit by a comment, write one that is this line alone:\n\n"
+                f"    /gate approve {'a' * 40}")
+        self.gate.know(101)
+        self.look(subject(101, "a" * 40, votes=("ada wrote something else: comment 4 doesn't count",)))
+        self.assertIn(line, self.forge.comments[1][1])
+        self.gate.leave(1, 101, "failed")
+        self.gate.build(1, 101, {"unit": True}, "unit")
+        self.look(subject(101, "a" * 40))
+        self.assertIn(line, self.forge.comments[1][1])
+        self.gate.items = ["2 101 1 - ok unit=running"]
+        self.look(subject(101, "a" * 40))
+        self.assertNotIn("/gate approve", self.forge.comments[1][1])
 
 
 if __name__ == "__main__":

@@ -8,6 +8,7 @@ from typing import Any
 
 from companions.forges import SUCCESS
 from companions.gate import Gate
+from companions.moments import Moment
 from companions.outbox import Notes
 from companions.people import People
 from companions.people_seen import Subject
@@ -73,15 +74,15 @@ class PeopleOfAGateTest(ServiceTest):
             for _ in range(chance.randrange(1, 12)):
                 self.any_delivery(chance, revisions, running)
                 if chance.randrange(3) == 0:
-                    self.people.look(self.subjects(revisions), self.now)
+                    self.people.look(self.subjects(revisions), Moment("one", self.now))
             subjects = self.subjects(revisions)
             for _ in range(len(PLACES) + 2):
                 self.now += 1
-                self.people.look(subjects, self.now)
+                self.people.look(subjects, Moment("one", self.now))
             fresh = PretendForge()
             other = People(self.gate_at, Notes(self.folder / f"fresh{day}.db"), fresh, PLACES.get, NEWS)
             for _ in range(3):
-                other.look(subjects, self.now)
+                other.look(subjects, Moment("one", self.now))
             told = {it.change: self.forge.statuses[it.commits[-1]] for it in subjects}
             self.assertEqual(told, {it.change: fresh.statuses[it.commits[-1]] for it in subjects}, f"day {day}")
             comments = {place: text for place, text in self.forge.comments.values()}
@@ -102,7 +103,7 @@ class PeopleOfAGateTest(ServiceTest):
         subjects = [other.get(f"at{it}", subject(it)) for it in PLACES]
         for _ in range(5):
             self.now += 1
-            if self.people.look(subjects, self.now) == set(PLACES):
+            if self.people.look(subjects, Moment("one", self.now)) == set(PLACES):
                 break
         return {it.change: ": ".join(self.forge.statuses.get(it.commits[-1], ("none",))) for it in subjects}
 
@@ -150,7 +151,8 @@ class PeopleOfAGateTest(ServiceTest):
             104: "failure: Left core: o/app#12, which it needs, left without landing"})
         self.assertEqual(self.forge.comments[self.forge.find(PLACES[102]) or 0][1], (
             "**Left `core`: its tests failed.**\n\n- `unit` failed: [build 2](https://logs/2)\n\nMend it, push,"
-            " and have the new commit approved. If it failed by chance, have it approved again as it is."))
+            " and have the new commit approved. If it failed by chance, have it approved again as it is.\n\nTo"
+            f" approve this commit by a comment, write one that is this line alone:\n\n    /gate approve {102:040d}"))
         self.assertEqual(len(self.forge.comments), 4)
         self.losses_and_ends()
 

@@ -10,7 +10,7 @@ from unittest import mock
 
 from companions import lander
 from companions.merging import Merge, Parent
-from companions.repository import GitFault, Merged, Repository
+from companions.repository import Declined, GitFault, Merged, Repository
 from companions.tests.forge import Origin
 
 LANDING = "refs/landings/core/000001"
@@ -138,6 +138,29 @@ class Git(unittest.TestCase):
         self.origin.folder.rename(self.folder / "away.git")
         with self.assertRaises(GitFault):
             self.repository.push({"refs/heads/main": (self.head, new)})
+
+    def test_names_are_taken_away_whatever_they_stand_for_and_no_others(self) -> None:
+        name = "refs/heads/gate/core/abc-1"
+        for it in (name, f"{name}2", "refs/heads/gate/core/abc", f"refs/tags/{name}", f"refs/heads/x/{name}"):
+            self.origin.name(it, self.head)
+        self.repository.remove(name, "refs/heads/gate/core/abc-3")
+        listed = self.origin.git("for-each-ref", "--format=%(refname)", "refs/heads/gate", "refs/heads/x", "refs/tags")
+        self.assertEqual(set(listed.splitlines()), {
+            f"{name}2", "refs/heads/gate/core/abc", f"refs/tags/{name}", f"refs/heads/x/{name}"})
+        self.repository.remove(name)
+        self.repository.remove()
+
+    def test_what_the_server_does_not_let_go_is_declined(self) -> None:
+        self.origin.git("config", "receive.denyDeletes", "true")
+        self.origin.name("refs/heads/gate/core/abc-1", self.head)
+        with self.assertRaises(Declined) as told:
+            self.repository.remove("refs/heads/gate/core/abc-1")
+        self.assertEqual(told.exception.words, "error: denying ref deletion for refs/heads/gate/core/abc-1; deletion"
+                                               " prohibited")
+        self.origin.folder.rename(self.folder / "away.git")
+        with self.assertRaises(GitFault) as away:
+            self.repository.remove("refs/heads/gate/core/abc-1")
+        self.assertNotIsInstance(away.exception, Declined)
 
     def test_names_are_found_that_are_there(self) -> None:
         self.origin.revision(1, 1, self.head)

@@ -3,27 +3,38 @@ from __future__ import annotations
 
 import unittest
 from dataclasses import replace
+from datetime import datetime, timedelta, timezone
 
-from companions.requests import (GONE, Request, Revision, State, Telling, Told, Vote, closing, first_seen, tellings,
-                                 uncounted)
+from companions.requests import (BEHIND_GAP, GONE, NO_REVISION, Request, Revision, State, Telling, Told, Vote, closing,
+                                 first_seen, tellings, uncounted)
 
 A, B = "a" * 40, "b" * 40
 APPROVERS = frozenset({"ada", "bob", "eve"})
 
+# When people were told of the last revision, by the forge's time.
+NOON = datetime(2024, 5, 1, 12, tzinfo=timezone.utc)
 # Two reviews and a review that objects, each of the commit A; a comment, which names none.
 ADA, BOB = Vote("review 1", "ada", True, A), Vote("review 2", "bob", True, A)
 EVE = Vote("review 3", "eve", False, A)
-SAID = Vote("comment 4", "ada", True, None)
+SAID = Vote("comment 4", "ada", True, None, said=NOON + timedelta(seconds=60))
 FLAW = "wrote something else"
 
 NOTHING = Told(5)
-ONE = Told(5, (Revision(A, ()),))
-TWO = Told(5, (Revision(A, ()), Revision(B, ())))
-BACK = Told(5, (Revision(A, ()), Revision(B, ()), Revision(A, ())))
+ONE = Told(5, (Revision(A, ()),), shown=NOON, sure=NOON)
+TWO = replace(ONE, revisions=(Revision(A, ()), Revision(B, ())))
+BACK = replace(ONE, revisions=(Revision(A, ()), Revision(B, ()), Revision(A, ())))
 
 
-def so(*votes: Vote, head: str = A, state: State = State.OPEN, is_draft: bool = False) -> Request:
-    return Request("acme/lib", 12, state, head, "main", "Title", "Text", votes, is_draft)
+def so(*votes: Vote, head: str = A, state: State = State.OPEN, is_draft: bool = False, moved: float | None = None
+       ) -> Request:
+    """A request, which was pushed to so many seconds behind noon."""
+    at = None if moved is None else NOON + timedelta(seconds=moved)
+    return Request("acme/lib", 12, state, head, "main", "Title", "Text", votes, is_draft, moved=at)
+
+
+def said(seconds: float, commit: str | None = None) -> Vote:
+    """A comment of so many seconds behind noon, at a forge that says which commit the request had then, or doesn't."""
+    return Vote("comment 4", "ada", True, commit, said=NOON + timedelta(seconds=seconds))
 
 
 def ada(number: int, approves: bool | None = True, commit: str | None = A) -> Vote:
@@ -121,14 +132,52 @@ COMMENTS = (
     ("first seen together with other needs", so(SAID), ONE, (3,), [f"revision 2 {A} 3"]),
     ("first seen together with an opening", so(SAID), replace(ONE, closed=True), (), ["revision 2 " + A]),
     ("seen with a new revision, and looked at again", so(SAID), told(ONE, seen=(SAID,), at=0), (), []),
-    ("given again, once the revision is known", so(SAID, Vote("comment 5", "ada", True, None)),
+    ("given again, once the revision is known", so(SAID, replace(SAID, object="comment 5")),
      told(ONE, seen=(SAID,), at=0), (), ["approved 1 comment 5"]),
+    ("made so soon that nobody can have read what the gate told of", so(said(59)), ONE, (), []),
+    ("and looked at again", so(said(59)), told(ONE, seen=(SAID,)), (), []),
+    ("made before the gate told of the revision", so(said(-1)), ONE, (), []),
+    ("or while it has told of nothing", so(SAID), replace(ONE, shown=None), (), []),
+    ("where people read for longer", so(said(299)), replace(ONE, reading=300.0), (), []),
+    ("where people read for shorter", so(said(20)), replace(ONE, reading=20.0), (), ["approved 1 comment 4"]),
+    ("a forge that says which commit it was: the same", so(said(60, A)), ONE, (), ["approved 1 comment 4"]),
+    ("made too soon", so(said(59, A)), ONE, (), []),
+    ("made at another commit", so(said(60, B)), ONE, (), []),
+    ("first seen together with the revision", so(said(60, A)), NOTHING, (), ["revision 1 " + A]),
+    ("one that names the whole commit, whatever was told of", so(Vote("comment 4", "ada", True, A)),
+     replace(ONE, shown=None), (), ["approved 1 comment 4"]),
+    ("or another one", so(Vote("comment 4", "ada", True, B)), ONE, (), []),
+    ("one that names the commit, with a new request", so(Vote("comment 4", "ada", True, A)), NOTHING, (),
+     ["revision 1 " + A, "approved 1 comment 4"]),
     ("which is none", so(replace(SAID, flaw=FLAW)), ONE, (), []),
     ("which was one when it was told", so(replace(SAID, flaw=FLAW)), told(ONE, SAID), (),
      ["withdrawn 1 comment 4"]),
     ("which is none and ends no objection", so(EVE, replace(SAID, person="eve", flaw=FLAW), ADA), ONE, (), []),
     ("beside a review, with a new request", so(ADA, SAID), NOTHING, (), ["revision 1 " + A, "approved 1 review 1"]),
     ("at a head that goes back", so(SAID), told(BACK, SAID), (), []),
+)
+
+GAPS = (
+    ("a comment that is first seen behind a gap", so(SAID), replace(ONE, sure=None), (), []),
+    ("and looked at again without one", so(SAID), told(ONE, seen=(SAID,), at=-1), (), []),
+    ("at a forge that says which commit it was", so(said(60, A)), replace(ONE, sure=None), (), []),
+    ("one that was made so soon behind it that its person may have read what was there in it", so(said(359)),
+     replace(ONE, sure=NOON + timedelta(seconds=300)), (), []),
+    ("one that was made some time behind it", so(said(360)), replace(ONE, sure=NOON + timedelta(seconds=300)), (),
+     ["approved 1 comment 4"]),
+    ("one that was seen before the gap", so(SAID), told(ONE, seen=(SAID,), sure=None), (), ["approved 1 comment 4"]),
+    ("one that names the commit", so(Vote("comment 4", "ada", True, A)), replace(ONE, sure=None), (),
+     ["approved 1 comment 4"]),
+    ("a review behind a gap", so(ADA), replace(ONE, sure=None), (), ["approved 1 review 1"]),
+    ("pushed over and back since it was told", so(SAID, moved=1), ONE, (), ["revision 2 " + A]),
+    ("with a comment that was seen before", so(SAID, moved=61), told(ONE, seen=(SAID,)), (), ["revision 2 " + A]),
+    ("with one that names the commit", so(Vote("comment 4", "ada", True, A), moved=1), ONE, (),
+     ["revision 2 " + A, "approved 2 comment 4"]),
+    ("which was approved before", so(ADA, moved=1), told(ONE, ADA), (), ["revision 2 " + A]),
+    ("pushed before it was told", so(SAID, moved=-1), ONE, (), ["approved 1 comment 4"]),
+    ("pushed in the second in which it was told", so(SAID, moved=0.9), ONE, (), ["approved 1 comment 4"]),
+    ("pushed while nobody has been told of it", so(ADA, moved=1), replace(ONE, shown=None), (),
+     ["approved 1 review 1"]),
 )
 
 WITHDRAWALS = (
@@ -184,11 +233,14 @@ class Table(unittest.TestCase):
     def test_votes_without_a_commit(self) -> None:
         self.check(COMMENTS)
 
+    def test_votes_behind_a_gap(self) -> None:
+        self.check(GAPS)
+
     def test_withdrawals(self) -> None:
         self.check(WITHDRAWALS)
 
     def test_the_table_has_no_case_twice(self) -> None:
-        cases = [*REVISIONS, *CLOSINGS, *VOTES, *COMMENTS, *WITHDRAWALS]
+        cases = [*REVISIONS, *CLOSINGS, *VOTES, *COMMENTS, *GAPS, *WITHDRAWALS]
         self.assertEqual(len({repr(it[1:4]) for it in cases}), len(cases))
         self.assertGreaterEqual(len(cases), 60)
 
@@ -212,7 +264,7 @@ class Rules(unittest.TestCase):
 
     def test_what_was_told_is_told_no_more(self) -> None:
         """Told its own deliveries, no state has any left."""
-        for name, request, known, needs, _ in (*REVISIONS, *CLOSINGS, *VOTES, *COMMENTS, *WITHDRAWALS):
+        for name, request, known, needs, _ in (*REVISIONS, *CLOSINGS, *VOTES, *COMMENTS, *GAPS, *WITHDRAWALS):
             with self.subTest(name):
                 steps = tellings(request, known, needs, APPROVERS)
                 after = follow(request, known, needs, steps)
@@ -224,11 +276,28 @@ class Rules(unittest.TestCase):
         self.assertEqual(first_seen(so(ADA, SAID), told(ONE, ADA), ()), {"comment 4": 1})
         self.assertEqual(first_seen(so(ADA, SAID, state=State.CLOSED), ONE, ()), {"review 1": 1, "comment 4": 0})
 
+    def test_a_vote_behind_a_gap_is_of_no_revision_unless_it_names_the_commit(self) -> None:
+        gap = replace(ONE, sure=None)
+        self.assertEqual(first_seen(so(ADA, SAID), gap, ()), {"review 1": 1, "comment 4": BEHIND_GAP})
+        self.assertEqual(first_seen(so(SAID, head=B), gap, ()), {"comment 4": NO_REVISION})
+        self.assertEqual(first_seen(so(SAID), told(gap, seen=(SAID,)), ()), {})
+
     def test_why_votes_do_not_count_is_told(self) -> None:
-        for request, known, said in (
+        for request, known, lines in (
                 (so(ADA), told(ONE, ADA), []),
                 (so(ADA), ONE, []),
-                (so(ADA, head=B), TWO, ["ada approved an earlier commit: review 1 doesn't count"]),
+                (so(ADA, head=B), TWO, ["ada approved another commit than that of now: review 1 doesn't count"]),
+                (so(said(60, B)), ONE, ["ada approved another commit than that of now: comment 4 doesn't count"]),
+                (so(said(59)), ONE, ["ada approved within 60 seconds of the gate's word of this commit, and named none:"
+                                     " comment 4 doesn't count"]),
+                (so(SAID), replace(ONE, shown=None),
+                 ["ada approved before the gate has told of this commit, and named none: comment 4 doesn't count"]),
+                (so(SAID), told(ONE, seen=(SAID,), at=BEHIND_GAP),
+                 ["ada approved while the gate couldn't look at this request, or soon behind that, and named no commit:"
+                  " comment 4 doesn't count"]),
+                (so(SAID), replace(ONE, sure=None),
+                 ["ada approved while the gate couldn't look at this request, or soon behind that, and named no commit:"
+                  " comment 4 doesn't count"]),
                 (so(ada(1, commit=GONE)), ONE,
                  ["ada approved a commit that the forge no longer names: review 1 doesn't count"]),
                 (so(ADA), told(BACK, ADA),
@@ -250,8 +319,8 @@ class Rules(unittest.TestCase):
                 (so(is_draft=True), ONE, []),
                 (so(ADA, head=B), replace(TWO, landed=True), []),
                 (so(ADA, head=B, state=State.CLOSED), TWO, [])):
-            with self.subTest(said):
-                self.assertEqual(uncounted(request, known, (), APPROVERS), said)
+            with self.subTest(lines):
+                self.assertEqual(uncounted(request, known, (), APPROVERS), lines)
 
 
 def follow(request: Request, known: Told, needs: tuple[int, ...], steps: list[Telling]) -> Told:
@@ -259,7 +328,8 @@ def follow(request: Request, known: Told, needs: tuple[int, ...], steps: list[Te
     seen = {**known.seen, **first_seen(request, known, needs)}
     for it in steps:
         if it.kind == "revision":
-            known = replace(known, revisions=(*known.revisions, Revision(request.head, needs)), closed=False)
+            revisions = (*known.revisions, Revision(request.head, needs))
+            known = replace(known, revisions=revisions, closed=False, shown=None)
         elif it.kind == "closed":
             known = replace(known, closed=True)
         elif it.kind == "approved":

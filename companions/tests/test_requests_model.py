@@ -4,6 +4,7 @@ from __future__ import annotations
 import random
 import unittest
 from dataclasses import dataclass, field, replace
+from datetime import datetime, timedelta, timezone
 
 from companions.requests import (NO_REVISION, Request, Revision, State, Telling, Told, Vote, closing, first_seen,
                                  standing, tellings)
@@ -13,12 +14,20 @@ PEOPLE = ("ada", "bob", "mallory")
 MAY = frozenset({"ada", "bob"})
 BRANCHES = ("main", "old", "topic")
 GATED = ("main", "old")
+NOON = datetime(2024, 5, 1, 12, tzinfo=timezone.utc)
 
 
 @dataclass
 class Model:
-    """A request with its votes, each with what its person looked at; what was told, by branch; what the gate has."""
+    """A request with its votes, each with what its person looked at; what was told, by branch; what the gate has.
+    `moved` is when its head moved last, which the forge lists, or doesn't: then looks may fail, which is a gap. What a
+    person looks at he has read for a while."""
     chance: random.Random
+    lists: bool = False
+    now: datetime = NOON
+    moved: datetime = NOON
+    read_since: datetime = NOON
+    sure: datetime | None = None
     head: int = 0
     needs: tuple[int, ...] = ()
     branch: str = "main"
@@ -34,11 +43,17 @@ class Model:
 
     def act(self) -> None:
         """Somebody does something at the forge."""
-        what = self.chance.choice(("push", "back", "text", "branch", "state", *("vote",) * 6, "dismiss", "fail"))
+        self.now += timedelta(seconds=self.chance.choice((5, 30, 100)))
+        what = self.chance.choice(("push", *("back",) * 3, "text", "branch", "state", *("vote",) * 6, "dismiss", "fail",
+                                   "gap"))
         if what == "push":
             self.pushed += 1
-            self.head, self.is_seen = self.pushed, False
-        elif what in ("back", "text", "branch") and self.is_seen:
+            self.move(self.pushed)
+        elif what == "back":
+            self.move(self.chance.randrange(self.pushed + 1))
+        elif what == "gap":
+            self.sure = None
+        elif what in ("text", "branch") and self.is_seen:
             self.is_seen = False
             self.change(what)
         elif what == "state":
@@ -50,11 +65,16 @@ class Model:
         elif what == "fail":
             self.approved.clear()
 
+    def move(self, head: int) -> None:
+        """The head moves, perhaps there and back again between two looks. Where the forge doesn't list that, a look
+        between has failed."""
+        if head != self.head:
+            self.sure = self.sure if self.lists or self.is_seen else None
+            self.head, self.is_seen, self.moved, self.read_since = head, False, self.now, self.now
+
     def change(self, what: str) -> None:
         """There and back again between two looks would be seen by nobody, so each is looked at before the next."""
-        if what == "back":
-            self.head = self.chance.randrange(self.pushed + 1)
-        elif what == "text":
+        if what == "text":
             self.needs = self.chance.choice(((), (7,), (7, 8)))
         else:
             self.branch = self.chance.choice(BRANCHES)
@@ -63,8 +83,12 @@ class Model:
         name = f"vote {len(self.looked_at)}"
         approves, is_comment = self.chance.random() < 0.8, self.chance.random() < 0.4
         self.looked_at[name] = self.head, self.needs, self.branch
+        said = self.now if is_comment else None
+        if is_comment and self.chance.random() < 0.2:
+            # It names the commit.
+            said, is_comment = None, False
         self.votes.append(Vote(name, self.chance.choice(PEOPLE), approves or is_comment,
-                               None if is_comment else str(self.head)))
+                               None if is_comment else str(self.head), said=said))
 
     def dismiss(self, at: int) -> None:
         """A forge shows a dismissed vote as one that says nothing, or no more."""
@@ -73,14 +97,15 @@ class Model:
             self.votes.insert(at, replace(vote, approves=None))
 
     def so(self) -> Request:
-        return Request("acme/lib", 12, self.state, str(self.head), self.branch, "", "", tuple(self.votes))
+        moved = self.moved if self.lists and self.votes else None
+        return Request("acme/lib", 12, self.state, str(self.head), self.branch, "", "", tuple(self.votes), moved=moved)
 
     def known(self, branch: str) -> Told:
         """What was told at a branch; votes of others are of no revision of it."""
         other = [it for name, it in self.told.items() if name != branch]
         seen = {name: at if where == branch else NO_REVISION for name, (where, at) in self.seen.items()}
         approvals = {name: NO_REVISION for it in other for name in it.approvals} | self.told[branch].approvals
-        return replace(self.told[branch], seen=seen, approvals=approvals)
+        return replace(self.told[branch], seen=seen, approvals=approvals, sure=self.sure)
 
     def look(self) -> list[Telling]:
         """The adapter looks. What it tells is taken by the gate."""
@@ -98,12 +123,14 @@ class Model:
             all_steps += steps
         if self.branch not in GATED:
             self.seen |= {it.object: ("", NO_REVISION) for it in so.votes if it.object not in self.seen}
+        self.sure = self.sure or self.now
         return all_steps
 
     def take(self, branch: str, step: Telling) -> None:
         told = self.told[branch]
         if step.kind == "revision":
-            told = replace(told, closed=False, revisions=(*told.revisions, Revision(str(self.head), self.needs)))
+            told = replace(told, closed=False, revisions=(*told.revisions, Revision(str(self.head), self.needs)),
+                           shown=self.now if self.chance.random() < 0.9 else None)
         elif step.kind == "closed":
             told = replace(told, closed=True)
         elif step.kind == "approved":
@@ -118,7 +145,7 @@ class Days(unittest.TestCase):
     def test_people_do_what_they_like(self) -> None:
         approved = 0
         for seed in range(SEEDS):
-            model = Model(random.Random(seed))
+            model = Model(random.Random(seed), lists=seed % 2 == 0)
             for step in range(STEPS):
                 with self.subTest(seed=seed, step=step):
                     model.act()
@@ -151,18 +178,22 @@ class Days(unittest.TestCase):
             if vote.object in step.votes:
                 commit, needs, branch = model.looked_at[vote.object]
                 self.assertEqual((vote.approves, vote.person in MAY, commit), (True, True, model.head))
-                if vote.commit is None:
+                if vote.said is not None:
                     self.assertEqual((needs, branch), (model.needs, model.branch))
+                    # Nobody could have read that which was pushed so shortly before.
+                    self.assertGreaterEqual(vote.said - model.read_since, timedelta(seconds=60))
         self.assertLessEqual({*step.votes}, {it.object for it in model.votes})
         self.assertFalse({*step.votes} & model.spent)
         model.spent |= {*step.votes}
 
     def has_new(self, model: Model, count: list[Vote], before: Told) -> bool:
         """Whether a vote that wasn't seen before names the commit, or was given to a revision that was known."""
-        is_known = before.revisions and not before.closed and (
-            before.revisions[-1] == Revision(str(model.head), model.needs))
-        return any(it.object not in before.seen and (it.commit == str(model.head) or it.commit is None and is_known)
-                   for it in count)
+        is_known = before.revisions and not before.closed and before.sure and before.shown and (
+            before.revisions[-1] == Revision(str(model.head), model.needs)) and not (
+            model.lists and model.moved > before.shown)
+        return any(it.object not in before.seen and (
+            it.commit == str(model.head) or it.said is not None and is_known
+            and it.said >= max(before.shown, before.sure) + timedelta(seconds=60)) for it in count)
 
 
 if __name__ == "__main__":

@@ -5,9 +5,10 @@ import unittest
 from typing import Any
 
 from companions.answers import Answers
-from companions.compared import Moment, file_in, read
+from companions.compared import file_in, read
 from companions.forges import Place
 from companions.ids import id_of, revision_id
+from companions.moments import Moment
 from companions.tests.adapter_case import Case
 
 OTHER = "0b000000-0000-4000-8000-000000000001"
@@ -21,7 +22,7 @@ class Ids(Case):
         """The changes of which nobody could tell by the gate that the ref is what was told, as a lander looks."""
         found = []
         for change, known in self.gate.changes.items():
-            ref = self.origin.git("rev-parse", f"refs/changes/{change}/{known['revision']}")
+            ref = self.origin.git("for-each-ref", "--format=%(objectname)", f"refs/changes/{change}/{known['revision']}")
             needs = [it["change"] for it in known["needs"]]
             if revision_id(self.first(), change, known["revision"], ref, needs) not in self.gate.accepted:
                 found.append(f"{change} {known['revision']}")
@@ -29,8 +30,8 @@ class Ids(Case):
 
     def test_by_its_id_anybody_can_tell_which_commit_was_told(self) -> None:
         self.be(12, 0, self.approve(1))
-        self.be(13, 1, text="Depends-On: #14\nDepends-On: #12")
-        self.be(14, 2, text="Depends-On: #12")
+        self.be(13, 1, self.approve(2, 1), text="Depends-On: #14\nDepends-On: #12")
+        self.be(14, 2, self.approve(3, 2), text="Depends-On: #12")
         self.look()
         self.assertEqual((len(self.gate.changes), self.unchecked()), (3, []))
         self.origin.revision(1, 1, self.commits[3])
@@ -72,7 +73,7 @@ class Ids(Case):
     def test_a_first_one_that_the_gate_refuses_is_followed_by_another(self) -> None:
         self.gate.accepted.clear()
         self.gate.projects = {"old"}
-        places = [self.be(12, 0), self.be(13, 1, target="old"), self.be(14, 2, target="old")]
+        places = [self.be(12, 0), *(self.be(it, it - 12, self.approve(it, it - 12), target="old") for it in (13, 14))]
         self.look(*places)
         self.look()
         self.assertEqual((sorted(self.gate.changes), self.unchecked()), ([2, 3], []))

@@ -9,13 +9,13 @@ import unittest
 from pathlib import Path
 from unittest import mock
 
-from companions import lander, tables
+from companions import lander, subjects, tables
 from companions.forges import Place
 from companions.hooks import Hints
 from companions.outbox import Kept, Notes, Outbox
 from companions.requests import Revision, State, Told
 from companions.starting import start
-from companions.subjects import Subjects
+from companions.subjects import Shown, Subjects
 from companions.tables import OtherVersion, opened
 from companions.tests.test_core import WHOLE
 from companions.told import Changes
@@ -75,6 +75,13 @@ class Case(unittest.TestCase):
             return [file.execute(it).fetchall() for it in ("PRAGMA user_version", *words)]
 
 
+def columns(file: Path) -> dict[str, list[str]]:
+    """The names of the columns of each table."""
+    with contextlib.closing(sqlite3.connect(file)) as tables_of:
+        names = [name for name, in tables_of.execute("SELECT name FROM sqlite_master WHERE type = 'table'")]
+        return {name: sorted(row[1] for row in tables_of.execute(f"PRAGMA table_info({name})")) for name in names}
+
+
 class Versions(Case):
     def test_a_file_of_the_adapter_without_a_version_is_carried_over(self) -> None:
         self.make(EARLIER)
@@ -90,8 +97,19 @@ class Versions(Case):
                          ("Title", ["Depends-On: https://forge.example/x"]))
         self.assertEqual((subject.change, subject.place, subject.commits, subject.state),
                          (7, PLACE, ("aaaa",), State.OPEN))
+        self.assertEqual(Subjects(changes).shown(0.0, 10), [
+            Shown(PLACE, 7, "", "", (), (subjects.Told(1, "aaaa", (3,), 1, 0),))])
         self.assertEqual(hints.all(), [(5, PLACE)])
         self.assertEqual(self.found(), [[(len(tables.STEPS),)]])
+
+    def test_a_file_that_is_carried_over_has_the_columns_of_a_new_one(self) -> None:
+        self.make(EARLIER)
+        new = self.file.with_name("new.db")
+        for file in (self.file, new):
+            outbox = Outbox(file)
+            Hints(file)
+            Subjects(Changes(outbox))
+        self.assertEqual(columns(self.file), columns(new))
 
     def test_notes_without_a_version_are_carried_over(self) -> None:
         self.make("CREATE TABLE note(name TEXT PRIMARY KEY, said TEXT NOT NULL);"

@@ -3,27 +3,26 @@ from __future__ import annotations
 
 import contextlib
 import dataclasses
-import http.server
 import io
+import itertools
 import json
-import tempfile
-import threading
 import unittest
 import unittest.mock
-import uuid
 from pathlib import Path
-from typing import Any
 
 from companions.answers import Answers
 from companions.figures import QueueFigures, text_of
-from companions.settings import Account, Job, Project, Settings
-from companions.watch import Watch
+from companions.moments import Moment
+from companions.tests.watch_case import ONE, OTHER, WatchCase
+from companions.watch import run
 
-ONE, OTHER = str(uuid.UUID(int=1)), str(uuid.UUID(int=2))
 FIGURES = """\
 # HELP gated_up Whether the gate answers.
 # TYPE gated_up gauge
 gated_up 1
+# HELP gated_accepts Whether the gate accepts deliveries.
+# TYPE gated_accepts gauge
+gated_accepts 1
 # HELP gated_items Items that stand in the queue.
 # TYPE gated_items gauge
 gated_items{queue="core"} 3
@@ -51,6 +50,10 @@ gated_window{queue="web.2"} 3
 # HELP gated_lander_stopped Whether the lander doesn't land what the queue has for it.
 # TYPE gated_lander_stopped gauge
 gated_lander_stopped{queue="core"} 1
+# HELP gated_adapter_blind_seconds For how long the adapter hasn't seen the repository.
+# TYPE gated_adapter_blind_seconds gauge
+gated_adapter_blind_seconds{repository="acme/lib"} 912
+gated_adapter_blind_seconds{repository="o\\"\\\\ne"} 0
 # HELP gated_builds_lost_total Builds that the watch has reported as lost.
 # TYPE gated_builds_lost_total counter
 gated_builds_lost_total 5
@@ -65,114 +68,15 @@ gated_builds_lost_total 5
 """
 
 
-class StandIn:
-    """What the stand-in of a gate has, and what it was asked and told."""
-
-    def __init__(self) -> None:
-        self.first: str | None = ONE
-        self.landed = 0
-        self.items: list[str] = []
-        self.waiting: dict[int, str] = {}
-        self.builds: dict[int, dict[str, Any]] = {}
-        self.answers = True
-        self.asked: list[str] = []
-        self.told: list[dict[str, Any]] = []
-
-    def give(self, number: int, change: int = 101, revision: int = 1, **said: Any) -> None:
-        self.builds[number] = {"after": 0, "ahead": [], "build": number, "change": change, "revision": revision,
-                               "job": "unit", "queue": "core", "live": True, "outcome": "running", **said}
-
-    def text(self, path: str) -> str | None:
-        """The answer to a question: a text, or none for a 404."""
-        if path == "/deliveries":
-            return "end 0\n" if self.first is None else f'{{"id":"{self.first.replace("-", "")}"}}\nend 1\n'
-        if path == "/status":
-            rows = [f"queue core window 4 landed {self.landed}", *self.items, "queue web window 3 landed 0",
-                    *(f"waiting {it} 1" for it in self.waiting), "end"]
-            return "".join(f"{it}\n" for it in rows)
-        if path == "/running":
-            shown = [it for it in self.builds.values() if it["live"] and it["outcome"] == "running"]
-            return json.dumps({"builds": shown, "running": len(shown)})
-        _, kind, number = path.split("/")
-        known = {"builds": self.builds, "changes": {it: {"queue": self.waiting[it]} for it in self.waiting}}[kind]
-        return json.dumps(known[int(number)]) if int(number) in known else None
-
-    def tell(self, said: dict[str, Any]) -> str:
-        self.told.append(said)
-        self.builds[said["build"]]["outcome"] = said["outcome"]
-        return '{"reply":"noted"}'
-
-
-class Door(http.server.BaseHTTPRequestHandler):
-    """One request to the stand-in. Who isn't its account is turned away as a proxy does it."""
-    server: Server
-
-    def do_GET(self) -> None:
-        self.server.gate.asked.append(self.path)
-        text = self.server.gate.text(self.path)
-        self.answer(*((404, '{"error":"unknown-build"}') if text is None else (200, text)))
-
-    def do_POST(self) -> None:
-        self.answer(200, self.server.gate.tell(json.loads(self.rfile.read(int(self.headers["Content-Length"])))))
-
-    def answer(self, status: int, text: str) -> None:
-        if not self.server.gate.answers:
-            status, text = 502, "<html>Bad Gateway</html>"
-        self.send_response(status)
-        self.end_headers()
-        self.wfile.write(text.encode())
-
-    def log_message(self, *_: Any) -> None:
-        """Nothing is told of each request."""
-
-
-class Server(http.server.HTTPServer):
-    gate: StandIn
-
-
-class WatchTest(unittest.TestCase):
-    """Each test is told what the watch wrote to standard error, and where its figures are."""
-
-    def setUp(self) -> None:
-        room = tempfile.TemporaryDirectory()
-        self.addCleanup(room.cleanup)
-        server = Server(("127.0.0.1", 0), Door)
-        server.gate = self.gate = StandIn()
-        threading.Thread(target=server.serve_forever, kwargs={"poll_interval": 0.01}, daemon=True).start()
-        self.addCleanup(server.server_close)
-        self.addCleanup(server.shutdown)
-        accounts = dict.fromkeys(("people", "worker", "standby"), Account("somebody", "secret"))
-        jobs = {"unit": Job("unit", "true", 60.0), "docs": Job("docs", "true", 600.0)}
-        self.settings = Settings(
-            url=f"http://127.0.0.1:{server.server_port}", accounts=accounts, folder=Path(room.name),
-            projects={"lib": Project("lib", "core", "/nowhere", "main", jobs)},
-            pause=1.0, look=10.0, grace=30.0, stands=1000.0, author="gate <gate@localhost>")
-        self.file = Path(room.name) / "watch" / "gated.prom"
-        self.watch = Watch(self.settings)
-
-    def look(self, now: float) -> str:
-        """What one look wrote to standard error."""
-        with contextlib.redirect_stderr(io.StringIO()) as told:
-            self.watch.look(now)
-        return told.getvalue()
-
-    def figure(self, name: str) -> str | None:
-        rows = [it.rpartition(" ") for it in self.file.read_text().splitlines()]
-        return next((value for label, _, value in rows if label == name), None)
-
-    def start_again(self) -> None:
-        self.watch.notes.tables.close()
-        self.watch = Watch(self.settings)
-
-    def tearDown(self) -> None:
-        self.watch.notes.tables.close()
-
+class WatchTest(WatchCase):
     def test_figures_are_a_text_of_prometheus(self) -> None:
         core = QueueFigures("core", items=3, waiting=1, running=4, oldest_seconds=75, landed=12, window=20,
                             lander_stopped=1)
         web = QueueFigures("web.2", items=0, waiting=2, running=0, oldest_seconds=0, landed=7, window=3)
-        self.assertEqual(text_of([core, web], 5), FIGURES)
-        self.assertEqual(text_of(None, 5), SILENT)
+        blind = {'o"\\ne': 0, "acme/lib": 912}
+        self.assertEqual(text_of([core, web], 5, blind, True), FIGURES)
+        self.assertEqual(text_of([core, web], 5, blind, False), FIGURES.replace("gated_accepts 1", "gated_accepts 0"))
+        self.assertEqual(text_of(None, 5, {}), SILENT)
 
     def test_figures_are_what_the_gate_shows(self) -> None:
         self.gate.items = ["     7       101    1      - ok      unit=running docs=waiting",
@@ -221,7 +125,9 @@ class WatchTest(unittest.TestCase):
         self.assertRegex(self.look(1001.0), "^watch: can't look: no answer of the gate: .*502")
         self.assertEqual(self.look(1002.0), "")
         self.assertEqual(self.figure("gated_up"), "0")
-        self.assertNotIn("queue", self.file.read_text())
+        # Counts stay what they are.
+        shown = {it.partition("{")[0] for it in self.file.read_text().splitlines() if "queue=" in it}
+        self.assertEqual(shown, {"gated_items_left_total", "gated_window_shrinks_total"})
         self.gate.answers = True
         self.assertEqual(self.look(1003.0), "watch: the gate answers again\n")
         self.assertEqual(self.figure('gated_oldest_seconds{queue="core"}'), "3")
@@ -309,6 +215,36 @@ class WatchTest(unittest.TestCase):
         self.look(1090.5)
         self.assertEqual(len(self.gate.told), 1)
 
+    def test_a_build_that_was_seen_in_another_boot_counts_from_now(self) -> None:
+        self.gate.items = ["7 101 1 - ok unit=running"]
+        self.gate.give(1)
+        self.look(1000.0)
+        self.start_again()
+        self.assertEqual(self.look(5000.0, "two"), "")
+        self.assertEqual(self.figure('gated_oldest_seconds{queue="core"}'), "0")
+        self.look(5090.0, "two")
+        self.assertEqual(self.gate.told, [])
+        self.look(5090.5, "two")
+        self.assertEqual(len(self.gate.told), 1)
+
+    def test_a_clock_of_the_day_that_is_set_makes_no_age_wrong(self) -> None:
+        """Three days ahead and 4,000 seconds back, while the machine's own clock goes on by a second a look."""
+        self.gate.items = ["7 101 1 - ok unit=running"]
+        self.gate.give(1)
+        told: list[int] = []
+        uptime = iter(range(1000, 1093))
+        days = itertools.cycle((0.0, 3 * 86400.0, -4000.0))
+
+        def look_again(_: float) -> None:
+            told.append(len(self.gate.told))
+
+        self.enterContext(unittest.mock.patch("time.time", lambda: 1.8e9 + next(days)))
+        self.enterContext(unittest.mock.patch("companions.watch.time.sleep", look_again))
+        with contextlib.redirect_stderr(io.StringIO()), self.assertRaises(StopIteration):
+            run(self.settings, lambda: Moment("one", float(next(uptime))))
+        self.assertEqual(told, [0] * 91 + [1] * 2)
+        self.assertEqual(self.figure('gated_oldest_seconds{queue="core"}'), "92")
+
     def test_a_report_without_an_answer_is_sent_again(self) -> None:
         self.gate.give(1)
         self.look(1000.0)
@@ -344,7 +280,9 @@ class WatchTest(unittest.TestCase):
             self.gate.items = [f" {number} 101 {number} - ok unit=running"]
             self.gate.landed += 1
             self.look(1000.0 + number)
-        self.assertEqual(self.watch.notes.names(""), ["seen"])
+            self.gate.reports.append(f"{number} 101 {number} landed {number}")
+        self.assertEqual(self.watch.notes.names(""), ["counts", "seen"])
+        self.assertLess(len(json.dumps(self.watch.notes.get("counts"))), 2000)
         seen = self.watch.notes.get("seen")
         self.assertEqual((list(seen["builds"]), list(seen["firsts"])), (["49/101/1"], ["core"]))
 

@@ -64,8 +64,3 @@ class AdapterFile:
         """Whether something of a kind is kept about a change, which the gate hasn't answered."""
         said = [json.loads(row[0]) for row in self.rows("SELECT said FROM delivery")]
         return any((it["change"], it["kind"]) == (change, kind) for it in said)
-
-    def still_open(self) -> set[Place]:
-        """The requests of changes that were told, and neither closed nor landed."""
-        rows = self.rows("SELECT repository, request FROM change WHERE told AND NOT closed AND NOT landed")
-        return {Place(*row) for row in rows}

@@ -15,8 +15,9 @@ from companions.tests.day.layout import pace
 from companions.tests.day.parts import wait_for
 from companions.tests.forges.model import Entry, Pull
 
-# An approval by a comment, as people write it.
+# An approval by a comment, as people write it, and for how long they read before, in seconds.
 APPROVALS = ("/gate approve", "\n\n/gate approve\n", "  /gate approve\t\r\n")
+READING = 61
 
 
 @dataclass
@@ -195,18 +196,31 @@ class ForgeDevelopers(Developers):
 
     def vote(self, change: Change, person: str, by_comment: bool) -> None:
         """A new vote that approves: a review, or a comment."""
+        text = self.approval(change) if by_comment else ""
         with self.model.lock:
             if not self.is_open(change):
                 return
             place = self.place(change)
             if by_comment:
-                entry = self.model.comment(place, person, self.chance.choice(APPROVALS))
+                entry = self.model.comment(place, person, text)
             else:
                 # At GitLab nobody approves twice who hasn't taken that back.
                 if self.stage.forge.kind == "gitlab" and person in self.pull(change).approving():
                     self.model.dismiss(place, person)
                 entry = self.model.approve(place, person)
             self.votes.append(Cast(place, self.object_of(entry), person, entry.commit))
+
+    def approval(self, change: Change) -> str:
+        """What a comment that approves says: the line with the commit, or alone. Some write it alone as soon as they
+        like, and others once they have read what the gate has told of."""
+        pull, how = self.pull(change), self.chance.random()
+        repository = pull.place.repository
+        if how < 0.5:
+            return f"/gate approve {pull.head}"
+        if how < 0.9:
+            self.wait(lambda: not self.is_open(change) or self.model.status(repository, pull.head) is not None)
+            self.model.wait(READING)
+        return self.chance.choice(APPROVALS)
 
     def object_of(self, entry: Entry) -> str:
         """The name by which the adapter has a vote."""

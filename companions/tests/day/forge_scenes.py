@@ -73,7 +73,8 @@ def fresh(it: ForgeScene) -> None:
 
 
 def believes(it: ForgeScene) -> None:
-    """The first hook of a request comes once more, when a later commit is approved."""
+    """The first hook of a request comes once more, when a later commit is approved. That of the hook was approved too: the
+    adapter has no other one."""
     it.stage.kill(*WORKERS)
     change = Proposal(103, "lib", {"numbers/3": "three"})
     it.developers.open(change)
@@ -81,6 +82,8 @@ def believes(it: ForgeScene) -> None:
     it.stage.forge.hooks.hold()
     it.tell()
     it.await_gate(change, lambda said: said["revision"] == 1)
+    it.approve(change)
+    it.await_gate(change, lambda said: said["order"] is not None)
     it.developers.push(change)
     it.tell()
     it.await_gate(change, lambda said: said["revision"] == 2)

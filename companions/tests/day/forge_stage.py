@@ -9,7 +9,9 @@ import sys
 from collections.abc import Callable
 from pathlib import Path
 
-from companions.forges import Place
+from companions import compared
+from companions.comparisons import UNSEEN
+from companions.moments import Moment
 from companions.tests.day import layout
 from companions.tests.day.adapter_file import AdapterFile
 from companions.tests.day.layout import APP, LIB, SITE, Project
@@ -22,9 +24,6 @@ from companions.tests.forges import StandInForge
 WRITERS, GUEST = ("ann", "ben"), "guest"
 # By whom the forge shows merged what the lander has landed, and what was merged past it.
 LANDER, PAST = "lander", "ann"
-
-# What stands in the address of the list of open requests, for which a comparison asks.
-COMPARISON = "?state=open"
 
 # A second gated branch of a repository, in a queue of its own.
 OLD = Project("old", "web", LIB.jobs, LIB.files, "old", "lib")
@@ -51,8 +50,8 @@ class ForgeStage(Stage):
         self.model.pace /= 4
         self.adapter_file = AdapterFile(folder / "companions" / "adapter" / "adapter.db")
         self.merges = Merges(self)
-        # How many questions had come to the forge when all was to be sent.
-        self.asked = 0
+        # When all was to be sent.
+        self.since = Moment.now()
 
     def make(self) -> None:
         """Makes all files. The first request of lib was merged before there was a gate."""
@@ -92,27 +91,17 @@ class ForgeStage(Stage):
         self.merges.start()
 
     def send(self) -> None:
-        """The adapter sends by itself: all is sent once it has looked at all requests from now on."""
-        self.asked = len(self.forge.server.asked)
+        """The adapter sends by itself: all is sent once it has compared all repositories from now on."""
+        self.since = Moment.now()
 
     def has_sent(self) -> bool:
-        """Whether the adapter has looked at all requests since `send`, and the gate has answered all that it keeps.
-
-        It begins a comparison once it has done with the looks before.
-        """
-        with self.forge.server.lock:
-            asked = [target for _, target in self.forge.server.asked[self.asked:]]
-        with self.model.lock:
-            wanted = {place for place, pull in self.model.pulls.items() if pull.state == "open"}
-        paths = {self.path(it) for it in wanted | self.adapter_file.still_open()}
-        if not paths <= set(asked):
-            return False
-        last = max((asked.index(it) for it in paths), default=0)
-        return any(COMPARISON in it for it in asked[last:]) and not self.adapter_file.is_anything_kept()
-
-    def path(self, place: Place) -> str:
-        """The path at which a client asks for a request."""
-        return self.forge.form.prefix + self.client.path(place)  # type: ignore[attr-defined]
+        """Whether the adapter has compared all requests since `send`, each of which it could look at, and the gate has
+        answered all that it keeps."""
+        left = compared.read(compared.file_in(self.folder / "companions"))
+        began = [it.began for it in left.repositories.values()] if left is not None else [None]
+        is_whole = all(it is not None and (it.since(self.since) or -1.0) > 0 for it in began)
+        return (left is not None and is_whole and UNSEEN not in left.refuse.values()
+                and not self.adapter_file.is_anything_kept())
 
     def tell_again(self) -> None:
         """The adapter sees by itself that the gate was restored."""

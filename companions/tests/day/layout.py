@@ -80,7 +80,7 @@ sh "$1.sh" || status=$?
 echo "$GATED_QUEUE $GATED_CHANGE $GATED_REVISION $GATED_PROJECT $1 $status$trees" >> "$DAY/witness"
 exit "$status"
 """
-# Who knocks at the proxy in which role; the names are those that companions/service/nginx.conf knows.
+# Who knocks at the proxy in which role; the names are those that companions/service/gate.conf knows.
 USERS = {"forge": "forge", "worker": "worker", "people": "watch", "standby": "watch"}
 FOLLOWER = "standby"
 
@@ -144,15 +144,17 @@ def gate_settings(projects: list[Project]) -> str:
 
 
 def companions_settings(folder: Path, port: int, projects: list[Project], where: str, more: str = "",
-                        evidence: bool = True) -> str:
+                        evidence: bool = True, beats: int = 0) -> str:
     """The companions' file; `where` stands before the folder of the repositories in their addresses.
 
-    `more` are tables of a day of another kind. Without `evidence` the lander doesn't ask what was tested.
+    `more` are tables of a day of another kind. Without `evidence` the lander doesn't ask what was tested. The watch
+    hears workers at the port `beats`.
     """
     text = f'folder = "{folder}/companions"\n[gate]\nurl = "https://127.0.0.1:{port}"\npause = {pace()}\n'
     for role, user in USERS.items():
         text += f'[gate.{role}]\nuser = "{user}"\npassword = "{PASSWORD}"\n'
-    text += f'[worker]\nlook = 1.0\nsandbox = {str(boxed()).lower()}\n[watch]\ngrace = 3.0\nstands = 20.0\n{more}'
+    text += f'[worker]\nlook = 1.0\nsandbox = {str(boxed()).lower()}\n[watch]\ngrace = 3.0\nstands = 20.0\n'
+    text += f'silent = 10.0\nlisten = "127.0.0.1:{beats}"\n{more}'
     for project in projects:
         text += (f'[[project]]\nname = "{project.name}"\nqueue = "{project.queue}"\nbranch = "{project.branch}"\n'
                  f'repository = "{where}{folder}/repos/{project.home}.git"\nforge = "acme/{project.home}"\n'
@@ -163,26 +165,31 @@ def companions_settings(folder: Path, port: int, projects: list[Project], where:
     return text
 
 
-def proxy_settings(folder: Path, proxy: int, gate: int) -> str:
-    """The configuration of nginx that operators are given, at other places."""
-    text = (SERVICE / "nginx.conf").read_text(encoding="utf-8")
-    kinds = ("client_body", "proxy", "fastcgi", "uwsgi", "scgi")
-    elsewhere = "".join(f"    {it}_temp_path {folder}/proxy/{it};\n" for it in kinds)
-    changes = {"user www-data;": "user root;" if os.geteuid() == 0 else "", "/run/nginx.pid": f"{folder}/proxy/pid",
-               "/var/log/nginx": f"{folder}/proxy", "/etc/nginx": f"{folder}/proxy",
-               "listen 443 ssl;": f"listen 127.0.0.1:{proxy} ssl;",
-               "http://127.0.0.1:8080": f"http://127.0.0.1:{gate}", "http {\n": f"http {{\n{elsewhere}"}
+def proxy_settings(folder: Path, proxy: int, gate: int, beats: int = 8092) -> str:
+    """The part of nginx's configuration that operators are given, at other places, in one of its own. Beats go on to
+    the port `beats`."""
+    text = (SERVICE / "gate.conf").read_text(encoding="utf-8")
+    changes = {"/var/log/nginx": f"{folder}/proxy", "/etc/nginx": f"{folder}/proxy",
+               "/var/lib/gated-copies": f"{folder}/copies", "listen 443 ssl;": f"listen 127.0.0.1:{proxy} ssl;",
+               "http://127.0.0.1:8080": f"http://127.0.0.1:{gate}", "http://127.0.0.1:8092": f"http://127.0.0.1:{beats}",
+               "/var/lib/nginx": f"{folder}/proxy", "/var/lib/gated-page": f"{folder}/page",
+               "/var/lib/gated-logs": f"{folder}/logs",
+               "/usr/local/lib/gated/companions/page": str(SERVICE.parent / "page")}
     for old, new in changes.items():
         if old not in text:
-            raise Differs(f"companions/service/nginx.conf has no {old.strip()!r}")
+            raise Differs(f"companions/service/gate.conf has no {old.strip()!r}")
         text = text.replace(old, new)
-    return text
+    kinds = ("client_body", "proxy", "fastcgi", "uwsgi", "scgi")
+    elsewhere = "".join(f"{it}_temp_path {folder}/proxy/{it};\n" for it in kinds)
+    return (f"{'user root;' if os.geteuid() == 0 else ''}\nworker_processes 4;\nworker_rlimit_nofile 8192;\n"
+            f"pid {folder}/proxy/pid;\nerror_log {folder}/proxy/error.log;\nevents {{ worker_connections 4096; }}\n"
+            f"http {{\n{elsewhere}{text}}}\n")
 
 
-def make_proxy(folder: Path, proxy: int, gate: int, around: dict[str, str]) -> None:
+def make_proxy(folder: Path, proxy: int, gate: int, around: dict[str, str], beats: int = 8092) -> None:
     """The proxy's configuration, its passwords, and a certificate that all parts trust."""
     (folder / "proxy").mkdir()
-    (folder / "proxy" / "nginx.conf").write_text(proxy_settings(folder, proxy, gate), encoding="utf-8")
+    (folder / "proxy" / "nginx.conf").write_text(proxy_settings(folder, proxy, gate, beats), encoding="utf-8")
     coded = run(["openssl", "passwd", "-apr1", PASSWORD], around)
     names = sorted({*USERS.values(), FOLLOWER})
     (folder / "proxy" / "gate.passwords").write_text("".join(f"{it}:{coded}" for it in names), encoding="ascii")

@@ -73,8 +73,8 @@ class Stage:
         layout.write_script(self.folder / "ssh", layout.SSH)
         layout.write_script(self.folder / "job", layout.JOB)
         (self.folder / "witness").touch()
-        self.port, self.proxy = free_port(), free_port()
-        layout.make_proxy(self.folder, self.proxy, self.port, self.environment)
+        self.port, self.proxy, self.beats = free_port(), free_port(), free_port()
+        layout.make_proxy(self.folder, self.proxy, self.port, self.environment, self.beats)
         for project in self.first_projects:
             self.add_project(project)
         self.write_gate_settings()
@@ -120,7 +120,7 @@ class Stage:
         for name, (where, more) in self.companions().items():
             # A lander that asks what was tested lands nothing of what that wrong worker tells.
             text = layout.companions_settings(self.folder, self.proxy, self.projects, where, more,
-                                              self.turned != "worker-keeps")
+                                              self.turned != "worker-keeps", self.beats)
             put(self.folder / name, text)
 
     def hooks(self) -> dict[str, str]:

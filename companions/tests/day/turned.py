@@ -9,7 +9,7 @@ from dataclasses import replace
 from pathlib import Path
 from typing import Any
 
-from companions import adapter, compared, hooks, lander, worker
+from companions import adapter, compared, hooks, keeping, lander, worker
 from companions.forges import Forge, Place
 from companions.gate import Answer, Delivery, Order
 from companions.outbox import Kept, Outbox
@@ -17,6 +17,7 @@ from companions.requests import Request, Telling
 from companions.settings import read
 from companions.told import Changes
 from companions.trees import Build, Made
+from companions.wanted import Look
 
 
 class CarelessLander(lander.QueueLander):
@@ -44,10 +45,10 @@ class KeepingWorker(worker.Worker):
         return True, self.gate.post("worker", worker.result_of(take, reply, outcome, commit))
 
 
-class HastyWorker(worker.Worker):
-    """Reports once the trees are made, and runs nothing on them."""
+class HastyBuilder(keeping.Builder):
+    """Says that a job went well once the trees are made, and runs nothing on them."""
 
-    def run_job(self, build: Build, made: Made, take: str, log: Path, look: worker.Look) -> tuple[str, str]:
+    def run_job(self, build: Build, made: Made, take: str, look: Look, began: Callable[[], None]) -> tuple[str, str]:
         return "success", "in haste"
 
 
@@ -117,12 +118,13 @@ def land_blindly(words: list[str]) -> None:
 
 
 def keep(words: list[str]) -> None:
-    worker.Look.wanted = lambda look: True  # type: ignore[method-assign]
+    Look.wanted = lambda look: True  # type: ignore[method-assign]
     KeepingWorker(read(Path(words[0])), words[1]).run()
 
 
 def hasten(words: list[str]) -> None:
-    HastyWorker(read(Path(words[0])), words[1]).run()
+    keeping.Builder = HastyBuilder  # type: ignore[misc]
+    worker.main(words)
 
 
 def draw_fresh(words: list[str]) -> None:

@@ -1,23 +1,28 @@
 """What is so in a stand-in forge: repositories, requests, what people and the gate said of them, and statuses."""
 from __future__ import annotations
 
+import copy
 import itertools
 import threading
 from collections import defaultdict
 from collections.abc import Callable
-from dataclasses import dataclass, field
+from dataclasses import dataclass, field, replace
 from datetime import datetime, timedelta, timezone
 
 from companions.forges import Place
+from companions.tests.forges.ran import CiRun
 
 BEGIN = datetime(2024, 5, 1, 10, 0, 0, 250000, tzinfo=timezone.utc)
-# Whose token the adapter has.
+# Whose token the adapter has. It may write to each repository.
 GATE = "gate-bot"
+# The most statuses that a commit may have.
+MOST_STATUSES = 1000
 
 
 @dataclass
 class Entry:
-    """Something said of a request, or done to it: approved, rejected, dismissed, commented or pushed.
+    """Something said of a request, or done to it: approved, rejected, dismissed, commented or pushed, a review that
+    only its person sees yet (`begun`), or one that somebody is asked for (`asked`).
 
     Reviews and comments are numbered each by itself, as Gitea does, so that they have numbers in common; `note` numbers
     all of them, as GitLab does. `at` is when a review was given, and `begun` when its person began to write it.
@@ -36,7 +41,8 @@ class Entry:
 
 @dataclass
 class Pull:
-    """A request. `id` is its number in the whole forge. All its heads are entries of the kind `pushed`."""
+    """A request. `id` is its number in the whole forge. All its heads are entries of the kind `pushed`. `changed` is
+    when something happened to it last. `is_prepared`: the forge has looked at its head, and tells it."""
     place: Place
     id: int
     author: str
@@ -50,6 +56,8 @@ class Pull:
     is_draft: bool = False
     merged_by: str | None = None
     entries: list[Entry] = field(default_factory=list)
+    changed: datetime = BEGIN
+    is_prepared: bool = True
 
     def of(self, *kinds: str) -> list[Entry]:
         return [it for it in self.entries if it.kind in kinds]
@@ -67,6 +75,20 @@ class Status:
     commit: str
     state: str
     text: str
+    by: str = field(default=GATE, compare=False)
+    at: datetime = field(default=BEGIN, compare=False)
+    context: str = "gate"
+    link: str | None = field(default=None, compare=False)
+    number: int = field(default=0, compare=False)
+
+
+@dataclass(frozen=True)
+class Webhook:
+    """Where the hooks of a repository are to be sent, and the secret by which they are signed."""
+    id: int
+    repository: str
+    url: str
+    secret: str
 
 
 # What happened, to which request, and the entry that says it, if there is one.
@@ -81,12 +103,29 @@ class Model:
         self.pulls: dict[Place, Pull] = {}
         self.writers: dict[str, set[str]] = {}
         self.statuses: list[Status] = []
+        # What a CI has run, and the commits that were pushed as branches, each with its repository.
+        self.ran: list[CiRun] = []
+        self.pushed: set[tuple[str, str]] = set()
+        # Deletes a branch of a repository, and says whether it was there.
+        self.when_deleted: Callable[[str, str], bool] = lambda repository, branch: False
         self.listeners: list[Listener] = []
         self.now, self.pace = BEGIN, timedelta(seconds=1)
         # Whether approvals stay at a new head, as a forge's settings may say.
         self.keeps_approvals = True
         self.accounts: dict[str, int] = {}
         self.counts: dict[str, itertools.count[int]] = defaultdict(lambda: itertools.count(1))
+        # The numbers of repositories, the names that some had, with those that they have, and where hooks are sent.
+        self.repositories: dict[str, int] = {}
+        self.former: dict[str, str] = {}
+        self.webhooks: list[Webhook] = []
+
+    def copy(self) -> Model:
+        """What is so now, for whoever looks at it later. Nothing can be done to it."""
+        it = copy.copy(self)
+        with self.lock:
+            for name in ("pulls", "writers", "statuses", "ran", "pushed", "accounts", "repositories", "former", "webhooks"):
+                setattr(it, name, copy.deepcopy(getattr(self, name)))
+        return it
 
     def account(self, person: str) -> int:
         """The number of a person's account."""
@@ -98,16 +137,46 @@ class Model:
         with self.lock:
             self.accounts[person] = 1000 + len(self.accounts)
 
+    def delete_account(self, person: str) -> None:
+        """A person is gone, and the forge names nobody any more where the person wrote something."""
+        with self.lock:
+            for it in (entry for pull in self.pulls.values() for entry in pull.entries if entry.person == person):
+                it.person = ""
+
     def add(self, repository: str, *writers: str) -> None:
         """A repository, and who may write to it."""
         self.writers[repository] = set(writers)
+        self.repositories.setdefault(repository, 3000 + len(self.repositories))
+
+    def rename(self, repository: str, name: str) -> None:
+        """A repository gets another name, and keeps its number."""
+        with self.lock:
+            for held in (self.writers, self.repositories, self.counts):
+                if repository in held:
+                    held[name] = held.pop(repository)  # type: ignore[attr-defined]
+            self.former[repository] = name
+            for place in [it for it in self.pulls if it.repository == repository]:
+                pull = self.pulls.pop(place)
+                pull.place = Place(name, place.number)
+                self.pulls[pull.place] = pull
+            self.statuses = [replace(it, repository=name) if it.repository == repository else it
+                             for it in self.statuses]
+
+    def name_of(self, repository: str) -> str:
+        """The name that a repository has now, by one that it had, or by its number."""
+        named = [name for name, number in self.repositories.items() if str(number) == repository]
+        return self.former.get(repository, *named or [repository])
+
+    def may_write(self, repository: str, person: str) -> bool:
+        return person == GATE or person in self.writers.get(repository, ())
 
     def open(self, repository: str, head: str, target: str, title: str, text: str = "", author: str = "ann",
              is_fork: bool = False) -> Place:
         with self.lock:
             place = Place(repository, next(self.counts[repository]))
             number = 1000 + next(self.counts["pull"])
-            pull = Pull(place, number, author, head, target, title, text, is_fork, self.tick())
+            at = self.tick()
+            pull = Pull(place, number, author, head, target, title, text, is_fork, at, changed=at)
             self.pulls[place] = pull
             self.enter("pushed", place, author)
             self.tell("opened", place)
@@ -151,6 +220,21 @@ class Model:
     def review(self, place: Place, person: str, text: str) -> Entry:
         """Says something by a review that neither approves nor requests changes."""
         return self.say("reviewed", place, person, text)
+
+    def begin_review(self, place: Place, person: str) -> Entry:
+        """Somebody writes a review, which only he sees so far."""
+        with self.lock:
+            return self.enter("begun", place, person)
+
+    def ask_review(self, place: Place, person: str) -> Entry:
+        """Somebody is asked for a review."""
+        with self.lock:
+            return self.enter("asked", place, person)
+
+    def prepare(self, place: Place, is_prepared: bool = True) -> None:
+        """The forge has looked at a request's head, or hasn't yet."""
+        with self.lock:
+            self.pulls[place].is_prepared = is_prepared
 
     def dismiss(self, place: Place, person: str) -> None:
         """What a person said last by a review doesn't hold any more; at GitLab the person takes the approval back."""
@@ -203,17 +287,39 @@ class Model:
 
     def set_status(self, status: Status) -> None:
         with self.lock:
-            self.statuses.append(status)
+            self.statuses.append(replace(status, at=self.tick(), number=next(self.counts["status"])))
+
+    def statuses_of(self, repository: str, commit: str) -> list[Status]:
+        """The statuses of a commit, the last one first."""
+        return [it for it in reversed(self.statuses) if (it.repository, it.commit) == (repository, commit)]
+
+    def is_full(self, repository: str, commit: str) -> bool:
+        """Whether a commit has so many statuses of the gate that it gets no more of them."""
+        return sum(it.context == "gate" for it in self.statuses_of(repository, commit)) >= MOST_STATUSES
+
+    def hook(self, repository: str, url: str, secret: str) -> Webhook:
+        """Hooks of a repository are to be sent to an address."""
+        with self.lock:
+            self.webhooks.append(Webhook(next(self.counts["webhook"]), repository, url, secret))
+            return self.webhooks[-1]
+
+    def unhook(self, repository: str, number: int) -> bool:
+        """None are sent there any more. Whether there was such a webhook."""
+        with self.lock:
+            kept = [it for it in self.webhooks if (it.repository, it.id) != (repository, number)]
+            is_there, self.webhooks = len(kept) < len(self.webhooks), kept
+            return is_there
 
     def status(self, repository: str, commit: str) -> Status | None:
         """The last status of a commit."""
         with self.lock:
-            found = [it for it in self.statuses if (it.repository, it.commit) == (repository, commit)]
+            found = [it for it in self.statuses
+                     if (it.repository, it.commit, it.context) == (repository, commit, "gate")]
             return found[-1] if found else None
 
     def has(self, repository: str, commit: str) -> bool:
-        """Whether a commit is or was the head of one of the repository's requests."""
-        return any(it.commit == commit for pull in self.of(repository) for it in pull.of("pushed"))
+        """Whether a commit is or was the head of one of the repository's requests, or of a branch."""
+        return (repository, commit) in self.pushed or any(it.commit == commit for pull in self.of(repository) for it in pull.of("pushed"))
 
     def of(self, repository: str) -> list[Pull]:
         with self.lock:
@@ -241,15 +347,22 @@ class Model:
 
     def enter(self, kind: str, place: Place, person: str, text: str = "") -> Entry:
         pull = self.pulls[place]
-        sort = "review" if kind in ("approved", "rejected", "reviewed") else kind
+        sort = "review" if kind in ("approved", "rejected", "reviewed", "begun", "asked") else kind
         entry = Entry(kind, next(self.counts[sort]), next(self.counts["note"]), person, text, pull.head, self.tick())
         pull.entries.append(entry)
+        pull.changed = entry.at
         return entry
 
     def tick(self) -> datetime:
         self.now += self.pace
         return self.now
 
+    def wait(self, seconds: float) -> None:
+        """So much time goes by at the forge."""
+        with self.lock:
+            self.now += timedelta(seconds=seconds)
+
     def tell(self, what: str, place: Place, entry: Entry | None = None) -> None:
+        self.pulls[place].changed = self.now
         for listener in self.listeners:
             listener(what, self.pulls[place], entry)
