@@ -133,7 +133,8 @@ class Inside(DiskTest):
                     file.write(bytes(4096))
             except OSError:
                 pass
-        while self.answers(kept := delivery(number))[0] == 200:
+        # What is asked to find out whether the gate accepts takes less room than these, and may still be accepted.
+        while self.answers(kept := delivery(number))[0] == 200 or self.accepts():
             number += 1
         said: dict[str, object] = {"full": self.answers(kept), "accepts": self.accepts()}
         filler.unlink()
