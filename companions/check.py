@@ -19,6 +19,7 @@ import grp
 import hashlib
 import os
 import pwd
+import re
 import shutil
 import socket
 import subprocess
@@ -50,6 +51,8 @@ PORTS = {"gate": (443, 8080), "standby": ()}
 ACCOUNTS = ("forge", "worker", "watch", "standby")
 # For so many days a certificate has to be good.
 DAYS = 14
+# Processes of nginx: a guess at a password that a person chose keeps one of them busy for some milliseconds.
+PROCESSES = 4
 
 
 @dataclass(frozen=True)
@@ -168,6 +171,17 @@ def differing(machine: Machine, known: dict[str, str]) -> Iterator[str]:
                 yield f"{machine.at(name)}: the password of {it.user} isn't the proxy's"
 
 
+def workers_of_nginx(machine: Machine) -> Iterator[str]:
+    """Whether others are answered while nginx works out the hash of somebody's password."""
+    file = machine.at("/etc/nginx/nginx.conf")
+    text = file.read_text(encoding="utf-8") if file.exists() else ""
+    said = re.search(r"^\s*worker_processes\s+(\w+)\s*;", text, re.MULTILINE)
+    number = said[1] if said else "1"
+    has = os.cpu_count() or 1 if number == "auto" else int(number) if number.isdecimal() else 0
+    if has < PROCESSES:
+        yield f"{file}: nginx has {has} worker_processes: let it have {PROCESSES} or more"
+
+
 def units(machine: Machine) -> Iterator[str]:
     """Which units are there, and start with the machine."""
     folders = [machine.at(it) for it in UNIT_FOLDERS]
@@ -227,7 +241,7 @@ def versions(machine: Machine) -> Iterator[str]:
         yield f"the gate's machine has version {was}: install the same here"
 
 
-CHECKS = (programs, accounts, gate, files, compared, proxy, units, name, ports, versions)
+CHECKS = (programs, accounts, gate, files, compared, proxy, workers_of_nginx, units, name, ports, versions)
 
 
 def lacking(machine: Machine) -> list[str]:

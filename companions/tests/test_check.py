@@ -6,6 +6,7 @@ import hashlib
 import subprocess
 import tempfile
 import unittest
+import unittest.mock
 from pathlib import Path
 
 from companions import check
@@ -41,6 +42,7 @@ class CheckTest(unittest.TestCase):
             self.put(f"/etc/gated/{name}.toml", text)
         self.put("/etc/nginx/gate.passwords", "".join(f"{it}:{hashed(f'secret of {it}')}\n" for it in check.ACCOUNTS))
         self.put("/etc/nginx/conf.d/gate.conf", "")
+        self.put("/etc/nginx/nginx.conf", "user www-data;\nworker_processes 4;\n")
         subprocess.run(["openssl", "req", "-x509", "-newkey", "ec", "-pkeyopt", "ec_paramgen_curve:prime256v1",
                         "-nodes", "-days", "365", "-subj", "/CN=gate", "-keyout", self.at("/etc/nginx/gate.key"),
                         "-out", self.at("/etc/nginx/gate.crt")], check=True, capture_output=True)
@@ -60,7 +62,7 @@ class CheckTest(unittest.TestCase):
 
     def lacking(self) -> list[str]:
         """What lacks, with the names of files as on the machine itself."""
-        checks = (check.gate, check.files, check.proxy, check.units, check.name, check.versions)
+        checks = (check.gate, check.files, check.proxy, check.workers_of_nginx, check.units, check.name, check.versions)
         return [it.replace(str(self.machine.root), "") for one in checks for it in one(self.machine)]
 
     def test_nothing(self) -> None:
@@ -103,6 +105,16 @@ class CheckTest(unittest.TestCase):
             "/var/lib/gated-companions/replaced is there: this machine was retired, or another one has taken the gate"
             " over",
         ])
+
+    def test_too_few_processes_of_nginx(self) -> None:
+        lacks = "/etc/nginx/nginx.conf: nginx has 1 worker_processes: let it have 4 or more"
+        for said in ("worker_processes 1;", "# worker_processes 4;", ""):
+            self.put("/etc/nginx/nginx.conf", f"user www-data;\n{said}\n")
+            self.assertEqual(self.lacking(), [lacks])
+        self.put("/etc/nginx/nginx.conf", "worker_processes auto;\n")
+        for has, said in ((1, [lacks]), (8, [])):
+            with unittest.mock.patch("os.cpu_count", return_value=has):
+                self.assertEqual(self.lacking(), said)
 
     def test_a_standby(self) -> None:
         """It has other units, a file of its own, and a password for the follower."""

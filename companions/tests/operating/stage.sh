@@ -13,6 +13,8 @@ for folder in /usr/local /var/lib /var/log /var/backups /srv /root /run; do
 done
 mkdir -p /usr/local/{bin,lib,share/ca-certificates} /var/log/nginx /var/lib/nginx /run/lock /srv/git
 rm -rf /etc/systemd/system && mkdir /etc/systemd/system
+# However many processors this one has.
+sed -i 's/^worker_processes .*/worker_processes 4;/' /etc/nginx/nginx.conf
 echo '127.0.0.1 localhost' >/etc/hosts
 # Of the machine's 140 authorities none is asked for here, and all would be read by each program that begins.
 rm -rf /etc/ssl/certs && mkdir /etc/ssl/certs && : >/etc/ca-certificates.conf
