@@ -25,6 +25,7 @@ from companions.gate_file import GateFile
 from companions.github import Gitea, GitHub
 from companions.gitlab import GitLab
 from companions.hooks import Hints, Hooks, serve
+from companions.landed_as import LandedAs
 from companions.leaving import Leaving
 from companions.leftovers import Leftovers
 from companions.looks import Again, Looks, names_of
@@ -77,8 +78,9 @@ class Adapter:
                         closes=CLOSES if forge.leaves_open else None)
         notes = Notes(file.with_name("people.db"))
         failures = Failures(settings, self.gate, notes)
+        landed_as = LandedAs(self.looks.repositories, self.looks.project_of)
         self.people = People(self.gate, notes, forge, self.changes.place, manner,
-                             KnownByOthers(settings.folder, self.looks.jobs, failures), self.changes.show)
+                             KnownByOthers(settings.folder, self.looks.jobs, failures, landed_as), self.changes.show)
         self.page = page_file(settings.adapter, forge, self.subjects, self.people)
         self.leaving = Leaving(settings.adapter.tell, notes, self.subjects, address_at(settings.adapter, forge),
                                self.changes.first)

@@ -30,7 +30,7 @@ from companions.settings import Settings, SettingsFault, read
 
 # So many lines has an answer of the gate at most.
 PAGE = 1000
-AUTHOR = re.compile(rb"^author ([^\n]*) \d+ \+0000\ncommitter \1 ", re.MULTILINE)
+COMMITTER = re.compile(rb"^committer ([^\n]*) \d+ \+0000$", re.MULTILINE)
 
 
 @dataclass
@@ -158,12 +158,21 @@ class Evidence:
     def check_commit(self, it: Landed, others: Mapping[str, str], found: Found) -> None:
         """The commit is the one that the function gives, and what it merges was approved."""
         repository = self.repositories[it.project]
-        content = repository.content(it.commit)
-        author, merged = AUTHOR.search(content), repository.git("rev-parse", f"{it.commit}^2")
-        who = author[1].decode("utf-8", "replace") if author else repository.author
+        content, name = repository.content(it.commit), REVISION.format(change=it.change, revision=it.revision)
+        landing = Landing.read(repository.message(it.commit))
+        if landing is not None and landing.commit is not None:
+            # Its past isn't in the branch. What was told of it is a tag, by whose id its message is checked too.
+            merged = repository.ask(name, keep=True).get(name)
+            if merged is None:
+                found.differs.append(f"{name}, which was squashed, is gone, so what was merged can't be seen")
+                return
+        else:
+            merged = repository.git("rev-parse", f"{it.commit}^2").strip()
+        committer = COMMITTER.search(content.partition(b"\n\n")[0])
+        who = committer[1].decode("utf-8", "replace") if committer else repository.author
         what = Merge(self.queue, it.place, it.change, it.revision, repository.parent(it.parent),
                      repository.parent(merged), others, who)
-        tree = repository.merge_trees(it.parent, merged).tree
+        tree = repository.merge_trees(it.parent, what.commit.hash).tree
         if tree is None or what.content(tree) != content:
             found.differs.append("its commit isn't the one that these merge to")
         path = f"/changes/{it.change}"
@@ -173,7 +182,6 @@ class Evidence:
         told = self.log.revisions.get(revision_id(str(self.log.first), it.change, it.revision, merged, needs))
         if told != (it.change, it.revision):
             found.differs.append(f"the gate wasn't told {merged} as revision {it.revision} of change {it.change}")
-        name = REVISION.format(change=it.change, revision=it.revision)
         there = repository.ask(name).get(name, merged)
         if there != merged:
             found.differs.append(f"{name} is at {there}, and {merged} has landed")

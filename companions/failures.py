@@ -68,7 +68,7 @@ class Failures:
             noted = {"order": order, "build": number, "cause": cause and asdict(cause)}
             self.notes.put(name, noted)
         said = noted["cause"]
-        return None if said is None else Cause(tuple(said["files"]), said["other"])
+        return None if said is None else Cause(tuple(said["files"]), said["other"], said.get("stacked", False))
 
     def merge(self, number: int) -> Cause | None:
         """Why the change of a build can't be merged. A conflict of two that are ahead of it isn't its own."""

@@ -158,7 +158,7 @@ class QueueLander:
                      repository.parent(commit), self.branches.others(order.project), self.settings.author)
         merged = repository.merge(what)
         if merged is None:
-            cause = cause_of(repository, head, commit, [])
+            cause = cause_of(repository, head, what.commit.hash, [])
             raise Refused(f"it can't be merged into {project.branch}: {cause}")
         return Landed(place, order.project, merged, head, order.change, order.revision)
 

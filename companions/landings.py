@@ -17,6 +17,10 @@ NUMBER = "[1-9][0-9]{0,14}"
 FORM = re.compile(rf"Land change {NUMBER}(?:: [^\n]*)?\n\nGate-Queue: (?P<queue>\S+)\nGate-Place: (?P<place>{NUMBER})\n"
                   rf"Gate-Change: (?P<change>{NUMBER})\nGate-Revision: (?P<revision>{NUMBER})\n"
                   r"(?:Gate-With: \S+ [0-9a-f]{40,64}\n)*")
+# The last paragraph of a change that landed as one commit: what people wrote stands above, whatever it looks like.
+SQUASHED = re.compile(rf"\n\nGate-Queue: (?P<queue>\S+)\nGate-Place: (?P<place>{NUMBER})\n"
+                      rf"Gate-Change: (?P<change>{NUMBER})\nGate-Revision: (?P<revision>{NUMBER})\n"
+                      r"Gate-Commit: (?P<commit>[0-9a-f]{40,64})\n(?:Gate-With: \S+ [0-9a-f]{40,64}\n)*")
 # The form before, whose place its note's name has, and whose commit has what is in the note by now.
 EARLIER = re.compile(rf"Land change {NUMBER}: [^\n]*\n\nGate-File: (?P<first>\S+)\nGate-Queue: (?P<queue>\S+)\n"
                      rf"Gate-Order: {NUMBER}\nGate-Change: (?P<change>{NUMBER})\n"
@@ -30,23 +34,27 @@ TRAILER = re.compile(r"^Gate-(\w+): ([^\n]+)$", re.MULTILINE)
 class Landing:
     """What a commit of a branch says that it lands.
 
-    One of the form before has no place, and the gate's file, by the id of its first accepted delivery.
+    One of the form before has no place, and the gate's file, by the id of its first accepted delivery. One that was
+    squashed names the commit of its revision.
     """
     queue: str
     change: int
     revision: int
     place: int | None
     first: str | None = None
+    commit: str | None = None
 
     @staticmethod
     def read(message: str) -> Landing | None:
         """The landing that a message names, or none: the commit is none of a lander's."""
-        named = FORM.fullmatch(message) or EARLIER.fullmatch(message)
+        last = message.rfind("\n\n")
+        named = (FORM.fullmatch(message) or EARLIER.fullmatch(message)
+                 or (SQUASHED.fullmatch(message, last) if last > 0 else None))
         if named is None:
             return None
         has = named.groupdict()
         return Landing(has["queue"], int(has["change"]), int(has["revision"]),
-                       int(has["place"]) if "place" in has else None, has.get("first"))
+                       int(has["place"]) if "place" in has else None, has.get("first"), has.get("commit"))
 
 
 @dataclass(frozen=True)
@@ -137,9 +145,12 @@ class Branch:
         return self.line(run[::-1], head).landings
 
     def landing(self, commit: Commit) -> Landing | None:
-        """What a commit lands in this queue; a landing has the one before and a revision's commit as its parents."""
-        landing = Landing.read(commit.message) if len(commit.parents) == 2 else None
-        if landing is None or landing.queue != self.queue or self.file and landing.first not in (None, self.file):
+        """What a commit lands in this queue; a landing has the one before and a revision's commit as its parents, or,
+        if it was squashed, the one before alone."""
+        landing = Landing.read(commit.message)
+        if landing is None or len(commit.parents) != (1 if landing.commit else 2):
+            return None
+        if landing.queue != self.queue or self.file and landing.first not in (None, self.file):
             return None
         return landing
 

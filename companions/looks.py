@@ -14,6 +14,7 @@ from companions.gate import Gate, say
 from companions.held import why_held
 from companions.landings import Branch, first_name
 from companions.looked import Looked
+from companions.merging import parent_of
 from companions.named import NamedRequests
 from companions.needs import Known, Needs, message, need_lines, needs_of
 from companions.peeking import commit_of
@@ -24,8 +25,8 @@ from companions.rests import HOUR
 from companions.required import Required
 from companions.rights import Approvers, Rights
 from companions.settings import Adapter, Project, Settings
+from companions.squash import Squash, author_of, message_of, named_as, tag_of
 from companions.subjects import Subjects
-from companions.told import AHEAD
 
 HASH = re.compile(r"[0-9a-f]{40}|[0-9a-f]{64}")
 COMMITTED = re.compile(r"^committer .*> ([0-9]{1,20}) [+-][0-9]{4}$", re.MULTILINE)
@@ -65,6 +66,7 @@ class Looks:
 
     def __init__(self, settings: Settings, adapter: Adapter, forge: Forge, gate: Gate, subjects: Subjects) -> None:
         self.adapter, self.forge, self.gate, self.folder = adapter, forge, gate, settings.folder
+        self.author = settings.author
         self.subjects, self.changes = subjects, subjects.changes
         self.projects = {(it.forge, it.branch): it for it in settings.projects.values()}
         self.names = names_of(settings)
@@ -140,34 +142,45 @@ class Looks:
         waits, fault = self.waits_for(so, project) if is_approved else ([], None)
         if waits:
             decided = replace(decided, steps=[it for it in decided.steps if it.kind != "approved"])
-        revision = next((it.revision for it in decided.steps if it.kind == "revision"), None)
-        is_ahead = revision is not None and self.is_ahead(so, project)
-        if is_ahead:
-            decided = replace(decided, steps=set_aside(decided.told, so.head))
+        decided, tag, is_ahead = self.of_head(so, project, decided)
         told, seen = decided.told, first_seen(so, decided.told, needs.changes)
         self.be_sure(so, seen)
         approved = next((it.revision for it in decided.steps if it.kind == "approved"), None)
         if approved is not None:
             # Nobody but those who may approve fills the forge's repository.
-            self.name(project, so.number, so.head, REVISION.format(change=change, revision=approved))
+            self.name(project, so.number, so.head, REVISION.format(change=change, revision=approved),
+                      tag or self.changes.tag(change, approved))
         more = {"project": project.name, "message": message(so, needs.changes, self.adapter.base)}
         with self.changes.step():
             if told.revisions or decided.steps or is_ahead:
                 self.changes.see(so, change, seen)
                 self.subjects.see(so, change, True)
-            self.write(so, decided, more, needs.changes)
+            self.write(so, decided, more, needs.changes, tag)
             self.changes.remark(change, "need", needs.remarks)
             may = rights.may | rights.unknown
-            uncounting = uncounted(so, told, needs.changes, may)
-            uncounting += waits
+            uncounting = uncounted(so, told, needs.changes, may) + waits
             self.changes.remark(change, "vote", uncounting)
-            self.changes.remark(change, AHEAD, [so.head] if is_ahead else [])
+            self.changes.remark_head(so, change, is_ahead)
         is_unsure = bool(uncounting) and any(it.person in may for it in so.votes)
         self.depends[Place(so.repository, so.number)] = Depends(
             {it: self.stands_for(it) for it in needs.places}, self.looked.clock() + HOUR if uncounting else None)
         is_open = bool(decided.steps) or decided.is_lacking or is_ahead or is_unsure
         fault = rights.fault or fault
         return fault, not is_open and fault is None and self.changes.first() is not None
+
+    def of_head(self, so: Request, project: Project, decided: Decided) -> tuple[Decided, str | None, bool]:
+        """What is to be told where the head becomes a revision, the tag at it if that is to land as one commit, and
+        whether it is dated ahead: then it becomes none."""
+        revision = next((it.revision for it in decided.steps if it.kind == "revision"), None)
+        if revision is None:
+            return decided, None, False
+        content = self.head_of(so, project)
+        if is_ahead_of_now(content):
+            return replace(decided, steps=set_aside(decided.told, so.head)), None, True
+        if not project.squashes:
+            return decided, None, False
+        tag = self.tag(so, decided.told.change, revision, content)
+        return replace(decided, steps=[named_by(it, so.head, tag) for it in decided.steps]), tag, False
 
     def waits_for(self, so: Request, project: Project) -> tuple[list[str], ForgeFault | None]:
         """Why an approval that holds isn't told yet, a line each, and the fault by which that isn't known."""
@@ -185,11 +198,12 @@ class Looks:
         kinds = {it.kind for it in tellings(so, told, needs, rights.may | rights.unknown)}
         return [it for it in steps if it.kind in kinds]
 
-    def write(self, so: Request, decided: Decided, more: dict[str, str], needs: tuple[int, ...]) -> None:
+    def write(self, so: Request, decided: Decided, more: dict[str, str], needs: tuple[int, ...],
+              tag: str | None = None) -> None:
         change = decided.told.change
         if decided.told.landed:
             self.changes.land(change)
-        self.changes.keep(so, change, decided.steps, more, needs)
+        self.changes.keep(so, change, decided.steps, more, needs, tag)
         if decided.is_lacking and not decided.steps and not self.changes.waits(change):
             self.changes.tell_again(change)
 
@@ -269,9 +283,8 @@ class Looks:
             if self.forge.outline(Place(so.repository, so.number)) != replace(so, votes=(), is_cut=False):
                 raise Again
 
-    def is_ahead(self, so: Request, project: Project) -> bool:
-        """Whether a head is dated more than a day ahead. A landing has the later date of what it merges, so all
-        landings behind it would be dated so."""
+    def head_of(self, so: Request, project: Project) -> bytes:
+        """The commit object of a request's head."""
         if not HASH.fullmatch(so.head):
             raise Trouble(f"the forge's head of it is no commit: {so.head[:80]!r}")
         repository, head = self.repositories[project.name], self.forge.head_ref(so.number)
@@ -279,8 +292,14 @@ class Looks:
                    commit_of(repository, head, so.head))
         if content is None:
             raise Trouble(f"{head} of {repository.address} doesn't have {so.head} yet")
-        dates = COMMITTED.findall(content.partition(b"\n\n")[0].decode("utf-8", "replace"))
-        return len(dates) == 1 and int(dates[0]) > time.time() + DAY
+        return content
+
+    def tag(self, so: Request, change: int, revision: int, content: bytes) -> str:
+        """What stands at the commit of a revision that lands as one: the request's title and text as they are now, and
+        the author of its commit."""
+        squash = Squash(author_of(content, self.author), message_of(so.title, so.text))
+        seconds = parent_of(so.head, content).seconds or 0
+        return tag_of(so.head, change, revision, seconds, self.author, squash).decode()
 
     def fetched(self, project: Project, request: int, commit: str) -> Repository:
         """The mirror of a request's repository, in which its commit is by now."""
@@ -292,15 +311,16 @@ class Looks:
                 raise Trouble(f"{head} of {repository.address} doesn't have {commit} yet")
         return repository
 
-    def name(self, project: Project, request: int, commit: str, name: str) -> str | None:
-        """Names a request's commit, which could be pushed over at any time, by a ref that stays, and gives what was
-        named so before: the commit of a revision that was chosen and never told, or what somebody has pushed there."""
+    def name(self, project: Project, request: int, commit: str, name: str, tag: str | None = None) -> str | None:
+        """Names a request's commit, or the tag at it, which could be pushed over at any time, by a ref that stays, and
+        gives what was named so before: the commit of a revision that was chosen and never told, or what somebody has
+        pushed there."""
         repository = self.fetched(project, request, commit)
-        there = repository.ask(name).get(name)
-        if there != commit and not repository.push({name: (there, commit)}):
+        there, it = repository.ask(name).get(name), commit if tag is None else repository.write("tag", tag.encode())
+        if there != it and not repository.push({name: (there, it)}):
             raise Again
         # Its name stays here too, for as long as it may have to be set right.
-        repository.set({name: commit})
+        repository.set({name: it})
         return there
 
     def set_right(self, wrong: Wrong) -> None:
@@ -310,19 +330,23 @@ class Looks:
         if place is None or told is None or project is None or project.forge != place.repository:
             raise Trouble(f"revision {wrong.revision} of change {wrong.change} of {wrong.project} wasn't told here")
         name = REVISION.format(change=wrong.change, revision=wrong.revision)
-        there = self.name(project, place.number, told, name)
-        if there != told:
-            say("adapter", f"{name} of {wrong.project} was {there or 'gone'}: set right to {told}, which was told")
+        tag = self.changes.tag(wrong.change, wrong.revision)
+        there, right = self.name(project, place.number, told, name, tag), named_as(told, tag)
+        if there != right:
+            say("adapter", f"{name} of {wrong.project} was {there or 'gone'}: set right to {right}, which was told")
 
     def jobs(self, change: int) -> frozenset[str] | None:
         """The jobs of a change's project that workers know; none where these settings have no jobs of it."""
-        project = self.projects.get(self.changes.home(change) or ("", ""))
+        project = self.project_of(change)
         return frozenset(project.jobs) if project is not None and project.jobs else None
 
     def queue_of(self, change: int) -> str:
         """The queue of a change, if its branch is gated."""
-        project = self.projects.get(self.changes.home(change) or ("", ""))
+        project = self.project_of(change)
         return project.queue if project is not None else ""
+
+    def project_of(self, change: int) -> Project | None:
+        return self.projects.get(self.changes.home(change) or ("", ""))
 
     def needs(self, so: Request) -> Needs:
         return needs_of(so, self.adapter.web, self.names, self.named.ask, self.change_of)
@@ -352,6 +376,18 @@ class Looks:
         is_over = it.until is not None and self.looked.clock() >= it.until
         return not is_over and all(known is not None and self.stands_for(place) == known
                                    for place, known in it.names.items())
+
+
+def is_ahead_of_now(content: bytes) -> bool:
+    """Whether a commit is dated more than a day ahead. A landing has the later date of what it merges, so all landings
+    behind it would be dated so."""
+    dates = COMMITTED.findall(content.partition(b"\n\n")[0].decode("utf-8", "replace"))
+    return len(dates) == 1 and int(dates[0]) > time.time() + DAY
+
+
+def named_by(it: Telling, commit: str, tag: str) -> Telling:
+    """A revision that is told by the tag at its commit, whose hash its id is made of."""
+    return replace(it, stands_for=(named_as(commit, tag), *it.stands_for[1:])) if it.kind == "revision" else it
 
 
 def names_of(settings: Settings) -> dict[str, str]:

@@ -10,6 +10,8 @@ import re
 from collections.abc import Mapping
 from dataclasses import dataclass
 
+from companions.squash import Squash
+
 # A date beyond 2100 counts as none: all later landings would have it.
 LATEST = 4_102_444_800
 # So much of a message and of its first line is read.
@@ -23,11 +25,13 @@ CONTROL = re.compile("[\x00-\x1f\x7f]")
 class Parent:
     """A commit that is merged: its hash, and what is read of it.
 
-    `seconds` is its committer date, or none where there is none that can be read, or one beyond 2100.
+    `seconds` is its committer date, or none where there is none that can be read, or one beyond 2100. `squash` is what
+    its landing says where it lands as one commit.
     """
     hash: str
     seconds: int | None
     subject: str
+    squash: Squash | None = None
 
 
 def parent_of(commit: str, content: bytes) -> Parent:
@@ -71,11 +75,17 @@ class Merge:
     def message(self) -> str:
         subject = f": {self.commit.subject}" if self.commit.subject else ""
         others = "".join(f"Gate-With: {name} {self.others[name]}\n" for name in sorted(self.others))
-        return (f"Land change {self.change}{subject}\n\nGate-Queue: {self.queue}\nGate-Place: {self.place}\n"
-                f"Gate-Change: {self.change}\nGate-Revision: {self.revision}\n{others}")
+        squash = self.commit.squash
+        says = f"Land change {self.change}{subject}" if squash is None else squash.message
+        commit = "" if squash is None else f"Gate-Commit: {self.commit.hash}\n"
+        return (f"{says}\n\nGate-Queue: {self.queue}\nGate-Place: {self.place}\nGate-Change: {self.change}\n"
+                f"Gate-Revision: {self.revision}\n{commit}{others}")
 
     def content(self, tree: str) -> bytes:
-        """The content of the commit's object, given the hash of the merged tree."""
-        who = f"{self.author} {self.seconds} +0000"
-        return (f"tree {tree}\nparent {self.onto.hash}\nparent {self.commit.hash}\nauthor {who}\ncommitter {who}\n\n"
+        """The content of the commit's object, given the hash of the merged tree. One that is squashed has no second
+        parent, and the author that its tag names."""
+        squash, when = self.commit.squash, f"{self.seconds} +0000"
+        parents = f"parent {self.onto.hash}\n" + ("" if squash else f"parent {self.commit.hash}\n")
+        author = self.author if squash is None else squash.author
+        return (f"tree {tree}\n{parents}author {author} {when}\ncommitter {self.author} {when}\n\n"
                 f"{self.message}").encode()

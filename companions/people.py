@@ -30,6 +30,7 @@ ANYBODY, ANYBODY_S, NOISY, OFTEN = {"unknown", "unapproved", "refusal", "elsewhe
 # What a comment says besides.
 FULL = "The forge takes no more statuses of this commit: this comment says what is so."
 CLOSED = "The gate has closed it, since the forge didn't show it as merged. Its branch has its commits."
+CLOSED_AS_ONE = "The gate has closed it, since the forge doesn't show one that landed as one commit as merged."
 
 
 # A look at the others begins: what is seen of a change at the gate is given back with what they know of it.
@@ -221,11 +222,13 @@ class People:
             status, most = f"status {place.repository} {subject.commits[-1]}", self.manner.limits.statuses
             more = [FULL] if most is not None and self.count(status) >= most else []
             noted = self.notes.get(closing_of(place))
-            more += [CLOSED] if noted is not None and noted["state"] == "closed" and is_landed(text) else []
+            if noted is not None and noted["state"] == "closed" and is_landed(text):
+                more.append(CLOSED_AS_ONE if subject.is_squashed else CLOSED)
             said = comment_of(subject, text, more)
             write = Write(f"comment {place.repository} {place.number}", ((subject.change, subject.revision),), place,
                           text.kind, None, text.state, said)
-            if self.notes.get(write.name) is None and not text.is_news and not subject.lines and not subject.votes:
+            is_worth_it = text.is_news or subject.lines or subject.votes or subject.earlier
+            if self.notes.get(write.name) is None and not is_worth_it:
                 continue
             if not self.is_written(write):
                 writes.append(write)
@@ -237,13 +240,18 @@ class People:
         writes = []
         for subject, text in told:
             place, comment = subject.place, self.notes.get(f"comment {subject.place.repository} {subject.place.number}")
-            if (self.manner.closes is None or subject.state is not State.OPEN or not is_landed(text)
+            closes = self.manner.closes
+            if subject.is_squashed:
+                # No forge sees that it has landed. First its comment names the commit.
+                is_named = comment is not None and len(text.comment) > 1 and text.comment[-1] in comment["text"]
+                closes = 0.0 if is_named else None
+            if (closes is None or subject.state is not State.OPEN or not is_landed(text)
                     or comment is None or comment["kind"] != text.kind):
                 continue
             write = Write(closing_of(place), ((subject.change, subject.revision),), place, text.kind,
                           subject.commits[-1], text.state, text.status, True)
             noted, age = self.notes.get(write.name), now.since(Moment(comment.get("boot", ""), comment["at"]))
-            if (noted is None or noted["text"] != write.text) and (age is None or age >= self.manner.closes):
+            if (noted is None or noted["text"] != write.text) and (age is None or age >= closes):
                 writes.append(write)
         return writes
 

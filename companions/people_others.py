@@ -16,11 +16,13 @@ class KnownByOthers:
     """What the lander in this folder has answered, which jobs workers know, why a failed change can't be merged, and
     where the logs are of what a CI has run.
 
-    `jobs` are those of a change's project that workers know, if they are known here.
+    `jobs` are those of a change's project that workers know, if they are known here, and `landing` gives the commit of
+    a change at a place of a queue, if that is known.
     """
 
-    def __init__(self, folder: Path, jobs: Callable[[int], frozenset[str] | None], failures: Failures) -> None:
-        self.file, self.jobs, self.failures = answers.file_in(folder), jobs, failures
+    def __init__(self, folder: Path, jobs: Callable[[int], frozenset[str] | None], failures: Failures,
+                 landing: Callable[[int, str, int], str | None] = lambda change, queue, place: None) -> None:
+        self.file, self.jobs, self.failures, self.landing = answers.file_in(folder), jobs, failures, landing
         self.links = links.file_in(folder)
 
     def __call__(self) -> Callable[[Subject, Seen], Seen]:
@@ -34,7 +36,9 @@ class KnownByOthers:
         item, report = seen.item, seen.report
         order = item.order if item is not None else report.order if report is not None else None
         cause = self.failures.cause(subject.change, order, seen.builds) if order is not None and seen.builds else None
-        return replace(seen, stopped=said.stopped.get(item.queue) if item is not None else None,
+        has_landed = subject.is_squashed and report is not None and report.n is not None
+        landing = self.landing(subject.change, report.queue, report.n) if has_landed else None
+        return replace(seen, landing=landing, stopped=said.stopped.get(item.queue) if item is not None else None,
                        refused=said.why_refused(subject.change, subject.revision), jobs=self.jobs(subject.change),
                        cause=cause)
 

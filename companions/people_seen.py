@@ -21,7 +21,9 @@ class Subject:
 
     `commits` are those of its revisions, from the first. `lines` are those of its text that name no request, `votes`
     say why approvals of it don't count, `refused` is the gate's code where it didn't take the last revision, or `ahead`
-    where it isn't told of it, and `is_gated` whether its target branch is a project's.
+    where it isn't told of it, and `is_gated` whether its target branch is a project's. `is_squashed`: its last revision
+    lands as one commit, so no forge shows it as merged; `earlier` are the lines of its message, but for blank
+    ones, where the request has another title or text by now.
     """
     change: int
     place: Place
@@ -31,6 +33,8 @@ class Subject:
     votes: tuple[str, ...] = ()
     refused: str | None = None
     is_gated: bool = True
+    is_squashed: bool = False
+    earlier: tuple[str, ...] = ()
 
     @property
     def revision(self) -> int:
@@ -70,7 +74,8 @@ class Seen:
     that vote, where they are known. By `circle`, a part of its needs, it needs itself; those of `failing` neither have
     landed nor do they stand and are `ok`. The lander says why it has `stopped` its queue, if it has, and why it has
     `refused` its last order, if that was of this revision. `jobs` are those of its project that workers know, if they
-    are known here, and `cause` is why it can't be merged, where that is why it failed.
+    are known here, and `cause` is why it can't be merged, where that is why it failed. `landing` is the commit by which
+    a squashed one has landed.
     """
     item: Item | None = None
     known: Mapping[str, Any] | None = None
@@ -83,6 +88,7 @@ class Seen:
     refused: str | None = None
     jobs: frozenset[str] | None = None
     cause: Cause | None = None
+    landing: str | None = None
 
 
 @dataclass(frozen=True)

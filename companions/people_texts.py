@@ -37,7 +37,7 @@ def text_of(subject: Subject, seen: Seen, words: Words) -> Text | None:
     if max(revisions, default=0) > subject.revision:
         return None
     if report is not None and report.verdict == "landed":
-        return landed(subject, report)
+        return landed(subject, report, seen.landing)
     if item is not None and item.revision == subject.revision:
         return queued(item, seen, words)
     if not subject.is_gated:
@@ -67,11 +67,15 @@ def comment_of(subject: Subject, text: Text, more: Sequence[str] = ()) -> str:
 
 
 def parts_of(subject: Subject, text: Text, more: Sequence[str] = ()) -> list[str]:
-    """The paragraphs of a comment: what the text says and more, why approvals don't count, the line that approves its
-    commit whatever was seen before, and the lines that name no request."""
+    """The paragraphs of a comment: what the text says and more, why approvals don't count, the message of earlier
+    with which it lands, the line that approves its commit whatever was seen before, and the lines that name no request.
+    """
     parts = [*text.comment, *more]
     if subject.votes and text.kind not in ENDS:
         parts += ["These votes don't approve it:", block(subject.votes)]
+    if subject.earlier and text.kind not in ENDS:
+        parts += ["It lands with the title and the text that it had when the gate was told of this commit:",
+                  block(subject.earlier), "To have those of now, push once more."]
     if subject.state is State.OPEN and text.kind in UNAPPROVED:
         parts += ["To approve this commit by a comment, write one that is this line alone:",
                   block([f"{APPROVES} {subject.commits[-1]}"])]
@@ -125,11 +129,12 @@ def closed(subject: Subject) -> Text | None:
     return None
 
 
-def landed(subject: Subject, report: Report) -> Text:
+def landed(subject: Subject, report: Report, landing: str | None) -> Text:
     """The commit of a later revision hasn't landed with that of an earlier one, unless it is the same."""
     commit, said = subject.commits[report.revision - 1], f"Landed in {report.queue} as {report.n}"
     if commit == subject.commits[-1]:
-        return Text("landed", SUCCESS, said, (f"**Landed in `{report.queue}` as {report.n}.**",))
+        more = [] if landing is None else [f"Its branch has it as one commit: {landing}"]
+        return Text("landed", SUCCESS, said, (f"**Landed in `{report.queue}` as {report.n}.**", *more))
     return Text("landed", FAILURE, f"{said}, without this commit: open a new request",
                 (f"**Landed in `{report.queue}` as {report.n}, at its earlier commit {commit[:12]}.**",
                  "What was pushed later came too late. Open a new request for it."), landed=(commit, said))
@@ -254,6 +259,8 @@ def unmerged(cause: Cause, words: Words) -> str:
     """Why a change can't be merged, for a status."""
     if not cause.files:
         return "no common past with its branch"
+    if cause.stacked:
+        return f"has commits of {words.conflict(cause)}, which lands as one: rebase it"
     return f"conflicts with {words.conflict(cause)} in {listed([cut(plain(it), 40) for it in cause.files])}"
 
 
@@ -261,7 +268,11 @@ def conflict(cause: Cause, words: Words) -> tuple[str, ...]:
     """Why a change can't be merged, for a comment."""
     if not cause.files:
         return ("It has no common past with its branch.",)
-    return f"It conflicts with {words.conflict(cause)} in:", block(cause.files)
+    said = f"It conflicts with {words.conflict(cause)} in:", block(cause.files)
+    if not cause.stacked:
+        return said
+    return (*said, f"It was begun from commits of {words.conflict(cause)}, which lands as one: rebase it onto its"
+                   " branch without these, once that has landed.")
 
 
 def left(subject: Subject, report: Report, seen: Seen, words: Words) -> Text | None:

@@ -11,10 +11,11 @@ import shutil
 import subprocess
 import threading
 from collections.abc import Mapping
-from dataclasses import dataclass
+from dataclasses import dataclass, replace
 from pathlib import Path
 
 from companions.merging import Merge, Parent, parent_of
+from companions.squash import squashed
 
 # Where the companions find things in a repository. A landing's place has six digits, so that no name is the beginning
 # of another one: `find` asks a server by such beginnings.
@@ -289,8 +290,13 @@ class Repository:
         return words[1], int(words[2])
 
     def parent(self, commit: str) -> Parent:
-        """What a merge reads of a commit."""
-        return parent_of(commit, self.content(commit))
+        """What a merge reads of a commit, or of the tag at one that is to be squashed. Any other tag stands for its
+        commit."""
+        if self.kind(commit)[0] != "tag":
+            return parent_of(commit, self.content(commit))
+        found, peeled = squashed(self.content(commit, "tag")), self.git("rev-parse", f"{commit}^{{commit}}").strip()
+        read = parent_of(peeled, self.content(peeled))
+        return replace(read, squash=found[1]) if found is not None and found[0] == peeled else read
 
     def message(self, commit: str) -> str:
         return self.content(commit).partition(b"\n\n")[2].decode("utf-8", "replace")

@@ -57,7 +57,8 @@ class Project:
     """A project of the gate's settings: where its repository is, and which branch of it is gated.
 
     `forge` is the repository's name at the forge, as `owner/name`. Without `evidence` the lander doesn't ask whether
-    the workers tested the very commits that it lands.
+    the workers tested the very commits that it lands. With `squashes` the adapter names revisions so that each lands as
+    one commit.
     """
     name: str
     queue: str
@@ -66,6 +67,7 @@ class Project:
     jobs: dict[str, Job] = field(default_factory=dict)
     forge: str = ""
     evidence: bool = True
+    squashes: bool = False
 
 
 @dataclass(frozen=True)
@@ -180,6 +182,7 @@ PASSWORD = re.compile(r"[a-z][a-z0-9+.-]*://[^/?#@]*:[^/?#]*@", re.IGNORECASE)
 FILTERS = frozenset({"lfs"})
 ROLES = ("forge", "worker", "people", "standby")
 FORMS = ("gitea", "github", "gitlab")
+LANDS = ("merge", "squash")
 
 
 def read(file: Path) -> Settings:
@@ -286,7 +289,7 @@ def projects_of(top: Reader) -> dict[str, Project]:
     for it in top.each("project"):
         name = it.text("name")
         project = Project(name, it.text("queue"), repository_of(it), it.text("branch", "main"), jobs_of(it),
-                          it.text("forge", name), it.get("evidence", bool, True))
+                          it.text("forge", name), it.get("evidence", bool, True), squashes(it))
         if project.name in projects:
             raise it.fault("name", f"{project.name} stands twice")
         if (project.repository, project.branch) in branches:
@@ -302,6 +305,14 @@ def projects_of(top: Reader) -> dict[str, Project]:
     if not projects:
         raise top.fault("project", "is missing")
     return projects
+
+
+def squashes(project: Reader) -> bool:
+    """Whether a project's changes land as one commit each."""
+    land = project.text("land", LANDS[0])
+    if land not in LANDS:
+        raise project.fault("land", f"is none of {', '.join(LANDS)}")
+    return land == LANDS[1]
 
 
 def repository_of(project: Reader) -> str:

@@ -11,7 +11,7 @@ from companions.needs import clean
 from companions.people_seen import Subject
 from companions.requests import Request, State
 from companions.tables import add
-from companions.told import AHEAD, Changes
+from companions.told import AHEAD, EARLIER, Changes
 
 # `change` is that of the request's branch, or the last one that it had where its branch isn't gated. A request is over
 # once it isn't open and nothing more can be told of it: people aren't told of it again until it is looked at again. It
@@ -93,7 +93,9 @@ class Subjects:
             commits.append(head)
         return Subject(change, place, tuple(commits), state, tuple(self.changes.remarks(change, "need")),
                        tuple(self.changes.remarks(change, "vote")),
-                       "ahead" if is_ahead else self.changes.refused(change), is_gated)
+                       "ahead" if is_ahead else self.changes.refused(change), is_gated,
+                       self.changes.tag(change, len(told.revisions)) is not None,
+                       tuple(self.changes.remarks(change, EARLIER)))
 
     def say(self, said: Mapping[int, Sequence[str]]) -> None:
         """Notes what people are told of changes by now, where that is something else than before."""

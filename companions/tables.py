@@ -21,7 +21,8 @@ STEPS: list[Step] = [(), (("hint", "ALTER TABLE hint ADD COLUMN is_hook INTEGER 
                      (("request", "ALTER TABLE request ADD COLUMN title TEXT DEFAULT ''"),
                       ("request", "ALTER TABLE request ADD COLUMN author TEXT DEFAULT ''"),
                       ("request", "ALTER TABLE request ADD COLUMN said TEXT DEFAULT '[]'"),
-                      ("request", "ALTER TABLE request ADD COLUMN ended REAL"))]
+                      ("request", "ALTER TABLE request ADD COLUMN ended REAL")),
+                     (("revision", "ALTER TABLE revision ADD COLUMN tag TEXT"),)]
 
 
 class OtherVersion(sqlite3.DatabaseError):

@@ -17,19 +17,21 @@ from companions.gate import Delivery
 from companions.ids import id_of, revision_id
 from companions.outbox import Kept, Outbox
 from companions.requests import NO_REVISION, Request, Revision, Telling, Told
+from companions.squash import message_of, named_as, squashed
 from companions.tables import add, at_once
 
 # A change has a row once its request is known or named. `told` says whether the gate's present file was told of it,
 # `left_at` since when it is closed without having landed, and `dropped` whether its commits are gone for that.
 # A vote has the change and the revision at which it was first seen, those that it was told of, once it was, and the
-# commit that it named at first. A revision has the forge's time at which people were first told of it.
+# commit that it named at first. A revision has the forge's time at which people were first told of it, and the content
+# of the tag at its commit if it lands as one commit.
 # Replies are counted: a telling has the number of its own, and how many there were when it was kept.
 TABLES = """
 CREATE TABLE IF NOT EXISTS change(number INTEGER PRIMARY KEY, repository TEXT, request INTEGER, branch TEXT,
     closed INTEGER DEFAULT 0, landed INTEGER DEFAULT 0, told INTEGER DEFAULT 0, left_at REAL,
     dropped INTEGER DEFAULT 0, UNIQUE(repository, request, branch));
 CREATE INDEX IF NOT EXISTS change_open ON change(repository, request) WHERE told AND NOT closed AND NOT landed;
-CREATE TABLE IF NOT EXISTS revision(change INTEGER, number INTEGER, hash TEXT, needs TEXT, shown TEXT,
+CREATE TABLE IF NOT EXISTS revision(change INTEGER, number INTEGER, hash TEXT, needs TEXT, shown TEXT, tag TEXT,
     PRIMARY KEY(change, number));
 CREATE TABLE IF NOT EXISTS vote(repository TEXT, request INTEGER, object TEXT, change INTEGER, revision INTEGER,
     told_change INTEGER, told_revision INTEGER, taken_back INTEGER DEFAULT 0, hash TEXT,
@@ -42,8 +44,9 @@ CREATE TABLE IF NOT EXISTS remark(change INTEGER, kind TEXT, place INTEGER, text
     PRIMARY KEY(change, kind, place));
 """
 
-# The kind of the remark on a request whose head isn't told, since it is dated ahead.
-AHEAD = "ahead"
+# The kinds of remarks on a request whose head isn't told, since it is dated ahead, and on one that lands with the title
+# and text of earlier.
+AHEAD, EARLIER = "ahead", "earlier"
 
 # Refusals that say that the gate doesn't have what the delivery is about: told again once it does, they may be taken.
 LACKING = ("E5", "E6", "E7")
@@ -115,14 +118,22 @@ class Changes:
                                   (change, revision)).fetchone()
         return None if row is None else str(row[0])
 
+    def tag(self, change: int, revision: int) -> str | None:
+        """The content of the tag of a revision that lands as one commit; none of one that doesn't."""
+        row = self.tables.execute("SELECT tag FROM revision WHERE change = ? AND number = ?",
+                                  (change, revision)).fetchone()
+        return None if row is None else row[0]
+
     def is_unsure(self, change: int, revisions: Sequence[Revision]) -> bool:
         """Whether the last revision was told under an id that isn't made of its commit. So was the first delivery of
         the gate's file, by whose id the others are made."""
         first, last = self.first(), len(revisions)
         rows = self.tables.execute("SELECT id, said FROM telling WHERE change = ? ORDER BY place DESC", (change,))
         told = next((id for id, said in rows if is_of(json.loads(said), last)), None)
-        return first is not None and told is not None and told != revision_id(
-            first, change, last, revisions[-1].commit, revisions[-1].needs)
+        if first is None or told is None:
+            return False
+        named = named_as(revisions[-1].commit, self.tag(change, last))
+        return told != revision_id(first, change, last, named, revisions[-1].needs)
 
     def first(self) -> str | None:
         """The id of the first delivery that the gate has accepted, as far as that is known."""
@@ -138,23 +149,29 @@ class Changes:
                                 (so.repository, so.number, name, change, revision, commits.get(name)))
 
     def keep(self, so: Request, change: int, steps: Iterable[Telling], more: dict[str, str],
-             needs: tuple[int, ...]) -> None:
+             needs: tuple[int, ...], tag: str | None = None) -> None:
         """Keeps deliveries in the change's lane, with all that was told by them then. Call it within a step.
 
-        `more` are the members of a revision's delivery beside its numbers.
+        `more` are the members of a revision's delivery beside its numbers, and `tag` is what stands at its commit.
         """
         for it in steps:
             said: Delivery = {"kind": it.kind, "change": change, "revision": it.revision}
             if it.kind == "revision":
                 said |= more
-                self.tables.execute("INSERT INTO revision(change, number, hash, needs) VALUES (?, ?, ?, ?)",
-                                    (change, it.revision, so.head, json.dumps(needs)))
+                self.forget_tags(change)
+                self.tables.execute("INSERT INTO revision(change, number, hash, needs, tag) VALUES (?, ?, ?, ?, ?)",
+                                    (change, it.revision, so.head, json.dumps(needs), tag))
                 self.tables.execute("UPDATE change SET closed = 0, told = 1 WHERE number = ?", (change,))
             elif it.kind == "closed":
                 self.tables.execute("UPDATE change SET closed = 1 WHERE number = ?", (change,))
             for name in it.votes:
                 self.mark(so, name, change, it)
             self.send_later(change, it, said)
+
+    def forget_tags(self, change: int) -> None:
+        """Forgets the tags of revisions that nobody has approved, since a later one comes: outsiders write these."""
+        self.tables.execute("UPDATE revision SET tag = NULL WHERE change = ? AND NOT EXISTS (SELECT 1 FROM vote"
+                            " WHERE told_change = revision.change AND told_revision = revision.number)", (change,))
 
     def mark(self, so: Request, name: str, change: int, telling: Telling) -> None:
         """Notes that a vote was told, as an approval or as one that was taken back."""
@@ -222,11 +239,23 @@ class Changes:
     def remark(self, change: int, kind: str, lines: Iterable[str]) -> None:
         """Puts lines of a kind that are to be told on the change's request in the place of those that were.
 
-        A `need` names no request, a `vote` is one that doesn't approve it, and `AHEAD` has a head that isn't told.
+        A `need` names no request, a `vote` is one that doesn't approve it, `AHEAD` has a head that isn't told, and
+        `EARLIER` the message with which it lands.
         """
         self.tables.execute("DELETE FROM remark WHERE change = ? AND kind = ?", (change, kind))
         self.tables.executemany("INSERT INTO remark VALUES (?, ?, ?, ?)",
                                 ((change, kind, place, line) for place, line in enumerate(lines)))
+
+    def remark_head(self, so: Request, change: int, is_ahead: bool) -> None:
+        """Puts there what is so of a request's head. Who approves one that lands as one commit sees its title and text
+        of now, and not those that were fixed: whoever wrote them might have edited them since."""
+        self.remark(change, AHEAD, [so.head] if is_ahead else [])
+        rows = self.tables.execute("SELECT tag FROM revision WHERE change = ? ORDER BY number DESC LIMIT 1", (change,))
+        tag = next((row[0] for row in rows), None)
+        found = squashed(tag.encode()) if tag is not None else None
+        is_other = found is not None and found[1].message != message_of(so.title, so.text)
+        lines = found[1].message.splitlines() if found is not None and is_other else []
+        self.remark(change, EARLIER, [it for it in lines if it])
 
     def remarks(self, change: int, kind: str) -> list[str]:
         """What is to be told of a kind on the change's request."""
@@ -322,6 +351,7 @@ class Changes:
     def dropped(self, change: int) -> None:
         """Notes that the commits of a change were dropped."""
         self.tables.execute("UPDATE change SET dropped = 1 WHERE number = ?", (change,))
+        self.tables.execute("UPDATE revision SET tag = NULL WHERE change = ?", (change,))
 
     def is_alive(self, place: Place) -> bool:
         """Whether a request has a change that was told and not closed."""

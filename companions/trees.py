@@ -196,7 +196,7 @@ class Trees:
                          repository.parent(commit), others, self.settings.author)
             merged = repository.merge(what)
             if merged is None:
-                cause = cause_of(repository, commits[project], commit, ahead.get(project, []))
+                cause = cause_of(repository, commits[project], what.commit.hash, ahead.get(project, []))
                 raise Conflict((change, revision), project, change == build.change, cause)
             ahead.setdefault(project, []).append((change, merged))
             commits[project] = merged

@@ -13,6 +13,7 @@ from pathlib import Path
 from companions.ids import revision_id, success_id
 from companions.merging import Merge, Parent
 from companions.settings import ROLES, Reader, Settings, SettingsFault, read
+from companions.squash import Squash, squashed, tag_of
 
 PAGE = Path(__file__).resolve().parents[2] / "docs" / "CONNECTING.md"
 # What the page's example doesn't have, and is read only where it is there.
@@ -103,6 +104,13 @@ class PageTest(unittest.TestCase):
                      {"lib": content.decode().split()[-1]}, "gate <gate@localhost>")
         self.assertEqual(what.content(has["tree"]), content)
         self.assertEqual(hashlib.sha1(b"commit %d\0" % len(content) + content).hexdigest(), commit)
+
+    def test_the_example_of_a_tag_is_the_function_s(self) -> None:
+        text, = re.findall(r"with `land = \"squash\"`:\n\n(    object .*?)\n\n- ", PAGE.read_text(encoding="utf-8"), re.DOTALL)
+        content = (re.sub("^    ", "", text, flags=re.MULTILINE) + "\n").encode()
+        commit, squash = squashed(content) or ("", Squash("", ""))
+        self.assertEqual(squash, Squash("Ann Example <ann@example>", "Use three\n\nTwo were too few."))
+        self.assertEqual(tag_of(commit, 103, 2, 1764480000, "gate <gate@localhost>", squash), content)
 
     def test_what_must_be_there_has_no_default(self) -> None:
         rows = re.findall(r"^\| (`.*?) \|.*\| must be there \|$", members(), re.MULTILINE)

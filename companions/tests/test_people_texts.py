@@ -114,6 +114,8 @@ CASES: dict[str, tuple[Subject, Seen]] = {
     "failed where votes aren't known": (subject(), Seen(builds=FAILED + DOCS, report=report("failed"))),
     "failed, as it conflicts with another": (
         subject(), Seen(builds=FAILED, report=report("failed"), cause=Cause(("a.txt", "b/<c>", "d"), 102))),
+    "failed, as it was begun from one that landed as one commit": (
+        subject(), Seen(builds=FAILED, report=report("failed"), cause=Cause(("a.txt",), 102, True))),
     "failed, as it conflicts with its branch": (
         subject(), Seen(builds=FAILED, report=report("failed"), cause=Cause(("x" * 200,)))),
     "failed, as it has no common past": (subject(), Seen(builds=FAILED, report=report("failed"), cause=Cause(()))),
@@ -143,6 +145,9 @@ CASES: dict[str, tuple[Subject, Seen]] = {
         subject(), Seen(known=known((102, "landed", None, None)), report=report("needs"))),
     "withdrawn": (subject(), Seen(report=report("withdrawn"))),
     "landed": (subject(), Seen(report=report("landed", 7))),
+    "waits for approval, and was renamed": (subject(earlier=("Use <b>three", "Two \x1bwere.")), Seen(known=known())),
+    "landed, and was renamed": (subject(earlier=("Use three",)), Seen(report=report("landed", 7))),
+    "landed as one commit": (subject(), Seen(report=report("landed", 7), landing="c" * 40)),
     "landed at the same commit with other needs": (subject(OLD, OLD), Seen(report=report("landed", 7))),
     "landed at an earlier commit": (subject(OLD, NEW), Seen(report=report("landed", 7))),
     "landed, and the history isn't read so far": (subject(), Seen(known=known(state="landed"))),
