@@ -34,6 +34,7 @@ from companions.check_files import Files, compare, read_files
 from companions.check_forge import Unseen
 from companions.repository import GitFault, untested
 from companions.settings import Settings, SettingsFault, read
+from companions.starting import is_help
 
 PART = "check"
 USERS = ("gated", "gated-companions", "gated-worker")
@@ -294,8 +295,7 @@ def tell(found: list[str], where: str) -> int:
 
 
 def main(words: list[str]) -> int:
-    if words in (["--help"], ["-h"]):
-        print((__doc__ or "").strip())
+    if is_help(words, __doc__):
         return 0
     if any(it.startswith("-") for it in words):
         print("usage: python3 -m companions.check [gate.toml] companions.toml [worker.toml..]", file=sys.stderr)

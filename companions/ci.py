@@ -31,7 +31,7 @@ from companions.outbox import Notes
 from companions.repository import GitFault, untested
 from companions.runs import Run
 from companions.settings import Settings, SettingsFault
-from companions.starting import alone
+from companions.starting import alone, is_help
 from companions.statuses import statuses_of
 from companions.trees import Trees
 from companions.wanted import Reply
@@ -268,6 +268,8 @@ def work(file: Path, name: str) -> int:
 
 
 def main(argv: list[str]) -> int:
+    if is_help(argv, __doc__):
+        return 0
     if len(argv) != 2 or not NAME.fullmatch(argv[1]):
         print(USAGE, file=sys.stderr)
         return 2

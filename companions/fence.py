@@ -12,6 +12,7 @@ from pathlib import Path
 
 from companions.gate import Gate, NoAnswer, say
 from companions.settings import SettingsFault, read
+from companions.starting import is_help
 
 PART, MARK = "fence", "replaced"
 # Seconds that a start is held up at most: nobody answers where this machine is the gate's.
@@ -19,6 +20,8 @@ PATIENCE = 5.0
 
 
 def main(words: list[str]) -> int:
+    if is_help(words, __doc__):
+        return 0
     if len(words) not in (1, 2) or words[1:] not in ([], ["ask"]):
         print("usage: python3 -m companions.fence companions.toml [ask]", file=sys.stderr)
         return 2

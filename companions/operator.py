@@ -36,6 +36,7 @@ from companions.gate import Gate, NoAnswer
 from companions.held import LONGEST, Hold, folder_in, make, own, read, write
 from companions.settings import Settings, SettingsFault
 from companions.settings import read as read_settings
+from companions.starting import is_help
 
 ACTS = {"promote": 1, "dequeue": 1, "hold": 1, "resume": 1, "log": 0}
 LOG = "done.jsonl"
@@ -46,8 +47,7 @@ class Wrong(Exception):
 
 
 def main(words: list[str]) -> int:
-    if words in (["--help"], ["-h"]):
-        print((__doc__ or "").strip())
+    if is_help(words, __doc__):
         return 0
     try:
         words, yes, because, wait = options(words)

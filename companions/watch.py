@@ -1,7 +1,9 @@
 """The clock that a gate doesn't have: reports builds that nobody works at any more, and writes figures.
 
-`python3 -m companions.watch companions.toml`. A build whose worker is gone runs until somebody reports it lost, and its
-change waits until then. So a gate isn't run without a watch.
+    python3 -m companions.watch companions.toml
+
+A build whose worker is gone runs until somebody reports it lost, and its change waits until then. So a gate isn't run
+without a watch.
 """
 from __future__ import annotations
 

@@ -1,5 +1,7 @@
 """A worker: it takes a build, runs it, and says how it ended, over and over.
 
+    python3 -m companions.worker companions.toml NAME
+
 It may be killed at any moment: the id of a take is on disk before it is sent, and what a job came to before it is told.
 The gate may be away, and may have another file when it is back, under whose numbers other builds are meant. So the
 worker sends its take again right before each result: a gate that gives the same reply means the same build. A success
@@ -30,7 +32,7 @@ from companions.outbox import Notes
 from companions.repository import GitFault, untested
 from companions.room import shared
 from companions.settings import Settings, SettingsFault
-from companions.starting import alone
+from companions.starting import alone, is_help
 from companions.trees import Build, Trees, build_of
 from companions.wanted import Reply
 
@@ -261,6 +263,8 @@ def work(file: Path, name: str) -> int:
 
 
 def main(argv: list[str]) -> int:
+    if is_help(argv, __doc__):
+        return 0
     if len(argv) != 2 or not NAME.fullmatch(argv[1]):
         print(USAGE, file=sys.stderr)
         return 2
