@@ -46,7 +46,7 @@ trap 'rm -rf "$work"' EXIT
   done
   for scene in worker-keeps lander-back lander-past worker-hastes unit \
     "adapter-holds --forge gitea" "adapter-fresh --forge github" "adapter-believes --forge gitlab" \
-    "lander-blind --forge gitea"; do
+    "lander-blind --forge gitea" "lander-merges --forge github" "worker-merges --forge gitlab"; do
     echo "companions.tests.day --turn $scene"
   done
   for file in companions/tests/test_*.py; do

@@ -21,11 +21,13 @@ TRAILER = re.compile(r"^Gate-(\w+): (\S+)$", re.MULTILINE)
 
 @dataclass(frozen=True)
 class Landed:
-    """A landing as git has it, and the trees of all projects of its queue behind it."""
+    """A landing as git has it: its commit, that of its revision, and the trees of all projects of its queue behind
+    it."""
     queue: str
     place: int
     project: str
     commit: str
+    merged: str
     change: int
     revision: int
     trees: dict[str, str]
@@ -76,8 +78,9 @@ class Checks:
             commit = notes[project][place]
             said = dict(TRAILER.findall(self.stage.git(project, "log", "-1", "--format=%B", commit)))
             trees[project] = self.tree(project, commit)
+            merged = said.get("Commit") or self.stage.git(project, "rev-parse", f"{commit}^2")
             change, revision = int(said["Change"]), int(said["Revision"])
-            landings.append(Landed(queue, place, project, commit, change, revision, dict(trees)))
+            landings.append(Landed(queue, place, project, commit, merged, change, revision, dict(trees)))
         return landings
 
     def tree(self, project: str, commit: str) -> str:
@@ -102,9 +105,25 @@ class Checks:
             if branch != noted:
                 yield f"the branch of {project.name} isn't its notes: {len(branch)} commits, {len(noted)} notes"
         for it in self.all():
-            if self.stage.git(it.project, "rev-parse", f"{it.commit}^2") != self.stage.git(
-                    it.project, "rev-parse", f"refs/changes/{it.change}/{it.revision}"):
+            name = f"refs/changes/{it.change}/{it.revision}"
+            if it.merged != self.stage.git(it.project, "rev-parse", f"{name}^{{commit}}"):
                 yield f"{it} merges another commit than that of the revision"
+            if self.stage.project(it.project).land == "squash":
+                yield from self.check_squashed(it, name)
+            elif self.stage.git(it.project, "cat-file", "-t", name) != "commit":
+                yield f"{it} is of a revision that isn't a commit"
+
+    def check_squashed(self, it: Landed, name: str) -> Iterator[str]:
+        """It is one commit on the one before, with the author and the message that its tag has."""
+        form = "--format=%P%n%an <%ae>%n%cn <%ce>%n%B"
+        parents, author, committer, *message = self.stage.git(it.project, "log", "-1", form, it.commit).split("\n")
+        tag = self.stage.git(it.project, "cat-file", "tag", name).partition("\n\nGate-Author: ")[2]
+        ends = ["", f"Gate-Queue: {it.queue}", f"Gate-Place: {it.place}", f"Gate-Change: {it.change}",
+                f"Gate-Revision: {it.revision}", f"Gate-Commit: {it.merged}"]
+        more = [line for line in message if not line.startswith("Gate-With: ")]
+        if (len(parents.split()), committer, [author, "", *more]) != (
+                1, "gate <gate@localhost>", [*tag.split("\n"), *ends]):
+            yield f"{it} isn't the one commit that was fixed with its revision"
 
     def check_once(self) -> Iterator[str]:
         """Each change landed once at most, and none at a revision whose jobs fail."""

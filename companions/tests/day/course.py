@@ -62,7 +62,7 @@ class Course:
         if project is None:
             return
         note = self.stage.git(project, "log", "-1", "--format=%B", f"refs/landings/{queue}/{place:06d}")
-        number = int(note.partition("Gate-Change: ")[2].split()[0])
+        number = int(note.rpartition("Gate-Change: ")[2].split()[0])
         known = self.stage.gate.change(number)
         if known and known["state"] == "open" and known["order"] is None and known["approval"] is None:
             self.stage.note(f"approve {number} again for the lander")

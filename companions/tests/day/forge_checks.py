@@ -48,13 +48,13 @@ class ForgeChecks(Checks):
         self.file.note_ids()
 
     def each(self) -> list[Callable[[], Iterator[str]]]:
-        return [*super().each(), self.check_approved_commits, self.check_heads, self.check_states, self.check_votes,
-                self.check_comments, self.check_statuses]
+        return [*super().each(), self.check_approved_commits, self.check_heads, self.check_states, self.check_closed,
+                self.check_votes, self.check_comments, self.check_statuses]
 
     @cached_property
     def landed(self) -> dict[int, str]:
         """The commit at which each change has landed, as the branches have it."""
-        return {it.change: self.stage.git(it.project, "rev-parse", f"{it.commit}^2") for it in self.all()}
+        return {it.change: it.merged for it in self.all()}
 
     @cached_property
     def places(self) -> dict[int, int]:
@@ -156,6 +156,18 @@ class ForgeChecks(Checks):
                 yield f"{self.name(place)} is shown as merged by the lander, which hasn't landed it"
         yield from (f"{it}, and was told as closed" for it in self.all() if (it.change, it.revision) in closed
                     and self.file.place(it.change) not in self.developers.left)
+
+    def check_closed(self) -> Iterator[str]:
+        """What landed as one commit is closed, which no forge does, and people are told the commit."""
+        for it in self.all():
+            place = self.file.place(it.change)
+            if place is None or self.stage.project(it.project).land != "squash":
+                continue
+            pull = self.model.pulls[place]
+            if pull.state == "open" and pull.head == it.merged and place not in self.developers.reopened:
+                yield f"{self.name(place)} has landed as one commit, and is open"
+            if pull.head == it.merged and it.commit not in self.told(place):
+                yield f"{self.name(place)} has landed as {it.commit[:9]}, and people hear: {self.told(place)!r}"
 
     def check_votes(self) -> Iterator[str]:
         """An approval that holds has landed what it approved, or people are told why it hasn't.

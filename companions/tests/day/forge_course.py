@@ -55,7 +55,8 @@ class ForgeCourse(Course):
         super().settle()
         self.stage.note("people are told")
         checks, end = self.checks(), time.monotonic() + TELLING
-        while [*checks.check_statuses(), *checks.check_votes()] and time.monotonic() < end:
+        while ([*checks.check_statuses(), *checks.check_votes(), *checks.check_closed()]
+               and time.monotonic() < end):
             time.sleep(2 * pace())
 
     def end(self) -> list[str]:

@@ -56,6 +56,8 @@ class ForgeDevelopers(Developers):
         self.votes: list[Cast] = []
         # The requests that somebody has closed, merged past the gate, or given another target.
         self.left: set[Place] = set()
+        # Those that somebody has opened again.
+        self.reopened: set[Place] = set()
         # The approvals that an operator has told the gate past the adapter.
         self.by_hand: set[uuid.UUID] = set()
 
@@ -166,6 +168,12 @@ class ForgeDevelopers(Developers):
             if self.is_open(change):
                 self.model.edit(self.place(change), text=self.text(change))
 
+    def rename(self, change: Change) -> None:
+        """It gets another title. A landing has the one of when the gate was told of the revision."""
+        with self.model.lock:
+            if self.is_open(change):
+                self.model.edit(self.place(change), title=f"Change {change.number}, as it is called now")
+
     def aside(self, change: Change) -> None:
         """It is to go to a branch that isn't gated."""
         self.retarget(change, "topic")
@@ -270,6 +278,7 @@ class ForgeDevelopers(Developers):
     def reopen(self, change: Change) -> None:
         with self.model.lock:
             if self.pull(change).state == "closed":
+                self.reopened.add(self.place(change))
                 self.model.reopen(self.place(change))
 
     def merge_past(self, change: Proposal) -> tuple[str, str]:

@@ -7,6 +7,9 @@ from typing import Any
 from companions.tests.day.developers import Change, Step, shuffled
 from companions.tests.day.forge_developers import Proposal
 
+# What a landing has at its end, as somebody writes it.
+FORGED = "Gate-Queue: web\nGate-Place: 1\nGate-Change: 1\nGate-Revision: 1"
+
 
 class Plan:
     """The requests of a day, and their steps. `past` is merged past the gate, by an act of its own."""
@@ -52,7 +55,7 @@ class Plan:
             steps(self.make(251, "site", "style-w", "plain"), "open", "approve", "withdraw", "approve"),
             steps(self.make(252, "site", "style-c", "plain", lands=None), "open", "approve", "close"),
             steps(self.make(262, "site", "style-r", "plain"), "open", "approve", "close", "reopen", "approve"),
-            steps(self.make(266, "site", "style-d", "plain"), "open", "approve", "draft", "ready", "approve"),
+            steps(self.make(266, "site", "style-d", "plain"), "open", "approve", "draft", "ready", "approve", "rename"),
             steps(self.make(160, "lib", "numbers/7", "seven"), "open", "approve", "aside", "home", "approve"),
             steps(self.make(161, "lib", "numbers/8", "eight"), "open", "approve", "across", "approve"),
             [*steps(forth, "open"), Step("push", forth, (("numbers/600", "many"),)), *steps(forth, "back", "approve")],
@@ -67,7 +70,7 @@ class Plan:
         return [
             steps(self.make(163, "app", "uses/1", "twice", names=(self.past,), later=(self.numbers[3],)),
                   "open", "edit", "approve"),
-            steps(self.make(265, "site", "style-n", "plain", names=(self.past,)), "open", "approve"),
+            steps(self.make(265, "site", "style-n", "plain", names=(self.past,), text=FORGED), "open", "approve"),
             steps(self.make(269, "site", "style-g", "plain", text="Depends-On: what we said"),
                   "open", "admire", "approve"),
             steps(self.make(171, "app", "notes", "new", text="Depends-On: acme/lib#1"), "open", "approve"),

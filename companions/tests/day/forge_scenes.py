@@ -133,9 +133,18 @@ def blind(it: ForgeScene) -> None:
     it.stage.start("adapter")
 
 
+def squashed(it: ForgeScene) -> None:
+    """A change of a project that squashes lands, unless the lander finds that another commit was tested."""
+    change = it.add(103, "lib", "numbers/3", "three")
+    wait_for("the lander to act", lambda: "what was tested isn't the commit" in it.stage.log("lander") or it.is_so(
+        change, lambda said: said["state"] == "landed"))
+
+
 FORGE_SCENES = {
     "adapter-fresh": Played(fresh, "times by the votes of ann"),
     "adapter-believes": Played(believes, "and the gate was told"),
     "adapter-holds": Played(holds, "acme/site 1 is open, and the gate knows nothing of it"),
     "lander-blind": Played(blind, "acme/lib 2, change 103, landed"),
+    "lander-merges": Played(squashed, "isn't the one commit that was fixed with its revision"),
+    "worker-merges": Played(squashed, "acme/lib 2, change 103, did not land"),
 }

@@ -7,6 +7,7 @@ from __future__ import annotations
 import subprocess
 import sys
 from collections.abc import Callable
+from dataclasses import replace
 from pathlib import Path
 
 from companions import compared
@@ -25,7 +26,8 @@ WRITERS, GUEST = ("ann", "ben"), "guest"
 # By whom the forge shows merged what the lander has landed, and what was merged past it.
 LANDER, PAST = "lander", "ann"
 
-# A second gated branch of a repository, in a queue of its own.
+# A second gated branch of a repository, in another queue. The first one and `site` squash what lands, and the others
+# merge it: changes of either kind need some of the other.
 OLD = Project("old", "web", LIB.jobs, LIB.files, "old", "lib")
 UPDATE = """#!/bin/sh
 # A branch moves by the lander alone, and revisions are named by the adapter.
@@ -39,7 +41,7 @@ esac
 
 class ForgeStage(Stage):
     """All that runs in a day with a forge of a form."""
-    first_projects = (LIB, APP, SITE, OLD)
+    first_projects = (replace(LIB, land="squash"), APP, replace(SITE, land="squash"), OLD)
 
     def __init__(self, folder: Path, form: str, turned: str | None = None) -> None:
         super().__init__(folder, turned)

@@ -20,7 +20,8 @@ BEGINNING = 999999999
 class Project:
     """A project of the day: its queue, its jobs and whether they vote, and the files of its first commit.
 
-    It has a repository of its own, unless it names that of another project, of which it is another branch then.
+    It has a repository of its own, unless it names that of another project, of which it is another branch then. With
+    a forge its changes `land` so.
     """
     name: str
     queue: str
@@ -28,6 +29,7 @@ class Project:
     files: tuple[tuple[str, str], ...]
     branch: str = "main"
     repository: str = ""
+    land: str = "merge"
 
     @property
     def home(self) -> str:
@@ -158,7 +160,7 @@ def companions_settings(folder: Path, port: int, projects: list[Project], where:
     for project in projects:
         text += (f'[[project]]\nname = "{project.name}"\nqueue = "{project.queue}"\nbranch = "{project.branch}"\n'
                  f'repository = "{where}{folder}/repos/{project.home}.git"\nforge = "acme/{project.home}"\n'
-                 f'evidence = {str(evidence).lower()}\n')
+                 f'evidence = {str(evidence).lower()}\nland = "{project.land}"\n')
         for job, _ in project.jobs:
             text += (f'[[project.job]]\nname = "{job}"\ncommand = "DAY={folder} sh {folder}/job {job}"\n'
                      f'read = ["{folder}/job"]\nwrite = ["{folder}/witness"]\nlimit = {12 + 10 * pace()}\n')

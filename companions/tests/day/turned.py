@@ -9,10 +9,12 @@ from dataclasses import replace
 from pathlib import Path
 from typing import Any
 
-from companions import adapter, compared, hooks, keeping, lander, worker
+from companions import adapter, checks, compared, hooks, keeping, lander, trees, worker
 from companions.forges import Forge, Place
 from companions.gate import Answer, Delivery, Order
+from companions.merging import Parent
 from companions.outbox import Kept, Outbox
+from companions.repository import Repository
 from companions.requests import Request, Telling
 from companions.settings import read
 from companions.told import Changes
@@ -106,6 +108,13 @@ class HoldingOutbox(Outbox):
         super().keep(replace(delivery, lane="0"))
 
 
+class MergingRepository(Repository):
+    """Merges what is to land as one commit: whoever squashes it makes another one."""
+
+    def parent(self, commit: str) -> Parent:
+        return replace(super().parent(commit), squash=None)
+
+
 def land_carelessly(words: list[str]) -> None:
     lander.QueueLander = CarelessLander  # type: ignore[misc]
     lander.Lander(read(Path(words[0]))).run()
@@ -115,6 +124,18 @@ def land_blindly(words: list[str]) -> None:
     """Asks nobody whether the adapter has compared."""
     compared.Comparison.why_refused = lambda *it: None  # type: ignore[method-assign]
     lander.main(words)
+
+
+def land_merged(words: list[str]) -> None:
+    """Asks nobody either what was tested."""
+    lander.Repository = MergingRepository  # type: ignore[misc]
+    checks.Evidence.check = lambda *_: ()  # type: ignore[method-assign]
+    lander.main(words)
+
+
+def test_merged(words: list[str]) -> None:
+    trees.Repository = MergingRepository  # type: ignore[misc]
+    worker.main(words)
 
 
 def keep(words: list[str]) -> None:
@@ -146,7 +167,8 @@ def hold(words: list[str]) -> None:
 # By the name of the scene that finds it. The part of `unit` is the gate's, which the stage starts.
 TURNED: dict[str, Callable[[list[str]], None]] = {
     "lander-past": land_carelessly, "lander-back": land_carelessly, "worker-keeps": keep, "worker-hastes": hasten,
-    "adapter-fresh": draw_fresh, "adapter-believes": believe, "adapter-holds": hold, "lander-blind": land_blindly}
+    "adapter-fresh": draw_fresh, "adapter-believes": believe, "adapter-holds": hold, "lander-blind": land_blindly,
+    "lander-merges": land_merged, "worker-merges": test_merged}
 
 if __name__ == "__main__":
     TURNED[sys.argv[1]](sys.argv[2:])
