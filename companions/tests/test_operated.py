@@ -126,6 +126,24 @@ class Promote(Operating):
             self.assertGreater(at, 3, act)
             self.assertEqual(list(held.folder_in(self.settings.folder).glob("asked-*")), [])
 
+    def test_a_new_change_and_somebody_who_objects_while_the_adapter_is_dead(self) -> None:
+        """Killed before each second delivery: the new one goes first, and what is objected to follows no more."""
+        for at in range(0, 20, 2):
+            if at:
+                self.setUp()
+            self.stand(4)
+            self.assertEqual(self.build("failure")["change"], 1)
+            operator.ask(self.settings.folder, "promote", 1)
+            if not self.killed("post", at):
+                break
+            objected = self.be(12, 1, self.approve(2, 1), Vote("review 9", "bob", False, self.commits[1]))
+            self.begin()
+            self.round()
+            self.round(objected)
+            self.assertEqual(self.queue(), [1, 3, 4], at)
+            self.assertIsNone(self.adapter.outbox.get("operated"))
+        self.assertGreater(at, 3)
+
     def killed(self, act: str, at: int) -> bool:
         """Whether the adapter was killed in a round, before its act of this number."""
         count = 0
