@@ -373,6 +373,18 @@ class Command(FilesCase):
             " refused\n"
             "check: the files and what they name lack 5 things\n")))
 
+    def test_a_machine_that_can_begin_no_sandbox_and_lacks_units(self) -> None:
+        folder = self.place / "units"
+        folder.mkdir()
+        (folder / "gated.service").touch()
+        self.change("worker", f"sandbox = {str(boxed()).lower()}", "sandbox = true")
+        with (mock.patch.object(check, "UNIT_FOLDERS", (str(folder),)),
+              mock.patch.object(check.sandbox, "refused", lambda: "bubblewrap is missing")):
+            said = self.main(*self.names())[1]
+        for it in ("workers: bubblewrap is missing", "the unit gated-lander.service isn't there: run install",
+                   "gated.service doesn't start with the machine: systemctl enable --now gated"):
+            self.assertIn(f"\ncheck: {it}\n", said)
+
 
 if __name__ == "__main__":
     unittest.main()
