@@ -11,6 +11,8 @@ from companions.settings import Project
 
 # How long a landing rests that couldn't be found, in seconds: at first, and at most.
 FIRST, LONGEST = 2.0, 300.0
+# Of so many landings the commit is remembered, the last ones that were asked for.
+KEPT = 1000
 
 
 class LandedAs:
@@ -37,6 +39,8 @@ class LandedAs:
         else:
             self.rests.over(name)
             self.known[change, place] = commit
+            if len(self.known) > KEPT:
+                del self.known[next(iter(self.known))]
         return commit
 
     def find(self, project: Project, name: str, change: int, place: int) -> str | None:

@@ -9,7 +9,7 @@ from unittest import mock
 from companions.answers import Wrong
 from companions.forges import Place
 from companions.ids import revision_id
-from companions.landed_as import LandedAs
+from companions.landed_as import KEPT, LandedAs
 from companions.merging import Merge, Parent
 from companions.settings import SettingsFault, read
 from companions.tests.adapter_case import SETTINGS, Case
@@ -218,6 +218,13 @@ class Landed(SquashingCase):
             self.assertEqual(found.call_count, 1)
             self.tell_later()
             self.assertEqual(found.call_count, 2)
+
+    def test_of_many_landings_the_last_ones_are_remembered(self) -> None:
+        with mock.patch.object(LandedAs, "find", return_value=self.landed) as found:
+            landed_as = LandedAs({}, self.adapter.looks.project_of)
+            for place in [*range(1, KEPT + 2), KEPT + 1, 1]:
+                self.assertEqual(landed_as(1, "core", place), self.landed)
+        self.assertEqual((len(landed_as.known), found.call_count), (KEPT, KEPT + 2))
 
 
 class Stacked(SquashingCase):
