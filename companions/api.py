@@ -65,10 +65,23 @@ class Full(ForgeFault):
 class Unread:
     """A reading of a list in which anybody may write: what can't be read of it is left out, and that is noted here.
     `is_whole`: it comes whole, whichever page is asked for. `is_hourly`: smaller pages of such lists are bounded by the
-    hour. `calls` are those of smaller pages."""
+    hour. `calls` are those of smaller pages. `is_capped`: the forge's pages have fewer elements than are asked for, so
+    smaller ones aren't where they are looked for."""
 
     def __init__(self, is_whole: bool = False, is_hourly: bool = False) -> None:
         self.is_whole, self.is_hourly, self.is_any, self.calls = is_whole, is_hourly, False, 0
+        # The first page of each size that isn't full.
+        self.is_capped, self.short = False, dict[int, int]()
+
+    def see(self, size: int, page: int, many: int) -> None:
+        """A page of a size has so many elements. Only the last one that has some isn't full."""
+        self.is_capped |= many > 0 and page > self.short.get(size, page)
+        if many < size:
+            self.short.setdefault(size, page)
+
+    def begin_again(self) -> None:
+        """The list is read from its first page on, by pages of another size."""
+        self.is_capped, self.short = False, {}
 
 
 @dataclass(frozen=True)
@@ -235,18 +248,28 @@ class Api:
         its lists, it is the one that brings nothing new, as some lists come whole whichever page is asked for. A page
         that is too large is asked for by smaller ones. What can't be read so is a fault, or left out if it may be.
         """
-        page, seen, calls = 1, set[int](), unread or Unread()
+        page, of, seen, calls = 1, PAGE, set[int](), unread or Unread()
         where = f"{path}{'&' if '?' in path else '?'}{size}="
         while True:
             if unread and page > MOST_CALLS:
                 unread.is_any = True
                 return
-            found, is_last = self.part(where, PAGE, page, has_links, calls, unread is None)
+            found, is_last = self.part(where, of, page, has_links, calls, unread is None)
             with expected(where):
                 new = [it for it in found if it["id"] not in seen]
                 seen.update(it["id"] for it in new)
             yield from new
-            if is_last or not new and not calls.is_any:
+            if calls.calls and (calls.is_capped or found and not new and of == PAGE):
+                if of == PAGE:
+                    # Of pages that are no larger than the forge's own, smaller ones are where they are looked for.
+                    page, of = 1, SMALLER[PAGE]
+                    calls.begin_again()
+                    continue
+                if unread is None:
+                    raise TooLarge(f"GET {where}: some pages are too large, and smaller ones can't be told from others")
+                unread.is_any = True
+                return
+            if is_last or not new and not calls.is_any and of == PAGE:
                 return
             page += 1
 
@@ -261,6 +284,7 @@ class Api:
                 raise TooLarge(f"GET {path}: not asked, since {MOST_CALLS} smaller pages were asked for by then")
             found, link = self.answer("GET", path, None)
         except TooLarge:
+            unread.see(size, page, size)
             if unread.calls <= MOST_CALLS and size in SMALLER and not unread.is_whole:
                 return self.parts(where, size, page, has_links, unread, is_strict)
             if is_strict:
@@ -270,6 +294,7 @@ class Api:
         with expected(path):
             if not isinstance(found, list):
                 raise TypeError("no list")
+        unread.see(size, page, len(found))
         is_last = not found or has_links and 'rel="next"' not in link
         if is_last and len(found) >= size:
             # A full page stays the same when the next one comes to be.

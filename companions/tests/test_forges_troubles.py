@@ -11,6 +11,7 @@ from unittest import mock
 
 from companions.api import KINDS, PAGE, Content, KeptAnswers
 from companions.forges import SUCCESS, Place
+from companions.github import UNREVIEWED
 from companions.gitlab import UNSURE
 from companions.tests.forges import StandInForge
 from companions.tests.forges.case import LIB, ONE, TWO, Case
@@ -57,6 +58,41 @@ class EachFormInTrouble:
             self.model.open(LIB, TWO, "main", "One more", "x" * 9000)
         fault = self.fails(None, lambda: list(self.client.open_requests(LIB)))
         self.assertIn("not asked, since 100 smaller pages were asked for by then", str(fault))
+
+    def vote_around(self, short: int) -> None:
+        """An approval, so many short texts, some that are too long together, an objection and a comment."""
+        self.model.approve(self.place, "ann")
+        for size in (*[10] * short, *[9000] * 5):
+            self.model.review(self.place, "mallory", "x" * size)
+        self.model.reject(self.place, "ben")
+        self.model.comment(self.place, "cy", "/gate approve")
+        self.enterContext(mock.patch("companions.api.LARGEST", 40_000))
+
+    def test_a_page_that_is_too_large_of_a_forge_that_gives_fewer_than_are_asked_for(self) -> None:
+        """As a Gitea whose MAX_RESPONSE_ITEMS is small: five pages of ten are more than one of its own."""
+        self.vote_around(11)
+        self.forge.form.cap = 12
+        # GitLab lists no objections.
+        objection = [] if self.kind == "gitlab" else [("ben", False)]
+        self.assertEqual([it[:2] for it in self.votes()], [("ann", True), *objection, ("cy", True)])
+        self.assertFalse(self.asked().is_cut)
+        # The newest come first.
+        for size in (*[9000] * 6, *[10] * 12):
+            self.model.open(LIB, TWO, "main", "One more", "x" * size)
+        self.assertEqual(sorted(self.client.open_requests(LIB)), list(range(1, 20)))
+
+    def test_smaller_pages_are_not_believed_of_a_forge_that_gives_fewer_than_ten(self) -> None:
+        self.vote_around(6)
+        self.forge.form.cap = 7
+        so = self.asked()
+        if self.kind == "gitlab":
+            self.assertEqual((so.is_cut, so.votes[0].is_unplaced, self.flaws()), (True, True, [("cy", UNSURE)]))
+        else:
+            self.assertEqual(self.flaws(), [(it, UNREVIEWED) for it in ("ann", "cy")])
+        for size in (*[9000] * 6, *[10] * 7):
+            self.model.open(LIB, TWO, "main", "One more", "x" * size)
+        fault = self.fails(None, lambda: list(self.client.open_requests(LIB)))
+        self.assertIn("some pages are too large, and smaller ones can't be told from others", str(fault))
 
     def test_a_forge_in_trouble_says_nothing(self) -> None:
         server = self.forge.server
