@@ -8,7 +8,7 @@ from __future__ import annotations
 import itertools
 import re
 import urllib.parse
-from collections.abc import Iterator, Mapping
+from collections.abc import Callable, Iterator, Mapping
 from dataclasses import replace
 from datetime import datetime
 from typing import Any
@@ -30,8 +30,26 @@ APPROVED, UNAPPROVED = "approved this merge request", "unapproved this merge req
 RETARGETED = re.compile("changed target branch from `|deleted the `.*` branch. This merge request now targets the `")
 # Why a comment is no vote where others can't be read.
 UNSURE = "approved by a comment, while others of it are too long to be read"
+# And why nothing is that names no commit, where nobody knows which head the request had then.
+UNLISTED = "approved, while it has had more heads than can be read"
 # Who may write to a project has this access level at least.
 DEVELOPER = 30
+
+
+class Versions:
+    """The heads that a request had, the oldest first, and since when each: they are asked for once, if at all. Its
+    author makes as many as he likes, so not all may be read."""
+
+    def __init__(self, rows: Callable[[Unread], Iterator[Any]]) -> None:
+        self.rows, self.unread, self.read = rows, Unread(), list[tuple[datetime, str]]()
+        self.is_asked = False
+
+    def all(self) -> list[tuple[datetime, str]]:
+        if not self.is_asked:
+            rows = sorted(self.rows(self.unread), key=lambda it: it["id"])
+            self.read = [(time_of(it["created_at"]), hash_of(it["head_commit_sha"])) for it in rows]
+            self.is_asked = True
+        return self.read
 
 
 class GitLab:
@@ -77,10 +95,11 @@ class GitLab:
         return self.api.pages(path, "per_page", True, unread)
 
     def request(self, place: Place) -> Request | None:
-        so, unread, versions = self.outline(place), Unread(), list[tuple[datetime, str]]()
-        with expected(self.path(place)):
+        so, unread, path = self.outline(place), Unread(), self.path(place)
+        versions = Versions(lambda cut: self.rows(f"{path}/versions", cut))
+        with expected(path):
             return so and replace(so, votes=votes_of(self.opinions(place, unread, versions)), is_cut=unread.is_any,
-                                  moved=moved_at(versions))
+                                  moved=moved_at(versions.read))
 
     def outline(self, place: Place) -> Request | None:
         said = self.api.find("GET", self.path(place))
@@ -92,20 +111,23 @@ class GitLab:
                            is_draft=bool(said.get("draft", said.get("work_in_progress"))),
                            author=login_of(said.get("author"), "username"))
 
-    def opinions(self, place: Place, unread: Unread, versions: list[tuple[datetime, str]]) -> list[Opinion]:
+    def opinions(self, place: Place, unread: Unread, versions: Versions) -> list[Opinion]:
         """Approvals by their notes, while GitLab still counts them, comments, and what takes approvals back. Where some
-        notes can't be read, one of them may take back what a person approved by a comment. `versions` gets the heads,
-        if somebody approves."""
+        notes can't be read, one of them may take back what a person approved by a comment."""
         changed = list[datetime]()
         found = list(self.of_notes(place, unread, changed, versions))
+        if versions.unread.is_any:
+            # A comment may name its commit itself.
+            found = [(it if is_comment and it.vote.said is None else flawed(it, UNLISTED), is_comment)
+                     for it, is_comment in found]
         if unread.is_any:
             # Neither can it be read whether the target branch was changed behind an approval.
             found = [(flawed(it, UNSURE) if is_comment else replace(it, vote=replace(it.vote, is_unplaced=True)),
                       is_comment) for it, is_comment in found]
         return at_target((it for it, _ in found), changed)
 
-    def of_notes(self, place: Place, unread: Unread, changed: list[datetime],
-                 versions: list[tuple[datetime, str]]) -> Iterator[tuple[Opinion, bool]]:
+    def of_notes(self, place: Place, unread: Unread, changed: list[datetime], versions: Versions
+                 ) -> Iterator[tuple[Opinion, bool]]:
         """What notes say, each with whether it is a comment, and into `changed` when the target branch was changed."""
         said = self.api.call("GET", self.path(place) + "/approvals")
         approving, mark = {it["user"]["username"] for it in said["approved_by"]}, mark_of(self.secret, place)
@@ -117,16 +139,9 @@ class GitLab:
             elif it["system"] and body == UNAPPROVED:
                 yield Opinion(at, Vote(f"note {it['id']}", person, None, None, account=account)), False
             elif body == APPROVED and person in approving if it["system"] else approves(body, mark):
-                if not versions:
-                    versions += self.versions(place)
-                name, commit = f"note {it['id']}", commit_at(versions, at)
+                name, commit = f"note {it['id']}", commit_at(versions.all(), at)
                 yield Opinion(at, Vote(name, person, True, commit, account=account) if it["system"] else
                               vote_of(it, name, person, account, commit)), not it["system"]
-
-    def versions(self, place: Place) -> list[tuple[datetime, str]]:
-        """The heads that the request had, the oldest first, and since when."""
-        rows = sorted(self.rows(self.path(place) + "/versions"), key=lambda it: it["id"])
-        return [(time_of(it["created_at"]), hash_of(it["head_commit_sha"])) for it in rows]
 
     def open_requests(self, repository: str) -> dict[int, Listed]:
         with expected(self.project(repository)):
@@ -137,7 +152,8 @@ class GitLab:
     def may_write(self, repository: str, person: str) -> bool:
         path = f"{self.project(repository)}/members/all"
         with expected(path):
-            found = self.rows(f"{path}?{urllib.parse.urlencode({'query': person})}")
+            # Anybody may take a login that is a part of many others.
+            found = self.rows(f"{path}?{urllib.parse.urlencode({'query': person})}", Unread())
             return any(it["username"] == person and it["access_level"] >= DEVELOPER for it in found)
 
     def account_of(self, login: str) -> int | None:

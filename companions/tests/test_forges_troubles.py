@@ -7,12 +7,13 @@ import io
 import re
 import time
 import unittest
+from datetime import timedelta
 from unittest import mock
 
 from companions.api import KINDS, PAGE, Content, KeptAnswers
 from companions.forges import SUCCESS, Place
 from companions.github import UNREVIEWED
-from companions.gitlab import UNSURE
+from companions.gitlab import UNLISTED, UNSURE
 from companions.tests.forges import StandInForge
 from companions.tests.forges.case import LIB, ONE, TWO, Case
 from companions.tests.forges.model import Status
@@ -277,6 +278,50 @@ class GiteaInTroubleTest(EachFormInTrouble, Case):
 
 class GitLabInTroubleTest(EachFormInTrouble, Case):
     kind = "gitlab"
+
+    def list_heads(self, many: int) -> None:
+        """The request has had so many, two on a page, the newest first."""
+        form, at = self.forge.form, self.model.now
+        rows = [{"id": n, "head_commit_sha": TWO if n % 2 else ONE, "created_at": form.time(at + timedelta(seconds=n))}
+                for n in range(many)]
+        form.cap = 2
+        self.enterContext(mock.patch.object(form, "versions", lambda question: form.listed(rows[::-1], question)))
+        self.model.wait(many + 1)
+
+    def asked_for_heads(self) -> int:
+        asked = self.forge.server.asked
+        return sum("/versions" in target for _, target in asked)
+
+    def test_who_pushes_without_end_has_nothing_approved_that_names_no_commit(self) -> None:
+        self.list_heads(200)
+        self.model.approve(self.place, "ann")
+        self.model.comment(self.place, "ben", "/gate approve")
+        named = self.model.comment(self.place, "ben", f"/gate approve {ONE}")
+        self.assertEqual(self.votes(), [("ann", True, TWO), ("ben", True, TWO), ("ben", True, ONE)])
+        self.list_heads(1000)
+        self.forge.server.asked.clear()
+        so = self.asked()
+        self.assertEqual(self.asked_for_heads(), 100)
+        held = [(it.object, it.flaw) for it in so.votes if it.flaw != UNLISTED]
+        self.assertEqual(held, [(f"note {named.note}", None)])
+        self.assertEqual((len(so.votes), so.is_cut), (3, False))
+
+    def test_whose_login_is_a_part_of_many_others_has_a_hundred_pages_read(self) -> None:
+        form = self.forge.form
+        rows = [{"id": n, "username": f"an{n}", "access_level": 30} for n in range(1000)]
+        form.cap = 2
+        self.enterContext(mock.patch.object(form, "members", lambda question: form.listed(rows, question)))
+        self.assertFalse(self.client.may_write(LIB, "an"))
+        self.assertEqual(len(self.forge.server.asked), 100)
+        self.assertTrue(self.client.may_write(LIB, "an1"))
+
+    def test_heads_are_asked_for_once_a_look(self) -> None:
+        """Also where the forge has looked at none yet."""
+        self.list_heads(0)
+        for _ in range(5):
+            self.model.comment(self.place, "ben", "/gate approve")
+        self.asked()
+        self.assertEqual(self.asked_for_heads(), 1)
 
 
 if __name__ == "__main__":
