@@ -19,8 +19,8 @@ from companions.named import NamedRequests
 from companions.needs import Known, Needs, message, need_lines, needs_of
 from companions.peeking import commit_of
 from companions.repository import REVISION, Repository
-from companions.requests import (NO_REVISION, Request, State, Telling, Told, closing, first_seen, set_aside, tellings,
-                                 uncounted)
+from companions.requests import (NO_REVISION, Request, State, Telling, Told, closing, counted, first_seen, set_aside,
+                                 tellings, uncounted)
 from companions.rests import HOUR
 from companions.required import Required
 from companions.rights import Approvers, Rights
@@ -158,7 +158,7 @@ class Looks:
             self.write(so, decided, more, needs.changes, tag)
             self.changes.remark(change, "need", needs.remarks)
             may = rights.may | rights.unknown
-            uncounting = uncounted(so, told, needs.changes, may) + waits
+            uncounting = counted([*waits, *uncounted(so, told, needs.changes, may)])
             self.changes.remark(change, "vote", uncounting)
             self.changes.remark_head(so, change, is_ahead)
         is_unsure = bool(uncounting) and any(it.person in may for it in so.votes)

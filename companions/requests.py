@@ -5,13 +5,16 @@ A hook says only which request to look at. Nothing here asks anybody: all is dec
 from __future__ import annotations
 
 import enum
-from collections.abc import Iterable
+from collections.abc import Iterable, Sequence
 from dataclasses import dataclass, field
 from datetime import datetime, timedelta
 
 # In the place of a revision: a vote that is of none, since nobody knows which commit, or which branch, it was made for;
 # and one of which nobody knows that since it was first seen behind a gap in looking, or not all could be read then.
 NO_REVISION, BEHIND_GAP = 0, -1
+
+# So many lines about votes are kept: as many as people are shown, with the one that counts the others.
+LINES = 9
 
 # The commit of a review that the forge doesn't name any more, as once it is gone from there.
 GONE = ""
@@ -249,6 +252,11 @@ def uncounted(so: Request, told: Told, needs: tuple[int, ...], may_approve: froz
         why = it.flaw or why_not(it, so, told, revision, new_ones, it.person in may_approve)
         lines += [f"{it.person} {why}: {it.object} doesn't count"] if why else []
     return lines
+
+
+def counted(lines: Sequence[str]) -> list[str]:
+    """Lines about votes, of which the last one counts those that are too many: people vote as often as they like."""
+    return [*lines] if len(lines) <= LINES + 1 else [*lines[:LINES], f"and {len(lines) - LINES} more"]
 
 
 def why_not(vote: Vote, so: Request, told: Told, revision: int, new_ones: dict[str, int],

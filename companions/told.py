@@ -48,6 +48,10 @@ CREATE TABLE IF NOT EXISTS remark(change INTEGER, kind TEXT, place INTEGER, text
 # and text of earlier.
 AHEAD, EARLIER = "ahead", "earlier"
 
+# So many votes of a request are kept, beside those that were told and those that the forge shows: anybody may vote and
+# take that back, over and over.
+MOST_VOTES = 10_000
+
 # Refusals that say that the gate doesn't have what the delivery is about: told again once it does, they may be taken.
 LACKING = ("E5", "E6", "E7")
 
@@ -147,6 +151,17 @@ class Changes:
             self.tables.execute("INSERT OR IGNORE INTO vote(repository, request, object, change, revision, hash)"
                                 " VALUES (?, ?, ?, ?, ?, ?)",
                                 (so.repository, so.number, name, change, revision, commits.get(name)))
+        if seen:
+            self.drop_votes(so)
+
+    def drop_votes(self, so: Request) -> None:
+        """Drops the first votes where they are too many. One that comes back, as from a copy that lags, is seen anew: a
+        comment is of the revision that people were told of a while before it, and a review names its commit."""
+        request, shown = (so.repository, so.number), json.dumps([it.object for it in so.votes])
+        self.tables.execute(
+            "DELETE FROM vote WHERE repository = ? AND request = ? AND told_change IS NULL AND rowid <="
+            " (SELECT rowid FROM vote WHERE repository = ? AND request = ? ORDER BY rowid DESC LIMIT 1 OFFSET ?)"
+            " AND object NOT IN (SELECT value FROM json_each(?))", (*request, *request, MOST_VOTES, shown))
 
     def keep(self, so: Request, change: int, steps: Iterable[Telling], more: dict[str, str],
              needs: tuple[int, ...], tag: str | None = None) -> None:

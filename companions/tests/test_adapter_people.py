@@ -37,6 +37,19 @@ class People(Case):
             "These lines of its text name no request that the gate takes, so nothing is waited for:",
             "    Depends-On: nothing: names no request of this forge", "Mend them in the text of the request."])
 
+    def test_however_often_outsiders_vote_few_lines_are_kept_of_it(self) -> None:
+        votes = [self.approve(number, person="eve") for number in range(1, 2001)]
+        self.be(12, 0, *votes)
+        self.tell()
+        lines = [f"eve isn't among those who may approve: review {number} doesn't count" for number in range(1, 10)]
+        self.assertEqual(self.adapter.changes.remarks(1, "vote"), [*lines, "and 1991 more"])
+        shown = "\n".join(f"    {it}" for it in (*lines, "and 1991 more"))
+        self.assertIn(shown, self.forge.comments[1][1].split("\n\n"))
+        self.be(12, 0, *votes[:10])
+        self.tell()
+        lines.append("eve isn't among those who may approve: review 10 doesn't count")
+        self.assertEqual(self.adapter.changes.remarks(1, "vote"), lines)
+
     def test_one_that_is_closed_is_told_once_the_gate_has_answered(self) -> None:
         # Others are asked about first.
         others = [self.be(number, 1) for number in (9, 10, 11)]

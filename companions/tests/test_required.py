@@ -139,6 +139,14 @@ class OfTheAdapter(Case):
             "the forge doesn't say whether its checks have passed: no approval counts before that"])
         self.assertEqual(self.look(place), ["approved 1 1"])
 
+    def test_no_votes_of_others_hide_that_it_waits(self) -> None:
+        self.require([f"ci/lint is failure{RED}"])
+        self.be(12, 0, self.approve(1), *(self.approve(number, person="eve") for number in range(2, 30)))
+        self.tell()
+        lines = self.adapter.changes.remarks(1, "vote")
+        self.assertEqual((lines[0], lines[-1]), (f"ci/lint is failure{RED}", "and 20 more"))
+        self.assertIn(f"    ci/lint is failure{RED}", self.forge.comments[1][1])
+
     def test_the_settings(self) -> None:
         file, text = self.folder / "it.toml", SETTINGS.format(folder=self.folder, gate="http://localhost")
         file.write_text(text.replace("[adapter]", '[adapter]\nrequire = ["ci/unit", "ci/lint"]'))

@@ -5,7 +5,9 @@ import json
 import random
 import tempfile
 import unittest
+from dataclasses import replace
 from pathlib import Path
+from unittest import mock
 
 from companions.forges import Place
 from companions.outbox import Outbox
@@ -128,6 +130,24 @@ class Tables(Case):
         self.changes.remark(1, "need", ["c"])
         self.assertEqual([self.changes.remarks(*it) for it in ((1, "need"), (1, "vote"), (2, "need"))],
                          [["c"], ["d"], []])
+
+
+    def test_of_many_votes_the_first_are_dropped_that_were_not_told_and_are_shown_no_more(self) -> None:
+        self.keep("revision", 1, A)
+        self.keep("approved", 1, "review 1", votes=("review 1",))
+        with mock.patch("companions.told.MOST_VOTES", 3):
+            for number in range(3, 9):
+                self.changes.see(replace(SO, votes=(SAID,)), 1, {f"comment {number}": 1})
+                self.changes.see(replace(SO, number=13), None, {f"comment {number}": 0})
+        kept = [sorted(self.changes.told(self.changes.number(Place("acme/lib", it), "main")).seen) for it in (12, 13)]
+        last = ["comment 6", "comment 7", "comment 8"]
+        self.assertEqual(kept, [["comment 2", *last, "review 1"], last])
+
+    def test_what_the_forge_shows_of_many_votes_is_kept(self) -> None:
+        votes = tuple(Vote(f"comment {number}", "eve", True, None) for number in range(20))
+        with mock.patch("companions.told.MOST_VOTES", 3):
+            self.changes.see(replace(SO, votes=votes), 1, {it.object: 1 for it in votes})
+        self.assertEqual(len(self.changes.told(1).seen), 20)
 
 
 class Again(Case):
