@@ -102,6 +102,12 @@ class EachForm:
         self.model.edit_comment(self.place, self.model.comments(self.place, "ann")[1], "/gate approve\n")
         self.assertEqual((self.votes(), len(self.flaws())), ([], 2))
 
+    def test_an_edit_within_the_second_of_a_comment_shows_at_gitlab_alone(self) -> None:
+        self.model.pace = timedelta(milliseconds=10)
+        said = self.model.comment(self.place, "ann", "Well, no")
+        self.model.edit_comment(self.place, said, f"/gate approve {ONE}")
+        self.assertEqual(self.votes(), [] if self.kind == "gitlab" else [("ann", True, ONE)])
+
     def test_each_vote_is_an_object_of_its_own_and_stays_it(self) -> None:
         self.model.approve(self.place, "ann")
         self.model.comment(self.place, "ann", "/gate approve")
