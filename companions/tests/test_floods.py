@@ -50,6 +50,15 @@ class EachForm(AdapterCase):
             self.assertRegex(self.why()[-1], "^ada approved, while not all that was done to this request could be read:"
                                              " (review|note) [0-9]+ doesn't count$")
 
+    def test_an_approval_by_a_comment_that_may_be_hidden_or_revoked_is_withdrawn(self) -> None:
+        self.open()
+        self.model.comment(self.place, "ada", f"/gate approve {self.commits[0]}")
+        self.assertEqual(self.look(self.place), ["revision 1 1", "approved 1 1"])
+        self.flood()
+        # At GitHub it stands before what can't be read.
+        self.assertEqual(self.look(self.place), [] if self.kind == "github" else ["withdrawn 1 1"])
+        self.assertIn("some of its comments are too long to be read: no approval by one of them counts", self.why())
+
     def test_a_flood_takes_back_no_review_that_was_seen_before(self) -> None:
         self.open()
         self.model.approve(self.place, "ada")
