@@ -112,6 +112,15 @@ class PageTest(unittest.TestCase):
         self.assertEqual(squash, Squash("Ann Example <ann@example>", "Use three\n\nTwo were too few."))
         self.assertEqual(tag_of(commit, 103, 2, 1764480000, "gate <gate@localhost>", squash), content)
 
+    def test_each_line_of_a_first_day_says_how_it_is_known(self) -> None:
+        days = PAGE.read_text(encoding="utf-8").split("\n## The first day at a forge\n")[1].split("\n## ")[0]
+        for form in ("GitHub", "Gitea", "GitLab"):
+            table = days.split(f"\n### {form}, on the first day\n")[1].split("\n###")[0]
+            rows = [it for it in table.splitlines() if it.startswith("| ")][1:]
+            self.assertGreaterEqual(len(rows), 5)
+            for row in rows:
+                self.assertRegex(row.rstrip(" |").rpartition(" | ")[2], r"\b(recorded|run|read)\b", row)
+
     def test_what_must_be_there_has_no_default(self) -> None:
         rows = re.findall(r"^\| (`.*?) \|.*\| must be there \|$", members(), re.MULTILINE)
         names = {it for row in rows for it in re.findall(r"`([^`]+)`", row)} - {"project"}
