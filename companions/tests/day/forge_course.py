@@ -4,11 +4,13 @@ from __future__ import annotations
 import random
 import time
 import uuid
+from collections.abc import Callable, Iterator
 
 from companions.tests.day.course import Course, Day
 from companions.tests.day.developers import Step
 from companions.tests.day.forge_checks import ForgeChecks
 from companions.tests.day.forge_developers import ForgeDevelopers
+from companions.tests.day.forge_outsider import Outsider
 from companions.tests.day.forge_plan import Plan
 from companions.tests.day.forge_stage import ForgeStage
 from companions.tests.day.layout import pace
@@ -76,15 +78,49 @@ class ForgeDay(ForgeCourse, Day):
         self.plan = Plan(self.chance)
         self.developers.chance = random.Random(self.chance.random())
         stage.forge.form.cap = self.chance.choice((2, 3))
+        # He draws nothing from the day's own chance.
+        self.outsider = Outsider(stage, self.developers, random.Random(f"outsider {seed}"))
+
+    def begin(self) -> None:
+        super().begin()
+        self.outsider.open()
+
+    def checks(self) -> ForgeChecks:
+        return OutsiderChecks(self.stage, self.developers, self.outsider)
 
     def plans(self) -> tuple[list[Step], list[Step]]:
         return self.plan.early, self.plan.late_steps
 
     def troubles(self) -> list[Trouble]:
-        return [*super().troubles(), ForgeTroubles(self.stage, random.Random(self.chance.random()))]
+        return [*super().troubles(), ForgeTroubles(self.stage, random.Random(self.chance.random())), self.outsider]
 
     def push_past(self) -> None:
         self.past = self.developers.merge_past(self.plan.past)
+
+
+class OutsiderChecks(ForgeChecks):
+    """The checks of a day in which there is an outsider."""
+
+    def __init__(self, stage: ForgeStage, developers: ForgeDevelopers, outsider: Outsider) -> None:
+        super().__init__(stage, developers)
+        self.outsider = outsider
+
+    def each(self) -> list[Callable[[], Iterator[str]]]:
+        return [*super().each(), self.check_outsider]
+
+    def check_comments(self) -> Iterator[str]:
+        """Where not all comments can be read, the gate doesn't find its own again once an answer with its number got
+        lost."""
+        flooded = f"{self.name(self.outsider.flooded)} has "
+        yield from (it for it in super().check_comments() if not it.startswith(flooded))
+
+    def check_outsider(self) -> Iterator[str]:
+        """Nothing that the outsider does lands, is edited, or is taken for the forge's; and however much he writes on a
+        request, that it is closed is told."""
+        yield from self.outsider.differences({self.file.place(it.change) for it in self.all()})
+        known = self.at(self.outsider.flooded)
+        if known is not None and known.state != "closed":
+            yield f"{self.name(self.outsider.flooded)} is closed, and {known.state} at the gate"
 
 
 class ForgeTroubles(Trouble):
