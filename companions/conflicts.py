@@ -15,7 +15,8 @@ KEPT, NAMED = 50, 3
 class Cause:
     """Why a merge fails. `other` is the change by which one of the files was touched last, if that is a change.
 
-    Without files there is no common past. `stacked`: that change lands as one commit, and this one was begun from its commits.
+    Without files there is no common past. `stacked`: that change lands as one commit, and this one was begun from its
+    commits.
     """
     files: tuple[str, ...]
     other: int | None = None
