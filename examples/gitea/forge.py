@@ -1,11 +1,12 @@
 #!/usr/bin/env python3
-"""A small forge in Gitea's form, which does by lines what people do at one. Its API and its hooks are the stand-in's of
-the companions' tests.
+"""A small forge in Gitea's form, or in GitHub's, which does by lines what people do at one. Its API and its hooks are
+the stand-in's of the companions' tests.
 
-    forge.py REPOSITORIES HOOKS
+    forge.py REPOSITORIES HOOKS [FORM]
 
-REPOSITORIES is the folder of the bare repositories, and HOOKS the address to which hooks go. The first line that is
-printed is the address of the API. Each line of the input is a command, its words parted by tabs:
+REPOSITORIES is the folder of the bare repositories, HOOKS the address to which hooks go, and FORM `gitea`, as without
+it, or `github`. The account `buildbot`, of a CI, has the token `a token of buildbot`. The first line that is printed is
+the address of the API. Each line of the input is a command, its words parted by tabs:
 
     open REPOSITORY BRANCH TITLE TEXT       push REPOSITORY NUMBER
     approve REPOSITORY NUMBER PERSON        reject REPOSITORY NUMBER PERSON
@@ -46,6 +47,10 @@ class Forge:
     def git(self, repository: str, *words: str) -> subprocess.CompletedProcess[str]:
         return subprocess.run(["git", "-C", str(self.folder / f"{repository}.git"), *words], capture_output=True,
                               text=True, check=False)
+
+    def has(self, repository: str, commit: str) -> bool:
+        """Whether a repository has a commit, which may get statuses then."""
+        return not self.git(repository, "cat-file", "-e", f"{commit}^{{commit}}").returncode
 
     def head(self, repository: str, number: int) -> str:
         return self.git(repository, "rev-parse", f"refs/pull/{number}/head").stdout.strip()
@@ -121,10 +126,12 @@ class Forge:
 
 def main() -> None:
     folder, hooks = Path(sys.argv[1]), sys.argv[2]
-    with StandInForge("gitea", hooks) as stand_in:
+    with StandInForge(sys.argv[3] if len(sys.argv) > 3 else "gitea", hooks) as stand_in:
+        stand_in.form.tokens["a token of buildbot"] = "buildbot"
         for it in sorted(folder.glob("*/*.git")):
             stand_in.model.add(str(it.relative_to(folder)).removesuffix(".git"), "ann", "cy")
         forge = Forge(stand_in, folder)
+        stand_in.model.has = forge.has  # type: ignore[method-assign]
         threading.Thread(target=forge.watch, daemon=True).start()
         print(stand_in.url, flush=True)
         for line in sys.stdin:

@@ -17,48 +17,8 @@ esac
 here=$(cd "$(dirname "$0")" && pwd)
 FORGE_SETTINGS=$here/settings.toml
 . "$here/../forge/stage.sh"
+. "$here/requests.sh"
 export GIT_CONFIG_GLOBAL=/dev/null GIT_CONFIG_NOSYSTEM=1
-
-# A project that holds these files: NAME=TEXT.
-make() {
-  local project=$1 file seed=$FORGE/seed/$1 bare=$FORGE/repos/$1.git
-  shift
-  git init --quiet --initial-branch=main "$seed"
-  for file in "$@"; do
-    printf '%s\n' "${file#*=}" >"$seed/${file%%=*}"
-  done
-  git -C "$seed" add .
-  git -C "$seed" commit --quiet --message Begin
-  git clone --quiet --bare "$seed" "$bare"
-  git -C "$bare" branch base main
-  git -C "$bare" branch next main
-  cp "$FORGE_SCRIPTS/update" "$bare/hooks"
-}
-
-# Somebody pushes to a request, from the first commit: its project, number, message and a file as NAME=TEXT.
-push() {
-  local seed=$FORGE/seed/$1
-  git -C "$seed" checkout --quiet --detach main
-  printf '%s\n' "${4#*=}" >"$seed/${4%%=*}"
-  git -C "$seed" add .
-  git -C "$seed" commit --quiet --message "$3"
-  git -C "$seed" push --quiet --force "$FORGE/repos/$1.git" "HEAD:refs/pull/$2/head"
-}
-
-# A command to the forge, in its words; what it prints of it.
-at_forge() {
-  local IFS=$'\t' line
-  printf '%s\n' "$*" >&"${forge[1]}"
-  while IFS= read -r -u "${forge[0]}" line && [ "$line" != "done" ]; do
-    printf '%s\n' "$line"
-  done
-}
-
-# Somebody opens a request: its project, number, title, a file as NAME=TEXT, its text, and its branch.
-propose() {
-  push "$1" "$2" "$3" "$4"
-  at_forge open "$1" "${6-main}" "$3" "${5-}"
-}
 
 adapter_settings() {
   cat "$FORGE/companions.toml"
@@ -91,11 +51,6 @@ start_adapter() {
   start adapter python3 -m companions.adapter "$FORGE/adapter.toml"
 }
 
-# Whether the adapter has said this of a change at a revision.
-has_said() {
-  grep -qxF -- "adapter: change $1, revision $2: $3" "$FORGE/adapter.log"
-}
-
 # Whether a delivery of this kind of a change waits for an answer of the gate.
 is_kept() {
   python3 - "$FORGE/companions/adapter/adapter.db" "$1" "$2" <<'PYTHON'
@@ -104,10 +59,6 @@ file, change, kind = sys.argv[1:]
 rows = sqlite3.connect(file).execute("SELECT said FROM delivery WHERE lane = ?", (change,))
 sys.exit(kind not in [json.loads(said)["kind"] for said, in rows])
 PYTHON
-}
-
-has_order() {
-  page orders | grep -q "\"change\":$1,"
 }
 
 shows_what_is_expected() {
