@@ -24,8 +24,9 @@ from companions.judged import WORDS, Kind, Report, shown
 from companions.outbox import Notes
 
 FORMS: dict[str, Callable[[str, str, str], Any]] = {"gitea": Gitea, "github": GitHub, "gitlab": GitLab}
-# So many statuses of a commit are read, the newest ones; so many runs of a branch, and so many jobs of each.
-STATUSES, RUNS, JOBS = 2000, 50, 500
+# So many statuses of a commit are read, the newest ones; so many runs of a branch, and so many jobs of each; and so many
+# pages of a list.
+STATUSES, RUNS, JOBS, PAGES = 2000, 50, 500, 50
 # So many of those that don't count are kept, to be named.
 UNCOUNTED = 100
 # So much of an address is kept, and what of it is written as it is.
@@ -120,15 +121,17 @@ class Statuses:
             if fault.status not in NONE:
                 raise
 
-    def listed(self, path: str, member: str, most: int) -> Iterator[Any]:
-        """A list that comes by pages as a member of an object."""
-        size = self.page_size
-        for page in range(1, -(-most // PAGE) + 1):
+    def listed(self, path: str, member: str) -> Iterator[Any]:
+        """A list that comes by pages as a member of an object, which says how many there are in all. A page may be smaller
+        than asked for."""
+        size, read = self.page_size, 0
+        for page in range(1, PAGES + 1):
             where = f"{path}{'&' if '?' in path else '?'}{size}={PAGE}&page={page}"
             said = self.api.find("GET", where, none=NONE)
             rows = said[member] if said is not None else []
             yield from rows
-            if len(rows) < PAGE:
+            read += len(rows)
+            if not rows or read >= said["total_count"]:
                 return
 
     page_size = "per_page"
@@ -169,13 +172,13 @@ class OfGitHub(Statuses):
 
     def runs(self, repository: str, branch: str, commit: str) -> list[Any]:
         query = urllib.parse.urlencode({"branch": branch, "head_sha": commit, "event": "push"})
-        found = self.listed(f"{self.forge.repository(repository)}/actions/runs?{query}", "workflow_runs", RUNS)
+        found = self.listed(f"{self.forge.repository(repository)}/actions/runs?{query}", "workflow_runs")
         return [it for it in itertools.islice(found, RUNS)
                 if (it["head_branch"], it["head_sha"], it["event"]) == (branch, commit, "push")]
 
     def jobs(self, repository: str, run: Any) -> Iterator[Report]:
         path = f"{self.forge.repository(repository)}/actions/runs/{int(run['id'])}/jobs?filter=latest"
-        for it in itertools.islice(self.listed(path, "jobs", JOBS), JOBS):
+        for it in itertools.islice(self.listed(path, "jobs"), JOBS):
             yield Report(str(it["name"]), int(it["id"]), word_of(it), link_of(it.get("html_url")))
 
     def whole(self, run: Any) -> list[Report]:

@@ -209,6 +209,19 @@ class Common(OfAForm):
             run.set(f"job {number}", "success")
         self.assertEqual(len(self.look().reports), 120)
 
+    def test_pages_that_are_smaller_than_asked_for_hide_nothing(self) -> None:
+        """As a Gitea's MAX_RESPONSE_ITEMS has them."""
+        self.forge.form.cap = 3
+        for number in range(50, 55):
+            run = self.ran(number)
+            for job in range(7):
+                run.set(f"job {number} {job}", "success")
+        self.assertEqual(len(self.look().reports), 35)
+        self.status("pending")
+        for number in range(7):
+            self.status("success", "mallory")
+        self.assertEqual([it.word for it in self.look().reports if it.is_bare], ["pending"])
+
 
 class GitHub(Common):
     kind = "github"
