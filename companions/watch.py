@@ -23,6 +23,7 @@ from companions.figures import OfWorkers, QueueFigures
 from companions.gate import Gate, NoAnswer, QueueStatus, Status, say
 from companions.hearing import Door, serve
 from companions.ids import id_of
+from companions.links_file import LinksFile
 from companions.moments import Moment
 from companions.outbox import Notes
 from companions.running_file import RunningFile
@@ -57,6 +58,7 @@ class Watch:
         self.counted = Counted(self.people, self.notes)
         page = settings.adapter.page if settings.adapter is not None else None
         self.running = RunningFile(page) if page is not None else None
+        self.links = LinksFile(settings.folder, page) if page is not None else None
         self.heard = Heard(settings.hearing.silent if settings.hearing else SILENT, uptime)
         self.hears, self.is_deaf = False, False
         self.first_is_asked = False
@@ -119,6 +121,8 @@ class Watch:
             figures.write(self.file, text)
             if self.running is not None:
                 self.running.look(self.noted["builds"], now, time.time())
+            if self.links is not None:
+                self.links.look()
         except OSError as fault:
             if trouble not in self.troubles:
                 say(PART, f"{trouble}: {fault}")

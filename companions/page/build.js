@@ -35,8 +35,9 @@ function logs(known, state, view) {
   state.followed = known.build;
   const files = state.logs.get(known.build);
   if (files === undefined) return [element("p", {}, "Its log is being asked for.")];
-  const elsewhere = address(state.names.logs?.replace("{build}", String(known.build)));
-  const isElsewhere = elsewhere && new URL(elsewhere).origin !== location.origin;
+  const named = address(state.link(known));
+  const elsewhere = named ?? address(state.names.logs?.replace("{build}", String(known.build)));
+  const isElsewhere = named || (elsewhere && new URL(elsewhere).origin !== location.origin);
   if (isElsewhere) return [element("p", {}, link(elsewhere, `Its log is at ${new URL(elsewhere).host}.`))];
   if (!files.size) {
     return [element("p", {}, "No log of it is served at this host. Whichever worker ran it has it, in the folder of its logs.")];

@@ -96,7 +96,13 @@ export async function logs(build) {
 export const bytes = (build, name, from) => ask(`/logs/${build}/${encodeURIComponent(name)}`, async (answer) =>
   new Uint8Array(answer.status === 416 ? 0 : await good(answer).arrayBuffer()), { Range: `bytes=${from}-` });
 
-/** What the adapter says of requests, or null where no adapter says anything here. */
-export const requests = (etag) => ask("/requests.json", async (answer) => (answer.status === 304
+/** What is written for the page at a path, if it is new, or null where nobody writes it here. */
+const written = (path, etag) => ask(path, async (answer) => (answer.status === 304
   ? { etag, said: null } : { etag: answer.headers.get("ETag"), said: await good(answer).json() }),
 etag ? { "If-None-Match": etag } : {}).catch(() => null);
+
+/** What the adapter says of requests. */
+export const requests = (etag) => written("/requests.json", etag);
+
+/** Where a CI has the logs of builds, as the watch says. */
+export const links = (etag) => written("/links.json", etag);

@@ -1,5 +1,5 @@
 // What the page knows of the gate, kept up to date by looks: one request at a time, and only for what has changed.
-import { NoAnswer, build, bytes, change, history, item, logs, parse, requests, running, since, statusText } from "./gate.js";
+import { NoAnswer, build, bytes, change, history, item, links, logs, parse, requests, running, since, statusText } from "./gate.js";
 import { Names } from "./names.js";
 
 /** The reports shown of each queue, the questions about single changes and items that one look asks, and how many looks
@@ -20,6 +20,7 @@ export class State {
     this.forget();
     this.looks = 0;
     this.etag = null;
+    this.links = { etag: null, of: new Map() };
     this.at = null;
     this.fault = null;
     this.isDoubted = false;
@@ -160,6 +161,20 @@ export class State {
     return keys.length > 0;
   }
 
+  /** Where a CI has the log of a build, if one does. A restored gate gives a number again, for another build. */
+  link(known) {
+    return this.links.of.get(nameOf(known)) ?? null;
+  }
+
+  /** Reads where logs are that a CI has. Gives whether that is new. */
+  async lookAtLinks() {
+    const { etag, said } = (await links(this.links.etag)) ?? { said: null };
+    if (said === null) return false;
+    const rows = Array.isArray(said.builds) ? said.builds : [];
+    this.links = { etag, of: new Map(rows.map((it) => [nameOf(it ?? {}), it?.link])) };
+    return true;
+  }
+
   /** Reads what was added to the logs of a build. */
   async follow(build) {
     if (build === null) return false;
@@ -167,6 +182,7 @@ export class State {
     const files = this.logs.get(build) ?? new Map();
     let isNew = isFirst;
     try {
+      if (await this.lookAtLinks()) isNew = true;
       for (const { name, size } of await logs(build)) {
         const known = files.get(name);
         if (known?.size === size) continue;
@@ -193,6 +209,9 @@ export class State {
     this.news.push(text);
   }
 }
+
+/** A build, by all that the gate says of it when it gives it out. */
+const nameOf = ({ build, change, revision, job }) => JSON.stringify([build, change, revision, job]);
 
 /** What has left, or has ended, stays as it is. */
 function mayChange(key, said) {

@@ -1,6 +1,7 @@
-"""The logs that a CI names stand in the adapter's comments, for the very builds that they are of."""
+"""The logs that a CI names stand in the adapter's comments and for the page, for the very builds that they are of."""
 from __future__ import annotations
 
+import json
 import tempfile
 import unittest
 from pathlib import Path
@@ -9,6 +10,7 @@ from unittest import mock
 
 from companions import links
 from companions.links import Link, Links
+from companions.links_file import LinksFile
 from companions.people_others import KnownByOthers
 from companions.people_seen import Report, Seen, Words
 from companions.people_texts import text_of
@@ -58,6 +60,42 @@ class Comments(unittest.TestCase):
         self.assertEqual([(it.build, it.link) for it in links.read(links.file_in(self.folder))],
                          [(2, CI), (4, CI), (3, CI + "0")])
         self.assertEqual(Links(self.folder).all, writing.all)
+
+
+class Page(unittest.TestCase):
+    """What the watch writes for the page."""
+
+    def setUp(self) -> None:
+        temporary = tempfile.TemporaryDirectory()
+        self.addCleanup(temporary.cleanup)
+        self.folder = Path(temporary.name)
+        (self.folder / "page").mkdir()
+        self.file = LinksFile(self.folder, self.folder / "page")
+
+    def written(self) -> list[dict[str, Any]]:
+        return list(json.loads((self.folder / "page" / "links.json").read_text("ascii"))["builds"])
+
+    def test_it_has_what_the_ci_keeps_and_the_web_alone(self) -> None:
+        self.file.look()
+        self.assertEqual([*(self.folder / "page").iterdir()], [])
+        Links(self.folder).put(Link(7, 101, 1, "unit", CI))
+        for number, link in enumerate(("javascript:alert(1)", "data:text/html,x", "", "//ci.example/", "file:///etc"), 8):
+            Links(self.folder).put(Link(number, 101, 1, "unit", link))
+        self.file.look()
+        self.assertEqual(self.written(), [{"build": 7, "change": 101, "revision": 1, "job": "unit", "link": CI}])
+
+    def test_it_is_written_where_there_are_others(self) -> None:
+        Links(self.folder).put(Link(7, 101, 1, "unit", CI))
+        self.file.look()
+        before = self.file.file.stat().st_ino
+        self.file.look()
+        self.assertEqual(self.file.file.stat().st_ino, before)
+        Links(self.folder).put(Link(8, 101, 1, "docs", CI))
+        self.file.look()
+        self.assertEqual([it["build"] for it in self.written()], [7, 8])
+        self.file.file.unlink()
+        self.file.look()
+        self.assertEqual([it["build"] for it in self.written()], [7, 8])
 
 
 if __name__ == "__main__":

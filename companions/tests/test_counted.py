@@ -7,6 +7,7 @@ import unittest
 from typing import Any
 from unittest import mock
 
+from companions.links import Link, Links
 from companions.settings import Adapter
 from companions.tests.watch_case import WatchCase
 
@@ -231,6 +232,12 @@ class Running(WatchCase):
         before = (self.page / "running.json").stat().st_ino
         self.look(1001.0)
         self.assertEqual((self.page / "running.json").stat().st_ino, before)
+
+    def test_the_logs_that_a_ci_has_are_written_beside_it(self) -> None:
+        link = Link(7, 101, 1, "unit", "https://ci.example/7")
+        Links(self.settings.folder).put(link)
+        self.look(1000.0)
+        self.assertEqual(json.loads((self.page / "links.json").read_text()), {"builds": [dataclasses.asdict(link)]})
 
     def test_losses_are_reported_where_it_cant_be_written(self) -> None:
         self.page.rmdir()

@@ -3,6 +3,7 @@ from __future__ import annotations
 
 import json
 import time
+from typing import Any
 
 from companions.tests.day.layout import PASSWORD
 from companions.tests.page_case import HOSTILE, PERSON, PageTest, request
@@ -101,6 +102,30 @@ class BuildTest(PageTest):
         self.assertEqual(self.browser.run("return document.querySelector('#view > p a').href"), f"https://logs.example/{build}")
         self.browser.run("location.hash = '#/builds/999'")
         self.browser.wait(lambda: "The gate knows no build 999." in self.browser.text("#view p"))
+
+    def test_the_log_that_a_ci_has_is_linked(self) -> None:
+        """For this very build, and by the web alone."""
+        self.approved(101, "lib")
+        build = int(self.tell(kind="take", worker="w1")["build"])
+        right = {"build": build, "change": 101, "revision": 1, "job": "unit", "link": "https://ci.example/<b>/7"}
+        others = [{**right, **it, "link": "https://ci.example/other"} for it in (
+            {"build": build + 1}, {"change": 102}, {"revision": 2}, {"job": "docs"})]
+        self.have([right, *others, 7, None])
+        self.look(f"#/builds/{build}")
+        self.browser.wait(lambda: "Its log is at ci.example." in self.browser.text("#view p"))
+        self.assertEqual(self.browser.run("return document.querySelector('#view > p a').href"),
+                         "https://ci.example/%3Cb%3E/7")
+        for link in ("javascript:alert(1)", "data:text/html,x", 7, None):
+            self.have([{**right, "link": link}])
+            self.browser.wait(lambda: any("No log of it is served at this host." in it for it in self.browser.text("#view p")))
+            self.have([right])
+            self.browser.wait(lambda: "Its log is at ci.example." in self.browser.text("#view p"))
+
+    def have(self, links: list[Any]) -> None:
+        """What the watch says of the logs that a CI has."""
+        new = self.folder / "page" / "links.new"
+        new.write_text(json.dumps({"builds": links}))
+        new.replace(self.folder / "page" / "links.json")
 
 
 class ReadingTest(PageTest):

@@ -179,9 +179,12 @@ class Passing(ProxyTest):
                     self.assertEqual(await self.status(path, name), 200)
                 self.assertEqual(len(StandIn.heads), 4, f"{name} at {path}")
 
-    async def test_requests_are_for_people(self) -> None:
-        """Titles and authors: no program needs them."""
+    async def test_what_is_written_for_the_page_is_for_people(self) -> None:
+        """Titles and authors, and the logs of a CI: no program needs them."""
         (self.folder / "page").mkdir()
+        for it in ("running.json", "links.json"):
+            (self.folder / "page" / it).write_text('{"builds": []}')
+            self.assertEqual([await self.status(it, name) for name in ("alice", "worker", "watch")], [200, 403, 403])
         (self.folder / "page" / "requests.json").write_text('{"requests": []}')
         answered, head = await self.head("requests.json", "alice")
         self.assertEqual((answered, head.endswith('{"requests": []}')), (200, True))
